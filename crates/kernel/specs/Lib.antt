@@ -1,0 +1,13 @@
+pub mod State
+pub mod PutLaws
+pub mod Dispatching
+pub mod Clock
+pub mod Effects
+pub mod Worlds
+pub mod Calm
+pub mod Counting
+pub mod Text
+pub mod Invariant
+pub mod Exclusion
+pub mod Laws
+pub mod RunLaws
