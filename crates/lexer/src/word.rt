@@ -1,0 +1,271 @@
+//! The reserved words.
+ghost use Rattle.std.specs.Prelude.{◌≡◌, find, bytes_eq};
+ghost use Rattle.lexer.specs.Words.{spelling};
+ghost use Rattle.lexer.specs.Reading.{words_with, reserved};
+
+/// A reserved word (RM 2.9). Each variant is named by its word.
+#[derive(Clone, Copy, Debug, PartialEq, Eq)]
+pub enum Word {
+    Abort,
+    Abs,
+    Abstract,
+    Accept,
+    Access,
+    Aliased,
+    All,
+    And,
+    Array,
+    At,
+    Begin,
+    Body,
+    Case,
+    Constant,
+    Declare,
+    Delay,
+    Delta,
+    Digits,
+    Do,
+    Else,
+    Elsif,
+    End,
+    Entry,
+    Exception,
+    Exit,
+    For,
+    Function,
+    Generic,
+    Goto,
+    If,
+    In,
+    Interface,
+    Is,
+    Limited,
+    Loop,
+    Mod,
+    New,
+    Not,
+    Null,
+    Of,
+    Or,
+    Others,
+    Out,
+    Overriding,
+    Package,
+    Pragma,
+    Private,
+    Procedure,
+    Protected,
+    Raise,
+    Range,
+    Record,
+    Rem,
+    Renames,
+    Requeue,
+    Return,
+    Reverse,
+    Select,
+    Separate,
+    Some,
+    Subtype,
+    Synchronized,
+    Tagged,
+    Task,
+    Terminate,
+    Then,
+    Type,
+    Until,
+    Use,
+    When,
+    While,
+    With,
+    Xor,
+}
+
+/// The letters of each reserved word in upper case, in the order of the variants.
+static SPELLINGS: [&[u8]; 73] = [
+    b"ABORT",
+    b"ABS",
+    b"ABSTRACT",
+    b"ACCEPT",
+    b"ACCESS",
+    b"ALIASED",
+    b"ALL",
+    b"AND",
+    b"ARRAY",
+    b"AT",
+    b"BEGIN",
+    b"BODY",
+    b"CASE",
+    b"CONSTANT",
+    b"DECLARE",
+    b"DELAY",
+    b"DELTA",
+    b"DIGITS",
+    b"DO",
+    b"ELSE",
+    b"ELSIF",
+    b"END",
+    b"ENTRY",
+    b"EXCEPTION",
+    b"EXIT",
+    b"FOR",
+    b"FUNCTION",
+    b"GENERIC",
+    b"GOTO",
+    b"IF",
+    b"IN",
+    b"INTERFACE",
+    b"IS",
+    b"LIMITED",
+    b"LOOP",
+    b"MOD",
+    b"NEW",
+    b"NOT",
+    b"NULL",
+    b"OF",
+    b"OR",
+    b"OTHERS",
+    b"OUT",
+    b"OVERRIDING",
+    b"PACKAGE",
+    b"PRAGMA",
+    b"PRIVATE",
+    b"PROCEDURE",
+    b"PROTECTED",
+    b"RAISE",
+    b"RANGE",
+    b"RECORD",
+    b"REM",
+    b"RENAMES",
+    b"REQUEUE",
+    b"RETURN",
+    b"REVERSE",
+    b"SELECT",
+    b"SEPARATE",
+    b"SOME",
+    b"SUBTYPE",
+    b"SYNCHRONIZED",
+    b"TAGGED",
+    b"TASK",
+    b"TERMINATE",
+    b"THEN",
+    b"TYPE",
+    b"UNTIL",
+    b"USE",
+    b"WHEN",
+    b"WHILE",
+    b"WITH",
+    b"XOR",
+];
+
+impl Word {
+    /// The letters of the word, in upper case.
+    pub fn spelling(self) -> &'static [u8]
+        ensures { result.now ≡ spelling self }
+    {
+        SPELLINGS[self as usize]
+    }
+}
+
+/// The reserved words that begin with this letter.
+fn words_with(letter: u8) -> &'static [Word]
+    ensures { result.now ≡ words_with letter }
+{
+    match letter {
+        b'A' => &[
+            Word::Abort,
+            Word::Abs,
+            Word::Abstract,
+            Word::Accept,
+            Word::Access,
+            Word::Aliased,
+            Word::All,
+            Word::And,
+            Word::Array,
+            Word::At,
+        ],
+        b'B' => &[Word::Begin, Word::Body],
+        b'C' => &[Word::Case, Word::Constant],
+        b'D' => &[
+            Word::Declare,
+            Word::Delay,
+            Word::Delta,
+            Word::Digits,
+            Word::Do,
+        ],
+        b'E' => &[
+            Word::Else,
+            Word::Elsif,
+            Word::End,
+            Word::Entry,
+            Word::Exception,
+            Word::Exit,
+        ],
+        b'F' => &[Word::For, Word::Function],
+        b'G' => &[Word::Generic, Word::Goto],
+        b'I' => &[Word::If, Word::In, Word::Interface, Word::Is],
+        b'L' => &[Word::Limited, Word::Loop],
+        b'M' => &[Word::Mod],
+        b'N' => &[Word::New, Word::Not, Word::Null],
+        b'O' => &[
+            Word::Of,
+            Word::Or,
+            Word::Others,
+            Word::Out,
+            Word::Overriding,
+        ],
+        b'P' => &[
+            Word::Package,
+            Word::Pragma,
+            Word::Private,
+            Word::Procedure,
+            Word::Protected,
+        ],
+        b'R' => &[
+            Word::Raise,
+            Word::Range,
+            Word::Record,
+            Word::Rem,
+            Word::Renames,
+            Word::Requeue,
+            Word::Return,
+            Word::Reverse,
+        ],
+        b'S' => &[
+            Word::Select,
+            Word::Separate,
+            Word::Some,
+            Word::Subtype,
+            Word::Synchronized,
+        ],
+        b'T' => &[
+            Word::Tagged,
+            Word::Task,
+            Word::Terminate,
+            Word::Then,
+            Word::Type,
+        ],
+        b'U' => &[Word::Until, Word::Use],
+        b'W' => &[Word::When, Word::While, Word::With],
+        b'X' => &[Word::Xor],
+        _ => &[],
+    }
+}
+
+/// The first of the words that is spelled so.
+fn find_word(words: &[Word], name: &[u8]) -> Option<Word>
+    ensures { result ≡ find (λ word. bytes_eq (spelling word) name.now) words.now }
+{
+    words.iter().copied().find(|word| word.spelling() == name)
+}
+
+/// The reserved word of these letters, which are in upper case.
+#[tactic(auto, unfolding(crate::specs::Reading::reserved))]
+pub fn reserved_word(name: &[u8]) -> Option<Word>
+    ensures { result ≡ reserved name.now }
+{
+    match name {
+        [letter, ..] => find_word(words_with(*letter), name),
+        [] => None,
+    }
+}
