@@ -1,0 +1,165 @@
+//! Declarations (RM 3, 6, 9, 11).
+
+use crate::expression::{Expr, Identifier};
+use crate::statement::{Handler, Range, Stmt};
+
+/// An aspect specification (RM 13.1.1): the place of `with`, the aspect's name and its value.
+#[derive(Debug, Drop)]
+pub struct Aspect {
+    pub place: u32,
+    pub name: Identifier,
+    pub value: Expr,
+}
+
+/// The declaration of an object (RM 3.3.1).
+#[derive(Debug, Drop)]
+pub struct ObjectDeclaration {
+    pub name: Identifier,
+    pub constant: bool,
+    pub subtype: Identifier,
+    pub value: Option<Expr>,
+}
+
+/// A component of a record type (RM 3.8).
+#[derive(Debug, Drop)]
+pub struct Component {
+    pub name: Identifier,
+    pub subtype: Identifier,
+}
+
+/// The index of an array type (RM 3.6).
+#[derive(Debug, Drop)]
+pub enum ArrayIndex {
+    Range(Range),
+    Subtype(Identifier),
+}
+
+/// What a type or subtype is (RM 3.2).
+#[derive(Debug, Drop)]
+pub enum TypeDefinition {
+    /// An integer type (RM 3.5.4).
+    Integer(Range),
+    /// The index, and the subtype of the components.
+    Array(ArrayIndex, Identifier),
+    /// One or more components.
+    Record(Vec<Component>),
+    /// The subtype that it is made from, and its range, if there is one.
+    Subtype(Identifier, Option<Range>),
+}
+
+/// The declaration of a type or a subtype (RM 3.2).
+#[derive(Debug, Drop)]
+pub struct TypeDeclaration {
+    pub name: Identifier,
+    pub definition: TypeDefinition,
+}
+
+/// The mode of a formal parameter (RM 6.2).
+#[derive(Clone, Copy, Debug, PartialEq, Eq)]
+pub enum Mode {
+    In,
+    Out,
+    InOut,
+}
+
+/// A formal parameter (RM 6.1).
+#[derive(Debug, Drop)]
+pub struct Formal {
+    pub name: Identifier,
+    pub mode: Mode,
+    pub subtype: Identifier,
+}
+
+/// The specification of a procedure, or of a function with its result (RM 6.1), and the place of its first token.
+#[derive(Debug, Drop)]
+pub struct Subprogram {
+    pub place: u32,
+    pub name: Identifier,
+    pub formals: Vec<Formal>,
+    pub result: Option<Identifier>,
+}
+
+/// The declaration of a protected object's entry (RM 9.5.2), and the place of `entry`.
+#[derive(Debug, Drop)]
+pub struct EntryDeclaration {
+    pub place: u32,
+    pub name: Identifier,
+    pub formals: Vec<Formal>,
+}
+
+/// An entry of a task, and the place of `entry`.
+#[derive(Debug, Drop)]
+pub struct TaskEntry {
+    pub place: u32,
+    pub name: Identifier,
+}
+
+/// What stands between `is` and the semicolon of a task's declaration (RM 9.1).
+#[derive(Debug, Drop)]
+pub struct TaskDefinition {
+    pub entries: Vec<TaskEntry>,
+    pub end_name: Identifier,
+}
+
+/// The declaration of a task (RM 9.1), and the place of `task`.
+#[derive(Debug, Drop)]
+pub struct TaskDeclaration {
+    pub place: u32,
+    pub name: Identifier,
+    pub aspect: Option<Aspect>,
+    pub definition: Option<TaskDefinition>,
+}
+
+/// An operation of a protected object (RM 9.4).
+#[derive(Debug, Drop)]
+pub enum Operation {
+    Subprogram(Subprogram),
+    Entry(EntryDeclaration),
+}
+
+/// A component of a protected object (RM 9.4).
+#[derive(Debug, Drop)]
+pub struct ProtectedComponent {
+    pub name: Identifier,
+    pub subtype: Identifier,
+    pub value: Option<Expr>,
+}
+
+/// The declaration of a protected object (RM 9.4), and the place of `protected`.
+#[derive(Debug, Drop)]
+pub struct ProtectedDeclaration {
+    pub place: u32,
+    pub name: Identifier,
+    pub aspect: Option<Aspect>,
+    pub operations: Vec<Operation>,
+    pub components: Vec<ProtectedComponent>,
+    pub end_name: Identifier,
+}
+
+/// A declaration in a body or a block (RM 3.11).
+#[derive(Debug, Drop)]
+pub enum Declaration {
+    Object(ObjectDeclaration),
+    Task(TaskDeclaration),
+    Protected(ProtectedDeclaration),
+}
+
+/// A body (RM 6.3): declarations, one or more statements, handlers, and the name after `end`.
+#[derive(Debug, Drop)]
+pub struct Body {
+    pub declarations: Vec<Declaration>,
+    pub statements: Vec<Stmt>,
+    pub handlers: Vec<Handler>,
+    pub end_name: Identifier,
+}
+
+/// A declaration in a package (RM 7.1).
+#[derive(Debug, Drop)]
+pub enum Item {
+    Type(TypeDeclaration),
+    Object(ObjectDeclaration),
+    Exception(Identifier),
+    Subprogram(Subprogram),
+    Task(TaskDeclaration),
+    Protected(ProtectedDeclaration),
+}

@@ -1,0 +1,162 @@
+-- The small compiler by the laws of met steps: null statements are met by no step, the end of main by the return.
+use Rattle.std.proofs.Common.{◌≡◌, inl, ℕ, zero, suc, ◌<◌, List, [], ◌∷◌, map, length, None, Bool, true, false, refl, sym, ap, ◌∙◌, subst, arith}
+use Rattle.base.specs.declared.schedule.ScheduleLine.{ScheduleLine}
+use Rattle.kernel.specs.State.{Kernel, put}
+use Rattle.kernel.specs.Effects.{Finishes, effect, after, blank, activated, begin}
+use Rattle.kernel.specs.Worlds.{Tasks, Solo, among, ending, reached, solo_of}
+use Rattle.kernel.specs.Calm.{Runs}
+use Rattle.kernel.specs.Invariant.{Kept, Passed}
+use Rattle.kernel.specs.Laws.{BeginsKept, KeptByEvery, LeftUnmoved, LinesGrow, QuietStays, ReachesCallers, RunnerIsCalm}
+use Rattle.kernel.specs.PutLaws.{by_put}
+use Rattle.kernel.specs.RunLaws.{Behaves, run_kept}
+use Rattle.image.specs.Sections.{Sections}
+use Rattle.image.specs.Texts.{names_of}
+use Rattle.image.specs.Frames.{Words, TaskState}
+use Rattle.image.specs.Steps as steps
+use Rattle.image.specs.Steps.{behaviour, does}
+use Rattle.image.specs.Code.{CodeWorld, initial_state, initial_words, start}
+use Rattle.image.specs.Code as image
+use Rattle.ada_tree.specs.declared.expression.Identifier.{Identifier}
+use Rattle.ada_tree.specs.ProgramTree.{ProgramTree}
+use Rattle.meaning.specs.Meeting.{Relation, Last, Met, Still, Moves, Owed, Meets, Related}
+use Rattle.meaning.specs.Works.{Item, DoesMain, Work, Goes, Raising, TaskWork, Store, Given}
+use Rattle.meaning.specs.Programs.{partition_of, source_names}
+use Rattle.meaning.specs.SourceSteps.{source_behaviour, work_step}
+use Rattle.meaning.specs.Source.{source_start, initial_work}
+use Rattle.meaning.specs.SameMeaning.{frames_of}
+use Rattle.meaning.specs.Compiling.{MeetsUnder, met_keeps_count}
+use Rattle.meaning.specs.NullExample.{nulls, null_program, return_image, ReturnMeansNulls}
+use Rattle.meaning.proofs.Runs.{count_gives_meaning}
+
+module _ (name : Identifier) where
+  abbrev code_image : Sections
+  code_image = return_image name.name
+
+  -- where a task stands that has not returned; after the return it is as it was
+  abbrev first_state : TaskState
+  first_state = initial_state code_image 0
+
+  initial_first : (t : ℕ) → initial_state code_image t ≡ first_state
+  initial_first zero = refl
+  initial_first (suc t) = refl
+
+  module _ (schedule : List ScheduleLine) where
+    act_first : (k : Kernel) (t : ℕ) (s : Solo Words TaskState) → s.task ≡ first_state → (behaviour code_image schedule).act k t s ≡ does Finishes s.memory first_state.frame [] None None
+    act_first k t s e = ap (λ x. (behaviour code_image schedule).act k t (record { memory = s.memory; task = x })) e
+
+    abbrev closed : (Tasks Words TaskState → ℕ → Bool)
+    closed d o = false
+
+    pub record Own (w : CodeWorld) : Type 0 where
+      pub bare : (t : ℕ) → w.kernel.actions t ≡ []
+      pub first : (t : ℕ) → w.rest.tasks t ≡ first_state
+
+    behaves : LeftUnmoved → (k : Kernel) (t : ℕ) (d : Tasks Words TaskState) → Own (record { kernel = k; rest = d }) → Kept (closed d) k → Runs k t → Behaves (among (behaviour code_image schedule)) closed Own k t d
+    behaves unmoved k t d own kept runs =
+        let g = behaviour code_image schedule in
+        let a = g.act k t (solo_of t d) in
+        let is : a ≡ does Finishes d.memory first_state.frame [] None None = act_first k t (solo_of t d) (own.first t) in
+        let finishes : a.effect ≡ Finishes = ap (λ x. x.effect) is in
+        let stands : (among g k t d).rest.tasks ≡ put t first_state d.tasks =
+        ap (λ x. reached g t (ending k t x.effect) x.given (put t x.solo.task d.tasks)) is in
+        record {
+          held = λ o. inl refl;
+          passed = subst (λ e. Passed (closed (among g k t d).rest) k t e) (sym finishes) (ap (λ l. elim l [ [] ↦ false | x ∷ outer ↦ true ]) (own.bare t));
+          own = record {
+            bare = λ u. ap (λ x. (after t x k).actions u) finishes ∙ ap (λ f. f u) (unmoved (effect t Finishes k)).actions ∙ own.bare u;
+            first = λ u. ap (λ f. f u) stands ∙ by_put (λ x. x ≡ first_state) t u first_state d.tasks (λ e. refl) (λ ne. own.first u);
+          };
+        }
+
+    abbrev Keeps : CodeWorld → Type 0
+    Keeps w = Own w × Kept (closed w.rest) w.kernel
+
+  abbrev Shared : Store → Words → Type 0
+  Shared m words = m.variables ≡ []
+
+  record Stands (k : Kernel) (u : ℕ) (w : TaskWork) (s : TaskState) : Type 0 where
+    first : s ≡ first_state
+    left : ℕ
+    work : w.work ≡ Goes (map DoesMain (nulls left))
+
+  abbrev items_of : Work → List Item
+  items_of (Goes items) = items
+  items_of (Raising x items) = items
+
+  abbrev size : TaskWork → ℕ
+  size w = length (items_of w.work)
+
+  abbrev limit : TaskState → ℕ
+  limit s = 1
+
+  abbrev rel : Relation Store TaskWork Given Words TaskState steps.Given
+  rel = record { shares = Shared; stands = Stands; leaves = λ k t e a b p q. (e ≡ Finishes) × Stands k t a b; size = size }
+
+  module _ (n : ℕ) (schedule : List ScheduleLine) where
+    abbrev p : ProgramTree
+    p = null_program name n
+
+    abbrev Meet : Kernel → ℕ → Solo Store TaskWork → Solo Words TaskState → Type 0
+    Meet = Met (source_behaviour p schedule) (behaviour code_image schedule) rel frames_of limit
+
+    met_by : (i : ℕ) (k : Kernel) (t : ℕ) (a : Solo Store TaskWork) (b : Solo Words TaskState) → Shared a.memory b.memory → b.task ≡ first_state → a.task.work ≡ Goes (map DoesMain (nulls i)) → Meet k t a b
+    met_by zero k t a b sh first e =
+        let is = ap (λ w. work_step p a.memory a.task.activations w) e in
+        let there = act_first schedule k t b first in
+        Moves 1 b (Last refl) (omega arith) (ap (λ y. y.effect) there ∙ sym (ap (λ y. y.effect) is)) (ap (λ y. y.solo.memory.variables) is ∙ sh)
+        (ap (λ y. y.effect) is, record { first = ap (λ y. y.solo.task) there; left = 0; work = ap (λ y. y.solo.task.work) is })
+    met_by (suc i) k t a b sh first e =
+        let is = ap (λ w. work_step p a.memory a.task.activations w) e in
+        let less : size ((source_behaviour p schedule).act k t a).solo.task ≡ length (map DoesMain (nulls i)) = ap (λ y. size y.solo.task) is in
+        let more : size a.task ≡ length (map DoesMain (nulls (suc i))) = ap (λ w. length (items_of w)) e in
+        Still (ap (λ y. y.effect) is) (ap (λ y. y.solo.memory.variables) is ∙ sh) (record { first = first; left = i; work = ap (λ y. y.solo.task.work) is }) (omega (arith, less, more))
+
+    module _ (begins : BeginsKept) (every : KeptByEvery) (unmoved : LeftUnmoved) (reaches : ReachesCallers) (calm : RunnerIsCalm) where
+      meets : Meets (source_behaviour p schedule) (behaviour code_image schedule) rel frames_of limit (Keeps schedule)
+      meets = record {
+        kept = λ w h. run_kept (among (behaviour code_image schedule)) (closed schedule) (Own schedule) every (behaves schedule unmoved) 1 w h.0 h.1;
+        runner = λ w t h runs. record { calm = calm (closed schedule w.rest) w.kernel t h.1 runs; reaches = λ e. reaches (closed schedule w.rest) w.kernel t e runs.running h.1 };
+        met = λ k t a b runner sh st. met_by st.left k t a b sh st.first st.work;
+        owed = λ k t e ones others a b given gives runner all leaves.
+            subst (λ x. Owed (source_behaviour p schedule) (behaviour code_image schedule) rel frames_of limit k t x ones others a b given gives (ending k t x)) (sym leaves.0)
+            (record { first = leaves.1.first; left = leaves.1.left; work = leaves.1.work }, λ v ne. record { first = (all v).first; left = (all v).left; work = (all v).work });
+      }
+
+      base_same : (t : ℕ) → (partition_of p).base t ≡ (image.partition_of code_image).base t
+      base_same zero = refl
+      base_same (suc t) = refl
+
+      same_partition : partition_of p ≡ image.partition_of code_image
+      same_partition = λ j. record { tasks = 1; objects = 0; base = λ t. base_same t j; ceiling = λ o. 0 }
+
+      base_low : (t : ℕ) → (image.partition_of code_image).base t < 32
+      base_low zero = omega arith
+      base_low (suc t) = omega arith
+
+      stands_first : (u : ℕ) → Stands (source_start p).kernel u (initial_work p u) (initial_state code_image u)
+      stands_first zero = record { first = refl; left = n; work = refl }
+      stands_first (suc u) = record { first = initial_first (suc u); left = 0; work = refl }
+
+      starts : Related (source_behaviour p schedule) (behaviour code_image schedule) rel frames_of limit (Keeps schedule) (source_start p) (start code_image)
+      starts = record {
+        same = ap begin same_partition;
+        keeps = (
+          record { bare = λ t. ap (λ f. f t) (unmoved (activated 1 (blank (image.partition_of code_image)))).actions; first = initial_first },
+          begins (λ o. false) (image.partition_of code_image) (record { base_low = base_low; ceiling_low = λ o. omega arith }),
+        );
+        shared = refl;
+        stands = stands_first;
+      }
+
+      under : MeetsUnder p code_image rel limit Keeps schedule
+      under = record { meets = meets; starts = starts }
+
+  task_named : (t : ℕ) → (names_of code_image).task t ≡ (source_names (null_program name 0)).task t
+  task_named zero = refl
+  task_named (suc t) = refl
+
+pub return_means_nulls : BeginsKept → KeptByEvery → LeftUnmoved → LinesGrow → QuietStays → ReachesCallers → RunnerIsCalm → ReturnMeansNulls
+return_means_nulls begins every unmoved grow quiet reaches calm name n =
+    let i = return_image name.name in
+    count_gives_meaning grow (null_program name n) i (limit name) (record { tasks = task_named name; exceptions = λ x. refl })
+    (met_keeps_count (null_program name n) i (rel name) (limit name) (Keeps name) grow quiet (λ schedule ok. under name n schedule begins every unmoved reaches calm))

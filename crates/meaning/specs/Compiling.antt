@@ -1,0 +1,34 @@
+-- What a compiler owes: where each step of a task of the program is met by the code of the image, the image has the program's meaning and keeps the count.
+-- A proved term, since a contract cannot speak of all relations between works and frames.
+use Rattle.std.proofs.Common.{◌≡◌, ℕ, List, true}
+use Rattle.base.specs.Schedule.{is_schedule}
+use Rattle.base.specs.declared.schedule.ScheduleLine.{ScheduleLine}
+use Rattle.kernel.specs.Laws.{LinesGrow, QuietStays}
+use Rattle.image.specs.Sections.{Sections}
+use Rattle.image.specs.Frames.{Words, TaskState}
+use Rattle.image.specs.Steps as steps
+use Rattle.image.specs.Steps.{behaviour}
+use Rattle.image.specs.Code.{CodeWorld, start}
+use Rattle.ada_tree.specs.ProgramTree.{ProgramTree}
+use Rattle.meaning.specs.Meeting.{Relation, Meets, Related}
+use Rattle.meaning.specs.Lifting.{steps_of_other, met_paced}
+use Rattle.meaning.specs.Works.{TaskWork, Store, Given}
+use Rattle.meaning.specs.SourceSteps.{source_behaviour}
+use Rattle.meaning.specs.Source.{source_start}
+use Rattle.meaning.specs.SameMeaning.{frames_of, KeepsCount}
+
+-- `rel` says which words stand for which variables and which frames for which work; `Keeps` is an invariant of the code's worlds
+module _ (p : ProgramTree) (i : Sections) (rel : Relation Store TaskWork Given Words TaskState steps.Given) (limit : TaskState → ℕ) (Keeps : List ScheduleLine → CodeWorld → Type 0) where
+  -- under one schedule: each step is met, and the starts are related
+  pub record MeetsUnder (schedule : List ScheduleLine) : Type 0 where
+    pub meets : Meets (source_behaviour p schedule) (behaviour i schedule) rel frames_of limit (Keeps schedule)
+    pub starts : Related (source_behaviour p schedule) (behaviour i schedule) rel frames_of limit (Keeps schedule) (source_start p) (start i)
+
+  pub met_keeps_count : LinesGrow → QuietStays → ((schedule : List ScheduleLine) → is_schedule schedule ≡ true → MeetsUnder schedule) → KeepsCount p i limit
+  met_keeps_count grow quiet all schedule ok =
+      let f = source_behaviour p schedule in
+      let g = behaviour i schedule in
+      let x = all schedule ok in (
+        steps_of_other f g rel frames_of limit (Keeps schedule) grow quiet x.meets (source_start p) (start i) x.starts,
+        met_paced f g rel frames_of limit (Keeps schedule) grow quiet x.meets (source_start p) (start i) x.starts,
+      )

@@ -1,0 +1,14 @@
+pub mod Same
+pub mod Following
+pub mod Meeting
+pub mod MeetingLaws
+pub mod Lifting
+pub mod Values
+pub mod Works
+pub mod Programs
+pub mod SourceSteps
+pub mod Source
+pub mod SameMeaning
+pub mod Laws
+pub mod Compiling
+pub mod NullExample

@@ -1,0 +1,136 @@
+-- What it is that each step of a task on one side is met by steps of the task on the other, counted for each frame; and what is owed where a step reaches other tasks.
+use Rattle.std.specs.Prelude.{◌≡◌, ◌≢◌, ℕ, suc, ◌+◌, ◌<◌, ◌≤◌, Option, Some, None}
+use Rattle.kernel.specs.State.{Kernel}
+use Rattle.kernel.specs.Effects.{Effect, Quiet, Ending, Closes, TakesOver, HandsBack, after}
+use Rattle.kernel.specs.Worlds.{World, Tasks, Solo, Behaviour, ending, solo_of, among, step}
+use Rattle.kernel.specs.Calm.{Runs, Calm}
+use Rattle.kernel.specs.Counting.{Alone, next_kernel, next_solo, Spends, Done, Own, Calls}
+use Rattle.kernel.specs.Laws.{Reaches}
+
+-- Counted steps
+
+module _ {N T H : Type 0} (g : Behaviour N T H) (t : ℕ) (frames limit : T → ℕ) where
+  -- steps up to and with the one that is taken in kernel l and state r: the frame that is the d-th takes at most n of them itself,
+  -- and each frame that comes above it at most the limit for the state in which it begins
+  pub data Takes : ℕ → ℕ → Kernel → Solo N T → Kernel → Solo N T → Type 0 where
+    -- the last step, by the frame itself
+    Last : {d n : ℕ} {k : Kernel} {s : Solo N T} → frames s.task ≡ d → Takes d (suc n) k s k s
+    -- a step of the frame itself, which no other task notices
+    OwnStep :
+        {d n : ℕ} {k l : Kernel} {s r : Solo N T}
+        → Alone g t k s
+        → frames s.task ≡ d
+        → Takes d n (next_kernel g t k s) (next_solo g t k s) l r
+        → Takes d (suc n) k s l r
+    -- a call that comes to its end, and what comes then
+    Over :
+        {d n m : ℕ} {k l o : Kernel} {s r v : Solo N T}
+        → Alone g t k s
+        → frames s.task ≡ d
+        → Spends g t frames limit (suc d) m (next_kernel g t k s) (next_solo g t k s) l r
+        → m ≤ limit (next_solo g t k s).task
+        → Takes d n l r o v
+        → Takes d (suc n) k s o v
+    -- a call within which the last step is taken
+    Within :
+        {d n m : ℕ} {k l : Kernel} {s r : Solo N T}
+        → Alone g t k s
+        → frames s.task ≡ d
+        → Takes (suc d) m (next_kernel g t k s) (next_solo g t k s) l r
+        → m ≤ limit (next_solo g t k s).task
+        → Takes d (suc n) k s l r
+
+  -- how many steps there are in all
+  abbrev pub spent : {d n : ℕ} {k l : Kernel} {s r : Solo N T} → Spends g t frames limit d n k s l r → ℕ
+  spent Done = 0
+  spent (Own alone here rest) = suc (spent rest)
+  spent (Calls alone here above low rest) = suc (spent above + spent rest)
+
+  abbrev pub taken : {d n : ℕ} {k l : Kernel} {s r : Solo N T} → Takes d n k s l r → ℕ
+  taken (Last here) = 1
+  taken (OwnStep alone here rest) = suc (taken rest)
+  taken (Over alone here above low rest) = suc (spent above + taken rest)
+  taken (Within alone here above low) = suc (taken above)
+
+-- j steps from a world for one step of the other side: a single one where no task runs, or else steps of the running task,
+-- of which its frame takes at most the limit for the state in which they begin
+pub data Counted {N T H : Type 0} (g : Behaviour N T H) (frames limit : T → ℕ) (w : World (Tasks N T)) (j : ℕ) : Type 0 where
+  Idle : ((t : ℕ) → Runs w.kernel t → ⊥) → j ≡ 1 → Counted g frames limit w j
+  Busy :
+      (t n : ℕ) (s : Solo N T)
+      → Runs w.kernel t
+      → (all : Takes g t frames limit (frames (w.rest.tasks t)) n w.kernel (solo_of t w.rest) w.kernel s)
+      → n ≤ limit (w.rest.tasks t)
+      → j ≡ taken g t frames limit all
+      → Counted g frames limit w j
+
+-- what is known of the running task t
+pub record Runner (k : Kernel) (t : ℕ) : Type 0 where
+  pub calm : Calm k t
+  pub reaches : (e : Effect) → Reaches k t e
+
+abbrev pub received : {M T G : Type 0} → Behaviour M T G → Option G → T → T
+received b None s = s
+received b (Some g) s = b.receives g s
+
+-- how the two sides stand for one another
+pub record Relation (M S G N T H : Type 0) : Type 1 where
+  -- the memories
+  pub shares : M → N → Type 0
+  -- the states of a task in a kernel, between steps
+  pub stands : Kernel → ℕ → S → T → Type 0
+  -- the states of the task and what it gives, right after its own step with this effect in this kernel
+  pub leaves : Kernel → ℕ → Effect → S → T → Option G → Option H → Type 0
+  -- the size of a state, which falls where no step meets
+  pub size : S → ℕ
+
+module _ {M S G N T H : Type 0} (f : Behaviour M S G) (g : Behaviour N T H) (rel : Relation M S G N T H) (frames limit : T → ℕ) where
+  -- a step of f's task t from state a is met from state b: by no step, and then the size falls; or by steps of which the last one has the same effect
+  pub data Met (k : Kernel) (t : ℕ) (a : Solo M S) (b : Solo N T) : Type 0 where
+    Still :
+        (f.act k t a).effect ≡ Quiet
+        → rel.shares (f.act k t a).solo.memory b.memory
+        → rel.stands k t (f.act k t a).solo.task b.task
+        → rel.size (f.act k t a).solo.task < rel.size a.task
+        → Met k t a b
+    Moves :
+        (n : ℕ) (c : Solo N T)
+        → Takes g t frames limit (frames b.task) n k b k c
+        → n ≤ limit b.task
+        → (g.act k t c).effect ≡ (f.act k t a).effect
+        → rel.shares (f.act k t a).solo.memory (g.act k t c).solo.memory
+        → rel.leaves k t (f.act k t a).effect (f.act k t a).solo.task (g.act k t c).solo.task (f.act k t a).given (g.act k t c).given
+        → Met k t a b
+
+  -- what stands once the effect has reached the others: the task itself, the caller that it takes over or has served, and every other one
+  abbrev pub Owed : (Kernel → ℕ → Effect → (ℕ → S) → (ℕ → T) → S → T → Option G → Option H → Ending → Type 0)
+  Owed k t e ones others a b p q Closes =
+      rel.stands (after t e k) t a b × ((v : ℕ) → v ≢ t → rel.stands (after t e k) v (ones v) (others v))
+  Owed k t e ones others a b p q (TakesOver o u) =
+      rel.stands (after t e k) t (f.serving o u (ones u) a) (g.serving o u (others u) b)
+      × rel.stands (after t e k) u (f.taken o (ones u)) (g.taken o (others u))
+      × ((v : ℕ) → v ≢ t → v ≢ u → rel.stands (after t e k) v (ones v) (others v))
+  Owed k t e ones others a b p q (HandsBack u) =
+      rel.stands (after t e k) t a b
+      × rel.stands (after t e k) u (received f p (ones u)) (received g q (others u))
+      × ((v : ℕ) → v ≢ t → v ≢ u → rel.stands (after t e k) v (ones v) (others v))
+
+  -- what the two sides owe; `Keeps` is an invariant of g's worlds, kept by every step
+  pub record Meets (Keeps : World (Tasks N T) → Type 0) : Type 0 where
+    pub kept : (w : World (Tasks N T)) → Keeps w → Keeps (step (among g) w)
+    pub runner : (w : World (Tasks N T)) (t : ℕ) → Keeps w → Runs w.kernel t → Runner w.kernel t
+    pub met : (k : Kernel) (t : ℕ) (a : Solo M S) (b : Solo N T) → Runner k t → rel.shares a.memory b.memory → rel.stands k t a.task b.task → Met k t a b
+    -- the premise for effects that reach what other tasks hold
+    pub owed :
+        (k : Kernel) (t : ℕ) (e : Effect) (ones : ℕ → S) (others : ℕ → T) (a : S) (b : T) (p : Option G) (q : Option H)
+        → Runner k t
+        → ((u : ℕ) → rel.stands k u (ones u) (others u))
+        → rel.leaves k t e a b p q
+        → Owed k t e ones others a b p q (ending k t e)
+
+  -- two worlds between steps
+  pub record Related (Keeps : World (Tasks N T) → Type 0) (v : World (Tasks M S)) (w : World (Tasks N T)) : Type 0 where
+    pub same : v.kernel ≡ w.kernel
+    pub keeps : Keeps w
+    pub shared : rel.shares v.rest.memory w.rest.memory
+    pub stands : (u : ℕ) → rel.stands v.kernel u (v.rest.tasks u) (w.rest.tasks u)
