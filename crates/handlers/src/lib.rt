@@ -1,0 +1,5 @@
+//! Handler tables: which handler takes an exception that is raised at an instruction.
+#![tactic(auto)]
+
+pub mod probes;
+pub mod table;

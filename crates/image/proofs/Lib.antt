@@ -1,0 +1,11 @@
+mod Bounds
+mod Examples
+mod Exclusion
+mod Links
+mod ObjectExamples
+mod Placed
+mod Runs
+mod Shapes
+mod StepLinks
+mod Today
+mod WellFormed

@@ -1,0 +1,358 @@
+-- What the rules of well-formed images say at a place, at a number, at a row.
+use Rattle.std.proofs.Common.{◌≡◌, ℕ, zero, suc, ◌+◌, ◌-◌, ◌<◌, ◌≤◌, List, [], ◌∷◌, length, Bool, true, false, cond, not, ◌&&◌, ◌||◌, Option, Some, None, refl, sym, ap, ◌∙◌, subst, arith, ⊎_elim}
+use Rattle.std.proofs.lemmas.Bool.{true≢false, ltb-true, lt-ltb, leb-true}
+use Rattle.std.proofs.lemmas.Bool.Decides.{leb_tells, eqb_tells}
+use Rattle.std.proofs.lemmas.Option.{none-some, same_Some, cond_some}
+use Rattle.std.proofs.lemmas.List.Folds.{find_at}
+use Rattle.std.specs.Prelude.{nat_le, nat_lt, nat_eq, slice_get}
+use Rattle.std.specs.List.{list_all, position_or_len}
+use Rattle.handlers.specs.declared.table.Row.{Row}
+use Rattle.handlers.specs.Innermost.{covers, handles, inner_of, width, innermost, target_of, handler_of}
+use Rattle.image.specs.Sections.{Sections, holder, holder_number, end_of, first_place}
+use Rattle.image.specs.Names.{is_name}
+use Rattle.image.specs.ObjectTable.{ObjectRow}
+use Rattle.image.specs.Operations.{entry_of, given_by, goes_on, jump_target, taken_by}
+use Rattle.image.specs.Rules.{IsWellFormed, all_begun, all_placed, some_and, none_or, same_number, is_closed, keeps_depth, has_depth, is_return, jumps_within, is_row_within, is_subprogram, is_task, is_object, has_body, has_counts, has_entry, has_object, in_holder, is_entry_body_of, is_within, is_task_body, last_end, names_things}
+use Rattle.image.specs.declared.instruction.Instr.{Instr}
+use Rattle.image.specs.declared.instruction.Operation.{Operation}
+use Rattle.image.specs.declared.limits.TheConstants.{CEILING, PRIORITY, FRAME_WORDS, INSTRUCTIONS, SUBPROGRAMS}
+use Rattle.image.specs.declared.subprogram.Kind.{Kind}
+use Rattle.image.specs.declared.subprogram.Kind.TheVariants.{Plain, ProtectedProcedure, ProtectedFunction, EntryBody, TaskBody}
+use Rattle.image.specs.declared.subprogram.Subprogram.{Subprogram}
+use Rattle.image.specs.declared.task.Task.{Task}
+
+pub both : (a b : Bool) → (a && b) ≡ true → (a ≡ true) × (b ≡ true)
+both true b e = (refl, e)
+both false b e = absurd (true≢false (sym e))
+
+pub some_and-true : {X : Type 0} (o : Option X) (test : X → Bool) → some_and o test ≡ true → (x : X) × (o ≡ Some x) × (test x ≡ true)
+some_and-true None test e = absurd (true≢false (sym e))
+some_and-true (Some x) test e = (x, refl, e)
+
+pub all_placed-at : {X : Type 0} (test : ℕ → X → Bool) (xs : List X) (p n : ℕ) (x : X) → all_placed test p xs ≡ true → slice_get xs n ≡ Some x → test (p + n) x ≡ true
+all_placed-at test [] p n x all is = absurd (none-some x is)
+all_placed-at test (y ∷ xs) p zero x all is =
+    let e : p + 0 ≡ p = omega arith in
+    rw e (subst (λ v. test p v ≡ true) (same_Some y x is) (both (test p y) _ all).0)
+all_placed-at test (y ∷ xs) p (suc n) x all is =
+    let e : p + suc n ≡ (p + 1) + n = omega arith in
+    rw e (all_placed-at test xs (p + 1) n x (both (test p y) _ all).1 is)
+
+pub list_all-at : {X : Type 0} (test : X → Bool) (xs : List X) (n : ℕ) (x : X) → list_all test xs ≡ true → slice_get xs n ≡ Some x → test x ≡ true
+list_all-at test [] n x all is = absurd (none-some x is)
+list_all-at test (y ∷ xs) zero x all is = subst (λ v. test v ≡ true) (same_Some y x is) (both (test y) _ all).0
+list_all-at test (y ∷ xs) (suc n) x all is = list_all-at test xs n x (both (test y) _ all).1 is
+
+-- Subprograms from a place on
+
+abbrev pub begin_of : ℕ → List Subprogram → ℕ → ℕ
+begin_of first subprograms zero = first
+begin_of first subprograms (suc n) = end_of (slice_get subprograms n)
+
+pub begin_of-next : (first n : ℕ) (s : Subprogram) (subprograms : List Subprogram) → begin_of first (s ∷ subprograms) (suc n) ≡ begin_of s.end_ subprograms n
+begin_of-next first zero s subprograms = refl
+begin_of-next first (suc n) s subprograms = refl
+
+pub all_begun-at : (test : ℕ → Subprogram → Bool) (subprograms : List Subprogram) (first n : ℕ) (s : Subprogram) → all_begun test first subprograms ≡ true → slice_get subprograms n ≡ Some s → test (begin_of first subprograms n) s ≡ true
+all_begun-at test [] first n s all is = absurd (none-some s is)
+all_begun-at test (x ∷ subprograms) first zero s all is = subst (λ v. test first v ≡ true) (same_Some x s is) (both (test first x) _ all).0
+all_begun-at test (x ∷ subprograms) first (suc n) s all is =
+    rw (begin_of-next first n x subprograms) (all_begun-at test subprograms x.end_ n s (both (test first x) _ all).1 is)
+
+abbrev pub rises : ℕ → Subprogram → Bool
+rises first s = nat_lt first s.end_
+
+-- ends rise, so a later subprogram begins later
+pub begins_later : (subprograms : List Subprogram) (first n : ℕ) (s : Subprogram) → all_begun rises first subprograms ≡ true → slice_get subprograms n ≡ Some s → first ≤ begin_of first subprograms n
+begins_later [] first n s all is = absurd (none-some s is)
+begins_later (x ∷ subprograms) first zero s all is = omega arith
+begins_later (x ∷ subprograms) first (suc n) s all is =
+    let up : first < x.end_ = ltb-true first x.end_ (both (rises first x) _ all).0 in
+    let on : x.end_ ≤ begin_of x.end_ subprograms n = begins_later subprograms x.end_ n s (both (rises first x) _ all).1 is in
+    let e = begin_of-next first n x subprograms in
+    omega arith
+
+pub holder_here : (s : Subprogram) (subprograms : List Subprogram) (p : ℕ) → p < s.end_ → holder (s ∷ subprograms) p ≡ Some s
+holder_here s subprograms p lt = ap (λ b. cond b (Some s) (holder subprograms p)) (lt-ltb p s.end_ lt)
+
+pub holder_later : (s : Subprogram) (subprograms : List Subprogram) (p : ℕ) → s.end_ ≤ p → holder (s ∷ subprograms) p ≡ holder subprograms p
+holder_later s subprograms p le = ⊎_elim (λ h. absurd (omega arith)) (λ h. ap (λ b. cond b (Some s) (holder subprograms p)) h.0) (leb_tells (suc p) s.end_)
+
+-- a subprogram holds the place where it begins
+pub holds_begin : (subprograms : List Subprogram) (first n : ℕ) (s : Subprogram) → all_begun rises first subprograms ≡ true → slice_get subprograms n ≡ Some s → holder subprograms (begin_of first subprograms n) ≡ Some s
+holds_begin [] first n s all is = absurd (none-some s is)
+holds_begin (x ∷ subprograms) first zero s all is = holder_here x subprograms first (ltb-true first x.end_ (both (rises first x) _ all).0) ∙ is
+holds_begin (x ∷ subprograms) first (suc n) s all is =
+    let rest = (both (rises first x) _ all).1 in
+    let here = holder_later x subprograms (begin_of x.end_ subprograms n) (begins_later subprograms x.end_ n s rest is) ∙ holds_begin subprograms x.end_ n s rest is in
+    subst (λ v. holder (x ∷ subprograms) v ≡ Some s) (sym (begin_of-next first n x subprograms)) here
+
+pub holder_within : (subprograms : List Subprogram) (p : ℕ) (s : Subprogram) → holder subprograms p ≡ Some s → p < s.end_
+holder_within [] p s is = absurd (none-some s is)
+holder_within (x ∷ subprograms) p s is =
+    ⊎_elim
+    (λ h. let e : x ≡ s = same_Some x s (sym (holder_here x subprograms p h.1) ∙ is) in subst (λ v. p < v.end_) e h.1)
+    (λ h. holder_within subprograms p s (sym (holder_later x subprograms p (omega arith)) ∙ is))
+    (leb_tells (suc p) x.end_)
+
+-- it holds the next place too, unless that is its end
+pub holder_next : (subprograms : List Subprogram) (p : ℕ) (s : Subprogram) → holder subprograms p ≡ Some s → p + 1 < s.end_ → holder subprograms (p + 1) ≡ Some s
+holder_next [] p s is lt = absurd (none-some s is)
+holder_next (x ∷ subprograms) p s is lt =
+    ⊎_elim
+    (λ h. let e : x ≡ s = same_Some x s (sym (holder_here x subprograms p h.1) ∙ is) in holder_here x subprograms (p + 1) (subst (λ v. p + 1 < v.end_) (sym e) lt) ∙ ap Some e)
+    (λ h. holder_later x subprograms (p + 1) (omega arith) ∙ holder_next subprograms p s (sym (holder_later x subprograms p (omega arith)) ∙ is) lt)
+    (leb_tells (suc p) x.end_)
+
+-- it is one of the subprograms
+pub holder_number_of : (subprograms : List Subprogram) (p : ℕ) (s : Subprogram) → holder subprograms p ≡ Some s → (n : ℕ) × (slice_get subprograms n ≡ Some s)
+holder_number_of subprograms p s is = (position_or_len (λ s. nat_lt p s.end_) subprograms, sym (find_at (λ s. nat_lt p s.end_) subprograms) ∙ is)
+
+abbrev pub number_at : List Subprogram → ℕ → ℕ
+number_at subprograms p = position_or_len (λ s. nat_lt p s.end_) subprograms
+
+pub same_number-true : (a b : Option ℕ) → same_number a b ≡ true → (n : ℕ) × (a ≡ Some n) × (b ≡ Some n)
+same_number-true None b e = absurd (true≢false (sym e))
+same_number-true (Some m) None e = absurd (true≢false (sym e))
+same_number-true (Some m) (Some n) e = (m, refl, ⊎_elim (λ h. ap Some (sym h.1)) (λ h. absurd (true≢false (sym e ∙ h.0))) (eqb_tells m n))
+
+pub same_holder_number : (subprograms : List Subprogram) (p q : ℕ) → same_number (holder_number subprograms p) (holder_number subprograms q) ≡ true → number_at subprograms p ≡ number_at subprograms q
+same_holder_number subprograms p q e =
+    let x = same_number-true _ _ e in
+    (cond_some _ _ x.0 x.1).1 ∙ sym (cond_some _ _ x.0 x.2).1
+
+pub holder_of_number : (subprograms : List Subprogram) (p q : ℕ) (s : Subprogram) → number_at subprograms p ≡ number_at subprograms q → holder subprograms p ≡ Some s → holder subprograms q ≡ Some s
+holder_of_number subprograms p q s e is =
+    find_at (λ s. nat_lt q s.end_) subprograms ∙ (ap (slice_get subprograms) (sym e) ∙ (sym (find_at (λ s. nat_lt p s.end_) subprograms) ∙ is))
+
+pub number_at-le : (subprograms : List Subprogram) (p q : ℕ) → p ≤ q → number_at subprograms p ≤ number_at subprograms q
+number_at-le [] p q le = omega arith
+number_at-le (s ∷ subprograms) p q le = grind (arith, number_at-le subprograms p q le)
+
+-- Rows
+
+pub record Chosen (rows : List Row) (place : ℕ) (r : Row) : Type 0 where
+  pub number : ℕ
+  pub is : slice_get rows number ≡ Some r
+  pub covered : covers place r ≡ true
+
+later : (q : Row) (rows : List Row) (place : ℕ) (r : Row) → Chosen rows place r → Chosen (q ∷ rows) place r
+later q rows place r c = record { number = suc c.number; is = c.is; covered = c.covered }
+
+inner_chosen : (q : Row) (rows : List Row) (place : ℕ) (r : Row) (o : Option Row) → covers place q ≡ true → ((v : Row) → o ≡ Some v → Chosen rows place v) → inner_of q o ≡ r → Chosen (q ∷ rows) place r
+inner_chosen q rows place r None here rest e = record { number = 0; is = ap Some e; covered = subst (λ v. covers place v ≡ true) e here }
+inner_chosen q rows place r (Some v) here rest e = by (nat_le (width q) (width v)) e
+  where
+    by : (b : Bool) → cond b q v ≡ r → Chosen (q ∷ rows) place r
+    by true e = record { number = 0; is = ap Some e; covered = subst (λ v. covers place v ≡ true) e here }
+    by false e = later q rows place r (subst (Chosen rows place) e (rest v refl))
+
+-- the row that takes an exception is one that covers the place
+pub chosen : (rows : List Row) (place x : ℕ) (r : Row) → innermost rows place x ≡ Some r → Chosen rows place r
+chosen [] place x r is = absurd (none-some r is)
+chosen (q ∷ rows) place x r is = by (chosen rows place x) (covers place q && handles x q) refl is
+  where
+    by : ((v : Row) → innermost rows place x ≡ Some v → Chosen rows place v) → (b : Bool) → (covers place q && handles x q) ≡ b → cond b (Some (inner_of q (innermost rows place x))) (innermost rows place x) ≡ Some r → Chosen (q ∷ rows) place r
+    by rest true e is = inner_chosen q rows place r (innermost rows place x) (both _ _ e).0 rest (same_Some _ _ is)
+    by rest false e is = later q rows place r (rest r is)
+
+target_is : (o : Option Row) (a : ℕ) → target_of o ≡ Some a → (r : Row) × (o ≡ Some r) × (r.target ≡ a)
+target_is None a e = absurd (none-some a e)
+target_is (Some r) a e = (r, refl, same_Some _ _ e)
+
+-- What the rules of an image say
+
+pub placed-at : {X : Type 0} (test : ℕ → X → Bool) (xs : List X) (n : ℕ) (x : X) → all_placed test 0 xs ≡ true → slice_get xs n ≡ Some x → test n x ≡ true
+placed-at test xs n x all is = let e : 0 + n ≡ n = omega arith in subst (λ v. test v x ≡ true) e (all_placed-at test xs 0 n x all is)
+
+pub slice_get_inside : {X : Type 0} (xs : List X) (n : ℕ) → n < length xs → (x : X) × (slice_get xs n ≡ Some x)
+slice_get_inside [] n lt = absurd (omega arith)
+slice_get_inside (x ∷ xs) zero lt = (x, refl)
+slice_get_inside (x ∷ xs) (suc n) lt = slice_get_inside xs n (omega arith)
+
+pub some_and-at : {X : Type 0} (o : Option X) (test : X → Bool) (x : X) → o ≡ Some x → some_and o test ≡ true → test x ≡ true
+some_and-at o test x is e = subst (λ v. some_and v test ≡ true) is e
+
+-- what the depths of an instruction are good for
+pub record Depths (i : Sections) (place d : ℕ) (o : Operation) (s : Subprogram) : Type 0 where
+  pub taken : taken_by i s.results o ≤ d
+  pub before : d ≤ s.stack
+  pub after : d - taken_by i s.results o + given_by i o ≤ s.stack
+  pub returned : is_return o ≡ true → d ≡ s.results
+  pub next : goes_on o ≡ true → has_depth i (place + 1) (d - taken_by i s.results o + given_by i o) ≡ true
+  pub jumped : (a : ℕ) → jump_target o ≡ Some a → has_depth i a (d - taken_by i s.results o + given_by i o) ≡ true
+
+pub either : (a b : Bool) → (not a || b) ≡ true → a ≡ true → b ≡ true
+either true b e is = e
+either false b e is = absurd (true≢false (sym is))
+
+pub none_or-at : {X : Type 0} (o : Option X) (test : X → Bool) (x : X) → o ≡ Some x → none_or o test ≡ true → test x ≡ true
+none_or-at o test x is e = subst (λ v. none_or v test ≡ true) is e
+
+pub eqb-same : (a b : ℕ) → nat_eq a b ≡ true → a ≡ b
+eqb-same a b e = ⊎_elim (λ h. h.1) (λ h. absurd (true≢false (sym e ∙ h.0))) (eqb_tells a b)
+
+pub depths-from : (i : Sections) (place d : ℕ) (o : Operation) (s : Subprogram) → keeps_depth i place (record { depth = d; operation = o }) s ≡ true → Depths i place d o s
+depths-from i place d o s e =
+    let a = both _ _ e in
+    let b = both _ _ a.1 in
+    let c = both _ _ b.1 in
+    let r = both _ _ c.1 in
+    let n = both _ _ r.1 in
+    record {
+      taken = leb-true _ _ a.0;
+      before = leb-true _ _ b.0;
+      after = leb-true _ _ c.0;
+      returned = λ is. eqb-same _ _ (either _ _ r.0 is);
+      next = λ is. either _ _ n.0 is;
+      jumped = λ a is. none_or-at _ _ a is n.1;
+    }
+
+last_place : (place end_ : ℕ) → place < end_ → end_ < suc (place + 1) → end_ - 1 ≡ place
+last_place place end_ lt le = omega arith
+
+before_end : (place end_ : ℕ) → place < end_ → place ≤ end_ - 1
+before_end place end_ lt = omega arith
+
+between : (a b c d : ℕ) → a ≡ c → a ≡ d → a ≤ b → b ≤ c → b ≡ d
+between a b c d e f le more = omega arith
+
+module _ (i : Sections) (w : IsWellFormed i) where
+  pub depths : (place d : ℕ) (o : Operation) (s : Subprogram) → slice_get i.instructions place ≡ Some (record { depth = d; operation = o }) → holder i.subprograms place ≡ Some s → Depths i place d o s
+  depths place d o s is held =
+      depths-from i place d o s (some_and-at _ (keeps_depth i place (record { depth = d; operation = o })) s held (placed-at _ i.instructions place _ (both _ _ w.rule_46).0 is))
+
+  -- the instruction at a place has this depth
+  pub has_depth-is : (place d : ℕ) → has_depth i place d ≡ true → (x : Instr) × (slice_get i.instructions place ≡ Some x) × (x.depth ≡ d)
+  has_depth-is place d e = let h = some_and-true _ _ e in (h.0, h.1, eqb-same _ _ h.2)
+
+  -- the last instruction of a subprogram lets none follow
+  pub not_last : (place : ℕ) (x : Instr) (s : Subprogram) → slice_get i.instructions place ≡ Some x → holder i.subprograms place ≡ Some s → goes_on x.operation ≡ true → place + 1 < s.end_
+  not_last place x s is held on =
+      let lt = holder_within i.subprograms place s held in
+      let n = holder_number_of i.subprograms place s held in
+      let closed = some_and-true _ _ (list_all-at (is_closed i) i.subprograms n.0 s (both _ _ (both _ _ w.rule_44).1).0 n.1) in
+      ⊎_elim
+      (λ h. h.1)
+      (λ h.
+      let e : s.end_ - 1 ≡ place = last_place place s.end_ lt h.1 in
+      let same : closed.0 ≡ x = same_Some _ _ (sym closed.1 ∙ (ap (slice_get i.instructions) e ∙ is)) in
+      absurd (true≢false (sym closed.2 ∙ (ap (λ v. not (goes_on v.operation)) same ∙ ap not on))))
+      (leb_tells (suc (place + 1)) s.end_)
+
+  -- a jump stays with its holder
+  pub jump_held : (place d : ℕ) (o : Operation) (s : Subprogram) (a : ℕ) → slice_get i.instructions place ≡ Some (record { depth = d; operation = o }) → holder i.subprograms place ≡ Some s → jump_target o ≡ Some a → holder i.subprograms a ≡ Some s
+  jump_held place d o s a is held to =
+      let within = placed-at (jumps_within i) i.instructions place _ (both _ _ w.rule_44).0 is in
+      holder_of_number i.subprograms place a s (same_holder_number i.subprograms place a (none_or-at _ _ a to within)) held
+
+  -- where a subprogram begins
+  pub first_place-is : (n : ℕ) → first_place i n ≡ begin_of 0 i.subprograms n
+  first_place-is zero = refl
+  first_place-is (suc n) = refl
+
+  rule_47 : (all_begun rises 0 i.subprograms ≡ true) × (all_placed (is_subprogram i) 0 i.subprograms ≡ true)
+  rule_47 = let a = both _ _ w.rule_47 in let b = both _ _ a.1 in let c = both _ _ b.1 in (b.0, (both _ _ c.1).0)
+
+  pub rule_47_subprogram : (n : ℕ) (s : Subprogram) → slice_get i.subprograms n ≡ Some s → is_subprogram i n s ≡ true
+  rule_47_subprogram n s is = placed-at (is_subprogram i) i.subprograms n s rule_47.1 is
+
+  pub rule_47_tasks : list_all (is_task i) i.tasks ≡ true
+  rule_47_tasks =
+      let a = (both (has_counts i) _ w.rule_47).1 in
+      let b = (both (all_begun rises 0 i.subprograms) _ a).1 in
+      let c = (both (nat_eq (last_end i.subprograms) (length i.instructions)) _ b).1 in
+      let d = (both (all_placed (is_subprogram i) 0 i.subprograms) _ c).1 in
+      (both _ _ (both (all_placed (is_object i) 0 i.objects) _ d).1).0
+
+  pub rule_45_tasks : list_all (has_body i) i.tasks ≡ true
+  rule_45_tasks =
+      let a = (both (all_placed (λ place x. in_holder i place (λ s. names_things i s x.operation)) 0 i.instructions) _ w.rule_45).1 in
+      (both (list_all (has_entry i) i.objects) _ (both (list_all (has_object i) i.subprograms) _ a).1).1
+
+  pub some_subprogram : 0 < length i.subprograms
+  some_subprogram =
+      let a = (both (has_counts i) _ w.rule_47).0 in
+      let b = (both (is_within 1 (length i.instructions) INSTRUCTIONS) _ a).1 in
+      leb-true _ _ (both (nat_le 1 (length i.subprograms)) _ (both (is_within 1 (length i.subprograms) SUBPROGRAMS) _ b).0).0
+
+  is_body : (kind : Kind) → is_task_body kind ≡ true → kind ≡ TaskBody
+  is_body TaskBody e = refl
+  is_body Plain e = absurd (true≢false (sym e))
+  is_body (ProtectedProcedure p) e = absurd (true≢false (sym e))
+  is_body (ProtectedFunction p) e = absurd (true≢false (sym e))
+  is_body (EntryBody p) e = absurd (true≢false (sym e))
+
+  pub body_kind : (t : ℕ) (x : Task) (s : Subprogram) → slice_get i.tasks t ≡ Some x → slice_get i.subprograms x.subprogram ≡ Some s → s.kind ≡ TaskBody
+  body_kind t x s is called =
+      let a = (both (is_name x.name) _ (list_all-at (is_task i) i.tasks t x rule_47_tasks is)).1 in
+      is_body s.kind (none_or-at _ (λ s. is_task_body s.kind) s called (both (nat_le x.priority PRIORITY) _ a).1)
+
+  -- what an operation names is there
+  pub names : (place d : ℕ) (o : Operation) (s : Subprogram) → slice_get i.instructions place ≡ Some (record { depth = d; operation = o }) → holder i.subprograms place ≡ Some s → names_things i s o ≡ true
+  names place d o s is held =
+      let all = (both (all_placed (λ place x. in_holder i place (λ s. names_things i s x.operation)) 0 i.instructions) _ w.rule_45).0 in
+      some_and-at _ (λ s. names_things i s o) s held (placed-at (λ place x. in_holder i place (λ s. names_things i s x.operation)) i.instructions place _ all is)
+
+  rule_47_objects : all_placed (is_object i) 0 i.objects ≡ true
+  rule_47_objects =
+      let a = (both (has_counts i) _ w.rule_47).1 in
+      let b = (both (all_begun rises 0 i.subprograms) _ a).1 in
+      let c = (both (nat_eq (last_end i.subprograms) (length i.instructions)) _ b).1 in
+      let d = (both (all_placed (is_subprogram i) 0 i.subprograms) _ c).1 in
+      (both (all_placed (is_object i) 0 i.objects) _ d).0
+
+  is_entry_body : (o : ℕ) (kind : Kind) → is_entry_body_of o kind ≡ true → kind ≡ EntryBody o
+  is_entry_body o (EntryBody p) e = ap EntryBody (eqb-same p o e)
+  is_entry_body o Plain e = absurd (true≢false (sym e))
+  is_entry_body o (ProtectedProcedure p) e = absurd (true≢false (sym e))
+  is_entry_body o (ProtectedFunction p) e = absurd (true≢false (sym e))
+  is_entry_body o TaskBody e = absurd (true≢false (sym e))
+
+  entry_row : (o : Option ObjectRow) (n : ℕ) → entry_of o ≡ Some n → (row : ObjectRow) × (o ≡ Some row) × (row.entry ≡ Some n)
+  entry_row None n e = absurd (none-some n e)
+  entry_row (Some row) n e = (row, refl, e)
+
+  -- the subprogram of an object's entry is its body
+  pub entry_kind : (o n : ℕ) (s : Subprogram) → entry_of (slice_get i.objects o) ≡ Some n → slice_get i.subprograms n ≡ Some s → s.kind ≡ EntryBody o
+  entry_kind o n s is called =
+      let r = entry_row (slice_get i.objects o) n is in
+      let own = (both _ _ (both (nat_le r.0.ceiling CEILING) _ (placed-at (is_object i) i.objects o r.0 rule_47_objects r.1)).1).0 in
+      is_entry_body o s.kind (none_or-at _ (λ s. is_entry_body_of o s.kind) s called (none_or-at _ (λ n. none_or (slice_get i.subprograms n) (λ s. is_entry_body_of o s.kind)) n r.2 own))
+
+  -- ceilings and base priorities
+  pub ceiling_is : (o : ℕ) (row : ObjectRow) → slice_get i.objects o ≡ Some row → row.ceiling ≤ CEILING
+  ceiling_is o row is = leb-true _ _ (both (nat_le row.ceiling CEILING) _ (placed-at (is_object i) i.objects o row rule_47_objects is)).0
+
+  pub priority_is : (t : ℕ) (x : Task) → slice_get i.tasks t ≡ Some x → x.priority ≤ PRIORITY
+  priority_is t x is = leb-true _ _ (both (nat_le x.priority PRIORITY) _ (both (is_name x.name) _ (list_all-at (is_task i) i.tasks t x rule_47_tasks is)).1).0
+
+  pub begin_held : (n : ℕ) (s : Subprogram) → slice_get i.subprograms n ≡ Some s → holder i.subprograms (first_place i n) ≡ Some s
+  begin_held n s is = subst (λ v. holder i.subprograms v ≡ Some s) (sym (first_place-is n)) (holds_begin i.subprograms 0 n s rule_47.0 is)
+
+  pub begin_depth : (n : ℕ) (s : Subprogram) → slice_get i.subprograms n ≡ Some s → has_depth i (first_place i n) 0 ≡ true
+  begin_depth n s is =
+      subst (λ v. has_depth i v 0 ≡ true) (sym (first_place-is n)) (all_begun-at (λ first s. has_depth i first 0) i.subprograms 0 n s (both _ _ (both _ _ w.rule_46).1).0 is)
+
+  -- the parameters are locals, and a frame has its words
+  pub frame_words : (n : ℕ) (s : Subprogram) → slice_get i.subprograms n ≡ Some s → (s.parameters ≤ s.locals) × (s.locals + s.stack ≤ FRAME_WORDS)
+  frame_words n s is =
+      let a = both _ _ (rule_47_subprogram n s is) in
+      (leb-true _ _ a.0, leb-true _ _ (both _ _ a.1).0)
+
+  -- a handler's target lies in the subprogram of what its row covers
+  pub handler_held : (place x a : ℕ) (s : Subprogram) → handler_of i.rows place x ≡ Some a → holder i.subprograms place ≡ Some s → (holder i.subprograms a ≡ Some s) × (has_depth i a 1 ≡ true)
+  handler_held place x a s is held =
+      let t = target_is (innermost i.rows place x) a is in
+      let r = t.0 in
+      let c = chosen i.rows place x r t.1 in
+      let within = both _ _ (list_all-at (is_row_within i) i.rows c.number r (both _ _ (both _ _ w.rule_44).1).1 c.is) in
+      let deep = list_all-at (λ r. has_depth i r.target 1) i.rows c.number r (both _ _ (both _ _ w.rule_46).1).1 c.is in
+      let low : r.start ≤ place = leb-true _ _ (both _ _ c.covered).0 in
+      let high : place < r.end_ = ltb-true _ _ (both _ _ c.covered).1 in
+      let ends : number_at i.subprograms r.start ≡ number_at i.subprograms (r.end_ - 1) = same_holder_number i.subprograms r.start (r.end_ - 1) (both _ _ within.1).0 in
+      let goes : number_at i.subprograms r.start ≡ number_at i.subprograms r.target = same_holder_number i.subprograms r.start r.target (both _ _ within.1).1 in
+      let first = number_at-le i.subprograms r.start place low in
+      let last = number_at-le i.subprograms place (r.end_ - 1) (before_end place r.end_ high) in
+      let same : number_at i.subprograms place ≡ number_at i.subprograms r.target = between _ _ _ _ ends goes first last in
+      (subst (λ v. holder i.subprograms v ≡ Some s) t.2 (holder_of_number i.subprograms place r.target s same held), subst (λ v. has_depth i v 1 ≡ true) t.2 deep)

@@ -1,0 +1,16 @@
+pub mod Code
+pub mod Faults
+pub mod Frames
+pub mod Laws
+pub mod Linked
+pub mod Names
+pub mod ObjectTable
+pub mod Operations
+pub mod Refusals
+pub mod Rules
+pub mod Scalars
+pub mod Sections
+pub mod Shape
+pub mod Steps
+pub mod Taken
+pub mod Texts

@@ -1,0 +1,21 @@
+-- The texts of an image by their numbers.
+use Rattle.std.specs.Prelude.{ℕ, ◌-◌, List, [], Option, Some, None, slice_get}
+use Rattle.image.specs.Sections.{Sections}
+use Rattle.image.specs.declared.task.Task.{Task}
+use Rattle.kernel.specs.Text.{Names}
+
+abbrev pub text_or_none : Option (List ℕ) → List ℕ
+text_or_none None = []
+text_or_none (Some text) = text
+
+-- the text of this number, or the empty one where there is none
+abbrev pub text_at : List (List ℕ) → ℕ → List ℕ
+text_at texts number = text_or_none (slice_get texts number)
+
+abbrev pub name_of : Option Task → List ℕ
+name_of None = []
+name_of (Some t) = t.name
+
+-- tasks are numbered from 0, exceptions from 1
+abbrev pub names_of : Sections → Names
+names_of i = record { task = λ t. name_of (slice_get i.tasks t); exception = λ x. text_at i.exceptions (x - 1) }

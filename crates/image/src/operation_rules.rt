@@ -1,0 +1,57 @@
+//! What an operation needs by itself, and where it goes on.
+ghost use Rattle.std.specs.Prelude.{◌≡◌};
+ghost use Rattle.image.specs.Operations.{goes_on, jump_target};
+ghost use Rattle.image.specs.Rules.{has_operands, is_block, is_return};
+
+use crate::instruction::Operation;
+use crate::limits::WORDS;
+
+impl Operation {
+    /// Whether its operands are in range by themselves: a block has 1 to 8,192 words.
+    pub(crate) fn has_operands(&self) -> bool
+        ensures { result ≡ has_operands self.now }
+    {
+        match self {
+            Operation::LoadBlock { words, .. }
+            | Operation::StoreBlock { words, .. }
+            | Operation::Copy { words, .. } => is_block(*words),
+            _ => true,
+        }
+    }
+
+    /// Whether the next instruction may follow.
+    pub(crate) fn goes_on(&self) -> bool
+        ensures { result ≡ goes_on self.now }
+    {
+        !matches!(
+            self,
+            Operation::Jump(_) | Operation::Return | Operation::Raise
+        )
+    }
+
+    /// Whether it is a return.
+    pub(crate) fn is_return(&self) -> bool
+        ensures { result ≡ is_return self.now }
+    {
+        matches!(self, Operation::Return)
+    }
+
+    /// Where it may jump.
+    pub(crate) fn jump_target(&self) -> Option<u16>
+        ensures { result ≡ jump_target self.now }
+    {
+        match self {
+            Operation::Jump(target)
+            | Operation::JumpIfZero(target)
+            | Operation::JumpIfNotZero(target) => Some(*target),
+            _ => None,
+        }
+    }
+}
+
+fn is_block(words: u16) -> bool
+    ensures { result ≡ is_block words }
+{
+    let words = usize::from(words);
+    1 <= words && words <= WORDS
+}

@@ -1,0 +1,32 @@
+//! Subprograms.
+
+/// What a subprogram is, and the object that it belongs to.
+#[derive(Clone, Copy, PartialEq, Eq, Debug)]
+pub enum Kind {
+    /// A procedure or function outside protected objects, or the body of a function there.
+    Plain,
+    /// A procedure of an object.
+    ProtectedProcedure(u16),
+    /// A function of an object.
+    ProtectedFunction(u16),
+    /// The body of an object's entry.
+    EntryBody(u16),
+    /// The body of a task, or main.
+    TaskBody,
+}
+
+/// A subprogram. Its first instruction stands where the subprogram before it ends.
+#[derive(Clone, Copy, PartialEq, Eq, Debug)]
+pub struct Subprogram {
+    pub kind: Kind,
+    /// The place after its last instruction.
+    pub end_: u16,
+    /// How many words a call takes from the caller's operand stack.
+    pub parameters: u16,
+    /// How many words a return gives to the caller's operand stack.
+    pub results: u16,
+    /// The words of its frame below the operand stack, the parameters first.
+    pub locals: u16,
+    /// The greatest depth of its operand stack.
+    pub stack: u16,
+}

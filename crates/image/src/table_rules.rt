@@ -1,0 +1,261 @@
+//! The rules of the tables (docs/FORMATS.md, "Well-formed images", 47).
+ghost use Rattle.std.specs.Prelude.{◌≡◌, ◌+◌, ◌≤◌, ◌&&◌, ◌||◌, length, nat_eq, nat_le, nat_lt, not, slice_get, sum_by};
+ghost use Rattle.std.specs.List.{list_all};
+ghost use Rattle.image.specs.Names.{is_label, is_name, predefined};
+ghost use Rattle.image.specs.Rules.{all_begun, all_nested, all_placed, are_nested, begins_with, has_counts, is_barrier, is_closed_barrier, is_entry_body_of, is_entry_of_object, is_object, is_subprogram, is_task, is_task_body, keeps_47, last_end, none_or};
+
+use crate::limits::{
+    CEILING, EXCEPTIONS, FRAME_WORDS, INSTRUCTIONS, LABELS, OBJECTS, PRIORITY, ROWS, SUBPROGRAMS,
+    TASKS, WORDS,
+};
+use crate::names;
+use crate::object::{Barrier, Object};
+use crate::parts::Parts;
+use crate::subprogram::{Kind, Subprogram};
+use crate::task::Task;
+use handlers::table::Row;
+
+impl Kind {
+    fn is_task_body(&self) -> bool
+        ensures { result ≡ is_task_body self.now }
+    {
+        matches!(self, Kind::TaskBody)
+    }
+
+    fn is_entry_body_of(&self, number: usize) -> bool
+        ensures { result ≡ is_entry_body_of number self.now }
+    {
+        match self {
+            Kind::EntryBody(object) => usize::from(*object) == number,
+            _ => false,
+        }
+    }
+}
+
+// Whether one region lies in the other, they are the same, or they don't meet.
+fn are_nested(r: &Row, q: &Row) -> bool
+    ensures { result ≡ are_nested r.now q.now }
+{
+    r.start <= q.start && q.end_ <= r.end_
+        || q.start <= r.start && r.end_ <= q.end_
+        || r.end_ <= q.start
+        || q.end_ <= r.start
+}
+
+impl Parts {
+    pub(crate) fn keeps_47(&self) -> bool
+        ensures { result ≡ keeps_47 self.now }
+    {
+        self.has_counts()
+            && self.ends_increase()
+            && self.last_end() == self.instructions.len()
+            && self.all_subprograms()
+            && self.all_objects()
+            && self.all_tasks()
+            && self.begins_with_predefined()
+            && self.all_exceptions()
+            && self.all_labels()
+            && self.all_row_exceptions()
+            && self.all_nested()
+    }
+
+    fn has_counts(&self) -> bool
+        ensures { result ≡ has_counts self.now }
+    {
+        1 <= self.instructions.len()
+            && self.instructions.len() <= INSTRUCTIONS
+            && 1 <= self.subprograms.len()
+            && self.subprograms.len() <= SUBPROGRAMS
+            && 1 <= self.tasks.len()
+            && self.tasks.len() <= TASKS
+            && 4 <= self.exceptions.len()
+            && self.exceptions.len() <= EXCEPTIONS
+            && self.objects.len() <= OBJECTS
+            && self.rows.len() <= ROWS
+            && self.labels.len() <= LABELS
+            && self.has_words()
+    }
+
+    // Whether the plain words and those of the objects are within the limit.
+    fn has_words(&self) -> bool
+        ensures { result ≡ nat_le (length self.now.plain_words + sum_by (λ o. length o.words) self.now.objects) WORDS }
+    {
+        let mut left = match WORDS.checked_sub(self.plain_words.len()) {
+            None => return false,
+            Some(left) => left,
+        };
+        for o in &self.objects {
+            left = match left.checked_sub(o.words().len()) {
+                None => return false,
+                Some(left) => left,
+            };
+        }
+        true
+    }
+
+    fn ends_increase(&self) -> bool
+        ensures { result ≡ all_begun (λ first s. nat_lt first s.end_) 0 self.now.subprograms }
+    {
+        let mut place = 0;
+        for s in &self.subprograms {
+            if s.end_ <= place {
+                return false;
+            }
+            place = s.end_;
+        }
+        true
+    }
+
+    fn last_end(&self) -> usize
+        ensures { result ≡ last_end self.now.subprograms }
+    {
+        let last = self.subprograms.len().saturating_sub(1);
+        self.subprograms
+            .get(last)
+            .map_or(0, |s| usize::from(s.end_))
+    }
+
+    fn all_subprograms(&self) -> bool
+        ensures { result ≡ all_placed (is_subprogram self.now) 0 self.now.subprograms }
+    {
+        for (number, s) in self.subprograms.iter().enumerate() {
+            if !self.is_subprogram(number, s) {
+                return false;
+            }
+        }
+        true
+    }
+
+    fn is_subprogram(&self, number: usize, s: &Subprogram) -> bool
+        ensures { result ≡ is_subprogram self.now number s.now }
+    {
+        s.parameters <= s.locals
+            && usize::from(s.locals) + usize::from(s.stack) <= FRAME_WORDS
+            && (!s.kind.is_task_body() || s.parameters == 0 && s.results == 0)
+            && self.is_entry_of_object(number, &s.kind)
+    }
+
+    // Whether an entry's body is the one that its object has.
+    fn is_entry_of_object(&self, number: usize, kind: &Kind) -> bool
+        ensures { result ≡ is_entry_of_object self.now number kind.now }
+    {
+        let Kind::EntryBody(object) = kind else {
+            return true;
+        };
+        match self.objects.get(usize::from(*object)) {
+            None => true,
+            Some(o) => match o.entry() {
+                None => false,
+                Some(entry) => number == usize::from(entry),
+            },
+        }
+    }
+
+    fn all_objects(&self) -> bool
+        ensures { result ≡ all_placed (is_object self.now) 0 self.now.objects }
+    {
+        for (number, o) in self.objects.iter().enumerate() {
+            if !self.is_object(number, o) {
+                return false;
+            }
+        }
+        true
+    }
+
+    fn is_object(&self, number: usize, o: &Object) -> bool
+        ensures { result ≡ is_object self.now number o.now }
+    {
+        o.ceiling() <= CEILING
+            && self.is_own_entry(number, o)
+            && is_barrier(o)
+            && (o.entry().is_some() || is_closed(o.barrier()))
+    }
+
+    // Whether the subprogram that an object has as its entry is one of its own.
+    fn is_own_entry(&self, number: usize, o: &Object) -> bool
+        ensures { result ≡ none_or o.now.entry (λ n. none_or (slice_get self.now.subprograms n) (λ s. is_entry_body_of number s.kind)) }
+    {
+        match o.entry() {
+            None => true,
+            Some(entry) => match self.called(entry) {
+                None => true,
+                Some(s) => s.kind.is_entry_body_of(number),
+            },
+        }
+    }
+
+    fn all_tasks(&self) -> bool
+        ensures { result ≡ list_all (is_task self.now) self.now.tasks }
+    {
+        self.tasks.iter().all(|t| self.is_task(t))
+    }
+
+    fn is_task(&self, t: &Task) -> bool
+        ensures { result ≡ is_task self.now t.now }
+    {
+        names::is_name(t.name.as_bytes())
+            && t.priority <= PRIORITY
+            && match self.called(t.subprogram) {
+                None => true,
+                Some(s) => s.kind.is_task_body(),
+            }
+    }
+
+    fn begins_with_predefined(&self) -> bool
+        ensures { result ≡ begins_with predefined self.now.exceptions }
+    {
+        names::begin_with_predefined(&self.exceptions)
+    }
+
+    fn all_exceptions(&self) -> bool
+        ensures { result ≡ list_all is_name self.now.exceptions }
+    {
+        self.exceptions.iter().all(|x| names::is_name(x.as_bytes()))
+    }
+
+    fn all_labels(&self) -> bool
+        ensures { result ≡ list_all is_label self.now.labels }
+    {
+        self.labels.iter().all(|l| names::is_label(l.as_bytes()))
+    }
+
+    fn all_row_exceptions(&self) -> bool
+        ensures { result ≡ list_all (λ r. nat_le r.exception (length self.now.exceptions)) self.now.rows }
+    {
+        let last = self.exceptions.len();
+        self.rows.iter().all(|r| usize::from(r.exception) <= last)
+    }
+
+    fn all_nested(&self) -> bool
+        ensures { result ≡ all_nested self.now.rows }
+    {
+        let rows = self.rows.as_slice();
+        for (index, first) in rows.iter().enumerate() {
+            if !are_nested_in_or_around(first, &rows[index + 1..]) {
+                return false;
+            }
+        }
+        true
+    }
+}
+
+fn are_nested_in_or_around(r: &Row, rows: &[Row]) -> bool
+    ensures { result ≡ list_all (are_nested r.now) rows.now }
+{
+    rows.iter().all(|q| are_nested(r, q))
+}
+
+fn is_barrier(o: &Object) -> bool
+    ensures { result ≡ is_barrier o.now o.now.barrier }
+{
+    match o.barrier() {
+        Barrier::Closed | Barrier::Open => true,
+        Barrier::Word(address) => usize::from(address) < o.words().len(),
+    }
+}
+
+fn is_closed(barrier: Barrier) -> bool
+    ensures { result ≡ is_closed_barrier barrier }
+{
+    matches!(barrier, Barrier::Closed)
+}

@@ -1,0 +1,150 @@
+//! Looking things up in the sections of an image.
+ghost use Rattle.std.specs.Prelude.{◌≡◌, ◌≤◌, ◌^◌};
+ghost use Rattle.image.specs.Sections.{holder, holder_number, object_of, writes_object};
+ghost use Rattle.image.specs.Operations.{called, entry_called, given_by, parameters_of, results_of, taken_by};
+
+use crate::instruction::Operation;
+use crate::parts::Parts;
+use crate::subprogram::{Kind, Subprogram};
+
+impl Kind {
+    /// The object that a subprogram of this kind belongs to.
+    pub fn object(&self) -> Option<u16>
+        ensures { result ≡ object_of self.now }
+    {
+        match self {
+            Kind::ProtectedProcedure(object)
+            | Kind::ProtectedFunction(object)
+            | Kind::EntryBody(object) => Some(*object),
+            Kind::Plain | Kind::TaskBody => None,
+        }
+    }
+
+    /// Whether a subprogram of this kind may write the words of its object.
+    pub fn writes_object(&self) -> bool
+        ensures { result ≡ writes_object self.now }
+    {
+        matches!(self, Kind::ProtectedProcedure(_) | Kind::EntryBody(_))
+    }
+}
+
+impl Parts {
+    // The subprogram that holds a place.
+    pub(crate) fn holder(&self, place: usize) -> Option<Subprogram>
+        ensures { result ≡ holder self.now.subprograms place }
+    {
+        self.subprograms
+            .iter()
+            .copied()
+            .find(|s| place < usize::from(s.end_))
+    }
+
+    // The number of the subprogram that holds a place.
+    pub(crate) fn holder_number(&self, place: usize) -> Option<usize>
+        ensures { result ≡ holder_number self.now.subprograms place }
+    {
+        self.subprograms
+            .iter()
+            .position(|s| place < usize::from(s.end_))
+    }
+
+    // The subprogram of this number.
+    pub(crate) fn called(&self, number: u16) -> Option<Subprogram>
+        ensures { result ≡ called self.now number }
+    {
+        self.subprograms.get(usize::from(number)).copied()
+    }
+
+    // The subprogram of an object's entry.
+    pub(crate) fn entry_called(&self, object: u16) -> Option<Subprogram>
+        ensures { result ≡ entry_called self.now object }
+    {
+        let entry = self.objects.get(usize::from(object))?.entry()?;
+        self.called(entry)
+    }
+
+    // How many words an operation takes; a return takes the results of its subprogram.
+    pub(crate) fn taken_by(&self, results: u16, operation: &Operation) -> usize
+        ensures taken { result ≡ taken_by self.now results operation.now }
+        ensures small { result ≤ 2 ^ 16 }
+    {
+        match operation {
+            Operation::Push(_)
+            | Operation::LoadLocal(_)
+            | Operation::LoadPlain(_)
+            | Operation::LoadObject(_)
+            | Operation::Jump(_)
+            | Operation::CheckBlocking
+            | Operation::Clock => 0,
+            Operation::Drop
+            | Operation::Duplicate
+            | Operation::StoreLocal(_)
+            | Operation::StorePlain(_)
+            | Operation::StoreObject(_)
+            | Operation::LoadIndexed(_)
+            | Operation::LoadBlock { .. }
+            | Operation::Negate
+            | Operation::Absolute
+            | Operation::Not
+            | Operation::JumpIfZero(_)
+            | Operation::JumpIfNotZero(_)
+            | Operation::Raise
+            | Operation::DelayUntil
+            | Operation::PutLine(_)
+            | Operation::ReadInput => 1,
+            Operation::StoreBlock { words, .. } => usize::from(*words) + 1,
+            Operation::CheckRange => 3,
+            Operation::Call(number) | Operation::ProtectedCall(number) => {
+                parameters_of(self.called(*number))
+            }
+            Operation::EntryCall(object) => parameters_of(self.entry_called(*object)),
+            Operation::Return => usize::from(results),
+            _ => 2,
+        }
+    }
+
+    // How many words an operation gives.
+    pub(crate) fn given_by(&self, operation: &Operation) -> usize
+        ensures given { result ≡ given_by self.now operation.now }
+        ensures small { result ≤ 2 ^ 16 }
+    {
+        match operation {
+            Operation::Drop
+            | Operation::StoreLocal(_)
+            | Operation::StorePlain(_)
+            | Operation::StoreObject(_)
+            | Operation::StoreIndexed(_)
+            | Operation::StoreBlock { .. }
+            | Operation::Copy { .. }
+            | Operation::Jump(_)
+            | Operation::JumpIfZero(_)
+            | Operation::JumpIfNotZero(_)
+            | Operation::Return
+            | Operation::Raise
+            | Operation::CheckBlocking
+            | Operation::DelayUntil
+            | Operation::PutLine(_) => 0,
+            Operation::Duplicate => 2,
+            Operation::LoadBlock { words, .. } => usize::from(*words),
+            Operation::Call(number) | Operation::ProtectedCall(number) => {
+                results_of(self.called(*number))
+            }
+            Operation::EntryCall(object) => results_of(self.entry_called(*object)),
+            _ => 1,
+        }
+    }
+}
+
+fn parameters_of(subprogram: Option<Subprogram>) -> usize
+    ensures same { result ≡ parameters_of subprogram }
+    ensures small { result ≤ 2 ^ 16 }
+{
+    subprogram.map_or(0, |s| usize::from(s.parameters))
+}
+
+fn results_of(subprogram: Option<Subprogram>) -> usize
+    ensures same { result ≡ results_of subprogram }
+    ensures small { result ≤ 2 ^ 16 }
+{
+    subprogram.map_or(0, |s| usize::from(s.results))
+}

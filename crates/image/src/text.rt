@@ -1,0 +1,54 @@
+//! The names and labels of an image.
+ghost use Rattle.std.specs.Prelude.{◌≡◌, ◌≤◌, ◌<◌, ◌↔◌, length, IfSome, IsSome};
+
+use arrayvec::ArrayVec;
+use std::alloc::AllocError;
+use std::marker::Model;
+
+/// A name or a label: at most 40 bytes. Contracts see its bytes.
+#[derive(Debug, Drop, PartialEq, Eq)]
+pub struct Text {
+    bytes: ArrayVec<u8, 40>,
+}
+
+impl Model for Text {
+    ghost use Rattle.std.specs.Prelude.{ℕ, List};
+
+    ghost Value = { List ℕ };
+
+    ghost view = { λ t. t.bytes.items };
+
+    ghost inverse = { λ bytes. record { bytes = record { items = bytes } } };
+}
+
+impl Text {
+    /// The text of these bytes, or None where they are more than 40.
+    pub fn new(bytes: &[u8]) -> Option<Text>
+        ensures fits { IsSome result ↔ (length bytes.now ≤ 40) }
+        ensures same { IfSome result (λ text. text ≡ bytes.now) }
+    {
+        let mut kept = ArrayVec::new();
+        kept.try_extend_from_slice(bytes).ok()?;
+        Some(Text { bytes: kept })
+    }
+
+    /// The bytes.
+    pub fn as_bytes(&self) -> &[u8]
+        ensures same { result.now ≡ self.now }
+        ensures short { length result.now ≤ 40 }
+    {
+        self.bytes.as_slice()
+    }
+}
+
+impl Clone for Text {
+    ghost is_clone = { λ old new. new ≡ old };
+
+    ghost is_infallible = { λ _. Unit {0} };
+
+    fn clone(&self) -> Result<Self, AllocError> {
+        Ok(Text {
+            bytes: self.bytes.clone()?,
+        })
+    }
+}
