@@ -1,0 +1,10 @@
+mod Begin
+mod Calls
+mod FrameWords
+mod Good
+mod Operands
+mod Pieces
+mod Raising
+mod Ready
+mod Runs
+mod Worlds

@@ -1,0 +1,6 @@
+pub mod Held
+pub mod Layout
+pub mod Memory
+pub mod Outcomes
+pub mod Stands
+pub mod Written

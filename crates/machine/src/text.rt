@@ -1,0 +1,111 @@
+//! The text of lines and outcomes (docs/FORMATS.md, "Output").
+ghost use Rattle.std.specs.Prelude.{◌≡◌, ◌+◌, ◌-◌, ◌≤◌, ◌++◌, length, slice_get};
+ghost use Rattle.std.specs.Fmt.{signed_decimal};
+ghost use Rattle.arrayvec.specs.ArrayVec.{array_vec_len};
+ghost use Rattle.image.specs.Texts.{name_of, names_of, text_at};
+ghost use Rattle.kernel.specs.Text.{last_line, line_text, outcome_text};
+ghost use Rattle.machine.specs.Outcomes.{line_of, ending_of, time_of};
+
+use crate::outcome::{Line, LineText, Outcome};
+use arrayvec::ArrayVec;
+use image::image::Image;
+use image::task::Task;
+use image::text::Text;
+use itoa::Buffer;
+
+// Appends the bytes, for which there is room.
+fn put(line: &mut LineText, bytes: &[u8])
+    requires { array_vec_len line.old + length bytes.now ≤ 128 }
+    ensures items { line.new.items ≡ line.old.items ++ bytes.now }
+    ensures len { array_vec_len line.new ≡ array_vec_len line.old + length bytes.now }
+{
+    let _ = line.try_extend_from_slice(bytes);
+}
+
+// Appends the number in decimal.
+fn put_number(line: &mut LineText, number: i64)
+    requires { array_vec_len line.old + 20 ≤ 128 }
+    ensures items { line.new.items ≡ line.old.items ++ signed_decimal number }
+    ensures len { array_vec_len line.new ≤ array_vec_len line.old + 20 }
+{
+    put(line, Buffer::new().format(number).as_bytes());
+}
+
+// The bytes of the text with this number, or none where there isn't one.
+fn text_at(texts: &[Text], number: usize) -> &[u8]
+    ensures same { result.now ≡ text_at texts.now number }
+    ensures short { length result.now ≤ 40 }
+{
+    match texts.get(number) {
+        None => &[],
+        Some(text) => text.as_bytes(),
+    }
+}
+
+// The name of the task with this number, or none where there isn't one.
+fn name_at(tasks: &[Task], number: usize) -> &[u8]
+    ensures same { result.now ≡ name_of (slice_get tasks.now number) }
+    ensures short { length result.now ≤ 40 }
+{
+    match tasks.get(number) {
+        None => &[],
+        Some(task) => task.name.as_bytes(),
+    }
+}
+
+/// The text of a line of the image.
+pub(crate) fn line_text(image: &Image, line: &Line) -> LineText
+    ensures { result.items ≡ line_text (names_of image.now) (line_of image.now line.now) }
+{
+    let mut text = ArrayVec::new();
+    put_number(&mut text, line.time);
+    put(&mut text, b" ");
+    put(&mut text, name_at(image.tasks(), usize::from(line.task)));
+    put(&mut text, b" ");
+    put(&mut text, text_at(image.labels(), usize::from(line.label)));
+    put(&mut text, b" ");
+    put_number(&mut text, line.value);
+    put(&mut text, b"\n");
+    text
+}
+
+/// The text of the last line of a run of the image.
+pub(crate) fn last_line(image: &Image, outcome: &Outcome) -> LineText
+    ensures { result.items ≡ last_line (names_of image.now) (ending_of outcome.now) (time_of outcome.now) }
+{
+    let mut text = ArrayVec::new();
+    let time = match outcome {
+        Outcome::Ended { time } => {
+            put(&mut text, b"ended");
+            time
+        }
+        Outcome::WaitsForever { time } => {
+            put(&mut text, b"waits forever");
+            time
+        }
+        Outcome::Unhandled {
+            exception,
+            task,
+            time,
+        } => {
+            let number = usize::from(exception.saturating_sub(1));
+            put(&mut text, b"unhandled ");
+            put(&mut text, text_at(image.exceptions(), number));
+            put(&mut text, b" in ");
+            put(&mut text, name_at(image.tasks(), usize::from(*task)));
+            time
+        }
+        Outcome::ImageFault { time } => {
+            put(&mut text, b"image fault");
+            time
+        }
+        Outcome::StepLimit { time } => {
+            put(&mut text, b"step limit");
+            time
+        }
+    };
+    put(&mut text, b" at ");
+    put_number(&mut text, *time);
+    put(&mut text, b"\n");
+    text
+}
