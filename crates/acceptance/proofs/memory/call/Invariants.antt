@@ -1,0 +1,7 @@
+use Rattle.acceptance.proofs.memory.call.Given as goal
+
+abbrev pub ghosts-call_over-L-Ledger : goal.ghosts-call_over-L-Ledger
+ghosts-call_over-L-Ledger a = record { name = a.first.name; parts = a.first.parts }
+
+abbrev pub ghosts-call_over-M-Ledger : goal.ghosts-call_over-M-Ledger
+ghosts-call_over-M-Ledger a = record { name = a.second.name; parts = a.second.parts }

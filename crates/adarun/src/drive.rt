@@ -1,0 +1,156 @@
+//! The program's work over any files and streams.
+use crate::files::{FileStore, ReadError};
+use crate::go::{GoFault, go};
+use crate::words::{Request, WordsError, request_of};
+use itoa::Buffer;
+use lexer::Fault;
+use machine::fault::RunFault;
+use machine::outcome::Outcome;
+use machine::schedule::ScheduleFault;
+use machine::sink::{Sink, write_all};
+use std::alloc::Global;
+
+/// The program's exit statuses (docs/FORMATS.md, "Exit statuses").
+#[derive(Clone, Copy, PartialEq, Eq, Debug)]
+pub enum Status {
+    Done = 0,
+    Failed = 1,
+    SourceRefused = 2,
+    Unhandled = 3,
+    WaitsForever = 4,
+    StepLimit = 5,
+    ImageFault = 6,
+    ScheduleRefused = 7,
+    NoMemory = 8,
+}
+
+/// Does what the words, without the program's name, ask for: reads the files, writes to `out`, and where it stops early one line to
+/// `err`. It answers the exit status.
+pub fn drive<F: FileStore, O: Sink, E: Sink>(
+    alloc: Global,
+    words: &[&str],
+    files: &F,
+    out: &mut O,
+    err: &mut E,
+) -> u8 {
+    let status = match request_of(alloc, words) {
+        Ok(
+            Request::Go {
+                source,
+                schedule,
+                limit,
+            },
+        ) => drive_go(alloc, files, source, schedule, limit, out, err),
+        Err(WordsError::Usage) => tell(err, Status::Failed, &[b"usage"]),
+        Err(WordsError::Memory) => no_memory(err),
+    };
+    status as u8
+}
+
+fn drive_go<F: FileStore, O: Sink, E: Sink>(
+    alloc: Global,
+    files: &F,
+    source: &str,
+    schedule: &str,
+    limit: u64,
+    out: &mut O,
+    err: &mut E,
+) -> Status {
+    let text = match files.read(alloc, source) {
+        Ok(text) => text,
+        Err(error) => return unread(err, error, source),
+    };
+    let lines = match files.read(alloc, schedule) {
+        Ok(lines) => lines,
+        Err(error) => return unread(err, error, schedule),
+    };
+    match go(alloc, &text, &lines, limit, out) {
+        Ok(outcome) => status_of(&outcome),
+        Err(GoFault::Source(fault)) => refuse_source(err, &text, &fault),
+        Err(GoFault::Schedule(fault)) => refuse_schedule(err, &fault),
+        Err(GoFault::Run(RunFault::Memory)) => no_memory(err),
+        Err(GoFault::Run(RunFault::Write)) => tell(err, Status::Failed, &[b"cannot write"]),
+    }
+}
+
+fn status_of(outcome: &Outcome) -> Status {
+    match outcome {
+        Outcome::Ended { .. } => Status::Done,
+        Outcome::Unhandled { .. } => Status::Unhandled,
+        Outcome::WaitsForever { .. } => Status::WaitsForever,
+        Outcome::StepLimit { .. } => Status::StepLimit,
+        Outcome::ImageFault { .. } => Status::ImageFault,
+    }
+}
+
+// Writes the pieces and the end of the line. A failure isn't told anywhere else.
+fn tell<E: Sink>(err: &mut E, status: Status, pieces: &[&[u8]]) -> Status {
+    for piece in pieces {
+        let _ = write_all(err, piece);
+    }
+    let _ = write_all(err, b"\n");
+    status
+}
+
+fn no_memory<E: Sink>(err: &mut E) -> Status {
+    tell(err, Status::NoMemory, &[b"no memory"])
+}
+
+fn unread<E: Sink>(err: &mut E, error: ReadError, name: &str) -> Status {
+    match error {
+        ReadError::Memory => no_memory(err),
+        ReadError::Unreadable => tell(err, Status::Failed, &[b"cannot read ", name.as_bytes()]),
+    }
+}
+
+fn refuse_source<E: Sink>(err: &mut E, text: &[u8], fault: &Fault) -> Status {
+    if fault.number == 60 {
+        return no_memory(err);
+    }
+    let (line, column) = position(text, fault.place);
+    let mut number = Buffer::new();
+    let mut lines = Buffer::new();
+    let mut columns = Buffer::new();
+    let pieces: [&[u8]; 6] = [
+        b"fault ",
+        number.format(fault.number).as_bytes(),
+        b" at ",
+        lines.format(line).as_bytes(),
+        b":",
+        columns.format(column).as_bytes(),
+    ];
+    tell(err, Status::SourceRefused, &pieces)
+}
+
+fn refuse_schedule<E: Sink>(err: &mut E, fault: &ScheduleFault) -> Status {
+    if fault.number == 60 {
+        return no_memory(err);
+    }
+    let mut number = Buffer::new();
+    let mut line = Buffer::new();
+    let pieces: [&[u8]; 4] = [
+        b"schedule fault ",
+        number.format(fault.number).as_bytes(),
+        b" at line ",
+        line.format(fault.line).as_bytes(),
+    ];
+    tell(err, Status::ScheduleRefused, &pieces)
+}
+
+// The line and the column of a place, both from 1 and in bytes.
+fn position(text: &[u8], place: u32) -> (usize, usize) {
+    let mut line = 1usize;
+    let mut column = 1usize;
+    for (at, c) in text.iter().enumerate() {
+        if u64::from(place) <= at as u64 {
+            break;
+        }
+        if *c == b'\n' {
+            line = line.saturating_add(1);
+            column = 1;
+        } else {
+            column = column.saturating_add(1);
+        }
+    }
+    (line, column)
+}

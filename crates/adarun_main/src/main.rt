@@ -1,0 +1,76 @@
+//! The program: the words of its command line, its files and its streams, handed to `drive`.
+#![tactic(auto)]
+
+ghost use Rattle.std.specs.Prelude.{◌≡◌};
+
+use adarun::drive::{Status, drive};
+use adarun::files::{FileStore, ReadError};
+use machine::sink::WriterSink;
+use std::alloc::Global;
+use std::io::{self, ErrorKind};
+use std::marker::Brand;
+use std::process::ExitCode;
+use std::sync::ledger::{Blank, Ledger};
+use std::{env, fs};
+
+/// The files of the system.
+#[derive(Drop)]
+struct SystemFiles<'a> {
+    rt: &'a HostRuntime,
+}
+
+impl<'a> FileStore for SystemFiles<'a> {
+    fn read(&self, _alloc: Global, name: &str) -> Result<Vec<u8>, ReadError> {
+        fs::read(self.rt, name).map_err(|error| match error.kind() {
+            ErrorKind::OutOfMemory => ReadError::Memory,
+            _ => ReadError::Unreadable,
+        })
+    }
+}
+
+// The status of the program's work over its streams.
+fn status_over<L: Ledger, M: Ledger>(
+    rt: &HostRuntime,
+    words: &[&str],
+    first: Blank,
+    second: Blank,
+) -> u8
+    requires first_name { first.name ≡ L.name }
+    requires first_parts { first.parts ≡ L.parts }
+    requires first_one { L.parts ≡ 1 }
+    requires second_name { second.name ≡ M.name }
+    requires second_parts { second.parts ≡ M.parts }
+    requires second_one { M.parts ≡ 1 }
+{
+    let mut out = WriterSink::<_, L>::new(rt.stdout(), first);
+    let mut err = WriterSink::<_, M>::new(rt.stderr(), second);
+    drive(rt.alloc(), words, &SystemFiles { rt }, &mut out, &mut err)
+}
+
+fn status(rt: &HostRuntime) -> io::Result<u8> {
+    let mut texts = Vec::new(rt.alloc());
+    for text in env::args(rt)?.skip(1) {
+        texts.push(text)?;
+    }
+    let mut words = Vec::new(rt.alloc());
+    for text in &texts {
+        words.push(text.as_str())?;
+    }
+    Ok(status_over::<Brand, Brand>(rt, words.as_slice(), Blank::new(1), Blank::new(1)))
+}
+
+fn main(rt: HostRuntime) -> ExitCode {
+    match status(&rt) {
+        Ok(status) => ExitCode::from(status),
+        Err(error) => match error.kind() {
+            ErrorKind::OutOfMemory => {
+                let _ = eprintln!(rt; "no memory");
+                ExitCode::from(Status::NoMemory as u8)
+            }
+            _ => {
+                let _ = eprintln!(rt; "usage");
+                ExitCode::from(Status::Failed as u8)
+            }
+        },
+    }
+}
