@@ -1,4 +1,6 @@
 //! Compiling and running in one call.
+ghost use Rattle.std.specs.Prelude.{◌≡◌, ◌<◌, Err, OnOk};
+
 use crate::compile::compile;
 use lexer::Fault;
 use machine::fault::RunFault;
@@ -27,15 +29,31 @@ pub enum GoFault {
 /// the run, and a last line that says how it ended.
 ///
 /// # Errors
-/// As `compile`, `Schedule::read` and `run`, in this order.
+/// As `compile`, `Schedule::read` and `run`, in this order. Nothing was written then, but a beginning of the run's text where a
+/// write failed.
 pub fn go<S: Sink>(
     alloc: Global,
     source: &[u8],
     schedule: &[u8],
     limit: u64,
     sink: &mut S,
-) -> Result<Outcome, GoFault> {
-    let image = compile(alloc, source).map_err(GoFault::Source)?;
-    let schedule = Schedule::read(alloc, schedule).map_err(GoFault::Schedule)?;
-    run(alloc, &image, &schedule, limit, sink).map_err(GoFault::Run)
+) -> Result<Outcome, GoFault>
+    ensures kept { OnOk result (S.failures sink.new ≡ S.failures sink.old) }
+    ensures failed { result ≡ Err (GoFault.Run RunFault.Write) → S.failures sink.old < S.failures sink.new }
+    ensures memory { result ≡ Err (GoFault.Run RunFault.Memory) → sink.new ≡ sink.old }
+    ensures source { (fault : Fault) → result ≡ Err (GoFault.Source fault) → sink.new ≡ sink.old }
+    ensures schedule { (fault : ScheduleFault) → result ≡ Err (GoFault.Schedule fault) → sink.new ≡ sink.old }
+{
+    let image = match compile(alloc, source) {
+        Ok(image) => image,
+        Err(fault) => return Err(GoFault::Source(fault)),
+    };
+    let schedule = match Schedule::read(alloc, schedule) {
+        Ok(schedule) => schedule,
+        Err(fault) => return Err(GoFault::Schedule(fault)),
+    };
+    match run(alloc, &image, &schedule, limit, sink) {
+        Ok(outcome) => Ok(outcome),
+        Err(fault) => Err(GoFault::Run(fault)),
+    }
 }

@@ -12,7 +12,7 @@ abbrev pub found_and : Option Row → Option Row → Option Row
 found_and None later = later
 found_and (Some r) later = Some (inner_of r later)
 
-inner_of-inner_of : (q r : Row) (o : Option Row) → inner_of q (Some (inner_of r o)) ≡ inner_of (inner_of q (Some r)) o
+pub inner_of-inner_of : (q r : Row) (o : Option Row) → inner_of q (Some (inner_of r o)) ≡ inner_of (inner_of q (Some r)) o
 inner_of-inner_of q r None = refl
 inner_of-inner_of q r (Some s) = grind (arith, leb_tells)
 

@@ -1,2 +1,4 @@
+mod Examples
 mod Found
+mod Joined
 mod Regions

@@ -1,3 +1,4 @@
 pub mod Counts
 pub mod Handlers
 pub mod Innermost
+pub mod Laws

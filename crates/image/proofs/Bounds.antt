@@ -14,7 +14,7 @@ module _ (R : ℕ → Type 0) (W : ℤ → Type 0) where
   Each [] = Unit {0}
   Each (t ∷ ts) = R t × Each ts
 
-  abbrev Sleeps : List Sleeper → Type 0
+  abbrev pub Sleeps : List Sleeper → Type 0
   Sleeps [] = Unit {0}
   Sleeps (s ∷ ss) = R s.task × W s.wake × Sleeps ss
 

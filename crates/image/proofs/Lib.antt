@@ -9,3 +9,4 @@ mod Shapes
 mod StepLinks
 mod Today
 mod WellFormed
+mod Widths

@@ -14,3 +14,4 @@ pub mod Shape
 pub mod Steps
 pub mod Taken
 pub mod Texts
+pub mod Width

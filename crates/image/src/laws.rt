@@ -1,5 +1,5 @@
 //! The laws of images and their runs: each is what a function without work ensures.
-ghost use Rattle.image.specs.Laws.{BeginsSound, FourInEveryWorld, FramesHaveRoom, KernelKept, LinesGrowOn, LinkedInEveryWorld, OutcomeStays, SoundToday, StepsSound};
+ghost use Rattle.image.specs.Laws.{BeginsSound, FitsAlways, FourInEveryWorld, FramesHaveRoom, KernelKept, LinesGrowOn, LinkedInEveryWorld, OutcomeStays, SoundToday, StepsSound};
 
 use kernel::laws::{
     begins_kept, entry_opens, four_statements_hold, kept_by_every_effect, left_unmoved, lines_grow,
@@ -79,3 +79,9 @@ pub fn linked_in_every_world()
     reaches_callers();
     four_statements_hold();
 }
+
+/// Words, now and wake times stay in 64 bits in every world of an image whose constants and initial words are, under a schedule whose
+/// values are.
+pub fn fits_64_bits()
+    ensures { FitsAlways }
+{}
