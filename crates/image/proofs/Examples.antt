@@ -48,7 +48,7 @@ say value label = at 0 (op.Push (pos value)) ∷ at 1 (op.PutLine label) ∷ []
 
 -- One line of 1000
 
-abbrev thousand : Sections
+abbrev pub thousand : Sections
 thousand = plain_image (codes "x" ∷ []) (body 3 0 1 ∷ []) (main_is 0) [] (say 1000 0 ++ at 0 op.Return ∷ [])
 
 thousand_keeps : keeps thousand ≡ true

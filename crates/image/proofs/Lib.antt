@@ -1,4 +1,5 @@
 mod Bounds
+mod BytesExamples
 mod Examples
 mod Exclusion
 mod Links

@@ -1,3 +1,4 @@
+pub mod Bytes
 pub mod Code
 pub mod Faults
 pub mod Frames
