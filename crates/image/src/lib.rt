@@ -7,7 +7,7 @@ pub mod instruction;
 mod instruction_rules;
 pub mod laws;
 pub mod limits;
-mod names;
+pub mod names;
 pub mod object;
 mod operation_rules;
 pub mod parts;

@@ -92,14 +92,14 @@ const PREDEFINED: [&str; 4] = [
 ];
 
 /// Whether it is a name: an identifier in upper case of at most 40 characters that is no reserved word.
-pub(crate) fn is_name(name: &[u8]) -> bool
+pub fn is_name(name: &[u8]) -> bool
     ensures { result ≡ is_name name.now }
 {
     is_identifier(name) && name.len() <= 40 && !is_reserved(name)
 }
 
 /// Whether it is a label: 1 to 40 characters from 33 to 126, no quotation mark among them.
-pub(crate) fn is_label(label: &[u8]) -> bool
+pub fn is_label(label: &[u8]) -> bool
     ensures { result ≡ is_label label.now }
 {
     1 <= label.len() && label.len() <= 40 && has_label_characters(label)

@@ -167,84 +167,101 @@ impl Word {
     }
 }
 
+// The words of the letters that begin five or more.
+const WITH_A: [Word; 10] = [
+    Word::Abort,
+    Word::Abs,
+    Word::Abstract,
+    Word::Accept,
+    Word::Access,
+    Word::Aliased,
+    Word::All,
+    Word::And,
+    Word::Array,
+    Word::At,
+];
+
+const WITH_D: [Word; 5] = [
+    Word::Declare,
+    Word::Delay,
+    Word::Delta,
+    Word::Digits,
+    Word::Do,
+];
+
+const WITH_E: [Word; 6] = [
+    Word::Else,
+    Word::Elsif,
+    Word::End,
+    Word::Entry,
+    Word::Exception,
+    Word::Exit,
+];
+
+const WITH_O: [Word; 5] = [
+    Word::Of,
+    Word::Or,
+    Word::Others,
+    Word::Out,
+    Word::Overriding,
+];
+
+const WITH_P: [Word; 5] = [
+    Word::Package,
+    Word::Pragma,
+    Word::Private,
+    Word::Procedure,
+    Word::Protected,
+];
+
+const WITH_R: [Word; 8] = [
+    Word::Raise,
+    Word::Range,
+    Word::Record,
+    Word::Rem,
+    Word::Renames,
+    Word::Requeue,
+    Word::Return,
+    Word::Reverse,
+];
+
+const WITH_S: [Word; 5] = [
+    Word::Select,
+    Word::Separate,
+    Word::Some,
+    Word::Subtype,
+    Word::Synchronized,
+];
+
+const WITH_T: [Word; 5] = [
+    Word::Tagged,
+    Word::Task,
+    Word::Terminate,
+    Word::Then,
+    Word::Type,
+];
+
 /// The reserved words that begin with this letter.
 fn words_with(letter: u8) -> &'static [Word]
     ensures { result.now ≡ words_with letter }
 {
     match letter {
-        b'A' => &[
-            Word::Abort,
-            Word::Abs,
-            Word::Abstract,
-            Word::Accept,
-            Word::Access,
-            Word::Aliased,
-            Word::All,
-            Word::And,
-            Word::Array,
-            Word::At,
-        ],
+        b'A' => &WITH_A,
         b'B' => &[Word::Begin, Word::Body],
         b'C' => &[Word::Case, Word::Constant],
-        b'D' => &[
-            Word::Declare,
-            Word::Delay,
-            Word::Delta,
-            Word::Digits,
-            Word::Do,
-        ],
-        b'E' => &[
-            Word::Else,
-            Word::Elsif,
-            Word::End,
-            Word::Entry,
-            Word::Exception,
-            Word::Exit,
-        ],
+        b'D' => &WITH_D,
+        b'E' => &WITH_E,
         b'F' => &[Word::For, Word::Function],
         b'G' => &[Word::Generic, Word::Goto],
         b'I' => &[Word::If, Word::In, Word::Interface, Word::Is],
         b'L' => &[Word::Limited, Word::Loop],
         b'M' => &[Word::Mod],
         b'N' => &[Word::New, Word::Not, Word::Null],
-        b'O' => &[
-            Word::Of,
-            Word::Or,
-            Word::Others,
-            Word::Out,
-            Word::Overriding,
-        ],
-        b'P' => &[
-            Word::Package,
-            Word::Pragma,
-            Word::Private,
-            Word::Procedure,
-            Word::Protected,
-        ],
-        b'R' => &[
-            Word::Raise,
-            Word::Range,
-            Word::Record,
-            Word::Rem,
-            Word::Renames,
-            Word::Requeue,
-            Word::Return,
-            Word::Reverse,
-        ],
-        b'S' => &[
-            Word::Select,
-            Word::Separate,
-            Word::Some,
-            Word::Subtype,
-            Word::Synchronized,
-        ],
-        b'T' => &[
-            Word::Tagged,
-            Word::Task,
-            Word::Terminate,
-            Word::Then,
-            Word::Type,
-        ],
+        b'O' => &WITH_O,
+        b'P' => &WITH_P,
+        b'R' => &WITH_R,
+        b'S' => &WITH_S,
+        b'T' => &WITH_T,
         b'U' => &[Word::Until, Word::Use],
         b'W' => &[Word::When, Word::While, Word::With],
         b'X' => &[Word::Xor],
