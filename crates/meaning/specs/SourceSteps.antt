@@ -55,8 +55,7 @@ module _ (p : ProgramTree) (m : Store) (activations : List Activation) where
   abbrev pub raises : ℕ → List Item → Stepped
   raises x items = does Quiet m (Raising x items) activations
 
-  -- what the language of today does not have: the run ends by exception 0, which is none and which no code raises, so that no image has the meaning
-  -- of a program that comes here
+  -- what the language of today does not have: the run ends by exception 0, which is none, as the numbers that code raises begin at 1
   abbrev pub means_nothing : List Item → Stepped
   means_nothing items = does (Dies 0) m (Goes items) activations
 
