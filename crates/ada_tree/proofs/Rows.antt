@@ -8,6 +8,7 @@ use Rattle.ada_tree.specs.declared.expression.Selector.{Row_of-Argument, end_of-
 use Rattle.ada_tree.specs.declared.expression.Selector as selectors
 use Rattle.ada_tree.specs.declared.statement.Stmt.{Stmt, Row_of-Stmt, end_of-Stmt, more_of-Stmt, items-the_row-Stmt, Row_of-ElsifPart, end_of-ElsifPart, more_of-ElsifPart, items-the_row-ElsifPart, Row_of-Alternative, end_of-Alternative, more_of-Alternative, items-the_row-Alternative, Row_of-Handler, end_of-Handler, more_of-Handler, items-the_row-Handler}
 use Rattle.ada_tree.specs.declared.statement.Stmt as statements
+use Rattle.ada_tree.specs.Laws.{StatementsByParts}
 use Rattle.ada_tree.specs.StatementTree.{MoreStmts, If, Case, Loop, Block, stmt_tree, stmt_trees, stmts_of_row, elsif_trees, elsifs_of_row, alternative_trees, alternatives_of_row, handler_trees, handlers_of_row, iteration_tree, declaration_tree}
 use Rattle.ada_tree.specs.ExpressionTree.{Named, Conditional, MoreSelectors, Arguments, MoreArguments, MoreElsifValues, expr_tree, bare_name, selectors_of, selector_tree, selector_trees, selectors_of_row, argument_tree, argument_trees, arguments_of_row, elsif_value_trees, elsif_values_of_row}
 
@@ -68,3 +69,6 @@ block_tree place declarations v w = search (rules, row_stmts, row_handlers, stat
 pub bare_more : (first : Identifier) (items : List Selector) → 0 < length items → None ≡ bare_name (Named first (selectors_of (map selector_tree items)))
 bare_more first [] h = absurd (omega arith)
 bare_more first (x ∷ xs) h = refl
+
+pub statements_by_parts : StatementsByParts
+statements_by_parts = record { ifs = if_tree; cases = case_tree; loops = loop_tree; blocks = block_tree }

@@ -5,3 +5,6 @@ pub mod Language
 pub mod ExpressionGrammar
 pub mod StatementGrammar
 pub mod ProgramGrammar
+pub mod Depth
+pub mod Size
+pub mod Laws

@@ -42,7 +42,7 @@ abbrev pub item : Limit → ItemTree → Tokens → Type 0
 item limit (OfType d) = type_declaration limit d
 item limit (OfObject d) = object limit d
 item limit (OfException name) = identifier name ⨾ mark marks.Colon ⨾ word words.Exception ⨾ mark marks.Semicolon
-item limit (OfSubprogram d) = subprogram d ⨾ mark marks.Semicolon
+item limit (OfSubprogram d) = subprogram limit d ⨾ mark marks.Semicolon
 item limit (OfTask d) = task limit d
 item limit (OfProtected d) = protected limit d
 
@@ -50,12 +50,12 @@ abbrev pub body : Limit → BodyTree → Tokens → Type 0
 body limit b = each (declaration limit) b.declarations ⨾ word words.Begin ⨾ stmts b.statements limit ⨾ handlers b.handlers limit ⨾ word words.End ⨾ identifier b.end_name ⨾ mark marks.Semicolon
 
 abbrev pub protected_item : Limit → ProtectedItemTree → Tokens → Type 0
-protected_item limit (OperationBody d b) = subprogram d ⨾ word words.Is ⨾ body limit b
-protected_item limit (EntryBody d barrier b) = entry d ⨾ word words.When ⨾ expression limit barrier ⨾ word words.Is ⨾ body limit b
+protected_item limit (OperationBody d b) = subprogram limit d ⨾ word words.Is ⨾ body limit b
+protected_item limit (EntryBody d barrier b) = entry limit d ⨾ word words.When ⨾ expression limit barrier ⨾ word words.Is ⨾ body limit b
 
 abbrev pub body_item : Limit → BodyItemTree → Tokens → Type 0
 body_item limit (OfItem d) = item limit d
-body_item limit (SubprogramBody d b) = subprogram d ⨾ word words.Is ⨾ body limit b
+body_item limit (SubprogramBody d b) = subprogram limit d ⨾ word words.Is ⨾ body limit b
 body_item limit (TaskBody name b) = word words.Task ⨾ word words.Body ⨾ identifier name ⨾ word words.Is ⨾ body limit b
 body_item limit (ProtectedBody name items end_name) =
     word words.Protected ⨾ word words.Body ⨾ identifier name ⨾ word words.Is ⨾ each (protected_item limit) items ⨾ word words.End ⨾ identifier end_name ⨾ mark marks.Semicolon

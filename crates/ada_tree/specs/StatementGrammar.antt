@@ -47,20 +47,20 @@ mode modes.InOut = word words.In ⨾ word words.Out
 abbrev pub formal : Formal → Tokens → Type 0
 formal f = identifier f.name ⨾ mark marks.Colon ⨾ mode f.mode ⨾ identifier f.subtype
 
-abbrev pub formals : List Formal → Tokens → Type 0
-formals [] = nothing
-formals (f ∷ rest) = mark marks.LeftParenthesis ⨾ separated (kinds.Delimiter marks.Semicolon) formal (f ∷ rest) ⨾ mark marks.RightParenthesis
+abbrev pub formals : Limit → List Formal → Tokens → Type 0
+formals limit [] = nothing
+formals limit (f ∷ rest) = inside limit (λ l. mark marks.LeftParenthesis ⨾ separated (kinds.Delimiter marks.Semicolon) formal (f ∷ rest) ⨾ mark marks.RightParenthesis)
 
 -- a procedure, or a function with its result
-abbrev pub subprogram_with : ℕ → Identifier → List Formal → Option Identifier → Tokens → Type 0
-subprogram_with place name all None = word_at words.Procedure place ⨾ identifier name ⨾ formals all
-subprogram_with place name all (Some result) = word_at words.Function place ⨾ identifier name ⨾ formals all ⨾ word words.Return ⨾ identifier result
+abbrev pub subprogram_with : Limit → ℕ → Identifier → List Formal → Option Identifier → Tokens → Type 0
+subprogram_with limit place name all None = word_at words.Procedure place ⨾ identifier name ⨾ formals limit all
+subprogram_with limit place name all (Some result) = word_at words.Function place ⨾ identifier name ⨾ formals limit all ⨾ word words.Return ⨾ identifier result
 
-abbrev pub subprogram : SubprogramTree → Tokens → Type 0
-subprogram d = subprogram_with d.place d.name d.formals d.result
+abbrev pub subprogram : Limit → SubprogramTree → Tokens → Type 0
+subprogram limit d = subprogram_with limit d.place d.name d.formals d.result
 
-abbrev pub entry : EntryTree → Tokens → Type 0
-entry d = word_at words.Entry d.place ⨾ identifier d.name ⨾ formals d.formals
+abbrev pub entry : Limit → EntryTree → Tokens → Type 0
+entry limit d = word_at words.Entry d.place ⨾ identifier d.name ⨾ formals limit d.formals
 
 abbrev pub task_entry : TaskEntry → Tokens → Type 0
 task_entry d = word_at words.Entry d.place ⨾ identifier d.name ⨾ mark marks.Semicolon
@@ -75,9 +75,9 @@ task_rest limit name a definition = identifier name ⨾ optional (aspect limit) 
 abbrev pub task : Limit → TaskTree → Tokens → Type 0
 task limit d = word_at words.Task d.place ⨾ task_rest limit d.name d.aspect d.definition
 
-abbrev pub operation : OperationTree → Tokens → Type 0
-operation (OfSubprogram d) = subprogram d ⨾ mark marks.Semicolon
-operation (OfEntry d) = entry d ⨾ mark marks.Semicolon
+abbrev pub operation : Limit → OperationTree → Tokens → Type 0
+operation limit (OfSubprogram d) = subprogram limit d ⨾ mark marks.Semicolon
+operation limit (OfEntry d) = entry limit d ⨾ mark marks.Semicolon
 
 abbrev pub protected_component : Limit → ProtectedComponentTree → Tokens → Type 0
 protected_component limit c = identifier c.name ⨾ mark marks.Colon ⨾ identifier c.subtype ⨾ optional (initial limit) c.value ⨾ mark marks.Semicolon
@@ -90,7 +90,7 @@ private_part limit (c ∷ rest) = word words.Private ⨾ each (protected_compone
 -- what follows `protected`
 abbrev pub protected_rest : Limit → Identifier → Option AspectTree → List OperationTree → List ProtectedComponentTree → Identifier → Tokens → Type 0
 protected_rest limit name a operations components end_name =
-    identifier name ⨾ optional (aspect limit) a ⨾ word words.Is ⨾ each operation operations ⨾ private_part limit components ⨾ word words.End ⨾ identifier end_name ⨾ mark marks.Semicolon
+    identifier name ⨾ optional (aspect limit) a ⨾ word words.Is ⨾ each (operation limit) operations ⨾ private_part limit components ⨾ word words.End ⨾ identifier end_name ⨾ mark marks.Semicolon
 
 abbrev pub protected : Limit → ProtectedTree → Tokens → Type 0
 protected limit d = word_at words.Protected d.place ⨾ protected_rest limit d.name d.aspect d.operations d.components d.end_name

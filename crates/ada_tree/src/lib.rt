@@ -3,6 +3,7 @@
 
 mod declaration;
 mod expression;
+pub mod laws;
 mod program;
 mod statement;
 
