@@ -1,0 +1,114 @@
+-- The laws over whole token lists.
+use Rattle.std.proofs.Common.{◌≡◌, ℕ, suc, ◌-◌, ◌≤◌, Bool, true, false, cond, [], ◌∷◌, ◌++◌, length, drop, get_or, Some, Result, Ok, Err, refl, sym, ap, subst, ◌∙◌, arith, append-nil, inl, inr, ◌⊎◌, length-append}
+use Rattle.std.specs.Prelude.{IfOk, IfErr}
+use Rattle.lexer.specs.declared.token.Token.{Token}
+use Rattle.ada_tree.specs.declared.program.Program.{Program}
+use Rattle.ada_tree.specs.Language.{Tokens}
+use Rattle.ada_tree.specs.ProgramTree.{ProgramTree, program_tree}
+use Rattle.ada_tree.specs.ProgramGrammar.{program}
+use Rattle.ada_tree.specs.Laws.{LimitIsDepth}
+use Rattle.parser.specs.declared.refusal.Broken.{Broken}
+use Rattle.parser.specs.declared.refusal.Refusal.{Refusal}
+use Rattle.parser.specs.declared.refusal.Refusal.TheVariants as refusals
+use Rattle.parser.specs.Levels.{opens, openers}
+use Rattle.parser.specs.Reading.{first, Gives, is_next}
+use Rattle.parser.specs.ProgramReading.{whole_at}
+use Rattle.parser.specs.Parsing.{Derives, Gave, end_of, place_behind, NoneBegins, IsFaulty, IsRefusal, IsTooDeep, HasOneTree, start_or, place_at, fault_of, answer_of}
+use Rattle.parser.proofs.Exact.{ok_is, ok_not_err}
+use Rattle.parser.proofs.Programs.{whole_exact}
+use Rattle.parser.proofs.DeepPrograms.{deep_whole}
+
+module _ (limit : LimitIsDepth) where
+  pub whole_sound : (ts : Tokens) (t : ProgramTree) → whole_at 40 ts ≡ Ok (t, []) → Derives t ts
+  whole_sound ts t e =
+      let took = (whole_exact 40).sound ts (t, []) e in
+      let d = (limit 40 t ts).0 (subst (program (Some 40) t) (sym (took.parts ∙ append-nil took.front)) took.spells) in
+      record { derives = d.0; levels = d.1 }
+
+  pub whole_complete : (ts : Tokens) (t : ProgramTree) → Derives t ts → whole_at 40 ts ≡ Ok (t, [])
+  whole_complete ts t d = ap (whole_at 40) (sym (append-nil ts)) ∙ (whole_exact 40).complete t ts [] ((limit 40 t ts).1 (d.derives, d.levels)) refl
+
+  pub one_tree : HasOneTree
+  one_tree t u ts d e = ap (λ (x : ProgramTree × Tokens). x.0) (ok_is (t, []) (u, []) (sym (whole_complete ts t d) ∙ whole_complete ts u e))
+
+  never : (ts : Tokens) (t : ProgramTree) (f : Broken) → Derives t ts → whole_at 40 ts ≡ Err f → ⊥
+  never ts t f d e = ok_not_err (t, []) f (sym (whole_complete ts t d) ∙ e)
+
+  none_begins : (front back : Tokens) (f : Tokens → Broken) → ((g : Tokens) → first g ≡ first back → whole_at 40 (front ++ g) ≡ Err (f g)) → NoneBegins front back
+  none_begins front [] f again = λ t d. never front t (f []) d (ap (whole_at 40) (sym (append-nil front)) ∙ again [] refl)
+  none_begins front (x ∷ rest) f again = λ t more d. never (front ++ (x ∷ more)) t (f (x ∷ more)) d (again (x ∷ more) refl)
+
+-- ---- the place
+
+drop_all : (front back : Tokens) → drop (length front) (front ++ back) ≡ back
+drop_all [] back = refl
+drop_all (t ∷ front) back = drop_all front back
+
+start_behind : (front back : Tokens) → start_or (end_of (front ++ back)) back ≡ place_behind front back
+start_behind front [] = ap end_of (append-nil front)
+start_behind front (t ∷ rest) = refl
+
+pub place_is : (ts front back : Tokens) (left : ℕ) → ts ≡ front ++ back → left ≡ length back → place_at ts left ≡ place_behind front back
+place_is ts front back left parts is =
+    let count : length (front ++ back) - left ≡ length front = omega (arith, length-append front back) in
+    ap (λ (z : Tokens). place_at z left) parts ∙ ap (λ (n : ℕ). start_or (end_of (front ++ back)) (drop n (front ++ back))) count
+    ∙ ap (λ (z : Tokens). start_or (end_of (front ++ back)) z) (drop_all front back) ∙ start_behind front back
+
+pub end_last : (ts : Tokens) (d : Token) → 1 ≤ length ts → end_of ts ≡ (get_or ts (length ts - 1) d).end_
+end_last [] d le = absurd (omega arith)
+end_last (t ∷ []) d le = refl
+end_last (t ∷ (u ∷ rest)) d le =
+    let count : length (t ∷ (u ∷ rest)) - 1 ≡ suc (length (u ∷ rest) - 1) = omega arith in
+    end_last (u ∷ rest) d (omega arith) ∙ ap (λ (n : ℕ). (get_or (t ∷ (u ∷ rest)) n d).end_) (sym count)
+
+-- the parts of a list are told by the length of the second one
+same_parts : (a b c d : Tokens) → a ++ b ≡ c ++ d → length b ≡ length d → (a ≡ c) × (b ≡ d)
+same_parts [] b [] d e l = (refl, e)
+same_parts [] b (x ∷ c) d e l = absurd (omega (arith, ap length e, l, length-append c d))
+same_parts (x ∷ a) b [] d e l = absurd (omega (arith, ap length e, l, length-append a b))
+same_parts (x ∷ a) b (y ∷ c) d e l =
+    let rest = same_parts a b c d (ap tail e) l in
+    (λ j. get_or (e j) 0 x ∷ rest.0 j, rest.1)
+  where
+    tail : Tokens → Tokens
+    tail [] = []
+    tail (z ∷ zs) = zs
+
+too_deep : (ts front back : Tokens) (b : Broken) → ts ≡ front ++ back → b.left ≡ length back → b.deep ≡ true → whole_at 40 ts ≡ Err b → IsTooDeep front back
+too_deep ts front back b parts left is e =
+    let d = (deep_whole 40).at ts b e is in
+    let same = same_parts d.0 d.1 front back (sym d.2 ∙ parts) (sym d.3 ∙ left) in
+    (ap (λ (z : Tokens). is_next opens (first z)) (sym same.1) ∙ d.4, subst (λ (z : Tokens). 40 ≤ openers z) same.0 d.5)
+
+number_is : (b : Bool) (x y : ℕ) (Q : Type 0) → (b ≡ true → Q) → (cond b x y ≡ y) ⊎ ((cond b x y ≡ x) × Q)
+number_is true x y Q h = inr (refl, h refl)
+number_is false x y Q h = inl refl
+
+pub first_fault : LimitIsDepth → (ts : Tokens) (b : Broken) → whole_at 40 ts ≡ Err b → IsFaulty ts (fault_of ts b)
+first_fault limit ts b e =
+    let l = (whole_exact 40).local ts b e in
+    record {
+      front = l.front;
+      back = l.back;
+      parts = l.parts;
+      place = place_is ts l.front l.back b.left l.parts l.left;
+      none = none_begins limit l.front l.back (λ g. record { deep = b.deep; left = length g }) l.again;
+      number = number_is b.deep 7 6 (IsTooDeep l.front l.back) (λ is. too_deep ts l.front l.back b l.parts l.left is e);
+    }
+
+-- ---- the clauses
+
+pub is_found : LimitIsDepth → (ts : Tokens) (r : Result Program Refusal) → Gives program_tree r [] (whole_at 40 ts) → IfOk (answer_of ts r) (λ p. Derives (program_tree p) ts)
+is_found limit ts (Ok p) h = whole_sound limit ts (program_tree p) h
+is_found limit ts (Err refusals.Memory) h = tt
+is_found limit ts (Err (refusals.Broken b)) h = tt
+
+pub is_only : LimitIsDepth → (ts : Tokens) (r : Result Program Refusal) → Gives program_tree r [] (whole_at 40 ts) → (t : ProgramTree) → Derives t ts → Gave (answer_of ts r) t
+is_only limit ts (Ok p) h t d = ap (λ (x : ProgramTree × Tokens). x.0) (ok_is (program_tree p, []) (t, []) (sym h ∙ whole_complete limit ts t d))
+is_only limit ts (Err refusals.Memory) h t d = refl
+is_only limit ts (Err (refusals.Broken b)) h t d = absurd (never limit ts t b d h)
+
+pub is_refusal : LimitIsDepth → (ts : Tokens) (r : Result Program Refusal) → Gives program_tree r [] (whole_at 40 ts) → IfErr (answer_of ts r) (λ f. IsRefusal ts f)
+is_refusal limit ts (Ok p) h = tt
+is_refusal limit ts (Err refusals.Memory) h = inl refl
+is_refusal limit ts (Err (refusals.Broken b)) h = inr (first_fault limit ts b h)

@@ -1,0 +1,15 @@
+//! The parser of token lists: the tree that they spell, or their fault (docs/LANGUAGE.md, "Grammar").
+#![tactic(auto)]
+
+mod declaration;
+mod expression;
+mod lookahead;
+mod parser;
+mod parsing;
+mod program;
+mod refusal;
+mod statement;
+#[cfg(test)]
+mod tests;
+
+pub use parsing::{one_tree, parse};
