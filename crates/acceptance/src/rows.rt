@@ -106,8 +106,8 @@ fn expect_run(
     )
 }
 
-// Refuses the source, which is outside the language.
-fn expect_outside(rt: &impl Abort, alloc: Global, source: &str) -> Result<(), Fail> {
+// Refuses the source with this line.
+fn expect_refused(rt: &impl Abort, alloc: Global, source: &str, err: &str) -> Result<(), Fail> {
     let case = Call {
         words: &GO,
         source,
@@ -117,7 +117,7 @@ fn expect_outside(rt: &impl Abort, alloc: Global, source: &str) -> Result<(), Fa
     let expected = Expected {
         status: 2,
         out: "",
-        err: "fault 90 at 1:1\n",
+        err,
     };
     expect(rt, alloc, &case, &expected)
 }
@@ -146,31 +146,85 @@ fn programs_write_their_lines(rt: HostRuntime) -> Result<(), Fail> {
 }
 
 #[test]
-fn other_texts_are_refused(rt: HostRuntime) -> Result<(), Fail> {
+fn texts_without_a_program_are_refused(rt: HostRuntime) -> Result<(), Fail> {
     let alloc = rt.alloc();
     let whole = [
-        "",
-        "procedure Main is begin null; end Main;",
-        "pragma Profile (Ravenscar); procedure Main is begin null; end Mane;",
-        "pragma Profile (Ravenscar); procedure Main is begin end Main;",
-        "pragma Profile (Ravenscar); procedure Main is begin null; end Main; null;",
+        ("", "fault 6 at 1:1\n"),
+        (
+            "procedure A__B is begin null; end A__B;",
+            "fault 3 at 1:11\n",
+        ),
+        (
+            "procedure M is begin x := 16#FF#; end M;",
+            "fault 4 at 1:27\n",
+        ),
+        ("x ** 2", "fault 2 at 1:3\n"),
+        ("\"a b\"", "fault 5 at 1:1\n"),
+        ("pragma Profile (Ravenscar)", "fault 6 at 1:27\n"),
+        (
+            "procedure Main is begin null; end Main",
+            "fault 6 at 1:39\n",
+        ),
+        (
+            "procedure Main is begin null; end Main;",
+            "fault 90 at 1:1\n",
+        ),
+        (
+            "pragma Profile (Ravenscar); procedure Main is begin null; end Mane;",
+            "fault 90 at 1:1\n",
+        ),
+        (
+            "pragma Profile (Ravenscar); procedure Main is begin end Main;",
+            "fault 6 at 1:53\n",
+        ),
+        (
+            "pragma Profile (Ravenscar); procedure Main is begin null; end Main; null;",
+            "fault 6 at 1:69\n",
+        ),
     ];
-    for source in whole {
-        expect_outside(&rt, alloc, source)?;
+    for (source, err) in whole {
+        expect_refused(&rt, alloc, source, err)?;
     }
+    Ok(())
+}
+
+#[test]
+fn other_bodies_are_refused(rt: HostRuntime) -> Result<(), Fail> {
+    let alloc = rt.alloc();
     let bodies = [
-        "procedure Run is begin Put (\"a\", 1 / 1); end Run;",
-        "procedure Run is begin Put (\"a b\", 1); end Run;",
-        "procedure Run is begin Put (\"a\", 9223372036854775808); end Run;",
-        "procedure Run is begin Put (\"a\", 1__0); end Run;",
-        "procedure Run is begin Put (\"a\", +1); end Run;",
-        "procedure Run is X : Integer; begin null; end Run;",
-        "procedure Run is begin Run; end Run;",
-        "procedure Other is begin null; end Other;",
+        (
+            "procedure Run is begin Put (\"a\", 1 / 1); end Run;",
+            "fault 90 at 1:1\n",
+        ),
+        (
+            "procedure Run is begin Put (\"a b\", 1); end Run;",
+            "fault 5 at 9:29\n",
+        ),
+        (
+            "procedure Run is begin Put (\"a\", 9223372036854775808); end Run;",
+            "fault 4 at 9:34\n",
+        ),
+        (
+            "procedure Run is begin Put (\"a\", 1__0); end Run;",
+            "fault 4 at 9:34\n",
+        ),
+        (
+            "procedure Run is begin Put (\"a\", +1); end Run;",
+            "fault 90 at 1:1\n",
+        ),
+        (
+            "procedure Run is X : Integer; begin null; end Run;",
+            "fault 90 at 1:1\n",
+        ),
+        ("procedure Run is begin Run; end Run;", "fault 90 at 1:1\n"),
+        (
+            "procedure Other is begin null; end Other;",
+            "fault 90 at 1:1\n",
+        ),
     ];
-    for body in bodies {
+    for (body, err) in bodies {
         let source = source_of(alloc, body)?;
-        expect_outside(&rt, alloc, &source)?;
+        expect_refused(&rt, alloc, &source, err)?;
     }
     Ok(())
 }

@@ -1,46 +1,26 @@
 //! From a source text to an image.
-ghost use Rattle.std.specs.Prelude.{◌≡◌, ◌⊎◌, IfErr};
-ghost use Rattle.lexer.specs.Fault.{memory_fault};
-ghost use Rattle.adarun.specs.Outside.{outside};
+ghost use Rattle.std.specs.Prelude.{IfErr, IfOk};
+ghost use Rattle.ada_tree.specs.ProgramTree.{ProgramTree};
+ghost use Rattle.adarun.specs.Accepted.{Compiles, IsAccepted, IsGiven, RefusesText};
 
-use crate::first_language::parts_of;
-use crate::refusal::Refusal;
-use image::fault::ImageFault;
+use ada_link::link::compile_tree;
 use image::image::Image;
-use lexer::Fault;
+use lexer::{Fault, tokens};
+use parser::parse;
 use std::alloc::Global;
 
-/// Compiles a source text (docs/LANGUAGE.md).
+/// Compiles a source text (docs/LANGUAGE.md) to an image that means the same.
 ///
 /// # Errors
-/// 60, at byte 0, where memory was refused; 90, at byte 0, for a text outside the language that is compiled today.
+/// 1 to 5 where no tokens spell the text, and 6 or 7 where they have no tree, at the place that breaks the rule; 90, at byte 0, for a
+/// program outside the language that is compiled today; 23 where the code passes a limit of images; 60, at byte 0, where memory was
+/// refused.
 pub fn compile(alloc: Global, source: &[u8]) -> Result<Image, Fault>
-    ensures { IfErr result (λ fault. (fault ≡ memory_fault) ⊎ (fault ≡ outside)) }
+    ensures means { IfOk result (λ image. Compiles source.now image) }
+    ensures accepted { (tree : ProgramTree) → IsAccepted tree source.now → IsGiven tree result }
+    ensures refused { IfErr result (λ fault. RefusesText source.now fault) }
 {
-    let parts = parts_of(alloc, source).map_err(|refusal| match refusal {
-        Refusal::Memory => Fault::memory(),
-        Refusal::Outside => outside(),
-    })?;
-    Image::build(alloc, parts).map_err(|fault| fault_of(&fault))
-}
-
-// The fault of a source whose image is refused: the first language's images are refused for want of memory alone.
-fn fault_of(fault: &ImageFault) -> Fault
-    ensures { (result ≡ memory_fault) ⊎ (result ≡ outside) }
-{
-    if fault.number == 60 {
-        Fault::memory()
-    } else {
-        outside()
-    }
-}
-
-// The answer to a text outside the language that is compiled today.
-const fn outside() -> Fault
-    ensures { result ≡ outside }
-{
-    Fault {
-        number: 90,
-        place: 0,
-    }
+    let list = tokens(alloc, source)?;
+    let program = parse(alloc, &list)?;
+    compile_tree(alloc, &program)
 }

@@ -1,4 +1,6 @@
 //! The program's work over any files and streams.
+ghost use Rattle.std.specs.Prelude.{◌≡◌};
+
 use crate::files::{FileStore, ReadError};
 use crate::go::{GoFault, go};
 use crate::words::{Request, WordsError, request_of};
@@ -25,14 +27,20 @@ pub enum Status {
 }
 
 /// Does what the words, without the program's name, ask for: reads the files, writes to `out`, and where it stops early one line to
-/// `err`. It answers the exit status.
+/// `err`. It answers the exit status. Where a text was refused or memory was wanting, nothing was written to `out`, and where the run
+/// came to an outcome no write to it failed.
 pub fn drive<F: FileStore, O: Sink, E: Sink>(
     alloc: Global,
     words: &[&str],
     files: &F,
     out: &mut O,
     err: &mut E,
-) -> u8 {
+) -> u8
+    ensures source { result ≡ 2 → out.new ≡ out.old }
+    ensures schedule { result ≡ 7 → out.new ≡ out.old }
+    ensures memory { result ≡ 8 → out.new ≡ out.old }
+    ensures done { result ≡ 0 → O.failures out.new ≡ O.failures out.old }
+{
     let status = match request_of(alloc, words) {
         Ok(
             Request::Go {
@@ -55,7 +63,12 @@ fn drive_go<F: FileStore, O: Sink, E: Sink>(
     limit: u64,
     out: &mut O,
     err: &mut E,
-) -> Status {
+) -> Status
+    ensures source { result ≡ Status.SourceRefused → out.new ≡ out.old }
+    ensures schedule { result ≡ Status.ScheduleRefused → out.new ≡ out.old }
+    ensures memory { result ≡ Status.NoMemory → out.new ≡ out.old }
+    ensures done { result ≡ Status.Done → O.failures out.new ≡ O.failures out.old }
+{
     let text = match files.read(alloc, source) {
         Ok(text) => text,
         Err(error) => return unread(err, error, source),
@@ -73,7 +86,11 @@ fn drive_go<F: FileStore, O: Sink, E: Sink>(
     }
 }
 
-fn status_of(outcome: &Outcome) -> Status {
+fn status_of(outcome: &Outcome) -> Status
+    ensures source { result ≡ Status.SourceRefused → ⊥ }
+    ensures schedule { result ≡ Status.ScheduleRefused → ⊥ }
+    ensures memory { result ≡ Status.NoMemory → ⊥ }
+{
     match outcome {
         Outcome::Ended { .. } => Status::Done,
         Outcome::Unhandled { .. } => Status::Unhandled,
@@ -84,7 +101,9 @@ fn status_of(outcome: &Outcome) -> Status {
 }
 
 // Writes the pieces and the end of the line. A failure isn't told anywhere else.
-fn tell<E: Sink>(err: &mut E, status: Status, pieces: &[&[u8]]) -> Status {
+fn tell<E: Sink>(err: &mut E, status: Status, pieces: &[&[u8]]) -> Status
+    ensures { result ≡ status }
+{
     for piece in pieces {
         let _ = write_all(err, piece);
     }

@@ -1,7 +1,11 @@
 //! Compiling and running in one call.
-ghost use Rattle.std.specs.Prelude.{◌≡◌, ◌<◌, Err, OnOk};
+ghost use Rattle.std.specs.Prelude.{◌≡◌, ◌<◌, [], Err, IfOk, OnOk};
+ghost use Rattle.ada_tree.specs.ProgramTree.{ProgramTree};
+ghost use Rattle.adarun.specs.Accepted.{IsAccepted, IsRefusedOnlyBy, RefusesText};
+ghost use Rattle.adarun.specs.Headline.{Runs, WritesBeginning};
 
 use crate::compile::compile;
+use image::laws::outcome_stays;
 use lexer::Fault;
 use machine::fault::RunFault;
 use machine::machine::run;
@@ -26,7 +30,8 @@ pub enum GoFault {
 }
 
 /// Compiles a source text, reads a schedule of input values, and runs the image for at most `limit` steps. It writes the lines of
-/// the run, and a last line that says how it ended.
+/// the run, and a last line that says how it ended: the run ends, waits forever or stops by an unhandled exception exactly when the
+/// source does, with the same lines; cut at the limit, it has written a beginning of them.
 ///
 /// # Errors
 /// As `compile`, `Schedule::read` and `run`, in this order. Nothing was written then, but a beginning of the run's text where a
@@ -38,12 +43,21 @@ pub fn go<S: Sink>(
     limit: u64,
     sink: &mut S,
 ) -> Result<Outcome, GoFault>
+    // What is written means what the source means.
+    ensures runs { IfOk result (λ outcome. Runs source.now limit outcome (S.bytes sink.old) (S.bytes sink.new)) }
+    ensures read { OnOk result (schedule.now ≡ []) }
     ensures kept { OnOk result (S.failures sink.new ≡ S.failures sink.old) }
-    ensures failed { result ≡ Err (GoFault.Run RunFault.Write) → S.failures sink.old < S.failures sink.new }
-    ensures memory { result ≡ Err (GoFault.Run RunFault.Memory) → sink.new ≡ sink.old }
+    // A text is refused for its own sake, and one of the language only for want of memory or because its code is too large.
+    ensures refused { (fault : Fault) → result ≡ Err (GoFault.Source fault) → RefusesText source.now fault }
+    ensures accepted { (tree : ProgramTree) (fault : Fault) → IsAccepted tree source.now → result ≡ Err (GoFault.Source fault) → IsRefusedOnlyBy tree fault }
     ensures source { (fault : Fault) → result ≡ Err (GoFault.Source fault) → sink.new ≡ sink.old }
     ensures schedule { (fault : ScheduleFault) → result ≡ Err (GoFault.Schedule fault) → sink.new ≡ sink.old }
+    ensures unread { (fault : ScheduleFault) → result ≡ Err (GoFault.Schedule fault) → fault ≡ record { number = 50; line = 1 } }
+    ensures memory { result ≡ Err (GoFault.Run RunFault.Memory) → sink.new ≡ sink.old }
+    ensures failed { result ≡ Err (GoFault.Run RunFault.Write) → S.failures sink.old < S.failures sink.new }
+    ensures beginning { result ≡ Err (GoFault.Run RunFault.Write) → WritesBeginning source.now limit (S.bytes sink.old) (S.bytes sink.new) }
 {
+    outcome_stays();
     let image = match compile(alloc, source) {
         Ok(image) => image,
         Err(fault) => return Err(GoFault::Source(fault)),

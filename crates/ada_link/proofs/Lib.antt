@@ -1,0 +1,15 @@
+pub mod Computing
+pub mod Single
+pub mod Standing
+pub mod Matching
+pub mod Meaning
+pub mod Emitting
+pub mod Sizes
+pub mod Tests
+pub mod Bodies
+pub mod Calls
+pub mod Mains
+pub mod Loops
+pub mod Placing
+pub mod Images
+pub mod SizeExamples

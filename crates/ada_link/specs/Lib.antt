@@ -1,0 +1,9 @@
+pub mod FirstLanguage
+pub mod Computing
+pub mod Linked
+pub mod Code
+pub mod Size
+pub mod Growing
+pub mod Whole
+pub mod Refusals
+pub mod Laws

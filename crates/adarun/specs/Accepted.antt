@@ -1,0 +1,58 @@
+-- Which texts are programs, and which of them are compiled.
+use Rattle.std.specs.Prelude.{◌≡◌, ◌⊎◌, ℕ, List, true, Result, Ok, Err}
+use Rattle.lexer.specs.Fault.{memory_fault}
+use Rattle.lexer.specs.Spelling.{Spells, IsBroken}
+use Rattle.lexer.specs.declared.fault.Fault.{Fault}
+use Rattle.lexer.specs.declared.token.Token.{Token}
+use Rattle.parser.specs.Parsing.{Derives, IsFaulty}
+use Rattle.image.specs.Sections.{Sections}
+use Rattle.image.specs.Rules.{IsWellFormed}
+use Rattle.image.specs.declared.image.Image.{Image}
+use Rattle.ada_tree.specs.ProgramTree.{ProgramTree}
+use Rattle.meaning.specs.SameMeaning.{SameMeaning}
+use Rattle.ada_link.specs.FirstLanguage.{is_first_program}
+use Rattle.ada_link.specs.Refusals.{RefusesTree, too_large}
+use Rattle.ada_link.specs.Size.{is_too_large}
+
+-- the tree is what the text spells
+pub record IsTreeOf (tree : ProgramTree) (text : List ℕ) : Type 0 where
+  pub tokens : List Token
+  pub spells : Spells text tokens
+  pub derives : Derives tree tokens
+
+-- the tree of the text is a program of the first language
+pub record IsAccepted (tree : ProgramTree) (text : List ℕ) : Type 0 where
+  pub is_tree : IsTreeOf tree text
+  pub is_first : is_first_program tree ≡ true
+
+-- a well-formed image that means the same as the text's tree, which is of the first language
+pub record Compiles (text : List ℕ) (image : Sections) : Type 0 where
+  pub tree : ProgramTree
+  pub accepted : IsAccepted tree text
+  pub means : SameMeaning tree image
+  pub well_formed : IsWellFormed image
+
+-- the tokens that spell the text have no tree
+pub record HasNoTree (text : List ℕ) (fault : Fault) : Type 0 where
+  pub tokens : List Token
+  pub spells : Spells text tokens
+  pub faulty : IsFaulty tokens fault
+
+-- its tree is refused
+pub record HasRefusedTree (text : List ℕ) (fault : Fault) : Type 0 where
+  pub tree : ProgramTree
+  pub is_tree : IsTreeOf tree text
+  pub refused : RefusesTree tree fault
+
+-- memory was refused; no tokens spell the text; they have no tree; or the tree is refused
+abbrev pub RefusesText : List ℕ → Fault → Type 0
+RefusesText text fault = (fault ≡ memory_fault) ⊎ (IsBroken text fault ⊎ (HasNoTree text fault ⊎ HasRefusedTree text fault))
+
+-- memory was refused, or the program's code is too large
+abbrev pub IsRefusedOnlyBy : ProgramTree → Fault → Type 0
+IsRefusedOnlyBy tree fault = (fault ≡ memory_fault) ⊎ ((fault ≡ too_large tree) × (is_too_large tree ≡ true))
+
+-- a text of the first language is compiled, and refused for these reasons alone
+abbrev pub IsGiven : ProgramTree → Result Image Fault → Type 0
+IsGiven tree (Ok image) = SameMeaning tree image
+IsGiven tree (Err fault) = IsRefusedOnlyBy tree fault
