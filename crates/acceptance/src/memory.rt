@@ -1,5 +1,5 @@
 //! Files and streams in memory, and one call of the program over them.
-ghost use Rattle.std.specs.Prelude.{◌≡◌};
+ghost use Rattle.std.specs.Prelude.{◌≡◌, None};
 
 use adarun::drive::drive;
 use adarun::files::{FileStore, ReadError};
@@ -18,6 +18,8 @@ pub(crate) struct Files<'a> {
 }
 
 impl<'a> FileStore for Files<'a> {
+    ghost contents = { λ _ _. None };
+
     fn read(&self, alloc: Global, name: &str) -> Result<Vec<u8>, ReadError> {
         for (known, content) in self.entries {
             if *known == name {

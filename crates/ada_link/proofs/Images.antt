@@ -25,7 +25,8 @@ use Rattle.ada_tree.specs.ProgramTree.{BodyItemTree, ProgramTree, SubprogramBody
 use Rattle.ada_tree.specs.declared.program.Package.{Package}
 use Rattle.ada_link.specs.FirstLanguage.{are_first_statements, contains, is_first_body, is_first_expression, is_first_package_part, is_first_put, is_first_statement, is_plain_body, put_of}
 use Rattle.ada_link.specs.Code.{bodies_of}
-use Rattle.ada_link.specs.Size.{RefusesCode, bodies_labels, body_labels, is_over, labels_of, put_labels, statement_labels, statements_labels, instructions_of, is_too_large, words_of}
+use Rattle.meaning.specs.SameMeaning.{KeepsCount}
+use Rattle.ada_link.specs.Size.{RefusesCode, bodies_labels, body_labels, is_over, labels_of, most_steps, put_labels, statement_labels, statements_labels, instructions_of, is_too_large, words_of}
 use Rattle.ada_link.specs.declared.refusal.Refusal.TheVariants.{Limit}
 use Rattle.ada_link.proofs.Calls.{bodies_plain}
 use Rattle.ada_link.specs.Growing.{AreBuilt, IsPart, Leaves, Runs, returns}
@@ -370,6 +371,10 @@ whole_fits p i h =
     let labels = ap length h.labels in
     neither (nat_lt 65535 (instructions_of p)) (nat_lt 512 (words_of p) || nat_lt 1024 (length (labels_of p))) (not_less 65535 (instructions_of p) (omega (arith, h.count, h.few_instructions)))
     (neither (nat_lt 512 (words_of p)) (nat_lt 1024 (length (labels_of p))) (not_less 512 (words_of p) h.words) (not_less 1024 (length (labels_of p)) (omega (arith, labels, h.few_labels))))
+
+-- the count of an image's instructions is that of the tree
+pub whole_counts : (p : ProgramTree) (i : Sections) → IsWhole p i → KeepsCount p i (λ s. length i.instructions) → KeepsCount p i (most_steps p)
+whole_counts p i h kept = subst (λ n. KeepsCount p i (λ s. n)) h.count kept
 
 -- ---- labels of a program
 

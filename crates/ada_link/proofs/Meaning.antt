@@ -28,7 +28,7 @@ use Rattle.meaning.specs.Source.{source_start, initial_work}
 use Rattle.meaning.specs.SameMeaning.{frames_of}
 use Rattle.meaning.specs.Compiling.{MeetsUnder, met_keeps_count}
 use Rattle.ada_link.specs.Linked.{main_task, Linked}
-use Rattle.ada_link.specs.Laws.{LinkedMeansTheSame}
+use Rattle.ada_link.specs.Laws.{LinkedKeepsCount, LinkedMeansTheSame}
 use Rattle.ada_link.proofs.Single.{Single, single_after, begins_single}
 use Rattle.ada_link.proofs.Standing.{most_steps, Main, Stands, Left, relation}
 use Rattle.ada_link.proofs.Matching.{met_by}
@@ -109,8 +109,12 @@ task_named : (p : ProgramTree) (n t : ℕ) → name_of (slice_get (main_task p n
 task_named p n zero = refl
 task_named p n (suc t) = refl
 
-pub linked_means_the_same : CountGivesMeaning → KernelKept → LinesGrow → QuietStays → ReachesCallers → RunnerIsCalm → LinkedMeansTheSame
-linked_means_the_same count kernel_kept grow quiet reaches calm p i well_formed linked =
+pub linked_keeps_count : KernelKept → LinesGrow → QuietStays → ReachesCallers → RunnerIsCalm → LinkedKeepsCount
+linked_keeps_count kernel_kept grow quiet reaches calm p i well_formed linked =
+    met_keeps_count p i (relation p i) (most_steps i) (λ s w. (m : ℕ) × (w ≡ code i s m)) grow quiet (λ schedule ok. under p i linked schedule well_formed kernel_kept quiet reaches calm)
+
+pub linked_means_the_same : CountGivesMeaning → LinkedKeepsCount → LinkedMeansTheSame
+linked_means_the_same count counted p i well_formed linked =
     count p i (most_steps i)
     (record { tasks = λ t. ap (λ ts. name_of (slice_get ts t)) linked.tasks ∙ task_named p linked.number t; exceptions = λ x. ap (λ names. text_at names (x - 1)) linked.exceptions })
-    (met_keeps_count p i (relation p i) (most_steps i) (λ s w. (m : ℕ) × (w ≡ code i s m)) grow quiet (λ schedule ok. under p i linked schedule well_formed kernel_kept quiet reaches calm))
+    (counted p i well_formed linked)

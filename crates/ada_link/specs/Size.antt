@@ -1,5 +1,7 @@
 -- Which programs are too large for an image: their instructions, the words of their operand stacks and their labels, counted.
 use Rattle.std.specs.Prelude.{◌≡◌, ℕ, ◌+◌, max, Bool, true, ◌||◌, ◌⊎◌, List, [], ◌∷◌, ◌++◌, length, Option, Some, None, nat_lt, if◌then◌else◌}
+use Rattle.image.specs.declared.limits.TheConstants.{FRAME_WORDS, INSTRUCTIONS, LABELS}
+use Rattle.image.specs.Frames.{TaskState}
 use Rattle.ada_tree.specs.declared.program.MainStatement.{MainStatement}
 use Rattle.ada_tree.specs.declared.program.MainStatement.TheVariants as main
 use Rattle.ada_tree.specs.ExpressionTree.{ExprTree, Number, Parenthesized, Unary, Binary}
@@ -51,6 +53,10 @@ calls_of (main.Call package_ procedure ∷ rest) = 1 + calls_of rest
 -- those of the bodies, main's calls and its return
 abbrev pub instructions_of : ProgramTree → ℕ
 instructions_of p = bodies_instructions (bodies_of p.package_) + (calls_of p.main.statements + 1)
+
+-- the most steps that a frame takes for one step of the program, whatever state it is in: as many as there are instructions
+abbrev pub most_steps : ProgramTree → TaskState → ℕ
+most_steps p s = instructions_of p
 
 -- ---- words of the operand stack
 
@@ -117,9 +123,9 @@ labels_of p = bodies_labels [] (bodies_of p.package_)
 
 -- ---- limits
 
--- more than 65,535 instructions, 512 words or 1,024 labels
+-- more instructions, words or labels than an image may have: over 65,535, 512 or 1,024
 abbrev pub is_over : ℕ → ℕ → ℕ → Bool
-is_over instructions words labels = nat_lt 65535 instructions || (nat_lt 512 words || nat_lt 1024 labels)
+is_over instructions words labels = nat_lt INSTRUCTIONS instructions || (nat_lt FRAME_WORDS words || nat_lt LABELS labels)
 
 -- the code of the program passes a limit of images
 abbrev pub is_too_large : ProgramTree → Bool

@@ -9,17 +9,11 @@ ghost use Rattle.ada_link.specs.Size.{RefusesCode, with_label};
 
 use crate::refusal::Refusal;
 use image::instruction::{Instr, Operation};
+use image::limits::{FRAME_WORDS, INSTRUCTIONS, LABELS};
 use image::subprogram::{Kind, Subprogram};
 use image::text::Text;
 use std::alloc::Global;
 use std::mem;
-
-/// The most labels that differ.
-const LABELS: usize = 1_024;
-/// The most instructions.
-const INSTRUCTIONS: usize = 65_535;
-/// The most words of an operand stack.
-const WORDS: u16 = 512;
 
 /// Code that is put together subprogram by subprogram.
 #[derive(Drop)]
@@ -71,7 +65,7 @@ impl Code {
         ensures few { OnOk result (here self.new ≤ 65535) }
         ensures refused { IfErr result (λ why. RefusesCode (here self.old + 1) (depth + 1) 0 why) }
     {
-        if WORDS <= depth {
+        if FRAME_WORDS <= usize::from(depth) {
             return Err(Refusal::Limit);
         }
         self.emit(depth, Operation::Push(value))?;

@@ -1,5 +1,5 @@
-//! The law of linked images: what a function without work ensures.
-ghost use Rattle.ada_link.specs.Laws.{LinkedMeansTheSame};
+//! Laws of linked images: what functions without work ensure.
+ghost use Rattle.ada_link.specs.Laws.{LinkedKeepsCount, LinkedMeansTheSame};
 
 use image::laws::kernel_kept;
 use kernel::laws::{lines_grow, quiet_stays, reaches_callers, runner_is_calm};
@@ -10,6 +10,14 @@ pub fn linked_means_the_same()
     ensures { LinkedMeansTheSame }
 {
     count_gives_meaning();
+    linked_keeps_count();
+}
+
+/// A well-formed image that holds the code of a program keeps the count of steps: each frame takes at most as many steps for one step
+/// of the program as the image has instructions.
+pub fn linked_keeps_count()
+    ensures { LinkedKeepsCount }
+{
     kernel_kept();
     lines_grow();
     quiet_stays();

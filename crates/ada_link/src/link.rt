@@ -5,10 +5,10 @@ ghost use Rattle.image.specs.Rules.{IsWellFormed};
 ghost use Rattle.ada_tree.specs.StatementTree.{optional_tree};
 ghost use Rattle.ada_tree.specs.ProgramTree.{package_tree, program_tree};
 ghost use Rattle.meaning.specs.Programs.{exception_names};
-ghost use Rattle.meaning.specs.SameMeaning.{SameMeaning};
+ghost use Rattle.meaning.specs.SameMeaning.{KeepsCount, SameMeaning};
 ghost use Rattle.ada_link.specs.Code.{HasCode, HasProcedures, bodies_of};
 ghost use Rattle.ada_link.specs.Growing.{AreParts};
-ghost use Rattle.ada_link.specs.Size.{RefusesCode, bodies_instructions, bodies_labels, bodies_words, instructions_of, is_too_large, labels_of, words_of};
+ghost use Rattle.ada_link.specs.Size.{RefusesCode, bodies_instructions, bodies_labels, bodies_words, instructions_of, is_too_large, labels_of, most_steps, words_of};
 ghost use Rattle.ada_link.specs.Whole.{IsWhole};
 ghost use Rattle.ada_link.specs.declared.refusal.Refusal.TheVariants.{Memory};
 ghost use Rattle.ada_link.specs.FirstLanguage.{is_first_package_part, is_first_program};
@@ -17,7 +17,7 @@ ghost use Rattle.ada_link.specs.Refusals.{RefusesTree, outside, too_large};
 
 use crate::code::Code;
 use crate::first_language::is_first_program;
-use crate::laws::linked_means_the_same;
+use crate::laws::{linked_keeps_count, linked_means_the_same};
 use crate::refusal::Refusal;
 use ada_tree::{Package, Program};
 use handlers::table::Row;
@@ -118,19 +118,22 @@ fn parts_of(alloc: Global, program: &Program) -> Result<Parts, Refusal>
     code.into_parts(program.main.name.name.as_bytes())
 }
 
-/// The image of a program (docs/ARCHITECTURE.md): it means the same, with the same lines, times and outcome.
+/// The image of a program (docs/ARCHITECTURE.md): it means the same, with the same lines, times and outcome. For one step of the
+/// program each frame takes at most as many steps as the program's code has instructions.
 ///
 /// # Errors
 /// 90, at byte 0, for a program outside the first language; 60, at byte 0, where memory was refused; 23, at main's first byte, where
 /// the program makes more than 65,535 instructions, needs more than 512 words of the operand stack, or has more than 1,024 labels.
 pub fn compile_tree(alloc: Global, program: &Program) -> Result<Image, Fault>
     ensures means { IfOk result (λ image. SameMeaning (program_tree program.now) image) }
+    ensures counted { IfOk result (λ image. KeepsCount (program_tree program.now) image (most_steps (program_tree program.now))) }
     ensures well_formed { IfOk result (λ image. IsWellFormed image) }
     ensures first { OnOk result (is_first_program (program_tree program.now) ≡ true) }
     ensures fits { OnOk result (is_too_large (program_tree program.now) ≡ false) }
     ensures refused { IfErr result (λ fault. RefusesTree (program_tree program.now) fault) }
 {
     linked_means_the_same();
+    linked_keeps_count();
     if !is_first_program(program) {
         return Err(outside());
     }

@@ -8,22 +8,24 @@ use Rattle.parser.specs.Parsing.{Derives}
 use Rattle.image.specs.Sections.{Sections}
 use Rattle.image.specs.Rules.{IsWellFormed}
 use Rattle.ada_tree.specs.ProgramTree.{ProgramTree}
-use Rattle.meaning.specs.SameMeaning.{SameMeaning}
+use Rattle.meaning.specs.SameMeaning.{KeepsCount, SameMeaning}
 use Rattle.ada_link.specs.FirstLanguage.{is_first_program}
 use Rattle.ada_link.specs.Refusals.{RefusesTree}
+use Rattle.ada_link.specs.Size.{most_steps}
 use Rattle.adarun.specs.Accepted.{Compiles, IsGiven}
 
 pub compiles : {E : Type 0} (r : Result Sections E) (text : List ℕ) (tokens list : List Token) (tree : ProgramTree)
     → Spells text tokens → list ≡ tokens → Derives tree list
-    → IfOk r (λ i. SameMeaning tree i) → IfOk r (λ i. IsWellFormed i) → OnOk r (is_first_program tree ≡ true)
+    → IfOk r (λ i. SameMeaning tree i) → IfOk r (λ i. KeepsCount tree i (most_steps tree)) → IfOk r (λ i. IsWellFormed i) → OnOk r (is_first_program tree ≡ true)
     → IfOk r (λ i. Compiles text i)
-compiles (Ok i) text tokens list tree spells same derives means well_formed first = record {
+compiles (Ok i) text tokens list tree spells same derives means counted well_formed first = record {
   tree = tree;
   accepted = record { is_tree = record { tokens = tokens; spells = spells; derives = subst (Derives tree) same derives }; is_first = first };
   means = means;
+  counted = counted;
   well_formed = well_formed;
 }
-compiles (Err e) text tokens list tree spells same derives means well_formed first = tt
+compiles (Err e) text tokens list tree spells same derives means counted well_formed first = tt
 
 -- a refusal of the text's tree, where the text is of the first language
 not_outside : (tree : ProgramTree) (fault : Fault) → is_first_program tree ≡ true → RefusesTree tree fault → IsGiven tree (Err fault)

@@ -1,2 +1,3 @@
 pub mod Compiling
+pub mod Driving
 pub mod Running

@@ -69,6 +69,7 @@ runs outcome t i limit old new stays c appends ends = record {
   accepted = c.accepted;
   image = i;
   means = c.means;
+  counted = c.counted;
   well_formed = c.well_formed;
   appends = appends;
   ends = ends;

@@ -9,10 +9,10 @@ use Rattle.image.specs.Sections.{Sections}
 use Rattle.image.specs.Rules.{IsWellFormed}
 use Rattle.image.specs.declared.image.Image.{Image}
 use Rattle.ada_tree.specs.ProgramTree.{ProgramTree}
-use Rattle.meaning.specs.SameMeaning.{SameMeaning}
+use Rattle.meaning.specs.SameMeaning.{KeepsCount, SameMeaning}
 use Rattle.ada_link.specs.FirstLanguage.{is_first_program}
 use Rattle.ada_link.specs.Refusals.{RefusesTree, too_large}
-use Rattle.ada_link.specs.Size.{is_too_large}
+use Rattle.ada_link.specs.Size.{is_too_large, most_steps}
 
 -- the tree is what the text spells
 pub record IsTreeOf (tree : ProgramTree) (text : List ℕ) : Type 0 where
@@ -25,11 +25,12 @@ pub record IsAccepted (tree : ProgramTree) (text : List ℕ) : Type 0 where
   pub is_tree : IsTreeOf tree text
   pub is_first : is_first_program tree ≡ true
 
--- a well-formed image that means the same as the text's tree, which is of the first language
+-- a well-formed image that means the same as the text's tree, which is of the first language, and keeps the count of steps
 pub record Compiles (text : List ℕ) (image : Sections) : Type 0 where
   pub tree : ProgramTree
   pub accepted : IsAccepted tree text
   pub means : SameMeaning tree image
+  pub counted : KeepsCount tree image (most_steps tree)
   pub well_formed : IsWellFormed image
 
 -- the tokens that spell the text have no tree

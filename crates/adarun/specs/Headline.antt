@@ -8,12 +8,13 @@ use Rattle.image.specs.Rules.{IsWellFormed}
 use Rattle.image.specs.Code.{code, code_text}
 use Rattle.ada_tree.specs.ProgramTree.{ProgramTree}
 use Rattle.meaning.specs.Programs.{source_names}
-use Rattle.meaning.specs.SameMeaning.{SameMeaning}
+use Rattle.meaning.specs.SameMeaning.{KeepsCount, SameMeaning}
 use Rattle.meaning.specs.Source.{source, source_text}
 use Rattle.machine.specs.Outcomes.{ending_of, time_of}
 use Rattle.machine.specs.Stands.{EndsBy}
 use Rattle.machine.specs.Written.{AppendsBeginning}
 use Rattle.machine.specs.declared.outcome.Outcome as machine
+use Rattle.ada_link.specs.Size.{most_steps}
 use Rattle.adarun.specs.Accepted.{Compiles, IsAccepted}
 
 -- the text of a run that is cut: a beginning of the lines of the source, and the line that says so
@@ -42,13 +43,14 @@ ComesToTheSame tree image =
     → (enough : ℕ) × ((limit : ℕ) → enough ≤ limit → ((code image [] limit).kernel.outcome ≡ Some o) × (code_text image [] limit ≡ source_text tree [] steps))
 
 -- A run of a text of the first language under the empty schedule, for at most `limit` steps of its code. There is an image that means the
--- same as the text's tree, and the run has written what its code writes within the limit: the source's whole text where it has come to an
--- outcome, which is the source's; else, cut at the limit, a beginning of the source's lines.
+-- same as the text's tree and keeps the count of steps, and the run has written what its code writes within the limit: the source's whole
+-- text where it has come to an outcome, which is the source's; else, cut at the limit, a beginning of the source's lines.
 pub record Runs (text : List ℕ) (limit : ℕ) (outcome : machine.Outcome) (old new : Option (List ℕ)) : Type 0 where
   pub tree : ProgramTree
   pub accepted : IsAccepted tree text
   pub image : Sections
   pub means : SameMeaning tree image
+  pub counted : KeepsCount tree image (most_steps tree)
   pub well_formed : IsWellFormed image
   pub appends : Appends old new (code_text image [] limit)
   pub ends : EndsBy outcome (code image [] limit)

@@ -1,5 +1,7 @@
 //! The program's work over any files and streams.
-ghost use Rattle.std.specs.Prelude.{◌≡◌};
+ghost use Rattle.std.specs.Prelude.{◌≡◌, nat_eq, if◌then◌else◌};
+ghost use Rattle.adarun.specs.Driving as driving;
+ghost use Rattle.adarun.specs.Driving.{Answers, Leaves};
 
 use crate::files::{FileStore, ReadError};
 use crate::go::{GoFault, go};
@@ -27,8 +29,8 @@ pub enum Status {
 }
 
 /// Does what the words, without the program's name, ask for: reads the files, writes to `out`, and where it stops early one line to
-/// `err`. It answers the exit status. Where a text was refused or memory was wanting, nothing was written to `out`, and where the run
-/// came to an outcome no write to it failed.
+/// `err`. It answers the exit status. Where the run came to an outcome, `out` was given what the source means (`go`), and no write to
+/// it failed; where a text was refused or memory was wanting, nothing was written to it.
 pub fn drive<F: FileStore, O: Sink, E: Sink>(
     alloc: Global,
     words: &[&str],
@@ -36,6 +38,7 @@ pub fn drive<F: FileStore, O: Sink, E: Sink>(
     out: &mut O,
     err: &mut E,
 ) -> u8
+    ensures answers { Answers (F.contents files.now) result (O.bytes out.old) (O.bytes out.new) }
     ensures source { result ≡ 2 → out.new ≡ out.old }
     ensures schedule { result ≡ 7 → out.new ≡ out.old }
     ensures memory { result ≡ 8 → out.new ≡ out.old }
@@ -64,6 +67,7 @@ fn drive_go<F: FileStore, O: Sink, E: Sink>(
     out: &mut O,
     err: &mut E,
 ) -> Status
+    ensures leaves { Leaves (F.contents files.now) source.now schedule.now limit result (O.bytes out.old) (O.bytes out.new) }
     ensures source { result ≡ Status.SourceRefused → out.new ≡ out.old }
     ensures schedule { result ≡ Status.ScheduleRefused → out.new ≡ out.old }
     ensures memory { result ≡ Status.NoMemory → out.new ≡ out.old }
@@ -87,6 +91,7 @@ fn drive_go<F: FileStore, O: Sink, E: Sink>(
 }
 
 fn status_of(outcome: &Outcome) -> Status
+    ensures is { result ≡ driving.status_of outcome.now }
     ensures source { result ≡ Status.SourceRefused → ⊥ }
     ensures schedule { result ≡ Status.ScheduleRefused → ⊥ }
     ensures memory { result ≡ Status.NoMemory → ⊥ }
@@ -111,18 +116,24 @@ fn tell<E: Sink>(err: &mut E, status: Status, pieces: &[&[u8]]) -> Status
     status
 }
 
-fn no_memory<E: Sink>(err: &mut E) -> Status {
+fn no_memory<E: Sink>(err: &mut E) -> Status
+    ensures { result ≡ Status.NoMemory }
+{
     tell(err, Status::NoMemory, &[b"no memory"])
 }
 
-fn unread<E: Sink>(err: &mut E, error: ReadError, name: &str) -> Status {
+fn unread<E: Sink>(err: &mut E, error: ReadError, name: &str) -> Status
+    ensures { result ≡ driving.unread error }
+{
     match error {
         ReadError::Memory => no_memory(err),
         ReadError::Unreadable => tell(err, Status::Failed, &[b"cannot read ", name.as_bytes()]),
     }
 }
 
-fn refuse_source<E: Sink>(err: &mut E, text: &[u8], fault: &Fault) -> Status {
+fn refuse_source<E: Sink>(err: &mut E, text: &[u8], fault: &Fault) -> Status
+    ensures { result ≡ (if nat_eq fault.now.number 60 then Status.NoMemory else Status.SourceRefused) }
+{
     if fault.number == 60 {
         return no_memory(err);
     }
@@ -141,7 +152,9 @@ fn refuse_source<E: Sink>(err: &mut E, text: &[u8], fault: &Fault) -> Status {
     tell(err, Status::SourceRefused, &pieces)
 }
 
-fn refuse_schedule<E: Sink>(err: &mut E, fault: &ScheduleFault) -> Status {
+fn refuse_schedule<E: Sink>(err: &mut E, fault: &ScheduleFault) -> Status
+    ensures { result ≡ (if nat_eq fault.now.number 60 then Status.NoMemory else Status.ScheduleRefused) }
+{
     if fault.number == 60 {
         return no_memory(err);
     }

@@ -1,7 +1,7 @@
 //! The program: the words of its command line, its files and its streams, handed to `drive`.
 #![tactic(auto)]
 
-ghost use Rattle.std.specs.Prelude.{◌≡◌};
+ghost use Rattle.std.specs.Prelude.{◌≡◌, None};
 
 use adarun::drive::{Status, drive};
 use adarun::files::{FileStore, ReadError};
@@ -20,6 +20,8 @@ struct SystemFiles<'a> {
 }
 
 impl<'a> FileStore for SystemFiles<'a> {
+    ghost contents = { λ _ _. None };
+
     fn read(&self, _alloc: Global, name: &str) -> Result<Vec<u8>, ReadError> {
         fs::read(self.rt, name).map_err(|error| match error.kind() {
             ErrorKind::OutOfMemory => ReadError::Memory,

@@ -5,7 +5,7 @@ use Rattle.adarun.proofs.compile.compile.Goals as goal
 
 pub returns-clause-means : goal.returns-clause-means
 returns-clause-means c =
-    compiles _ _ _ _ _ c.in_ok-list.ensures.sound c.deref.ensures.value c.in_ok-program.ensures.found c.compile_tree.ensures.means c.compile_tree.ensures.well_formed c.compile_tree.ensures.first
+    compiles _ _ _ _ _ c.in_ok-list.ensures.sound c.deref.ensures.value c.in_ok-program.ensures.found c.compile_tree.ensures.means c.compile_tree.ensures.counted c.compile_tree.ensures.well_formed c.compile_tree.ensures.first
 
 pub returns-clause-accepted : goal.returns-clause-accepted
 returns-clause-accepted c = λ tree accepted.
