@@ -70,7 +70,7 @@ number_of ImageFault = 6
 number_of ScheduleRefused = 7
 number_of NoMemory = 8
 
--- the answer is the number of a status, with what it leaves for the files and the limit that the words name
+-- the answer is the number of a status, with what it leaves for some names of files and some limit; that these are those of the words is tested
 pub record Answers (contents : Contents) (answer : ℕ) (old new : Option (List ℕ)) : Type 0 where
   pub source : List ℕ
   pub schedule : List ℕ
