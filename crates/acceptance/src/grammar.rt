@@ -1,6 +1,6 @@
 //! Texts that are parsed, and texts with the fault that they have.
-use crate::{one_tree, parse};
 use ada_tree::{BinaryOperator, Expr, UnaryOperator};
+use parser::{one_tree, parse};
 use std::alloc::{AllocError, Global};
 use std::test::Fail;
 

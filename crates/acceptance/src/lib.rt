@@ -1,9 +1,13 @@
-//! Tests of the whole program over files and streams in memory.
+//! Tests that cross crates: spelling, grammar, and the whole program over files and streams in memory.
 #![tactic(auto)]
 
 ghost use Rattle.std.specs.Prelude.{◌≡◌};
 
 #[cfg(test)]
+mod grammar;
+#[cfg(test)]
 mod memory;
 #[cfg(test)]
 mod rows;
+#[cfg(test)]
+mod spelling;

@@ -1,5 +1,5 @@
 //! Texts with the tokens that spell them, and texts with the first rule that they break.
-use crate::{Delimiter, Token, TokenKind, spelled_in_order, spelled_once, tokens};
+use lexer::{Delimiter, Token, TokenKind, spelled_in_order, spelled_once, tokens};
 use std::alloc::{AllocError, Global};
 use std::test::Fail;
 

@@ -9,8 +9,6 @@ mod label;
 mod lexing;
 mod limits;
 mod name;
-#[cfg(test)]
-mod tests;
 mod token;
 mod word;
 

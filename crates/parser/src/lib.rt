@@ -9,7 +9,5 @@ mod parsing;
 mod program;
 mod refusal;
 mod statement;
-#[cfg(test)]
-mod tests;
 
 pub use parsing::{one_tree, parse};
