@@ -16,4 +16,6 @@ mod table_rules;
 mod tables;
 mod taken;
 pub mod task;
+#[cfg(test)]
+mod tests;
 pub mod text;
