@@ -5,6 +5,7 @@ ghost use Rattle.image.specs.Refusals.{Refuses};
 ghost use Rattle.image.specs.Rules.{IsWellFormed};
 ghost use Rattle.image.specs.Sections.{ends_of};
 ghost use Rattle.image.specs.Taken.{IsTaken};
+ghost use Rattle.image.specs.Width.{ImageFits};
 
 use crate::fault::ImageFault;
 use crate::instruction::Instr;
@@ -125,6 +126,13 @@ impl Image {
         ensures taken { IsTaken self.now }
     {
         &self.parts.instructions
+    }
+
+    // Reads its constants and initial words: they are `i64`.
+    pub(crate) fn words_fit(&self)
+        ensures { ImageFits self.now }
+    {
+        self.parts.words_fit();
     }
 }
 

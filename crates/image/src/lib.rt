@@ -19,3 +19,4 @@ pub mod task;
 #[cfg(test)]
 mod tests;
 pub mod text;
+mod word_ranges;
