@@ -6,7 +6,7 @@ use Rattle.std.proofs.lemmas.Option.{slice_get-get_or}
 use Rattle.image.specs.Sections.{Sections, end_of, holder_number, object_of}
 use Rattle.image.specs.Operations.{called, given_by, goes_on, jump_target, parameters_of, results_of, taken_by}
 use Rattle.image.specs.Names.{is_label, is_name, predefined}
-use Rattle.image.specs.Rules.{all_begun, all_nested, all_placed, begins_with, has_counts, is_entry_of_object, is_object, is_subprogram, is_task, is_task_body, is_within, keeps_47, last_end, calls_inside, depth_after, has_body, has_depth, has_entry, has_object, has_operands, in_holder, is_closed, is_plain, is_return, is_row_within, jumps_within, keeps_43, keeps_44, keeps_45, keeps_46, keeps_depth, names_things, none_or, same_number, some_and}
+use Rattle.image.specs.Rules.{all_begun, all_nested, all_placed, begins_with, has_counts, is_entry_of_object, is_object, is_subprogram, is_task, is_task_body, is_within, tables_agree, covers_places, has_effect, has_ends, leaves_depth, where_ends, last_end, calls_inside, depth_after, has_body, has_depth, has_entry, has_object, has_operands, in_holder, is_closed, is_plain, is_return, is_row_within, jumps_within, operands_in_range, jumps_stay_inside, named_things_exist, depths_agree, keeps_depth, names_things, none_or, same_number, some_and}
 use Rattle.image.specs.Taken.{is_taken_kind, is_taken_operation, takes_operations, takes_tables}
 use Rattle.image.specs.Faults.{memory_fault}
 use Rattle.image.specs.Refusals.{Refuses}
@@ -93,8 +93,8 @@ module _ (p : ProgramTree) (i : Sections) (h : IsWhole p i) where
   taken : takes_operations i ≡ true
   taken = built_all l n (λ x. is_taken_operation x.operation) (λ from to x. taken_leads l n from to x.operation) refl 0 all i.instructions h.built
 
-  pub keeps_43_taken : (keeps_43 i && takes_operations i) ≡ true
-  keeps_43_taken = both (keeps_43 i) (takes_operations i) (all_weaker (λ x. is_taken_operation x.operation) (λ x. has_operands x.operation) (λ x. taken_operands x.operation) i.instructions taken) taken
+  pub operands_in_range_taken : (operands_in_range i && takes_operations i) ≡ true
+  operands_in_range_taken = both (operands_in_range i) (takes_operations i) (all_weaker (λ x. is_taken_operation x.operation) (λ x. has_operands x.operation) (λ x. taken_operands x.operation) i.instructions taken) taken
 
   -- ---- kinds
 
@@ -112,6 +112,10 @@ module _ (p : ProgramTree) (i : Sections) (h : IsWhole p i) where
 
   -- ---- 44
 
+  or_true : (a b : Bool) → b ≡ true → (a || b) ≡ true
+  or_true true b e = refl
+  or_true false b e = e
+
   closed : (first : ℕ) (s : Subprogram) (part : List Instr) → Stands l n i.instructions first s part → is_closed i s ≡ true
   closed first s part d =
       let behind = d.0 in
@@ -121,13 +125,15 @@ module _ (p : ProgramTree) (i : Sections) (h : IsWhole p i) where
       ap (λ x. some_and x (λ y. not (goes_on y.operation)))
       (ap (λ c. slice_get c (s.end_ - 1)) (d.2 ∙ sym (append_again before part (returns ∷ behind))) ∙ get_behind (before ++ part) (returns ∷ behind) (s.end_ - 1) 0 at)
 
-  pub keeps_44_whole : keeps_44 i ≡ true
-  keeps_44_whole =
-      both (all_placed (jumps_within i) 0 i.instructions) (list_all (is_closed i) i.subprograms && list_all (is_row_within i) i.rows)
+  pub jumps_stay_inside_whole : jumps_stay_inside i ≡ true
+  jumps_stay_inside_whole =
+      both (list_all covers_places i.rows) (where_ends i (all_placed (jumps_within i) 0 i.instructions && (list_all (is_closed i) i.subprograms && list_all (is_row_within i) i.rows))) (ap (list_all covers_places) h.rows)
+      (or_true (not (has_ends i)) (all_placed (jumps_within i) 0 i.instructions && (list_all (is_closed i) i.subprograms && list_all (is_row_within i) i.rows))
+      (both (all_placed (jumps_within i) 0 i.instructions) (list_all (is_closed i) i.subprograms && list_all (is_row_within i) i.rows)
       (placed_of (λ x. is_taken_operation x.operation) (jumps_within i) (λ m x e. ap (λ o. none_or o (λ a. same_number (holder_number i.subprograms m) (holder_number i.subprograms a))) (taken_stays x.operation e)) 0 i.instructions taken)
       (both (list_all (is_closed i) i.subprograms) (list_all (is_row_within i) i.rows)
       (ap (list_all (is_closed i)) h.subprograms ∙ begun_all (is_closed i) 0 all (begun l n i.instructions (λ m s. is_closed i s) closed 0 all i.instructions [] h.built refl refl))
-      (ap (list_all (is_row_within i)) h.rows))
+      (ap (list_all (is_row_within i)) h.rows))))
 
   -- ---- 45
 
@@ -168,11 +174,12 @@ module _ (p : ProgramTree) (i : Sections) (h : IsWhole p i) where
   long : length i.subprograms ≡ n + 1
   long = ap length h.subprograms ∙ (let e = length-append h.procedures (h.s ∷ []) in omega (arith, e))
 
-  pub keeps_45_whole : keeps_45 i ≡ true
-  keeps_45_whole =
-      both (all_placed (λ m x. in_holder i m (λ s. names_things i s x.operation)) 0 i.instructions) (list_all (has_object i) i.subprograms && (list_all (has_entry i) i.objects && list_all (has_body i) i.tasks))
+  pub named_things_exist_whole : named_things_exist i ≡ true
+  named_things_exist_whole =
+      both (where_ends i (all_placed (λ m x. in_holder i m (λ s. names_things i s x.operation)) 0 i.instructions)) (list_all (has_object i) i.subprograms && (list_all (has_entry i) i.objects && list_all (has_body i) i.tasks))
+      (or_true (not (has_ends i)) (all_placed (λ m x. in_holder i m (λ s. names_things i s x.operation)) 0 i.instructions)
       (subst (λ ss. all_placed (λ m x. some_and (find (λ s. nat_lt m s.end_) ss) (λ s. names_things i s x.operation)) 0 i.instructions ≡ true) (sym h.subprograms)
-      (held l n i.instructions (λ m x s. names_things i s x.operation) named_part 0 all i.instructions [] h.built refl refl))
+      (held l n i.instructions (λ m x s. names_things i s x.operation) named_part 0 all i.instructions [] h.built refl refl)))
       (both (list_all (has_object i) i.subprograms) (list_all (has_entry i) i.objects && list_all (has_body i) i.tasks)
       (all_weaker (λ s. is_taken_kind s.kind) (has_object i) (λ s e. ap (λ o. none_or o (λ m. nat_lt m (length i.objects))) (objectless s.kind e)) i.subprograms taken_all)
       (both (list_all (has_entry i) i.objects) (list_all (has_body i) i.tasks)
@@ -198,31 +205,31 @@ module _ (p : ProgramTree) (i : Sections) (h : IsWhole p i) where
   depths s from to (op.PutLine m) d = (omega (arith, d.1), omega (arith, d.1), refl)
   depths s from to _ d = absurd d
 
-  or_true : (a b : Bool) → b ≡ true → (a || b) ≡ true
-  or_true true b e = refl
-  or_true false b e = e
+  three : (a b c : Bool) → a ≡ true → b ≡ true → c ≡ true → (a && (b && c)) ≡ true
+  three a b c p q r = both a (b && c) p (both b c q r)
 
-  six : (a b c d e f : Bool) → a ≡ true → b ≡ true → c ≡ true → d ≡ true → e ≡ true → f ≡ true → (a && (b && (c && (d && (e && f))))) ≡ true
-  six a b c d e f p q r s t u = both a (b && (c && (d && (e && f)))) p (both b (c && (d && (e && f))) q (both c (d && (e && f)) r (both d (e && f) s (both e f t u))))
+  four : (a b c d : Bool) → a ≡ true → b ≡ true → c ≡ true → d ≡ true → (a && (b && (c && d))) ≡ true
+  four a b c d p q r t = both a (b && (c && d)) p (three b c d q r t)
 
   step_keeps : (place : ℕ) (x y : Instr) (s : Subprogram) (from to : ℕ) → x.depth ≡ from → Leaves l n from x.operation to → from ≤ s.stack → to ≤ s.stack
       → slice_get i.instructions (place + 1) ≡ Some y → y.depth ≡ to → keeps_depth i place x s ≡ true
   step_keeps place x y s from to at d low high there next =
       let e = depths s from to x.operation d in
       let after : depth_after i s x ≡ to = ap (λ m. leaves_of s m x.operation) at ∙ e.1 in
-      six (nat_le (taken_by i s.results x.operation) x.depth) (nat_le x.depth s.stack) (nat_le (depth_after i s x) s.stack) (not (is_return x.operation) || nat_eq x.depth s.results)
-      (not (goes_on x.operation) || has_depth i (place + 1) (depth_after i s x)) (none_or (jump_target x.operation) (λ a. has_depth i a (depth_after i s x)))
-      (le_true (taken_by i s.results x.operation) x.depth (omega (arith, e.0, at)))
+      three (nat_le x.depth s.stack) (not (is_return x.operation) || nat_eq x.depth s.results) (not (has_effect i x.operation) || leaves_depth i place x s)
       (le_true x.depth s.stack (omega (arith, at, low)))
-      (le_true (depth_after i s x) s.stack (omega (arith, after, high)))
       (ap (λ b. not b || nat_eq x.depth s.results) e.2)
-      (or_true (not (goes_on x.operation)) (has_depth i (place + 1) (depth_after i s x)) (ap (λ o. some_and o (λ z. nat_eq z.depth (depth_after i s x))) there ∙ eq_true y.depth (depth_after i s x) (next ∙ sym after)))
-      (ap (λ o. none_or o (λ a. has_depth i a (depth_after i s x))) (taken_stays x.operation (taken_leads l n from to x.operation d)))
+      (or_true (not (has_effect i x.operation)) (leaves_depth i place x s)
+      (four (nat_le (taken_by i s.results x.operation) x.depth) (nat_le (depth_after i s x) s.stack) (not (goes_on x.operation) || has_depth i (place + 1) (depth_after i s x)) (none_or (jump_target x.operation) (λ a. has_depth i a (depth_after i s x)))
+      (le_true (taken_by i s.results x.operation) x.depth (omega (arith, e.0, at)))
+      (le_true (depth_after i s x) s.stack (omega (arith, after, high)))
+      (or_true (not (goes_on x.operation)) (has_depth i (place + 1) (depth_after i s x)) (ap (λ o. none_or o (λ z. nat_eq z.depth (depth_after i s x))) there ∙ eq_true y.depth (depth_after i s x) (next ∙ sym after)))
+      (ap (λ o. none_or o (λ a. has_depth i a (depth_after i s x))) (taken_stays x.operation (taken_leads l n from to x.operation d)))))
 
   return_keeps : (place : ℕ) (s : Subprogram) → s.results ≡ 0 → keeps_depth i place returns s ≡ true
   return_keeps place s none =
-      six (nat_le s.results 0) (nat_le 0 s.stack) (nat_le (0 - s.results + 0) s.stack) (nat_eq 0 s.results) true true
-      (le_true s.results 0 (omega (arith, none))) (le_true 0 s.stack (omega arith)) (le_true (0 - s.results + 0) s.stack (omega (arith, none))) (eq_true 0 s.results (omega (arith, none))) refl refl
+      three (nat_le 0 s.stack) (nat_eq 0 s.results) (leaves_depth i place returns s) (le_true 0 s.stack (omega arith)) (eq_true 0 s.results (omega (arith, none)))
+      (four (nat_le s.results 0) (nat_le (0 - s.results + 0) s.stack) true true (le_true s.results 0 (omega (arith, none))) (le_true (0 - s.results + 0) s.stack (omega (arith, none))) refl refl)
 
   head_depth : (most from : ℕ) (part behind : List Instr) → Runs l n most from part 0 → (y : Instr) × (slice_get (part ++ returns ∷ behind) 0 ≡ Some y) × (y.depth ≡ from)
   head_depth most from [] behind d = (returns, refl, d)
@@ -246,16 +253,17 @@ module _ (p : ProgramTree) (i : Sections) (h : IsWhole p i) where
   begins first s part d =
       let y = head_depth s.stack 0 part d.0 d.4.runs in
       let none : first ≡ first + 0 = omega arith in
-      ap (λ o. some_and o (λ z. nat_eq z.depth 0)) (ap (slice_get i.instructions) none ∙ stands_there first s part d 0 ∙ y.1) ∙ eq_true y.0.depth 0 y.2
+      ap (λ o. none_or o (λ z. nat_eq z.depth 0)) (ap (slice_get i.instructions) none ∙ stands_there first s part d 0 ∙ y.1) ∙ eq_true y.0.depth 0 y.2
 
-  pub keeps_46_whole : keeps_46 i ≡ true
-  keeps_46_whole =
-      both (all_placed (λ m x. in_holder i m (keeps_depth i m x)) 0 i.instructions) (all_begun (λ first s. has_depth i first 0) 0 i.subprograms && list_all (λ r. has_depth i r.target 1) i.rows)
+  pub depths_agree_whole : depths_agree i ≡ true
+  depths_agree_whole =
+      or_true (not (has_ends i)) (all_placed (λ m x. in_holder i m (keeps_depth i m x)) 0 i.instructions && (all_begun (λ first s. has_depth i first 0) 0 i.subprograms && list_all (λ r. has_depth i r.target 1) i.rows))
+      (both (all_placed (λ m x. in_holder i m (keeps_depth i m x)) 0 i.instructions) (all_begun (λ first s. has_depth i first 0) 0 i.subprograms && list_all (λ r. has_depth i r.target 1) i.rows)
       (subst (λ ss. all_placed (λ m x. some_and (find (λ s. nat_lt m s.end_) ss) (keeps_depth i m x)) 0 i.instructions ≡ true) (sym h.subprograms)
       (held l n i.instructions (keeps_depth i) (λ first s part d. part_keeps s first 0 part d.0 d.4.results (stands_there first s part d) d.4.runs) 0 all i.instructions [] h.built refl refl))
       (both (all_begun (λ first s. has_depth i first 0) 0 i.subprograms) (list_all (λ r. has_depth i r.target 1) i.rows)
       (ap (all_begun (λ first s. has_depth i first 0) 0) h.subprograms ∙ begun l n i.instructions (λ first s. has_depth i first 0) begins 0 all i.instructions [] h.built refl refl)
-      (ap (list_all (λ r. has_depth i r.target 1)) h.rows))
+      (ap (list_all (λ r. has_depth i r.target 1)) h.rows)))
 
   -- ---- 47
 
@@ -325,8 +333,8 @@ module _ (p : ProgramTree) (i : Sections) (h : IsWhole p i) where
       (both (nat_eq (length i.tasks) 1) (nat_eq (length i.objects) 0 && kinds_taken) (ap (λ x. nat_eq (length x) 1) h.tasks)
       (both (nat_eq (length i.objects) 0) kinds_taken (ap (λ x. nat_eq (length x) 0) h.objects) taken_all))
 
-  pub keeps_47_taken : is_name p.main.name.name ≡ true → list_all is_label (labels_of p) ≡ true → (keeps_47 i && takes_tables i) ≡ true
-  keeps_47_taken name labelled =
+  pub tables_agree_taken : is_name p.main.name.name ≡ true → list_all is_label (labels_of p) ≡ true → (tables_agree i && takes_tables i) ≡ true
+  tables_agree_taken name labelled =
       let a = has_counts i in
       let b = all_begun (λ first s. nat_lt first s.end_) 0 i.subprograms in
       let c = nat_eq (last_end i.subprograms) (length i.instructions) in
@@ -338,28 +346,27 @@ module _ (p : ProgramTree) (i : Sections) (h : IsWhole p i) where
       let k = list_all is_label i.labels in
       let m = list_all (λ r. nat_le r.exception (length i.exceptions)) i.rows in
       let o = all_nested i.rows in
-      both (keeps_47 i) (takes_tables i)
-      (both a (b && (c && (d && (e && (f && (g && (j && (k && (m && o))))))))) counts
-      (both b (c && (d && (e && (f && (g && (j && (k && (m && o)))))))) (ap (all_begun (λ first s. nat_lt first s.end_) 0) h.subprograms ∙ begun l n i.instructions (λ first s. nat_lt first s.end_) ends_later 0 all i.instructions [] h.built refl refl)
-      (both c (d && (e && (f && (g && (j && (k && (m && o))))))) (eq_true (last_end i.subprograms) (length i.instructions) ends)
+      both (tables_agree i) (takes_tables i)
+      (both a ((b && c) && (d && (e && (f && (g && (j && (k && (m && o)))))))) counts
+      (both (b && c) (d && (e && (f && (g && (j && (k && (m && o))))))) (both b c (ap (all_begun (λ first s. nat_lt first s.end_) 0) h.subprograms ∙ begun l n i.instructions (λ first s. nat_lt first s.end_) ends_later 0 all i.instructions [] h.built refl refl) (eq_true (last_end i.subprograms) (length i.instructions) ends))
       (both d (e && (f && (g && (j && (k && (m && o)))))) (ap (all_placed (is_subprogram i) 0) h.subprograms ∙ bare_subprograms 0 0 all i.instructions h.built taken_kinds)
       (both e (f && (g && (j && (k && (m && o))))) (ap (all_placed (is_object i) 0) h.objects)
       (both f (g && (j && (k && (m && o)))) (ap (list_all (is_task i)) h.tasks ∙ ap (λ x. x && true) (main_right name))
       (both g (j && (k && (m && o))) (ap (begins_with predefined) h.exceptions)
       (both j (k && (m && o)) (ap (list_all is_name) h.exceptions)
       (both k (m && o) (ap (list_all is_label) h.labels ∙ labelled)
-      (both m o (ap (list_all (λ r. nat_le r.exception (length i.exceptions))) h.rows) (ap all_nested h.rows)))))))))))
+      (both m o (ap (list_all (λ r. nat_le r.exception (length i.exceptions))) h.rows) (ap all_nested h.rows))))))))))
       tables
 
   -- ---- nothing but memory
 
   pub memory_alone : is_name p.main.name.name ≡ true → list_all is_label (labels_of p) ≡ true → (fault : ImageFault) → Refuses i fault → fault ≡ memory_fault
   memory_alone name labelled fault (inl e) = e
-  memory_alone name labelled fault (inr (byte, inl (number, e))) = absurd (both_ways (keeps_43 i && takes_operations i) e keeps_43_taken)
-  memory_alone name labelled fault (inr (byte, inr (inl (number, e)))) = absurd (both_ways (keeps_44 i) e keeps_44_whole)
-  memory_alone name labelled fault (inr (byte, inr (inr (inl (number, e))))) = absurd (both_ways (keeps_45 i) e keeps_45_whole)
-  memory_alone name labelled fault (inr (byte, inr (inr (inr (inl (number, e)))))) = absurd (both_ways (keeps_46 i) e keeps_46_whole)
-  memory_alone name labelled fault (inr (byte, inr (inr (inr (inr (number, e)))))) = absurd (both_ways (keeps_47 i && takes_tables i) e (keeps_47_taken name labelled))
+  memory_alone name labelled fault (inr (byte, inl (number, e))) = absurd (both_ways (operands_in_range i && takes_operations i) e operands_in_range_taken)
+  memory_alone name labelled fault (inr (byte, inr (inl (number, e)))) = absurd (both_ways (jumps_stay_inside i) e jumps_stay_inside_whole)
+  memory_alone name labelled fault (inr (byte, inr (inr (inl (number, e))))) = absurd (both_ways (named_things_exist i) e named_things_exist_whole)
+  memory_alone name labelled fault (inr (byte, inr (inr (inr (inl (number, e)))))) = absurd (both_ways (depths_agree i) e depths_agree_whole)
+  memory_alone name labelled fault (inr (byte, inr (inr (inr (inr (number, e)))))) = absurd (both_ways (tables_agree i && takes_tables i) e (tables_agree_taken name labelled))
 
 neither : (a b : Bool) → a ≡ false → b ≡ false → (a || b) ≡ false
 neither true b e f = e

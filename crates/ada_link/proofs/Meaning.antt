@@ -1,5 +1,5 @@
 -- A linked image has the meaning of its program.
-use Rattle.std.proofs.Common.{◌≡◌, ◌≢◌, ℕ, zero, suc, ◌+◌, ◌-◌, List, [], ◌∷◌, None, Option, refl, sym, ap, ◌∙◌, subst}
+use Rattle.std.proofs.Common.{◌≡◌, ◌≢◌, ℕ, zero, suc, ◌+◌, List, [], ◌∷◌, None, Option, refl, sym, ap, ◌∙◌, subst}
 use Rattle.std.specs.Prelude.{pos, slice_get, replicate}
 use Rattle.base.specs.declared.schedule.ScheduleLine.{ScheduleLine}
 use Rattle.kernel.specs.State.{Kernel}
@@ -11,7 +11,7 @@ use Rattle.kernel.specs.RunLaws.{run_plus}
 use Rattle.image.specs.Sections.{Sections, first_place}
 use Rattle.image.specs.Operations.{called, results_of}
 use Rattle.image.specs.Rules.{IsWellFormed}
-use Rattle.image.specs.Texts.{text_at, name_of}
+use Rattle.image.specs.Texts.{text_from_one, name_of}
 use Rattle.image.specs.Frames.{Inner, Words, TaskState}
 use Rattle.image.specs.Steps.{behaviour, is_open}
 use Rattle.image.specs.Steps as steps
@@ -116,5 +116,5 @@ linked_keeps_count kernel_kept grow quiet reaches calm p i well_formed linked =
 pub linked_means_the_same : CountGivesMeaning → LinkedKeepsCount → LinkedMeansTheSame
 linked_means_the_same count counted p i well_formed linked =
     count p i (most_steps i)
-    (record { tasks = λ t. ap (λ ts. name_of (slice_get ts t)) linked.tasks ∙ task_named p linked.number t; exceptions = λ x. ap (λ names. text_at names (x - 1)) linked.exceptions })
+    (record { tasks = λ t. ap (λ ts. name_of (slice_get ts t)) linked.tasks ∙ task_named p linked.number t; exceptions = λ x. ap (λ names. text_from_one names x) linked.exceptions })
     (counted p i well_formed linked)

@@ -6,8 +6,9 @@ use Rattle.handlers.specs.Innermost.{handler_of}
 use Rattle.handlers.specs.declared.table.Row.{Row}
 use Rattle.image.specs.Code.{code_text}
 use Rattle.image.specs.Names.{predefined}
-use Rattle.image.specs.Rules.{keeps_43, keeps_44, keeps_45, keeps_46, keeps_47}
+use Rattle.image.specs.Rules.{operands_in_range, jumps_stay_inside, named_things_exist, depths_agree, tables_agree}
 use Rattle.image.specs.Sections.{Sections}
+use Rattle.image.specs.Texts.{names_of}
 use Rattle.image.specs.declared.instruction.Instr.{Instr}
 use Rattle.image.specs.declared.instruction.Operation.{Operation}
 use Rattle.image.specs.declared.instruction.Operation.TheVariants as op
@@ -41,7 +42,7 @@ plain_image labels subprograms tasks rows instructions =
     record { exceptions = predefined; labels = labels; plain_words = []; objects = []; subprograms = subprograms; tasks = tasks; rows = rows; instructions = instructions }
 
 abbrev pub keeps : Sections → Bool
-keeps i = keeps_43 i && (keeps_44 i && (keeps_45 i && (keeps_46 i && keeps_47 i)))
+keeps i = operands_in_range i && (jumps_stay_inside i && (named_things_exist i && (depths_agree i && tables_agree i)))
 
 abbrev pub say : ℕ → ℕ → List Instr
 say value label = at 0 (op.Push (pos value)) ∷ at 1 (op.PutLine label) ∷ []
@@ -66,6 +67,16 @@ thousand_whole = refl
 thousand_stays : code_text thousand [] 7 ≡ codes "0 MAIN x 1000\nended at 0\n"
 unfolding digits
 thousand_stays = refl
+
+-- exceptions are named from 1 on: 0 is none, and so is a number past the last
+none_is_unnamed : (names_of thousand).exception 0 ≡ []
+none_is_unnamed = refl
+
+first_is_named : (names_of thousand).exception 1 ≡ codes "CONSTRAINT_ERROR"
+first_is_named = refl
+
+fifth_is_unnamed : (names_of thousand).exception 5 ≡ []
+fifth_is_unnamed = refl
 
 -- Arithmetic at its edges: 7 mod -3 is -2; the first value mod -1 is 0, and divided by -1 raises
 

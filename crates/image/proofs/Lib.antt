@@ -1,4 +1,5 @@
 mod Bounds
+mod Broken
 mod BytesExamples
 mod Examples
 mod Exclusion

@@ -32,7 +32,7 @@ use Rattle.image.specs.declared.subprogram.Kind.TheVariants as kinds
 use Rattle.image.specs.declared.subprogram.Kind.TheVariants.{TaskBody}
 use Rattle.image.specs.declared.subprogram.Subprogram.{Subprogram}
 use Rattle.image.specs.declared.task.Task.{Task}
-use Rattle.image.proofs.WellFormed.{body_kind, rule_45_tasks, some_subprogram, list_all-at, slice_get_inside, begin_depth, begin_held, depths, frame_words, handler_held, has_depth-is, holder_next, jump_held, not_last}
+use Rattle.image.proofs.WellFormed.{body_kind, bodies, some_subprogram, list_all-at, slice_get_inside, begin_depth, begin_held, depths, frame_words, handler_held, has_depth-is, holder_next, jump_held, not_last}
 
 abbrev pub instr : ℕ → Operation → Instr
 instr d o = record { depth = d; operation = o }
@@ -63,7 +63,7 @@ module _ (i : Sections) (w : IsWellFormed i) where
   module _ (f : Frame) (s : Subprogram) (d : ℕ) (o : Operation) (st : Stands i f s (instr d o)) where
     at_depth : (p n : ℕ) (l stack : List ℤ) → holder i.subprograms p ≡ Some s → has_depth i p n ≡ true → length l ≡ length f.locals → length stack ≡ n → IsGoing i (record f { place = p; locals = l; stack = stack })
     at_depth p n l stack held deep same e =
-        let h = has_depth-is i w p n deep in
+        let h = has_depth-is i w p n s held deep in
         record { s = s; x = h.0; stands = record { subprogram = st.subprogram; within = held; instruction = h.1; locals = same ∙ st.locals }; depth = e ∙ sym h.2 }
 
     pub goes_next : (l stack : List ℤ) → goes_on o ≡ true → length l ≡ length f.locals → length stack ≡ d - taken_by i s.results o + given_by i o → IsGoing i (record f { place = f.place + 1; locals = l; stack = stack })
@@ -84,7 +84,7 @@ module _ (i : Sections) (w : IsWellFormed i) where
   -- a frame begins at the first instruction of its subprogram
   pub begins : (n : ℕ) (s : Subprogram) (l : List ℤ) (role : Role) → called i n ≡ Some s → length l ≡ s.parameters → IsGoing i (new_frame i n s l role)
   begins n s l role is e =
-      let h = has_depth-is i w (first_place i n) 0 (begin_depth i w n s is) in
+      let h = has_depth-is i w (first_place i n) 0 s (begin_held i w n s is) (begin_depth i w n s is) in
       let words = frame_words i w n s is in
       let locals : length (l ++ replicate (s.locals - s.parameters) (pos 0)) ≡ s.locals =
       length-append l _ ∙ (ap (λ v. length l + v) (length-replicate (s.locals - s.parameters) (pos 0)) ∙ filled (length l) s.parameters s.locals e words.0) in
@@ -452,7 +452,7 @@ module _ (i : Sections) (w : IsWellFormed i) where
   -- the body of a task is there
   pub body_there : (t : ℕ) (x : Task) → slice_get i.tasks t ≡ Some x → (s : Subprogram) × (called i x.subprogram ≡ Some s) × (s.kind ≡ TaskBody)
   body_there t x is =
-      let s = slice_get_inside i.subprograms x.subprogram (ltb-true _ _ (list_all-at (has_body i) i.tasks t x (rule_45_tasks i w) is)) in
+      let s = slice_get_inside i.subprograms x.subprogram (ltb-true _ _ (list_all-at (has_body i) i.tasks t x (bodies i w) is)) in
       (s.0, s.1, body_kind i w t x s.0 is s.1)
 
   body_is : (o : Option Task) (t : ℕ) → slice_get i.tasks t ≡ o → (s : Subprogram) × (called i (body_of o) ≡ Some s)
@@ -468,7 +468,7 @@ module _ (i : Sections) (w : IsWellFormed i) where
       by : (n : ℕ) (o : Option Subprogram) (s : Subprogram) → called i n ≡ Some s → called i n ≡ o → IsSound i (record { frame = body_frame i n o; callers = []; raising = None })
       by n None s is same = absurd (none-some s (sym same ∙ is))
       by n (Some q) s is same =
-          let h = has_depth-is i w (first_place i n) 0 (begin_depth i w n q same) in
+          let h = has_depth-is i w (first_place i n) 0 q (begin_held i w n q same) (begin_depth i w n q same) in
           record {
             few = omega arith;
             running = record { s = q; x = h.0; stands = record { subprogram = same; within = begin_held i w n q same; instruction = h.1; locals = length-replicate q.locals (pos 0) }; depth = sym h.2 };

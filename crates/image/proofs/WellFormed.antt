@@ -9,12 +9,13 @@ use Rattle.std.specs.List.{list_all, position_or_len}
 use Rattle.handlers.specs.declared.table.Row.{Row}
 use Rattle.handlers.specs.Innermost.{covers, handles, inner_of, width, innermost, target_of, handler_of}
 use Rattle.image.specs.Sections.{Sections, holder, holder_number, end_of, first_place}
-use Rattle.image.specs.Names.{is_name}
+use Rattle.image.specs.Names.{is_label, is_name, predefined}
 use Rattle.image.specs.ObjectTable.{ObjectRow}
-use Rattle.image.specs.Operations.{entry_of, given_by, goes_on, jump_target, taken_by}
-use Rattle.image.specs.Rules.{IsWellFormed, all_begun, all_placed, some_and, none_or, same_number, is_closed, keeps_depth, has_depth, is_return, jumps_within, is_row_within, is_subprogram, is_task, is_object, has_body, has_counts, has_entry, has_object, in_holder, is_entry_body_of, is_within, is_task_body, last_end, names_things}
+use Rattle.image.specs.Operations.{called, entry_of, given_by, goes_on, jump_target, taken_by}
+use Rattle.image.specs.Rules.{IsWellFormed, all_begun, all_nested, all_placed, begins_with, covers_places, has_effect, has_ends, where_ends, some_and, none_or, same_number, is_closed, keeps_depth, has_depth, is_return, jumps_within, is_row_within, is_subprogram, is_task, is_object, has_body, has_counts, has_entry, has_object, in_holder, is_entry_body_of, is_within, is_task_body, last_end, names_things}
 use Rattle.image.specs.declared.instruction.Instr.{Instr}
 use Rattle.image.specs.declared.instruction.Operation.{Operation}
+use Rattle.image.specs.declared.instruction.Operation.TheVariants.{Call, ProtectedCall, EntryCall}
 use Rattle.image.specs.declared.limits.TheConstants.{CEILING, PRIORITY, FRAME_WORDS, INSTRUCTIONS, SUBPROGRAMS}
 use Rattle.image.specs.declared.subprogram.Kind.{Kind}
 use Rattle.image.specs.declared.subprogram.Kind.TheVariants.{Plain, ProtectedProcedure, ProtectedFunction, EntryBody, TaskBody}
@@ -192,13 +193,13 @@ none_or-at o test x is e = subst (λ v. none_or v test ≡ true) is e
 pub eqb-same : (a b : ℕ) → nat_eq a b ≡ true → a ≡ b
 eqb-same a b e = ⊎_elim (λ h. h.1) (λ h. absurd (true≢false (sym e ∙ h.0))) (eqb_tells a b)
 
-pub depths-from : (i : Sections) (place d : ℕ) (o : Operation) (s : Subprogram) → keeps_depth i place (record { depth = d; operation = o }) s ≡ true → Depths i place d o s
-depths-from i place d o s e =
-    let a = both _ _ e in
-    let b = both _ _ a.1 in
-    let c = both _ _ b.1 in
-    let r = both _ _ c.1 in
-    let n = both _ _ r.1 in
+pub depths-from : (i : Sections) (place d : ℕ) (o : Operation) (s : Subprogram) → has_effect i o ≡ true → keeps_depth i place (record { depth = d; operation = o }) s ≡ true → Depths i place d o s
+depths-from i place d o s known e =
+    let b = both _ _ e in
+    let r = both _ _ b.1 in
+    let a = both _ _ (either _ _ r.1 known) in
+    let c = both _ _ a.1 in
+    let n = both _ _ c.1 in
     record {
       taken = leb-true _ _ a.0;
       before = leb-true _ _ b.0;
@@ -217,21 +218,86 @@ before_end place end_ lt = omega arith
 between : (a b c d : ℕ) → a ≡ c → a ≡ d → a ≤ b → b ≤ c → b ≡ d
 between a b c d e f le more = omega arith
 
+-- what an instruction calls is there
+effect_known : (i : Sections) (s : Subprogram) (o : Operation) → names_things i s o ≡ true → has_effect i o ≡ true
+effect_known i s (Call a) e = ap (λ o. some_and o (λ c. true)) (some_and-true (called i a) _ e).1
+effect_known i s (ProtectedCall a) e = ap (λ o. some_and o (λ c. true)) (some_and-true (called i a) _ e).1
+effect_known i s (EntryCall o) e = e
+effect_known i s _ e = refl
+
+last_end-next : (x y : Subprogram) (subprograms : List Subprogram) → last_end (x ∷ y ∷ subprograms) ≡ last_end (y ∷ subprograms)
+last_end-next x y subprograms =
+    let e : length (x ∷ y ∷ subprograms) - 1 ≡ suc (length (y ∷ subprograms) - 1) = omega arith in
+    ap (λ k. end_of (slice_get (x ∷ y ∷ subprograms) k)) e
+
+-- ends rise, so none is past the last
+pub ends_within : (subprograms : List Subprogram) (first n : ℕ) (s : Subprogram) → all_begun rises first subprograms ≡ true → slice_get subprograms n ≡ Some s → s.end_ ≤ last_end subprograms
+ends_within [] first n s all is = absurd (none-some s is)
+ends_within (x ∷ []) first zero s all is = subst (λ v. v.end_ ≤ x.end_) (same_Some x s is) (omega arith)
+ends_within (x ∷ []) first (suc n) s all is = absurd (none-some s is)
+ends_within (x ∷ y ∷ subprograms) first zero s all is =
+    let rest = (both (rises first x) _ all).1 in
+    let up : x.end_ < y.end_ = ltb-true x.end_ y.end_ (both (rises x.end_ y) _ rest).0 in
+    let on : y.end_ ≤ last_end (y ∷ subprograms) = ends_within (y ∷ subprograms) x.end_ 0 y rest refl in
+    let e = last_end-next x y subprograms in
+    let same : x.end_ ≡ s.end_ = ap (λ v. v.end_) (same_Some x s is) in
+    omega (arith, up, on, e, same)
+ends_within (x ∷ y ∷ subprograms) first (suc n) s all is =
+    let on : s.end_ ≤ last_end (y ∷ subprograms) = ends_within (y ∷ subprograms) x.end_ n s (both (rises first x) _ all).1 is in
+    let e = last_end-next x y subprograms in
+    omega (arith, on, e)
+
 module _ (i : Sections) (w : IsWellFormed i) where
+  -- the ends are in order, so that every test of places is asked
+  ends : has_ends i ≡ true
+  ends = (both (has_ends i) _ (both (has_counts i) _ w.tables).1).0
+
+  rising : all_begun rises 0 i.subprograms ≡ true
+  rising = (both (all_begun rises 0 i.subprograms) _ ends).0
+
+  last_is : last_end i.subprograms ≡ length i.instructions
+  last_is = eqb-same _ _ (both (all_begun rises 0 i.subprograms) _ ends).1
+
+  jumps : (all_placed (jumps_within i) 0 i.instructions && (list_all (is_closed i) i.subprograms && list_all (is_row_within i) i.rows)) ≡ true
+  jumps = either (has_ends i) _ (both (list_all covers_places i.rows) _ w.jumps).1 ends
+
+  all_named : all_placed (λ place x. in_holder i place (λ s. names_things i s x.operation)) 0 i.instructions ≡ true
+  all_named =
+      either (has_ends i) _ (both (where_ends i (all_placed (λ place x. in_holder i place (λ s. names_things i s x.operation)) 0 i.instructions)) _ w.named).0 ends
+
+  all_depths : (all_placed (λ place x. in_holder i place (keeps_depth i place x)) 0 i.instructions && (all_begun (λ first s. has_depth i first 0) 0 i.subprograms && list_all (λ r. has_depth i r.target 1) i.rows)) ≡ true
+  all_depths = either (has_ends i) _ w.depths ends
+
+  -- what an operation names is there
+  pub names : (place d : ℕ) (o : Operation) (s : Subprogram) → slice_get i.instructions place ≡ Some (record { depth = d; operation = o }) → holder i.subprograms place ≡ Some s → names_things i s o ≡ true
+  names place d o s is held =
+      some_and-at _ (λ s. names_things i s o) s held (placed-at (λ place x. in_holder i place (λ s. names_things i s x.operation)) i.instructions place _ all_named is)
+
+  -- an instruction stands at each place that a subprogram holds
+  held_inside : (place : ℕ) (s : Subprogram) → holder i.subprograms place ≡ Some s → (x : Instr) × (slice_get i.instructions place ≡ Some x)
+  held_inside place s held =
+      let lt = holder_within i.subprograms place s held in
+      let n = holder_number_of i.subprograms place s held in
+      let le = ends_within i.subprograms 0 n.0 s rising n.1 in
+      slice_get_inside i.instructions place (omega (arith, lt, le, last_is))
+
   pub depths : (place d : ℕ) (o : Operation) (s : Subprogram) → slice_get i.instructions place ≡ Some (record { depth = d; operation = o }) → holder i.subprograms place ≡ Some s → Depths i place d o s
   depths place d o s is held =
-      depths-from i place d o s (some_and-at _ (keeps_depth i place (record { depth = d; operation = o })) s held (placed-at _ i.instructions place _ (both _ _ w.rule_46).0 is))
+      depths-from i place d o s (effect_known i s o (names place d o s is held))
+      (some_and-at _ (keeps_depth i place (record { depth = d; operation = o })) s held (placed-at _ i.instructions place _ (both _ _ all_depths).0 is))
 
   -- the instruction at a place has this depth
-  pub has_depth-is : (place d : ℕ) → has_depth i place d ≡ true → (x : Instr) × (slice_get i.instructions place ≡ Some x) × (x.depth ≡ d)
-  has_depth-is place d e = let h = some_and-true _ _ e in (h.0, h.1, eqb-same _ _ h.2)
+  pub has_depth-is : (place d : ℕ) (s : Subprogram) → holder i.subprograms place ≡ Some s → has_depth i place d ≡ true → (x : Instr) × (slice_get i.instructions place ≡ Some x) × (x.depth ≡ d)
+  has_depth-is place d s held e =
+      let x = held_inside place s held in
+      (x.0, x.1, eqb-same _ _ (none_or-at _ (λ x. nat_eq x.depth d) x.0 x.1 e))
 
   -- the last instruction of a subprogram lets none follow
   pub not_last : (place : ℕ) (x : Instr) (s : Subprogram) → slice_get i.instructions place ≡ Some x → holder i.subprograms place ≡ Some s → goes_on x.operation ≡ true → place + 1 < s.end_
   not_last place x s is held on =
       let lt = holder_within i.subprograms place s held in
       let n = holder_number_of i.subprograms place s held in
-      let closed = some_and-true _ _ (list_all-at (is_closed i) i.subprograms n.0 s (both _ _ (both _ _ w.rule_44).1).0 n.1) in
+      let closed = some_and-true _ _ (list_all-at (is_closed i) i.subprograms n.0 s (both _ _ (both _ _ jumps).1).0 n.1) in
       ⊎_elim
       (λ h. h.1)
       (λ h.
@@ -243,7 +309,7 @@ module _ (i : Sections) (w : IsWellFormed i) where
   -- a jump stays with its holder
   pub jump_held : (place d : ℕ) (o : Operation) (s : Subprogram) (a : ℕ) → slice_get i.instructions place ≡ Some (record { depth = d; operation = o }) → holder i.subprograms place ≡ Some s → jump_target o ≡ Some a → holder i.subprograms a ≡ Some s
   jump_held place d o s a is held to =
-      let within = placed-at (jumps_within i) i.instructions place _ (both _ _ w.rule_44).0 is in
+      let within = placed-at (jumps_within i) i.instructions place _ (both _ _ jumps).0 is in
       holder_of_number i.subprograms place a s (same_holder_number i.subprograms place a (none_or-at _ _ a to within)) held
 
   -- where a subprogram begins
@@ -251,28 +317,28 @@ module _ (i : Sections) (w : IsWellFormed i) where
   first_place-is zero = refl
   first_place-is (suc n) = refl
 
-  rule_47 : (all_begun rises 0 i.subprograms ≡ true) × (all_placed (is_subprogram i) 0 i.subprograms ≡ true)
-  rule_47 = let a = both _ _ w.rule_47 in let b = both _ _ a.1 in let c = both _ _ b.1 in (b.0, (both _ _ c.1).0)
+  tables : (all_placed (is_subprogram i) 0 i.subprograms && (all_placed (is_object i) 0 i.objects && (list_all (is_task i) i.tasks && (begins_with predefined i.exceptions && (list_all is_name i.exceptions && (list_all is_label i.labels && (list_all (λ r. nat_le r.exception (length i.exceptions)) i.rows && all_nested i.rows))))))) ≡ true
+  tables = (both (has_ends i) _ (both (has_counts i) _ w.tables).1).1
 
-  pub rule_47_subprogram : (n : ℕ) (s : Subprogram) → slice_get i.subprograms n ≡ Some s → is_subprogram i n s ≡ true
-  rule_47_subprogram n s is = placed-at (is_subprogram i) i.subprograms n s rule_47.1 is
+  pub subprogram_is : (n : ℕ) (s : Subprogram) → slice_get i.subprograms n ≡ Some s → is_subprogram i n s ≡ true
+  subprogram_is n s is = placed-at (is_subprogram i) i.subprograms n s (both (all_placed (is_subprogram i) 0 i.subprograms) _ tables).0 is
 
-  pub rule_47_tasks : list_all (is_task i) i.tasks ≡ true
-  rule_47_tasks =
-      let a = (both (has_counts i) _ w.rule_47).1 in
-      let b = (both (all_begun rises 0 i.subprograms) _ a).1 in
-      let c = (both (nat_eq (last_end i.subprograms) (length i.instructions)) _ b).1 in
-      let d = (both (all_placed (is_subprogram i) 0 i.subprograms) _ c).1 in
-      (both _ _ (both (all_placed (is_object i) 0 i.objects) _ d).1).0
+  objects : all_placed (is_object i) 0 i.objects ≡ true
+  objects = (both (all_placed (is_object i) 0 i.objects) _ (both (all_placed (is_subprogram i) 0 i.subprograms) _ tables).1).0
 
-  pub rule_45_tasks : list_all (has_body i) i.tasks ≡ true
-  rule_45_tasks =
-      let a = (both (all_placed (λ place x. in_holder i place (λ s. names_things i s x.operation)) 0 i.instructions) _ w.rule_45).1 in
+  pub tasks : list_all (is_task i) i.tasks ≡ true
+  tasks =
+      let d = (both (all_placed (is_subprogram i) 0 i.subprograms) _ tables).1 in
+      (both (list_all (is_task i) i.tasks) _ (both (all_placed (is_object i) 0 i.objects) _ d).1).0
+
+  pub bodies : list_all (has_body i) i.tasks ≡ true
+  bodies =
+      let a = (both (where_ends i (all_placed (λ place x. in_holder i place (λ s. names_things i s x.operation)) 0 i.instructions)) _ w.named).1 in
       (both (list_all (has_entry i) i.objects) _ (both (list_all (has_object i) i.subprograms) _ a).1).1
 
   pub some_subprogram : 0 < length i.subprograms
   some_subprogram =
-      let a = (both (has_counts i) _ w.rule_47).0 in
+      let a = (both (has_counts i) _ w.tables).0 in
       let b = (both (is_within 1 (length i.instructions) INSTRUCTIONS) _ a).1 in
       leb-true _ _ (both (nat_le 1 (length i.subprograms)) _ (both (is_within 1 (length i.subprograms) SUBPROGRAMS) _ b).0).0
 
@@ -285,22 +351,8 @@ module _ (i : Sections) (w : IsWellFormed i) where
 
   pub body_kind : (t : ℕ) (x : Task) (s : Subprogram) → slice_get i.tasks t ≡ Some x → slice_get i.subprograms x.subprogram ≡ Some s → s.kind ≡ TaskBody
   body_kind t x s is called =
-      let a = (both (is_name x.name) _ (list_all-at (is_task i) i.tasks t x rule_47_tasks is)).1 in
+      let a = (both (is_name x.name) _ (list_all-at (is_task i) i.tasks t x tasks is)).1 in
       is_body s.kind (none_or-at _ (λ s. is_task_body s.kind) s called (both (nat_le x.priority PRIORITY) _ a).1)
-
-  -- what an operation names is there
-  pub names : (place d : ℕ) (o : Operation) (s : Subprogram) → slice_get i.instructions place ≡ Some (record { depth = d; operation = o }) → holder i.subprograms place ≡ Some s → names_things i s o ≡ true
-  names place d o s is held =
-      let all = (both (all_placed (λ place x. in_holder i place (λ s. names_things i s x.operation)) 0 i.instructions) _ w.rule_45).0 in
-      some_and-at _ (λ s. names_things i s o) s held (placed-at (λ place x. in_holder i place (λ s. names_things i s x.operation)) i.instructions place _ all is)
-
-  rule_47_objects : all_placed (is_object i) 0 i.objects ≡ true
-  rule_47_objects =
-      let a = (both (has_counts i) _ w.rule_47).1 in
-      let b = (both (all_begun rises 0 i.subprograms) _ a).1 in
-      let c = (both (nat_eq (last_end i.subprograms) (length i.instructions)) _ b).1 in
-      let d = (both (all_placed (is_subprogram i) 0 i.subprograms) _ c).1 in
-      (both (all_placed (is_object i) 0 i.objects) _ d).0
 
   is_entry_body : (o : ℕ) (kind : Kind) → is_entry_body_of o kind ≡ true → kind ≡ EntryBody o
   is_entry_body o (EntryBody p) e = ap EntryBody (eqb-same p o e)
@@ -317,27 +369,27 @@ module _ (i : Sections) (w : IsWellFormed i) where
   pub entry_kind : (o n : ℕ) (s : Subprogram) → entry_of (slice_get i.objects o) ≡ Some n → slice_get i.subprograms n ≡ Some s → s.kind ≡ EntryBody o
   entry_kind o n s is called =
       let r = entry_row (slice_get i.objects o) n is in
-      let own = (both _ _ (both (nat_le r.0.ceiling CEILING) _ (placed-at (is_object i) i.objects o r.0 rule_47_objects r.1)).1).0 in
+      let own = (both _ _ (both (nat_le r.0.ceiling CEILING) _ (placed-at (is_object i) i.objects o r.0 objects r.1)).1).0 in
       is_entry_body o s.kind (none_or-at _ (λ s. is_entry_body_of o s.kind) s called (none_or-at _ (λ n. none_or (slice_get i.subprograms n) (λ s. is_entry_body_of o s.kind)) n r.2 own))
 
   -- ceilings and base priorities
   pub ceiling_is : (o : ℕ) (row : ObjectRow) → slice_get i.objects o ≡ Some row → row.ceiling ≤ CEILING
-  ceiling_is o row is = leb-true _ _ (both (nat_le row.ceiling CEILING) _ (placed-at (is_object i) i.objects o row rule_47_objects is)).0
+  ceiling_is o row is = leb-true _ _ (both (nat_le row.ceiling CEILING) _ (placed-at (is_object i) i.objects o row objects is)).0
 
   pub priority_is : (t : ℕ) (x : Task) → slice_get i.tasks t ≡ Some x → x.priority ≤ PRIORITY
-  priority_is t x is = leb-true _ _ (both (nat_le x.priority PRIORITY) _ (both (is_name x.name) _ (list_all-at (is_task i) i.tasks t x rule_47_tasks is)).1).0
+  priority_is t x is = leb-true _ _ (both (nat_le x.priority PRIORITY) _ (both (is_name x.name) _ (list_all-at (is_task i) i.tasks t x tasks is)).1).0
 
   pub begin_held : (n : ℕ) (s : Subprogram) → slice_get i.subprograms n ≡ Some s → holder i.subprograms (first_place i n) ≡ Some s
-  begin_held n s is = subst (λ v. holder i.subprograms v ≡ Some s) (sym (first_place-is n)) (holds_begin i.subprograms 0 n s rule_47.0 is)
+  begin_held n s is = subst (λ v. holder i.subprograms v ≡ Some s) (sym (first_place-is n)) (holds_begin i.subprograms 0 n s rising is)
 
   pub begin_depth : (n : ℕ) (s : Subprogram) → slice_get i.subprograms n ≡ Some s → has_depth i (first_place i n) 0 ≡ true
   begin_depth n s is =
-      subst (λ v. has_depth i v 0 ≡ true) (sym (first_place-is n)) (all_begun-at (λ first s. has_depth i first 0) i.subprograms 0 n s (both _ _ (both _ _ w.rule_46).1).0 is)
+      subst (λ v. has_depth i v 0 ≡ true) (sym (first_place-is n)) (all_begun-at (λ first s. has_depth i first 0) i.subprograms 0 n s (both _ _ (both _ _ all_depths).1).0 is)
 
   -- the parameters are locals, and a frame has its words
   pub frame_words : (n : ℕ) (s : Subprogram) → slice_get i.subprograms n ≡ Some s → (s.parameters ≤ s.locals) × (s.locals + s.stack ≤ FRAME_WORDS)
   frame_words n s is =
-      let a = both _ _ (rule_47_subprogram n s is) in
+      let a = both _ _ (subprogram_is n s is) in
       (leb-true _ _ a.0, leb-true _ _ (both _ _ a.1).0)
 
   -- a handler's target lies in the subprogram of what its row covers
@@ -346,12 +398,12 @@ module _ (i : Sections) (w : IsWellFormed i) where
       let t = target_is (innermost i.rows place x) a is in
       let r = t.0 in
       let c = chosen i.rows place x r t.1 in
-      let within = both _ _ (list_all-at (is_row_within i) i.rows c.number r (both _ _ (both _ _ w.rule_44).1).1 c.is) in
-      let deep = list_all-at (λ r. has_depth i r.target 1) i.rows c.number r (both _ _ (both _ _ w.rule_46).1).1 c.is in
+      let within = both _ _ (list_all-at (is_row_within i) i.rows c.number r (both _ _ (both _ _ jumps).1).1 c.is) in
+      let deep = list_all-at (λ r. has_depth i r.target 1) i.rows c.number r (both _ _ (both _ _ all_depths).1).1 c.is in
       let low : r.start ≤ place = leb-true _ _ (both _ _ c.covered).0 in
       let high : place < r.end_ = ltb-true _ _ (both _ _ c.covered).1 in
-      let ends : number_at i.subprograms r.start ≡ number_at i.subprograms (r.end_ - 1) = same_holder_number i.subprograms r.start (r.end_ - 1) (both _ _ within.1).0 in
-      let goes : number_at i.subprograms r.start ≡ number_at i.subprograms r.target = same_holder_number i.subprograms r.start r.target (both _ _ within.1).1 in
+      let ends : number_at i.subprograms r.start ≡ number_at i.subprograms (r.end_ - 1) = same_holder_number i.subprograms r.start (r.end_ - 1) within.0 in
+      let goes : number_at i.subprograms r.start ≡ number_at i.subprograms r.target = same_holder_number i.subprograms r.start r.target within.1 in
       let first = number_at-le i.subprograms r.start place low in
       let last = number_at-le i.subprograms place (r.end_ - 1) (before_end place r.end_ high) in
       let same : number_at i.subprograms place ≡ number_at i.subprograms r.target = between _ _ _ _ ends goes first last in

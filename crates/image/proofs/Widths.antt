@@ -23,13 +23,14 @@ use Rattle.kernel.specs.PutLaws.{by_put}
 use Rattle.kernel.specs.Worlds.{Tasks, among, ending, reached, run, step, step_of}
 use Rattle.handlers.specs.Innermost.{handler_of}
 use Rattle.image.specs.Sections.{Sections}
+use Rattle.image.specs.ObjectTable.{ObjectRow}
 use Rattle.image.specs.Operations.{called, entry_called, entry_of, parameters_of, results_of}
 use Rattle.image.specs.Frames.{Words, Role, Inner, Opened, Serving, Frame, TaskState, arguments, locals_with, new_frame, object_words, own_object, region_words, shared_with, with_object_words, word_at, word_put, words_at, words_put}
 use Rattle.image.specs.Steps as steps
 use Rattle.image.specs.Steps.{Given, Raised, Results, Stepped, act, behaviour, caught, is_open, receives, removed, serving, serving_with, taken, unwind}
-use Rattle.image.specs.Code.{CodeWorld, body_frame, code, partition_of, start}
+use Rattle.image.specs.Code.{CodeWorld, body_frame, code, initial_words_of, partition_of, start}
 use Rattle.image.specs.Laws.{FitsAlways}
-use Rattle.image.specs.Width.{AllFit, Fits64, FrameFits, FramesFit, GivenFits, ImageFits, LinesFit, MayFit, RoleFits, SleepersFit, TaskFits, WordsFit}
+use Rattle.image.specs.Width.{AllFit, ConstantFits, ConstantsFit, ObjectsFit, Fits64, FrameFits, FramesFit, GivenFits, ImageFits, LinesFit, MayFit, RoleFits, SleepersFit, TaskFits, WordsFit}
 use Rattle.image.specs.declared.instruction.Instr.{Instr}
 use Rattle.image.specs.declared.instruction.Operation.{Operation}
 use Rattle.image.specs.declared.instruction.Operation.TheVariants as op
@@ -239,6 +240,18 @@ module _ (i : Sections) (m : Words) (words : WordsFit m) (x : ℕ) (number : Fit
   unwind_fits (c ∷ fs) f p q =
       caught_fits (handler_of i.rows f.place x) f (c ∷ fs) _ p q (removed_fits f.role c fs (unwind i m x c fs) p.role q.0 q.1 (unwind_fits fs c q.0 q.1))
 
+-- the words of an image by their numbers
+
+constant_at : (xs : List Instr) (n d : ℕ) (v : ℤ) → ConstantsFit xs → slice_get xs n ≡ Some (record { depth = d; operation = op.Push v }) → Fits64 v
+constant_at [] n d v fit is = absurd (none-some _ is)
+constant_at (x ∷ xs) zero d v fit is = subst (λ y. ConstantFits y.operation) (same_Some _ _ is) fit.0
+constant_at (x ∷ xs) (suc n) d v fit is = constant_at xs n d v fit.1 is
+
+objects_at : (os : List ObjectRow) → ObjectsFit os → (o : ℕ) → AllFit (initial_words_of (slice_get os o))
+objects_at [] fit o = tt
+objects_at (x ∷ os) fit zero = fit.0
+objects_at (x ∷ os) fit (suc o) = objects_at os fit.1 o
+
 module _ (i : Sections) (constants : ImageFits i) (schedule : List ScheduleLine) (heard : LinesFit schedule) (k : Kernel) (now : Fits64 k.now) (t : ℕ) (m : Words) (words : WordsFit m) (f : Frame) (here : FrameFits f) (fs : List Frame) (under : FramesFit fs) where
   breaks_fits : StepFits (steps.breaks i schedule k t m f fs)
   breaks_fits = record { words = words; task = record { frame = here; callers = under; raising = tt }; given = tt; timely = tt }
@@ -407,7 +420,7 @@ module _ (i : Sections) (constants : ImageFits i) (schedule : List ScheduleLine)
   unless_inside_fits go p = cond_fits (is_inside_any k t) _ _ (raised_fits _ refl) p
 
   operation_fits : (d : ℕ) (o : Operation) → slice_get i.instructions f.place ≡ Some (record { depth = d; operation = o }) → StepFits (steps.does_operation i schedule k t m f fs o)
-  operation_fits d (op.Push v) is = to_fits _ (v ∷ f.stack) (constants.constants f.place d v is, here.stack)
+  operation_fits d (op.Push v) is = to_fits _ (v ∷ f.stack) (constant_at i.instructions f.place d v constants.constants is, here.stack)
   operation_fits d op.Drop is = one_fits f.stack _ here.stack (λ x rest p q. to_fits _ rest q)
   operation_fits d op.Duplicate is = one_fits f.stack _ here.stack (λ x rest p q. to_fits _ (x ∷ x ∷ rest) (p, (p, q)))
   operation_fits d (op.LoadLocal a) is = loads_fits regions.Locals (pos a) f.stack here.stack
@@ -528,7 +541,7 @@ module _ (i : Sections) (constants : ImageFits i) (schedule : List ScheduleLine)
   start_holds : Holds (start i)
   start_holds =
       record {
-        words = record { plain = constants.plain; objects = constants.objects };
+        words = record { plain = constants.plain; objects = objects_at i.objects constants.objects };
         tasks = λ t. record { frame = body_fits _ (called i _); callers = tt; raising = tt };
         kernel = bounded_begin Anyone Fits64 (partition_of i) (λ t lt. tt) refl;
       }
@@ -537,7 +550,7 @@ module _ (i : Sections) (constants : ImageFits i) (schedule : List ScheduleLine)
   sleepers_fit [] all = tt
   sleepers_fit (s ∷ ss) all = (all.1, sleepers_fit ss all.2)
 
-pub fits_64_bits : FitsAlways
+pub fits_64_bits : (i : Sections) → ImageFits i → FitsAlways i
 fits_64_bits i constants schedule heard m =
     let h = run_holds i constants schedule heard m (start i) (start_holds i constants schedule heard) in
     record { words = h.words; tasks = h.tasks; now = h.kernel.now; sleepers = sleepers_fit i constants schedule heard (code i schedule m).kernel.sleepers h.kernel.sleepers }

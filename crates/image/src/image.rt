@@ -5,6 +5,7 @@ ghost use Rattle.image.specs.Refusals.{Refuses};
 ghost use Rattle.image.specs.Rules.{IsWellFormed};
 ghost use Rattle.image.specs.Sections.{ends_of};
 ghost use Rattle.image.specs.Taken.{IsTaken};
+ghost use Rattle.image.specs.Width.{ImageFits};
 
 use crate::fault::ImageFault;
 use crate::instruction::Instr;
@@ -126,6 +127,13 @@ impl Image {
     {
         &self.parts.instructions
     }
+
+    // Reads its constants and initial words: they are `i64`.
+    pub(crate) fn words_fit(&self)
+        ensures { ImageFits self.now }
+    {
+        self.parts.words_fit();
+    }
 }
 
 impl Parts {
@@ -135,19 +143,19 @@ impl Parts {
         ensures taken { OnOk result (IsTaken self.now) }
         ensures refused { IfErr result (Refuses self.now) }
     {
-        if !self.keeps_43() || !self.takes_operations() {
+        if !self.operands_in_range() || !self.takes_operations() {
             return Err(ImageFault::broken(43));
         }
-        if !self.keeps_44() {
+        if !self.jumps_stay_inside() {
             return Err(ImageFault::broken(44));
         }
-        if !self.keeps_45() {
+        if !self.named_things_exist() {
             return Err(ImageFault::broken(45));
         }
-        if !self.keeps_46() {
+        if !self.depths_agree() {
             return Err(ImageFault::broken(46));
         }
-        if !self.keeps_47() || !self.takes_tables() {
+        if !self.tables_agree() || !self.takes_tables() {
             return Err(ImageFault::broken(47));
         }
         Ok(())

@@ -4,7 +4,7 @@ ghost use Rattle.std.specs.Prelude.{◌||◌, ◌-◌, ◌^◌};
 ghost use Rattle.std.specs.List.{list_all};
 ghost use Rattle.image.specs.Operations.{called};
 ghost use Rattle.image.specs.Sections.{holder_number};
-ghost use Rattle.image.specs.Rules.{all_begun, all_placed, same_number, some_and, calls_inside, has_body, has_depth, has_entry, has_object, has_region, has_word, in_holder, is_closed, is_external, is_plain, is_row_within, jumps_within, keeps_43, keeps_44, keeps_45, keeps_46, keeps_depth, names_things, writes_region};
+ghost use Rattle.image.specs.Rules.{all_begun, all_placed, same_number, some_and, calls_inside, has_body, covers_places, has_depth, has_effect, has_entry, has_object, has_region, has_word, in_holder, is_closed, is_external, is_plain, is_row_within, jumps_within, operands_in_range, jumps_stay_inside, named_things_exist, depths_agree, keeps_depth, leaves_depth, where_ends, names_things, writes_region};
 
 use crate::instruction::{Instr, Operation, Region};
 use crate::object::Object;
@@ -66,16 +66,25 @@ impl Subprogram {
 }
 
 impl Parts {
-    pub(crate) fn keeps_43(&self) -> bool
-        ensures { result ≡ keeps_43 self.now }
+    pub(crate) fn operands_in_range(&self) -> bool
+        ensures { result ≡ operands_in_range self.now }
     {
         self.instructions.iter().all(|x| x.operation.has_operands())
     }
 
-    pub(crate) fn keeps_44(&self) -> bool
-        ensures { result ≡ keeps_44 self.now }
+    pub(crate) fn jumps_stay_inside(&self) -> bool
+        ensures { result ≡ jumps_stay_inside self.now }
     {
-        self.all_jumps_within() && self.all_closed() && self.all_rows_within()
+        self.all_cover_places()
+            && (!self.has_ends()
+                || self.all_jumps_within() && self.all_closed() && self.all_rows_within())
+    }
+
+    // Whether no handler's region is empty.
+    fn all_cover_places(&self) -> bool
+        ensures { result ≡ list_all covers_places self.now.rows }
+    {
+        self.rows.iter().all(|r| r.start < r.end_)
     }
 
     fn all_jumps_within(&self) -> bool
@@ -134,15 +143,14 @@ impl Parts {
         ensures { result ≡ is_row_within self.now r.now }
     {
         let start = usize::from(r.start);
-        r.start < r.end_
-            && self.share_holder(start, usize::from(r.end_ - 1))
-            && self.share_holder(start, usize::from(r.target))
+        let last = usize::from(r.end_.saturating_sub(1));
+        self.share_holder(start, last) && self.share_holder(start, usize::from(r.target))
     }
 
-    pub(crate) fn keeps_45(&self) -> bool
-        ensures { result ≡ keeps_45 self.now }
+    pub(crate) fn named_things_exist(&self) -> bool
+        ensures { result ≡ named_things_exist self.now }
     {
-        self.all_name_things()
+        (!self.has_ends() || self.all_name_things())
             && self.all_have_objects()
             && self.all_have_entries()
             && self.all_have_bodies()
@@ -262,10 +270,11 @@ impl Parts {
         }
     }
 
-    pub(crate) fn keeps_46(&self) -> bool
-        ensures { result ≡ keeps_46 self.now }
+    pub(crate) fn depths_agree(&self) -> bool
+        ensures { result ≡ depths_agree self.now }
     {
-        self.all_keep_depth() && self.begins_empty() && self.all_targets_at_one()
+        !self.has_ends()
+            || self.all_keep_depth() && self.begins_empty() && self.all_targets_at_one()
     }
 
     fn all_keep_depth(&self) -> bool
@@ -314,14 +323,38 @@ impl Parts {
     fn has_depth(&self, place: usize, depth: usize) -> bool
         ensures { result ≡ has_depth self.now place depth }
     {
-        self.instructions
-            .get(place)
-            .is_some_and(|x| usize::from(x.depth) == depth)
+        match self.instructions.get(place) {
+            None => true,
+            Some(x) => usize::from(x.depth) == depth,
+        }
     }
 
     fn keeps_depth(&self, place: usize, x: &Instr, s: &Subprogram) -> bool
         requires { place < 2 ^ 64 - 1 }
         ensures { result ≡ keeps_depth self.now place x.now s.now }
+    {
+        x.depth <= s.stack
+            && (!x.operation.is_return() || x.depth == s.results)
+            && (!self.has_effect(&x.operation) || self.leaves_depth(place, x, s))
+    }
+
+    // Whether it is known what the operation takes and gives: what it calls is there.
+    fn has_effect(&self, operation: &Operation) -> bool
+        ensures { result ≡ has_effect self.now operation.now }
+    {
+        match operation {
+            Operation::Call(number) | Operation::ProtectedCall(number) => {
+                self.called(*number).is_some()
+            }
+            Operation::EntryCall(object) => self.entry_called(*object).is_some(),
+            _ => true,
+        }
+    }
+
+    // Whether the operands are there, and what may follow has the depth that is left.
+    fn leaves_depth(&self, place: usize, x: &Instr, s: &Subprogram) -> bool
+        requires { place < 2 ^ 64 - 1 }
+        ensures { result ≡ leaves_depth self.now place x.now s.now }
     {
         let depth = usize::from(x.depth);
         let taken = self.taken_by(s.results, &x.operation);
@@ -329,9 +362,7 @@ impl Parts {
             return false;
         }
         let after = depth - taken + self.given_by(&x.operation);
-        x.depth <= s.stack
-            && after <= usize::from(s.stack)
-            && (!x.operation.is_return() || x.depth == s.results)
+        after <= usize::from(s.stack)
             && (!x.operation.goes_on() || self.has_depth(place + 1, after))
             && match x.operation.jump_target() {
                 None => true,

@@ -1,6 +1,7 @@
 //! The laws of images and their runs: each is what a function without work ensures.
 ghost use Rattle.image.specs.Laws.{BeginsSound, FitsAlways, FourInEveryWorld, FramesHaveRoom, KernelKept, LinesGrowOn, LinkedInEveryWorld, OutcomeStays, SoundToday, StepsSound};
 
+use crate::image::Image;
 use kernel::laws::{
     begins_kept, entry_opens, four_statements_hold, kept_by_every_effect, left_unmoved, lines_grow,
     reaches_callers,
@@ -80,8 +81,10 @@ pub fn linked_in_every_world()
     four_statements_hold();
 }
 
-/// Words, now and wake times stay in 64 bits in every world of an image whose constants and initial words are, under a schedule whose
-/// values are.
-pub fn fits_64_bits()
-    ensures { FitsAlways }
-{}
+/// Words, now and wake times are in 64 bits in every world of an image, under every schedule whose values are, since an image's
+/// constants and initial words are `i64`. It reads them and does nothing else.
+pub fn fits_64_bits(image: &Image)
+    ensures { FitsAlways image.now }
+{
+    image.words_fit();
+}

@@ -2,7 +2,7 @@
 ghost use Rattle.std.specs.Prelude.{◌≡◌, ◌+◌, ◌≤◌, ◌&&◌, ◌||◌, length, nat_eq, nat_le, nat_lt, not, slice_get, sum_by};
 ghost use Rattle.std.specs.List.{list_all};
 ghost use Rattle.image.specs.Names.{is_label, is_name, predefined};
-ghost use Rattle.image.specs.Rules.{all_begun, all_nested, all_placed, are_nested, begins_with, has_counts, is_barrier, is_closed_barrier, is_entry_body_of, is_entry_of_object, is_object, is_subprogram, is_task, is_task_body, keeps_47, last_end, none_or};
+ghost use Rattle.image.specs.Rules.{all_begun, all_nested, all_placed, are_nested, begins_with, has_counts, has_ends, is_barrier, is_closed_barrier, is_entry_body_of, is_entry_of_object, is_object, is_subprogram, is_task, is_task_body, tables_agree, last_end, none_or};
 
 use crate::limits::{
     CEILING, EXCEPTIONS, FRAME_WORDS, INSTRUCTIONS, LABELS, OBJECTS, PRIORITY, ROWS, SUBPROGRAMS,
@@ -43,12 +43,11 @@ fn are_nested(r: &Row, q: &Row) -> bool
 }
 
 impl Parts {
-    pub(crate) fn keeps_47(&self) -> bool
-        ensures { result ≡ keeps_47 self.now }
+    pub(crate) fn tables_agree(&self) -> bool
+        ensures { result ≡ tables_agree self.now }
     {
         self.has_counts()
-            && self.ends_increase()
-            && self.last_end() == self.instructions.len()
+            && self.has_ends()
             && self.all_subprograms()
             && self.all_objects()
             && self.all_tasks()
@@ -91,6 +90,13 @@ impl Parts {
             };
         }
         true
+    }
+
+    // Whether the ends of subprograms are in order.
+    pub(crate) fn has_ends(&self) -> bool
+        ensures { result ≡ has_ends self.now }
+    {
+        self.ends_increase() && self.last_end() == self.instructions.len()
     }
 
     fn ends_increase(&self) -> bool

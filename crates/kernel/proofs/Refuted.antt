@@ -2,13 +2,13 @@
 use Rattle.std.proofs.Common.{◌≡◌, ℕ, ℤ, List, [], ◌∷◌, ◌++◌, Option, Some, None, true, false, refl, sym, ap, ◌∙◌, ⊎_elim}
 use Rattle.std.specs.Prelude.{pos, int_lt, nat_lt, nat_le, if◌then◌else◌}
 use Rattle.base.specs.Limits.{priorities}
-use Rattle.kernel.specs.State.{Kernel, Sleeper, IsReady, Writes, put, active, is_object_open}
-use Rattle.kernel.specs.Dispatching.{highest, runs_from, dispatch}
-use Rattle.kernel.specs.Clock.{wakes_due}
-use Rattle.kernel.specs.Effects.{Opens, Queues, Ends, Finishes, Delays, Refusal, SameObject, AboveCeiling, call_refusal, with_actions, outer_of, effect, after, begin}
+use Rattle.kernel.specs.State.{Action, Ended, Kernel, Line, Partition, Sleeper, IsReady, Reads, Serves, Writes, object_of, put, active, is_object_open, raised}
+use Rattle.kernel.specs.Dispatching.{becomes_ready, highest, leaves, preempted, runs_from, dispatch}
+use Rattle.kernel.specs.Clock.{clock, time_moves, wakes_due}
+use Rattle.kernel.specs.Effects.{Closes, HandsBack, Opens, Quiet, Queues, Says, TakesOver, Views, Ends, Finishes, Delays, Refusal, SameObject, AboveCeiling, call_refusal, with_actions, outer_of, effect, activated, after, begin, blank, ending_of}
 use Rattle.kernel.specs.Exclusion.{FourStatements}
 use Rattle.kernel.specs.PutLaws.{by_put}
-use Rattle.kernel.proofs.Examples.{Level, does, shown, runs, at, mailbox, nested, outer_action, sleepers}
+use Rattle.kernel.proofs.Examples.{Level, does, shown, runs, at, mailbox, nested, one_of, outer_action, program, sleepers}
 
 abbrev first_tasks : List Level → List ℕ
 first_tasks [] = []
@@ -20,6 +20,9 @@ differ xs ys h t now e ne = ne (ap (λ v. first_tasks v.ready) e)
 
 not_both : (x y : Option ℕ) → x ≡ Some 0 → y ≡ Some 1 → x ≡ y → ⊥
 not_both x y e f same = cc
+
+nobody_not : {n : ℕ} (x y : Option ℕ) → x ≡ None → y ≡ Some n → x ≡ y → ⊥
+nobody_not x y e f same = cc
 
 -- A preempted task to the tail of its list: the task inside the outer action falls behind one that is outside
 
@@ -139,3 +142,140 @@ stays_runs = refl
 
 in_place_refuted : first_runs.running ≡ (after 0 (Delays (pos 0)) first_runs).running → ⊥
 in_place_refuted e = not_both _ _ stays_runs yields_runs e
+
+-- A preemption after which nobody runs: the higher task that is ready must run
+
+nobody_preempts : (preempted 0 inner_ends).running ≡ None
+nobody_preempts = refl
+
+higher_preempts : (dispatch inner_ends).running ≡ Some 1
+higher_preempts = refl
+
+nobody_refuted : (preempted 0 inner_ends).running ≡ (dispatch inner_ends).running → ⊥
+nobody_refuted e = nobody_not _ _ nobody_preempts higher_preempts e
+
+-- A quiet step, or a line, after which the next task of its priority has its turn
+
+abbrev yields : ℕ → Kernel → Kernel
+yields t k = becomes_ready t (leaves t k)
+
+quiet_runs : (after 0 Quiet first_runs).running ≡ Some 0
+quiet_runs = refl
+
+line_runs : (after 0 (Says [] (pos 1)) first_runs).running ≡ Some 0
+line_runs = refl
+
+next_runs : (clock (dispatch (yields 0 first_runs))).running ≡ Some 1
+next_runs = refl
+
+quiet_refuted : (after 0 Quiet first_runs).running ≡ (clock (dispatch (yields 0 first_runs))).running → ⊥
+quiet_refuted e = not_both _ _ quiet_runs next_runs e
+
+line_refuted : (after 0 (Says [] (pos 1)) first_runs).running ≡ (clock (dispatch (yields 0 (effect 0 (Says [] (pos 1)) first_runs)))).running → ⊥
+line_refuted e = let f : (clock (dispatch (yields 0 (effect 0 (Says [] (pos 1)) first_runs)))).running ≡ Some 1 = refl in not_both _ _ line_runs f e
+
+-- A line before those that were written earlier
+
+abbrev tasks_of_lines : List Line → List ℕ
+tasks_of_lines [] = []
+tasks_of_lines (l ∷ ls) = l.task ∷ tasks_of_lines ls
+
+abbrev two_lines : Kernel
+two_lines = does (Says [] (pos 1) ∷ Finishes ∷ Says [] (pos 1) ∷ []) (begin sleepers)
+
+abbrev put_first : Line → Kernel → Kernel
+put_first line k = record k { lines = line ∷ k.lines }
+
+in_order_of_time : tasks_of_lines two_lines.lines ≡ 3 ∷ 0 ∷ []
+in_order_of_time = refl
+
+latest_first : tasks_of_lines (put_first (record { time = pos 0; task = 0; label = []; value = pos 1 }) (does (Says [] (pos 1) ∷ []) (begin sleepers))).lines ≡ 0 ∷ 3 ∷ []
+latest_first = refl
+
+-- The active priority as the ceiling of the innermost action alone: it would fall inside an outer action
+
+abbrev innermost_ceiling : (ℕ → ℕ) → ℕ → List Action → ℕ
+innermost_ceiling ceiling base [] = base
+innermost_ceiling ceiling base (a ∷ outer) = ceiling (object_of a)
+
+abbrev lower_inside : ℕ → ℕ
+lower_inside = one_of (10 ∷ 20 ∷ []) 0
+
+highest_counts : raised lower_inside 5 (Writes 0 ∷ Writes 1 ∷ []) ≡ 20
+highest_counts = refl
+
+innermost_alone : innermost_ceiling lower_inside 5 (Writes 0 ∷ Writes 1 ∷ []) ≡ 10
+innermost_alone = refl
+
+innermost_refuted : innermost_ceiling lower_inside 5 (Writes 0 ∷ Writes 1 ∷ []) ≡ raised lower_inside 5 (Writes 0 ∷ Writes 1 ∷ []) → ⊥
+innermost_refuted e = let f : 10 ≡ 20 = sym innermost_alone ∙ (e ∙ highest_counts) in cc
+
+-- A function that serves, or forgets the actions around its own; an open barrier that hands the queued caller back unserved
+
+function_closes : ending_of true (Reads 0 ∷ []) (λ o. Some 1) ≡ Closes
+function_closes = refl
+
+procedure_serves : ending_of true (Writes 0 ∷ []) (λ o. Some 1) ≡ TakesOver 0 1
+procedure_serves = refl
+
+function_serves_refuted : ending_of true (Reads 0 ∷ []) (λ o. Some 1) ≡ ending_of true (Writes 0 ∷ []) (λ o. Some 1) → ⊥
+function_serves_refuted e = let f : Closes ≡ TakesOver 0 1 = sym function_closes ∙ (e ∙ procedure_serves) in cc
+
+handed_back_refuted : ending_of true (Writes 0 ∷ []) (λ o. Some 1) ≡ HandsBack 1 → ⊥
+handed_back_refuted e = let f : TakesOver 0 1 ≡ HandsBack 1 = sym procedure_serves ∙ e in cc
+
+views_inside : (effect 0 (Views 0) inside_high).actions 0 ≡ Reads 0 ∷ inside_high.actions 0
+views_inside = refl
+
+outer_forgotten_refuted : (effect 0 (Views 0) inside_high).actions 0 ≡ Reads 0 ∷ [] → ⊥
+outer_forgotten_refuted e = let f : Reads 0 ∷ Writes 1 ∷ Writes 2 ∷ [] ≡ Reads 0 ∷ [] = e in cc
+
+-- A queued call that stays queued while it is served: the next end of an action would serve it again
+
+abbrev still_queued : Kernel
+still_queued = record opener_raises { actions = put 1 (Serves 0 0 ∷ []) opener_raises.actions }
+
+taken_out : (after 1 (Ends true) opener_raises).queued 0 ≡ None
+taken_out = refl
+
+queued_again : still_queued.queued 0 ≡ Some 0
+queued_again = refl
+
+queued_again_refuted : still_queued.queued 0 ≡ (after 1 (Ends true) opener_raises).queued 0 → ⊥
+queued_again_refuted e = nobody_not _ _ taken_out queued_again (sym e)
+
+-- A clock after which nobody is dispatched; one that moves while a task runs; a start without it
+
+abbrev undispatched : Kernel
+undispatched = wakes_due all_sleep.sleepers (record all_sleep { now = pos 7; sleepers = [] })
+
+nobody_after_clock : undispatched.running ≡ None
+nobody_after_clock = refl
+
+first_due_runs : (clock all_sleep).running ≡ Some 1
+first_due_runs = refl
+
+undispatched_refuted : undispatched.running ≡ (clock all_sleep).running → ⊥
+undispatched_refuted e = nobody_not _ _ nobody_after_clock first_due_runs e
+
+stands_while_running : (clock two_sleep).now ≡ pos 0
+stands_while_running = refl
+
+moved_while_running : (time_moves two_sleep.sleepers two_sleep).now ≡ pos 7
+moved_while_running = refl
+
+moved_refuted : (time_moves two_sleep.sleepers two_sleep).now ≡ (clock two_sleep).now → ⊥
+moved_refuted e = let f : pos 7 ≡ pos 0 = sym moved_while_running ∙ (e ∙ stands_while_running) in cc
+
+-- without tasks the start is over at once
+abbrev no_tasks : Partition
+no_tasks = program 0 0 [] []
+
+over_at_once : (begin no_tasks).outcome ≡ Some Ended
+over_at_once = refl
+
+never_over : (dispatch (activated 0 (blank no_tasks))).outcome ≡ None
+never_over = refl
+
+start_refuted : (dispatch (activated 0 (blank no_tasks))).outcome ≡ (begin no_tasks).outcome → ⊥
+start_refuted e = let f : None ≡ Some Ended = sym never_over ∙ (e ∙ over_at_once) in cc

@@ -14,7 +14,7 @@ use Rattle.image.specs.Operations.{called}
 use Rattle.image.specs.Code.{body_frame, body_of, initial_state, partition_of, priority_of, start}
 use Rattle.image.specs.Frames.{Frame, Inner, TaskState}
 use Rattle.image.specs.Laws.{BeginsSound, FramesHaveRoom, HasRoom}
-use Rattle.image.specs.Rules.{IsWellFormed, all_begun, all_placed, has_counts, is_object, is_subprogram, is_task, last_end}
+use Rattle.image.specs.Rules.{IsWellFormed, all_placed, has_counts, has_ends, is_object, is_subprogram, is_task}
 use Rattle.image.specs.Names.{is_name}
 use Rattle.image.specs.declared.limits.TheConstants.{PRIORITY}
 use Rattle.std.specs.List.{list_all}
@@ -97,8 +97,7 @@ tasks_right i whole =
     and-left (list_all (is_task i) i.tasks) _
     (and-right (all_placed (is_object i) 0 i.objects) _
     (and-right (all_placed (is_subprogram i) 0 i.subprograms) _
-    (and-right (nat_eq (last_end i.subprograms) (length i.instructions)) _
-    (and-right (all_begun (λ first s. nat_lt first s.end_) 0 i.subprograms) _ (and-right (has_counts i) _ whole.rule_47)))))
+    (and-right (has_ends i) _ (and-right (has_counts i) _ whole.tables))))
 
 -- the machine at its start stands for the start of code
 pub stands_start : (i : Sections) (h : Held) → IsWellFormed i → IsTaken i → h ≡ record { image = i; state = initial_state i 0; time = pos 0; outcome = None } → StandsFor h (start i)

@@ -1,9 +1,9 @@
 -- A frame of a sound task is ready for its instruction.
-use Rattle.std.proofs.Common.{◌≡◌, ℕ, zero, suc, ◌+◌, ◌-◌, ◌<◌, ◌≤◌, List, [], ◌∷◌, length, Bool, true, false, ◌&&◌, Option, Some, None, option_map, slice_get, nat_eq, nat_lt, refl, sym, ap, subst, ◌∙◌, add-zero, zero-add, arith}
+use Rattle.std.proofs.Common.{◌≡◌, ℕ, zero, suc, ◌+◌, ◌-◌, ◌<◌, ◌≤◌, List, [], ◌∷◌, length, Bool, true, false, ◌&&◌, ◌||◌, not, Option, Some, None, option_map, slice_get, nat_eq, nat_lt, refl, sym, ap, subst, ◌∙◌, add-zero, zero-add, arith}
 use Rattle.std.proofs.lemmas.Bool.{leb-true}
 use Rattle.image.specs.Sections.{Sections, holder}
 use Rattle.image.specs.Operations.{called, entry_called, entry_of, given_by, goes_on, parameters_of, results_of, taken_by}
-use Rattle.image.specs.Rules.{IsWellFormed, all_begun, all_placed, has_counts, in_holder, is_subprogram, last_end, names_things, some_and}
+use Rattle.image.specs.Rules.{IsWellFormed, all_begun, all_placed, has_counts, has_ends, in_holder, is_subprogram, names_things, some_and}
 use Rattle.image.specs.Taken.{IsTaken}
 use Rattle.image.specs.Frames.{Frame, Inner, TaskState}
 use Rattle.image.specs.Shape.{AreBelow, IsGoing, IsGoingOrPlaced, IsSound, IsWaiting, Stands, callee}
@@ -52,9 +52,17 @@ some_and-some : {X : Type 0} (o : Option X) (test : X → Bool) → some_and o t
 some_and-some None test e = absurd (false_true e)
 some_and-some (Some x) test e = (x, refl)
 
+-- the ends are in order, so what instructions name is tested
+all_named : (i : Sections) → IsWellFormed i → all_placed (λ p y. in_holder i p (λ h. names_things i h y.operation)) 0 i.instructions ≡ true
+all_named i whole = asked (has_ends i) _ (and-left (has_ends i) _ (and-right (has_counts i) _ whole.tables)) (and-left _ _ whole.named)
+  where
+    asked : (a b : Bool) → a ≡ true → (not a || b) ≡ true → b ≡ true
+    asked true b e f = f
+    asked false b e f = absurd (false_true e)
+
 module _ (i : Sections) (whole : IsWellFormed i) where
   few_instructions : length i.instructions ≤ 65535
-  few_instructions = leb-true _ _ (and-right _ _ (and-left _ _ (and-left _ _ whole.rule_47)))
+  few_instructions = leb-true _ _ (and-right _ _ (and-left _ _ (and-left _ _ whole.tables)))
 
   -- an instruction that is there has a place with one after it
   pub place_fits : (place : ℕ) (x : Instr) → slice_get i.instructions place ≡ Some x → place < 65535
@@ -62,7 +70,7 @@ module _ (i : Sections) (whole : IsWellFormed i) where
 
   subprogram_fits : (n : ℕ) (c : Subprogram) → called i n ≡ Some c → (c.parameters ≤ c.locals) × (c.locals + c.stack ≤ 512)
   subprogram_fits n c e =
-      let all : all_placed (is_subprogram i) 0 i.subprograms ≡ true = and-left (all_placed (is_subprogram i) 0 i.subprograms) _ (and-right (nat_eq (last_end i.subprograms) (length i.instructions)) _ (and-right (all_begun (λ first s. nat_lt first s.end_) 0 i.subprograms) _ (and-right (has_counts i) _ whole.rule_47))) in
+      let all : all_placed (is_subprogram i) 0 i.subprograms ≡ true = and-left (all_placed (is_subprogram i) 0 i.subprograms) _ (and-right (has_ends i) _ (and-right (has_counts i) _ whole.tables)) in
       let here : is_subprogram i (0 + n) c ≡ true = all_placed-at (is_subprogram i) 0 i.subprograms n c all e in
       (leb-true _ _ (and-left _ _ here), leb-true _ _ (and-left _ _ (and-right _ _ here)))
 
@@ -74,7 +82,7 @@ module _ (i : Sections) (whole : IsWellFormed i) where
 
   named : (place : ℕ) (s : Subprogram) (x : Instr) → holder i.subprograms place ≡ Some s → slice_get i.instructions place ≡ Some x → names_things i s x.operation ≡ true
   named place s x within there =
-      let all : all_placed (λ p y. in_holder i p (λ h. names_things i h y.operation)) 0 i.instructions ≡ true = and-left _ _ whole.rule_45 in
+      let all : all_placed (λ p y. in_holder i p (λ h. names_things i h y.operation)) 0 i.instructions ≡ true = all_named i whole in
       let here : in_holder i (0 + place) (λ h. names_things i h x.operation) ≡ true = all_placed-at (λ p y. in_holder i p (λ h. names_things i h y.operation)) 0 i.instructions place x all there in
       let at : in_holder i place (λ h. names_things i h x.operation) ≡ true = subst (λ p. in_holder i p (λ h. names_things i h x.operation) ≡ true) (zero-add place) here in
       subst (λ o. some_and o (λ h. names_things i h x.operation) ≡ true) within at

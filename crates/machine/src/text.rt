@@ -2,7 +2,7 @@
 ghost use Rattle.std.specs.Prelude.{◌≡◌, ◌+◌, ◌-◌, ◌≤◌, ◌++◌, length, slice_get};
 ghost use Rattle.std.specs.Fmt.{signed_decimal};
 ghost use Rattle.arrayvec.specs.ArrayVec.{array_vec_len};
-ghost use Rattle.image.specs.Texts.{name_of, names_of, text_at};
+ghost use Rattle.image.specs.Texts.{name_of, names_of, text_at, text_from_one};
 ghost use Rattle.kernel.specs.Text.{last_line, line_text, outcome_text};
 ghost use Rattle.machine.specs.Outcomes.{line_of, ending_of, time_of};
 
@@ -39,6 +39,17 @@ fn text_at(texts: &[Text], number: usize) -> &[u8]
     match texts.get(number) {
         None => &[],
         Some(text) => text.as_bytes(),
+    }
+}
+
+// The text with this number, counted from 1; number 0 is none.
+fn text_from_one(texts: &[Text], number: u16) -> &[u8]
+    ensures same { result.now ≡ text_from_one texts.now number }
+    ensures short { length result.now ≤ 40 }
+{
+    match number.checked_sub(1) {
+        None => &[],
+        Some(number) => text_at(texts, usize::from(number)),
     }
 }
 
@@ -88,9 +99,8 @@ pub(crate) fn last_line(image: &Image, outcome: &Outcome) -> LineText
             task,
             time,
         } => {
-            let number = usize::from(exception.saturating_sub(1));
             put(&mut text, b"unhandled ");
-            put(&mut text, text_at(image.exceptions(), number));
+            put(&mut text, text_from_one(image.exceptions(), *exception));
             put(&mut text, b" in ");
             put(&mut text, name_at(image.tasks(), usize::from(*task)));
             time

@@ -1,5 +1,5 @@
 -- Programs worked by computation: what their runs write.
-use Rattle.std.proofs.Common.{◌≡◌, ℕ, zero, suc, ◌+◌, List, [], ◌∷◌, Option, Some, None, refl}
+use Rattle.std.proofs.Common.{◌≡◌, ℕ, zero, suc, ◌+◌, List, [], ◌∷◌, Bool, Option, Some, None, false, true, refl}
 use Rattle.std.specs.Prelude.{pos, codes}
 use Rattle.std.specs.Fmt.{digits}
 use Rattle.ada_tree.specs.declared.expression.Identifier.{Identifier}
@@ -12,7 +12,9 @@ use Rattle.ada_tree.specs.declared.program.MainStatement.TheVariants as main
 use Rattle.ada_tree.specs.ExpressionTree.{ExprTree, Number, Parenthesized, Unary, Binary, NoSelectors, MoreSelectors, Arguments, MoreArguments, NoArguments, Value, Text}
 use Rattle.ada_tree.specs.StatementTree.{StmtTree, Null, Call, Block, stmts_of, HandlerTrees, NoHandlers, MoreHandlers}
 use Rattle.ada_tree.specs.ProgramTree.{ProgramTree, PackageTree, BodyItemTree, SubprogramBody, OfSubprogram}
+use Rattle.meaning.specs.Programs.{exception_name}
 use Rattle.meaning.specs.Source.{source_text}
+use Rattle.meaning.specs.SourceSteps.{covers}
 
 -- Trees without places
 
@@ -203,3 +205,17 @@ first_line_text = refl
 over_text : source_text sums [] 1000 ≡ codes "0 MAIN a 14\n0 MAIN b 3\nended at 0\n"
 unfolding digits
 over_text = refl
+
+-- Exception 0 is none: it has no name, and no handler of a name covers it
+
+none_is_unnamed : exception_name 0 ≡ []
+none_is_unnamed = refl
+
+first_is_named : exception_name 1 ≡ codes "CONSTRAINT_ERROR"
+first_is_named = refl
+
+none_is_uncovered : covers 0 (choice.Exception (named (codes "CONSTRAINT_ERROR"))) ≡ false
+none_is_uncovered = refl
+
+first_is_covered : covers 1 (choice.Exception (named (codes "CONSTRAINT_ERROR"))) ≡ true
+first_is_covered = refl

@@ -1,10 +1,10 @@
 -- What a program declares: its procedures, its tasks, and the names of tasks and exceptions.
-use Rattle.std.specs.Prelude.{ℕ, ◌-◌, List, [], ◌∷◌, Option, Some, None, bytes_eq, slice_get, if◌then◌else◌}
+use Rattle.std.specs.Prelude.{ℕ, List, [], ◌∷◌, Option, Some, None, bytes_eq, slice_get, if◌then◌else◌}
 use Rattle.base.specs.Exceptions.{name_of}
 use Rattle.base.specs.declared.exceptions.PredefinedException.TheVariants.{ConstraintError, ProgramError, StorageError, TaskingError}
 use Rattle.kernel.specs.State.{Partition}
 use Rattle.kernel.specs.Text.{Names}
-use Rattle.image.specs.Texts.{text_at}
+use Rattle.image.specs.Texts.{text_at, text_from_one}
 use Rattle.ada_tree.specs.ProgramTree.{ProgramTree, PackageTree, BodyTree, BodyItemTree, SubprogramBody}
 
 -- the body of a procedure, by its name (RM 6.3)
@@ -35,12 +35,12 @@ task_names p = p.main.name.name ∷ []
 abbrev pub partition_of : ProgramTree → Partition
 partition_of p = record { tasks = 1; objects = 0; base = λ t. number_or_zero (slice_get (default_priority ∷ []) t); ceiling = λ o. 0 }
 
--- the predefined exceptions alone, numbered from 1 (RM 11.1)
+-- the predefined exceptions alone, numbered from 1; number 0 is none (RM 11.1)
 abbrev pub exception_names : List (List ℕ)
 exception_names = name_of ConstraintError ∷ name_of ProgramError ∷ name_of StorageError ∷ name_of TaskingError ∷ []
 
 abbrev pub exception_name : ℕ → List ℕ
-exception_name x = text_at exception_names (x - 1)
+exception_name x = text_from_one exception_names x
 
 abbrev pub source_names : ProgramTree → Names
 source_names p = record { task = λ t. text_at (task_names p) t; exception = exception_name }
