@@ -1,10 +1,12 @@
-//! Tests that cross crates: spelling, grammar, and the whole program over files and streams in memory.
+//! Tests that cross crates: spelling, grammar, images, and the whole program over files and streams in memory.
 #![tactic(auto)]
 
 ghost use Rattle.std.specs.Prelude.{◌≡◌};
 
 #[cfg(test)]
 mod grammar;
+#[cfg(test)]
+mod images;
 #[cfg(test)]
 mod memory;
 #[cfg(test)]

@@ -16,7 +16,5 @@ mod table_rules;
 mod tables;
 mod taken;
 pub mod task;
-#[cfg(test)]
-mod tests;
 pub mod text;
 mod word_ranges;

@@ -1,10 +1,10 @@
 //! Images through `Image::build`: one that is built, and some that break one rule.
-use crate::image::Image;
-use crate::instruction::{Instr, Operation};
-use crate::parts::Parts;
-use crate::subprogram::{Kind, Subprogram};
-use crate::task::Task;
-use crate::text::Text;
+use image::image::Image;
+use image::instruction::{Instr, Operation};
+use image::parts::Parts;
+use image::subprogram::{Kind, Subprogram};
+use image::task::Task;
+use image::text::Text;
 use std::alloc::Global;
 use std::test::Fail;
 
