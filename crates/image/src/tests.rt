@@ -1,10 +1,5 @@
 //! Images through `Image::build`: one that is built, and some that break one rule.
-use crate::image::Image;
-use crate::instruction::{Instr, Operation};
-use crate::parts::Parts;
-use crate::subprogram::{Kind, Subprogram};
-use crate::task::Task;
-use crate::text::Text;
+use crate::{Image, Instr, Kind, Operation, Parts, Subprogram, Task, Text};
 use std::alloc::Global;
 use std::test::Fail;
 
