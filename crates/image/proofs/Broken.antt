@@ -1,5 +1,5 @@
 -- Images that break one rule each, worked by computation: the numbers of the rules that each breaks.
-use Rattle.std.proofs.Common.{◌≡◌, ℕ, ◌+◌, List, [], ◌∷◌, ◌++◌, ℤ, pos, Bool, Option, Some, None, true, false, refl, take, drop, replicate}
+use Rattle.std.proofs.Common.{◌≡◌, ℕ, ◌+◌, List, [], ◌∷◌, ◌++◌, pos, Bool, Option, Some, None, true, false, refl, take, drop, replicate}
 use Rattle.std.specs.Prelude.{codes}
 use Rattle.handlers.specs.declared.rows.Row.{Row}
 use Rattle.base.specs.Names.{predefined}

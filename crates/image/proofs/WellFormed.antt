@@ -219,7 +219,7 @@ between : (a b c d : ℕ) → a ≡ c → a ≡ d → a ≤ b → b ≤ c → b 
 between a b c d e f le more = omega arith
 
 -- what an instruction calls is there
-effect_known : (i : Sections) (s : Subprogram) (o : Operation) → names_things i s o ≡ true → has_effect i o ≡ true
+pub effect_known : (i : Sections) (s : Subprogram) (o : Operation) → names_things i s o ≡ true → has_effect i o ≡ true
 effect_known i s (Call a) e = ap (λ o. some_and o (λ c. true)) (some_and-true (called i a) _ e).1
 effect_known i s (ProtectedCall a) e = ap (λ o. some_and o (λ c. true)) (some_and-true (called i a) _ e).1
 effect_known i s (EntryCall o) e = e
@@ -258,14 +258,14 @@ module _ (i : Sections) (w : IsWellFormed i) where
   last_is : last_end i.subprograms ≡ length i.instructions
   last_is = eqb-same _ _ (both (all_begun rises 0 i.subprograms) _ ends).1
 
-  jumps : (all_placed (jumps_within i) 0 i.instructions && (list_all (is_closed i) i.subprograms && list_all (is_row_within i) i.rows)) ≡ true
+  pub jumps : (all_placed (jumps_within i) 0 i.instructions && (list_all (is_closed i) i.subprograms && list_all (is_row_within i) i.rows)) ≡ true
   jumps = either (has_ends i) _ (both (list_all covers_places i.rows) _ w.jumps).1 ends
 
-  all_named : all_placed (λ place x. in_holder i place (λ s. names_things i s x.operation)) 0 i.instructions ≡ true
+  pub all_named : all_placed (λ place x. in_holder i place (λ s. names_things i s x.operation)) 0 i.instructions ≡ true
   all_named =
       either (has_ends i) _ (both (where_ends i (all_placed (λ place x. in_holder i place (λ s. names_things i s x.operation)) 0 i.instructions)) _ w.named).0 ends
 
-  all_depths : (all_placed (λ place x. in_holder i place (keeps_depth i place x)) 0 i.instructions && (all_begun (λ first s. has_depth i first 0) 0 i.subprograms && list_all (λ r. has_depth i r.target 1) i.rows)) ≡ true
+  pub all_depths : (all_placed (λ place x. in_holder i place (keeps_depth i place x)) 0 i.instructions && (all_begun (λ first s. has_depth i first 0) 0 i.subprograms && list_all (λ r. has_depth i r.target 1) i.rows)) ≡ true
   all_depths = either (has_ends i) _ w.depths ends
 
   -- what an operation names is there
@@ -274,7 +274,7 @@ module _ (i : Sections) (w : IsWellFormed i) where
       some_and-at _ (λ s. names_things i s o) s held (placed-at (λ place x. in_holder i place (λ s. names_things i s x.operation)) i.instructions place _ all_named is)
 
   -- an instruction stands at each place that a subprogram holds
-  held_inside : (place : ℕ) (s : Subprogram) → holder i.subprograms place ≡ Some s → (x : Instr) × (slice_get i.instructions place ≡ Some x)
+  pub held_inside : (place : ℕ) (s : Subprogram) → holder i.subprograms place ≡ Some s → (x : Instr) × (slice_get i.instructions place ≡ Some x)
   held_inside place s held =
       let lt = holder_within i.subprograms place s held in
       let n = holder_number_of i.subprograms place s held in
