@@ -1,10 +1,5 @@
 //! Images through `Image::build`: one that is built, and some that break one rule.
-use image::image::Image;
-use image::instruction::{Instr, Operation};
-use image::parts::Parts;
-use image::subprogram::{Kind, Subprogram};
-use image::task::Task;
-use image::text::Text;
+use image::{Image, Instr, Kind, Operation, Parts, Subprogram, Task, Text};
 use std::alloc::Global;
 use std::test::Fail;
 

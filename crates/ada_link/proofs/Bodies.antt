@@ -5,7 +5,7 @@ use Rattle.std.proofs.lemmas.Option.{slice_get_cases, slice_get_past}
 use Rattle.image.specs.Sections.{Sections, end_of, first_place}
 use Rattle.image.specs.Rules.{last_end}
 use Rattle.image.specs.declared.instruction.Operation.TheVariants as op
-use Rattle.image.specs.declared.subprogram.Subprogram.{Subprogram}
+use Rattle.image.specs.declared.subprograms.Subprogram.{Subprogram}
 use Rattle.ada_tree.specs.declared.declaration.Subprogram as declared
 use Rattle.ada_tree.specs.declared.declaration.Body.{Body}
 use Rattle.ada_tree.specs.declared.program.BodyItem.{BodyItem}

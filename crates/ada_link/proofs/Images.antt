@@ -5,19 +5,19 @@ use Rattle.std.specs.List.{list_all}
 use Rattle.std.proofs.lemmas.Option.{slice_get-get_or}
 use Rattle.image.specs.Sections.{Sections, end_of, holder_number, object_of}
 use Rattle.image.specs.Operations.{called, given_by, goes_on, jump_target, parameters_of, results_of, taken_by}
-use Rattle.image.specs.Names.{is_label, is_name, predefined}
+use Rattle.base.specs.Names.{is_label, is_name, predefined}
 use Rattle.image.specs.Rules.{all_begun, all_nested, all_placed, begins_with, has_counts, is_entry_of_object, is_object, is_subprogram, is_task, is_task_body, is_within, tables_agree, covers_places, has_effect, has_ends, leaves_depth, where_ends, last_end, calls_inside, depth_after, has_body, has_depth, has_entry, has_object, has_operands, in_holder, is_closed, is_plain, is_return, is_row_within, jumps_within, operands_in_range, jumps_stay_inside, named_things_exist, depths_agree, keeps_depth, names_things, none_or, same_number, some_and}
 use Rattle.image.specs.Taken.{is_taken_kind, is_taken_operation, takes_operations, takes_tables}
 use Rattle.image.specs.Faults.{memory_fault}
 use Rattle.image.specs.Refusals.{Refuses}
 use Rattle.image.specs.declared.fault.ImageFault.{ImageFault}
-use Rattle.image.specs.declared.limits.TheConstants.{EXCEPTIONS, FRAME_WORDS, INSTRUCTIONS, LABELS, OBJECTS, PRIORITY, ROWS, SUBPROGRAMS, TASKS, WORDS}
+use Rattle.base.specs.declared.limits.TheConstants.{EXCEPTIONS, FRAME_WORDS, INSTRUCTIONS, LABELS, OBJECTS, TASK_PRIORITY, ROWS, SUBPROGRAMS, TASKS, WORDS}
 use Rattle.image.specs.declared.instruction.Instr.{Instr}
 use Rattle.image.specs.declared.instruction.Operation.{Operation}
 use Rattle.image.specs.declared.instruction.Operation.TheVariants as op
-use Rattle.image.specs.declared.subprogram.Kind.{Kind}
-use Rattle.image.specs.declared.subprogram.Kind.TheVariants as kinds
-use Rattle.image.specs.declared.subprogram.Subprogram.{Subprogram}
+use Rattle.image.specs.declared.subprograms.Kind.{Kind}
+use Rattle.image.specs.declared.subprograms.Kind.TheVariants as kinds
+use Rattle.image.specs.declared.subprograms.Subprogram.{Subprogram}
 use Rattle.std.proofs.lemmas.Bool.{both_ways}
 use Rattle.ada_tree.specs.ExpressionTree.{ExprTree}
 use Rattle.ada_tree.specs.StatementTree.{Call, MoreStmts, NoStmts, StmtTree, StmtTrees, optional_tree}
@@ -324,7 +324,7 @@ module _ (p : ProgramTree) (i : Sections) (h : IsWhole p i) where
   main_right : is_name p.main.name.name ≡ true → is_task i (main_task p n) ≡ true
   main_right name =
       let body = none_or (slice_get i.subprograms n) (λ s. is_task_body s.kind) in
-      both (is_name p.main.name.name) (nat_le 15 PRIORITY && body) name (both (nat_le 15 PRIORITY) body refl (ap (λ o. none_or o (λ s. is_task_body s.kind)) last_there ∙ ap is_task_body h.kind_is))
+      both (is_name p.main.name.name) (nat_le 15 TASK_PRIORITY && body) name (both (nat_le 15 TASK_PRIORITY) body refl (ap (λ o. none_or o (λ s. is_task_body s.kind)) last_there ∙ ap is_task_body h.kind_is))
 
   tables : takes_tables i ≡ true
   tables =

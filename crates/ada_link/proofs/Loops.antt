@@ -5,9 +5,9 @@ use Rattle.std.specs.List.{list_all}
 use Rattle.std.proofs.lemmas.List.{at_drop_more}
 use Rattle.std.proofs.Math.ListN.{drop_of_length-le}
 use Rattle.image.specs.Rules.{is_plain, last_end}
-use Rattle.image.specs.declared.subprogram.Subprogram.{Subprogram}
-use Rattle.image.specs.declared.subprogram.Kind.{Kind}
-use Rattle.image.specs.declared.subprogram.Kind.TheVariants as kinds
+use Rattle.image.specs.declared.subprograms.Subprogram.{Subprogram}
+use Rattle.image.specs.declared.subprograms.Kind.{Kind}
+use Rattle.image.specs.declared.subprograms.Kind.TheVariants as kinds
 use Rattle.image.specs.declared.instruction.Instr.{Instr}
 use Rattle.ada_tree.specs.ExpressionTree.{ExprTree}
 use Rattle.ada_tree.specs.StatementTree.{optional_tree, StmtTree, StmtTrees, NoStmts, MoreStmts, Call, stmt_tree, stmt_trees}

@@ -1,7 +1,7 @@
 -- The code of main.
 use Rattle.std.proofs.Common.{◌≡◌, ℕ, suc, ◌+◌, ◌<◌, ◌≤◌, List, [], ◌∷◌, ◌++◌, length, take, Bool, true, not, ◌&&◌, rules, Option, None, Some, refl, sym, ap, ◌∙◌, subst, arith, length-append}
 use Rattle.std.specs.Prelude.{slice_get, get_or, nat_le, bytes_eq, is_none}
-use Rattle.image.specs.Names.{is_identifier, is_name, is_reserved}
+use Rattle.base.specs.Names.{is_identifier, is_name, is_reserved}
 use Rattle.std.proofs.Math.Seq.{take-suc}
 use Rattle.image.specs.Sections.{Sections, first_place}
 use Rattle.image.specs.declared.instruction.Operation.TheVariants as op

@@ -1,13 +1,13 @@
 -- Each step of a linked program is met by the image's code.
 use Rattle.std.proofs.Common.{◌≡◌, ℕ, zero, suc, ◌+◌, ◌-◌, ◌<◌, ◌≤◌, List, [], ◌∷◌, ◌++◌, map, length, Some, None, cond, refl, sym, ap, ◌∙◌, subst, arith}
 use Rattle.std.specs.Prelude.{slice_get}
-use Rattle.base.specs.Limits.{most_frames}
+use Rattle.base.specs.declared.limits.TheConstants.{FRAMES}
 use Rattle.base.specs.declared.schedule.ScheduleLine.{ScheduleLine}
 use Rattle.kernel.specs.State.{Kernel, Outcome}
 use Rattle.kernel.specs.State as kernels
 use Rattle.kernel.specs.Effects.{Quiet, Says, Finishes, Dies}
 use Rattle.kernel.specs.Worlds.{Solo}
-use Rattle.kernel.specs.Calm.{Calm, Runs}
+use Rattle.kernel.specs.Calm.{Calm, IsRunner}
 use Rattle.kernel.specs.Laws.{QuietStays}
 use Rattle.image.specs.Sections.{Sections, first_place}
 use Rattle.image.specs.Operations.{called, results_of}
@@ -63,7 +63,7 @@ before_size : (p : ProgramTree) (i : Sections) (stmts : StmtTrees) (items : List
 before_size p i NoStmts items = omega arith
 before_size p i (MoreStmts s rest) items = let h = before_size p i rest items in omega (arith, h)
 
-over_not : {k : Kernel} {t : ℕ} → Runs k t → (o : Outcome) → k.outcome ≡ Some o → ⊥
+over_not : {k : Kernel} {t : ℕ} → IsRunner k t → (o : Outcome) → k.outcome ≡ Some o → ⊥
 over_not runs o h = let e = runs.on in cc
 
 module _ (p : ProgramTree) (i : Sections) (no_rows : i.rows ≡ []) (schedule : List ScheduleLine) (quiet : QuietStays) where
@@ -165,7 +165,7 @@ module _ (p : ProgramTree) (i : Sections) (no_rows : i.rows ≡ []) (schedule : 
         let calls : (source_behaviour p schedule).act k 0 a ≡ inside =
         ap (λ w. work_step p a.memory a.task.activations w) e
         ∙ ap (λ o. source.call p a.memory a.task.activations procedure.name o items) found
-        ∙ ap (λ c. source.enter p a.memory a.task.activations procedure.name b (most_frames - suc c) items) (no_ends ms)
+        ∙ ap (λ c. source.enter p a.memory a.task.activations procedure.name b (FRAMES - suc c) items) (no_ends ms)
         ∙ (λ j. source.does Quiet a.memory (Goes (map Declares (body.declarations j) ++ Sequence b.statements (body.handlers j) ∷ rest_of_main p i ms)) (record { subprogram = procedure.name; locals = [] } ∷ a.task.activations)) in
         let plain : Some callee ≡ Some (record { kind = callee.kind; end_ = callee.end_; parameters = 0; results = callee.results; locals = 0; stack = callee.stack }) =
         (λ j. Some (record { kind = callee.kind; end_ = callee.end_; parameters = body.bare.parameters j; results = callee.results; locals = body.bare.locals j; stack = callee.stack })) in

@@ -4,7 +4,7 @@ use Rattle.std.specs.Prelude.{find, nat_lt, slice_get}
 use Rattle.std.specs.List.{list_all}
 use Rattle.image.specs.Rules.{all_begun, all_placed, some_and}
 use Rattle.image.specs.declared.instruction.Instr.{Instr}
-use Rattle.image.specs.declared.subprogram.Subprogram.{Subprogram}
+use Rattle.image.specs.declared.subprograms.Subprogram.{Subprogram}
 use Rattle.ada_link.specs.Growing.{AreBuilt, IsPart, Leaves, Runs, returns}
 use Rattle.ada_link.proofs.Bodies.{both_left, both_right}
 use Rattle.ada_link.proofs.Loops.{both}

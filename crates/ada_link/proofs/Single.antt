@@ -1,6 +1,6 @@
 -- Kernels in which task 0 alone may run.
 use Rattle.std.proofs.Common.{◌≡◌, ℕ, zero, suc, List, [], ◌∷◌, Option, Some, None, refl, sym, ap, ◌∙◌, subst}
-use Rattle.base.specs.Limits.{priorities}
+use Rattle.base.specs.declared.limits.TheConstants.{PRIORITIES}
 use Rattle.kernel.specs.State.{Kernel, put}
 use Rattle.kernel.specs.Dispatching.{leaves, highest, unless_empty, preempts, runs_from, dispatch, dispatch_from}
 use Rattle.kernel.specs.Clock.{clock, clock_from, time_moves}
@@ -19,8 +19,8 @@ highest_none ready empty zero = refl
 highest_none ready empty (suc n) = ap (λ l. unless_empty l n (highest ready n)) (empty n) ∙ highest_none ready empty n
 
 dispatched : (k : Kernel) → Single k → (r : Option ℕ) → k.running ≡ r → dispatch k ≡ k
-dispatched k s None is = ap (λ r. dispatch_from r k) is ∙ ap (λ h. runs_from h k) (highest_none k.ready s.ready priorities)
-dispatched k s (Some t) is = ap (λ r. dispatch_from r k) is ∙ ap (λ h. preempts t h k) (highest_none k.ready s.ready priorities)
+dispatched k s None is = ap (λ r. dispatch_from r k) is ∙ ap (λ h. runs_from h k) (highest_none k.ready s.ready PRIORITIES)
+dispatched k s (Some t) is = ap (λ r. dispatch_from r k) is ∙ ap (λ h. preempts t h k) (highest_none k.ready s.ready PRIORITIES)
 
 clocked : (k : Kernel) → Single k → (r : Option ℕ) → k.running ≡ r → Single (clock k)
 clocked k s (Some t) is = subst Single (sym (ap (λ r. clock_from r k) is)) s

@@ -2,7 +2,7 @@
 use Rattle.std.specs.Prelude.{◌≡◌, ℕ, suc, ◌≤◌, List, [], ◌∷◌, ◌++◌, length, Option, None, Some, slice_get}
 use Rattle.image.specs.Sections.{Sections, first_place}
 use Rattle.image.specs.declared.instruction.Instr.{Instr}
-use Rattle.image.specs.declared.subprogram.Subprogram.{Subprogram}
+use Rattle.image.specs.declared.subprograms.Subprogram.{Subprogram}
 use Rattle.image.specs.Rules.{last_end}
 use Rattle.ada_tree.specs.ExpressionTree.{ExprTree}
 use Rattle.ada_tree.specs.StatementTree.{StmtTree, SubprogramTree}

@@ -1,7 +1,7 @@
 -- Which programs are of the first language: a package of procedures without parameters that write values, and a main that calls them.
 use Rattle.std.specs.Prelude.{ℕ, Bool, true, false, ◌&&◌, ◌||◌, not, List, [], ◌∷◌, map, length, Option, Some, None, is_none, nat_eq, nat_le, bytes_eq, codes, if◌then◌else◌}
 use Rattle.std.specs.List.{list_all, list_any}
-use Rattle.image.specs.Names.{is_label, is_name}
+use Rattle.base.specs.Names.{is_label, is_name}
 use Rattle.ada_tree.specs.declared.expression.UnaryOperator.TheVariants as unary
 use Rattle.ada_tree.specs.declared.expression.BinaryOperator.TheVariants as binary
 use Rattle.ada_tree.specs.declared.expression.Identifier.{Identifier}

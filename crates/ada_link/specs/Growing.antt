@@ -7,8 +7,8 @@ use Rattle.ada_link.specs.Size.{bodies_instructions, bodies_labels, bodies_words
 use Rattle.image.specs.declared.instruction.Instr.{Instr}
 use Rattle.image.specs.declared.instruction.Operation.{Operation}
 use Rattle.image.specs.declared.instruction.Operation.TheVariants as op
-use Rattle.image.specs.declared.subprogram.Kind.{Kind}
-use Rattle.image.specs.declared.subprogram.Subprogram.{Subprogram}
+use Rattle.image.specs.declared.subprograms.Kind.{Kind}
+use Rattle.image.specs.declared.subprograms.Subprogram.{Subprogram}
 use Rattle.ada_link.specs.Code.{here}
 use Rattle.ada_link.specs.declared.code.Code.{Code}
 

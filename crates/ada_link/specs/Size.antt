@@ -1,6 +1,6 @@
 -- Which programs are too large for an image: their instructions, the words of their operand stacks and their labels, counted.
 use Rattle.std.specs.Prelude.{◌≡◌, ℕ, ◌+◌, max, Bool, true, ◌||◌, ◌⊎◌, List, [], ◌∷◌, ◌++◌, length, Option, Some, None, nat_lt, if◌then◌else◌}
-use Rattle.image.specs.declared.limits.TheConstants.{FRAME_WORDS, INSTRUCTIONS, LABELS}
+use Rattle.base.specs.declared.limits.TheConstants.{FRAME_WORDS, INSTRUCTIONS, LABELS}
 use Rattle.image.specs.Frames.{TaskState}
 use Rattle.ada_tree.specs.declared.program.MainStatement.{MainStatement}
 use Rattle.ada_tree.specs.declared.program.MainStatement.TheVariants as main

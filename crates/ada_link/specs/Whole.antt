@@ -3,8 +3,8 @@ use Rattle.std.specs.Prelude.{◌≡◌, ◌≤◌, true, List, [], ◌∷◌, �
 use Rattle.std.specs.List.{list_all}
 use Rattle.image.specs.Rules.{is_plain}
 use Rattle.image.specs.Sections.{Sections}
-use Rattle.image.specs.declared.subprogram.Kind.TheVariants as kinds
-use Rattle.image.specs.declared.subprogram.Subprogram.{Subprogram}
+use Rattle.image.specs.declared.subprograms.Kind.TheVariants as kinds
+use Rattle.image.specs.declared.subprograms.Subprogram.{Subprogram}
 use Rattle.ada_tree.specs.ProgramTree.{ProgramTree}
 use Rattle.meaning.specs.Programs.{exception_names}
 use Rattle.ada_link.specs.Growing.{AreBuilt}

@@ -10,8 +10,7 @@ ghost use Rattle.ada_link.specs.FirstLanguage.{is_first_body, is_plain_body};
 use crate::code::Code;
 use crate::refusal::Refusal;
 use ada_tree::{Body, BodyItem};
-use image::instruction::Operation;
-use image::subprogram::Kind;
+use image::{Kind, Operation};
 
 impl Code {
     // Adds the code of a body without declarations and handlers.

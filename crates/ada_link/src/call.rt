@@ -3,7 +3,7 @@ ghost use Rattle.std.specs.Prelude.{◌≡◌, ◌+◌, ◌≤◌, ◌∷◌, []
 ghost use Rattle.std.specs.List.{list_all};
 ghost use Rattle.ada_tree.specs.StatementTree.{optional_tree};
 ghost use Rattle.ada_tree.specs.ProgramTree.{body_item_tree, package_tree};
-ghost use Rattle.image.specs.declared.subprogram.Kind.TheVariants as kinds;
+ghost use Rattle.image.specs.declared.subprograms.Kind.TheVariants as kinds;
 ghost use Rattle.ada_link.specs.Code.{EmitsCall, EmitsMain, EmitsMainBody, IsEnded, bodies_of, here};
 ghost use Rattle.ada_link.specs.Growing.{AddsSubprogram, Grows, IsSized, IsSmall};
 ghost use Rattle.ada_link.specs.Size.{RefusesCode, calls_of};
@@ -13,8 +13,7 @@ use crate::code::Code;
 use crate::first_language::body_name;
 use crate::refusal::Refusal;
 use ada_tree::{MainStatement, Package};
-use image::instruction::Operation;
-use image::subprogram::Kind;
+use image::{Kind, Operation};
 
 // The number of the body of this name.
 fn body_number(package_: &Package, name: &[u8]) -> Option<usize>

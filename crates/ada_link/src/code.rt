@@ -1,6 +1,6 @@
 //! The code of a program as it is put together: subprograms, labels and instructions.
 ghost use Rattle.std.specs.Prelude.{◌≡◌, ◌+◌, ◌<◌, ◌≤◌, [], bytes_eq, false, length, max, position, true, IfErr, IfOk, OnOk};
-ghost use Rattle.image.specs.Names.{is_label};
+ghost use Rattle.base.specs.Names.{is_label};
 ghost use Rattle.image.specs.declared.instruction.Operation.TheVariants as op;
 ghost use Rattle.ada_link.specs.Code.{Adds, EndsSubprogram, HasLabel, here};
 ghost use Rattle.ada_link.specs.FirstLanguage.{contains};
@@ -8,10 +8,8 @@ ghost use Rattle.ada_link.specs.Growing.{Closes};
 ghost use Rattle.ada_link.specs.Size.{RefusesCode, with_label};
 
 use crate::refusal::Refusal;
-use image::instruction::{Instr, Operation};
-use image::limits::{FRAME_WORDS, INSTRUCTIONS, LABELS};
-use image::subprogram::{Kind, Subprogram};
-use image::text::Text;
+use base::limits::{FRAME_WORDS, INSTRUCTIONS, LABELS};
+use image::{Instr, Kind, Operation, Subprogram, Text};
 use std::alloc::Global;
 use std::mem;
 

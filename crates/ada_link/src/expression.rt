@@ -9,7 +9,7 @@ ghost use Rattle.ada_link.specs.Size.{RefusesCode, value_instructions, value_wor
 use crate::code::Code;
 use crate::refusal::Refusal;
 use ada_tree::{BinaryOperator, Expr, UnaryOperator};
-use image::instruction::Operation;
+use image::Operation;
 use kernel::laws::quiet_stays;
 
 /// Whether the expression is of the first language.

@@ -8,7 +8,7 @@ ghost use Rattle.ada_link.specs.FirstLanguage.{are_distinct, are_first_pragmas, 
 use crate::statement::{are_first_statements, are_null};
 use crate::visible::{are_first_clauses, have_control_io, is_named, is_standard, is_visible};
 use ada_tree::{Body, BodyItem, Item, Main, MainStatement, Package, Pragma, Program, Subprogram};
-use image::names::is_name;
+use base::names::is_name;
 
 /// The most procedures of a program.
 const PROCEDURES: usize = 128;

@@ -1,6 +1,6 @@
 //! From the tree of a program to its image.
 ghost use Rattle.std.specs.Prelude.{◌≡◌, ◌<◌, ◌≤◌, [], false, length, true, IfErr, IfOk, OnOk};
-ghost use Rattle.image.specs.Names.{is_name};
+ghost use Rattle.base.specs.Names.{is_name};
 ghost use Rattle.image.specs.Rules.{IsWellFormed};
 ghost use Rattle.ada_tree.specs.StatementTree.{optional_tree};
 ghost use Rattle.ada_tree.specs.ProgramTree.{package_tree, program_tree};
@@ -20,12 +20,8 @@ use crate::first_language::is_first_program;
 use crate::laws::{linked_keeps_count, linked_means_the_same};
 use crate::refusal::Refusal;
 use ada_tree::{Package, Program};
-use handlers::table::Row;
-use image::image::Image;
-use image::object::Object;
-use image::parts::Parts;
-use image::task::Task;
-use image::text::Text;
+use handlers::Row;
+use image::{Image, Object, Parts, Task, Text};
 use lexer::Fault;
 use std::alloc::Global;
 

@@ -3,7 +3,7 @@ ghost use Rattle.std.specs.Prelude.{◌≡◌, ◌+◌, ◌≤◌, length, map, 
 ghost use Rattle.std.specs.List.{list_all};
 ghost use Rattle.ada_tree.specs.ExpressionTree.{argument_trees, expr_tree, name_tree};
 ghost use Rattle.ada_tree.specs.StatementTree.{stmt_tree, stmt_trees};
-ghost use Rattle.image.specs.Names.{is_label};
+ghost use Rattle.base.specs.Names.{is_label};
 ghost use Rattle.ada_link.specs.Code.{EmitsPut, EmitsStatement, EmitsStatements, here};
 ghost use Rattle.ada_link.specs.Growing.{Grows, IsSized, IsSmall};
 ghost use Rattle.ada_link.specs.Size.{RefusesCode, statement_instructions, statement_labels, statement_words, statements_instructions, statements_labels, statements_words, value_instructions, value_words, with_label};
@@ -15,8 +15,8 @@ use crate::refusal::Refusal;
 use crate::visible::is_named;
 use ada_tree::laws::arguments_by_parts;
 use ada_tree::{Argument, Expr, NameExpr, Selector, Stmt};
-use image::instruction::Operation;
-use image::names::is_label;
+use base::names::is_label;
+use image::Operation;
 use lexer::Label;
 
 // The label and the value, where the arguments are both.

@@ -7,7 +7,7 @@ use Rattle.lexer.specs.declared.token.Token.{Token}
 use Rattle.parser.specs.Parsing.{Derives, IsFaulty}
 use Rattle.image.specs.Sections.{Sections}
 use Rattle.image.specs.Rules.{IsWellFormed}
-use Rattle.image.specs.declared.image.Image.{Image}
+use Rattle.image.specs.declared.building.Image.{Image}
 use Rattle.ada_tree.specs.ProgramTree.{ProgramTree}
 use Rattle.meaning.specs.SameMeaning.{KeepsCount, SameMeaning}
 use Rattle.ada_link.specs.FirstLanguage.{is_first_program}

@@ -4,7 +4,7 @@ ghost use Rattle.ada_tree.specs.ProgramTree.{ProgramTree};
 ghost use Rattle.adarun.specs.Accepted.{Compiles, IsAccepted, IsGiven, RefusesText};
 
 use ada_link::link::compile_tree;
-use image::image::Image;
+use image::Image;
 use lexer::{Fault, tokens};
 use parser::parse;
 use std::alloc::Global;

@@ -1,5 +1,5 @@
-pub mod Limits
 pub mod Exceptions
 pub mod Arithmetic
 pub mod Schedule
 pub mod Laws
+pub mod Names

@@ -1,8 +1,8 @@
-// Checked arithmetic of the integer base range (RM 3.5.4, 4.5).
+//! Checked arithmetic of the integer base range (RM 3.5.4, 4.5).
 ghost use Rattle.std.specs.Prelude.{◌≡◌};
 ghost use Rattle.base.specs.Arithmetic.{absolute_of, differ_in_sign, difference_of, modulus_of, negation_of, product_of, quotient_of, remainder_of, sum_of};
 
-use crate::exceptions::PredefinedException;
+use crate::PredefinedException;
 
 /// A value of the base range `-2**63 .. 2**63 - 1`, or the exception that the operation raises.
 pub type Checked = Result<i64, PredefinedException>;

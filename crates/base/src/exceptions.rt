@@ -1,4 +1,4 @@
-// The predefined exceptions of the language (RM 11.1) and their numbers.
+//! The predefined exceptions of the language (RM 11.1) and their numbers.
 ghost use Rattle.std.specs.Prelude.{◌≡◌};
 ghost use Rattle.base.specs.Exceptions.{name_of, number_of, predefined_of};
 

@@ -1,4 +1,4 @@
-// The laws of division, each what a function without work ensures.
+//! The laws of division, each what a function without work ensures.
 ghost use Rattle.base.specs.Laws.{ModulusLaw, RemainderLaw};
 
 /// `A = (A / B) * B + (A rem B)`, where `A rem B` has the sign of A and is smaller than B in absolute value (RM 4.5.5).

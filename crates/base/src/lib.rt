@@ -1,8 +1,15 @@
-// Checked arithmetic of the integer base range, the predefined exceptions, and the input of a schedule.
+//! What all crates share: checked arithmetic of the integer base range, the predefined exceptions, the input of a schedule,
+//! names, limits and the numbers of faults.
 #![tactic(auto)]
 
 pub mod arithmetic;
-pub mod exceptions;
+mod exceptions;
+pub mod faults;
 pub mod laws;
 pub mod limits;
-pub mod schedule;
+pub mod names;
+mod schedule;
+
+pub use arithmetic::Checked;
+pub use exceptions::PredefinedException;
+pub use schedule::{ScheduleLine, input_of};

@@ -1,19 +1,44 @@
-// The limits of programs and runs, each by its name.
+//! The limits of texts, programs, images and runs, each once and by its name (docs/LANGUAGE.md and docs/FORMATS.md, "Limits").
+
+/// The most bytes of a source text.
+pub const TEXT_LIMIT: usize = 65_536;
+/// The most characters of an identifier or a name.
+pub const NAME_LIMIT: usize = 40;
+/// The most characters of a label.
+pub const LABEL_LIMIT: usize = 40;
+/// The greatest value of a literal, `2**63 - 1`.
+pub const LARGEST_NUMBER: u64 = 0x7fff_ffff_ffff_ffff;
 
 /// Priorities are below this number (RM D.1).
 pub const PRIORITIES: usize = 32;
+/// The greatest base priority of a task (RM D.1).
+pub const TASK_PRIORITY: u8 = 30;
+/// The greatest ceiling priority of a protected object (RM D.3).
+pub const CEILING: u8 = 31;
 
-/// Tasks of a program, main among them.
-pub const MOST_TASKS: usize = 17;
-
-/// Protected objects of a program.
-pub const MOST_OBJECTS: usize = 16;
+/// Instructions of an image.
+pub const INSTRUCTIONS: usize = 65_535;
+/// Subprograms of an image: those of the source, the tasks' bodies and main's.
+pub const SUBPROGRAMS: usize = 145;
+/// Exceptions of an image: the predefined ones and those of the source.
+pub const EXCEPTIONS: usize = 36;
+/// Labels of an image.
+pub const LABELS: usize = 1_024;
+/// Plain words and words of objects of an image together.
+pub const WORDS: usize = 8_192;
+/// Tasks, main among them.
+pub const TASKS: usize = 17;
+/// Protected objects.
+pub const OBJECTS: usize = 16;
+/// Handler rows of an image.
+pub const ROWS: usize = 4_096;
 
 /// Open frames of a task, its body's frame among them.
-pub const MOST_FRAMES: usize = 32;
+pub const FRAMES: usize = 32;
+/// Words of a frame: its locals and its operand stack.
+pub const FRAME_WORDS: usize = 512;
 
 /// Input channels are 1 up to this number.
 pub const CHANNELS: u8 = 8;
-
 /// Lines of a schedule.
-pub const MOST_SCHEDULE_LINES: usize = 4096;
+pub const SCHEDULE_LINES: usize = 4_096;

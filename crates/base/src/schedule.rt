@@ -1,12 +1,15 @@
-// A schedule of input values, and the value of a channel at a time.
+//! A schedule of input values, and the value of a channel at a time.
 ghost use Rattle.std.specs.Prelude.{◌≡◌};
 ghost use Rattle.base.specs.Schedule.{input};
 
 /// One line of a schedule: from `time` (microseconds since the start) on, `channel` has `value`.
 #[derive(Clone, Copy, PartialEq, Eq, Debug)]
 pub struct ScheduleLine {
+    /// In microseconds since the start.
     pub time: i64,
+    /// From 1 on.
     pub channel: u8,
+    /// What is read from this time on.
     pub value: i64,
 }
 

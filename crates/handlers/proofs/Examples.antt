@@ -1,6 +1,6 @@
 -- Rows that are put together, worked by computation.
 use Rattle.std.proofs.Common.{◌≡◌, ℕ, List, [], ◌∷◌, ◌++◌, Some, None, refl}
-use Rattle.handlers.specs.declared.table.Row.{Row}
+use Rattle.handlers.specs.declared.rows.Row.{Row}
 use Rattle.handlers.specs.Innermost.{handler_of}
 
 abbrev row : ℕ → ℕ → ℕ → ℕ → Row

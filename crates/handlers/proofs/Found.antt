@@ -4,7 +4,7 @@ use Rattle.std.proofs.lemmas.Bool.{true≢false, leb-true, ltb-true}
 use Rattle.std.proofs.lemmas.Bool.Decides.{leb_tells}
 use Rattle.handlers.specs.Handlers.{Handlers, IsWithinOne, LeadsWithin}
 use Rattle.handlers.proofs.Regions.{leads_within}
-use Rattle.handlers.specs.declared.table.Row.{Row}
+use Rattle.handlers.specs.declared.rows.Row.{Row}
 use Rattle.handlers.specs.Innermost.{covers, handles, width, inner_of, inside, innermost}
 
 -- the innermost one of a row that was found and of those after it

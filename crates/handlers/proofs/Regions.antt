@@ -1,7 +1,7 @@
 -- A place that a row covers lies in the row's subprogram.
 use Rattle.std.proofs.Common.{◌≡◌, ℕ, ◌-◌, ◌<◌, ◌≤◌, List, [], ◌∷◌, length, arith, All, slice_index_or, refl}
 use Rattle.std.proofs.lemmas.List.{get_or_default}
-use Rattle.handlers.specs.declared.table.Row.{Row}
+use Rattle.handlers.specs.declared.rows.Row.{Row}
 use Rattle.handlers.specs.Handlers.{Handlers, IsWithinOne, LeadsWithin, subprogram_at}
 
 -- a later place lies in no earlier subprogram

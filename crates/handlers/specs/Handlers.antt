@@ -1,7 +1,7 @@
 -- Handler rows and the subprograms that they lie in.
 use Rattle.std.specs.Prelude.{◌≡◌, ℕ, suc, ◌<◌, ◌-◌, List, [], ◌∷◌, nat_le, cond}
 use Rattle.std.specs.List.{Any}
-use Rattle.handlers.specs.declared.table.Row.{Row}
+use Rattle.handlers.specs.declared.rows.Row.{Row}
 
 -- a table: its rows, and the place after the last instruction of each subprogram
 pub record Handlers : Type 0 where

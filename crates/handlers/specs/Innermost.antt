@@ -1,6 +1,6 @@
 -- The handler that takes an exception: the innermost row that covers the place and handles it (docs/FORMATS.md, "Handlers"; RM 11.4).
 use Rattle.std.specs.Prelude.{ℕ, ◌-◌, List, [], ◌∷◌, Bool, ◌&&◌, ◌||◌, Option, Some, None, nat_eq, nat_le, nat_lt, if◌then◌else◌}
-use Rattle.handlers.specs.declared.table.Row.{Row}
+use Rattle.handlers.specs.declared.rows.Row.{Row}
 
 abbrev pub covers : ℕ → Row → Bool
 covers place r = nat_le r.start place && nat_lt place r.end_

@@ -1,6 +1,6 @@
 -- What is proved of rows that are put together, as statements for contracts.
 use Rattle.std.specs.Prelude.{◌≡◌, ◌≤◌, ◌<◌, ℕ, List, ◌++◌, Bool, true, false, ◌&&◌, Some, None, All}
-use Rattle.handlers.specs.declared.table.Row.{Row}
+use Rattle.handlers.specs.declared.rows.Row.{Row}
 use Rattle.handlers.specs.Innermost.{covers, handles, width, handler_of}
 
 -- the row covers the place and handles the exception

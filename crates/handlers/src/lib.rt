@@ -1,6 +1,9 @@
 //! Handler tables: which handler takes an exception that is raised at an instruction.
 #![tactic(auto)]
 
+mod counting;
 pub mod laws;
-pub mod probes;
-pub mod table;
+mod rows;
+
+pub use counting::Probes;
+pub use rows::{Row, Table, TableFault, build, lookup};

@@ -2,7 +2,7 @@
 use Rattle.std.proofs.Common.{◌≡◌, ℕ, zero, suc, ◌<◌, arith, List, [], ◌∷◌, ◌++◌, ℤ, pos, Bool, true, false, cond, Option, Some, None, refl, subst}
 use Rattle.std.proofs.lemmas.Option.{none-some, same_Some}
 use Rattle.std.specs.Prelude.{int_lt, nat_lt}
-use Rattle.base.specs.Limits.{priorities}
+use Rattle.base.specs.declared.limits.TheConstants.{PRIORITIES}
 use Rattle.kernel.specs.State.{Kernel, Partition, Sleeper, Action, Reads, Writes, Serves, active, put}
 use Rattle.kernel.specs.Dispatching.{becomes_ready, dispatch, dispatch_from, highest, leaves, preempted, preempts, runs_from, runs_head}
 use Rattle.kernel.specs.Clock.{clock, clock_from, falls_asleep, least, released, time_moves, wakes_due, wakes_if_due}
@@ -106,8 +106,8 @@ module _ (R : ℕ → Type 0) (W : ℤ → Type 0) where
   bounded_dispatch k b = by k.running refl
     where
       by : (o : Option ℕ) → k.running ≡ o → Bounded (dispatch_from o k)
-      by None e = bounded_from (highest k.ready priorities) k b
-      by (Some t) e = bounded_preempts t (highest k.ready priorities) k (b.running t e) b
+      by None e = bounded_from (highest k.ready PRIORITIES) k b
+      by (Some t) e = bounded_preempts t (highest k.ready PRIORITIES) k (b.running t e) b
 
   -- the clock
 

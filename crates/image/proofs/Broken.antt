@@ -1,19 +1,19 @@
 -- Images that break one rule each, worked by computation: the numbers of the rules that each breaks.
-use Rattle.std.proofs.Common.{◌≡◌, ℕ, ◌+◌, List, [], ◌∷◌, ◌++◌, ℤ, pos, Bool, Option, Some, None, true, false, refl, take, drop, replicate}
+use Rattle.std.proofs.Common.{◌≡◌, ℕ, ◌+◌, List, [], ◌∷◌, ◌++◌, pos, Bool, Option, Some, None, true, false, refl, take, drop, replicate}
 use Rattle.std.specs.Prelude.{codes}
-use Rattle.handlers.specs.declared.table.Row.{Row}
-use Rattle.image.specs.Names.{predefined}
+use Rattle.handlers.specs.declared.rows.Row.{Row}
+use Rattle.base.specs.Names.{predefined}
 use Rattle.image.specs.ObjectTable.{ObjectRow}
 use Rattle.image.specs.Rules.{operands_in_range, jumps_stay_inside, named_things_exist, depths_agree, has_counts, tables_agree}
 use Rattle.image.specs.Sections.{Sections}
 use Rattle.image.specs.declared.instruction.Instr.{Instr}
 use Rattle.image.specs.declared.instruction.Operation.TheVariants as op
 use Rattle.image.specs.declared.instruction.Region.TheVariants as regions
-use Rattle.image.specs.declared.object.Barrier.{Barrier}
-use Rattle.image.specs.declared.object.Barrier.TheVariants as barriers
-use Rattle.image.specs.declared.subprogram.Kind.TheVariants.{Plain, ProtectedProcedure, ProtectedFunction, EntryBody, TaskBody}
-use Rattle.image.specs.declared.subprogram.Subprogram.{Subprogram}
-use Rattle.image.specs.declared.task.Task.{Task}
+use Rattle.image.specs.declared.objects.Barrier.{Barrier}
+use Rattle.image.specs.declared.objects.Barrier.TheVariants as barriers
+use Rattle.image.specs.declared.subprograms.Kind.TheVariants.{Plain, ProtectedProcedure, ProtectedFunction, EntryBody, TaskBody}
+use Rattle.image.specs.declared.subprograms.Subprogram.{Subprogram}
+use Rattle.image.specs.declared.tasks.Task.{Task}
 use Rattle.image.proofs.Examples.{at, body, main_is, plain_image, row, sub, task}
 
 abbrev unless : Bool → ℕ → List ℕ → List ℕ

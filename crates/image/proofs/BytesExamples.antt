@@ -5,8 +5,8 @@ use Rattle.image.specs.Bytes.{bytes_of, object_bytes, subprogram_bytes, instruct
 use Rattle.image.specs.Sections.{Sections}
 use Rattle.image.specs.declared.instruction.Operation.TheVariants as op
 use Rattle.image.specs.declared.instruction.Region.TheVariants as regions
-use Rattle.image.specs.declared.object.Barrier.TheVariants as barriers
-use Rattle.image.specs.declared.subprogram.Kind.TheVariants.{EntryBody}
+use Rattle.image.specs.declared.objects.Barrier.TheVariants as barriers
+use Rattle.image.specs.declared.subprograms.Kind.TheVariants.{EntryBody}
 use Rattle.image.proofs.Examples.{at, body, row, sub, task, thousand}
 
 -- the image that prints 1000

@@ -2,10 +2,10 @@
 use Rattle.std.proofs.Common.{◌≡◌, inl, inr, ℕ, zero, suc, ◌<◌, Bool, List, [], ◌∷◌, length, Option, Some, None, refl, sym, ap, ◌∙◌, subst, arith, ⊎_elim}
 use Rattle.std.proofs.lemmas.Option.{none-some}
 use Rattle.std.specs.Prelude.{slice_get}
-use Rattle.base.specs.Limits.{priorities}
+use Rattle.base.specs.declared.limits.TheConstants.{PRIORITIES}
 use Rattle.base.specs.declared.schedule.ScheduleLine.{ScheduleLine}
 use Rattle.kernel.specs.State.{Kernel}
-use Rattle.kernel.specs.Calm.{Runs}
+use Rattle.kernel.specs.Calm.{IsRunner}
 use Rattle.kernel.specs.Effects.{activated, begin, blank}
 use Rattle.kernel.specs.Invariant.{Fits, Has, Kept, ServesCall}
 use Rattle.kernel.specs.Laws.{BeginsKept, EntryOpens, FourHold, KeptByEvery, LeftUnmoved, ReachesCallers}
@@ -20,9 +20,9 @@ use Rattle.image.specs.Steps.{behaviour, is_open, opens_row}
 use Rattle.image.specs.Code.{CodeWorld, body_frame, body_of, ceiling_of, code, initial_state, partition_of, priority_of, start}
 use Rattle.image.specs.Laws.{FourInEveryWorld, KernelKept, LinkedInEveryWorld}
 use Rattle.image.specs.Linked.{IsLinked, MayWrite, actions_of, frames_of}
-use Rattle.image.specs.declared.subprogram.Kind.TheVariants.{TaskBody}
-use Rattle.image.specs.declared.subprogram.Subprogram.{Subprogram}
-use Rattle.image.specs.declared.task.Task.{Task}
+use Rattle.image.specs.declared.subprograms.Kind.TheVariants.{TaskBody}
+use Rattle.image.specs.declared.subprograms.Subprogram.{Subprogram}
+use Rattle.image.specs.declared.tasks.Task.{Task}
 use Rattle.image.specs.Sections as sections
 use Rattle.image.proofs.Bounds.{Anytime, Bounded, bounded_after, bounded_begin, timely_anytime}
 use Rattle.image.proofs.Links.{own_links, step_linked}
@@ -39,11 +39,11 @@ module _ (i : Sections) (w : IsWellFormed i) where
   fits : Fits (partition_of i)
   fits = record { base_low = λ t. low (slice_get i.tasks t) t refl; ceiling_low = λ o. under (slice_get i.objects o) o refl }
     where
-      low : (x : Option Task) (t : ℕ) → slice_get i.tasks t ≡ x → priority_of x < priorities
+      low : (x : Option Task) (t : ℕ) → slice_get i.tasks t ≡ x → priority_of x < PRIORITIES
       low None t is = omega arith
       low (Some x) t is = let le = priority_is i w t x is in omega (arith, le)
 
-      under : (x : Option ObjectRow) (o : ℕ) → slice_get i.objects o ≡ x → ceiling_of x < priorities
+      under : (x : Option ObjectRow) (o : ℕ) → slice_get i.objects o ≡ x → ceiling_of x < PRIORITIES
       under None o is = omega arith
       under (Some x) o is = let le = ceiling_is i w o x is in omega (arith, le)
 
@@ -89,7 +89,7 @@ module _ (i : Sections) (w : IsWellFormed i) where
     abbrev Own : CodeWorld → Type 0
     Own v = IsLinked i v.kernel.actions v.kernel.queued v.rest.tasks × Bounded IsTask Anytime v.kernel
 
-    behaves : (k : Kernel) (t : ℕ) (d : Tasks Words TaskState) → Own (record { kernel = k; rest = d }) → Kept (barriers d) k → Runs k t → Behaves (among (behaviour i schedule)) barriers Own k t d
+    behaves : (k : Kernel) (t : ℕ) (d : Tasks Words TaskState) → Own (record { kernel = k; rest = d }) → Kept (barriers d) k → IsRunner k t → Behaves (among (behaviour i schedule)) barriers Own k t d
     behaves k t d own kept runs =
         let low = own.1.running t runs.running in
         let x = own_links i w unmoved free reaches four schedule (barriers d) k t d kept runs.running low own.0 in

@@ -6,6 +6,7 @@ mod Exclusion
 mod Links
 mod ObjectExamples
 mod Placed
+mod Plain
 mod Runs
 mod Shapes
 mod StepLinks

@@ -4,7 +4,7 @@ use Rattle.std.proofs.lemmas.Bool.{true≢false}
 use Rattle.std.proofs.lemmas.List.{length-take-le, length-reverse}
 use Rattle.std.proofs.lemmas.Option.{none-some, same_Some}
 use Rattle.std.specs.Prelude.{int_lt, slice_get}
-use Rattle.base.specs.Limits.{most_frames}
+use Rattle.base.specs.declared.limits.TheConstants.{FRAMES}
 use Rattle.base.specs.declared.schedule.ScheduleLine.{ScheduleLine}
 use Rattle.kernel.specs.State.{Kernel, Place, IsRunning, IsQueued, IsServed, Action, Reads, Writes, Serves, is_object_open, object_of, put}
 use Rattle.kernel.specs.Dispatching.{becomes_ready, leaves}
@@ -23,8 +23,8 @@ use Rattle.image.specs.Steps.{Given, Raised, Results, Stepped, act, behaviour, r
 use Rattle.image.specs.Shape.{Stands, IsGoingOrPlaced, IsSound, callee}
 use Rattle.image.specs.Linked.{Fitting, FitsEntry, IsAwaiting, IsCalling, IsLinked, MayWrite, actions_of, frames_of, next_actions}
 use Rattle.image.specs.declared.instruction.Operation.TheVariants.{EntryCall}
-use Rattle.image.specs.declared.subprogram.Kind.TheVariants.{EntryBody}
-use Rattle.image.specs.declared.subprogram.Subprogram.{Subprogram}
+use Rattle.image.specs.declared.subprograms.Kind.TheVariants.{EntryBody}
+use Rattle.image.specs.declared.subprograms.Subprogram.{Subprogram}
 use Rattle.image.proofs.Shapes.{begins, instr, resumed_going, steps_sound, waiting_placed}
 use Rattle.image.proofs.StepLinks.{Links, OwesFor, act_links}
 use Rattle.image.proofs.WellFormed.{depths, entry_kind, names, some_and-true}
@@ -233,7 +233,7 @@ queued_from t (Queues p) queued o u is =
 
 -- what a step owes at the end of an action
 abbrev OwesEnd : Sections → List Action → Effect → Type 0
-OwesEnd i actions e = (g : Option Given) (s : TaskState) → OwesFor i actions e g s → (length s.callers + 2 ≤ most_frames) × Fitting i actions g
+OwesEnd i actions e = (g : Option Given) (s : TaskState) → OwesFor i actions e g s → (length s.callers + 2 ≤ FRAMES) × Fitting i actions g
 
 module _ (i : Sections) (k : Kernel) (t : ℕ) where
   -- a queued call is taken over
@@ -330,7 +330,7 @@ module _ (i : Sections) (w : IsWellFormed i) where
   serving_is : (o caller : ℕ) (u t : TaskState) (h : HasEntry o u) → serving i o caller u t ≡ record { frame = new_frame i h.n h.c (arguments h.c.parameters u.frame.stack) (Serving o caller t.raising); callers = t.frame ∷ t.callers; raising = None }
   serving_is o caller u t h = ap (λ x. serving_with i o caller u t x (entry_called i o)) h.entry ∙ ap (serving_with i o caller u t (Some h.n)) h.whole
 
-  serving_sound : (o caller : ℕ) (u t : TaskState) → IsCalling i o u → IsSound i t → length t.callers + 2 ≤ most_frames → IsSound i (serving i o caller u t)
+  serving_sound : (o caller : ℕ) (u t : TaskState) → IsCalling i o u → IsSound i t → length t.callers + 2 ≤ FRAMES → IsSound i (serving i o caller u t)
   serving_sound o caller u t calling s few =
       let h = has_entry o u calling in
       let made : IsSound i (record { frame = new_frame i h.n h.c (arguments h.c.parameters u.frame.stack) (Serving o caller t.raising); callers = t.frame ∷ t.callers; raising = None }) =
@@ -341,7 +341,7 @@ module _ (i : Sections) (w : IsWellFormed i) where
       } in
       subst (IsSound i) (sym (serving_is o caller u t h)) made
     where
-      more : (n : ℕ) → n + 2 ≤ most_frames → suc n + 1 ≤ most_frames
+      more : (n : ℕ) → n + 2 ≤ FRAMES → suc n + 1 ≤ FRAMES
       more n le = omega arith
 
   serving_actions : (o caller : ℕ) (u t : TaskState) → IsCalling i o u → actions_of i (frames_of (serving i o caller u t)) ≡ Serves o caller ∷ actions_of i (frames_of t)
@@ -490,7 +490,7 @@ module _ (i : Sections) (w : IsWellFormed i) (unmoved : LeftUnmoved) (free : Ent
       let outer_is : actions_of i (frames_of (stepped t)) ≡ outer = ap (λ s. actions_of i (frames_of s)) t_is ∙ (own_links.actions ∙ x.next) in
       let tasks = put u client (put t server stepped) in
       let still = λ (v : ℕ) (nu : v ≢ u) (nt : v ≢ t). put_other u v client (put t server stepped) nu ∙ (put_other t v server stepped nt ∙ stepped_other v nt) in
-      let in_server = serving_sound i w o u (stepped u) (stepped t) calling sound_t (subst (λ s. length s.callers + 2 ≤ most_frames) (sym t_is) room) in
+      let in_server = serving_sound i w o u (stepped u) (stepped t) calling sound_t (subst (λ s. length s.callers + 2 ≤ FRAMES) (sym t_is) room) in
       record {
         by_frames = λ v.
             ⊎_elim

@@ -2,17 +2,17 @@
 use Rattle.std.proofs.Common.{◌≡◌, ℕ, ◌+◌, List, [], ◌∷◌, ◌++◌, pos, Some, None, true, refl}
 use Rattle.std.specs.Prelude.{codes}
 use Rattle.std.specs.Fmt.{digits}
-use Rattle.handlers.specs.declared.table.Row.{Row}
+use Rattle.handlers.specs.declared.rows.Row.{Row}
 use Rattle.image.specs.Code.{code, code_text}
-use Rattle.image.specs.Names.{predefined}
+use Rattle.base.specs.Names.{predefined}
 use Rattle.image.specs.ObjectTable.{ObjectRow}
 use Rattle.image.specs.Sections.{Sections}
 use Rattle.image.specs.declared.instruction.Instr.{Instr}
 use Rattle.image.specs.declared.instruction.Operation.TheVariants as op
-use Rattle.image.specs.declared.object.Barrier.TheVariants as barriers
-use Rattle.image.specs.declared.subprogram.Kind.TheVariants.{ProtectedProcedure, ProtectedFunction, EntryBody}
-use Rattle.image.specs.declared.subprogram.Subprogram.{Subprogram}
-use Rattle.image.specs.declared.task.Task.{Task}
+use Rattle.image.specs.declared.objects.Barrier.TheVariants as barriers
+use Rattle.image.specs.declared.subprograms.Kind.TheVariants.{ProtectedProcedure, ProtectedFunction, EntryBody}
+use Rattle.image.specs.declared.subprograms.Subprogram.{Subprogram}
+use Rattle.image.specs.declared.tasks.Task.{Task}
 use Rattle.image.proofs.Examples.{at, body, keeps, main_is, row, say, sub, task}
 
 abbrev object_image : List (List ℕ) → List ObjectRow → List Subprogram → List Task → List Row → List Instr → Sections

@@ -3,10 +3,10 @@ use Rattle.std.proofs.Common.{◌≡◌, ℕ, ◌+◌, ◌<◌, ◌≤◌, List,
 use Rattle.std.proofs.Math.ListN.{drop_of_length-le}
 use Rattle.std.proofs.Math.Seq.{take-length}
 use Rattle.std.specs.List.{list_all}
-use Rattle.handlers.specs.declared.table.Row.{Row}
+use Rattle.handlers.specs.declared.rows.Row.{Row}
 use Rattle.image.specs.Rules.{all_begun, all_nested, all_placed, are_nested}
-use Rattle.image.specs.declared.subprogram.Subprogram.{Subprogram}
-use Rattle.image.specs.declared.subprogram.Kind.TheVariants.{Plain}
+use Rattle.image.specs.declared.subprograms.Subprogram.{Subprogram}
+use Rattle.image.specs.declared.subprograms.Kind.TheVariants.{Plain}
 
 pub drop-next : {X : Type 0} → (xs : List X) (p : ℕ) (d : X) → p < length xs → drop p xs ≡ get_or xs p d ∷ drop (p + 1) xs
 drop-next xs p d h = rw add-one (drop-cons xs p d h)

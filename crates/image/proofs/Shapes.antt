@@ -8,7 +8,7 @@ use Rattle.std.specs.Int.{w64, int_bit_and, int_bit_or, int_bit_xor}
 use Rattle.base.specs.Arithmetic.{Checked, absolute_of, difference_of, modulus_of, negation_of, product_of, quotient_of, remainder_of, sum_of}
 use Rattle.image.specs.Scalars.{are_different, are_equal, bitwise, is_greater, is_greater_or_equal, is_zero_word, relation}
 use Rattle.base.specs.Exceptions.{number_of}
-use Rattle.base.specs.Limits.{most_frames}
+use Rattle.base.specs.declared.limits.TheConstants.{FRAMES}
 use Rattle.base.specs.declared.schedule.ScheduleLine.{ScheduleLine}
 use Rattle.kernel.specs.State.{Kernel}
 use Rattle.kernel.specs.Effects.{Effect, Quiet, Delays, Refusal, is_above_ceiling, is_full, is_inside_any}
@@ -27,18 +27,18 @@ use Rattle.image.specs.declared.instruction.Operation.{Operation}
 use Rattle.image.specs.declared.instruction.Operation.TheVariants as op
 use Rattle.image.specs.declared.instruction.Region.{Region}
 use Rattle.image.specs.declared.instruction.Region.TheVariants as regions
-use Rattle.image.specs.declared.subprogram.Kind.{Kind}
-use Rattle.image.specs.declared.subprogram.Kind.TheVariants as kinds
-use Rattle.image.specs.declared.subprogram.Kind.TheVariants.{TaskBody}
-use Rattle.image.specs.declared.subprogram.Subprogram.{Subprogram}
-use Rattle.image.specs.declared.task.Task.{Task}
+use Rattle.image.specs.declared.subprograms.Kind.{Kind}
+use Rattle.image.specs.declared.subprograms.Kind.TheVariants as kinds
+use Rattle.image.specs.declared.subprograms.Kind.TheVariants.{TaskBody}
+use Rattle.image.specs.declared.subprograms.Subprogram.{Subprogram}
+use Rattle.image.specs.declared.tasks.Task.{Task}
 use Rattle.image.proofs.WellFormed.{body_kind, bodies, some_subprogram, list_all-at, slice_get_inside, begin_depth, begin_held, depths, frame_words, handler_held, has_depth-is, holder_next, jump_held, not_last}
 
 abbrev pub instr : ℕ → Operation → Instr
 instr d o = record { depth = d; operation = o }
 
 -- what a step leaves is sound
-pub record Leaves (i : Sections) (r : Stepped) : Type 0 where
+pub record StepsSoundly (i : Sections) (r : Stepped) : Type 0 where
   pub sound : IsSound i r.solo.task
 
 module _ (i : Sections) (w : IsWellFormed i) where
@@ -95,19 +95,19 @@ module _ (i : Sections) (w : IsWellFormed i) where
 
   -- Raising
 
-  caught_sound : (m : Words) (x : ℕ) (f : Frame) (fs : List Frame) (other : Stepped) → length fs + 1 ≤ most_frames → IsPlaced i f → AreBelow i f.role f.subprogram fs → Leaves i other → (o : Option ℕ) → handler_of i.rows f.place x ≡ o → Leaves i (caught i m x o f fs other)
+  caught_sound : (m : Words) (x : ℕ) (f : Frame) (fs : List Frame) (other : Stepped) → length fs + 1 ≤ FRAMES → IsPlaced i f → AreBelow i f.role f.subprogram fs → StepsSoundly i other → (o : Option ℕ) → handler_of i.rows f.place x ≡ o → StepsSoundly i (caught i m x o f fs other)
   caught_sound m x f fs other few p below left None is = left
   caught_sound m x f fs other few p below left (Some a) is = record { sound = record { few = few; running = handled f x a (pos x) p is; below = below } }
 
-  removed_sound : (m : Words) (x n : ℕ) (role : Role) (c : Frame) (fs : List Frame) (at_once : Stepped) → length fs + 1 ≤ most_frames → AreBelow i role n (c ∷ fs) → (IsPlaced i c → AreBelow i c.role c.subprogram fs → Leaves i at_once) → Leaves i (removed i m x role c fs at_once)
+  removed_sound : (m : Words) (x n : ℕ) (role : Role) (c : Frame) (fs : List Frame) (at_once : Stepped) → length fs + 1 ≤ FRAMES → AreBelow i role n (c ∷ fs) → (IsPlaced i c → AreBelow i c.role c.subprogram fs → StepsSoundly i at_once) → StepsSoundly i (removed i m x role c fs at_once)
   removed_sound m x n Inner c fs at_once few below left = left (waiting_placed n c below.0) below.1
   removed_sound m x n (Opened o) c fs at_once few below left = record { sound = record { few = few; running = waiting_placed n c below.0; below = below.1 } }
   removed_sound m x n (Serving o u pending) c fs at_once few below left = record { sound = record { few = few; running = below.1; below = below.2 } }
 
-  one_less : (n : ℕ) → suc n + 1 ≤ most_frames → n + 1 ≤ most_frames
+  one_less : (n : ℕ) → suc n + 1 ≤ FRAMES → n + 1 ≤ FRAMES
   one_less n le = omega arith
 
-  pub unwind_sound : (m : Words) (x : ℕ) (fs : List Frame) (f : Frame) → length fs + 1 ≤ most_frames → IsPlaced i f → AreBelow i f.role f.subprogram fs → Leaves i (unwind i m x f fs)
+  pub unwind_sound : (m : Words) (x : ℕ) (fs : List Frame) (f : Frame) → length fs + 1 ≤ FRAMES → IsPlaced i f → AreBelow i f.role f.subprogram fs → StepsSoundly i (unwind i m x f fs)
   unwind_sound m x [] f few p below =
       caught_sound m x f [] _ few p below (record { sound = record { few = few; running = record { s = p.s; x = p.x; stands = record { subprogram = p.stands.subprogram; within = p.stands.within; instruction = p.stands.instruction; locals = p.stands.locals }; depth = omega arith }; below = below } }) (handler_of i.rows f.place x) refl
   unwind_sound m x (c ∷ fs) f few p below =
@@ -133,7 +133,7 @@ module _ (i : Sections) (w : IsWellFormed i) where
 
   -- Instructions
 
-  module _ (schedule : List ScheduleLine) (k : Kernel) (t : ℕ) (m : Words) (f : Frame) (fs : List Frame) (few : length fs + 1 ≤ most_frames) (below : AreBelow i f.role f.subprogram fs) (s : Subprogram) (d : ℕ) (deep : length f.stack ≡ d) where
+  module _ (schedule : List ScheduleLine) (k : Kernel) (t : ℕ) (m : Words) (f : Frame) (fs : List Frame) (few : length fs + 1 ≤ FRAMES) (below : AreBelow i f.role f.subprogram fs) (s : Subprogram) (d : ℕ) (deep : length f.stack ≡ d) where
     abbrev At : Operation → Type 0
     At o = Stands i f s (instr d o)
 
@@ -143,59 +143,59 @@ module _ (i : Sections) (w : IsWellFormed i) where
     taken_there : (o : Operation) → At o → taken_by i s.results o ≤ length f.stack
     taken_there o st = subst (λ v. taken_by i s.results o ≤ v) (sym deep) (depths i w f.place d o s st.instruction st.within).taken
 
-    breaks_sound : (o : Operation) → At o → Leaves i (steps.breaks i schedule k t m f fs)
+    breaks_sound : (o : Operation) → At o → StepsSoundly i (steps.breaks i schedule k t m f fs)
     breaks_sound o st = record { sound = record { few = few; running = going o st; below = below } }
 
-    raised_sound : (o : Operation) → At o → (x : ℕ) → Leaves i (unwind i m x f fs)
+    raised_sound : (o : Operation) → At o → (x : ℕ) → StepsSoundly i (unwind i m x f fs)
     raised_sound o st x = unwind_sound m x fs f few (going_placed f (going o st)) below
 
-    next_sound : (o : Operation) → At o → (stack : List ℤ) → goes_on o ≡ true → length stack ≡ d - taken_by i s.results o + given_by i o → Leaves i (steps.next i schedule k t m f fs stack)
+    next_sound : (o : Operation) → At o → (stack : List ℤ) → goes_on o ≡ true → length stack ≡ d - taken_by i s.results o + given_by i o → StepsSoundly i (steps.next i schedule k t m f fs stack)
     next_sound o st stack on e = record { sound = record { few = few; running = goes_next f s d o st f.locals stack on refl e; below = below } }
 
-    next_after_sound : (o : Operation) → At o → (e : Effect) (stack : List ℤ) → goes_on o ≡ true → length stack ≡ d - taken_by i s.results o + given_by i o → Leaves i (steps.next_after i schedule k t m f fs e stack)
+    next_after_sound : (o : Operation) → At o → (e : Effect) (stack : List ℤ) → goes_on o ≡ true → length stack ≡ d - taken_by i s.results o + given_by i o → StepsSoundly i (steps.next_after i schedule k t m f fs e stack)
     next_after_sound o st e stack on same = record { sound = (next_sound o st stack on same).sound }
 
-    to_sound : (o : Operation) → At o → (a : ℕ) (stack : List ℤ) → jump_target o ≡ Some a → length stack ≡ d - taken_by i s.results o + given_by i o → Leaves i (steps.to i schedule k t m f fs a stack)
+    to_sound : (o : Operation) → At o → (a : ℕ) (stack : List ℤ) → jump_target o ≡ Some a → length stack ≡ d - taken_by i s.results o + given_by i o → StepsSoundly i (steps.to i schedule k t m f fs a stack)
     to_sound o st a stack to e = record { sound = record { few = few; running = goes_to f s d o st a stack to e; below = below } }
 
-    gives_sound : (o : Operation) → At o → (v : Checked) (stack : List ℤ) → goes_on o ≡ true → suc (length stack) ≡ d - taken_by i s.results o + given_by i o → Leaves i (steps.gives i schedule k t m f fs v stack)
+    gives_sound : (o : Operation) → At o → (v : Checked) (stack : List ℤ) → goes_on o ≡ true → suc (length stack) ≡ d - taken_by i s.results o + given_by i o → StepsSoundly i (steps.gives i schedule k t m f fs v stack)
     gives_sound o st (Ok v) stack on e = next_sound o st (v ∷ stack) on e
     gives_sound o st (Err x) stack on e = raised_sound o st (number_of x)
 
-    cond_sound : (b : Bool) (x y : Stepped) → (b ≡ true → Leaves i x) → (b ≡ false → Leaves i y) → Leaves i (cond b x y)
+    cond_sound : (b : Bool) (x y : Stepped) → (b ≡ true → StepsSoundly i x) → (b ≡ false → StepsSoundly i y) → StepsSoundly i (cond b x y)
     cond_sound true x y f g = f refl
     cond_sound false x y f g = g refl
 
-    one_sound : (stack : List ℤ) (go : ℤ → List ℤ → Stepped) → 1 ≤ length stack → ((x : ℤ) (rest : List ℤ) → length stack ≡ suc (length rest) → Leaves i (go x rest)) → Leaves i (steps.with_one i schedule k t m f fs stack go)
+    one_sound : (stack : List ℤ) (go : ℤ → List ℤ → Stepped) → 1 ≤ length stack → ((x : ℤ) (rest : List ℤ) → length stack ≡ suc (length rest) → StepsSoundly i (go x rest)) → StepsSoundly i (steps.with_one i schedule k t m f fs stack go)
     one_sound [] go le left = absurd (omega arith)
     one_sound (x ∷ rest) go le left = left x rest refl
 
-    two_sound : (stack : List ℤ) (go : ℤ → ℤ → List ℤ → Stepped) → 2 ≤ length stack → ((x y : ℤ) (rest : List ℤ) → length stack ≡ suc (suc (length rest)) → Leaves i (go x y rest)) → Leaves i (steps.with_two i schedule k t m f fs stack go)
+    two_sound : (stack : List ℤ) (go : ℤ → ℤ → List ℤ → Stepped) → 2 ≤ length stack → ((x y : ℤ) (rest : List ℤ) → length stack ≡ suc (suc (length rest)) → StepsSoundly i (go x y rest)) → StepsSoundly i (steps.with_two i schedule k t m f fs stack go)
     two_sound [] go le left = absurd (omega arith)
     two_sound (y ∷ []) go le left = absurd (omega arith)
     two_sound (y ∷ x ∷ rest) go le left = left x y rest refl
 
-    three_sound : (stack : List ℤ) (go : ℤ → ℤ → ℤ → List ℤ → Stepped) → 3 ≤ length stack → ((x y z : ℤ) (rest : List ℤ) → length stack ≡ suc (suc (suc (length rest))) → Leaves i (go x y z rest)) → Leaves i (steps.with_three i schedule k t m f fs stack go)
+    three_sound : (stack : List ℤ) (go : ℤ → ℤ → ℤ → List ℤ → Stepped) → 3 ≤ length stack → ((x y z : ℤ) (rest : List ℤ) → length stack ≡ suc (suc (suc (length rest))) → StepsSoundly i (go x y z rest)) → StepsSoundly i (steps.with_three i schedule k t m f fs stack go)
     three_sound [] go le left = absurd (omega arith)
     three_sound (z ∷ []) go le left = absurd (omega arith)
     three_sound (z ∷ y ∷ []) go le left = absurd (omega arith)
     three_sound (z ∷ y ∷ x ∷ rest) go le left = left x y z rest refl
 
-    unary_sound : (o : Operation) → At o → (v : ℤ → Checked) → taken_by i s.results o ≡ 1 → given_by i o ≡ 1 → goes_on o ≡ true → Leaves i (steps.unary i schedule k t m f fs v)
+    unary_sound : (o : Operation) → At o → (v : ℤ → Checked) → taken_by i s.results o ≡ 1 → given_by i o ≡ 1 → goes_on o ≡ true → StepsSoundly i (steps.unary i schedule k t m f fs v)
     unary_sound o st v e1 e2 on =
         one_sound f.stack _ (subst (λ v. v ≤ length f.stack) e1 (taken_there o st)) (λ x rest e. gives_sound o st (v x) rest on (fits (length f.stack) (length rest) d _ _ e deep e1 e2))
       where
         fits : (l r d a b : ℕ) → l ≡ suc r → l ≡ d → a ≡ 1 → b ≡ 1 → suc r ≡ d - a + b
         fits l r d a b e f g h = omega arith
 
-    binary_sound : (o : Operation) → At o → (v : ℤ → ℤ → Checked) → taken_by i s.results o ≡ 2 → given_by i o ≡ 1 → goes_on o ≡ true → Leaves i (steps.binary i schedule k t m f fs v)
+    binary_sound : (o : Operation) → At o → (v : ℤ → ℤ → Checked) → taken_by i s.results o ≡ 2 → given_by i o ≡ 1 → goes_on o ≡ true → StepsSoundly i (steps.binary i schedule k t m f fs v)
     binary_sound o st v e1 e2 on =
         two_sound f.stack _ (subst (λ v. v ≤ length f.stack) e1 (taken_there o st)) (λ x y rest e. gives_sound o st (v x y) rest on (fits (length f.stack) (length rest) d _ _ e deep e1 e2))
       where
         fits : (l r d a b : ℕ) → l ≡ suc (suc r) → l ≡ d → a ≡ 2 → b ≡ 1 → suc r ≡ d - a + b
         fits l r d a b e f g h = omega arith
 
-    loaded_sound : (o : Operation) → At o → (word : Option ℤ) (stack : List ℤ) → goes_on o ≡ true → suc (length stack) ≡ d - taken_by i s.results o + given_by i o → Leaves i (steps.loaded i schedule k t m f fs word stack)
+    loaded_sound : (o : Operation) → At o → (word : Option ℤ) (stack : List ℤ) → goes_on o ≡ true → suc (length stack) ≡ d - taken_by i s.results o + given_by i o → StepsSoundly i (steps.loaded i schedule k t m f fs word stack)
     loaded_sound o st None stack on e = breaks_sound o st
     loaded_sound o st (Some v) stack on e = next_sound o st (v ∷ stack) on e
 
@@ -232,7 +232,7 @@ module _ (i : Sections) (w : IsWellFormed i) where
             ∙ whole a (length new) (length words) (length (take a words)) _ _ _ le (length-take-le a words (few_more a (length new) (length words) le)) (length-drop (a + length new) words) (length-append (take a words ++ new) _) (length-append (take a words) new)
         by false e is = absurd (none-some l is)
 
-    block_loaded_sound : (o : Operation) → At o → (n : ℕ) (words : Option (List ℤ)) (stack : List ℤ) → ((l : List ℤ) → words ≡ Some l → length l ≡ n) → goes_on o ≡ true → n + length stack ≡ d - taken_by i s.results o + given_by i o → Leaves i (steps.block_loaded i schedule k t m f fs words stack)
+    block_loaded_sound : (o : Operation) → At o → (n : ℕ) (words : Option (List ℤ)) (stack : List ℤ) → ((l : List ℤ) → words ≡ Some l → length l ≡ n) → goes_on o ≡ true → n + length stack ≡ d - taken_by i s.results o + given_by i o → StepsSoundly i (steps.block_loaded i schedule k t m f fs words stack)
     block_loaded_sound o st n None stack same on e = breaks_sound o st
     block_loaded_sound o st n (Some l) stack same on e =
         next_sound o st (reverse l ++ stack) on (length-append (reverse l) stack ∙ (ap (λ v. v + length stack) (length-reverse l ∙ same l refl) ∙ e))
@@ -242,24 +242,24 @@ module _ (i : Sections) (w : IsWellFormed i) where
     locals_with-length regions.Plain l e = refl
     locals_with-length regions.Object l e = refl
 
-    stored_sound : (o : Operation) → At o → (r : Region) (words : Option (List ℤ)) (stack : List ℤ) → ((l : List ℤ) → words ≡ Some l → length l ≡ length (region_words i r m f)) → goes_on o ≡ true → length stack ≡ d - taken_by i s.results o + given_by i o → Leaves i (steps.stored i schedule k t m f fs r words stack)
+    stored_sound : (o : Operation) → At o → (r : Region) (words : Option (List ℤ)) (stack : List ℤ) → ((l : List ℤ) → words ≡ Some l → length l ≡ length (region_words i r m f)) → goes_on o ≡ true → length stack ≡ d - taken_by i s.results o + given_by i o → StepsSoundly i (steps.stored i schedule k t m f fs r words stack)
     stored_sound o st r None stack same on e = breaks_sound o st
     stored_sound o st r (Some l) stack same on e = record { sound = record { few = few; running = goes_next f s d o st (locals_with r l f) stack on (locals_with-length r l (same l refl)) e; below = below } }
 
-    stores_sound : (o : Operation) → At o → (r : Region) (index v : ℤ) (stack : List ℤ) → goes_on o ≡ true → length stack ≡ d - taken_by i s.results o + given_by i o → Leaves i (steps.stores i schedule k t m f fs r index v stack)
+    stores_sound : (o : Operation) → At o → (r : Region) (index v : ℤ) (stack : List ℤ) → goes_on o ≡ true → length stack ≡ d - taken_by i s.results o + given_by i o → StepsSoundly i (steps.stores i schedule k t m f fs r index v stack)
     stores_sound o st r index v stack on e = stored_sound o st r (word_put (region_words i r m f) index v) stack (word_put-length (region_words i r m f) index v) on e
 
-    copied_sound : (o : Operation) → At o → (r : Region) (index : ℤ) (words : Option (List ℤ)) (stack : List ℤ) → goes_on o ≡ true → length stack ≡ d - taken_by i s.results o + given_by i o → Leaves i (steps.copied i schedule k t m f fs r index words stack)
+    copied_sound : (o : Operation) → At o → (r : Region) (index : ℤ) (words : Option (List ℤ)) (stack : List ℤ) → goes_on o ≡ true → length stack ≡ d - taken_by i s.results o + given_by i o → StepsSoundly i (steps.copied i schedule k t m f fs r index words stack)
     copied_sound o st r index None stack on e = breaks_sound o st
     copied_sound o st r index (Some l) stack on e = stored_sound o st r (words_put (region_words i r m f) index l) stack (words_put-length (region_words i r m f) index l) on e
 
     -- Calls and returns
 
-    with_parameters_sound : (o : Operation) → At o → (c : Subprogram) (go : Stepped) → (c.parameters ≤ length f.stack → Leaves i go) → Leaves i (steps.with_parameters i schedule k t m f fs c go)
+    with_parameters_sound : (o : Operation) → At o → (c : Subprogram) (go : Stepped) → (c.parameters ≤ length f.stack → StepsSoundly i go) → StepsSoundly i (steps.with_parameters i schedule k t m f fs c go)
     with_parameters_sound o st c go left = cond_sound (nat_le c.parameters (length f.stack)) _ _ (λ e. left (leb-true _ _ e)) (λ e. breaks_sound o st)
 
-    with_frame_left_sound : (o : Operation) → At o → (go : Stepped) → (length fs + 1 < most_frames → Leaves i go) → Leaves i (steps.with_frame_left i schedule k t m f fs go)
-    with_frame_left_sound o st go left = cond_sound (nat_lt (length fs + 1) most_frames) _ _ (λ e. left (ltb-true _ _ e)) (λ e. raised_sound o st _)
+    with_frame_left_sound : (o : Operation) → At o → (go : Stepped) → (length fs + 1 < FRAMES → StepsSoundly i go) → StepsSoundly i (steps.with_frame_left i schedule k t m f fs go)
+    with_frame_left_sound o st go left = cond_sound (nat_lt (length fs + 1) FRAMES) _ _ (λ e. left (ltb-true _ _ e)) (λ e. raised_sound o st _)
 
     waits : (o : Operation) → At o → (n : ℕ) (c : Subprogram) → callee i o ≡ Some n → called i n ≡ Some c → c.parameters ≤ length f.stack → IsWaiting i n (record f { stack = drop c.parameters f.stack })
     waits o st n c calls is le =
@@ -274,7 +274,7 @@ module _ (i : Sections) (w : IsWellFormed i) where
         left : (a p l d q : ℕ) → a ≡ l - p → p ≤ l → l ≡ d → q ≡ p → a + q ≡ d
         left a p l d q e le f g = omega arith
 
-    enters_sound : (o : Operation) → At o → (e : Effect) (role : Role) (n : ℕ) (c : Subprogram) → callee i o ≡ Some n → called i n ≡ Some c → c.parameters ≤ length f.stack → length fs + 1 < most_frames → (IsWaiting i n (record f { stack = drop c.parameters f.stack }) × AreBelow i f.role f.subprogram fs → AreBelow i role n (record f { stack = drop c.parameters f.stack } ∷ fs)) → Leaves i (steps.enters i schedule k t m f fs e role n c)
+    enters_sound : (o : Operation) → At o → (e : Effect) (role : Role) (n : ℕ) (c : Subprogram) → callee i o ≡ Some n → called i n ≡ Some c → c.parameters ≤ length f.stack → length fs + 1 < FRAMES → (IsWaiting i n (record f { stack = drop c.parameters f.stack }) × AreBelow i f.role f.subprogram fs → AreBelow i role n (record f { stack = drop c.parameters f.stack } ∷ fs)) → StepsSoundly i (steps.enters i schedule k t m f fs e role n c)
     enters_sound o st e role n c calls is le room on =
         record {
           sound = record {
@@ -284,19 +284,19 @@ module _ (i : Sections) (w : IsWellFormed i) where
           };
         }
       where
-        one_more : (n : ℕ) → n + 1 < most_frames → suc n + 1 ≤ most_frames
+        one_more : (n : ℕ) → n + 1 < FRAMES → suc n + 1 ≤ FRAMES
         one_more n le = omega arith
 
-    call_sound : (n : ℕ) → At (op.Call n) → (c : Option Subprogram) → called i n ≡ c → Leaves i (steps.call i schedule k t m f fs n c)
+    call_sound : (n : ℕ) → At (op.Call n) → (c : Option Subprogram) → called i n ≡ c → StepsSoundly i (steps.call i schedule k t m f fs n c)
     call_sound n st None is = breaks_sound _ st
     call_sound n st (Some c) is =
         with_parameters_sound _ st c _ (λ le. with_frame_left_sound _ st _ (λ room. enters_sound _ st Quiet Inner n c refl is le room (λ h. h)))
 
-    unless_refused_sound : (o : Operation) → At o → (r : Option Refusal) (go : Stepped) → Leaves i go → Leaves i (steps.unless_refused i schedule k t m f fs r go)
+    unless_refused_sound : (o : Operation) → At o → (r : Option Refusal) (go : Stepped) → StepsSoundly i go → StepsSoundly i (steps.unless_refused i schedule k t m f fs r go)
     unless_refused_sound o st None go left = left
     unless_refused_sound o st (Some r) go left = raised_sound o st _
 
-    external_call_sound : (n : ℕ) → At (op.ProtectedCall n) → (c : Subprogram) → called i n ≡ Some c → c.parameters ≤ length f.stack → (kind : Kind) → Leaves i (steps.external_call i schedule k t m f fs n c kind)
+    external_call_sound : (n : ℕ) → At (op.ProtectedCall n) → (c : Subprogram) → called i n ≡ Some c → c.parameters ≤ length f.stack → (kind : Kind) → StepsSoundly i (steps.external_call i schedule k t m f fs n c kind)
     external_call_sound n st c is le (kinds.ProtectedProcedure o) =
         unless_refused_sound _ st _ _ (with_frame_left_sound _ st _ (λ room. enters_sound _ st _ (Opened o) n c refl is le room (λ h. h)))
     external_call_sound n st c is le (kinds.ProtectedFunction o) =
@@ -305,11 +305,11 @@ module _ (i : Sections) (w : IsWellFormed i) where
     external_call_sound n st c is le (kinds.EntryBody o) = breaks_sound _ st
     external_call_sound n st c is le kinds.TaskBody = breaks_sound _ st
 
-    protected_call_sound : (n : ℕ) → At (op.ProtectedCall n) → (c : Option Subprogram) → called i n ≡ c → Leaves i (steps.protected_call i schedule k t m f fs n c)
+    protected_call_sound : (n : ℕ) → At (op.ProtectedCall n) → (c : Option Subprogram) → called i n ≡ c → StepsSoundly i (steps.protected_call i schedule k t m f fs n c)
     protected_call_sound n st None is = breaks_sound _ st
     protected_call_sound n st (Some c) is = with_parameters_sound _ st c _ (λ le. external_call_sound n st c is le c.kind)
 
-    entry_call_at_sound : (o n : ℕ) → At (op.EntryCall o) → entry_of (slice_get i.objects o) ≡ Some n → (c : Option Subprogram) → called i n ≡ c → Leaves i (steps.entry_call_at i schedule k t m f fs o n c)
+    entry_call_at_sound : (o n : ℕ) → At (op.EntryCall o) → entry_of (slice_get i.objects o) ≡ Some n → (c : Option Subprogram) → called i n ≡ c → StepsSoundly i (steps.entry_call_at i schedule k t m f fs o n c)
     entry_call_at_sound o n st calls None is = breaks_sound _ st
     entry_call_at_sound o n st calls (Some c) is =
         with_parameters_sound _ st c _ (λ le.
@@ -319,30 +319,30 @@ module _ (i : Sections) (w : IsWellFormed i) where
         (λ e. enters_sound _ st _ (Opened o) n c calls is le room (λ h. h))
         (λ e. cond_sound (is_full k o) _ _ (λ e. raised_sound _ st _) (λ e. record { sound = record { few = few; running = going _ st; below = below } })))))
 
-    entry_call_sound : (o : ℕ) → At (op.EntryCall o) → (n : Option ℕ) → entry_of (slice_get i.objects o) ≡ n → Leaves i (steps.entry_call i schedule k t m f fs o n)
+    entry_call_sound : (o : ℕ) → At (op.EntryCall o) → (n : Option ℕ) → entry_of (slice_get i.objects o) ≡ n → StepsSoundly i (steps.entry_call i schedule k t m f fs o n)
     entry_call_sound o st None calls = breaks_sound _ st
     entry_call_sound o st (Some n) calls = entry_call_at_sound o n st calls (called i n) refl
 
-    returns_to_sound : (cs : List Frame) (role : Role) (results : List ℤ) → At op.Return → length cs + 1 ≤ most_frames → fs ≡ cs → AreBelow i role f.subprogram cs → length results ≡ results_of (called i f.subprogram) → Leaves i (steps.returns_to i schedule k t m f fs cs role results)
+    returns_to_sound : (cs : List Frame) (role : Role) (results : List ℤ) → At op.Return → length cs + 1 ≤ FRAMES → fs ≡ cs → AreBelow i role f.subprogram cs → length results ≡ results_of (called i f.subprogram) → StepsSoundly i (steps.returns_to i schedule k t m f fs cs role results)
     returns_to_sound [] role results st le same under e = record { sound = record { few = le; running = going _ st; below = subst (AreBelow i f.role f.subprogram) same below } }
     returns_to_sound (c ∷ cs) Inner results st le same under e = record { sound = record { few = one_less (length cs) le; running = resumed_going f.subprogram c results under.0 e; below = under.1 } }
     returns_to_sound (c ∷ cs) (Opened o) results st le same under e = record { sound = record { few = one_less (length cs) le; running = resumed_going f.subprogram c results under.0 e; below = under.1 } }
     returns_to_sound (c ∷ cs) (Serving o u pending) results st le same under e = record { sound = record { few = one_less (length cs) le; running = under.1; below = under.2 } }
 
-    returns_sound : At op.Return → Leaves i (steps.returns i schedule k t m f fs (results_of (called i f.subprogram)))
+    returns_sound : At op.Return → StepsSoundly i (steps.returns i schedule k t m f fs (results_of (called i f.subprogram)))
     returns_sound st =
         cond_sound (nat_le (results_of (called i f.subprogram)) (length f.stack)) _ _
         (λ e. returns_to_sound fs f.role _ st few refl below (length-take-le (results_of (called i f.subprogram)) f.stack (leb-true _ _ e)))
         (λ e. breaks_sound _ st)
 
-    raises_number_sound : (o : Operation) → At o → (x : Option ℕ) → Leaves i (steps.raises_number i schedule k t m f fs x)
+    raises_number_sound : (o : Operation) → At o → (x : Option ℕ) → StepsSoundly i (steps.raises_number i schedule k t m f fs x)
     raises_number_sound o st None = breaks_sound o st
     raises_number_sound o st (Some x) = raised_sound o st x
 
-    unless_inside_sound : (o : Operation) → At o → (go : Stepped) → Leaves i go → Leaves i (steps.unless_inside i schedule k t m f fs go)
+    unless_inside_sound : (o : Operation) → At o → (go : Stepped) → StepsSoundly i go → StepsSoundly i (steps.unless_inside i schedule k t m f fs go)
     unless_inside_sound o st go left = cond_sound (is_inside_any k t) _ _ (λ e. raised_sound o st _) (λ e. left)
 
-    branch_sound : (o : Operation) → At o → (b : Bool) (p q : ℕ) (stack : List ℤ) → Leaves i (steps.to i schedule k t m f fs p stack) → Leaves i (steps.to i schedule k t m f fs q stack) → Leaves i (steps.to i schedule k t m f fs (cond b p q) stack)
+    branch_sound : (o : Operation) → At o → (b : Bool) (p q : ℕ) (stack : List ℤ) → StepsSoundly i (steps.to i schedule k t m f fs p stack) → StepsSoundly i (steps.to i schedule k t m f fs q stack) → StepsSoundly i (steps.to i schedule k t m f fs (cond b p q) stack)
     branch_sound o st true p q stack x y = x
     branch_sound o st false p q stack x y = y
 
@@ -359,7 +359,7 @@ module _ (i : Sections) (w : IsWellFormed i) where
     more l d e = omega arith
 
     -- the operations, each with its depths
-    pub operation_sound : (o : Operation) → At o → Leaves i (steps.does_operation i schedule k t m f fs o)
+    pub operation_sound : (o : Operation) → At o → StepsSoundly i (steps.does_operation i schedule k t m f fs o)
     operation_sound (op.Push v) st = next_sound _ st (v ∷ f.stack) refl (more _ _ deep)
     operation_sound op.Drop st = one_sound f.stack _ (taken_there _ st) (λ x rest e. next_sound _ st rest refl (less _ _ _ e deep))
     operation_sound op.Duplicate st = one_sound f.stack _ (taken_there _ st) (λ x rest e. next_sound _ st (x ∷ x ∷ rest) refl (twice _ _ _ e deep))
@@ -435,7 +435,7 @@ module _ (i : Sections) (w : IsWellFormed i) where
     operation_sound op.ReadInput st = one_sound f.stack _ (taken_there _ st) (λ x rest e. gives_sound _ st _ rest refl (same _ _ _ e deep))
     operation_sound op.Clock st = next_sound _ st (k.now ∷ f.stack) refl (more _ _ deep)
 
-  pub instruction_sound : (schedule : List ScheduleLine) (k : Kernel) (t : ℕ) (m : Words) (f : Frame) (fs : List Frame) → length fs + 1 ≤ most_frames → AreBelow i f.role f.subprogram fs → (g : IsGoing i f) → (x : Option Instr) → slice_get i.instructions f.place ≡ x → Leaves i (steps.does_instruction i schedule k t m f fs x)
+  pub instruction_sound : (schedule : List ScheduleLine) (k : Kernel) (t : ℕ) (m : Words) (f : Frame) (fs : List Frame) → length fs + 1 ≤ FRAMES → AreBelow i f.role f.subprogram fs → (g : IsGoing i f) → (x : Option Instr) → slice_get i.instructions f.place ≡ x → StepsSoundly i (steps.does_instruction i schedule k t m f fs x)
   instruction_sound schedule k t m f fs few below g None is = record { sound = record { few = few; running = g; below = below } }
   instruction_sound schedule k t m f fs few below g (Some x) is =
       let e : x ≡ g.x = same_Some _ _ (sym is ∙ g.stands.instruction) in
@@ -443,7 +443,7 @@ module _ (i : Sections) (w : IsWellFormed i) where
       operation_sound schedule k t m f fs few below g.s x.depth (g.depth ∙ ap (λ v. v.depth) (sym e)) x.operation (subst (Stands i f g.s) (sym e) st)
 
   -- the step of a task
-  pub act_sound : (schedule : List ScheduleLine) (k : Kernel) (t : ℕ) (m : Words) (f : Frame) (fs : List Frame) (x : Option ℕ) → IsSound i (record { frame = f; callers = fs; raising = x }) → Leaves i (steps.does_or_raises i schedule k t m f fs x)
+  pub act_sound : (schedule : List ScheduleLine) (k : Kernel) (t : ℕ) (m : Words) (f : Frame) (fs : List Frame) (x : Option ℕ) → IsSound i (record { frame = f; callers = fs; raising = x }) → StepsSoundly i (steps.does_or_raises i schedule k t m f fs x)
   act_sound schedule k t m f fs None s = instruction_sound schedule k t m f fs s.few s.below s.running (slice_get i.instructions f.place) refl
   act_sound schedule k t m f fs (Some x) s = unwind_sound m x fs f s.few s.running s.below
 

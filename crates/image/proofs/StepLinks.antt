@@ -7,7 +7,7 @@ use Rattle.std.specs.Prelude.{int_le, int_lt, nat_le, nat_lt, slice_get}
 use Rattle.std.specs.Int.{w64, int_bit_and, int_bit_or, int_bit_xor}
 use Rattle.base.specs.Arithmetic.{Checked, absolute_of, difference_of, modulus_of, negation_of, product_of, quotient_of, remainder_of, sum_of}
 use Rattle.base.specs.Exceptions.{number_of}
-use Rattle.base.specs.Limits.{most_frames}
+use Rattle.base.specs.declared.limits.TheConstants.{FRAMES}
 use Rattle.base.specs.declared.schedule.ScheduleLine.{ScheduleLine}
 use Rattle.kernel.specs.State.{Kernel, Action, Reads, Writes, Serves}
 use Rattle.kernel.specs.Effects.{Effect, Quiet, Opens, Views, Queues, Ends, Refusal, call_refusal, is_above_ceiling, is_full, is_inside_any, outer_of}
@@ -29,15 +29,15 @@ use Rattle.image.specs.declared.instruction.Operation.{Operation}
 use Rattle.image.specs.declared.instruction.Operation.TheVariants as op
 use Rattle.image.specs.declared.instruction.Region.{Region}
 use Rattle.image.specs.declared.instruction.Region.TheVariants as regions
-use Rattle.image.specs.declared.subprogram.Kind.{Kind}
-use Rattle.image.specs.declared.subprogram.Kind.TheVariants.{Plain, ProtectedProcedure, ProtectedFunction, EntryBody, TaskBody}
-use Rattle.image.specs.declared.subprogram.Subprogram.{Subprogram}
+use Rattle.image.specs.declared.subprograms.Kind.{Kind}
+use Rattle.image.specs.declared.subprograms.Kind.TheVariants.{Plain, ProtectedProcedure, ProtectedFunction, EntryBody, TaskBody}
+use Rattle.image.specs.declared.subprograms.Subprogram.{Subprogram}
 use Rattle.image.proofs.Shapes.{instr}
 use Rattle.image.proofs.WellFormed.{both, entry_kind, eqb-same, names, some_and-at}
 
 abbrev pub OwesFor : Sections → List Action → Effect → Option Given → TaskState → Type 0
 OwesFor i actions (Queues o) g s = IsCalling i o s
-OwesFor i actions (Ends b) g s = (length s.callers + 2 ≤ most_frames) × Fitting i actions g
+OwesFor i actions (Ends b) g s = (length s.callers + 2 ≤ FRAMES) × Fitting i actions g
 OwesFor i actions _ g s = Unit {0}
 
 -- what the step of the running task t is to the kernel
@@ -66,11 +66,11 @@ module _ (i : Sections) (k : Kernel) (t : ℕ) (m : Words) where
   fitting_opened (EntryBody p) o outer = tt
   fitting_opened TaskBody o outer = tt
 
-  room_after : (n : ℕ) → suc n + 1 ≤ most_frames → n + 2 ≤ most_frames
+  room_after : (n : ℕ) → suc n + 1 ≤ FRAMES → n + 2 ≤ FRAMES
   room_after n le = omega arith
 
   -- the end of an action, with frame c on top
-  opened_links : (kind : Kind) (o : ℕ) (c : Frame) (fs : List Frame) (raising : Option ℕ) → k.actions t ≡ opened_by kind o ∷ actions_of i (c ∷ fs) → MayWrite i (c ∷ fs) → suc (length fs) + 1 ≤ most_frames → Links i k t m (does (Ends (is_open i m o)) m c fs raising None)
+  opened_links : (kind : Kind) (o : ℕ) (c : Frame) (fs : List Frame) (raising : Option ℕ) → k.actions t ≡ opened_by kind o ∷ actions_of i (c ∷ fs) → MayWrite i (c ∷ fs) → suc (length fs) + 1 ≤ FRAMES → Links i k t m (does (Ends (is_open i m o)) m c fs raising None)
   opened_links kind o c fs raising acts may few =
       record {
         actions = sym (ap outer_of acts);
@@ -80,7 +80,7 @@ module _ (i : Sections) (k : Kernel) (t : ℕ) (m : Words) where
         owes = (room_after (length fs) few, subst (λ v. Fitting i v None) (sym acts) (fitting_opened kind o (actions_of i (c ∷ fs))));
       }
 
-  served_links : (o u : ℕ) (c : Frame) (fs : List Frame) (raising : Option ℕ) (g : Given) → Fitting i (Serves o u ∷ actions_of i (c ∷ fs)) (Some g) → k.actions t ≡ Serves o u ∷ actions_of i (c ∷ fs) → MayWrite i (c ∷ fs) → suc (length fs) + 1 ≤ most_frames → Links i k t m (does (Ends (is_open i m o)) m c fs raising (Some g))
+  served_links : (o u : ℕ) (c : Frame) (fs : List Frame) (raising : Option ℕ) (g : Given) → Fitting i (Serves o u ∷ actions_of i (c ∷ fs)) (Some g) → k.actions t ≡ Serves o u ∷ actions_of i (c ∷ fs) → MayWrite i (c ∷ fs) → suc (length fs) + 1 ≤ FRAMES → Links i k t m (does (Ends (is_open i m o)) m c fs raising (Some g))
   served_links o u c fs raising g fits acts may few =
       record {
         actions = sym (ap outer_of acts);
@@ -90,7 +90,7 @@ module _ (i : Sections) (k : Kernel) (t : ℕ) (m : Words) where
         owes = (room_after (length fs) few, subst (λ v. Fitting i v (Some g)) (sym acts) fits);
       }
 
-  removed_links : (x : ℕ) (role : Role) (kind : Kind) (c : Frame) (fs : List Frame) (at_once : Stepped) → k.actions t ≡ with_action role kind (actions_of i (c ∷ fs)) → MayWrite i (c ∷ fs) → suc (length fs) + 1 ≤ most_frames → (k.actions t ≡ actions_of i (c ∷ fs) → Links i k t m at_once) → Links i k t m (removed i m x role c fs at_once)
+  removed_links : (x : ℕ) (role : Role) (kind : Kind) (c : Frame) (fs : List Frame) (at_once : Stepped) → k.actions t ≡ with_action role kind (actions_of i (c ∷ fs)) → MayWrite i (c ∷ fs) → suc (length fs) + 1 ≤ FRAMES → (k.actions t ≡ actions_of i (c ∷ fs) → Links i k t m at_once) → Links i k t m (removed i m x role c fs at_once)
   removed_links x Inner kind c fs at_once acts may few left = left acts
   removed_links x (Opened o) kind c fs at_once acts may few left = opened_links kind o c fs (Some x) acts may few
   removed_links x (Serving o u pending) kind c fs at_once acts may few left = served_links o u c fs pending (Raised x) tt acts may few
@@ -99,10 +99,10 @@ module _ (i : Sections) (k : Kernel) (t : ℕ) (m : Words) where
   caught_links x None f fs other acts may left = left
   caught_links x (Some a) f fs other acts may left = record { actions = sym acts; may = may; passed = tt; held = unchanged; owes = tt }
 
-  less : (n : ℕ) → suc n + 1 ≤ most_frames → n + 1 ≤ most_frames
+  less : (n : ℕ) → suc n + 1 ≤ FRAMES → n + 1 ≤ FRAMES
   less n le = omega arith
 
-  pub unwind_links : (x : ℕ) (fs : List Frame) (f : Frame) → length fs + 1 ≤ most_frames → k.actions t ≡ actions_of i (f ∷ fs) → MayWrite i (f ∷ fs) → Links i k t m (unwind i m x f fs)
+  pub unwind_links : (x : ℕ) (fs : List Frame) (f : Frame) → length fs + 1 ≤ FRAMES → k.actions t ≡ actions_of i (f ∷ fs) → MayWrite i (f ∷ fs) → Links i k t m (unwind i m x f fs)
   unwind_links x [] f few acts may =
       caught_links x (handler_of i.rows f.place x) f [] _ acts may (record { actions = sym acts; may = may; passed = tt; held = unchanged; owes = tt })
   unwind_links x (c ∷ fs) f few acts may =
@@ -133,7 +133,7 @@ opener_writes (ProtectedProcedure p) o outer is writes = inl refl
 opener_writes (ProtectedFunction p) o outer is writes = absurd (true≢false (sym writes))
 opener_writes (EntryBody p) o outer is writes = inl refl
 
-module _ (i : Sections) (w : IsWellFormed i) (schedule : List ScheduleLine) (k : Kernel) (t : ℕ) (m : Words) (f : Frame) (fs : List Frame) (few : length fs + 1 ≤ most_frames) (below : AreBelow i f.role f.subprogram fs) (s : Subprogram) (d : ℕ) (deep : length f.stack ≡ d) (acts : k.actions t ≡ actions_of i (f ∷ fs)) (may : MayWrite i (f ∷ fs)) where
+module _ (i : Sections) (w : IsWellFormed i) (schedule : List ScheduleLine) (k : Kernel) (t : ℕ) (m : Words) (f : Frame) (fs : List Frame) (few : length fs + 1 ≤ FRAMES) (below : AreBelow i f.role f.subprogram fs) (s : Subprogram) (d : ℕ) (deep : length f.stack ≡ d) (acts : k.actions t ≡ actions_of i (f ∷ fs)) (may : MayWrite i (f ∷ fs)) where
   abbrev At : Operation → Type 0
   At o = Stands i f s (instr d o)
 
@@ -215,7 +215,7 @@ module _ (i : Sections) (w : IsWellFormed i) (schedule : List ScheduleLine) (k :
   with_parameters_links c go left = cond_links (nat_le c.parameters (length f.stack)) _ _ (λ e. left) (λ e. breaks_links)
 
   with_frame_left_links : (go : Stepped) → Links i k t m go → Links i k t m (steps.with_frame_left i schedule k t m f fs go)
-  with_frame_left_links go left = cond_links (nat_lt (length fs + 1) most_frames) _ _ (λ e. left) (λ e. raised_links _)
+  with_frame_left_links go left = cond_links (nat_lt (length fs + 1) FRAMES) _ _ (λ e. left) (λ e. raised_links _)
 
   call_links : (n : ℕ) → At (op.Call n) → (c : Option Subprogram) → called i n ≡ c → Links i k t m (steps.call i schedule k t m f fs n c)
   call_links n st None is = breaks_links
@@ -300,7 +300,7 @@ module _ (i : Sections) (w : IsWellFormed i) (schedule : List ScheduleLine) (k :
   entry_call_links free o st None entry = breaks_links
   entry_call_links free o st (Some n) entry = entry_call_at_links free o n st entry (called i n) refl
 
-  returns_to_links : (cs : List Frame) (role : Role) (results : List ℤ) → length cs + 1 ≤ most_frames → k.actions t ≡ with_action role (kind_at i f) (actions_of i cs) → MayWrite i cs → fs ≡ cs → role ≡ f.role → AreBelow i role f.subprogram cs → length results ≡ results_of (called i f.subprogram) → Links i k t m (steps.returns_to i schedule k t m f fs cs role results)
+  returns_to_links : (cs : List Frame) (role : Role) (results : List ℤ) → length cs + 1 ≤ FRAMES → k.actions t ≡ with_action role (kind_at i f) (actions_of i cs) → MayWrite i cs → fs ≡ cs → role ≡ f.role → AreBelow i role f.subprogram cs → length results ≡ results_of (called i f.subprogram) → Links i k t m (steps.returns_to i schedule k t m f fs cs role results)
   returns_to_links [] role results room own rest same is under e =
       record {
         actions = sym (own ∙ ap (λ v. with_action v (kind_at i f) []) is);
@@ -380,7 +380,7 @@ module _ (i : Sections) (w : IsWellFormed i) (schedule : List ScheduleLine) (k :
   operation_links free op.Clock st = to_links _ (k.now ∷ f.stack)
 
 module _ (i : Sections) (w : IsWellFormed i) (free : EntryOpens) (schedule : List ScheduleLine) (k : Kernel) (t : ℕ) (m : Words) where
-  instruction_links : (f : Frame) (fs : List Frame) → length fs + 1 ≤ most_frames → AreBelow i f.role f.subprogram fs → (g : IsGoing i f) → k.actions t ≡ actions_of i (f ∷ fs) → MayWrite i (f ∷ fs) → (x : Option Instr) → slice_get i.instructions f.place ≡ x → Links i k t m (steps.does_instruction i schedule k t m f fs x)
+  instruction_links : (f : Frame) (fs : List Frame) → length fs + 1 ≤ FRAMES → AreBelow i f.role f.subprogram fs → (g : IsGoing i f) → k.actions t ≡ actions_of i (f ∷ fs) → MayWrite i (f ∷ fs) → (x : Option Instr) → slice_get i.instructions f.place ≡ x → Links i k t m (steps.does_instruction i schedule k t m f fs x)
   instruction_links f fs few below g acts may None is = record { actions = sym acts; may = may; passed = tt; held = unchanged i k t m; owes = tt }
   instruction_links f fs few below g acts may (Some x) is =
       let e : x ≡ g.x = same_Some _ _ (sym is ∙ g.stands.instruction) in

@@ -23,7 +23,7 @@ use Rattle.image.specs.Shape.{IsSound}
 use Rattle.image.specs.declared.instruction.Instr.{Instr}
 use Rattle.image.specs.declared.instruction.Operation.{Operation}
 use Rattle.image.specs.declared.instruction.Operation.TheVariants as op
-use Rattle.image.specs.declared.subprogram.Subprogram.{Subprogram}
+use Rattle.image.specs.declared.subprograms.Subprogram.{Subprogram}
 use Rattle.image.proofs.Shapes.{start_sound, steps_sound}
 use Rattle.image.proofs.WellFormed.{list_all-at}
 

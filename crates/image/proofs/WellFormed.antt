@@ -6,21 +6,21 @@ use Rattle.std.proofs.lemmas.Option.{none-some, same_Some, cond_some}
 use Rattle.std.proofs.lemmas.List.Folds.{find_at}
 use Rattle.std.specs.Prelude.{nat_le, nat_lt, nat_eq, slice_get}
 use Rattle.std.specs.List.{list_all, position_or_len}
-use Rattle.handlers.specs.declared.table.Row.{Row}
+use Rattle.handlers.specs.declared.rows.Row.{Row}
 use Rattle.handlers.specs.Innermost.{covers, handles, inner_of, width, innermost, target_of, handler_of}
 use Rattle.image.specs.Sections.{Sections, holder, holder_number, end_of, first_place}
-use Rattle.image.specs.Names.{is_label, is_name, predefined}
+use Rattle.base.specs.Names.{is_label, is_name, predefined}
 use Rattle.image.specs.ObjectTable.{ObjectRow}
 use Rattle.image.specs.Operations.{called, entry_of, given_by, goes_on, jump_target, taken_by}
 use Rattle.image.specs.Rules.{IsWellFormed, all_begun, all_nested, all_placed, begins_with, covers_places, has_effect, has_ends, where_ends, some_and, none_or, same_number, is_closed, keeps_depth, has_depth, is_return, jumps_within, is_row_within, is_subprogram, is_task, is_object, has_body, has_counts, has_entry, has_object, in_holder, is_entry_body_of, is_within, is_task_body, last_end, names_things}
 use Rattle.image.specs.declared.instruction.Instr.{Instr}
 use Rattle.image.specs.declared.instruction.Operation.{Operation}
 use Rattle.image.specs.declared.instruction.Operation.TheVariants.{Call, ProtectedCall, EntryCall}
-use Rattle.image.specs.declared.limits.TheConstants.{CEILING, PRIORITY, FRAME_WORDS, INSTRUCTIONS, SUBPROGRAMS}
-use Rattle.image.specs.declared.subprogram.Kind.{Kind}
-use Rattle.image.specs.declared.subprogram.Kind.TheVariants.{Plain, ProtectedProcedure, ProtectedFunction, EntryBody, TaskBody}
-use Rattle.image.specs.declared.subprogram.Subprogram.{Subprogram}
-use Rattle.image.specs.declared.task.Task.{Task}
+use Rattle.base.specs.declared.limits.TheConstants.{CEILING, TASK_PRIORITY, FRAME_WORDS, INSTRUCTIONS, SUBPROGRAMS}
+use Rattle.image.specs.declared.subprograms.Kind.{Kind}
+use Rattle.image.specs.declared.subprograms.Kind.TheVariants.{Plain, ProtectedProcedure, ProtectedFunction, EntryBody, TaskBody}
+use Rattle.image.specs.declared.subprograms.Subprogram.{Subprogram}
+use Rattle.image.specs.declared.tasks.Task.{Task}
 
 pub both : (a b : Bool) → (a && b) ≡ true → (a ≡ true) × (b ≡ true)
 both true b e = (refl, e)
@@ -219,7 +219,7 @@ between : (a b c d : ℕ) → a ≡ c → a ≡ d → a ≤ b → b ≤ c → b 
 between a b c d e f le more = omega arith
 
 -- what an instruction calls is there
-effect_known : (i : Sections) (s : Subprogram) (o : Operation) → names_things i s o ≡ true → has_effect i o ≡ true
+pub effect_known : (i : Sections) (s : Subprogram) (o : Operation) → names_things i s o ≡ true → has_effect i o ≡ true
 effect_known i s (Call a) e = ap (λ o. some_and o (λ c. true)) (some_and-true (called i a) _ e).1
 effect_known i s (ProtectedCall a) e = ap (λ o. some_and o (λ c. true)) (some_and-true (called i a) _ e).1
 effect_known i s (EntryCall o) e = e
@@ -258,14 +258,14 @@ module _ (i : Sections) (w : IsWellFormed i) where
   last_is : last_end i.subprograms ≡ length i.instructions
   last_is = eqb-same _ _ (both (all_begun rises 0 i.subprograms) _ ends).1
 
-  jumps : (all_placed (jumps_within i) 0 i.instructions && (list_all (is_closed i) i.subprograms && list_all (is_row_within i) i.rows)) ≡ true
+  pub jumps : (all_placed (jumps_within i) 0 i.instructions && (list_all (is_closed i) i.subprograms && list_all (is_row_within i) i.rows)) ≡ true
   jumps = either (has_ends i) _ (both (list_all covers_places i.rows) _ w.jumps).1 ends
 
-  all_named : all_placed (λ place x. in_holder i place (λ s. names_things i s x.operation)) 0 i.instructions ≡ true
+  pub all_named : all_placed (λ place x. in_holder i place (λ s. names_things i s x.operation)) 0 i.instructions ≡ true
   all_named =
       either (has_ends i) _ (both (where_ends i (all_placed (λ place x. in_holder i place (λ s. names_things i s x.operation)) 0 i.instructions)) _ w.named).0 ends
 
-  all_depths : (all_placed (λ place x. in_holder i place (keeps_depth i place x)) 0 i.instructions && (all_begun (λ first s. has_depth i first 0) 0 i.subprograms && list_all (λ r. has_depth i r.target 1) i.rows)) ≡ true
+  pub all_depths : (all_placed (λ place x. in_holder i place (keeps_depth i place x)) 0 i.instructions && (all_begun (λ first s. has_depth i first 0) 0 i.subprograms && list_all (λ r. has_depth i r.target 1) i.rows)) ≡ true
   all_depths = either (has_ends i) _ w.depths ends
 
   -- what an operation names is there
@@ -274,7 +274,7 @@ module _ (i : Sections) (w : IsWellFormed i) where
       some_and-at _ (λ s. names_things i s o) s held (placed-at (λ place x. in_holder i place (λ s. names_things i s x.operation)) i.instructions place _ all_named is)
 
   -- an instruction stands at each place that a subprogram holds
-  held_inside : (place : ℕ) (s : Subprogram) → holder i.subprograms place ≡ Some s → (x : Instr) × (slice_get i.instructions place ≡ Some x)
+  pub held_inside : (place : ℕ) (s : Subprogram) → holder i.subprograms place ≡ Some s → (x : Instr) × (slice_get i.instructions place ≡ Some x)
   held_inside place s held =
       let lt = holder_within i.subprograms place s held in
       let n = holder_number_of i.subprograms place s held in
@@ -352,7 +352,7 @@ module _ (i : Sections) (w : IsWellFormed i) where
   pub body_kind : (t : ℕ) (x : Task) (s : Subprogram) → slice_get i.tasks t ≡ Some x → slice_get i.subprograms x.subprogram ≡ Some s → s.kind ≡ TaskBody
   body_kind t x s is called =
       let a = (both (is_name x.name) _ (list_all-at (is_task i) i.tasks t x tasks is)).1 in
-      is_body s.kind (none_or-at _ (λ s. is_task_body s.kind) s called (both (nat_le x.priority PRIORITY) _ a).1)
+      is_body s.kind (none_or-at _ (λ s. is_task_body s.kind) s called (both (nat_le x.priority TASK_PRIORITY) _ a).1)
 
   is_entry_body : (o : ℕ) (kind : Kind) → is_entry_body_of o kind ≡ true → kind ≡ EntryBody o
   is_entry_body o (EntryBody p) e = ap EntryBody (eqb-same p o e)
@@ -376,8 +376,8 @@ module _ (i : Sections) (w : IsWellFormed i) where
   pub ceiling_is : (o : ℕ) (row : ObjectRow) → slice_get i.objects o ≡ Some row → row.ceiling ≤ CEILING
   ceiling_is o row is = leb-true _ _ (both (nat_le row.ceiling CEILING) _ (placed-at (is_object i) i.objects o row objects is)).0
 
-  pub priority_is : (t : ℕ) (x : Task) → slice_get i.tasks t ≡ Some x → x.priority ≤ PRIORITY
-  priority_is t x is = leb-true _ _ (both (nat_le x.priority PRIORITY) _ (both (is_name x.name) _ (list_all-at (is_task i) i.tasks t x tasks is)).1).0
+  pub priority_is : (t : ℕ) (x : Task) → slice_get i.tasks t ≡ Some x → x.priority ≤ TASK_PRIORITY
+  priority_is t x is = leb-true _ _ (both (nat_le x.priority TASK_PRIORITY) _ (both (is_name x.name) _ (list_all-at (is_task i) i.tasks t x tasks is)).1).0
 
   pub begin_held : (n : ℕ) (s : Subprogram) → slice_get i.subprograms n ≡ Some s → holder i.subprograms (first_place i n) ≡ Some s
   begin_held n s is = subst (λ v. holder i.subprograms v ≡ Some s) (sym (first_place-is n)) (holds_begin i.subprograms 0 n s rising is)

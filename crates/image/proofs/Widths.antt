@@ -11,7 +11,7 @@ use Rattle.std.specs.Prelude.{int_le, int_lt, int_div, int_rem, nat_le, nat_lt, 
 use Rattle.std.specs.Int.{w64, cast_signed, cast_unsigned, int_bit_and, int_bit_or, int_bit_xor}
 use Rattle.base.specs.Arithmetic.{Checked, constraint_error, is_in_base_range, in_range, by, int_mod, absolute_of, difference_of, modulus_of, negation_of, product_of, quotient_of, remainder_of, sum_of}
 use Rattle.base.specs.Exceptions.{number_of}
-use Rattle.base.specs.Limits.{channels}
+use Rattle.base.specs.declared.limits.TheConstants.{CHANNELS}
 use Rattle.base.specs.Schedule.{input, input_after, is_heard}
 use Rattle.base.specs.declared.exceptions.PredefinedException.{PredefinedException}
 use Rattle.base.specs.declared.exceptions.PredefinedException.TheVariants.{ConstraintError, ProgramError, StorageError, TaskingError}
@@ -36,9 +36,9 @@ use Rattle.image.specs.declared.instruction.Operation.{Operation}
 use Rattle.image.specs.declared.instruction.Operation.TheVariants as op
 use Rattle.image.specs.declared.instruction.Region.{Region}
 use Rattle.image.specs.declared.instruction.Region.TheVariants as regions
-use Rattle.image.specs.declared.subprogram.Kind.{Kind}
-use Rattle.image.specs.declared.subprogram.Kind.TheVariants.{Plain, ProtectedProcedure, ProtectedFunction, EntryBody, TaskBody}
-use Rattle.image.specs.declared.subprogram.Subprogram.{Subprogram}
+use Rattle.image.specs.declared.subprograms.Kind.{Kind}
+use Rattle.image.specs.declared.subprograms.Kind.TheVariants.{Plain, ProtectedProcedure, ProtectedFunction, EntryBody, TaskBody}
+use Rattle.image.specs.declared.subprograms.Subprogram.{Subprogram}
 use Rattle.image.proofs.Bounds.{Bounded, Sleeps, Timely, bounded_after, bounded_begin}
 
 abbrev Anyone : ℕ → Type 0
@@ -132,7 +132,7 @@ input_fits (l ∷ ls) channel now before all fits = input_fits ls channel now _ 
 
 input_of_fits : (ls : List ScheduleLine) (now c : ℤ) → LinesFit ls → Gives64 (input_of ls now c)
 input_of_fits ls now (negsuc c) all u e = absurd (no_value ConstraintError u e)
-input_of_fits ls now (pos c) all u e = by (nat_le 1 c && nat_le c channels) e
+input_of_fits ls now (pos c) all u e = by (nat_le 1 c && nat_le c CHANNELS) e
   where
     by : (b : Bool) → cond b (Ok (input ls c now)) constraint_error ≡ Ok u → Fits64 u
     by true e = ok_fits (input ls c now) u (input_fits ls c now (pos 0) all refl) e

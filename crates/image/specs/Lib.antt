@@ -4,7 +4,6 @@ pub mod Faults
 pub mod Frames
 pub mod Laws
 pub mod Linked
-pub mod Names
 pub mod ObjectTable
 pub mod Operations
 pub mod Refusals

@@ -1,6 +1,6 @@
 -- What holds between the frames of tasks and the kernel in every world of a well-formed image; nobody has to believe this.
 use Rattle.std.specs.Prelude.{◌≡◌, ℕ, ◌+◌, ◌<◌, ◌≤◌, List, [], ◌∷◌, length, Option, Some, None, true, slice_get}
-use Rattle.base.specs.Limits.{most_frames}
+use Rattle.base.specs.declared.limits.TheConstants.{FRAMES}
 use Rattle.kernel.specs.State.{Action, Reads, Writes, Serves}
 use Rattle.kernel.specs.Effects.{Effect, Opens, Views, Ends, outer_of}
 use Rattle.kernel.specs.Invariant.{CanWrite, Has, ServesCall}
@@ -10,8 +10,8 @@ use Rattle.image.specs.Frames.{Role, Inner, Opened, Serving, Frame, TaskState, k
 use Rattle.image.specs.Steps.{Given, Results, Raised}
 use Rattle.image.specs.Shape.{AreBelow, IsGoing, IsSound, IsWaiting}
 use Rattle.image.specs.declared.instruction.Operation.TheVariants.{EntryCall}
-use Rattle.image.specs.declared.subprogram.Kind.{Kind}
-use Rattle.image.specs.declared.subprogram.Kind.TheVariants.{Plain, ProtectedProcedure, ProtectedFunction, EntryBody, TaskBody}
+use Rattle.image.specs.declared.subprograms.Kind.{Kind}
+use Rattle.image.specs.declared.subprograms.Kind.TheVariants.{Plain, ProtectedProcedure, ProtectedFunction, EntryBody, TaskBody}
 
 abbrev pub kind_at : Sections → Frame → Kind
 kind_at i f = kind_of (called i f.subprogram)
@@ -52,7 +52,7 @@ next_actions _ actions = actions
 
 -- the task stands at an entry call of the object, its parameters on the operand stack
 pub record IsCalling (i : Sections) (o : ℕ) (s : TaskState) : Type 0 where
-  pub few : length s.callers + 1 ≤ most_frames
+  pub few : length s.callers + 1 ≤ FRAMES
   pub going : IsGoing i s.frame
   pub at_call : going.x.operation ≡ EntryCall o
   pub quiet : s.raising ≡ None
@@ -60,7 +60,7 @@ pub record IsCalling (i : Sections) (o : ℕ) (s : TaskState) : Type 0 where
 
 -- the task waits at an entry call of the object, whose parameters were taken
 pub record IsAwaiting (i : Sections) (o : ℕ) (s : TaskState) : Type 0 where
-  pub few : length s.callers + 1 ≤ most_frames
+  pub few : length s.callers + 1 ≤ FRAMES
   pub n : ℕ
   pub entry : entry_of (slice_get i.objects o) ≡ Some n
   pub waiting : IsWaiting i n s.frame

@@ -1,6 +1,6 @@
 -- Protected objects as an image has them.
 use Rattle.std.specs.Prelude.{ℕ, ℤ, List, Option}
-use Rattle.image.specs.declared.object.Barrier.{Barrier}
+use Rattle.image.specs.declared.objects.Barrier.{Barrier}
 
 -- a ceiling priority, the subprogram of the entry, what opens it, and the initial words
 pub record ObjectRow : Type 0 where

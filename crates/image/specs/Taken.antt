@@ -4,8 +4,8 @@ use Rattle.std.specs.List.{list_all}
 use Rattle.image.specs.Sections.{Sections}
 use Rattle.image.specs.declared.instruction.Operation.{Operation}
 use Rattle.image.specs.declared.instruction.Operation.TheVariants.{Push, Negate, Add, Subtract, Multiply, Call, Return, PutLine}
-use Rattle.image.specs.declared.subprogram.Kind.{Kind}
-use Rattle.image.specs.declared.subprogram.Kind.TheVariants.{Plain, TaskBody}
+use Rattle.image.specs.declared.subprograms.Kind.{Kind}
+use Rattle.image.specs.declared.subprograms.Kind.TheVariants.{Plain, TaskBody}
 
 abbrev pub is_taken_operation : Operation → Bool
 is_taken_operation (Push k) = true

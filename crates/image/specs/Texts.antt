@@ -1,7 +1,7 @@
 -- The texts of an image by their numbers.
 use Rattle.std.specs.Prelude.{ℕ, zero, suc, List, [], Option, Some, None, slice_get}
 use Rattle.image.specs.Sections.{Sections}
-use Rattle.image.specs.declared.task.Task.{Task}
+use Rattle.image.specs.declared.tasks.Task.{Task}
 use Rattle.kernel.specs.Text.{Names}
 
 abbrev pub text_or_none : Option (List ℕ) → List ℕ

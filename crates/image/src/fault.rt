@@ -2,6 +2,7 @@
 ghost use Rattle.std.specs.Prelude.{◌≡◌};
 ghost use Rattle.image.specs.Faults.{memory_fault};
 
+use base::faults::MEMORY_REFUSED;
 use thiserror::Error;
 
 /// The rule that an image breaks, by its number in docs/FORMATS.md, and the byte where it does, counted from 0.
@@ -9,7 +10,9 @@ use thiserror::Error;
 #[derive(Clone, Copy, Debug, PartialEq, Eq, Error)]
 #[error("image fault {number} at byte {byte}")]
 pub struct ImageFault {
+    /// The number of the rule (`base::faults`).
     pub number: u8,
+    /// The byte where it is broken.
     pub byte: u32,
 }
 
@@ -19,7 +22,7 @@ impl ImageFault {
         ensures { result ≡ memory_fault }
     {
         ImageFault {
-            number: 60,
+            number: MEMORY_REFUSED,
             byte: 0,
         }
     }

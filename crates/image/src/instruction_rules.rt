@@ -6,12 +6,8 @@ ghost use Rattle.image.specs.Operations.{called};
 ghost use Rattle.image.specs.Sections.{holder_number};
 ghost use Rattle.image.specs.Rules.{all_begun, all_placed, same_number, some_and, calls_inside, has_body, covers_places, has_depth, has_effect, has_entry, has_object, has_region, has_word, in_holder, is_closed, is_external, is_plain, is_row_within, jumps_within, operands_in_range, jumps_stay_inside, named_things_exist, depths_agree, keeps_depth, leaves_depth, where_ends, names_things, writes_region};
 
-use crate::instruction::{Instr, Operation, Region};
-use crate::object::Object;
-use crate::parts::Parts;
-use crate::subprogram::{Kind, Subprogram};
-use crate::task::Task;
-use handlers::table::Row;
+use crate::{Instr, Kind, Object, Operation, Parts, Region, Subprogram, Task};
+use handlers::Row;
 
 impl Kind {
     // A call inside an object: from a procedure or entry body to its procedures and functions, and from a function to functions.

@@ -1,7 +1,7 @@
 //! The laws of images and their runs: each is what a function without work ensures.
 ghost use Rattle.image.specs.Laws.{BeginsSound, FitsAlways, FourInEveryWorld, FramesHaveRoom, KernelKept, LinesGrowOn, LinkedInEveryWorld, OutcomeStays, SoundToday, StepsSound};
 
-use crate::image::Image;
+use crate::Image;
 use kernel::laws::{
     begins_kept, entry_opens, four_statements_hold, kept_by_every_effect, left_unmoved, lines_grow,
     reaches_callers,

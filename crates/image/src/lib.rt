@@ -1,20 +1,27 @@
 //! Images: the code of a whole program with its tables, well-formed by construction.
 #![tactic(auto)]
 
-pub mod fault;
-pub mod image;
-pub mod instruction;
+mod building;
+mod fault;
+mod instruction;
 mod instruction_rules;
 pub mod laws;
-pub mod limits;
-pub mod names;
-pub mod object;
+mod objects;
 mod operation_rules;
-pub mod parts;
-pub mod subprogram;
+mod sections;
+mod subprograms;
 mod table_rules;
 mod tables;
 mod taken;
-pub mod task;
-pub mod text;
+mod tasks;
+mod texts;
 mod word_ranges;
+
+pub use building::Image;
+pub use fault::ImageFault;
+pub use instruction::{Instr, Operation, Region};
+pub use objects::{Barrier, Object};
+pub use sections::Parts;
+pub use subprograms::{Kind, Subprogram};
+pub use tasks::Task;
+pub use texts::Text;

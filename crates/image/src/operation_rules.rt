@@ -3,8 +3,8 @@ ghost use Rattle.std.specs.Prelude.{◌≡◌};
 ghost use Rattle.image.specs.Operations.{goes_on, jump_target};
 ghost use Rattle.image.specs.Rules.{has_operands, is_block, is_return};
 
-use crate::instruction::Operation;
-use crate::limits::WORDS;
+use crate::Operation;
+use base::limits::WORDS;
 
 impl Operation {
     /// Whether its operands are in range by themselves: a block has 1 to 8,192 words.

@@ -1,19 +1,17 @@
 //! The rules of the tables (docs/FORMATS.md, "Well-formed images", 47).
 ghost use Rattle.std.specs.Prelude.{◌≡◌, ◌+◌, ◌≤◌, ◌&&◌, ◌||◌, length, nat_eq, nat_le, nat_lt, not, slice_get, sum_by};
 ghost use Rattle.std.specs.List.{list_all};
-ghost use Rattle.image.specs.Names.{is_label, is_name, predefined};
+ghost use Rattle.base.specs.Names.{is_label, is_name, predefined};
 ghost use Rattle.image.specs.Rules.{all_begun, all_nested, all_placed, are_nested, begins_with, has_counts, has_ends, is_barrier, is_closed_barrier, is_entry_body_of, is_entry_of_object, is_object, is_subprogram, is_task, is_task_body, tables_agree, last_end, none_or};
 
-use crate::limits::{
-    CEILING, EXCEPTIONS, FRAME_WORDS, INSTRUCTIONS, LABELS, OBJECTS, PRIORITY, ROWS, SUBPROGRAMS,
-    TASKS, WORDS,
+use crate::{Barrier, Kind, Object, Parts, Subprogram, Task, Text};
+use base::PredefinedException;
+use base::limits::{
+    CEILING, EXCEPTIONS, FRAME_WORDS, INSTRUCTIONS, LABELS, OBJECTS, ROWS, SUBPROGRAMS,
+    TASK_PRIORITY, TASKS, WORDS,
 };
-use crate::names;
-use crate::object::{Barrier, Object};
-use crate::parts::Parts;
-use crate::subprogram::{Kind, Subprogram};
-use crate::task::Task;
-use handlers::table::Row;
+use base::names::{is_label, is_name};
+use handlers::Row;
 
 impl Kind {
     fn is_task_body(&self) -> bool
@@ -199,8 +197,8 @@ impl Parts {
     fn is_task(&self, t: &Task) -> bool
         ensures { result ≡ is_task self.now t.now }
     {
-        names::is_name(t.name.as_bytes())
-            && t.priority <= PRIORITY
+        is_name(t.name.as_bytes())
+            && t.priority <= TASK_PRIORITY
             && match self.called(t.subprogram) {
                 None => true,
                 Some(s) => s.kind.is_task_body(),
@@ -210,19 +208,19 @@ impl Parts {
     fn begins_with_predefined(&self) -> bool
         ensures { result ≡ begins_with predefined self.now.exceptions }
     {
-        names::begin_with_predefined(&self.exceptions)
+        begin_with_predefined(&self.exceptions)
     }
 
     fn all_exceptions(&self) -> bool
         ensures { result ≡ list_all is_name self.now.exceptions }
     {
-        self.exceptions.iter().all(|x| names::is_name(x.as_bytes()))
+        self.exceptions.iter().all(|x| is_name(x.as_bytes()))
     }
 
     fn all_labels(&self) -> bool
         ensures { result ≡ list_all is_label self.now.labels }
     {
-        self.labels.iter().all(|l| names::is_label(l.as_bytes()))
+        self.labels.iter().all(|l| is_label(l.as_bytes()))
     }
 
     fn all_row_exceptions(&self) -> bool
@@ -249,6 +247,20 @@ fn are_nested_in_or_around(r: &Row, rows: &[Row]) -> bool
     ensures { result ≡ list_all (are_nested r.now) rows.now }
 {
     rows.iter().all(|q| are_nested(r, q))
+}
+
+fn begin_with_predefined(names: &[Text]) -> bool
+    ensures { result ≡ begins_with predefined names.now }
+{
+    match names {
+        [first, second, third, fourth, ..] => {
+            PredefinedException::ConstraintError.name() == first.as_bytes()
+                && PredefinedException::ProgramError.name() == second.as_bytes()
+                && PredefinedException::StorageError.name() == third.as_bytes()
+                && PredefinedException::TaskingError.name() == fourth.as_bytes()
+        }
+        _ => false,
+    }
 }
 
 fn is_barrier(o: &Object) -> bool

@@ -3,9 +3,7 @@ ghost use Rattle.std.specs.Prelude.{◌≡◌, ◌≤◌, ◌^◌};
 ghost use Rattle.image.specs.Sections.{holder, holder_number, object_of, writes_object};
 ghost use Rattle.image.specs.Operations.{called, entry_called, given_by, parameters_of, results_of, taken_by};
 
-use crate::instruction::Operation;
-use crate::parts::Parts;
-use crate::subprogram::{Kind, Subprogram};
+use crate::{Kind, Operation, Parts, Subprogram};
 
 impl Kind {
     /// The object that a subprogram of this kind belongs to.

@@ -3,9 +3,7 @@ ghost use Rattle.std.specs.Prelude.{◌≡◌};
 ghost use Rattle.std.specs.List.{list_all};
 ghost use Rattle.image.specs.Taken.{is_taken_kind, is_taken_operation, takes_operations, takes_tables};
 
-use crate::instruction::Operation;
-use crate::parts::Parts;
-use crate::subprogram::Kind;
+use crate::{Kind, Operation, Parts};
 
 impl Operation {
     fn is_taken(&self) -> bool

@@ -1,8 +1,7 @@
 //! The words that an image holds are `i64`, read one by one.
 ghost use Rattle.image.specs.Width.{AllFit, ConstantFits, ConstantsFit, ImageFits, ObjectsFit};
 
-use crate::instruction::{Instr, Operation};
-use crate::parts::Parts;
+use crate::{Instr, Operation, Parts};
 
 impl Parts {
     pub(crate) fn words_fit(&self)

@@ -1,12 +1,12 @@
 -- Steps that leave dispatching and the clock as they are.
 use Rattle.std.proofs.Common.{◌≡◌, inl, ℕ, ◌+◌, ◌<◌, ◌≤◌, List, [], ◌∷◌, ◌++◌, Option, Some, None, Bool, cond, refl, sym, ap, ◌∙◌, subst, ⊎_elim, arith}
 use Rattle.std.proofs.lemmas.Bool.{le-ltb, cases_lt}
-use Rattle.base.specs.Limits.{priorities}
+use Rattle.base.specs.declared.limits.TheConstants.{PRIORITIES}
 use Rattle.kernel.specs.State.{Kernel, IsReady, Action, Reads, Writes, active, raised, put, is_object_open}
 use Rattle.kernel.specs.Dispatching.{highest, runs_from, preempted, preempts, dispatch_from, dispatch}
 use Rattle.kernel.specs.Clock.{time_moves, clock_from, clock}
 use Rattle.kernel.specs.Effects.{SameObject, AboveCeiling, Ends, is_above_ceiling, ending_of, outer_of, with_actions, ends, after}
-use Rattle.kernel.specs.Calm.{Runs, Calm}
+use Rattle.kernel.specs.Calm.{IsRunner, Calm}
 use Rattle.kernel.specs.Invariant.{count, Has, ServesCall, Sound, Settled, Kept}
 use Rattle.kernel.specs.Laws.{DispatchedOnce, ClockedOnce, StandsStill, SomebodyRuns, RunnerIsCalm, QuietStays, SaysOn, OpensOn, ViewsOn, ViewsBack, EntryOpens, OneService}
 use Rattle.kernel.specs.PutLaws.{eqb_same, put_same, put_put, put_self}
@@ -17,16 +17,16 @@ use Rattle.kernel.proofs.Clock.{finish}
 
 module _ (k : Kernel) (t : ℕ) where
   -- where no list is higher than the running task, it runs on
-  runs_on : (o : Option ℕ) → highest k.ready priorities ≡ o → ((h : ℕ) → active k t < h → k.ready h ≡ []) → preempts t o k ≡ k
+  runs_on : (o : Option ℕ) → highest k.ready PRIORITIES ≡ o → ((h : ℕ) → active k t < h → k.ready h ≡ []) → preempts t o k ≡ k
   runs_on None e above = refl
   runs_on (Some h) e above =
-      let i = highest_is k.ready priorities h e in
+      let i = highest_is k.ready PRIORITIES h e in
       let low : h ≤ active k t = ⊎_elim (λ lt. let none : [] ≡ i.first ∷ i.rest = sym (above h lt) ∙ i.here in absurd (cc)) (λ ge. ge) (cases_lt (active k t) h) in
       ap (λ b. cond b (runs_from (Some h) (preempted t k)) k) (le-ltb (active k t) h low)
 
   module _ (calm : Calm k t) where
     dispatch_still : dispatch k ≡ k
-    dispatch_still = ap (λ r. dispatch_from r k) calm.runs.running ∙ runs_on (highest k.ready priorities) refl calm.above
+    dispatch_still = ap (λ r. dispatch_from r k) calm.runs.running ∙ runs_on (highest k.ready PRIORITIES) refl calm.above
 
     pub still : clock (dispatch k) ≡ k
     still = ap clock dispatch_still ∙ ap (λ r. clock_from r k) calm.runs.running
@@ -79,24 +79,24 @@ empty_above b k t h (u ∷ us) e s st run lt =
 pub runner_is_calm : RunnerIsCalm
 runner_is_calm b k t kept runs = record { runs = runs; above = λ h lt. empty_above b k t h (k.ready h) refl kept.sound kept.settled runs.running lt }
 
-somebody_at : (b : ℕ → Bool) (k : Kernel) (r : Option ℕ) → k.running ≡ r → Kept b k → k.outcome ≡ None → (t : ℕ) × Runs k t
+somebody_at : (b : ℕ → Bool) (k : Kernel) (r : Option ℕ) → k.running ≡ r → Kept b k → k.outcome ≡ None → (t : ℕ) × IsRunner k t
 somebody_at b k (Some t) e kept on = (t, record { on = on; running = e })
 somebody_at b k None e kept on = let o = (kept.over e).1 in absurd (cc)
 
 pub somebody_runs : SomebodyRuns
 somebody_runs b k kept on = somebody_at b k k.running refl kept on
 
-nobody_moves : (b : ℕ → Bool) (k : Kernel) (o : Option ℕ) → highest k.ready priorities ≡ o → Sound b k [] → ((u : ℕ) → k.place u ≡ IsReady → ⊥) → runs_from (highest k.ready priorities) k ≡ k
+nobody_moves : (b : ℕ → Bool) (k : Kernel) (o : Option ℕ) → highest k.ready PRIORITIES ≡ o → Sound b k [] → ((u : ℕ) → k.place u ≡ IsReady → ⊥) → runs_from (highest k.ready PRIORITIES) k ≡ k
 nobody_moves b k None e s none = ap (λ o. runs_from o k) e
 nobody_moves b k (Some h) e s none =
-    let i = highest_is k.ready priorities h e in
+    let i = highest_is k.ready PRIORITIES h e in
     let here : count i.first (k.ready h) ≡ count i.first (i.first ∷ i.rest) = ap (count i.first) i.here in
     let one : count i.first (i.first ∷ i.rest) ≡ 1 + count i.first i.rest = ap (λ v. cond v 1 0 + count i.first i.rest) (eqb_same i.first i.first refl) in
     absurd (none i.first (ready_if b k [] s i.first h (omega arith)))
 
 dispatch_at : (b : ℕ → Bool) (k : Kernel) (r : Option ℕ) → k.running ≡ r → Sound b k [] → Settled k → dispatch k ≡ k
-dispatch_at b k None e s st = ap (λ r. dispatch_from r k) e ∙ nobody_moves b k (highest k.ready priorities) refl s (λ u. st.nobody u e)
-dispatch_at b k (Some t) e s st = ap (λ r. dispatch_from r k) e ∙ runs_on k t (highest k.ready priorities) refl (λ h lt. empty_above b k t h (k.ready h) refl s st e lt)
+dispatch_at b k None e s st = ap (λ r. dispatch_from r k) e ∙ nobody_moves b k (highest k.ready PRIORITIES) refl s (λ u. st.nobody u e)
+dispatch_at b k (Some t) e s st = ap (λ r. dispatch_from r k) e ∙ runs_on k t (highest k.ready PRIORITIES) refl (λ h lt. empty_above b k t h (k.ready h) refl s st e lt)
 
 clock_at : (b : ℕ → Bool) (k : Kernel) (r : Option ℕ) → k.running ≡ r → Kept b k → clock k ≡ k
 clock_at b k (Some t) e kept = ap (λ r. clock_from r k) e

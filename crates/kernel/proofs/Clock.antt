@@ -2,7 +2,7 @@
 use Rattle.std.proofs.Common.{◌≡◌, ◌≢◌, ◌⊎◌, inl, inr, ℕ, ◌+◌, ◌<◌, ◌≤◌, ℤ, List, [], ◌∷◌, ◌++◌, Option, Some, None, Bool, false, cond, refl, sym, ap, ◌∙◌, subst, ⊎_elim, arith}
 use Rattle.std.specs.Prelude.{int_lt}
 use Rattle.std.proofs.lemmas.Int.{ints}
-use Rattle.base.specs.Limits.{priorities}
+use Rattle.base.specs.declared.limits.TheConstants.{PRIORITIES}
 use Rattle.kernel.specs.State.{Kernel, Place, IsRunning, IsReady, IsAsleep, IsQueued, IsServed, IsFinished, Sleeper, put}
 use Rattle.kernel.specs.Dispatching.{becomes_ready, highest, runs_head, runs_from, dispatch_from, dispatch}
 use Rattle.kernel.specs.Clock.{released, least, wakes_if_due, wakes_due, last_outcome, time_moves, clock_from, clock}
@@ -90,10 +90,10 @@ due_ready (x ∷ ss) k d =
     d
 
 -- where a task is ready, somebody runs after dispatching
-somebody_at : (b : ℕ → Bool) (k : Kernel) (o : Option ℕ) → Sound b k [] → k.running ≡ None → highest k.ready priorities ≡ o → (u : ℕ) → k.place u ≡ IsReady → (dispatch k).running ≢ None
+somebody_at : (b : ℕ → Bool) (k : Kernel) (o : Option ℕ) → Sound b k [] → k.running ≡ None → highest k.ready PRIORITIES ≡ o → (u : ℕ) → k.place u ≡ IsReady → (dispatch k).running ≢ None
 somebody_at b k None s e eo u i none = absurd (no_ready b k [] s eo u i)
 somebody_at b k (Some h) s e eo u i none =
-    let at = highest_is k.ready priorities h eo in
+    let at = highest_is k.ready PRIORITIES h eo in
     let is : dispatch k ≡ runs_head (at.first ∷ at.rest) h k = ap (λ r. dispatch_from r k) e ∙ (ap (λ o. runs_from o k) eo ∙ ap (λ l. runs_head l h k) at.here) in
     let there = ap (λ l. l.running) is in
     absurd (cc)

@@ -1,7 +1,7 @@
 -- Dispatching keeps a kernel sound, and settles it.
 use Rattle.std.proofs.Common.{◌≡◌, ◌≢◌, ◌⊎◌, inl, ℕ, zero, suc, ◌+◌, ◌<◌, ◌≤◌, List, [], ◌∷◌, Option, Some, None, Bool, cond, eqb, refl, sym, ap, ◌∙◌, subst, ⊎_elim, arith}
 use Rattle.std.proofs.lemmas.Bool.{le-ltb, lt-ltb, cases_lt}
-use Rattle.base.specs.Limits.{priorities}
+use Rattle.base.specs.declared.limits.TheConstants.{PRIORITIES}
 use Rattle.kernel.specs.State.{Kernel, IsRunning, IsReady, IsQueued, IsServed, Sleeper, active, raised, put}
 use Rattle.kernel.specs.Dispatching.{unless_empty, highest, runs_head, runs_from, preempted, preempts, dispatch_from, dispatch}
 use Rattle.kernel.specs.Invariant.{Busy, count, naps, listed, asleep, Sound, Settled}
@@ -48,19 +48,19 @@ highest_none r (suc n) e m lt = highest_none_next r n (r n) refl e (highest_none
 
 module _ (b : ℕ → Bool) (k : Kernel) (p : List Sleeper) (s : Sound b k p) where
   -- no ready task stands above the highest list
-  ready_under : (h u : ℕ) → ((m : ℕ) → h < m → m < priorities → k.ready m ≡ []) → k.place u ≡ IsReady → active k u ≤ h
+  ready_under : (h u : ℕ) → ((m : ℕ) → h < m → m < PRIORITIES → k.ready m ≡ []) → k.place u ≡ IsReady → active k u ≤ h
   ready_under h u empty e =
       let one = in_list b k p s u e in
       let less = low b k p s u in
       ⊎_elim (λ lt. let none : count u (k.ready (active k u)) ≡ 0 = ap (count u) (empty (active k u) lt less) in absurd (omega arith)) (λ ge. omega arith) (cases_lt h (active k u))
 
-  pub no_ready : highest k.ready priorities ≡ None → (u : ℕ) → k.place u ≡ IsReady → ⊥
+  pub no_ready : highest k.ready PRIORITIES ≡ None → (u : ℕ) → k.place u ≡ IsReady → ⊥
   no_ready e u i =
       let one = in_list b k p s u i in
-      let none : count u (k.ready (active k u)) ≡ 0 = ap (count u) (highest_none k.ready priorities e (active k u) (low b k p s u)) in
+      let none : count u (k.ready (active k u)) ≡ 0 = ap (count u) (highest_none k.ready PRIORITIES e (active k u) (low b k p s u)) in
       omega arith
 
-  chosen_at : (h : ℕ) → k.running ≡ None → (i : Highest k.ready priorities h) →
+  chosen_at : (h : ℕ) → k.running ≡ None → (i : Highest k.ready PRIORITIES h) →
       (let next : Kernel = record k { running = Some i.first; ready = put h i.rest k.ready; place = put i.first IsRunning k.place } in Sound b next p × Settled next)
   chosen_at h none i =
       let t = i.first in
@@ -126,26 +126,26 @@ module _ (b : ℕ → Bool) (k : Kernel) (p : List Sleeper) (s : Sound b k p) wh
         },
       )
 
-  chosen : (h : ℕ) → k.running ≡ None → Highest k.ready priorities h → Sound b (runs_from (Some h) k) p × Settled (runs_from (Some h) k)
+  chosen : (h : ℕ) → k.running ≡ None → Highest k.ready PRIORITIES h → Sound b (runs_from (Some h) k) p × Settled (runs_from (Some h) k)
   chosen h none i = subst (λ n. Sound b n p × Settled n) (sym (ap (λ l. runs_head l h k) i.here)) (chosen_at h none i)
 
-settled_at : (b : ℕ → Bool) (k : Kernel) (p : List Sleeper) (r o : Option ℕ) → k.running ≡ r → highest k.ready priorities ≡ o → Sound b k p → Sound b (dispatch k) p × Settled (dispatch k)
+settled_at : (b : ℕ → Bool) (k : Kernel) (p : List Sleeper) (r o : Option ℕ) → k.running ≡ r → highest k.ready PRIORITIES ≡ o → Sound b k p → Sound b (dispatch k) p × Settled (dispatch k)
 settled_at b k p None None er eo s =
     let is : dispatch k ≡ k = ap (λ r. dispatch_from r k) er ∙ ap (λ o. runs_from o k) eo in
     subst (λ n. Sound b n p × Settled n) (sym is) (s, record { first = λ r u e. absurd (cc); nobody = λ u e i. no_ready b k p s eo u i })
 settled_at b k p None (Some h) er eo s =
     let is : dispatch k ≡ runs_from (Some h) k = ap (λ r. dispatch_from r k) er ∙ ap (λ o. runs_from o k) eo in
-    subst (λ n. Sound b n p × Settled n) (sym is) (chosen b k p s h er (highest_is k.ready priorities h eo))
+    subst (λ n. Sound b n p × Settled n) (sym is) (chosen b k p s h er (highest_is k.ready PRIORITIES h eo))
 settled_at b k p (Some t) None er eo s =
     let is : dispatch k ≡ k = ap (λ r. dispatch_from r k) er ∙ ap (λ o. preempts t o k) eo in
     subst (λ n. Sound b n p × Settled n) (sym is) (s, record { first = λ r u e i. absurd (no_ready b k p s eo u i); nobody = λ u e. absurd (cc) })
 settled_at b k p (Some t) (Some h) er eo s =
     let is : dispatch k ≡ preempts t (Some h) k = ap (λ r. dispatch_from r k) er ∙ ap (λ o. preempts t o k) eo in
-    let i = highest_is k.ready priorities h eo in
+    let i = highest_is k.ready PRIORITIES h eo in
     ⊎_elim
     (λ lt.
     let e : preempts t (Some h) k ≡ runs_from (Some h) (preempted t k) = ap (λ b. cond b (runs_from (Some h) (preempted t k)) k) (lt-ltb (active k t) h lt) in
-    let j : Highest (preempted t k).ready priorities h = record {
+    let j : Highest (preempted t k).ready PRIORITIES h = record {
       first = i.first;
       rest = i.rest;
       here = put_other (active k t) h _ k.ready (λ m. omega arith) ∙ i.here;
@@ -160,4 +160,4 @@ settled_at b k p (Some t) (Some h) er eo s =
     (cases_lt (active k t) h)
 
 pub dispatch_sound : (b : ℕ → Bool) (k : Kernel) (p : List Sleeper) → Sound b k p → Sound b (dispatch k) p × Settled (dispatch k)
-dispatch_sound b k p s = settled_at b k p k.running (highest k.ready priorities) refl refl s
+dispatch_sound b k p s = settled_at b k p k.running (highest k.ready PRIORITIES) refl refl s

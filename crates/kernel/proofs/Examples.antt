@@ -2,7 +2,7 @@
 use Rattle.std.proofs.Common.{◌≡◌, ℕ, zero, suc, ℤ, List, [], ◌∷◌, ◌++◌, Option, Some, None, true, false, refl}
 use Rattle.std.specs.Prelude.{pos, negsuc, codes}
 use Rattle.std.specs.Fmt.{digits}
-use Rattle.base.specs.Limits.{priorities}
+use Rattle.base.specs.declared.limits.TheConstants.{PRIORITIES}
 use Rattle.kernel.specs.State.{Kernel, Partition, Sleeper, inside}
 use Rattle.kernel.specs.Effects.{Effect, Quiet, Says, Delays, Opens, Queues, Ends, Finishes, Dies, Breaks, SameObject, AboveCeiling, is_inside_any, is_above_ceiling, call_refusal, is_full, begin, after}
 use Rattle.kernel.specs.Text.{Names, text}
@@ -33,7 +33,7 @@ pub record View : Type 0 where
   pub now : ℤ
 
 abbrev pub shown : Kernel → View
-shown k = record { running = k.running; ready = levels priorities k.ready; asleep = sleeping k.sleepers; now = k.now }
+shown k = record { running = k.running; ready = levels PRIORITIES k.ready; asleep = sleeping k.sleepers; now = k.now }
 
 -- The running task does each of these effects
 

@@ -1,6 +1,6 @@
 -- What follows from a sound kernel: where tasks stand, and that they exclude one another.
 use Rattle.std.proofs.Common.{◌≡◌, ◌≢◌, ℕ, ◌+◌, ◌<◌, ◌≤◌, List, [], Bool, cond, refl, sym, ap, ◌∙◌, ⊎_elim, arith}
-use Rattle.base.specs.Limits.{priorities}
+use Rattle.base.specs.declared.limits.TheConstants.{PRIORITIES}
 use Rattle.kernel.specs.State.{Kernel, Place, IsRunning, IsReady, IsAsleep, IsQueued, IsServed, IsFinished, Sleeper, active}
 use Rattle.kernel.specs.Invariant.{At, Busy, count, naps, listed, asleep, Sound}
 use Rattle.kernel.specs.PutLaws.{same_or_not, eqb_same, eqb_other}
@@ -70,8 +70,8 @@ module _ (b : ℕ → Bool) (k : Kernel) (p : List Sleeper) (s : Sound b k p) wh
       let e = listed_at u h IsReady (ready_if u h lt) in
       ⊎_elim (λ i. i) (λ ne. let z = ready_unlisted (active k u) h ne in absurd (omega arith)) (same_or_not h (active k u))
 
-  pub low : (t : ℕ) → active k t < priorities
-  low t = raised_below k.partition.ceiling (k.partition.base t) priorities (k.actions t) (s.base_low t) s.ceiling_low
+  pub low : (t : ℕ) → active k t < PRIORITIES
+  low t = raised_below k.partition.ceiling (k.partition.base t) PRIORITIES (k.actions t) (s.base_low t) s.ceiling_low
 
   -- who neither runs nor is ready has no action open
   pub idle_if : (t : ℕ) (q : Place) → k.place t ≡ q → q ≢ IsRunning → q ≢ IsReady → k.actions t ≡ []

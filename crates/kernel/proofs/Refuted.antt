@@ -1,7 +1,7 @@
 -- Wrong rules, each refused by a computed situation in which it gives what the right rule, and the manual, do not.
 use Rattle.std.proofs.Common.{◌≡◌, ℕ, ℤ, List, [], ◌∷◌, ◌++◌, Option, Some, None, true, false, refl, sym, ap, ◌∙◌, ⊎_elim}
 use Rattle.std.specs.Prelude.{pos, int_lt, nat_lt, nat_le, if◌then◌else◌}
-use Rattle.base.specs.Limits.{priorities}
+use Rattle.base.specs.declared.limits.TheConstants.{PRIORITIES}
 use Rattle.kernel.specs.State.{Action, Ended, Kernel, Line, Partition, Sleeper, IsReady, Reads, Serves, Writes, object_of, put, active, is_object_open, raised}
 use Rattle.kernel.specs.Dispatching.{becomes_ready, highest, leaves, preempted, runs_from, dispatch}
 use Rattle.kernel.specs.Clock.{clock, time_moves, wakes_due}
@@ -34,7 +34,7 @@ abbrev inner_ends : Kernel
 inner_ends = effect 0 (Ends false) (does (outer_action ++ (Opens 0 ∷ Ends true ∷ Ends false ∷ Opens 1 ∷ Ends true ∷ [])) (begin nested))
 
 abbrev to_tail : Kernel
-to_tail = runs_from (highest inner_ends.ready priorities) (preempted_to_tail 0 inner_ends)
+to_tail = runs_from (highest inner_ends.ready PRIORITIES) (preempted_to_tail 0 inner_ends)
 
 head_shown : shown (dispatch inner_ends) ≡ runs 1 (at 10 (0 ∷ 2 ∷ []) ∷ []) [] 0
 head_shown = refl
@@ -207,8 +207,11 @@ highest_counts = refl
 innermost_alone : innermost_ceiling lower_inside 5 (Writes 0 ∷ Writes 1 ∷ []) ≡ 10
 innermost_alone = refl
 
+ten_not_twenty : (m n : ℕ) → m ≡ 10 → n ≡ 20 → m ≡ n → ⊥
+ten_not_twenty m n e f same = cc
+
 innermost_refuted : innermost_ceiling lower_inside 5 (Writes 0 ∷ Writes 1 ∷ []) ≡ raised lower_inside 5 (Writes 0 ∷ Writes 1 ∷ []) → ⊥
-innermost_refuted e = let f : 10 ≡ 20 = sym innermost_alone ∙ (e ∙ highest_counts) in cc
+innermost_refuted e = ten_not_twenty _ _ innermost_alone highest_counts e
 
 -- A function that serves, or forgets the actions around its own; an open barrier that hands the queued caller back unserved
 

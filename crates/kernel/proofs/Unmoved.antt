@@ -4,7 +4,7 @@ use Rattle.std.proofs.lemmas.List.{append-nil}
 use Rattle.std.specs.Prelude.{int_lt}
 use Rattle.kernel.specs.State.{Kernel, Sleeper, Line, Action, Reads, Writes, Serves, active}
 use Rattle.kernel.specs.Dispatching.{becomes_ready, leaves, runs_head, runs_from, preempted, preempts, dispatch_from, dispatch, highest}
-use Rattle.base.specs.Limits.{priorities}
+use Rattle.base.specs.declared.limits.TheConstants.{PRIORITIES}
 use Rattle.kernel.specs.Clock.{falls_asleep, released, least, wakes_if_due, wakes_due, time_moves, clock_from, clock}
 use Rattle.kernel.specs.Effects.{Quiet, Says, Delays, Opens, Views, Queues, Ends, Finishes, Dies, Breaks, service, ending_of, outer_of, ends, effect}
 use Rattle.kernel.specs.Laws.{Unmoved, LeftUnmoved, LinesGrow}
@@ -32,8 +32,8 @@ preempts_unmoved t (Some h) k =
     (same k)
 
 dispatch_unmoved_at : (r : Option ℕ) (k : Kernel) → Unmoved (dispatch_from r k) k
-dispatch_unmoved_at None k = from_unmoved (highest k.ready priorities) k
-dispatch_unmoved_at (Some t) k = preempts_unmoved t (highest k.ready priorities) k
+dispatch_unmoved_at None k = from_unmoved (highest k.ready PRIORITIES) k
+dispatch_unmoved_at (Some t) k = preempts_unmoved t (highest k.ready PRIORITIES) k
 
 dispatch_unmoved : (k : Kernel) → Unmoved (dispatch k) k
 dispatch_unmoved k = dispatch_unmoved_at k.running k

@@ -1,7 +1,7 @@
 -- Dispatching: first in, first out within priorities, with preemption (RM D.2.1, D.2.3).
 use Rattle.std.specs.Prelude.{ℕ, zero, suc, List, [], ◌∷◌, ◌++◌, Option, Some, None, nat_lt, if◌then◌else◌}
 use Rattle.kernel.specs.State.{Kernel, IsRunning, IsReady, IsFinished, put, active}
-use Rattle.base.specs.Limits.{priorities}
+use Rattle.base.specs.declared.limits.TheConstants.{PRIORITIES}
 
 -- the running task t gives up the processor (RM D.2.1), and is nowhere until it is put somewhere
 abbrev pub leaves : ℕ → Kernel → Kernel
@@ -39,8 +39,8 @@ preempts t None k = k
 preempts t (Some h) k = if nat_lt (active k t) h then runs_from (Some h) (preempted t k) else k
 
 abbrev pub dispatch_from : Option ℕ → Kernel → Kernel
-dispatch_from None k = runs_from (highest k.ready priorities) k
-dispatch_from (Some t) k = preempts t (highest k.ready priorities) k
+dispatch_from None k = runs_from (highest k.ready PRIORITIES) k
+dispatch_from (Some t) k = preempts t (highest k.ready PRIORITIES) k
 
 -- the head of the highest list that is not empty runs (RM D.2.1)
 abbrev pub dispatch : Kernel → Kernel

@@ -1,6 +1,6 @@
 -- What holds of every kernel between steps, and what a step owes for it; nobody has to believe this.
 use Rattle.std.specs.Prelude.{◌≡◌, ◌≢◌, ◌⊎◌, ℕ, ◌+◌, ◌<◌, ◌≤◌, List, [], ◌∷◌, Some, None, Bool, false, nat_eq, if◌then◌else◌}
-use Rattle.base.specs.Limits.{priorities}
+use Rattle.base.specs.declared.limits.TheConstants.{PRIORITIES}
 use Rattle.kernel.specs.State.{Partition, Kernel, Place, IsRunning, IsReady, IsAsleep, IsQueued, IsServed, IsFinished, Action, Reads, Writes, Serves, object_of, Sleeper, active, raised}
 use Rattle.kernel.specs.Clock.{last_outcome}
 use Rattle.kernel.specs.Effects.{Effect, Quiet, Says, Delays, Opens, Views, Queues, Ends, Finishes, Dies, Breaks, is_inside_any, is_above_ceiling, call_refusal, is_full}
@@ -71,8 +71,8 @@ asleep IsFinished = 0
 -- `barrier o` tells whether the barrier of o is open; `pending` are sleepers that the clock has yet to look at
 pub record Sound (barrier : ℕ → Bool) (k : Kernel) (pending : List Sleeper) : Type 0 where
   -- priorities
-  pub base_low : (t : ℕ) → k.partition.base t < priorities
-  pub ceiling_low : (o : ℕ) → k.partition.ceiling o < priorities
+  pub base_low : (t : ℕ) → k.partition.base t < PRIORITIES
+  pub ceiling_low : (o : ℕ) → k.partition.ceiling o < PRIORITIES
   -- exactly one place for each task
   pub runs : (t : ℕ) → k.running ≡ Some t → k.place t ≡ IsRunning
   pub runner : (t : ℕ) → k.place t ≡ IsRunning → k.running ≡ Some t
@@ -105,8 +105,8 @@ pub record Kept (barrier : ℕ → Bool) (k : Kernel) : Type 0 where
 
 -- priorities and ceilings are in their range
 pub record Fits (p : Partition) : Type 0 where
-  pub base_low : (t : ℕ) → p.base t < priorities
-  pub ceiling_low : (o : ℕ) → p.ceiling o < priorities
+  pub base_low : (t : ℕ) → p.base t < PRIORITIES
+  pub ceiling_low : (o : ℕ) → p.ceiling o < PRIORITIES
 
 -- where a procedure or an entry may serve, the barrier that is handed in is its object's
 abbrev pub Tells : (ℕ → Bool) → Bool → List Action → Type 0

@@ -5,7 +5,7 @@ use Rattle.kernel.specs.Dispatching.{dispatch}
 use Rattle.kernel.specs.Clock.{clock}
 use Rattle.kernel.specs.Effects.{Effect, Quiet, Says, Opens, Views, Ends, TakesOver, HandsBack, is_inside_any, is_above_ceiling, call_refusal, effect, after, begin}
 use Rattle.kernel.specs.Worlds.{ending}
-use Rattle.kernel.specs.Calm.{Runs, Calm}
+use Rattle.kernel.specs.Calm.{IsRunner, Calm}
 use Rattle.kernel.specs.Invariant.{Sound, Served, Kept, Fits, Passed, Held}
 use Rattle.kernel.specs.Exclusion.{StandsIn, IsInside, FourStatements}
 
@@ -59,14 +59,14 @@ LinesGrow = (t : ℕ) (e : Effect) (k : Kernel) → (more : List Line) × ((afte
 -- The running task
 
 abbrev pub SomebodyRuns : Type 0
-SomebodyRuns = (barrier : ℕ → Bool) (k : Kernel) → Kept barrier k → k.outcome ≡ None → (t : ℕ) × Runs k t
+SomebodyRuns = (barrier : ℕ → Bool) (k : Kernel) → Kept barrier k → k.outcome ≡ None → (t : ℕ) × IsRunner k t
 
 -- where nobody runs, nobody is ready
 abbrev pub NobodyReady : Type 0
 NobodyReady = (barrier : ℕ → Bool) (k : Kernel) → Kept barrier k → k.running ≡ None → (h : ℕ) → k.ready h ≡ []
 
 abbrev pub RunnerIsCalm : Type 0
-RunnerIsCalm = (barrier : ℕ → Bool) (k : Kernel) (t : ℕ) → Kept barrier k → Runs k t → Calm k t
+RunnerIsCalm = (barrier : ℕ → Bool) (k : Kernel) (t : ℕ) → Kept barrier k → IsRunner k t → Calm k t
 
 abbrev pub QuietStays : Type 0
 QuietStays = (k : Kernel) (t : ℕ) → Calm k t → after t Quiet k ≡ k

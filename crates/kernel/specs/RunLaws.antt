@@ -5,7 +5,7 @@ use Rattle.kernel.specs.State.{Kernel, Outcome, Line}
 use Rattle.kernel.specs.PutLaws.{put_same, put_put, put_self}
 use Rattle.kernel.specs.Effects.{Closes, after}
 use Rattle.kernel.specs.Worlds.{World, Local, step_of, step, run, Tasks, Solo, Behaviour, ending, reached, solo_of, put_back, among}
-use Rattle.kernel.specs.Calm.{Runs}
+use Rattle.kernel.specs.Calm.{IsRunner}
 use Rattle.kernel.specs.Counting.{Unseen, Spends, Done, Own, Calls, next_kernel, next_solo}
 use Rattle.kernel.specs.Invariant.{Kept, Passed, Held}
 use Rattle.kernel.specs.Laws.{KeptByEvery, LinesGrow}
@@ -17,7 +17,7 @@ run_plus f zero j w = let e : zero + j ≡ j = omega arith in ap (λ n. run f n 
 run_plus f (suc i) j w = let e : suc i + j ≡ suc (i + j) = omega arith in ap (λ n. run f n w) e ∙ run_plus f i j (step f w)
 
 -- the step where a task runs
-pub step_running : {D : Type 0} (f : Local D) (k : Kernel) (t : ℕ) (d : D) → Runs k t → step f (record { kernel = k; rest = d }) ≡ record { kernel = after t (f k t d).effect k; rest = (f k t d).rest }
+pub step_running : {D : Type 0} (f : Local D) (k : Kernel) (t : ℕ) (d : D) → IsRunner k t → step f (record { kernel = k; rest = d }) ≡ record { kernel = after t (f k t d).effect k; rest = (f k t d).rest }
 step_running f k t d runs = ap (λ o. step_of f k d o k.running) runs.on ∙ ap (λ r. step_of f k d None r) runs.running
 
 step_over : {D : Type 0} (f : Local D) (w : World D) (o : Outcome) → w.kernel.outcome ≡ Some o → step f w ≡ w
@@ -49,7 +49,7 @@ pub record Behaves {D : Type 0} (f : Local D) (barrier : D → ℕ → Bool) (Ow
   pub passed : Passed (barrier (f k t d).rest) k t (f k t d).effect
   pub own : Own (record { kernel = after t (f k t d).effect k; rest = (f k t d).rest })
 
-module _ {D : Type 0} (f : Local D) (barrier : D → ℕ → Bool) (Own : World D → Type 0) (every : KeptByEvery) (behaves : (k : Kernel) (t : ℕ) (d : D) → Own (record { kernel = k; rest = d }) → Kept (barrier d) k → Runs k t → Behaves f barrier Own k t d) where
+module _ {D : Type 0} (f : Local D) (barrier : D → ℕ → Bool) (Own : World D → Type 0) (every : KeptByEvery) (behaves : (k : Kernel) (t : ℕ) (d : D) → Own (record { kernel = k; rest = d }) → Kept (barrier d) k → IsRunner k t → Behaves f barrier Own k t d) where
   step_kept : (k : Kernel) (d : D) (o : Option Outcome) (r : Option ℕ) → k.outcome ≡ o → k.running ≡ r → Own (record { kernel = k; rest = d }) → Kept (barrier d) k → (let w = step_of f k d o r in Own w × Kept (barrier w.rest) w.kernel)
   step_kept k d (Some o) r on running own kept = (own, kept)
   step_kept k d None None on running own kept = (own, kept)

@@ -1,4 +1,4 @@
-// The laws of the kernel: each is what a function without work ensures.
+//! The laws of the kernel: each is what a function without work ensures.
 ghost use Rattle.kernel.specs.Laws.{BeginsKept, ClockedOnce, DispatchedOnce, EntryOpens, FourAlways, FourHold, InsideLists, KeptByEvery, LeftUnmoved, LinesGrow, NobodyReady, OneService, OpensOn, QuietStays, ReachesCallers, RunnerIsCalm, SaysOn, SomebodyRuns, StandsStill, ViewsBack, ViewsOn};
 
 /// The start keeps the invariant: priorities and ceilings being below 32, whatever the barriers.

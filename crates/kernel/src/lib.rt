@@ -1,4 +1,4 @@
-// Laws of the tasking kernel: who runs, who waits, protected actions and virtual time, shared by source and machine.
+//! Laws of the tasking kernel: who runs, who waits, protected actions and virtual time, shared by source and machine.
 #![tactic(auto)]
 
 pub mod laws;

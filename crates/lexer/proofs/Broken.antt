@@ -7,7 +7,8 @@ use Rattle.std.proofs.lemmas.Bool.{le-ltb, lt-leb}
 use Rattle.std.proofs.lemmas.Bool.Decides.{Decides-eqb}
 use Rattle.lexer.specs.declared.delimiter.Delimiter.{Delimiter}
 use Rattle.lexer.specs.declared.element.Compound.{Compound}
-use Rattle.lexer.specs.Limits.{name_limit, label_limit, number_limit}
+use Rattle.base.specs.declared.limits.TheConstants.{NAME_LIMIT, LABEL_LIMIT}
+use Rattle.lexer.specs.Limits.{number_limit}
 use Rattle.lexer.specs.Characters.{quotation_mark, hyphen, is_quotation_mark, is_hyphen, is_white, is_word_character, is_numeral_character, runs_on, is_comment_character, stays_on_line, is_string_character, is_label_character, begins}
 use Rattle.lexer.specs.Delimiters.{Excluded, DoubleStar, LeftLabelBracket, RightLabelBracket, Box, excluded_text}
 use Rattle.lexer.specs.Elements.{is_word, is_numeral, has_single_underlines, value, quoted, comment, IsElement, WordElement, NumeralElement, CommentElement, DelimiterElement, IsLongest}
@@ -24,15 +25,15 @@ and_is_false true b (inl e) = cc
 and_is_false true b (inr e) = e
 and_is_false false b e = refl
 
-word_broken : (element rest : List ℕ) → IsLongest element rest → is_word element ≡ true → (has_single_underlines element ≡ false) ⊎ (name_limit < length element) → element_at (element ++ rest) ≡ broken 3
+word_broken : (element rest : List ℕ) → IsLongest element rest → is_word element ≡ true → (has_single_underlines element ≡ false) ⊎ (NAME_LIMIT < length element) → element_at (element ++ rest) ≡ broken 3
 word_broken element rest longest shape wrong =
     at_letter (element ++ rest) (begins_with is_ascii_alphabetic element rest (and_left (begins is_ascii_alphabetic element) (list_all is_word_character element) shape))
     ∙ (word_computes element rest longest shape
-    ∙ skip (has_single_underlines element && nat_le (length element) name_limit) _ _ (and_is_false (has_single_underlines element) (nat_le (length element) name_limit) (reason wrong)))
+    ∙ skip (has_single_underlines element && nat_le (length element) NAME_LIMIT) _ _ (and_is_false (has_single_underlines element) (nat_le (length element) NAME_LIMIT) (reason wrong)))
   where
-    reason : (has_single_underlines element ≡ false) ⊎ (name_limit < length element) → (has_single_underlines element ≡ false) ⊎ (nat_le (length element) name_limit ≡ false)
+    reason : (has_single_underlines element ≡ false) ⊎ (NAME_LIMIT < length element) → (has_single_underlines element ≡ false) ⊎ (nat_le (length element) NAME_LIMIT ≡ false)
     reason (inl e) = inl e
-    reason (inr h) = inr (lt-leb (length element) name_limit h)
+    reason (inr h) = inr (lt-leb (length element) NAME_LIMIT h)
 
 either_way : (b : Bool) (r : Reading) → cond b r r ≡ r
 either_way true r = refl
@@ -63,20 +64,20 @@ unclosed (c ∷ rest) e = line_is_no_mark c e
 label_unclosed : (inner rest : List ℕ) → list_all is_string_character inner ≡ true → begins stays_on_line rest ≡ false → element_at (quotation_mark ∷ (inner ++ rest)) ≡ broken 5
 label_unclosed inner rest all stop =
     at_quotation (inner ++ rest) ∙ (label_computes inner rest all (line_ends_string rest stop)
-    ∙ skip (((begins is_quotation_mark rest && list_all is_label_character inner) && nat_lt 0 (length inner)) && nat_le (length inner) label_limit) _ _
-    (and_is_false ((begins is_quotation_mark rest && list_all is_label_character inner) && nat_lt 0 (length inner)) (nat_le (length inner) label_limit)
+    ∙ skip (((begins is_quotation_mark rest && list_all is_label_character inner) && nat_lt 0 (length inner)) && nat_le (length inner) LABEL_LIMIT) _ _
+    (and_is_false ((begins is_quotation_mark rest && list_all is_label_character inner) && nat_lt 0 (length inner)) (nat_le (length inner) LABEL_LIMIT)
     (inl (and_is_false (begins is_quotation_mark rest && list_all is_label_character inner) (nat_lt 0 (length inner))
     (inl (and_is_false (begins is_quotation_mark rest) (list_all is_label_character inner) (inl (unclosed rest stop))))))))
 
-label_wrong : (inner rest : List ℕ) → list_all is_string_character inner ≡ true → (list_all is_label_character inner ≡ false) ⊎ (length inner ≡ 0) ⊎ (label_limit < length inner) → element_at (quoted inner ++ rest) ≡ broken 5
+label_wrong : (inner rest : List ℕ) → list_all is_string_character inner ≡ true → (list_all is_label_character inner ≡ false) ⊎ (length inner ≡ 0) ⊎ (LABEL_LIMIT < length inner) → element_at (quoted inner ++ rest) ≡ broken 5
 label_wrong inner rest all wrong =
     ap element_at (quoted_rest inner rest) ∙ (at_quotation (inner ++ quotation_mark ∷ rest) ∙ (label_computes inner (quotation_mark ∷ rest) all refl
-    ∙ skip (((begins is_quotation_mark (quotation_mark ∷ rest) && list_all is_label_character inner) && nat_lt 0 (length inner)) && nat_le (length inner) label_limit) _ _ (reason wrong)))
+    ∙ skip (((begins is_quotation_mark (quotation_mark ∷ rest) && list_all is_label_character inner) && nat_lt 0 (length inner)) && nat_le (length inner) LABEL_LIMIT) _ _ (reason wrong)))
   where
-    reason : (list_all is_label_character inner ≡ false) ⊎ (length inner ≡ 0) ⊎ (label_limit < length inner) → ((list_all is_label_character inner && nat_lt 0 (length inner)) && nat_le (length inner) label_limit) ≡ false
-    reason (inl e) = and_is_false (list_all is_label_character inner && nat_lt 0 (length inner)) (nat_le (length inner) label_limit) (inl (and_is_false (list_all is_label_character inner) (nat_lt 0 (length inner)) (inl e)))
-    reason (inr (inl e)) = and_is_false (list_all is_label_character inner && nat_lt 0 (length inner)) (nat_le (length inner) label_limit) (inl (and_is_false (list_all is_label_character inner) (nat_lt 0 (length inner)) (inr (ap (nat_lt 0) e))))
-    reason (inr (inr h)) = and_is_false (list_all is_label_character inner && nat_lt 0 (length inner)) (nat_le (length inner) label_limit) (inr (lt-leb (length inner) label_limit h))
+    reason : (list_all is_label_character inner ≡ false) ⊎ (length inner ≡ 0) ⊎ (LABEL_LIMIT < length inner) → ((list_all is_label_character inner && nat_lt 0 (length inner)) && nat_le (length inner) LABEL_LIMIT) ≡ false
+    reason (inl e) = and_is_false (list_all is_label_character inner && nat_lt 0 (length inner)) (nat_le (length inner) LABEL_LIMIT) (inl (and_is_false (list_all is_label_character inner) (nat_lt 0 (length inner)) (inl e)))
+    reason (inr (inl e)) = and_is_false (list_all is_label_character inner && nat_lt 0 (length inner)) (nat_le (length inner) LABEL_LIMIT) (inl (and_is_false (list_all is_label_character inner) (nat_lt 0 (length inner)) (inr (ap (nat_lt 0) e))))
+    reason (inr (inr h)) = and_is_false (list_all is_label_character inner && nat_lt 0 (length inner)) (nat_le (length inner) LABEL_LIMIT) (inr (lt-leb (length inner) LABEL_LIMIT h))
 
 comment_broken : (inner : List ℕ) (c : ℕ) (rest : List ℕ) → list_all is_comment_character inner ≡ true → is_comment_character c ≡ false → stays_on_line c ≡ true
     → element_at (comment inner ++ (c ∷ rest)) ≡ Err (record { number = 2; offset = length (comment inner) })

@@ -13,7 +13,8 @@ use Rattle.lexer.specs.declared.delimiter.Delimiter.{Delimiter}
 use Rattle.lexer.specs.declared.delimiter.Delimiter.TheVariants as delimiters
 use Rattle.lexer.specs.declared.element.Compound.{Compound}
 use Rattle.lexer.specs.declared.element.Compound.TheVariants as compounds
-use Rattle.lexer.specs.Limits.{name_limit, label_limit, number_limit}
+use Rattle.base.specs.declared.limits.TheConstants.{NAME_LIMIT, LABEL_LIMIT}
+use Rattle.lexer.specs.Limits.{number_limit}
 use Rattle.lexer.specs.Characters.{quotation_mark, hyphen, is_quotation_mark, is_hyphen, is_white, is_word_character, is_numeral_character, runs_on, is_comment_character, stays_on_line, is_string_character, is_label_character, begins}
 use Rattle.lexer.specs.Delimiters.{delimiter_text}
 use Rattle.lexer.specs.Elements.{is_word, is_numeral, has_single_underlines, value, upper_case, comment, IsElement, WordElement, NumeralElement, CommentElement, DelimiterElement, ExcludedElement, IsLongest, IsName, IsNumber, IsLabel, IsToken}
@@ -64,7 +65,7 @@ front_is test element rest all stop =
     (n, ap (λ m. take m (element ++ rest)) n ∙ take-append_seam element rest, ap (λ m. drop m (element ++ rest)) n ∙ drop-append_seam element rest)
 
 -- what the reader of words makes of a longest word
-pub word_computes : (element rest : List ℕ) → IsLongest element rest → is_word element ≡ true → word_at (element ++ rest) ≡ cond (has_single_underlines element && nat_le (length element) name_limit) (token (kind_or (upper_case element) (reserved (upper_case element))) (length element)) (broken 3)
+pub word_computes : (element rest : List ℕ) → IsLongest element rest → is_word element ≡ true → word_at (element ++ rest) ≡ cond (has_single_underlines element && nat_le (length element) NAME_LIMIT) (token (kind_or (upper_case element) (reserved (upper_case element))) (length element)) (broken 3)
 unfolding word_at
 word_computes element rest longest shape =
     let f = front_is is_word_character element rest (and_right (begins is_ascii_alphabetic element) (list_all is_word_character element) shape) (word_stops element rest longest shape) in
@@ -73,7 +74,7 @@ word_computes element rest longest shape =
 word_read : (element rest : List ℕ) → IsLongest element rest → IsName element → word_at (element ++ rest) ≡ token (kind_or (upper_case element) (reserved (upper_case element))) (length element)
 word_read element rest longest named =
     word_computes element rest longest named.shape
-    ∙ ap (λ b. cond b (token (kind_or (upper_case element) (reserved (upper_case element))) (length element)) (broken 3)) (both (has_single_underlines element) (nat_le (length element) name_limit) named.underlines (le-leb (length element) name_limit named.short))
+    ∙ ap (λ b. cond b (token (kind_or (upper_case element) (reserved (upper_case element))) (length element)) (broken 3)) (both (has_single_underlines element) (nat_le (length element) NAME_LIMIT) named.underlines (le-leb (length element) NAME_LIMIT named.short))
 
 pub numeral_computes : (element rest : List ℕ) → IsLongest element rest → is_numeral element ≡ true → numeral_at (element ++ rest) ≡ cond (has_single_underlines element && not (begins runs_on rest)) (number_or (length element) (cond (nat_lt (value element) number_limit) (Some (value element)) None)) (broken 4)
 unfolding numeral_at value_in_range
@@ -89,7 +90,7 @@ numeral_read element rest longest number =
 
 -- what the reader of labels makes of the characters up to one that no string literal has inside
 pub label_computes : (inner rest : List ℕ) → list_all is_string_character inner ≡ true → begins is_string_character rest ≡ false
-    → label_at (inner ++ rest) ≡ cond (((begins is_quotation_mark rest && list_all is_label_character inner) && nat_lt 0 (length inner)) && nat_le (length inner) label_limit) (token (kinds.Label inner) (length inner + 2)) (broken 5)
+    → label_at (inner ++ rest) ≡ cond (((begins is_quotation_mark rest && list_all is_label_character inner) && nat_lt 0 (length inner)) && nat_le (length inner) LABEL_LIMIT) (token (kinds.Label inner) (length inner + 2)) (broken 5)
 unfolding label_at
 label_computes inner rest all stop =
     let f = front_is is_string_character inner rest all stop in
@@ -99,7 +100,7 @@ label_read : (inner rest : List ℕ) → IsLabel inner → label_at (inner ++ qu
 label_read inner rest label =
     label_computes inner (quotation_mark ∷ rest) (weaker is_label_character is_string_character label_is_string inner label.characters) refl
     ∙ ap (λ b. cond b (token (kinds.Label inner) (length inner + 2)) (broken 5))
-    (both (list_all is_label_character inner && nat_lt 0 (length inner)) (nat_le (length inner) label_limit) (both (list_all is_label_character inner) (nat_lt 0 (length inner)) label.characters (lt-ltb 0 (length inner) label.some)) (le-leb (length inner) label_limit label.short))
+    (both (list_all is_label_character inner && nat_lt 0 (length inner)) (nat_le (length inner) LABEL_LIMIT) (both (list_all is_label_character inner) (nat_lt 0 (length inner)) label.characters (lt-ltb 0 (length inner) label.some)) (le-leb (length inner) LABEL_LIMIT label.short))
 
 -- a line feed is in no comment
 line_stops : (rest : List ℕ) → begins stays_on_line rest ≡ false → begins is_comment_character rest ≡ false

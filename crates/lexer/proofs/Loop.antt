@@ -11,7 +11,7 @@ use Rattle.lexer.specs.declared.fault.Fault.{Fault}
 use Rattle.lexer.specs.declared.element.Element.{Element}
 use Rattle.lexer.specs.declared.element.Broken.{Broken}
 use Rattle.lexer.specs.Fault.{memory_fault}
-use Rattle.lexer.specs.Limits.{text_limit}
+use Rattle.base.specs.declared.limits.TheConstants.{TEXT_LIMIT}
 use Rattle.lexer.specs.Spelling.{Row, Here, Spells, Breaks, IsBroken, TooLong, At, IsRefused}
 use Rattle.lexer.specs.Reading.{Reading, element_at, token_list, tokens_of, fault_at}
 use Rattle.lexer.proofs.Sound.{IsRight}
@@ -32,14 +32,14 @@ element_lies at text r inside read = let some : 0 < length (drop at text) = omeg
 -- the tokens of the front of a text, and what is left of each row over it
 pub record Reads (text : List ℕ) (at : ℕ) (found : List Token) : Type 0 where
   pub inside : at ≤ length text
-  pub short : at ≤ text_limit
+  pub short : at ≤ TEXT_LIMIT
   pub row : Row at (drop at text) 0 text found
   pub only : (place : ℕ) (last : List ℕ) (tokens : List Token) → Ends last → Row place last 0 text tokens → (others : List Token) × (tokens ≡ found ++ others) × Row place last at (drop at text) others
 
 pub start : (text : List ℕ) → Reads text 0 []
 start text = record { inside = omega arith; short = omega arith; row = Here; only = λ place last tokens ends row. (tokens, refl, row) }
 
-pub more : (text : List ℕ) (at : ℕ) (found : List Token) (e : Element) → Reads text at found → at < length text → element_at (drop at text) ≡ Ok e → at + e.length ≤ text_limit → Reads text (at + e.length) (found ++ tokens_of at e)
+pub more : (text : List ℕ) (at : ℕ) (found : List Token) (e : Element) → Reads text at found → at < length text → element_at (drop at text) ≡ Ok e → at + e.length ≤ TEXT_LIMIT → Reads text (at + e.length) (found ++ tokens_of at e)
 more text at found e so_far inside read short =
     let some : 0 < length (drop at text) = omega (arith, length-drop at text, inside) in
     let is = there at (drop at text) e some read in
@@ -75,10 +75,10 @@ none_broken text at found f so_far all (At {place = place} {left = left} {tokens
     omega (arith, breaks_inside breaks, ap length (stops place left at [] o.0 nothing_ends row').left)
 
 -- where the text is too long
-pub too_long : (text : List ℕ) (number place : ℕ) → text_limit ≤ place → place < length text → IsBroken text (fault_at number place)
-too_long text number place far inside = subst (λ b. IsBroken text (cond b (record { number = number; place = place }) (record { number = 1; place = text_limit }))) (sym (le-ltb place text_limit far)) (TooLong (omega arith))
+pub too_long : (text : List ℕ) (number place : ℕ) → TEXT_LIMIT ≤ place → place < length text → IsBroken text (fault_at number place)
+too_long text number place far inside = subst (λ b. IsBroken text (cond b (record { number = number; place = place }) (record { number = 1; place = TEXT_LIMIT }))) (sym (le-ltb place TEXT_LIMIT far)) (TooLong (omega arith))
 
-pub long_is_least : (text : List ℕ) (at : ℕ) (found : List Token) (e : Element) (f : Fault) → Reads text at found → element_at (drop at text) ≡ Ok e → text_limit < at + e.length → IsBroken text f → fault_at 1 text_limit ≡ f
+pub long_is_least : (text : List ℕ) (at : ℕ) (found : List Token) (e : Element) (f : Fault) → Reads text at found → element_at (drop at text) ≡ Ok e → TEXT_LIMIT < at + e.length → IsBroken text f → fault_at 1 TEXT_LIMIT ≡ f
 long_is_least text at found e f so_far read long (TooLong far) = refl
 long_is_least text at found e f so_far read long (At {place = place} {left = left} {tokens = tokens} row breaks near) =
     let o = so_far.only place left tokens (broken_ends breaks) row in
@@ -86,14 +86,14 @@ long_is_least text at found e f so_far read long (At {place = place} {left = lef
 
 -- where an element is broken
 pub broken_here : (text : List ℕ) (at : ℕ) (found : List Token) (b : Broken) → Reads text at found → at < length text → element_at (drop at text) ≡ Err b → IsBroken text (fault_at b.number (at + b.offset))
-broken_here text at found b so_far inside read = go (nat_lt (at + b.offset) text_limit) refl
+broken_here text at found b so_far inside read = go (nat_lt (at + b.offset) TEXT_LIMIT) refl
   where
     breaks : Breaks b.number b.offset (drop at text)
     breaks = subst (IsRight at (drop at text)) read (right at (drop at text) (omega (arith, length-drop at text, inside)))
 
-    go : (t : Bool) → nat_lt (at + b.offset) text_limit ≡ t → IsBroken text (fault_at b.number (at + b.offset))
-    go true near = subst (λ v. IsBroken text (cond v (record { number = b.number; place = at + b.offset }) (record { number = 1; place = text_limit }))) (sym near) (At so_far.row breaks (ltb-true (at + b.offset) text_limit near))
-    go false far = too_long text b.number (at + b.offset) (ltb-false (at + b.offset) text_limit far) (omega (arith, breaks_inside breaks, length-drop at text, inside))
+    go : (t : Bool) → nat_lt (at + b.offset) TEXT_LIMIT ≡ t → IsBroken text (fault_at b.number (at + b.offset))
+    go true near = subst (λ v. IsBroken text (cond v (record { number = b.number; place = at + b.offset }) (record { number = 1; place = TEXT_LIMIT }))) (sym near) (At so_far.row breaks (ltb-true (at + b.offset) TEXT_LIMIT near))
+    go false far = too_long text b.number (at + b.offset) (ltb-false (at + b.offset) TEXT_LIMIT far) (omega (arith, breaks_inside breaks, length-drop at text, inside))
 
 err_ends : (text : List ℕ) (b : Broken) → element_at text ≡ Err b → Ends text
 err_ends text b read e found = let differs : Ok e ≡ Err b = sym found ∙ read in cc
@@ -103,20 +103,20 @@ unspelled text at found tokens b so_far inside read spells =
     let o = so_far.only (length text) [] tokens nothing_ends spells.row in
     omega (arith, inside, length-drop at text, ap length (stops (length text) [] at (drop at text) o.0 (err_ends (drop at text) b read) o.2).left)
 
-near_fault : (number place : ℕ) → place < text_limit → fault_at number place ≡ record { number = number; place = place }
-near_fault number place near = ap (λ v. cond v (record { number = number; place = place }) (record { number = 1; place = text_limit })) (lt-ltb place text_limit near)
+near_fault : (number place : ℕ) → place < TEXT_LIMIT → fault_at number place ≡ record { number = number; place = place }
+near_fault number place near = ap (λ v. cond v (record { number = number; place = place }) (record { number = 1; place = TEXT_LIMIT })) (lt-ltb place TEXT_LIMIT near)
 
-far_fault : (number place : ℕ) → text_limit ≤ place → fault_at number place ≡ record { number = 1; place = text_limit }
-far_fault number place far = ap (λ v. cond v (record { number = number; place = place }) (record { number = 1; place = text_limit })) (le-ltb place text_limit far)
+far_fault : (number place : ℕ) → TEXT_LIMIT ≤ place → fault_at number place ≡ record { number = 1; place = TEXT_LIMIT }
+far_fault number place far = ap (λ v. cond v (record { number = number; place = place }) (record { number = 1; place = TEXT_LIMIT })) (le-ltb place TEXT_LIMIT far)
 
 -- no rule is broken before the one that is named
 pub broken_is_least : (text : List ℕ) (at : ℕ) (found : List Token) (b : Broken) (f : Fault) → Reads text at found → element_at (drop at text) ≡ Err b → IsBroken text f
     → ((fault_at b.number (at + b.offset)).place < f.place) ⊎ (fault_at b.number (at + b.offset) ≡ f)
-broken_is_least text at found b f so_far read (TooLong far) = go (nat_lt (at + b.offset) text_limit) refl
+broken_is_least text at found b f so_far read (TooLong far) = go (nat_lt (at + b.offset) TEXT_LIMIT) refl
   where
-    go : (t : Bool) → nat_lt (at + b.offset) text_limit ≡ t → ((fault_at b.number (at + b.offset)).place < text_limit) ⊎ (fault_at b.number (at + b.offset) ≡ record { number = 1; place = text_limit })
-    go true near = inl (subst (λ g. g.place < text_limit) (sym (near_fault b.number (at + b.offset) (ltb-true (at + b.offset) text_limit near))) (ltb-true (at + b.offset) text_limit near))
-    go false over = inr (far_fault b.number (at + b.offset) (ltb-false (at + b.offset) text_limit over))
+    go : (t : Bool) → nat_lt (at + b.offset) TEXT_LIMIT ≡ t → ((fault_at b.number (at + b.offset)).place < TEXT_LIMIT) ⊎ (fault_at b.number (at + b.offset) ≡ record { number = 1; place = TEXT_LIMIT })
+    go true near = inl (subst (λ g. g.place < TEXT_LIMIT) (sym (near_fault b.number (at + b.offset) (ltb-true (at + b.offset) TEXT_LIMIT near))) (ltb-true (at + b.offset) TEXT_LIMIT near))
+    go false over = inr (far_fault b.number (at + b.offset) (ltb-false (at + b.offset) TEXT_LIMIT over))
 broken_is_least text at found b f so_far read (At {place = place} {offset = offset} {number = number} {left = left} {tokens = tokens} row breaks near) =
     let o = so_far.only place left tokens (broken_ends breaks) row in
     let s = stops place left at (drop at text) o.0 (err_ends (drop at text) b read) o.2 in
@@ -139,17 +139,17 @@ element_inside text at e inside read =
     let lies : (0 < e.length) × (e.length ≤ length (drop at text)) = element_lies at text (Ok e) inside (sym read) in
     (lies.0, omega (arith, lies.1, length-drop at text))
 
-pub more_token : (text : List ℕ) (at : ℕ) (found : List Token) (e : Element) (kind : TokenKind) → Reads text at found → at < length text → element_at (drop at text) ≡ Ok e → at + e.length ≤ text_limit → e.kind ≡ Some kind
+pub more_token : (text : List ℕ) (at : ℕ) (found : List Token) (e : Element) (kind : TokenKind) → Reads text at found → at < length text → element_at (drop at text) ≡ Ok e → at + e.length ≤ TEXT_LIMIT → e.kind ≡ Some kind
     → Reads text (at + e.length) (found ++ record { kind = kind; start = at; end_ = at + e.length } ∷ [])
 more_token text at found e kind so_far inside read short is =
     subst (λ o. Reads text (at + e.length) (found ++ token_list o at (at + e.length))) is (more text at found e so_far inside read short)
 
-pub more_blank : (text : List ℕ) (at : ℕ) (found : List Token) (e : Element) → Reads text at found → at < length text → element_at (drop at text) ≡ Ok e → at + e.length ≤ text_limit → e.kind ≡ None → Reads text (at + e.length) found
+pub more_blank : (text : List ℕ) (at : ℕ) (found : List Token) (e : Element) → Reads text at found → at < length text → element_at (drop at text) ≡ Ok e → at + e.length ≤ TEXT_LIMIT → e.kind ≡ None → Reads text (at + e.length) found
 more_blank text at found e so_far inside read short is =
     subst (λ l. Reads text (at + e.length) l) (append-nil found) (subst (λ o. Reads text (at + e.length) (found ++ token_list o at (at + e.length))) is (more text at found e so_far inside read short))
 
 -- where memory is refused for a token
-pub refused : (text : List ℕ) (at : ℕ) (found : List Token) (e : Element) (kind : TokenKind) (fault : Fault) → fault ≡ memory_fault → Reads text at found → at < length text → element_at (drop at text) ≡ Ok e → at + e.length ≤ text_limit → e.kind ≡ Some kind
+pub refused : (text : List ℕ) (at : ℕ) (found : List Token) (e : Element) (kind : TokenKind) (fault : Fault) → fault ≡ memory_fault → Reads text at found → at < length text → element_at (drop at text) ≡ Ok e → at + e.length ≤ TEXT_LIMIT → e.kind ≡ Some kind
     → IsRefused text fault
 refused text at found e kind fault is so_far inside read short token_is = record {
   memory = is;

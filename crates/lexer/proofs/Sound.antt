@@ -14,7 +14,8 @@ use Rattle.lexer.specs.declared.delimiter.Delimiter.{Delimiter}
 use Rattle.lexer.specs.declared.element.Compound.{Compound}
 use Rattle.lexer.specs.declared.element.Compound.TheVariants as compounds
 use Rattle.lexer.specs.declared.element.Element.{Element}
-use Rattle.lexer.specs.Limits.{name_limit, label_limit, number_limit}
+use Rattle.base.specs.declared.limits.TheConstants.{NAME_LIMIT, LABEL_LIMIT}
+use Rattle.lexer.specs.Limits.{number_limit}
 use Rattle.lexer.specs.Characters.{quotation_mark, hyphen, is_quotation_mark, is_hyphen, is_white, is_word_character, is_numeral_character, runs_on, is_comment_character, stays_on_line, is_string_character, is_label_character, begins}
 use Rattle.lexer.specs.Delimiters.{delimiter_text}
 use Rattle.lexer.specs.Elements.{is_word, has_single_underlines, value, upper_case, quoted, comment, IsLongest, IsName, IsToken}
@@ -70,22 +71,22 @@ word_right at text letter =
     let longest : IsLongest (take n text) (drop n text) = word_longest text letter in
     let size : length (take n text) ≡ n = length-prefix_len is_word_character text in
     let shape : is_word (take n text) ≡ true = both (begins is_ascii_alphabetic (take n text)) (list_all is_word_character (take n text)) (letter_front text letter) (front_passes is_word_character text) in
-    decide (IsRight at text) (has_single_underlines (take n text) && nat_le n name_limit) _ _
+    decide (IsRight at text) (has_single_underlines (take n text) && nat_le n NAME_LIMIT) _ _
     (λ e. one_token at n text (take n text) (drop n text) (kind_or (upper_case (take n text)) (reserved (upper_case (take n text)))) (sym (take-append-drop n text)) size longest
     (name_kind (take n text) (drop n text) (upper_case (take n text)) (reserved (upper_case (take n text))) refl refl (record {
       shape = shape;
-      underlines = and_left (has_single_underlines (take n text)) (nat_le n name_limit) e;
-      short = omega (arith, size, leb-true n name_limit (and_right (has_single_underlines (take n text)) (nat_le n name_limit) e));
+      underlines = and_left (has_single_underlines (take n text)) (nat_le n NAME_LIMIT) e;
+      short = omega (arith, size, leb-true n NAME_LIMIT (and_right (has_single_underlines (take n text)) (nat_le n NAME_LIMIT) e));
     }))
     (positive_front is_word_character is_ascii_alphabetic text letter_in_word letter))
-    (λ e. subst (λ s. Breaks 3 0 s) (take-append-drop n text) (Identifier (take n text) (drop n text) longest shape (wrong (and_cases (has_single_underlines (take n text)) (nat_le n name_limit) e))))
+    (λ e. subst (λ s. Breaks 3 0 s) (take-append-drop n text) (Identifier (take n text) (drop n text) longest shape (wrong (and_cases (has_single_underlines (take n text)) (nat_le n NAME_LIMIT) e))))
   where
     letter_front : (s : List ℕ) → begins is_ascii_alphabetic s ≡ true → begins is_ascii_alphabetic (take (prefix_len is_word_character s) s) ≡ true
     letter_front s e = begins_front is_word_character is_ascii_alphabetic s letter_in_word e
 
-    wrong : (has_single_underlines (take (prefix_len is_word_character text) text) ≡ false) ⊎ (nat_le (prefix_len is_word_character text) name_limit ≡ false) → (has_single_underlines (take (prefix_len is_word_character text) text) ≡ false) ⊎ (name_limit < length (take (prefix_len is_word_character text) text))
+    wrong : (has_single_underlines (take (prefix_len is_word_character text) text) ≡ false) ⊎ (nat_le (prefix_len is_word_character text) NAME_LIMIT ≡ false) → (has_single_underlines (take (prefix_len is_word_character text) text) ≡ false) ⊎ (NAME_LIMIT < length (take (prefix_len is_word_character text) text))
     wrong (inl e) = inl e
-    wrong (inr e) = inr (omega (arith, length-prefix_len is_word_character text, leb-false (prefix_len is_word_character text) name_limit e))
+    wrong (inr e) = inr (omega (arith, length-prefix_len is_word_character text, leb-false (prefix_len is_word_character text) NAME_LIMIT e))
 
 numeral_front : (s : List ℕ) → begins is_ascii_digit s ≡ true → begins is_ascii_digit (take (prefix_len is_numeral_character s) s) ≡ true
 numeral_front s e = begins_front is_numeral_character is_ascii_digit s digit_in_numeral e
@@ -145,17 +146,17 @@ string_stop (c ∷ rest) stop unclosed = go (is_quotation_mark c) (stays_on_line
     go true b e f = cc
     go false b e f = f
 
-label_wrong : (b c d : Bool) (m : ℕ) (inner : List ℕ) → list_all is_label_character inner ≡ b → length inner ≡ m → (b && nat_lt 0 m && nat_le m label_limit) ≡ false
-    → (list_all is_label_character inner ≡ false) ⊎ (length inner ≡ 0) ⊎ (label_limit < length inner)
-label_wrong b c d m inner all size e = go (and_cases (b && nat_lt 0 m) (nat_le m label_limit) e)
+label_wrong : (b c d : Bool) (m : ℕ) (inner : List ℕ) → list_all is_label_character inner ≡ b → length inner ≡ m → (b && nat_lt 0 m && nat_le m LABEL_LIMIT) ≡ false
+    → (list_all is_label_character inner ≡ false) ⊎ (length inner ≡ 0) ⊎ (LABEL_LIMIT < length inner)
+label_wrong b c d m inner all size e = go (and_cases (b && nat_lt 0 m) (nat_le m LABEL_LIMIT) e)
   where
-    two : (b ≡ false) ⊎ (nat_lt 0 m ≡ false) → (list_all is_label_character inner ≡ false) ⊎ (length inner ≡ 0) ⊎ (label_limit < length inner)
+    two : (b ≡ false) ⊎ (nat_lt 0 m ≡ false) → (list_all is_label_character inner ≡ false) ⊎ (length inner ≡ 0) ⊎ (LABEL_LIMIT < length inner)
     two (inl f) = inl (all ∙ f)
     two (inr f) = inr (inl (omega (arith, size, ltb-false 0 m f)))
 
-    go : ((b && nat_lt 0 m) ≡ false) ⊎ (nat_le m label_limit ≡ false) → (list_all is_label_character inner ≡ false) ⊎ (length inner ≡ 0) ⊎ (label_limit < length inner)
+    go : ((b && nat_lt 0 m) ≡ false) ⊎ (nat_le m LABEL_LIMIT ≡ false) → (list_all is_label_character inner ≡ false) ⊎ (length inner ≡ 0) ⊎ (LABEL_LIMIT < length inner)
     go (inl f) = two (and_cases b (nat_lt 0 m) f)
-    go (inr f) = inr (inr (omega (arith, size, leb-false m label_limit f)))
+    go (inr f) = inr (inr (omega (arith, size, leb-false m LABEL_LIMIT f)))
 
 label_right : (at : ℕ) (text : List ℕ) → IsRight at (quotation_mark ∷ text) (label_at text)
 unfolding label_at
@@ -166,16 +167,16 @@ label_right at text =
     let size : length inner ≡ n = length-prefix_len is_string_character text in
     let strings : list_all is_string_character inner ≡ true = front_passes is_string_character text in
     let parts : text ≡ inner ++ rest = sym (take-append-drop n text) in
-    decide (IsRight at (quotation_mark ∷ text)) (((begins is_quotation_mark rest && list_all is_label_character inner) && nat_lt 0 n) && nat_le n label_limit) _ _
+    decide (IsRight at (quotation_mark ∷ text)) (((begins is_quotation_mark rest && list_all is_label_character inner) && nat_lt 0 n) && nat_le n LABEL_LIMIT) _ _
     (λ e.
-    let three = and_left ((begins is_quotation_mark rest && list_all is_label_character inner) && nat_lt 0 n) (nat_le n label_limit) e in
+    let three = and_left ((begins is_quotation_mark rest && list_all is_label_character inner) && nat_lt 0 n) (nat_le n LABEL_LIMIT) e in
     let two = and_left (begins is_quotation_mark rest && list_all is_label_character inner) (nat_lt 0 n) three in
     let after = quotation_front rest (and_left (begins is_quotation_mark rest) (list_all is_label_character inner) two) in
     one_token at (n + 2) (quotation_mark ∷ text) (quoted inner) after.0 (kinds.Label inner) (closed inner rest after.0 text parts after.1) (label_length n inner size) (string_longest inner after.0 strings) (
       record {
         characters = and_right (begins is_quotation_mark rest) (list_all is_label_character inner) two;
         some = omega (arith, size, ltb-true 0 n (and_right (begins is_quotation_mark rest && list_all is_label_character inner) (nat_lt 0 n) three));
-        short = omega (arith, size, leb-true n label_limit (and_right ((begins is_quotation_mark rest && list_all is_label_character inner) && nat_lt 0 n) (nat_le n label_limit) e));
+        short = omega (arith, size, leb-true n LABEL_LIMIT (and_right ((begins is_quotation_mark rest && list_all is_label_character inner) && nat_lt 0 n) (nat_le n LABEL_LIMIT) e));
       },
       refl,
     )
@@ -183,12 +184,12 @@ label_right at text =
     (λ e. go (begins is_quotation_mark rest) refl e)
   where
     go : (b : Bool) → begins is_quotation_mark (drop (prefix_len is_string_character text) text) ≡ b
-        → (((begins is_quotation_mark (drop (prefix_len is_string_character text) text) && list_all is_label_character (take (prefix_len is_string_character text) text)) && nat_lt 0 (prefix_len is_string_character text)) && nat_le (prefix_len is_string_character text) label_limit) ≡ false
+        → (((begins is_quotation_mark (drop (prefix_len is_string_character text) text) && list_all is_label_character (take (prefix_len is_string_character text) text)) && nat_lt 0 (prefix_len is_string_character text)) && nat_le (prefix_len is_string_character text) LABEL_LIMIT) ≡ false
         → Breaks 5 0 (quotation_mark ∷ text)
     go true mark e =
         let n = prefix_len is_string_character text in
         let after = quotation_front (drop n text) mark in
-        let e' : ((list_all is_label_character (take n text) && nat_lt 0 n) && nat_le n label_limit) ≡ false = subst (λ b. (((b && list_all is_label_character (take n text)) && nat_lt 0 n) && nat_le n label_limit) ≡ false) mark e in
+        let e' : ((list_all is_label_character (take n text) && nat_lt 0 n) && nat_le n LABEL_LIMIT) ≡ false = subst (λ b. (((b && list_all is_label_character (take n text)) && nat_lt 0 n) && nat_le n LABEL_LIMIT) ≡ false) mark e in
         subst (λ s. Breaks 5 0 s) (sym (closed (take n text) (drop n text) after.0 text (sym (take-append-drop n text)) after.1))
         (Label (take n text) after.0 (front_passes is_string_character text) (label_wrong (list_all is_label_character (take n text)) true true n (take n text) refl (length-prefix_len is_string_character text) e'))
     go false unclosed e =

@@ -6,7 +6,8 @@ use Rattle.lexer.specs.declared.token.TokenKind.{TokenKind}
 use Rattle.lexer.specs.declared.token.TokenKind.TheVariants as kinds
 use Rattle.lexer.specs.declared.word.Word.{Word}
 use Rattle.lexer.specs.declared.delimiter.Delimiter.{Delimiter}
-use Rattle.lexer.specs.Limits.{name_limit, label_limit, number_limit}
+use Rattle.base.specs.declared.limits.TheConstants.{NAME_LIMIT, LABEL_LIMIT}
+use Rattle.lexer.specs.Limits.{number_limit}
 use Rattle.lexer.specs.Characters.{quotation_mark, hyphen, is_underline, is_word_character, is_numeral_character, runs_on, stays_on_line, is_string_character, is_label_character, begins}
 use Rattle.lexer.specs.Words.{spelling}
 use Rattle.lexer.specs.Delimiters.{delimiter_text, Excluded, excluded_text}
@@ -59,7 +60,7 @@ value text = value_of_digits (filter is_ascii_digit text)
 pub record IsName (text : List ℕ) : Type 0 where
   pub shape : IsTrue (is_word text)
   pub underlines : IsTrue (has_single_underlines text)
-  pub short : length text ≤ name_limit
+  pub short : length text ≤ NAME_LIMIT
 
 -- a numeral as it has to be, with what follows it
 pub record IsNumber (text rest : List ℕ) : Type 0 where
@@ -72,7 +73,7 @@ pub record IsNumber (text rest : List ℕ) : Type 0 where
 pub record IsLabel (text : List ℕ) : Type 0 where
   pub characters : IsTrue (list_all is_label_character text)
   pub some : 0 < length text
-  pub short : length text ≤ label_limit
+  pub short : length text ≤ LABEL_LIMIT
 
 -- the letters in upper case
 abbrev pub upper_case : List ℕ → List ℕ

@@ -1,18 +1,6 @@
--- The limits of lexical elements.
-use Rattle.std.specs.Prelude.{ℕ, ◌^◌}
+-- The values of literals are less than this number (RM 2.4.1).
+use Rattle.std.specs.Prelude.{ℕ, ◌+◌}
+use Rattle.base.specs.declared.limits.TheConstants.{LARGEST_NUMBER}
 
--- the most bytes of a text
-abbrev pub text_limit : ℕ
-text_limit = 65536
-
--- the most characters of an identifier
-abbrev pub name_limit : ℕ
-name_limit = 40
-
--- the most characters of a label
-abbrev pub label_limit : ℕ
-label_limit = 40
-
--- the values of literals are less
 abbrev pub number_limit : ℕ
-number_limit = 2 ^ 63
+number_limit = LARGEST_NUMBER + 1

@@ -14,7 +14,9 @@ use Rattle.lexer.specs.declared.element.Compound.TheVariants as compounds
 use Rattle.lexer.specs.declared.element.Element.{Element}
 use Rattle.lexer.specs.declared.element.Broken.{Broken}
 use Rattle.lexer.specs.declared.fault.Fault.{Fault}
-use Rattle.lexer.specs.Limits.{text_limit, name_limit, label_limit, number_limit}
+use Rattle.base.specs.declared.faults.TheConstants.{TEXT_TOO_LONG, STRAY_CHARACTER, WRONG_IDENTIFIER, WRONG_LITERAL, WRONG_LABEL}
+use Rattle.base.specs.declared.limits.TheConstants.{TEXT_LIMIT, NAME_LIMIT, LABEL_LIMIT}
+use Rattle.lexer.specs.Limits.{number_limit}
 use Rattle.lexer.specs.Characters.{is_quotation_mark, is_hyphen, is_word_character, is_numeral_character, runs_on, is_white, stays_on_line, is_comment_character, is_string_character, is_label_character, begins}
 use Rattle.lexer.specs.Words.{spelling}
 use Rattle.lexer.specs.Elements.{has_single_underlines, value, upper_case}
@@ -66,7 +68,7 @@ unfoldable pub word_at : List ℕ → Reading
 word_at text =
     let length = prefix_len is_word_character text in
     let name = upper_case (take length text) in
-    if has_single_underlines (take length text) && nat_le length name_limit then token (kind_or name (reserved name)) length else broken 3
+    if has_single_underlines (take length text) && nat_le length NAME_LIMIT then token (kind_or name (reserved name)) length else broken WRONG_IDENTIFIER
 
 -- the value of a numeral whose first digits have the value n
 abbrev pub value_from : ℕ → List ℕ → ℕ
@@ -78,7 +80,7 @@ unfoldable pub value_in_range : List ℕ → Option ℕ
 value_in_range text = if nat_lt (value text) number_limit then Some (value text) else None
 
 abbrev pub number_or : ℕ → Option ℕ → Reading
-number_or length None = broken 4
+number_or length None = broken WRONG_LITERAL
 number_or length (Some number) = token (kinds.Number (pos number)) length
 
 unfoldable pub numeral_at : List ℕ → Reading
@@ -86,22 +88,22 @@ numeral_at text =
     let length = prefix_len is_numeral_character text in
     if has_single_underlines (take length text) && not (begins runs_on (drop length text))
     then number_or length (value_in_range (take length text))
-    else broken 4
+    else broken WRONG_LITERAL
 
 -- a label, whose text begins behind the first quotation mark
 unfoldable pub label_at : List ℕ → Reading
 label_at text =
     let length = prefix_len is_string_character text in
-    if begins is_quotation_mark (drop length text) && list_all is_label_character (take length text) && nat_lt 0 length && nat_le length label_limit
+    if begins is_quotation_mark (drop length text) && list_all is_label_character (take length text) && nat_lt 0 length && nat_le length LABEL_LIMIT
     then token (kinds.Label (take length text)) (length + 2)
-    else broken 5
+    else broken WRONG_LABEL
 
 -- a comment, whose text begins behind the hyphens
 unfoldable pub comment_at : List ℕ → Reading
 comment_at text =
     let length = prefix_len is_comment_character text in
     if begins stays_on_line (drop length text)
-    then Err (record { number = 2; offset = length + 2 })
+    then Err (record { number = STRAY_CHARACTER; offset = length + 2 })
     else Ok (record { kind = None; length = length + 2 })
 
 abbrev pub compound_of : ℕ → ℕ → Option Compound
@@ -139,13 +141,13 @@ compound_at c [] = None
 compound_at c (d ∷ rest) = compound_of c d
 
 abbrev pub simple_or : Option Delimiter → Reading
-simple_or None = broken 2
+simple_or None = broken STRAY_CHARACTER
 simple_or (Some delimiter) = token (kinds.Delimiter delimiter) 1
 
 abbrev pub compound_or : ℕ → Option Compound → Reading
 compound_or c None = simple_or (simple_of c)
 compound_or c (Some (compounds.Delimiter delimiter)) = token (kinds.Delimiter delimiter) 2
-compound_or c (Some compounds.LeftOut) = broken 2
+compound_or c (Some compounds.LeftOut) = broken STRAY_CHARACTER
 
 -- a delimiter, with what is behind its first character
 unfoldable pub delimiter_at : ℕ → List ℕ → Reading
@@ -153,7 +155,7 @@ delimiter_at c rest = compound_or c (compound_at c rest)
 
 -- what stands at the front of a text
 unfoldable pub element_at : List ℕ → Reading
-element_at [] = broken 2
+element_at [] = broken STRAY_CHARACTER
 element_at (c ∷ rest) =
     if is_white c then Ok (record { kind = None; length = 1 })
     else (if is_ascii_alphabetic c then word_at (c ∷ rest)
@@ -164,7 +166,7 @@ element_at (c ∷ rest) =
 
 -- the fault of a rule that is broken at a place, where the text is no longer than it may be up to there
 abbrev pub fault_at : ℕ → ℕ → Fault
-fault_at number place = if nat_lt place text_limit then record { number = number; place = place } else record { number = 1; place = text_limit }
+fault_at number place = if nat_lt place TEXT_LIMIT then record { number = number; place = place } else record { number = TEXT_TOO_LONG; place = TEXT_LIMIT }
 
 abbrev pub token_list : Option TokenKind → ℕ → ℕ → List Token
 token_list None start end_ = []

@@ -6,9 +6,10 @@ use crate::characters::{
     begins_with_quotation_mark, comment_length, has_label_characters, has_single_underlines,
     is_on_line, numeral_length, runs_on, string_length, word_length,
 };
-use crate::limits::{LABEL_LIMIT, LARGEST_NUMBER, NAME_LIMIT};
 use crate::word::reserved_word;
-use crate::{Delimiter, Fault, Label, Name, TokenKind};
+use crate::{Delimiter, Label, Name, TokenKind};
+use base::faults::{STRAY_CHARACTER, WRONG_IDENTIFIER, WRONG_LABEL, WRONG_LITERAL};
+use base::limits::{LABEL_LIMIT, LARGEST_NUMBER, NAME_LIMIT};
 
 /// What stands at the front of a text: a token, or white space or a comment, of so many bytes.
 #[derive(Drop)]
@@ -131,7 +132,7 @@ fn read_word(text: &[u8]) -> Result<Element, Broken>
     if has_single_underlines(element) && length <= NAME_LIMIT {
         Ok(Element::token(kind_of_name(Name::of(element)), length))
     } else {
-        broken_at_start(Fault::WRONG_IDENTIFIER)
+        broken_at_start(WRONG_IDENTIFIER)
     }
 }
 
@@ -145,10 +146,10 @@ fn read_numeral(text: &[u8]) -> Result<Element, Broken>
     if has_single_underlines(element) && !runs_on(&text[length..]) {
         match value(element) {
             Some(value) => Ok(Element::token(TokenKind::Number(value), length)),
-            None => broken_at_start(Fault::WRONG_LITERAL),
+            None => broken_at_start(WRONG_LITERAL),
         }
     } else {
-        broken_at_start(Fault::WRONG_LITERAL)
+        broken_at_start(WRONG_LITERAL)
     }
 }
 
@@ -166,7 +167,7 @@ fn read_label(text: &[u8]) -> Result<Element, Broken>
     {
         Ok(Element::token(TokenKind::Label(Label::of(inner)), length + 2))
     } else {
-        broken_at_start(Fault::WRONG_LABEL)
+        broken_at_start(WRONG_LABEL)
     }
 }
 
@@ -178,7 +179,7 @@ fn read_comment(text: &[u8]) -> Result<Element, Broken>
     let length = comment_length(text);
     if is_on_line(&text[length..]) {
         Err(Broken {
-            number: Fault::STRAY_CHARACTER,
+            number: STRAY_CHARACTER,
             offset: length + 2,
         })
     } else {
@@ -200,10 +201,10 @@ fn read_delimiter(first: u8, rest: &[u8]) -> Result<Element, Broken>
             TokenKind::Delimiter(delimiter),
             2,
         )),
-        Some(Compound::LeftOut) => broken_at_start(Fault::STRAY_CHARACTER),
+        Some(Compound::LeftOut) => broken_at_start(STRAY_CHARACTER),
         None => match simple_delimiter(first) {
             Some(delimiter) => Ok(Element::token(TokenKind::Delimiter(delimiter), 1)),
-            None => broken_at_start(Fault::STRAY_CHARACTER),
+            None => broken_at_start(STRAY_CHARACTER),
         },
     }
 }

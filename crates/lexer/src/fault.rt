@@ -2,6 +2,7 @@
 ghost use Rattle.std.specs.Prelude.{◌≡◌};
 ghost use Rattle.lexer.specs.Fault.{memory_fault};
 
+use base::faults::MEMORY_REFUSED;
 use std::alloc::{AllocError, AllocFailed};
 use thiserror::Error;
 
@@ -15,25 +16,12 @@ pub struct Fault {
 }
 
 impl Fault {
-    /// The text has more than 65,536 bytes.
-    pub const TEXT_TOO_LONG: u8 = 1;
-    /// A character or a sequence begins no token, or no comment may hold it.
-    pub const STRAY_CHARACTER: u8 = 2;
-    /// An identifier has a doubled or final underline, or more than 40 characters.
-    pub const WRONG_IDENTIFIER: u8 = 3;
-    /// A literal is over 2**63 - 1, has an underline that is not between digits, or is followed at once by a letter or a number sign.
-    pub const WRONG_LITERAL: u8 = 4;
-    /// A label has not 1 to 40 characters from 33 to 126, or is not closed on its line.
-    pub const WRONG_LABEL: u8 = 5;
-    /// Memory was refused.
-    pub const MEMORY: u8 = 60;
-
     /// The answer where memory was refused.
     pub const fn memory() -> Fault
         ensures { result ≡ memory_fault }
     {
         Fault {
-            number: Fault::MEMORY,
+            number: MEMORY_REFUSED,
             place: 0,
         }
     }

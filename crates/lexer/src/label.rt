@@ -1,9 +1,9 @@
 //! The labels that string literals spell.
 ghost use Rattle.std.specs.Prelude.{◌≡◌, ◌≤◌, length};
-ghost use Rattle.lexer.specs.Limits.{label_limit};
+ghost use Rattle.base.specs.declared.limits.TheConstants.{LABEL_LIMIT};
 
-use crate::limits::LABEL_LIMIT;
 use arrayvec::ArrayVec;
+use base::limits::LABEL_LIMIT;
 use std::alloc::AllocError;
 use std::marker::Model;
 
@@ -27,7 +27,7 @@ impl Model for Label {
 impl Label {
     /// The label of these characters.
     pub(crate) fn of(text: &[u8]) -> Label
-        requires { length text.now ≤ label_limit }
+        requires { length text.now ≤ LABEL_LIMIT }
         ensures { result ≡ text.now }
     {
         let mut bytes = ArrayVec::new();

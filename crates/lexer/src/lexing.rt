@@ -6,8 +6,9 @@ ghost use Rattle.lexer.specs.Reading.{fault_at};
 ghost use Rattle.lexer.specs.Spelling.{Spells, IsBroken, IsRefused, Gave, NamesAtLatest, SpelledOnce, SpellsInOrder};
 
 use crate::element::read_element;
-use crate::limits::TEXT_LIMIT;
 use crate::{Fault, Token};
+use base::faults::TEXT_TOO_LONG;
+use base::limits::TEXT_LIMIT;
 use std::alloc::Global;
 
 /// The fault of a rule that is broken at a place, where the text is no longer than it may be up to there.
@@ -21,7 +22,7 @@ fn fault_at(number: u8, place: usize) -> Fault
         }
     } else {
         Fault {
-            number: Fault::TEXT_TOO_LONG,
+            number: TEXT_TOO_LONG,
             place: TEXT_LIMIT as u32,
         }
     }
@@ -51,7 +52,7 @@ pub fn tokens(alloc: Global, text: &[u8]) -> Result<Vec<Token>, Fault>
         };
         let end = at + element.length;
         if end > TEXT_LIMIT {
-            return Err(fault_at(Fault::TEXT_TOO_LONG, TEXT_LIMIT));
+            return Err(fault_at(TEXT_TOO_LONG, TEXT_LIMIT));
         }
         if let Some(kind) = element.kind {
             tokens.push(Token {

@@ -7,7 +7,6 @@ mod element;
 mod fault;
 mod label;
 mod lexing;
-mod limits;
 mod name;
 mod token;
 mod word;

@@ -1,10 +1,10 @@
 //! The names that identifiers spell.
 ghost use Rattle.std.specs.Prelude.{◌≡◌, ◌≤◌, length};
-ghost use Rattle.lexer.specs.Limits.{name_limit};
+ghost use Rattle.base.specs.declared.limits.TheConstants.{NAME_LIMIT};
 ghost use Rattle.lexer.specs.Elements.{upper_case};
 
-use crate::limits::NAME_LIMIT;
 use arrayvec::ArrayVec;
+use base::limits::NAME_LIMIT;
 use std::alloc::AllocError;
 use std::marker::Model;
 
@@ -29,7 +29,7 @@ impl Model for Name {
 impl Name {
     /// The name of an identifier or a reserved word of these characters.
     pub(crate) fn of(element: &[u8]) -> Name
-        requires { length element.now ≤ name_limit }
+        requires { length element.now ≤ NAME_LIMIT }
         ensures { result ≡ upper_case element.now }
     {
         let mut bytes = ArrayVec::new();

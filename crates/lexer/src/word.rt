@@ -3,6 +3,8 @@ ghost use Rattle.std.specs.Prelude.{◌≡◌, find, bytes_eq};
 ghost use Rattle.lexer.specs.Words.{spelling};
 ghost use Rattle.lexer.specs.Reading.{words_with, reserved};
 
+use base::names::RESERVED_WORDS;
+
 /// A reserved word (RM 2.9). Each variant is named by its word.
 #[derive(Clone, Copy, Debug, PartialEq, Eq)]
 pub enum Word {
@@ -81,89 +83,12 @@ pub enum Word {
     Xor,
 }
 
-/// The letters of each reserved word in upper case, in the order of the variants.
-static SPELLINGS: [&[u8]; 73] = [
-    b"ABORT",
-    b"ABS",
-    b"ABSTRACT",
-    b"ACCEPT",
-    b"ACCESS",
-    b"ALIASED",
-    b"ALL",
-    b"AND",
-    b"ARRAY",
-    b"AT",
-    b"BEGIN",
-    b"BODY",
-    b"CASE",
-    b"CONSTANT",
-    b"DECLARE",
-    b"DELAY",
-    b"DELTA",
-    b"DIGITS",
-    b"DO",
-    b"ELSE",
-    b"ELSIF",
-    b"END",
-    b"ENTRY",
-    b"EXCEPTION",
-    b"EXIT",
-    b"FOR",
-    b"FUNCTION",
-    b"GENERIC",
-    b"GOTO",
-    b"IF",
-    b"IN",
-    b"INTERFACE",
-    b"IS",
-    b"LIMITED",
-    b"LOOP",
-    b"MOD",
-    b"NEW",
-    b"NOT",
-    b"NULL",
-    b"OF",
-    b"OR",
-    b"OTHERS",
-    b"OUT",
-    b"OVERRIDING",
-    b"PACKAGE",
-    b"PRAGMA",
-    b"PRIVATE",
-    b"PROCEDURE",
-    b"PROTECTED",
-    b"RAISE",
-    b"RANGE",
-    b"RECORD",
-    b"REM",
-    b"RENAMES",
-    b"REQUEUE",
-    b"RETURN",
-    b"REVERSE",
-    b"SELECT",
-    b"SEPARATE",
-    b"SOME",
-    b"SUBTYPE",
-    b"SYNCHRONIZED",
-    b"TAGGED",
-    b"TASK",
-    b"TERMINATE",
-    b"THEN",
-    b"TYPE",
-    b"UNTIL",
-    b"USE",
-    b"WHEN",
-    b"WHILE",
-    b"WITH",
-    b"XOR",
-];
-
 impl Word {
     /// The letters of the word, in upper case.
     pub fn spelling(self) -> &'static [u8]
         ensures { result.now ≡ spelling self }
     {
-        SPELLINGS[self as usize]
+        RESERVED_WORDS[self as usize].as_bytes()
     }
 }
 

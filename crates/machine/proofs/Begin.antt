@@ -8,20 +8,20 @@ use Rattle.kernel.specs.PutLaws.{by_put, put_other, put_same, same_or_not}
 use Rattle.kernel.specs.Clock.{clock}
 use Rattle.kernel.specs.Dispatching.{becomes_ready, dispatch, highest, runs_from, runs_head}
 use Rattle.kernel.specs.Effects.{activated, begin, blank}
-use Rattle.base.specs.Limits.{priorities}
+use Rattle.base.specs.declared.limits.TheConstants.{PRIORITIES}
 use Rattle.image.specs.Sections.{Sections, first_place}
 use Rattle.image.specs.Operations.{called}
 use Rattle.image.specs.Code.{body_frame, body_of, initial_state, partition_of, priority_of, start}
 use Rattle.image.specs.Frames.{Frame, Inner, TaskState}
 use Rattle.image.specs.Laws.{BeginsSound, FramesHaveRoom, HasRoom}
 use Rattle.image.specs.Rules.{IsWellFormed, all_placed, has_counts, has_ends, is_object, is_subprogram, is_task}
-use Rattle.image.specs.Names.{is_name}
-use Rattle.image.specs.declared.limits.TheConstants.{PRIORITY}
+use Rattle.base.specs.Names.{is_name}
+use Rattle.base.specs.declared.limits.TheConstants.{TASK_PRIORITY}
 use Rattle.std.specs.List.{list_all}
 use Rattle.image.specs.Shape.{IsGoing, IsSound}
 use Rattle.image.specs.Taken.{IsTaken}
-use Rattle.image.specs.declared.subprogram.Subprogram.{Subprogram}
-use Rattle.image.specs.declared.task.Task.{Task}
+use Rattle.image.specs.declared.subprograms.Subprogram.{Subprogram}
+use Rattle.image.specs.declared.tasks.Task.{Task}
 use Rattle.machine.specs.Held.{Held}
 use Rattle.machine.specs.Stands.{IsAlone, StandsFor}
 use Rattle.machine.proofs.Ready.{and-left, and-right, none_some, some_same}
@@ -70,7 +70,7 @@ module _ (p : Partition) (one : p.tasks ≡ 1) (low : p.base 0 < 32) where
   pub begin_one : begin p ≡ begun
   begin_one =
       let made : activated p.tasks (blank p) ≡ ready_one = ap (λ n. activated n (blank p)) one in
-      let top : runs_from (highest ready_one.ready priorities) ready_one ≡ runs_head (ready_one.ready (p.base 0)) (p.base 0) ready_one = ap (λ o. runs_from o ready_one) (highest_put (p.base 0) 32 low) in
+      let top : runs_from (highest ready_one.ready PRIORITIES) ready_one ≡ runs_head (ready_one.ready (p.base 0)) (p.base 0) ready_one = ap (λ o. runs_from o ready_one) (highest_put (p.base 0) 32 low) in
       let head : runs_head (ready_one.ready (p.base 0)) (p.base 0) ready_one ≡ begun = ap (λ l. runs_head l (p.base 0) ready_one) (put_same {T = List ℕ} (p.base 0) (p.base 0) (0 ∷ []) (λ h. []) refl) in
       ap (λ k. clock (dispatch k)) made ∙ ap clock (top ∙ head)
 
@@ -89,7 +89,7 @@ low_priority : (i : Sections) → IsWellFormed i → (tasks : List Task) → lis
 low_priority i whole [] all = omega arith
 low_priority i whole (t ∷ tasks) all =
     let here : is_task i t ≡ true = and-left (is_task i t) _ all in
-    let fits : nat_le t.priority PRIORITY ≡ true = and-left (nat_le t.priority PRIORITY) _ (and-right (is_name t.name) _ here) in
+    let fits : nat_le t.priority TASK_PRIORITY ≡ true = and-left (nat_le t.priority TASK_PRIORITY) _ (and-right (is_name t.name) _ here) in
     omega (arith, leb-true _ _ fits)
 
 tasks_right : (i : Sections) → IsWellFormed i → list_all (is_task i) i.tasks ≡ true

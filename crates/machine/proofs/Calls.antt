@@ -8,7 +8,7 @@ use Rattle.image.specs.Sections.{Sections}
 use Rattle.image.specs.Operations.{called}
 use Rattle.image.specs.Frames.{Frame, Words}
 use Rattle.image.specs.Steps.{call, unwind}
-use Rattle.image.specs.declared.subprogram.Subprogram.{Subprogram}
+use Rattle.image.specs.declared.subprograms.Subprogram.{Subprogram}
 
 pub call-without_frame : (i : Sections) (k : Kernel) (m : Words) (f : Frame) (fs : List Frame) (n : ℕ) (s : Subprogram) → called i n ≡ Some s → s.parameters ≤ length f.stack → 31 ≤ length fs → call i [] k 0 m f fs n (called i n) ≡ unwind i m (number_of StorageError) f fs
 call-without_frame i k m f fs n s there enough many =

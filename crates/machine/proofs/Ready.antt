@@ -11,7 +11,7 @@ use Rattle.image.specs.Laws.{FramesHaveRoom, HasRoom}
 use Rattle.image.specs.declared.instruction.Instr.{Instr}
 use Rattle.image.specs.declared.instruction.Operation.{Operation}
 use Rattle.image.specs.declared.instruction.Operation.TheVariants.{Call, ProtectedCall, EntryCall, Return}
-use Rattle.image.specs.declared.subprogram.Subprogram.{Subprogram}
+use Rattle.image.specs.declared.subprograms.Subprogram.{Subprogram}
 use Rattle.machine.specs.Held.{AreInner, CanCall, CanLeave, CanReturnAny, FitsCallee, IsReady}
 
 false_true : false ≡ true → ⊥

@@ -9,7 +9,7 @@ use Rattle.kernel.specs.Effects.{Effect, Quiet, Says, Finishes, Dies, Breaks, En
 use Rattle.kernel.specs.Laws.{QuietStays, SaysOn}
 use Rattle.kernel.specs.RunLaws.{run_over, run_plus, step_running}
 use Rattle.kernel.specs.Worlds.{Solo, Tasks, among, ending, reached, solo_of, step}
-use Rattle.base.specs.Limits.{priorities}
+use Rattle.base.specs.declared.limits.TheConstants.{PRIORITIES}
 use Rattle.image.specs.Sections.{Sections}
 use Rattle.image.specs.Code.{CodeWorld, code, start}
 use Rattle.image.specs.Frames.{TaskState, Words}
@@ -39,7 +39,7 @@ calm_alone k on running alone = record { runs = record { on = on; running = runn
 finishes_last : (k : Kernel) → IsAlone k → after 0 Finishes k ≡ record (leaves 0 k) { outcome = Some kernel.Ended }
 finishes_last k alone =
     let l : Kernel = leaves 0 k in
-    let dispatched : runs_from (highest k.ready priorities) l ≡ l = rw (highest_none k.ready alone.ready priorities) refl in
+    let dispatched : runs_from (highest k.ready PRIORITIES) l ≡ l = rw (highest_none k.ready alone.ready PRIORITIES) refl in
     let moved : time_moves k.sleepers l ≡ record l { outcome = Some kernel.Ended } = rw (alone.asleep, some_queued_none k.queued alone.queued k.partition.objects) refl in
     ap clock dispatched ∙ moved
 

@@ -8,7 +8,7 @@ use Rattle.image.specs.Shape.{IsSound}
 use Rattle.image.specs.Steps.{Stepped}
 use Rattle.image.specs.declared.instruction.Operation.{Operation}
 use Rattle.image.specs.declared.instruction.Operation.TheVariants.{Call, Return}
-use Rattle.image.specs.declared.subprogram.Subprogram.{Subprogram}
+use Rattle.image.specs.declared.subprograms.Subprogram.{Subprogram}
 use Rattle.machine.specs.Layout.{CanReturn}
 use Rattle.machine.specs.Outcomes.{line_of}
 use Rattle.machine.specs.declared.outcome.Outcome.{Outcome}

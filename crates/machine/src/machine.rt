@@ -13,7 +13,7 @@ use crate::processor::Processor;
 use crate::schedule::Schedule;
 use crate::sink::{Sink, write_all};
 use crate::text::{last_line, line_text};
-use image::image::Image;
+use image::Image;
 use image::laws::{frames_have_room, lines_grow_on, outcome_stays, steps_sound};
 use kernel::laws::{quiet_stays, says_on};
 use std::alloc::Global;

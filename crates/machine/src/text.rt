@@ -8,9 +8,7 @@ ghost use Rattle.machine.specs.Outcomes.{line_of, ending_of, time_of};
 
 use crate::outcome::{Line, LineText, Outcome};
 use arrayvec::ArrayVec;
-use image::image::Image;
-use image::task::Task;
-use image::text::Text;
+use image::{Image, Task, Text};
 use itoa::Buffer;
 
 // Appends the bytes, for which there is room.

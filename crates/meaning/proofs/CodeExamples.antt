@@ -12,7 +12,7 @@ use Rattle.image.specs.Code.{code, code_text}
 use Rattle.image.specs.declared.instruction.Instr.{Instr}
 use Rattle.image.specs.declared.instruction.Operation.{Operation}
 use Rattle.image.specs.declared.instruction.Operation.TheVariants as op
-use Rattle.image.specs.declared.subprogram.Kind.TheVariants.{Plain, TaskBody}
+use Rattle.image.specs.declared.subprograms.Kind.TheVariants.{Plain, TaskBody}
 use Rattle.meaning.specs.Programs.{default_priority, exception_names}
 use Rattle.meaning.specs.Source.{source, source_text}
 use Rattle.meaning.specs.SameMeaning.{SameMeaning}

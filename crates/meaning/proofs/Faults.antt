@@ -1,7 +1,7 @@
 -- A source run has no image fault, and no run that shows the same has one.
 use Rattle.std.proofs.Common.{◌≡◌, ◌≢◌, ℕ, zero, suc, List, [], ◌∷◌, ◌++◌, ℤ, Option, Some, None, Bool, true, false, cond, refl, sym, ◌∙◌, ltb}
 use Rattle.std.specs.Prelude.{int_lt, bytes_eq, codes}
-use Rattle.base.specs.Limits.{priorities}
+use Rattle.base.specs.declared.limits.TheConstants.{PRIORITIES}
 use Rattle.base.specs.declared.schedule.ScheduleLine.{ScheduleLine}
 use Rattle.kernel.specs.State.{Kernel, Sleeper, Outcome, Ended, WaitsForever, ImageFault, active}
 use Rattle.kernel.specs.Dispatching.{becomes_ready, runs_head, runs_from, preempted, preempts, dispatch_from, dispatch, highest}
@@ -42,8 +42,8 @@ preempts_same t None k = refl
 preempts_same t (Some h) k = either (λ l. Same l k) (ltb (active k t) h) (runs_from (Some h) (preempted t k)) k (from_same (Some h) (preempted t k)) refl
 
 dispatch_same_at : (r : Option ℕ) (k : Kernel) → Same (dispatch_from r k) k
-dispatch_same_at None k = from_same (highest k.ready priorities) k
-dispatch_same_at (Some t) k = preempts_same t (highest k.ready priorities) k
+dispatch_same_at None k = from_same (highest k.ready PRIORITIES) k
+dispatch_same_at (Some t) k = preempts_same t (highest k.ready PRIORITIES) k
 
 dispatch_same : (k : Kernel) → Same (dispatch k) k
 dispatch_same k = dispatch_same_at k.running k

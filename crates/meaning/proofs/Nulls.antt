@@ -4,7 +4,7 @@ use Rattle.base.specs.declared.schedule.ScheduleLine.{ScheduleLine}
 use Rattle.kernel.specs.State.{Kernel, put}
 use Rattle.kernel.specs.Effects.{Finishes, effect, after, blank, activated, begin}
 use Rattle.kernel.specs.Worlds.{Tasks, Solo, among, ending, reached, solo_of}
-use Rattle.kernel.specs.Calm.{Runs}
+use Rattle.kernel.specs.Calm.{IsRunner}
 use Rattle.kernel.specs.Invariant.{Kept, Passed}
 use Rattle.kernel.specs.Laws.{BeginsKept, KeptByEvery, LeftUnmoved, LinesGrow, QuietStays, ReachesCallers, RunnerIsCalm}
 use Rattle.kernel.specs.PutLaws.{by_put}
@@ -51,7 +51,7 @@ module _ (name : Identifier) where
       pub bare : (t : ℕ) → w.kernel.actions t ≡ []
       pub first : (t : ℕ) → w.rest.tasks t ≡ first_state
 
-    behaves : LeftUnmoved → (k : Kernel) (t : ℕ) (d : Tasks Words TaskState) → Own (record { kernel = k; rest = d }) → Kept (closed d) k → Runs k t → Behaves (among (behaviour code_image schedule)) closed Own k t d
+    behaves : LeftUnmoved → (k : Kernel) (t : ℕ) (d : Tasks Words TaskState) → Own (record { kernel = k; rest = d }) → Kept (closed d) k → IsRunner k t → Behaves (among (behaviour code_image schedule)) closed Own k t d
     behaves unmoved k t d own kept runs =
         let g = behaviour code_image schedule in
         let a = g.act k t (solo_of t d) in

@@ -3,7 +3,7 @@ use Rattle.std.proofs.Common.{◌≡◌, ◌≢◌, ℕ, zero, suc, ◌+◌, ◌
 use Rattle.kernel.specs.State.{Kernel, Outcome, put}
 use Rattle.kernel.specs.Effects.{Effect, Ending, Closes, TakesOver, HandsBack, after}
 use Rattle.kernel.specs.Worlds.{World, Tasks, Solo, Did, Behaviour, ending, reached, solo_of, put_back, among, step, step_of, run}
-use Rattle.kernel.specs.Calm.{Runs}
+use Rattle.kernel.specs.Calm.{IsRunner}
 use Rattle.kernel.specs.Counting.{Unseen, Spends, Done, Own, Calls, next_kernel, next_solo}
 use Rattle.kernel.specs.Laws.{LinesGrow, QuietStays}
 use Rattle.kernel.specs.PutLaws.{same_or_not, put_same, put_other, put_self}
@@ -45,7 +45,7 @@ module _ {N T H : Type 0} (g : Behaviour N T H) (t : ℕ) (frames limit : T → 
   abbrev world_back : Kernel → Tasks N T → Solo N T → World (Tasks N T)
   world_back k d s = record { kernel = after t (did_back k d s).effect k; rest = (did_back k d s).rest }
 
-  pub taken_run : (j : ℕ) (k : Kernel) (d : Tasks N T) (s : Solo N T) → Runs k t → Unseen g t j k (solo_of t d) k s → run (among g) (suc j) (record { kernel = k; rest = d }) ≡ world_back k d s
+  pub taken_run : (j : ℕ) (k : Kernel) (d : Tasks N T) (s : Solo N T) → IsRunner k t → Unseen g t j k (solo_of t d) k s → run (among g) (suc j) (record { kernel = k; rest = d }) ≡ world_back k d s
   taken_run j k d s runs unseen =
       let one : suc j ≡ j + 1 = omega arith in
       ap (λ n. run (among g) n (record { kernel = k; rest = d })) one
@@ -139,10 +139,10 @@ module _ {M S G N T H : Type 0} (f : Behaviour M S G) (g : Behaviour N T H) (rel
       other = record { kernel = k; rest = d }
 
       -- nobody runs
-      idle : Rel one other → ((t : ℕ) → Runs k t → ⊥) → step (among f) one ≡ one → step (among g) other ≡ other → Next one other
+      idle : Rel one other → ((t : ℕ) → IsRunner k t → ⊥) → step (among f) one ≡ one → step (among g) other ≡ other → Next one other
       idle r nobody ef eg = Steps 0 (Idle nobody refl) (subst (λ v. Rel v (step (among g) other)) (sym ef) (subst (λ w. Rel one w) (sym eg) r))
 
-      module _ (t : ℕ) (runs : Runs k t) (r : Rel one other) where
+      module _ (t : ℕ) (runs : IsRunner k t) (r : Rel one other) where
         met_next : Met f g rel frames limit k t (solo_of t c) (solo_of t d) → Next one other
         met_next (Still q sh st less) =
             let s = (f.act k t (solo_of t c)).solo in
@@ -179,7 +179,7 @@ module _ {M S G N T H : Type 0} (f : Behaviour M S G) (g : Behaviour N T H) (rel
           idle r (λ t runs. cc (h, runs.running)) (ap (λ x. step_of (among f) k c x k.running) e ∙ ap (λ x. step_of (among f) k c None x) h)
           (ap (λ x. step_of (among g) k d x k.running) e ∙ ap (λ x. step_of (among g) k d None x) h)
       next_at None (Some t) e h r =
-          let runs : Runs k t = record { on = e; running = h } in
+          let runs : IsRunner k t = record { on = e; running = h } in
           met_next t runs r (meets.met k t (solo_of t c) (solo_of t d) (meets.runner other t r.keeps runs) r.shared (r.stands t))
 
     pub next : (v : World (Tasks M S)) (w : World (Tasks N T)) → Rel v w → Next v w

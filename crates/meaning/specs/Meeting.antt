@@ -3,7 +3,7 @@ use Rattle.std.specs.Prelude.{◌≡◌, ◌≢◌, ℕ, suc, ◌+◌, ◌<◌, 
 use Rattle.kernel.specs.State.{Kernel}
 use Rattle.kernel.specs.Effects.{Effect, Quiet, Ending, Closes, TakesOver, HandsBack, after}
 use Rattle.kernel.specs.Worlds.{World, Tasks, Solo, Behaviour, ending, solo_of, among, step}
-use Rattle.kernel.specs.Calm.{Runs, Calm}
+use Rattle.kernel.specs.Calm.{IsRunner, Calm}
 use Rattle.kernel.specs.Counting.{Alone, next_kernel, next_solo, Spends, Done, Own, Calls}
 use Rattle.kernel.specs.Laws.{Reaches}
 
@@ -55,10 +55,10 @@ module _ {N T H : Type 0} (g : Behaviour N T H) (t : ℕ) (frames limit : T → 
 -- j steps from a world for one step of the other side: a single one where no task runs, or else steps of the running task,
 -- of which its frame takes at most the limit for the state in which they begin
 pub data Counted {N T H : Type 0} (g : Behaviour N T H) (frames limit : T → ℕ) (w : World (Tasks N T)) (j : ℕ) : Type 0 where
-  Idle : ((t : ℕ) → Runs w.kernel t → ⊥) → j ≡ 1 → Counted g frames limit w j
+  Idle : ((t : ℕ) → IsRunner w.kernel t → ⊥) → j ≡ 1 → Counted g frames limit w j
   Busy :
       (t n : ℕ) (s : Solo N T)
-      → Runs w.kernel t
+      → IsRunner w.kernel t
       → (all : Takes g t frames limit (frames (w.rest.tasks t)) n w.kernel (solo_of t w.rest) w.kernel s)
       → n ≤ limit (w.rest.tasks t)
       → j ≡ taken g t frames limit all
@@ -118,7 +118,7 @@ module _ {M S G N T H : Type 0} (f : Behaviour M S G) (g : Behaviour N T H) (rel
   -- what the two sides owe; `Keeps` is an invariant of g's worlds, kept by every step
   pub record Meets (Keeps : World (Tasks N T) → Type 0) : Type 0 where
     pub kept : (w : World (Tasks N T)) → Keeps w → Keeps (step (among g) w)
-    pub runner : (w : World (Tasks N T)) (t : ℕ) → Keeps w → Runs w.kernel t → Runner w.kernel t
+    pub runner : (w : World (Tasks N T)) (t : ℕ) → Keeps w → IsRunner w.kernel t → Runner w.kernel t
     pub met : (k : Kernel) (t : ℕ) (a : Solo M S) (b : Solo N T) → Runner k t → rel.shares a.memory b.memory → rel.stands k t a.task b.task → Met k t a b
     -- the premise for effects that reach what other tasks hold
     pub owed :

@@ -3,7 +3,7 @@ use Rattle.std.proofs.Common.{◌≡◌, ℕ, zero, suc, ◌+◌, ◌<◌, ◌�
 use Rattle.kernel.specs.State.{Kernel}
 use Rattle.kernel.specs.Effects.{Quiet, after}
 use Rattle.kernel.specs.Worlds.{Solo, Act, Behaviour, ending}
-use Rattle.kernel.specs.Calm.{Runs, Calm}
+use Rattle.kernel.specs.Calm.{IsRunner, Calm}
 use Rattle.kernel.specs.Counting.{Alone, Spends, Done, Own, Calls, next_kernel, next_solo}
 use Rattle.kernel.specs.Laws.{QuietStays}
 use Rattle.meaning.specs.Meeting.{Relation, Takes, Last, OwnStep, Over, Within, Met, Still, Moves}
@@ -34,7 +34,7 @@ module _ {N T H : Type 0} (g : Behaviour N T H) (t : ℕ) (frames limit : T → 
       subst (λ x. Takes g t frames limit d x k s o v) e (Over alone here above low (spends_takes m o v rest q))
 
   -- a quiet step reaches no other task
-  pub quiet_alone : (k : Kernel) (s : Solo N T) → Runs k t → (g.act k t s).effect ≡ Quiet → Alone g t k s
+  pub quiet_alone : (k : Kernel) (s : Solo N T) → IsRunner k t → (g.act k t s).effect ≡ Quiet → Alone g t k s
   quiet_alone k s runs e = record { runs = runs; closes = ap (λ x. ending k t x) e }
 
   module _ (quiet : QuietStays) (k : Kernel) (calm : Calm k t) (s x : Solo N T) (e : (g.act k t s).effect ≡ Quiet) (there : (g.act k t s).solo ≡ x) where

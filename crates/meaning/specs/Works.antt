@@ -1,6 +1,6 @@
 -- What a task still has to do, as a list of items, and what it holds meanwhile.
 use Rattle.std.specs.Prelude.{ℕ, suc, ◌-◌, List, [], ◌∷◌}
-use Rattle.base.specs.Limits.{most_frames}
+use Rattle.base.specs.declared.limits.TheConstants.{FRAMES}
 use Rattle.ada_tree.specs.declared.program.MainStatement.{MainStatement}
 use Rattle.ada_tree.specs.StatementTree.{StmtTree, StmtTrees, HandlerTrees, DeclarationTree}
 use Rattle.meaning.specs.Values.{Scalar}
@@ -54,4 +54,4 @@ ends_of_calls (i ∷ items) = ends_of_calls items
 
 -- the frames that the task may still open: its body takes one, and each open call
 abbrev pub frames_left : List Item → ℕ
-frames_left items = most_frames - suc (ends_of_calls items)
+frames_left items = FRAMES - suc (ends_of_calls items)

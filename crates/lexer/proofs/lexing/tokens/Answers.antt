@@ -1,6 +1,6 @@
 use Rattle.std.proofs.Common.{◌≡◌, ◌+◌, ◌<◌, ◌⊎◌, ◌++◌, ◌∷◌, [], Ok, Err, sym, ap, ◌∙◌, subst, inl, inr, arith}
 use Rattle.std.proofs.lemmas.Result.{err_from_is_err_and}
-use Rattle.lexer.specs.Limits.{text_limit}
+use Rattle.base.specs.declared.limits.TheConstants.{TEXT_LIMIT}
 use Rattle.lexer.specs.Fault.{memory_fault}
 use Rattle.lexer.specs.Spelling.{IsBroken}
 use Rattle.lexer.proofs.Loop.{Reads, start, read_is, broken_inside, element_inside, more_token, more_blank, broken_here, unspelled, only_spelled, too_long, refused, broken_is_least, long_is_least, none_broken}
@@ -29,7 +29,7 @@ returns-then-end-gt-TEXT_LIMIT-clause-complete c = λ tokens spells.
 pub returns-then-end-gt-TEXT_LIMIT-clause-fault : goal.returns-then-end-gt-TEXT_LIMIT-clause-fault
 returns-then-end-gt-TEXT_LIMIT-clause-fault c =
     let lies = element_inside c.args.text.now c.loop-at.at c.in-Ok.element c.loop-at-test.true (read_is c.loop-at.at c.args.text.now (Ok c.in-Ok.element) c.in-Ok.ensures) in
-    inl (subst (IsBroken c.args.text.now) (sym c.fault_at-then-end-gt-TEXT_LIMIT.ensures) (too_long c.args.text.now 1 text_limit (omega arith) (omega (arith, lies.1, c.if-end-gt-TEXT_LIMIT.true))))
+    inl (subst (IsBroken c.args.text.now) (sym c.fault_at-then-end-gt-TEXT_LIMIT.ensures) (too_long c.args.text.now 1 TEXT_LIMIT (omega arith) (omega (arith, lies.1, c.if-end-gt-TEXT_LIMIT.true))))
 
 pub loop-at-preserved-in_ok-push : goal.loop-at-preserved-in_ok-push
 loop-at-preserved-in_ok-push c =

@@ -1,0 +1,34 @@
+//! The numbers of faults, each by what it means (docs/LANGUAGE.md, "Faults", and docs/FORMATS.md).
+
+/// A source text has too many bytes.
+pub const TEXT_TOO_LONG: u8 = 1;
+/// A character or a sequence begins no token, or no comment may hold it (RM 2.1, 2.2).
+pub const STRAY_CHARACTER: u8 = 2;
+/// An identifier has a doubled or final underline, or too many characters (RM 2.3).
+pub const WRONG_IDENTIFIER: u8 = 3;
+/// A literal is too large, has an underline that is not between digits, or is followed at once by a letter or a number sign (RM 2.4.1).
+pub const WRONG_LITERAL: u8 = 4;
+/// A label is empty, too long, not closed on its line, or has another character than those from 33 to 126 (RM 2.6).
+pub const WRONG_LABEL: u8 = 5;
+/// No derivation allows the token.
+pub const UNEXPECTED_TOKEN: u8 = 6;
+/// Too many levels are open.
+pub const TOO_MANY_LEVELS: u8 = 7;
+/// The code of a program passes a limit of images.
+pub const CODE_TOO_LARGE: u8 = 23;
+/// An image: the operands of an instruction are out of range by themselves.
+pub const OPERAND_OUT_OF_RANGE: u8 = 43;
+/// An image: a jump, a subprogram's end or a handler leaves its subprogram.
+pub const JUMP_OUTSIDE: u8 = 44;
+/// An image: something that is named is not there, or may not be used so.
+pub const NAMED_THING_MISSING: u8 = 45;
+/// An image: depths of the operand stack don't agree.
+pub const DEPTHS_DISAGREE: u8 = 46;
+/// An image: the tables don't agree, or pass a limit.
+pub const TABLES_DISAGREE: u8 = 47;
+/// A schedule: a line has another form.
+pub const WRONG_SCHEDULE_LINE: u8 = 50;
+/// Memory was refused.
+pub const MEMORY_REFUSED: u8 = 60;
+/// The program is outside the language that is compiled today.
+pub const OUTSIDE_LANGUAGE: u8 = 90;

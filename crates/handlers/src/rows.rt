@@ -1,0 +1,145 @@
+//! Handler rows, the table made of them, and its search.
+
+ghost use Rattle.std.specs.Prelude.{◌≡◌, [], IfErr, IfOk, IfSome};
+ghost use Rattle.handlers.specs.Handlers.{LeadsWithin};
+ghost use Rattle.handlers.specs.Innermost.{covers, handles, width, inside, innermost, handler_of};
+
+use crate::Probes;
+use base::faults::MEMORY_REFUSED;
+use std::alloc::{AllocError, Global};
+use std::marker::Model;
+use std::sync::ledger::Ledger;
+
+/// One handler: an exception raised at an instruction from `start` on and before `end_` goes on at `target`.
+#[derive(Clone, Copy, PartialEq, Eq, Debug)]
+pub struct Row {
+    /// The first instruction covered.
+    pub start: u16,
+    /// The instruction after the last one covered.
+    pub end_: u16,
+    /// The number of the exception handled, or 0 for all.
+    pub exception: u16,
+    /// The handler's first instruction.
+    pub target: u16,
+}
+
+impl Row {
+    fn covers(&self, place: u16) -> bool
+        ensures { result ≡ covers place self.now }
+    {
+        self.start <= place && place < self.end_
+    }
+
+    fn handles(&self, exception: u16) -> bool
+        ensures { result ≡ handles exception self.now }
+    {
+        self.exception == 0 || self.exception == exception
+    }
+
+    // How many places it covers.
+    fn width(&self) -> u16
+        ensures { result ≡ width self.now }
+    {
+        self.end_.saturating_sub(self.start)
+    }
+
+    // The row with the shorter region, the one that was found before it where they are equal.
+    fn inside(&self, found: Option<Row>) -> Row
+        ensures { result ≡ inside found self.now }
+    {
+        match found {
+            Some(before) if before.width() <= self.width() => before,
+            _ => *self,
+        }
+    }
+}
+
+/// Why no table was made: 60 for want of memory, with row 0.
+#[derive(Clone, Copy, PartialEq, Eq, Debug)]
+pub struct TableFault {
+    /// The number of the rule.
+    pub number: u8,
+    /// The row that breaks it, counted from 0.
+    pub row: u16,
+}
+
+impl From<AllocError> for TableFault {
+    ghost use Rattle.base.specs.declared.faults.TheConstants.{MEMORY_REFUSED};
+
+    ghost from_gives = { λ _ fault. fault ≡ (record { number = MEMORY_REFUSED; row = 0 }) };
+
+    fn from(_error: AllocError) -> Self {
+        TableFault {
+            number: MEMORY_REFUSED,
+            row: 0,
+        }
+    }
+}
+
+/// The handlers of a program's subprograms.
+#[derive(Drop)]
+pub struct Table {
+    rows: Vec<Row>,
+    ends: Vec<u16>,
+}
+
+impl Model for Table {
+    ghost use Rattle.std.specs.Prelude.{All};
+    ghost use Rattle.handlers.specs.Handlers.{Handlers, IsWithinOne};
+
+    ghost Value = { Handlers };
+
+    ghost view = { λ t. record { rows = t.rows.items; ends = t.ends.items } };
+
+    ghost invariant = { λ t. All (IsWithinOne t.ends.items) t.rows.items };
+}
+
+/// The table of a program without handlers, whose subprograms end at `ends`.
+///
+/// # Errors
+/// 60 where memory was refused.
+pub fn build(alloc: Global, rows: Vec<Row>, ends: &[u16]) -> Result<Table, TableFault>
+    requires { rows.items ≡ [] }
+    ensures ok { IfOk result (λ table. table ≡ record { rows = []; ends = ends.now }) }
+    ensures err { IfErr result (λ fault. fault ≡ record { number = MEMORY_REFUSED; row = 0 }) }
+{
+    let ends = ends.to_vec(alloc)?;
+    Ok(Table { rows, ends })
+}
+
+/// The target of the innermost row that covers `place` and handles `exception`: the one with the shortest region, the first
+/// of equal ones. `None` where no row does both. The target lies in the subprogram that holds `place`.
+pub fn lookup<L: Ledger>(
+    table: &Table,
+    place: u16,
+    exception: u16,
+    probes: &mut Probes<L>,
+) -> Option<u16>
+    ensures innermost { result ≡ handler_of table.now.rows place exception }
+    ensures within { IfSome result (LeadsWithin table.now place) }
+{
+    innermost(table, place, exception, probes).map(|row| row.target)
+}
+
+// The innermost row itself.
+fn innermost<L: Ledger>(
+    table: &Table,
+    place: u16,
+    exception: u16,
+    probes: &mut Probes<L>,
+) -> Option<Row>
+    ensures innermost { result ≡ innermost table.now.rows place exception }
+    ensures within { IfSome result (λ row. LeadsWithin table.now place row.target) }
+{
+    let mut found = None;
+    for row in &table.rows {
+        probes.count_place();
+        if row.covers(place) {
+            probes.count_exception();
+            if row.handles(exception) {
+                found = Some(row.inside(found));
+            }
+        }
+    }
+    found
+}

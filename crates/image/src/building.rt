@@ -1,0 +1,172 @@
+//! Images, well-formed by construction.
+ghost use Rattle.std.specs.Prelude.{◌≡◌, IfErr, IfOk, OnOk};
+ghost use Rattle.image.specs.Faults.{memory_fault};
+ghost use Rattle.image.specs.Refusals.{Refuses};
+ghost use Rattle.image.specs.Rules.{IsWellFormed};
+ghost use Rattle.image.specs.Sections.{ends_of};
+ghost use Rattle.image.specs.Taken.{IsTaken};
+ghost use Rattle.image.specs.Width.{ImageFits};
+
+use crate::{ImageFault, Instr, Object, Parts, Subprogram, Task, Text};
+use base::faults::{
+    DEPTHS_DISAGREE, JUMP_OUTSIDE, NAMED_THING_MISSING, OPERAND_OUT_OF_RANGE, TABLES_DISAGREE,
+};
+use handlers::{Row, Table, build};
+use std::alloc::{AllocError, Global};
+use std::marker::Model;
+
+/// A well-formed image. Contracts see its sections.
+#[derive(Drop)]
+pub struct Image {
+    parts: Parts,
+    table: Table,
+}
+
+impl Model for Image {
+    ghost use Rattle.std.specs.Prelude.{◌≡◌};
+    ghost use Rattle.image.specs.Rules.{IsWellFormed};
+    ghost use Rattle.image.specs.Sections.{Sections, ends_of};
+    ghost use Rattle.image.specs.Taken.{IsTaken};
+
+    ghost Value = { Sections };
+
+    ghost view = { λ i. i.parts };
+
+    ghost invariant = { λ i. IsWellFormed i.parts × IsTaken i.parts × (i.table ≡ record { rows = i.parts.rows; ends = ends_of i.parts.subprograms }) };
+}
+
+impl Image {
+    /// The image of these sections.
+    ///
+    /// # Errors
+    /// 43 to 47, at byte 0, where that rule is broken; 60 where memory was refused.
+    pub fn build(alloc: Global, parts: Parts) -> Result<Image, ImageFault>
+        ensures same { IfOk result (λ image. image ≡ parts) }
+        ensures well_formed { OnOk result (IsWellFormed parts) }
+        ensures taken { OnOk result (IsTaken parts) }
+        ensures refused { IfErr result (Refuses parts) }
+    {
+        parts.check()?;
+        let ends = parts.ends(alloc)?;
+        let table = build(alloc, Vec::new(alloc), &ends).map_err(|_| ImageFault::memory())?;
+        Ok(Image { parts, table })
+    }
+
+    /// The exceptions' names, numbered from 1.
+    pub fn exceptions(&self) -> &[Text]
+        ensures same { result.now ≡ self.now.exceptions }
+        ensures well_formed { IsWellFormed self.now }
+    {
+        &self.parts.exceptions
+    }
+
+    /// The labels of lines, numbered from 0.
+    pub fn labels(&self) -> &[Text]
+        ensures same { result.now ≡ self.now.labels }
+        ensures well_formed { IsWellFormed self.now }
+    {
+        &self.parts.labels
+    }
+
+    /// The initial values of the plain words.
+    pub fn plain_words(&self) -> &[i64]
+        ensures same { result.now ≡ self.now.plain_words }
+        ensures well_formed { IsWellFormed self.now }
+    {
+        &self.parts.plain_words
+    }
+
+    /// The protected objects, numbered from 0.
+    pub fn objects(&self) -> &[Object]
+        ensures same { result.now ≡ self.now.objects }
+        ensures well_formed { IsWellFormed self.now }
+    {
+        &self.parts.objects
+    }
+
+    /// The subprograms, numbered from 0.
+    pub fn subprograms(&self) -> &[Subprogram]
+        ensures same { result.now ≡ self.now.subprograms }
+        ensures well_formed { IsWellFormed self.now }
+    {
+        &self.parts.subprograms
+    }
+
+    /// The tasks in the order of declaration, main last.
+    pub fn tasks(&self) -> &[Task]
+        ensures same { result.now ≡ self.now.tasks }
+        ensures well_formed { IsWellFormed self.now }
+        ensures taken { IsTaken self.now }
+    {
+        &self.parts.tasks
+    }
+
+    /// The handler rows in their given order.
+    pub fn rows(&self) -> &[Row]
+        ensures same { result.now ≡ self.now.rows }
+        ensures well_formed { IsWellFormed self.now }
+    {
+        &self.parts.rows
+    }
+
+    /// The table of the handler rows, for searches.
+    pub fn handlers(&self) -> &Table
+        ensures { result.now ≡ record { rows = self.now.rows; ends = ends_of self.now.subprograms } }
+    {
+        &self.table
+    }
+
+    /// The instructions, numbered from 0.
+    pub fn instructions(&self) -> &[Instr]
+        ensures same { result.now ≡ self.now.instructions }
+        ensures well_formed { IsWellFormed self.now }
+        ensures taken { IsTaken self.now }
+    {
+        &self.parts.instructions
+    }
+
+    // Reads its constants and initial words: they are `i64`.
+    pub(crate) fn words_fit(&self)
+        ensures { ImageFits self.now }
+    {
+        self.parts.words_fit();
+    }
+}
+
+impl Parts {
+    // The first of the rules 43 to 47 that is broken, in their order.
+    fn check(&self) -> Result<(), ImageFault>
+        ensures well_formed { OnOk result (IsWellFormed self.now) }
+        ensures taken { OnOk result (IsTaken self.now) }
+        ensures refused { IfErr result (Refuses self.now) }
+    {
+        if !self.operands_in_range() || !self.takes_operations() {
+            return Err(ImageFault::broken(OPERAND_OUT_OF_RANGE));
+        }
+        if !self.jumps_stay_inside() {
+            return Err(ImageFault::broken(JUMP_OUTSIDE));
+        }
+        if !self.named_things_exist() {
+            return Err(ImageFault::broken(NAMED_THING_MISSING));
+        }
+        if !self.depths_agree() {
+            return Err(ImageFault::broken(DEPTHS_DISAGREE));
+        }
+        if !self.tables_agree() || !self.takes_tables() {
+            return Err(ImageFault::broken(TABLES_DISAGREE));
+        }
+        Ok(())
+    }
+
+    // Where each subprogram ends.
+    fn ends(&self, alloc: Global) -> Result<Vec<u16>, ImageFault>
+        ensures ok { IfOk result (λ ends. ends.items ≡ ends_of self.now.subprograms) }
+        ensures refused { IfErr result (λ fault. fault ≡ memory_fault) }
+    {
+        self.subprograms
+            .iter()
+            .map(|s| s.end_)
+            .collect(alloc)
+            .map_err(|_: AllocError| ImageFault::memory())
+    }
+}
