@@ -198,32 +198,44 @@ fn counts_levels_of_formals(rt: HostRuntime) -> Result<(), Fail> {
     Ok(())
 }
 
-/// The operator of an operation, and its left operand.
-fn left_of(value: &Expr) -> Option<(BinaryOperator, &Expr)> {
-    match value {
-        Expr::Binary(operator, left, _) => Some((*operator, &**left)),
-        _ => None,
+/// The operators of a chain, from left to right.
+fn operators_of(alloc: Global, value: &Expr) -> Result<Vec<BinaryOperator>, AllocError> {
+    let mut operators = Vec::new(alloc);
+    if let Expr::Chain(_, second, more) = value {
+        operators.push(second.operator)?;
+        for operand in more {
+            operators.push(operand.operator)?;
+        }
     }
+    Ok(operators)
 }
 
 #[test]
 fn groups_to_the_left(rt: HostRuntime) -> Result<(), Fail> {
     let tokens = lexer::tokens(
         rt.alloc(),
-        b"procedure Main with Priority => A - B + C is begin null; end Main;",
+        b"procedure Main with Priority => A - B + C * D - E < F is begin null; end Main;",
     )?;
     let program = parse(rt.alloc(), tokens.as_slice())?;
-    let mut operators = Vec::new(rt.alloc());
+    let expected = [
+        BinaryOperator::Subtract,
+        BinaryOperator::Add,
+        BinaryOperator::Subtract,
+        BinaryOperator::Less,
+    ];
+    let mut chains = 0;
     if let Some(aspect) = &program.main.aspect {
-        if let Some((last, left)) = left_of(&aspect.value) {
-            operators.push(last)?;
-            if let Some((first, _)) = left_of(left) {
-                operators.push(first)?;
+        let operators = operators_of(rt.alloc(), &aspect.value)?;
+        assert_eq!(rt; operators.as_slice(), expected.as_slice());
+        if let Expr::Chain(_, _, more) = &aspect.value {
+            if let Some(product) = more.first() {
+                let operators = operators_of(rt.alloc(), &product.value)?;
+                assert_eq!(rt; operators.as_slice(), [BinaryOperator::Multiply].as_slice());
+                chains = 2;
             }
         }
     }
-    let expected = [BinaryOperator::Add, BinaryOperator::Subtract];
-    assert_eq!(rt; operators.as_slice(), expected.as_slice());
+    assert_eq!(rt; chains, 2);
     one_tree();
     Ok(())
 }
@@ -238,9 +250,7 @@ fn takes_a_whole_term_under_a_sign(rt: HostRuntime) -> Result<(), Fail> {
     let mut operators = Vec::new(rt.alloc());
     if let Some(aspect) = &program.main.aspect {
         if let Expr::Unary(UnaryOperator::Minus, _, operand) = &aspect.value {
-            if let Some((operator, _)) = left_of(operand) {
-                operators.push(operator)?;
-            }
+            operators = operators_of(rt.alloc(), operand)?;
         }
     }
     assert_eq!(rt; operators.as_slice(), [BinaryOperator::Mod].as_slice());

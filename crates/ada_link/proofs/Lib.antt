@@ -10,6 +10,7 @@ pub mod Bodies
 pub mod Calls
 pub mod Mains
 pub mod Loops
+pub mod Chains
 pub mod Placing
 pub mod Images
 pub mod SizeExamples

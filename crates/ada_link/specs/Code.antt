@@ -4,7 +4,8 @@ use Rattle.image.specs.Sections.{Sections, first_place}
 use Rattle.image.specs.declared.instruction.Instr.{Instr}
 use Rattle.image.specs.declared.subprograms.Subprogram.{Subprogram}
 use Rattle.image.specs.Rules.{last_end}
-use Rattle.ada_tree.specs.ExpressionTree.{ExprTree}
+use Rattle.ada_tree.specs.ExpressionTree.{ExprTree, chain_tree}
+use Rattle.ada_tree.specs.declared.expression.Operand.{Operand}
 use Rattle.ada_tree.specs.StatementTree.{StmtTree, SubprogramTree}
 use Rattle.ada_tree.specs.ProgramTree.{BodyTree, BodyItemTree, PackageTree, SubprogramBody}
 use Rattle.ada_tree.specs.declared.program.MainStatement.{MainStatement}
@@ -49,6 +50,10 @@ pub record EmitsExpression (old : Code) (e : ExprTree) (new : Code) : Type 0 whe
   pub labels : new.labels ≡ old.labels
   pub subprograms : new.subprograms ≡ old.subprograms
   pub computes : (i : Sections) → Holds i (here old) new → Computes i (here old) (here new) (value e)
+
+-- the code that was added makes of an expression's value, computed by the code before it, that of the operations on it
+pub record EmitsOperands (old : Code) (all : List Operand) (new : Code) : Type 0 where
+  pub emits : (start : Code) (left : ExprTree) → EmitsExpression start left old → EmitsExpression start (chain_tree left all) new
 
 -- the code that was added is the code of the statement, in every image that holds it
 pub record EmitsStatement (old : Code) (s : StmtTree) (new : Code) : Type 0 where

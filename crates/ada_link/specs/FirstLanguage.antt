@@ -3,14 +3,16 @@ use Rattle.std.specs.Prelude.{ℕ, Bool, true, false, ◌&&◌, ◌||◌, not, L
 use Rattle.std.specs.List.{list_all, list_any}
 use Rattle.base.specs.Names.{is_label, is_name}
 use Rattle.ada_tree.specs.declared.expression.UnaryOperator.TheVariants as unary
+use Rattle.ada_tree.specs.declared.expression.BinaryOperator.{BinaryOperator}
 use Rattle.ada_tree.specs.declared.expression.BinaryOperator.TheVariants as binary
+use Rattle.ada_tree.specs.declared.expression.Operand.{Operand}
 use Rattle.ada_tree.specs.declared.expression.Identifier.{Identifier}
 use Rattle.ada_tree.specs.declared.program.Pragma.{Pragma}
 use Rattle.ada_tree.specs.declared.program.UnitName.{UnitName}
 use Rattle.ada_tree.specs.declared.program.UnitClause.{UnitClause}
 use Rattle.ada_tree.specs.declared.program.MainStatement.{MainStatement}
 use Rattle.ada_tree.specs.declared.program.MainStatement.TheVariants as main
-use Rattle.ada_tree.specs.ExpressionTree.{ExprTree, Number, Parenthesized, Unary, Binary, SelectorTrees, NoSelectors, MoreSelectors, Arguments, ArgumentTrees, MoreArguments, NoArguments, Value, Text, NameTree}
+use Rattle.ada_tree.specs.ExpressionTree.{ExprTree, Number, Parenthesized, Unary, Binary, SelectorTrees, NoSelectors, MoreSelectors, Arguments, ArgumentTrees, MoreArguments, NoArguments, Value, Text, NameTree, expr_tree}
 use Rattle.ada_tree.specs.StatementTree.{StmtTree, Null, Call, StmtTrees, NoStmts, MoreStmts, HandlerTrees, NoHandlers, MoreHandlers, SubprogramTree}
 use Rattle.ada_tree.specs.ProgramTree.{ProgramTree, PackageTree, MainTree, BodyTree, ItemTree, OfSubprogram, BodyItemTree, SubprogramBody}
 use Rattle.ada_link.specs.declared.visible.TheConstants.{STANDARD, REAL_TIME, CONTROL_IO}
@@ -24,6 +26,16 @@ is_first_expression (Binary binary.Add a b) = is_first_expression a && is_first_
 is_first_expression (Binary binary.Subtract a b) = is_first_expression a && is_first_expression b
 is_first_expression (Binary binary.Multiply a b) = is_first_expression a && is_first_expression b
 is_first_expression e = false
+
+abbrev pub is_first_operator : BinaryOperator → Bool
+is_first_operator binary.Add = true
+is_first_operator binary.Subtract = true
+is_first_operator binary.Multiply = true
+is_first_operator operator = false
+
+-- an operator and the operand behind it
+abbrev pub is_first_operand : Operand → Bool
+is_first_operand o = is_first_operator o.operator && is_first_expression (expr_tree o.value)
 
 -- Statements: null, and calls of Put with a label and a value
 

@@ -4,7 +4,8 @@ use Rattle.base.specs.declared.limits.TheConstants.{FRAME_WORDS, INSTRUCTIONS, L
 use Rattle.image.specs.Frames.{TaskState}
 use Rattle.ada_tree.specs.declared.program.MainStatement.{MainStatement}
 use Rattle.ada_tree.specs.declared.program.MainStatement.TheVariants as main
-use Rattle.ada_tree.specs.ExpressionTree.{ExprTree, Number, Parenthesized, Unary, Binary}
+use Rattle.ada_tree.specs.ExpressionTree.{ExprTree, Number, Parenthesized, Unary, Binary, expr_tree}
+use Rattle.ada_tree.specs.declared.expression.Operand.{Operand}
 use Rattle.ada_tree.specs.StatementTree.{StmtTree, Call, StmtTrees, NoStmts, MoreStmts}
 use Rattle.ada_tree.specs.ProgramTree.{ProgramTree, BodyItemTree, SubprogramBody}
 use Rattle.ada_link.specs.FirstLanguage.{contains, put_of}
@@ -21,6 +22,11 @@ value_instructions (Parenthesized place e) = value_instructions e
 value_instructions (Unary operator place e) = value_instructions e + 1
 value_instructions (Binary operator a b) = value_instructions a + value_instructions b + 1
 value_instructions e = 0
+
+-- an operand's own and one for its operator
+abbrev pub operands_instructions : List Operand → ℕ
+operands_instructions [] = 0
+operands_instructions (o ∷ rest) = value_instructions (expr_tree o.value) + 1 + operands_instructions rest
 
 -- one more than its value for a Put
 abbrev pub put_instructions : Option (List ℕ × ExprTree) → ℕ
@@ -67,6 +73,11 @@ value_words (Parenthesized place e) = value_words e
 value_words (Unary operator place e) = value_words e
 value_words (Binary operator a b) = max (value_words a) (value_words b + 1)
 value_words e = 0
+
+-- what stands before an operator has left its value
+abbrev pub operands_words : List Operand → ℕ
+operands_words [] = 0
+operands_words (o ∷ rest) = max (value_words (expr_tree o.value) + 1) (operands_words rest)
 
 abbrev pub put_words : Option (List ℕ × ExprTree) → ℕ
 put_words None = 0

@@ -24,9 +24,9 @@ fn label_and_value(arguments: &[Argument]) -> Option<(&Label, &Expr)>
     ensures { option_map (λ put. (put.0.now, expr_tree put.1.now)) result ≡ label_and_value (argument_trees arguments.now) }
 {
     match arguments {
-        [Argument::Label(label, _), Argument::Expr(value)] => Some((label, value)),
+        [Argument::Label(label, ..), Argument::Expr(value, ..)] => Some((label, value)),
         [Argument::Label(..), Argument::Label(..)] => None,
-        [Argument::Expr(_), _] => None,
+        [Argument::Expr(..), _] => None,
         [] => None,
         [_] => None,
         [_, _, _, ..] => None,
@@ -39,15 +39,15 @@ pub(crate) fn put_of(name: &NameExpr) -> Option<(&Label, &Expr)>
 {
     arguments_by_parts();
     match name.selectors.as_slice() {
-        [Selector::Arguments(arguments)] => {
+        [Selector::Arguments(arguments, ..)] => {
             if is_named(&name.first, "PUT") {
                 label_and_value(arguments)
             } else {
                 None
             }
         }
-        [Selector::Component(_)] => None,
-        [Selector::Attribute(_)] => None,
+        [Selector::Component(..)] => None,
+        [Selector::Attribute(..)] => None,
         [] => None,
         [_, _, ..] => None,
     }

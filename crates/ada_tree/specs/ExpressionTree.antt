@@ -3,7 +3,7 @@ use Rattle.std.specs.Prelude.{ℕ, ℤ, Option, Some, None, List, [], ◌∷◌,
 use Rattle.ada_tree.specs.declared.expression.Identifier.{Identifier}
 use Rattle.ada_tree.specs.declared.expression.UnaryOperator.{UnaryOperator}
 use Rattle.ada_tree.specs.declared.expression.BinaryOperator.{BinaryOperator}
-use Rattle.ada_tree.specs.declared.expression.Expr.{Expr, Row_of-ElsifValue, end_of-ElsifValue, more_of-ElsifValue, Row_of-Selector, end_of-Selector, more_of-Selector}
+use Rattle.ada_tree.specs.declared.expression.Expr.{Expr, Row_of-ElsifValue, end_of-ElsifValue, more_of-ElsifValue, Row_of-Operand, end_of-Operand, more_of-Operand, Row_of-Selector, end_of-Selector, more_of-Selector}
 use Rattle.ada_tree.specs.declared.expression.Expr as declared
 use Rattle.ada_tree.specs.declared.expression.Selector.{Selector, Row_of-Argument, end_of-Argument, more_of-Argument}
 use Rattle.ada_tree.specs.declared.expression.Selector as selector
@@ -11,6 +11,7 @@ use Rattle.ada_tree.specs.declared.expression.Argument.{Argument}
 use Rattle.ada_tree.specs.declared.expression.Argument as argument
 use Rattle.ada_tree.specs.declared.expression.ElsifValue.{ElsifValue}
 use Rattle.ada_tree.specs.declared.expression.NameExpr.{NameExpr}
+use Rattle.ada_tree.specs.declared.expression.Operand.{Operand}
 
 mutual
   pub data ExprTree : Type 0 where
@@ -53,7 +54,11 @@ abbrev mutual
   expr_tree (declared.Parenthesized' place p inner) = Parenthesized place (expr_tree inner)
   expr_tree (declared.Conditional' place p condition q value shape row r else_value) = Conditional place (expr_tree condition) (expr_tree value) (elsif_values_of_row row) (expr_tree else_value)
   expr_tree (declared.Unary' operator place p operand) = Unary operator place (expr_tree operand)
-  expr_tree (declared.Binary' operator p left q right) = Binary operator (expr_tree left) (expr_tree right)
+  expr_tree (declared.Chain' p first q operator second shape row) = chain_of_row (Binary operator (expr_tree first) (expr_tree second)) row
+
+  pub chain_of_row : {m : _} → ExprTree → Row_of-Operand m → ExprTree
+  chain_of_row left end_of-Operand = left
+  chain_of_row left (more_of-Operand operator right rest) = chain_of_row (Binary operator left (expr_tree right)) rest
 
   pub elsif_values_of_row : {m : _} → Row_of-ElsifValue m → ElsifValueTrees
   elsif_values_of_row end_of-ElsifValue = NoElsifValues
@@ -75,6 +80,11 @@ abbrev mutual
   pub argument_tree : Argument → ArgumentTree
   argument_tree (argument.Expr e) = Value (expr_tree e)
   argument_tree (argument.Label label place) = Text label place
+
+-- what operators and the operands behind them make of what stands before them, from left to right
+abbrev pub chain_tree : ExprTree → List Operand → ExprTree
+chain_tree left [] = left
+chain_tree left (o ∷ rest) = chain_tree (Binary o.operator left (expr_tree o.value)) rest
 
 abbrev pub selectors_of : List SelectorTree → SelectorTrees
 selectors_of [] = NoSelectors

@@ -4,6 +4,7 @@ use Rattle.std.specs.declared.alloc.Global.{Global}
 use Rattle.ada_tree.specs.declared.expression.Expr.{Expr}
 use Rattle.ada_tree.specs.declared.expression.Expr as expressions
 use Rattle.ada_tree.specs.declared.expression.NameExpr.{NameExpr}
+use Rattle.ada_tree.specs.declared.expression.Operand.{Operand}
 use Rattle.ada_tree.specs.declared.expression.Selector as selectors
 use Rattle.ada_tree.specs.declared.expression.Argument.{Argument}
 use Rattle.ada_tree.specs.declared.expression.ElsifValue.{ElsifValue}
@@ -14,7 +15,7 @@ use Rattle.ada_tree.specs.declared.statement.Alternative.{Alternative}
 use Rattle.ada_tree.specs.declared.statement.Handler.{Handler}
 use Rattle.ada_tree.specs.declared.statement.Iteration.{Iteration}
 use Rattle.ada_tree.specs.declared.declaration.Declaration.{Declaration}
-use Rattle.ada_tree.specs.ExpressionTree.{Named, Conditional, Arguments, expr_tree, selector_tree, selector_trees, argument_trees, elsif_value_trees}
+use Rattle.ada_tree.specs.ExpressionTree.{Named, Conditional, Binary, Arguments, chain_tree, expr_tree, selector_tree, selector_trees, argument_trees, elsif_value_trees}
 use Rattle.ada_tree.specs.StatementTree.{If, Case, Loop, Block, stmt_tree, stmt_trees, elsif_trees, alternative_trees, handler_trees, iteration_tree, declaration_tree}
 use Rattle.ada_tree.specs.ProgramTree.{ProgramTree}
 use Rattle.ada_tree.specs.Language.{Tokens, Limit}
@@ -45,6 +46,11 @@ ConditionalByParts =
     (place : ℕ) (condition value : Box Expr Global) (elsif_values : Vec ElsifValue Global) (else_value : Box Expr Global)
     → expr_tree (expressions.Conditional place condition value elsif_values else_value)
     ≡ Conditional place (expr_tree condition.value) (expr_tree value.value) (elsif_value_trees elsif_values.items) (expr_tree else_value.value)
+
+abbrev pub ChainsByParts : Type 0
+ChainsByParts =
+    (first : Box Expr Global) (second : Box Operand Global) (more : Vec Operand Global)
+    → expr_tree (expressions.Chain first second more) ≡ chain_tree (Binary second.value.operator (expr_tree first.value) (expr_tree second.value.value)) more.items
 
 pub record StatementsByParts : Type 0 where
   pub ifs : (place : ℕ) (condition : Expr) (then_part : Vec Stmt Global) (elsif_parts : Vec ElsifPart Global) (else_part : Vec Stmt Global)

@@ -4,7 +4,6 @@ use crate::expression::{Expr, Identifier};
 use crate::statement::{Handler, Range, Stmt};
 
 /// An aspect specification (RM 13.1.1): the place of `with`, the aspect's name and its value.
-#[derive(Debug, Drop)]
 pub struct Aspect {
     pub place: u32,
     pub name: Identifier,
@@ -12,7 +11,6 @@ pub struct Aspect {
 }
 
 /// The declaration of an object (RM 3.3.1).
-#[derive(Debug, Drop)]
 pub struct ObjectDeclaration {
     pub name: Identifier,
     pub constant: bool,
@@ -21,21 +19,18 @@ pub struct ObjectDeclaration {
 }
 
 /// A component of a record type (RM 3.8).
-#[derive(Debug, Drop)]
 pub struct Component {
     pub name: Identifier,
     pub subtype: Identifier,
 }
 
 /// The index of an array type (RM 3.6).
-#[derive(Debug, Drop)]
 pub enum ArrayIndex {
     Range(Range),
     Subtype(Identifier),
 }
 
 /// What a type or subtype is (RM 3.2).
-#[derive(Debug, Drop)]
 pub enum TypeDefinition {
     /// An integer type (RM 3.5.4).
     Integer(Range),
@@ -48,7 +43,6 @@ pub enum TypeDefinition {
 }
 
 /// The declaration of a type or a subtype (RM 3.2).
-#[derive(Debug, Drop)]
 pub struct TypeDeclaration {
     pub name: Identifier,
     pub definition: TypeDefinition,
@@ -63,7 +57,6 @@ pub enum Mode {
 }
 
 /// A formal parameter (RM 6.1).
-#[derive(Debug, Drop)]
 pub struct Formal {
     pub name: Identifier,
     pub mode: Mode,
@@ -71,7 +64,6 @@ pub struct Formal {
 }
 
 /// The specification of a procedure, or of a function with its result (RM 6.1), and the place of its first token.
-#[derive(Debug, Drop)]
 pub struct Subprogram {
     pub place: u32,
     pub name: Identifier,
@@ -80,7 +72,6 @@ pub struct Subprogram {
 }
 
 /// The declaration of a protected object's entry (RM 9.5.2), and the place of `entry`.
-#[derive(Debug, Drop)]
 pub struct EntryDeclaration {
     pub place: u32,
     pub name: Identifier,
@@ -88,21 +79,18 @@ pub struct EntryDeclaration {
 }
 
 /// An entry of a task, and the place of `entry`.
-#[derive(Debug, Drop)]
 pub struct TaskEntry {
     pub place: u32,
     pub name: Identifier,
 }
 
 /// What stands between `is` and the semicolon of a task's declaration (RM 9.1).
-#[derive(Debug, Drop)]
 pub struct TaskDefinition {
     pub entries: Vec<TaskEntry>,
     pub end_name: Identifier,
 }
 
 /// The declaration of a task (RM 9.1), and the place of `task`.
-#[derive(Debug, Drop)]
 pub struct TaskDeclaration {
     pub place: u32,
     pub name: Identifier,
@@ -111,14 +99,12 @@ pub struct TaskDeclaration {
 }
 
 /// An operation of a protected object (RM 9.4).
-#[derive(Debug, Drop)]
 pub enum Operation {
     Subprogram(Subprogram),
     Entry(EntryDeclaration),
 }
 
 /// A component of a protected object (RM 9.4).
-#[derive(Debug, Drop)]
 pub struct ProtectedComponent {
     pub name: Identifier,
     pub subtype: Identifier,
@@ -126,7 +112,6 @@ pub struct ProtectedComponent {
 }
 
 /// The declaration of a protected object (RM 9.4), and the place of `protected`.
-#[derive(Debug, Drop)]
 pub struct ProtectedDeclaration {
     pub place: u32,
     pub name: Identifier,
@@ -137,7 +122,6 @@ pub struct ProtectedDeclaration {
 }
 
 /// A declaration in a body or a block (RM 3.11).
-#[derive(Debug, Drop)]
 pub enum Declaration {
     Object(ObjectDeclaration),
     Task(TaskDeclaration),
@@ -145,7 +129,6 @@ pub enum Declaration {
 }
 
 /// A body (RM 6.3): declarations, one or more statements, handlers, and the name after `end`.
-#[derive(Debug, Drop)]
 pub struct Body {
     pub declarations: Vec<Declaration>,
     pub statements: Vec<Stmt>,
@@ -154,7 +137,6 @@ pub struct Body {
 }
 
 /// A declaration in a package (RM 7.1).
-#[derive(Debug, Drop)]
 pub enum Item {
     Type(TypeDeclaration),
     Object(ObjectDeclaration),
@@ -162,4 +144,188 @@ pub enum Item {
     Subprogram(Subprogram),
     Task(TaskDeclaration),
     Protected(ProtectedDeclaration),
+}
+
+// Dropping. It is written out here, so that code that holds a tree calls it.
+
+impl Drop for Aspect {
+    fn drop(self) {
+        let Self {
+            place: _,
+            name: _,
+            value: _,
+        } = self;
+    }
+}
+
+impl Drop for ObjectDeclaration {
+    fn drop(self) {
+        let Self {
+            name: _,
+            constant: _,
+            subtype: _,
+            value: _,
+        } = self;
+    }
+}
+
+impl Drop for Component {
+    fn drop(self) {
+        let Self {
+            name: _,
+            subtype: _,
+        } = self;
+    }
+}
+
+impl Drop for ArrayIndex {
+    fn drop(self) {
+        match self {
+            ArrayIndex::Range(_) => {}
+            ArrayIndex::Subtype(_) => {}
+        }
+    }
+}
+
+impl Drop for TypeDefinition {
+    fn drop(self) {
+        match self {
+            TypeDefinition::Integer(_) => {}
+            TypeDefinition::Array(_, _) => {}
+            TypeDefinition::Record(_) => {}
+            TypeDefinition::Subtype(_, _) => {}
+        }
+    }
+}
+
+impl Drop for TypeDeclaration {
+    fn drop(self) {
+        let Self {
+            name: _,
+            definition: _,
+        } = self;
+    }
+}
+
+impl Drop for Formal {
+    fn drop(self) {
+        let Self {
+            name: _,
+            mode: _,
+            subtype: _,
+        } = self;
+    }
+}
+
+impl Drop for Subprogram {
+    fn drop(self) {
+        let Self {
+            place: _,
+            name: _,
+            formals: _,
+            result: _,
+        } = self;
+    }
+}
+
+impl Drop for EntryDeclaration {
+    fn drop(self) {
+        let Self {
+            place: _,
+            name: _,
+            formals: _,
+        } = self;
+    }
+}
+
+impl Drop for TaskEntry {
+    fn drop(self) {
+        let Self { place: _, name: _ } = self;
+    }
+}
+
+impl Drop for TaskDefinition {
+    fn drop(self) {
+        let Self {
+            entries: _,
+            end_name: _,
+        } = self;
+    }
+}
+
+impl Drop for TaskDeclaration {
+    fn drop(self) {
+        let Self {
+            place: _,
+            name: _,
+            aspect: _,
+            definition: _,
+        } = self;
+    }
+}
+
+impl Drop for Operation {
+    fn drop(self) {
+        match self {
+            Operation::Subprogram(_) => {}
+            Operation::Entry(_) => {}
+        }
+    }
+}
+
+impl Drop for ProtectedComponent {
+    fn drop(self) {
+        let Self {
+            name: _,
+            subtype: _,
+            value: _,
+        } = self;
+    }
+}
+
+impl Drop for ProtectedDeclaration {
+    fn drop(self) {
+        let Self {
+            place: _,
+            name: _,
+            aspect: _,
+            operations: _,
+            components: _,
+            end_name: _,
+        } = self;
+    }
+}
+
+impl Drop for Declaration {
+    fn drop(self) {
+        match self {
+            Declaration::Object(_) => {}
+            Declaration::Task(_) => {}
+            Declaration::Protected(_) => {}
+        }
+    }
+}
+
+impl Drop for Body {
+    fn drop(self) {
+        let Self {
+            declarations: _,
+            statements: _,
+            handlers: _,
+            end_name: _,
+        } = self;
+    }
+}
+
+impl Drop for Item {
+    fn drop(self) {
+        match self {
+            Item::Type(_) => {}
+            Item::Object(_) => {}
+            Item::Exception(_) => {}
+            Item::Subprogram(_) => {}
+            Item::Task(_) => {}
+            Item::Protected(_) => {}
+        }
+    }
 }

@@ -7,7 +7,6 @@ use lexer::{Label, Name};
 use std::alloc::{AllocError, Global};
 
 /// An identifier, and the place of its first byte.
-#[derive(Debug, Drop)]
 pub struct Identifier {
     pub name: Name,
     pub place: u32,
@@ -45,7 +44,6 @@ pub enum BinaryOperator {
 }
 
 /// A name (RM 4.1): an identifier, and what follows it.
-#[derive(Debug, Drop)]
 #[cycle(expression)]
 pub struct NameExpr {
     pub first: Identifier,
@@ -53,7 +51,6 @@ pub struct NameExpr {
 }
 
 /// What follows the beginning of a name (RM 4.1).
-#[derive(Debug, Drop)]
 #[cycle(expression)]
 pub enum Selector {
     /// A dot and an identifier.
@@ -65,7 +62,6 @@ pub enum Selector {
 }
 
 /// One of the things in the parentheses of a name.
-#[derive(Debug, Drop)]
 #[cycle(expression)]
 pub enum Argument {
     /// An expression.
@@ -75,15 +71,20 @@ pub enum Argument {
 }
 
 /// A condition of an if expression after its first, and the expression for it (RM 4.5.7).
-#[derive(Debug, Drop)]
 #[cycle(expression)]
 pub struct ElsifValue {
     pub condition: Expr,
     pub value: Expr,
 }
 
+/// An operator, and the operand behind it (RM 4.4).
+#[cycle(expression)]
+pub struct Operand {
+    pub operator: BinaryOperator,
+    pub value: Expr,
+}
+
 /// An expression (RM 4.4). The place of a unary operation is its operator's, that of a binary operation its left operand's.
-#[derive(Debug, Drop)]
 #[cycle(expression)]
 pub enum Expr {
     /// A number, and its place.
@@ -97,8 +98,9 @@ pub enum Expr {
     Conditional(u32, Box<Expr>, Box<Expr>, Vec<ElsifValue>, Box<Expr>),
     /// An operator, its place and its operand.
     Unary(UnaryOperator, u32, Box<Expr>),
-    /// An operator, its left and its right operand.
-    Binary(BinaryOperator, Box<Expr>, Box<Expr>),
+    /// The first operand, the first operator with the operand behind it, and those after it, from left to right. They group to the left: all that
+    /// stands before an operator is its left operand.
+    Chain(Box<Expr>, Box<Operand>, Vec<Operand>),
 }
 
 impl Expr {
@@ -128,9 +130,21 @@ impl Expr {
     ) -> Result<Expr, AllocError>
         ensures { IfOk result (λ e. expr_tree e ≡ Binary operator (expr_tree left) (expr_tree right)) }
     {
-        let left = Box::new(alloc, left)?;
-        let right = Box::new(alloc, right)?;
-        Ok(Expr::Binary(operator, left, right))
+        let last = Operand {
+            operator,
+            value: right,
+        };
+        match left {
+            Expr::Chain(first, second, mut more) => {
+                more.push(last)?;
+                Ok(Expr::Chain(first, second, more))
+            }
+            left => {
+                let first = Box::new(alloc, left)?;
+                let second = Box::new(alloc, last)?;
+                Ok(Expr::Chain(first, second, Vec::new(alloc)))
+            }
+        }
     }
 
     /// The operation of this operator, at this place, on this operand. Memory is the only refusal.
@@ -190,5 +204,78 @@ impl Selector {
         ensures { selector_tree result ≡ Arguments (argument_trees arguments.items) }
     {
         Selector::Arguments(arguments)
+    }
+}
+
+// Dropping. It is written out here, so that code that holds a tree calls it.
+
+impl Drop for Identifier {
+    fn drop(self) {
+        let Self { name: _, place: _ } = self;
+    }
+}
+
+impl Drop for NameExpr {
+    #[cycle(expression)]
+    fn drop(self) {
+        let Self {
+            first: _,
+            selectors: _,
+        } = self;
+    }
+}
+
+impl Drop for Selector {
+    #[cycle(expression)]
+    fn drop(self) {
+        match self {
+            Selector::Component(_) => {}
+            Selector::Arguments(_) => {}
+            Selector::Attribute(_) => {}
+        }
+    }
+}
+
+impl Drop for Argument {
+    #[cycle(expression)]
+    fn drop(self) {
+        match self {
+            Argument::Expr(_) => {}
+            Argument::Label(_, _) => {}
+        }
+    }
+}
+
+impl Drop for ElsifValue {
+    #[cycle(expression)]
+    fn drop(self) {
+        let Self {
+            condition: _,
+            value: _,
+        } = self;
+    }
+}
+
+impl Drop for Operand {
+    #[cycle(expression)]
+    fn drop(self) {
+        let Self {
+            operator: _,
+            value: _,
+        } = self;
+    }
+}
+
+impl Drop for Expr {
+    #[cycle(expression)]
+    fn drop(self) {
+        match self {
+            Expr::Number(_, _) => {}
+            Expr::Name(_) => {}
+            Expr::Parenthesized(_, _) => {}
+            Expr::Conditional(_, _, _, _, _) => {}
+            Expr::Unary(_, _, _) => {}
+            Expr::Chain(_, _, _) => {}
+        }
     }
 }

@@ -1,6 +1,6 @@
 //! The laws of trees and their spellings, each what a function without work ensures.
 
-ghost use Rattle.ada_tree.specs.Laws.{ArgumentsByParts, ConditionalByParts, LimitIsDepth, NamesByParts, SizeWithinTokens, StatementsByParts};
+ghost use Rattle.ada_tree.specs.Laws.{ArgumentsByParts, ChainsByParts, ConditionalByParts, LimitIsDepth, NamesByParts, SizeWithinTokens, StatementsByParts};
 
 /// A limit of levels refuses just the trees that are deeper: tokens spell a tree with at most k levels open at once if and only if
 /// they spell it and its depth is at most k.
@@ -26,6 +26,11 @@ pub fn arguments_by_parts()
 /// The tree of an if expression is that of its parts.
 pub fn conditional_by_parts()
     ensures { ConditionalByParts }
+{}
+
+/// The tree of a chain of operators is that of its operands, grouped to the left.
+pub fn chains_by_parts()
+    ensures { ChainsByParts }
 {}
 
 /// The tree of an if or case statement, a loop or a block is that of its parts.

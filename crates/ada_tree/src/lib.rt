@@ -13,7 +13,8 @@ pub use declaration::{
     TaskDeclaration, TaskDefinition, TaskEntry, TypeDeclaration, TypeDefinition,
 };
 pub use expression::{
-    Argument, BinaryOperator, ElsifValue, Expr, Identifier, NameExpr, Selector, UnaryOperator,
+    Argument, BinaryOperator, ElsifValue, Expr, Identifier, NameExpr, Operand, Selector,
+    UnaryOperator,
 };
 pub use program::{
     BodyItem, Main, MainStatement, Package, PackageBody, PackageDeclaration, Pragma, Program,

@@ -4,7 +4,6 @@ use crate::declaration::{Aspect, Body, EntryDeclaration, Item, Subprogram};
 use crate::expression::{Expr, Identifier};
 
 /// A pragma with one argument (RM 2.8), and the place of `pragma`.
-#[derive(Debug, Drop)]
 pub struct Pragma {
     pub place: u32,
     pub name: Identifier,
@@ -12,14 +11,12 @@ pub struct Pragma {
 }
 
 /// The name of a library unit, of one or two identifiers.
-#[derive(Debug, Drop)]
 pub struct UnitName {
     pub first: Identifier,
     pub second: Option<Identifier>,
 }
 
 /// The clauses `with` and `use` for a library unit (RM 10.1.2), and the place of `with`.
-#[derive(Debug, Drop)]
 pub struct UnitClause {
     pub place: u32,
     pub unit: UnitName,
@@ -27,7 +24,6 @@ pub struct UnitClause {
 }
 
 /// The declaration of a package (RM 7.1), and the place of `package`.
-#[derive(Debug, Drop)]
 pub struct PackageDeclaration {
     pub place: u32,
     pub name: Identifier,
@@ -36,7 +32,6 @@ pub struct PackageDeclaration {
 }
 
 /// What stands in the body of a protected object (RM 9.4).
-#[derive(Debug, Drop)]
 pub enum ProtectedBodyItem {
     Subprogram(Subprogram, Body),
     /// The entry, its barrier and its body.
@@ -44,7 +39,6 @@ pub enum ProtectedBodyItem {
 }
 
 /// What stands in the body of a package (RM 7.2).
-#[derive(Debug, Drop)]
 pub enum BodyItem {
     Item(Item),
     Subprogram(Subprogram, Body),
@@ -54,7 +48,6 @@ pub enum BodyItem {
 }
 
 /// The body of a package (RM 7.2), and the place of `package`.
-#[derive(Debug, Drop)]
 pub struct PackageBody {
     pub place: u32,
     pub name: Identifier,
@@ -63,7 +56,6 @@ pub struct PackageBody {
 }
 
 /// A package, with the clauses before it and the name in main's `with` after it.
-#[derive(Debug, Drop)]
 pub struct Package {
     pub clauses: Vec<UnitClause>,
     pub declaration: PackageDeclaration,
@@ -72,7 +64,6 @@ pub struct Package {
 }
 
 /// A statement of main.
-#[derive(Debug, Drop)]
 pub enum MainStatement {
     /// Its place.
     Null(u32),
@@ -81,7 +72,6 @@ pub enum MainStatement {
 }
 
 /// The main procedure (RM 10.2), and the place of `procedure`.
-#[derive(Debug, Drop)]
 pub struct Main {
     pub place: u32,
     pub name: Identifier,
@@ -91,9 +81,123 @@ pub struct Main {
 }
 
 /// A whole text (RM 10.1).
-#[derive(Debug, Drop)]
 pub struct Program {
     pub pragmas: Vec<Pragma>,
     pub package_: Option<Package>,
     pub main: Main,
+}
+
+// Dropping. It is written out here, so that code that holds a tree calls it.
+
+impl Drop for Pragma {
+    fn drop(self) {
+        let Self {
+            place: _,
+            name: _,
+            argument: _,
+        } = self;
+    }
+}
+
+impl Drop for UnitName {
+    fn drop(self) {
+        let Self {
+            first: _,
+            second: _,
+        } = self;
+    }
+}
+
+impl Drop for UnitClause {
+    fn drop(self) {
+        let Self {
+            place: _,
+            unit: _,
+            used: _,
+        } = self;
+    }
+}
+
+impl Drop for PackageDeclaration {
+    fn drop(self) {
+        let Self {
+            place: _,
+            name: _,
+            items: _,
+            end_name: _,
+        } = self;
+    }
+}
+
+impl Drop for ProtectedBodyItem {
+    fn drop(self) {
+        match self {
+            ProtectedBodyItem::Subprogram(_, _) => {}
+            ProtectedBodyItem::Entry(_, _, _) => {}
+        }
+    }
+}
+
+impl Drop for BodyItem {
+    fn drop(self) {
+        match self {
+            BodyItem::Item(_) => {}
+            BodyItem::Subprogram(_, _) => {}
+            BodyItem::Task(_, _) => {}
+            BodyItem::Protected(_, _, _) => {}
+        }
+    }
+}
+
+impl Drop for PackageBody {
+    fn drop(self) {
+        let Self {
+            place: _,
+            name: _,
+            items: _,
+            end_name: _,
+        } = self;
+    }
+}
+
+impl Drop for Package {
+    fn drop(self) {
+        let Self {
+            clauses: _,
+            declaration: _,
+            body: _,
+            with_name: _,
+        } = self;
+    }
+}
+
+impl Drop for MainStatement {
+    fn drop(self) {
+        match self {
+            MainStatement::Null(_) => {}
+            MainStatement::Call(_, _) => {}
+        }
+    }
+}
+
+impl Drop for Main {
+    fn drop(self) {
+        let Self {
+            place: _,
+            name: _,
+            aspect: _,
+            statements: _,
+            end_name: _,
+        } = self;
+    }
+}
+
+impl Drop for Program {
+    fn drop(self) {
+        let Self {
+            pragmas: _,
+            package_: _,
+            main: _,
+        } = self;
+    }
 }

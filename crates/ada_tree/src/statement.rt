@@ -8,14 +8,12 @@ use crate::declaration::Declaration;
 use crate::expression::{Expr, Identifier, NameExpr};
 
 /// A range (RM 3.5).
-#[derive(Debug, Drop)]
 pub struct Range {
     pub first: Expr,
     pub last: Expr,
 }
 
 /// How often a loop turns (RM 5.5).
-#[derive(Debug, Drop)]
 pub enum Iteration {
     Forever,
     While(Expr),
@@ -24,7 +22,6 @@ pub enum Iteration {
 }
 
 /// For which values an alternative is taken (RM 5.4).
-#[derive(Debug, Drop)]
 pub enum CaseChoices {
     /// One or more expressions.
     Values(Vec<Expr>),
@@ -33,7 +30,6 @@ pub enum CaseChoices {
 }
 
 /// An alternative of a case statement (RM 5.4): the place of `when`, the choices and the statements.
-#[derive(Debug, Drop)]
 #[cycle(statement)]
 pub struct Alternative {
     pub place: u32,
@@ -42,7 +38,6 @@ pub struct Alternative {
 }
 
 /// A condition of an if statement after its first, and its statements (RM 5.3).
-#[derive(Debug, Drop)]
 #[cycle(statement)]
 pub struct ElsifPart {
     pub condition: Expr,
@@ -50,7 +45,6 @@ pub struct ElsifPart {
 }
 
 /// What a handler is for (RM 11.2).
-#[derive(Debug, Drop)]
 pub enum ExceptionChoice {
     Exception(Identifier),
     /// The place of `others`.
@@ -58,7 +52,6 @@ pub enum ExceptionChoice {
 }
 
 /// An exception handler (RM 11.2): one or more choices, and one or more statements.
-#[derive(Debug, Drop)]
 #[cycle(statement)]
 pub struct Handler {
     pub choices: Vec<ExceptionChoice>,
@@ -66,7 +59,6 @@ pub struct Handler {
 }
 
 /// A statement (RM 5.1). The first `u32` of a variant is its place.
-#[derive(Debug, Drop)]
 #[cycle(statement)]
 pub enum Stmt {
     Null(u32),
@@ -135,5 +127,96 @@ impl Stmt {
         ensures { stmt_tree result ≡ Block place (map declaration_tree declarations.items) (stmt_trees statements.items) (handler_trees handlers.items) }
     {
         Stmt::Block(place, declarations, statements, handlers)
+    }
+}
+
+// Dropping. It is written out here, so that code that holds a tree calls it.
+
+impl Drop for Range {
+    fn drop(self) {
+        let Self { first: _, last: _ } = self;
+    }
+}
+
+impl Drop for Iteration {
+    fn drop(self) {
+        match self {
+            Iteration::Forever => {}
+            Iteration::While(_) => {}
+            Iteration::For(_, _, _) => {}
+        }
+    }
+}
+
+impl Drop for CaseChoices {
+    fn drop(self) {
+        match self {
+            CaseChoices::Values(_) => {}
+            CaseChoices::Others(_) => {}
+        }
+    }
+}
+
+impl Drop for Alternative {
+    #[cycle(statement)]
+    fn drop(self) {
+        let Self {
+            place: _,
+            choices: _,
+            statements: _,
+        } = self;
+    }
+}
+
+impl Drop for ElsifPart {
+    #[cycle(statement)]
+    fn drop(self) {
+        let Self {
+            condition: _,
+            statements: _,
+        } = self;
+    }
+}
+
+impl Drop for ExceptionChoice {
+    fn drop(self) {
+        match self {
+            ExceptionChoice::Exception(_) => {}
+            ExceptionChoice::Others(_) => {}
+        }
+    }
+}
+
+impl Drop for Handler {
+    #[cycle(statement)]
+    fn drop(self) {
+        let Self {
+            choices: _,
+            statements: _,
+        } = self;
+    }
+}
+
+impl Drop for Stmt {
+    #[cycle(statement)]
+    fn drop(self) {
+        match self {
+            Stmt::Null(_) => {}
+            Stmt::Assignment(_, _) => {}
+            Stmt::Call(_) => {}
+            Stmt::Exit(_, _) => {}
+            Stmt::Return(_, _) => {}
+            Stmt::Raise(_, _) => {}
+            Stmt::Delay(_, _) => {}
+            Stmt::DelayUntil(_, _) => {}
+            Stmt::If(_, _, _, _, _) => {}
+            Stmt::Case(_, _, _) => {}
+            Stmt::Loop(_, _, _) => {}
+            Stmt::Block(_, _, _, _) => {}
+            Stmt::Abort(_, _) => {}
+            Stmt::Requeue(_, _, _) => {}
+            Stmt::Accept(_, _) => {}
+            Stmt::Select(_) => {}
+        }
     }
 }
