@@ -17,10 +17,10 @@ use ada_tree::laws::arguments_by_parts;
 use ada_tree::{Argument, Expr, NameExpr, Selector, Stmt};
 use base::names::is_label;
 use image::Operation;
-use lexer::Label;
+use lexer::Text;
 
 // The label and the value, where the arguments are both.
-fn label_and_value(arguments: &[Argument]) -> Option<(&Label, &Expr)>
+fn label_and_value(arguments: &[Argument]) -> Option<(&Text, &Expr)>
     ensures { option_map (λ put. (put.0.now, expr_tree put.1.now)) result ≡ label_and_value (argument_trees arguments.now) }
 {
     match arguments {
@@ -34,7 +34,7 @@ fn label_and_value(arguments: &[Argument]) -> Option<(&Label, &Expr)>
 }
 
 /// The label and the value, where the name is a call of Put with both.
-pub(crate) fn put_of(name: &NameExpr) -> Option<(&Label, &Expr)>
+pub(crate) fn put_of(name: &NameExpr) -> Option<(&Text, &Expr)>
     ensures { option_map (λ put. (put.0.now, expr_tree put.1.now)) result ≡ put_of (name_tree name.now) }
 {
     arguments_by_parts();

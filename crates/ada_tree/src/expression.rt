@@ -3,12 +3,12 @@
 ghost use Rattle.std.specs.Prelude.{◌≡◌, IfOk, option_map};
 ghost use Rattle.ada_tree.specs.ExpressionTree.{expr_tree, bare_name, name_tree, selector_tree, argument_trees, elsif_value_trees, Named, Arguments, Binary, Unary, Parenthesized, Conditional};
 
-use lexer::{Label, Name};
+use lexer::Text;
 use std::alloc::{AllocError, Global};
 
 /// An identifier, and the place of its first byte.
 pub struct Identifier {
-    pub name: Name,
+    pub name: Text,
     pub place: u32,
 }
 
@@ -67,7 +67,7 @@ pub enum Argument {
     /// An expression.
     Expr(Expr),
     /// A string literal, and the place of its quotation mark.
-    Label(Label, u32),
+    Label(Text, u32),
 }
 
 /// A condition of an if expression after its first, and the expression for it (RM 4.5.7).

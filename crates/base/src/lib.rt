@@ -9,7 +9,9 @@ pub mod laws;
 pub mod limits;
 pub mod names;
 mod schedule;
+mod texts;
 
 pub use arithmetic::Checked;
 pub use exceptions::PredefinedException;
 pub use schedule::{ScheduleLine, input_of};
+pub use texts::Text;

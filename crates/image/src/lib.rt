@@ -14,9 +14,9 @@ mod table_rules;
 mod tables;
 mod taken;
 mod tasks;
-mod texts;
 mod word_ranges;
 
+pub use base::Text;
 pub use building::Image;
 pub use fault::ImageFault;
 pub use instruction::{Instr, Operation, Region};
@@ -24,4 +24,3 @@ pub use objects::{Barrier, Object};
 pub use sections::Parts;
 pub use subprograms::{Kind, Subprogram};
 pub use tasks::Task;
-pub use texts::Text;

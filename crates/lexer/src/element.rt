@@ -6,8 +6,10 @@ use crate::characters::{
     begins_with_quotation_mark, comment_length, has_label_characters, has_single_underlines,
     is_on_line, numeral_length, runs_on, string_length, word_length,
 };
+use crate::spelled::{label_of, name_of};
 use crate::word::reserved_word;
-use crate::{Delimiter, Label, Name, TokenKind};
+use crate::{Delimiter, TokenKind};
+use base::Text;
 use base::faults::{STRAY_CHARACTER, WRONG_IDENTIFIER, WRONG_LABEL, WRONG_LITERAL};
 use base::limits::{LABEL_LIMIT, LARGEST_NUMBER, NAME_LIMIT};
 
@@ -113,7 +115,7 @@ fn value(numeral: &[u8]) -> Option<i64>
 }
 
 /// The kind of an identifier or a reserved word of this name.
-fn kind_of_name(name: Name) -> TokenKind
+fn kind_of_name(name: Text) -> TokenKind
     ensures { result ≡ kind_or name (reserved name) }
 {
     match reserved_word(name.as_bytes()) {
@@ -130,7 +132,7 @@ fn read_word(text: &[u8]) -> Result<Element, Broken>
     let length = word_length(text);
     let element = &text[..length];
     if has_single_underlines(element) && length <= NAME_LIMIT {
-        Ok(Element::token(kind_of_name(Name::of(element)), length))
+        Ok(Element::token(kind_of_name(name_of(element)), length))
     } else {
         broken_at_start(WRONG_IDENTIFIER)
     }
@@ -165,7 +167,7 @@ fn read_label(text: &[u8]) -> Result<Element, Broken>
         && length > 0
         && length <= LABEL_LIMIT
     {
-        Ok(Element::token(TokenKind::Label(Label::of(inner)), length + 2))
+        Ok(Element::token(TokenKind::Label(label_of(inner)), length + 2))
     } else {
         broken_at_start(WRONG_LABEL)
     }

@@ -5,16 +5,14 @@ mod characters;
 mod delimiter;
 mod element;
 mod fault;
-mod label;
 mod lexing;
-mod name;
+mod spelled;
 mod token;
 mod word;
 
+pub use base::Text;
 pub use delimiter::Delimiter;
 pub use fault::Fault;
-pub use label::Label;
 pub use lexing::{spelled_in_order, spelled_once, tokens};
-pub use name::Name;
 pub use token::{Token, TokenKind};
 pub use word::Word;

@@ -1,18 +1,19 @@
 //! Tokens.
 
-use crate::{Delimiter, Label, Name, Word};
+use crate::{Delimiter, Word};
+use base::Text;
 
 /// What a token is (RM 2.2).
 #[derive(Clone, Debug, Drop, PartialEq, Eq)]
 pub enum TokenKind {
     /// An identifier that is no reserved word, by its name.
-    Identifier(Name),
+    Identifier(Text),
     /// A reserved word.
     Word(Word),
     /// A decimal literal, by its value: at most 2**63 - 1.
     Number(i64),
     /// A string literal, by the text between its quotes.
-    Label(Label),
+    Label(Text),
     /// A delimiter.
     Delimiter(Delimiter),
 }

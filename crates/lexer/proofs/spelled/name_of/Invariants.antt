@@ -1,6 +1,6 @@
 use Rattle.std.proofs.Common.{◌≡◌, take}
 use Rattle.lexer.specs.Elements.{upper_case}
-use Rattle.lexer.proofs.name.Name.of.Given as goal
+use Rattle.lexer.proofs.spelled.name_of.Given as goal
 
 abbrev pub invariant-loop-character : goal.invariant-loop-character
 invariant-loop-character l = l.bytes.items ≡ upper_case (take l.character-index l.element)

@@ -1,14 +1,14 @@
-//! The names and labels of an image.
+//! Names and labels.
 ghost use Rattle.std.specs.Prelude.{◌≡◌, ◌≤◌, ◌<◌, ◌↔◌, length, IfSome, IsSome};
 ghost use Rattle.base.specs.declared.limits.TheConstants.{NAME_LIMIT};
 
+use crate::limits::NAME_LIMIT;
 use arrayvec::ArrayVec;
-use base::limits::NAME_LIMIT;
 use std::alloc::AllocError;
 use std::marker::Model;
 
-/// A name or a label: at most 40 bytes. Contracts see its bytes.
-#[derive(Debug, Drop, PartialEq, Eq)]
+/// A name or a label: at most 40 bytes. Contracts see its bytes. A clone is made without memory and never fails.
+#[derive(Debug, Drop, PartialEq, Eq, PartialOrd, Ord, Hash)]
 pub struct Text {
     bytes: ArrayVec<u8, NAME_LIMIT>,
 }
@@ -24,6 +24,13 @@ impl Model for Text {
 }
 
 impl Text {
+    /// The text of these bytes.
+    pub fn of(bytes: ArrayVec<u8, NAME_LIMIT>) -> Text
+        ensures { result ≡ bytes.items }
+    {
+        Text { bytes }
+    }
+
     /// The text of these bytes, or None where they are more than 40.
     pub fn new(bytes: &[u8]) -> Option<Text>
         ensures fits { IsSome result ↔ (length bytes.now ≤ NAME_LIMIT) }
@@ -31,7 +38,7 @@ impl Text {
     {
         let mut kept = ArrayVec::new();
         kept.try_extend_from_slice(bytes).ok()?;
-        Some(Text { bytes: kept })
+        Some(Text::of(kept))
     }
 
     /// The bytes.
