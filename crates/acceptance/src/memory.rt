@@ -1,9 +1,8 @@
 //! Files and streams in memory, and one call of the program over them.
 ghost use Rattle.std.specs.Prelude.{◌≡◌, None};
 
-use adarun::drive::drive;
-use adarun::files::{FileStore, ReadError};
-use machine::sink::{MemorySink, Plan};
+use adarun::{FileStore, ReadError, drive};
+use machine::{MemorySink, Plan};
 use std::alloc::{AllocError, Global};
 use std::marker::Brand;
 use std::sync::ledger::{Blank, Ledger};

@@ -1,6 +1,6 @@
 //! What programs write, and which are refused.
 use crate::memory::call;
-use machine::sink::Plan;
+use machine::Plan;
 use std::alloc::{AllocError, Global};
 use std::process::Abort;
 use std::test::Fail;

@@ -1,14 +1,19 @@
 -- What the work over files leaves.
-use Rattle.std.proofs.Common.{◌≡◌, ℕ, List, [], Option, Bool, true, false, cond, refl, sym, ap, subst}
+use Rattle.std.proofs.Common.{◌≡◌, ℕ, List, Option, Bool, true, false, cond, refl, sym, ap, subst}
 use Rattle.std.specs.Prelude.{nat_eq}
 use Rattle.lexer.specs.declared.fault.Fault.{Fault}
-use Rattle.machine.specs.declared.outcome.Outcome.{Outcome}
-use Rattle.machine.specs.declared.outcome.Outcome.TheVariants as outcomes
+use Rattle.machine.specs.declared.reports.Outcome.{Outcome}
+use Rattle.machine.specs.declared.reports.Outcome.TheVariants as outcomes
+use Rattle.machine.specs.Schedules.{IsSchedule}
+use Rattle.machine.specs.declared.schedules.ScheduleFault.{ScheduleFault}
 use Rattle.adarun.specs.Accepted.{RefusesText}
 use Rattle.adarun.specs.Headline.{Runs}
+use Rattle.adarun.specs.Stopping.{Refuses}
 use Rattle.adarun.specs.Driving.{Contents, HasRun, IsRead, Leaves, status_of}
-use Rattle.adarun.specs.declared.drive.Status.{Status}
-use Rattle.adarun.specs.declared.drive.Status.TheVariants.{SourceRefused, NoMemory}
+use Rattle.adarun.specs.declared.execution.GoFault.{GoFault}
+use Rattle.adarun.specs.declared.execution.GoFault.TheVariants as faults
+use Rattle.adarun.specs.declared.program.Status.{Status}
+use Rattle.adarun.specs.declared.program.Status.TheVariants.{SourceRefused, ScheduleRefused, NoMemory}
 
 module _ (contents : Contents) (source schedule : List ℕ) (limit : ℕ) (old new : Option (List ℕ)) where
   has_run : (outcome : Outcome) → HasRun contents source schedule limit (status_of outcome) old new → Leaves contents source schedule limit (status_of outcome) old new
@@ -18,12 +23,21 @@ module _ (contents : Contents) (source schedule : List ℕ) (limit : ℕ) (old n
   has_run (outcomes.StepLimit time) h = h
   has_run (outcomes.ImageFault time) h = h
 
-  pub run_leaves : (status : Status) (outcome : Outcome) (text lent lines : List ℕ)
-      → status ≡ status_of outcome → IsRead (contents source) text → lent ≡ text → IsRead (contents schedule) lines → lines ≡ [] → Runs lent limit outcome old new
+  pub run_leaves : (status : Status) (outcome : Outcome) (text lent given lines : List ℕ)
+      → status ≡ status_of outcome → IsRead (contents source) text → lent ≡ text → IsRead (contents schedule) given → lines ≡ given → IsSchedule lines → Runs lent limit outcome old new
       → Leaves contents source schedule limit status old new
-  run_leaves status outcome text lent lines e read same read_too empty runs =
+  run_leaves status outcome text lent given lines e read same read_too same_too is_schedule runs =
       subst (λ s. Leaves contents source schedule limit s old new) (sym e)
-      (has_run outcome (record { text = lent; source_read = subst (IsRead (contents source)) (sym same) read; schedule_read = subst (IsRead (contents schedule)) empty read_too; outcome = outcome; status_is = refl; runs = runs }))
+      (has_run outcome (record {
+        text = lent;
+        source_read = subst (IsRead (contents source)) (sym same) read;
+        lines = lines;
+        schedule_read = subst (IsRead (contents schedule)) (sym same_too) read_too;
+        is_schedule = is_schedule;
+        outcome = outcome;
+        status_is = refl;
+        runs = runs;
+      }))
 
   refusal_leaves : (b : Bool) (fault : Fault) (text lent : List ℕ)
       → nat_eq fault.number 60 ≡ b → IsRead (contents source) text → lent ≡ text → RefusesText lent fault → new ≡ old
@@ -43,3 +57,19 @@ module _ (contents : Contents) (source schedule : List ℕ) (limit : ℕ) (old n
       → Leaves contents source schedule limit status old new
   refused_leaves status fault text lent e read same refused unwritten =
       subst (λ s. Leaves contents source schedule limit s old new) (sym e) (refusal_leaves (nat_eq fault.number 60) fault text lent refl read same refused unwritten)
+
+  pub schedule_leaves : (status : Status) (x : GoFault) (fault : ScheduleFault) (text lent given lines : List ℕ)
+      → status ≡ ScheduleRefused → IsRead (contents source) text → lent ≡ text → IsRead (contents schedule) given → lines ≡ given → x ≡ faults.Schedule fault → Refuses lent lines x → new ≡ old
+      → Leaves contents source schedule limit status old new
+  schedule_leaves status x fault text lent given lines e read same read_too same_too is refused unwritten =
+      subst (λ s. Leaves contents source schedule limit s old new) (sym e)
+      (record {
+        text = lent;
+        source_read = subst (IsRead (contents source)) (sym same) read;
+        lines = lines;
+        schedule_read = subst (IsRead (contents schedule)) (sym same_too) read_too;
+        compiles = (subst (Refuses lent lines) is refused).0;
+        fault = fault;
+        refused = (subst (Refuses lent lines) is refused).1;
+        unwritten = unwritten;
+      })

@@ -14,7 +14,7 @@ use Rattle.meaning.specs.Programs.{source_names}
 use Rattle.meaning.specs.Source.{source}
 use Rattle.machine.specs.Outcomes.{ending_of}
 use Rattle.machine.specs.Stands.{EndsBy}
-use Rattle.machine.specs.declared.outcome.Outcome as machine
+use Rattle.machine.specs.declared.reports.Outcome as machine
 use Rattle.adarun.specs.Accepted.{Compiles}
 use Rattle.adarun.specs.Headline.{IsWrittenBy, ComesToTheSame, Runs}
 

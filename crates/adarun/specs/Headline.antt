@@ -13,7 +13,7 @@ use Rattle.meaning.specs.Source.{source, source_text}
 use Rattle.machine.specs.Outcomes.{ending_of, time_of}
 use Rattle.machine.specs.Stands.{EndsBy}
 use Rattle.machine.specs.Written.{AppendsBeginning}
-use Rattle.machine.specs.declared.outcome.Outcome as machine
+use Rattle.machine.specs.declared.reports.Outcome as machine
 use Rattle.ada_link.specs.Size.{most_steps}
 use Rattle.adarun.specs.Accepted.{Compiles, IsAccepted}
 

@@ -1,3 +1,4 @@
 pub mod Accepted
 pub mod Driving
 pub mod Headline
+pub mod Stopping

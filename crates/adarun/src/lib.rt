@@ -1,8 +1,14 @@
 //! The compiler and runtime: from a source text to its timed lines.
 #![tactic(auto)]
 
-pub mod compile;
-pub mod drive;
-pub mod files;
-pub mod go;
-pub mod words;
+mod compilation;
+mod execution;
+mod files;
+mod program;
+mod words;
+
+pub use compilation::compile;
+pub use execution::{GoFault, go};
+pub use files::{FileStore, ReadError};
+pub use program::{Status, drive};
+pub use words::{Request, WordsError, request_of};

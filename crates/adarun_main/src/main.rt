@@ -3,9 +3,8 @@
 
 ghost use Rattle.std.specs.Prelude.{◌≡◌, None};
 
-use adarun::drive::{Status, drive};
-use adarun::files::{FileStore, ReadError};
-use machine::sink::WriterSink;
+use adarun::{FileStore, ReadError, Status, drive};
+use machine::WriterSink;
 use std::alloc::Global;
 use std::io::{self, ErrorKind};
 use std::marker::Brand;

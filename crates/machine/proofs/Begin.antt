@@ -1,7 +1,6 @@
 -- The start of the only task.
-use Rattle.std.proofs.Common.{◌≡◌, ◌≢◌, ℕ, zero, suc, ◌+◌, ◌-◌, ◌<◌, ◌≤◌, ℤ, pos, List, [], ◌∷◌, ◌++◌, length, replicate, Bool, true, false, Option, Some, None, slice_get, nat_eq, nat_le, nat_lt, ⊎_elim, refl, sym, ap, subst, ◌∙◌, arith}
+use Rattle.std.proofs.Common.{◌≡◌, ℕ, zero, suc, ◌<◌, ◌≤◌, pos, List, [], ◌∷◌, length, true, Option, Some, None, slice_get, nat_eq, nat_le, nat_lt, ⊎_elim, refl, sym, ap, subst, ◌∙◌, arith}
 use Rattle.std.proofs.lemmas.Bool.{eqb-true, leb-true}
-use Rattle.std.proofs.lemmas.List.{length-replicate}
 use Rattle.kernel.specs.State as kernel
 use Rattle.kernel.specs.State.{Kernel, Partition, put}
 use Rattle.kernel.specs.PutLaws.{by_put, put_other, put_same, same_or_not}
@@ -9,10 +8,10 @@ use Rattle.kernel.specs.Clock.{clock}
 use Rattle.kernel.specs.Dispatching.{becomes_ready, dispatch, highest, runs_from, runs_head}
 use Rattle.kernel.specs.Effects.{activated, begin, blank}
 use Rattle.base.specs.declared.limits.TheConstants.{PRIORITIES}
-use Rattle.image.specs.Sections.{Sections, first_place}
+use Rattle.image.specs.Sections.{Sections}
 use Rattle.image.specs.Operations.{called}
 use Rattle.image.specs.Code.{body_frame, body_of, initial_state, partition_of, priority_of, start}
-use Rattle.image.specs.Frames.{Frame, Inner, TaskState}
+use Rattle.image.specs.Frames.{Inner}
 use Rattle.image.specs.Laws.{BeginsSound, FramesHaveRoom, HasRoom}
 use Rattle.image.specs.Rules.{IsWellFormed, all_placed, has_counts, has_ends, is_object, is_subprogram, is_task}
 use Rattle.base.specs.Names.{is_name}
@@ -24,7 +23,7 @@ use Rattle.image.specs.declared.subprograms.Subprogram.{Subprogram}
 use Rattle.image.specs.declared.tasks.Task.{Task}
 use Rattle.machine.specs.Held.{Held}
 use Rattle.machine.specs.Stands.{IsAlone, StandsFor}
-use Rattle.machine.proofs.Ready.{and-left, and-right, none_some, some_same}
+use Rattle.machine.proofs.Ready.{and-left, and-right, some_same}
 
 frame_number : (i : Sections) (n : ℕ) (o : Option Subprogram) → (body_frame i n o).subprogram ≡ n
 frame_number i n None = refl

@@ -1,20 +1,20 @@
 -- A machine stays good, and does what a step of code does.
-use Rattle.std.proofs.Common.{◌≡◌, ℕ, zero, suc, List, [], ◌∷◌, Bool, true, false, ◌&&◌, Option, Some, None, IsTrue, option_map, slice_get, refl, sym, ap, subst, ◌∙◌}
+use Rattle.std.proofs.Common.{◌≡◌, ℕ, zero, suc, List, [], ◌∷◌, true, Option, Some, None, option_map, slice_get, sym, ap, subst, ◌∙◌}
 use Rattle.std.specs.List.{list_all}
 use Rattle.kernel.specs.State.{Kernel}
 use Rattle.kernel.specs.Effects.{begin}
 use Rattle.image.specs.Sections.{Sections}
 use Rattle.image.specs.Frames.{TaskState, Words}
 use Rattle.image.specs.Code.{initial_words, partition_of}
-use Rattle.image.specs.Steps.{Stepped, act, does_instruction, does_operation, does_or_raises}
+use Rattle.image.specs.Steps.{act, does_instruction, does_operation, does_or_raises}
 use Rattle.image.specs.Shape.{IsSound}
-use Rattle.image.specs.Laws.{FramesHaveRoom, StepsSound}
+use Rattle.image.specs.Laws.{StepsSound}
 use Rattle.image.specs.Rules.{IsWellFormed}
-use Rattle.image.specs.Taken.{IsTaken, is_taken_operation}
+use Rattle.image.specs.Taken.{is_taken_operation}
 use Rattle.image.specs.declared.instruction.Instr.{Instr}
 use Rattle.image.specs.declared.instruction.Operation.{Operation}
 use Rattle.machine.specs.Held.{AreInner, Follows, Held, IsGood}
-use Rattle.machine.specs.declared.outcome.Signal.{Signal}
+use Rattle.machine.specs.declared.reports.Signal.{Signal}
 use Rattle.machine.proofs.Ready.{and-left, and-right, none_some, some_same}
 
 -- an instruction that is there has an operation that images may have today

@@ -1,11 +1,11 @@
 -- Operations on the words on top of the operand stack.
-use Rattle.std.proofs.Common.{◌≡◌, ℕ, ℤ, List, [], ◌∷◌, ap, sym, subst, ◌∙◌}
+use Rattle.std.proofs.Common.{◌≡◌, ℤ, List, [], ◌∷◌, ap, sym, subst, ◌∙◌}
 use Rattle.base.specs.Arithmetic.{Checked}
 use Rattle.kernel.specs.State.{Kernel}
 use Rattle.image.specs.Frames.{Words}
 use Rattle.image.specs.Steps.{binary, gives, unary}
 use Rattle.machine.specs.Held.{Follows, Held}
-use Rattle.machine.specs.declared.outcome.Signal.{Signal}
+use Rattle.machine.specs.declared.reports.Signal.{Signal}
 
 -- a machine with one more word on its operand stack
 abbrev pub with_word : Held → ℤ → Held

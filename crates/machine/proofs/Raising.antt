@@ -1,14 +1,14 @@
 -- Raising where no frame has opened an action and no handler takes the exception.
-use Rattle.std.proofs.Common.{◌≡◌, ℕ, zero, suc, ◌<◌, ℤ, List, [], ◌∷◌, length, Option, Some, None, Bool, true, false, ◌≤◌, refl, sym, ap, subst, ◌∙◌, arith}
+use Rattle.std.proofs.Common.{◌≡◌, ℕ, ◌<◌, ℤ, List, [], ◌∷◌, length, Some, None, ◌≤◌, refl, sym, ap, subst, ◌∙◌, arith}
 use Rattle.handlers.specs.Innermost.{handler_of}
 use Rattle.image.specs.Sections.{Sections}
 use Rattle.image.specs.Frames.{Frame, Inner, TaskState, Words}
 use Rattle.image.specs.Steps.{does, unwind}
 use Rattle.kernel.specs.Effects.{Dies}
 use Rattle.machine.specs.Held.{AreInner, Follows, Held, Tells}
-use Rattle.machine.specs.declared.outcome.Outcome.TheVariants as outcomes
-use Rattle.machine.specs.declared.outcome.Signal.{Signal}
-use Rattle.machine.specs.declared.outcome.Signal.TheVariants as signals
+use Rattle.machine.specs.declared.reports.Outcome.TheVariants as outcomes
+use Rattle.machine.specs.declared.reports.Signal.{Signal}
+use Rattle.machine.specs.declared.reports.Signal.TheVariants as signals
 use Rattle.machine.specs.Layout.{abandoned}
 
 -- one frame fewer, where it doesn't handle the exception

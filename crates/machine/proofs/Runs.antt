@@ -1,5 +1,5 @@
 -- Runs: what has been written, and what is still to come.
-use Rattle.std.proofs.Common.{◌≡◌, ℕ, zero, suc, ◌+◌, ◌-◌, ◌<◌, ◌≤◌, ℤ, List, [], ◌∷◌, ◌++◌, length, take, Option, Some, None, refl, sym, ap, subst, ◌∙◌, arith, append_assoc, append-nil, length-append}
+use Rattle.std.proofs.Common.{◌≡◌, ℕ, ◌+◌, ◌-◌, ◌<◌, ℤ, List, [], ◌∷◌, ◌++◌, length, take, Option, Some, None, refl, sym, ap, subst, ◌∙◌, arith, append_assoc, append-nil, length-append}
 use Rattle.std.proofs.Math.Seq.{take-append-add, take-length}
 use Rattle.std.proofs.lemmas.List.{take-append-le}
 use Rattle.std.specs.Io.KnownBytes.{Appends}
@@ -13,11 +13,11 @@ use Rattle.machine.specs.Held.{Held}
 use Rattle.machine.specs.Outcomes.{ending_of, line_of, time_of}
 use Rattle.machine.specs.Stands.{Advances, EndsBy, IsLast, StandsFor, kernel_outcome}
 use Rattle.machine.specs.Written.{AppendsBeginning}
-use Rattle.machine.specs.declared.outcome.Line.{Line}
-use Rattle.machine.specs.declared.outcome.Outcome.{Outcome}
-use Rattle.machine.specs.declared.outcome.Outcome.TheVariants as outcomes
-use Rattle.machine.specs.declared.outcome.Signal.{Signal}
-use Rattle.machine.specs.declared.outcome.Signal.TheVariants as signals
+use Rattle.machine.specs.declared.reports.Line.{Line}
+use Rattle.machine.specs.declared.reports.Outcome.{Outcome}
+use Rattle.machine.specs.declared.reports.Outcome.TheVariants as outcomes
+use Rattle.machine.specs.declared.reports.Signal.{Signal}
+use Rattle.machine.specs.declared.reports.Signal.TheVariants as signals
 use Rattle.machine.proofs.Ready.{none_some}
 
 -- known bytes grow by one piece and then by another

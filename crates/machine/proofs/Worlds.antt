@@ -1,26 +1,25 @@
 -- The machine follows the worlds of code.
-use Rattle.std.proofs.Common.{◌≡◌, ℕ, zero, suc, ◌+◌, ◌<◌, ℤ, List, [], ◌∷◌, ◌++◌, Bool, true, false, ◌||◌, is_some, Option, Some, None, refl, sym, ap, subst, ◌∙◌}
+use Rattle.std.proofs.Common.{◌≡◌, ℕ, zero, suc, ◌+◌, ℤ, List, [], ◌∷◌, ◌++◌, Bool, false, Option, Some, None, refl, sym, ap, subst, ◌∙◌}
 use Rattle.kernel.specs.State as kernel
 use Rattle.kernel.specs.State.{Kernel}
 use Rattle.kernel.specs.Calm.{Calm}
-use Rattle.kernel.specs.Clock.{clock, clock_from, last_outcome, some_queued, time_moves}
-use Rattle.kernel.specs.Dispatching.{dispatch, highest, leaves, runs_from}
+use Rattle.kernel.specs.Clock.{clock, some_queued, time_moves}
+use Rattle.kernel.specs.Dispatching.{highest, leaves, runs_from}
 use Rattle.kernel.specs.Effects.{Effect, Quiet, Says, Finishes, Dies, Breaks, Ends, Closes, after}
 use Rattle.kernel.specs.Laws.{QuietStays, SaysOn}
 use Rattle.kernel.specs.RunLaws.{run_over, run_plus, step_running}
-use Rattle.kernel.specs.Worlds.{Solo, Tasks, among, ending, reached, solo_of, step}
+use Rattle.kernel.specs.Worlds.{among, ending, reached, solo_of, step}
 use Rattle.base.specs.declared.limits.TheConstants.{PRIORITIES}
 use Rattle.image.specs.Sections.{Sections}
 use Rattle.image.specs.Code.{CodeWorld, code, start}
 use Rattle.image.specs.Frames.{TaskState, Words}
-use Rattle.image.specs.Steps.{Given, Stepped, act, behaviour}
+use Rattle.image.specs.Steps.{Stepped, act, behaviour}
 use Rattle.machine.specs.Held.{Follows, Held, Tells}
 use Rattle.machine.specs.Outcomes.{ending_of, time_of}
 use Rattle.machine.specs.Stands.{Advances, IsAlone, IsLast, StandsFor, kernel_outcome, running_of}
-use Rattle.machine.specs.declared.outcome.Outcome.{Outcome}
-use Rattle.machine.specs.declared.outcome.Outcome.TheVariants as outcomes
-use Rattle.machine.specs.declared.outcome.Signal.{Signal}
-use Rattle.machine.specs.declared.outcome.Signal.TheVariants as signals
+use Rattle.machine.specs.declared.reports.Outcome.{Outcome}
+use Rattle.machine.specs.declared.reports.Signal.{Signal}
+use Rattle.machine.specs.declared.reports.Signal.TheVariants as signals
 
 -- the kernel of the only task
 

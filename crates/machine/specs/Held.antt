@@ -1,20 +1,22 @@
 -- What the machine holds, and what its steps have to do with those of code (docs/FORMATS.md, "Instructions").
-use Rattle.std.specs.Prelude.{◌≡◌, ℕ, ◌+◌, ◌-◌, ◌<◌, ◌≤◌, ℤ, pos, List, [], ◌∷◌, ◌++◌, drop, replicate, length, Option, Some, None, IsTrue, slice_get}
+use Rattle.std.specs.Prelude.{◌≡◌, ℕ, ◌+◌, ◌-◌, ◌<◌, ◌≤◌, ℤ, pos, List, [], ◌∷◌, ◌++◌, drop, replicate, length, Option, Some, None, IsTrue}
 use Rattle.kernel.specs.Effects as effects
+use Rattle.kernel.specs.State.{Kernel}
 use Rattle.image.specs.Sections.{Sections}
-use Rattle.image.specs.Operations.{called, given_by, goes_on, parameters_of, results_of, taken_by}
-use Rattle.image.specs.Frames.{Frame, Inner, TaskState, arguments}
+use Rattle.image.specs.Operations.{called, given_by, goes_on, results_of, taken_by}
+use Rattle.image.specs.Frames.{Frame, Inner, TaskState, Words, arguments}
 use Rattle.image.specs.Shape.{IsSound}
-use Rattle.image.specs.Steps.{Stepped}
+use Rattle.image.specs.Steps.{Stepped, does_operation}
+use Rattle.base.specs.declared.limits.TheConstants.{FRAME_WORDS, FRAMES, INSTRUCTIONS}
 use Rattle.image.specs.declared.instruction.Operation.{Operation}
 use Rattle.image.specs.declared.instruction.Operation.TheVariants.{Call, Return}
 use Rattle.image.specs.declared.subprograms.Subprogram.{Subprogram}
 use Rattle.machine.specs.Layout.{CanReturn}
 use Rattle.machine.specs.Outcomes.{line_of}
-use Rattle.machine.specs.declared.outcome.Outcome.{Outcome}
-use Rattle.machine.specs.declared.outcome.Outcome.TheVariants as outcomes
-use Rattle.machine.specs.declared.outcome.Signal.{Signal}
-use Rattle.machine.specs.declared.outcome.Signal.TheVariants as signals
+use Rattle.machine.specs.declared.reports.Outcome.{Outcome}
+use Rattle.machine.specs.declared.reports.Outcome.TheVariants as outcomes
+use Rattle.machine.specs.declared.reports.Signal.{Signal}
+use Rattle.machine.specs.declared.reports.Signal.TheVariants as signals
 
 -- an image, the frames of its one task, virtual time, and the outcome once there is one
 pub record Held : Type 0 where
@@ -39,9 +41,14 @@ pub record Follows (before after : Held) (signal : Signal) (a : Stepped) : Type 
   pub state : after.state ≡ a.solo.task
   pub tells : Tells before.image before.time a.effect after.outcome signal
 
+-- it has done what code does by this operation, whatever the kernel and the words that tasks share are
+abbrev pub Does : Held → Held → Signal → Operation → Type 0
+Does before after signal operation =
+    (k : Kernel) (m : Words) → Follows before after signal (does_operation before.image [] k 0 m before.state.frame before.state.callers operation)
+
 abbrev pub FitsCallee : Option Subprogram → Type 0
 FitsCallee None = ⊥
-FitsCallee (Some s) = (s.parameters ≤ s.locals) × (s.locals ≤ 512)
+FitsCallee (Some s) = (s.parameters ≤ s.locals) × (s.locals ≤ FRAME_WORDS)
 
 abbrev pub CanReturnAny : ℕ → Frame → List Frame → Type 0
 CanReturnAny n f [] = Unit {0}
@@ -60,14 +67,18 @@ abbrev pub AreInner : List Frame → Type 0
 AreInner [] = Unit {0}
 AreInner (f ∷ fs) = (f.role ≡ Inner) × AreInner fs
 
+-- no frame has opened an action, and without an outcome nothing is left to raise
+abbrev pub IsCalm : Held → Type 0
+IsCalm h = AreInner (h.state.frame ∷ h.state.callers) × (h.outcome ≡ None → h.state.raising ≡ None)
+
 -- what an operation needs of the frames: its operands, room for what it gives, and a place to go on at
 pub record IsReady (i : Sections) (s : TaskState) (operation : Operation) : Type 0 where
   pub there : taken_by i (results_of (called i s.frame.subprogram)) operation ≤ length s.frame.stack
-  pub room : length s.frame.locals + (length s.frame.stack - taken_by i (results_of (called i s.frame.subprogram)) operation + given_by i operation) ≤ 512
-  pub next : IsTrue (goes_on operation) → s.frame.place < 65535
+  pub room : length s.frame.locals + (length s.frame.stack - taken_by i (results_of (called i s.frame.subprogram)) operation + given_by i operation) ≤ FRAME_WORDS
+  pub next : IsTrue (goes_on operation) → s.frame.place < INSTRUCTIONS
   pub callee : CanCall i operation
   pub back : CanLeave operation (results_of (called i s.frame.subprogram)) s.frame s.callers
-  pub few : length s.callers ≤ 31
+  pub few : length s.callers < FRAMES
   pub quiet : s.raising ≡ None
   pub inner : AreInner (s.frame ∷ s.callers)
 

@@ -2,5 +2,6 @@ pub mod Held
 pub mod Layout
 pub mod Memory
 pub mod Outcomes
+pub mod Schedules
 pub mod Stands
 pub mod Written

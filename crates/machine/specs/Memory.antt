@@ -1,7 +1,7 @@
 -- A sink in memory.
-use Rattle.std.specs.Prelude.{ℕ, zero, suc, ◌+◌, ◌-◌, List, [], length, min, cond, nat_le, Option, Some, None}
-use Rattle.machine.specs.declared.sink.Plan.{Plan}
-use Rattle.machine.specs.declared.sink.Plan.TheVariants.{TakesAll, TakesOne, FailsAt, AnswersZeroAt}
+use Rattle.std.specs.Prelude.{ℕ, zero, suc, ◌+◌, ◌-◌, List, length, min, cond, nat_le, Option, Some, None}
+use Rattle.machine.specs.declared.memory_sink.Plan.{Plan}
+use Rattle.machine.specs.declared.memory_sink.Plan.TheVariants.{TakesAll, TakesOne, FailsAt, AnswersZeroAt}
 
 -- the bytes taken so far, how many bytes there is room for in all, what it does at a later call, and how many writes failed
 pub record MemoryState : Type 0 where

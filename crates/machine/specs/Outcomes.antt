@@ -3,9 +3,9 @@ use Rattle.std.specs.Prelude.{ℤ, Option, Some, None}
 use Rattle.image.specs.Sections.{Sections}
 use Rattle.image.specs.Texts.{text_at}
 use Rattle.kernel.specs.State as kernel
-use Rattle.machine.specs.declared.outcome.Line.{Line}
-use Rattle.machine.specs.declared.outcome.Outcome.{Outcome}
-use Rattle.machine.specs.declared.outcome.Outcome.TheVariants.{Ended, WaitsForever, Unhandled, ImageFault, StepLimit}
+use Rattle.machine.specs.declared.reports.Line.{Line}
+use Rattle.machine.specs.declared.reports.Outcome.{Outcome}
+use Rattle.machine.specs.declared.reports.Outcome.TheVariants.{Ended, WaitsForever, Unhandled, ImageFault, StepLimit}
 
 -- the line with its label's bytes in place of the number
 abbrev pub line_of : Sections → Line → kernel.Line

@@ -1,19 +1,19 @@
 -- When the machine stands for a world of code, and what a step of it shows.
-use Rattle.std.specs.Prelude.{◌≡◌, ℕ, ◌+◌, ℤ, List, [], ◌∷◌, ◌++◌, Option, Some, None}
+use Rattle.std.specs.Prelude.{◌≡◌, ℕ, ℤ, [], ◌∷◌, ◌++◌, Option, Some, None}
 use Rattle.kernel.specs.State as kernel
 use Rattle.kernel.specs.State.{Kernel}
 use Rattle.kernel.specs.Text.{line_text}
 use Rattle.image.specs.Sections.{Sections}
-use Rattle.image.specs.Code.{CodeWorld, code, partition_of}
+use Rattle.image.specs.Code.{CodeWorld}
 use Rattle.image.specs.Texts.{names_of}
 use Rattle.machine.specs.Held.{Held}
 use Rattle.machine.specs.Outcomes.{ending_of, line_of, time_of}
-use Rattle.machine.specs.declared.outcome.Event.{Event}
-use Rattle.machine.specs.declared.outcome.Event.TheVariants as events
-use Rattle.machine.specs.declared.outcome.Outcome.{Outcome}
-use Rattle.machine.specs.declared.outcome.Outcome.TheVariants as outcomes
-use Rattle.machine.specs.declared.outcome.Signal.{Signal}
-use Rattle.machine.specs.declared.outcome.Signal.TheVariants as signals
+use Rattle.machine.specs.declared.reports.Event.{Event}
+use Rattle.machine.specs.declared.reports.Event.TheVariants as events
+use Rattle.machine.specs.declared.reports.Outcome.{Outcome}
+use Rattle.machine.specs.declared.reports.Outcome.TheVariants as outcomes
+use Rattle.machine.specs.declared.reports.Signal.{Signal}
+use Rattle.machine.specs.declared.reports.Signal.TheVariants as signals
 
 abbrev pub kernel_outcome : Option Outcome → Option kernel.Outcome
 kernel_outcome None = None
@@ -62,7 +62,7 @@ Shows i k l (signals.Done o) = (l.lines ≡ k.lines) × (l.outcome ≡ ending_of
 abbrev pub ShowsText : Sections → Kernel → Kernel → Event → Type 0
 ShowsText i k l events.Quiet = (l.lines ≡ k.lines) × (l.outcome ≡ None)
 ShowsText i k l (events.Line text) = (line : kernel.Line) × (l.lines ≡ k.lines ++ line ∷ []) × (text.items ≡ line_text (names_of i) line) × (l.outcome ≡ None)
-ShowsText i k l (events.Done o) = (l.lines ≡ k.lines) × (l.outcome ≡ ending_of o) × (l.now ≡ time_of o)
+ShowsText i k l (events.Done o) = (l.lines ≡ k.lines) × (l.outcome ≡ ending_of o) × (l.now ≡ time_of o) × IsEnding o
 
 -- the machine stands for a world, and what has happened since another kernel is shown
 pub record Advances (i : Sections) (h : Held) (k : Kernel) (w : CodeWorld) (told : Signal) : Type 0 where

@@ -1,12 +1,22 @@
 //! The machine that runs an image in virtual time.
 #![tactic(auto)]
 
-pub mod fault;
+mod fault;
 mod frame;
-pub mod machine;
-pub mod outcome;
+mod memory_sink;
 mod processor;
-pub mod schedule;
-pub mod sink;
+mod reports;
+mod running;
+mod schedules;
 mod task_state;
 mod text;
+mod writer_sink;
+mod writing;
+
+pub use fault::RunFault;
+pub use memory_sink::{MemorySink, Plan};
+pub use reports::{Event, LINE_BYTES, Line, LineText, Outcome};
+pub use running::{Machine, run};
+pub use schedules::{Schedule, ScheduleFault};
+pub use writer_sink::WriterSink;
+pub use writing::{Sink, SinkError, write_all};

@@ -5,15 +5,16 @@ ghost use Rattle.arrayvec.specs.ArrayVec.{array_vec_len};
 ghost use Rattle.image.specs.Texts.{name_of, names_of, text_at, text_from_one};
 ghost use Rattle.kernel.specs.Text.{last_line, line_text, outcome_text};
 ghost use Rattle.machine.specs.Outcomes.{line_of, ending_of, time_of};
+ghost use Rattle.machine.specs.declared.reports.TheConstants.{LINE_BYTES};
 
-use crate::outcome::{Line, LineText, Outcome};
+use crate::reports::{Line, LineText, Outcome};
 use arrayvec::ArrayVec;
 use image::{Image, Task, Text};
 use itoa::Buffer;
 
 // Appends the bytes, for which there is room.
 fn put(line: &mut LineText, bytes: &[u8])
-    requires { array_vec_len line.old + length bytes.now ≤ 128 }
+    requires { array_vec_len line.old + length bytes.now ≤ LINE_BYTES }
     ensures items { line.new.items ≡ line.old.items ++ bytes.now }
     ensures len { array_vec_len line.new ≡ array_vec_len line.old + length bytes.now }
 {
@@ -22,7 +23,7 @@ fn put(line: &mut LineText, bytes: &[u8])
 
 // Appends the number in decimal.
 fn put_number(line: &mut LineText, number: i64)
-    requires { array_vec_len line.old + 20 ≤ 128 }
+    requires { array_vec_len line.old + 20 ≤ LINE_BYTES }
     ensures items { line.new.items ≡ line.old.items ++ signed_decimal number }
     ensures len { array_vec_len line.new ≤ array_vec_len line.old + 20 }
 {

@@ -1,5 +1,5 @@
 -- Code beside source: what hand-written images of the worked programs write, and one that does nothing refused.
-use Rattle.std.proofs.Common.{◌≡◌, ℕ, zero, suc, List, [], ◌∷◌, ◌++◌, refl, sym, ap, ◌∙◌}
+use Rattle.std.proofs.Common.{◌≡◌, ℕ, zero, suc, List, [], ◌∷◌, ◌++◌, None, refl, sym, ap, ◌∙◌}
 use Rattle.std.specs.Prelude.{pos, codes}
 use Rattle.std.specs.Fmt.{digits}
 use Rattle.base.specs.declared.schedule.ScheduleLine.{ScheduleLine}
@@ -17,7 +17,8 @@ use Rattle.meaning.specs.Programs.{default_priority, exception_names}
 use Rattle.meaning.specs.Source.{source, source_text}
 use Rattle.meaning.specs.SameMeaning.{SameMeaning}
 use Rattle.meaning.specs.NullExample.{return_image}
-use Rattle.meaning.proofs.Examples.{sums, overflow}
+use Rattle.ada_tree.specs.declared.program.MainStatement.TheVariants as main
+use Rattle.meaning.proofs.Examples.{overflow, program_of, sums}
 
 abbrev at : ℕ → Operation → Instr
 at depth operation = record { depth = depth; operation = operation }
@@ -74,3 +75,8 @@ idle_refuted same =
     let x = (same.shows [] refl).forth 3 in
     let none : [] ≡ (record { time = pos 0; task = 0; label = codes "a"; value = pos 14 } ∷ []) ++ x.1.begins.0 = sym (idle_after [] x.0) ∙ x.1.begins.1 ∙ ap (λ l. l ++ x.1.begins.0) sums_lines in
     cc
+
+-- An image whose task has another name does not mean a main of null statements, and the one with main's name does (return_means_nulls)
+
+other_name_refuted : SameMeaning (program_of None (main.Null 0 ∷ [])) (return_image (codes "OTHER")) → ⊥
+other_name_refuted same = let names : codes "OTHER" ≡ codes "MAIN" = same.names.tasks 0 in cc

@@ -1,6 +1,0 @@
-use Rattle.std.proofs.Common.{[], refl}
-use Rattle.adarun.specs.declared.drive.Status.TheVariants.{NoMemory}
-use Rattle.adarun.proofs.drive.drive.Goals as goal
-
-pub returns-in-Err-Memory-clause-answers : goal.returns-in-Err-Memory-clause-answers
-returns-in-Err-Memory-clause-answers g c = rw c.no_memory-status.ensures (record { source = []; schedule = []; limit = 0; status = NoMemory; answer_is = refl; leaves = refl })

@@ -1,5 +1,0 @@
-use Rattle.machine.proofs.Runs.{Ran}
-use Rattle.machine.proofs.machine.Machine.run_on.Given as goal
-
-abbrev pub invariant-loop : goal.invariant-loop
-invariant-loop g l = Ran l.fn.self.image l.counter l.self (g.S.Sink.bytes l.fn.sink) (g.S.Sink.bytes l.sink) (g.S.Sink.failures l.fn.sink) (g.S.Sink.failures l.sink)
