@@ -10,7 +10,9 @@ use Rattle.ada_tree.specs.declared.declaration.Mode.TheVariants as modes
 use Rattle.ada_tree.specs.declared.declaration.Formal.{Formal}
 use Rattle.ada_tree.specs.declared.declaration.TaskEntry.{TaskEntry}
 use Rattle.ada_tree.specs.ExpressionTree.{ExprTree, expr_tree}
-use Rattle.ada_tree.specs.StatementTree.{AspectTree, ObjectTree, TaskDefinitionTree, TaskTree, SubprogramTree, EntryTree, OperationTree, OfSubprogram, OfEntry, ProtectedComponentTree, ProtectedTree, DeclarationTree, LocalObject, LocalTask, LocalProtected, RangeTree, optional_tree, aspect_tree, task_definition_tree, operation_tree, protected_component_tree}
+use Rattle.ada_tree.specs.StatementTree.{AspectTree, ObjectTree, TaskDefinitionTree, TaskTree, SubprogramTree, EntryTree, OperationTree, OfSubprogram, OfEntry}
+use Rattle.ada_tree.specs.StatementTree.{ProtectedComponentTree, ProtectedTree, DeclarationTree, LocalObject, LocalTask, LocalProtected, RangeTree}
+use Rattle.ada_tree.specs.StatementTree.{optional_tree, aspect_tree, task_definition_tree, operation_tree, protected_component_tree}
 use Rattle.parser.specs.declared.declaration.ObjectRest.{ObjectRest}
 use Rattle.parser.specs.declared.declaration.TaskRest.{TaskRest}
 use Rattle.parser.specs.declared.declaration.ProtectedRest.{ProtectedRest}
@@ -22,7 +24,8 @@ abbrev pub range_at : ℕ → Reader RangeTree
 range_at k = mapped (λ x. record { first = x.0; last = x.1 }) (seq (simple_at k) (past_mark marks.DoubleDot (simple_at k)))
 
 abbrev pub aspect_at : ℕ → Reader AspectTree
-aspect_at k = mapped (λ x. record { place = x.0; name = x.1.0; value = x.1.1 }) (seq (word_of words.With) (seq identifier_of (past_mark marks.Arrow (expression_at k))))
+aspect_at k =
+    mapped (λ x. record { place = x.0; name = x.1.0; value = x.1.1 }) (seq (word_of words.With) (seq identifier_of (past_mark marks.Arrow (expression_at k))))
 
 abbrev pub aspect_part : ℕ → Reader (Option AspectTree)
 aspect_part k = perhaps (is_word words.With) (aspect_at k)
@@ -71,7 +74,8 @@ abbrev pub formals_at : ℕ → Reader (List Formal)
 formals_at k = choose (is_mark marks.LeftParenthesis) (opened (values k) formals_in) (nothing [])
 
 abbrev pub procedure_at : ℕ → Reader SubprogramTree
-procedure_at k = mapped (λ x. record { place = x.0; name = x.1.0; formals = x.1.1; result = None }) (seq (word_of words.Procedure) (seq identifier_of (formals_at k)))
+procedure_at k =
+    mapped (λ x. record { place = x.0; name = x.1.0; formals = x.1.1; result = None }) (seq (word_of words.Procedure) (seq identifier_of (formals_at k)))
 
 abbrev pub function_at : ℕ → Reader SubprogramTree
 function_at k =
@@ -118,7 +122,8 @@ operation_of (Left d) = OfEntry d
 operation_of (Right d) = OfSubprogram d
 
 abbrev pub operation_at : ℕ → Reader OperationTree
-operation_at k = mapped operation_of (either (is_word words.Entry) (ended (entry_at k) (skip_mark marks.Semicolon)) (ended (subprogram_at k) (skip_mark marks.Semicolon)))
+operation_at k =
+    mapped operation_of (either (is_word words.Entry) (ended (entry_at k) (skip_mark marks.Semicolon)) (ended (subprogram_at k) (skip_mark marks.Semicolon)))
 
 abbrev pub begins_operation : Option Token → Bool
 begins_operation o = is_word words.Procedure o || (is_word words.Function o || is_word words.Entry o)
@@ -148,10 +153,12 @@ ProtectedParts = Identifier × (Option AspectTree × (List OperationTree × (Lis
 -- what follows `protected`
 abbrev pub protected_rest_at : ℕ → Reader ProtectedParts
 protected_rest_at k =
-    seq identifier_of (seq (aspect_part k) (past_word words.Is (seq (operations_at k) (seq (private_part_at k) (past_word words.End (ended identifier_of (skip_mark marks.Semicolon)))))))
+    seq identifier_of (seq (aspect_part k)
+    (past_word words.Is (seq (operations_at k) (seq (private_part_at k) (past_word words.End (ended identifier_of (skip_mark marks.Semicolon)))))))
 
 abbrev pub protected_rest : ProtectedRest → ProtectedParts
-protected_rest r = (r.name, (optional_tree aspect_tree r.aspect, (map operation_tree r.operations.items, (map protected_component_tree r.components.items, r.end_name))))
+protected_rest r =
+    (r.name, (optional_tree aspect_tree r.aspect, (map operation_tree r.operations.items, (map protected_component_tree r.components.items, r.end_name))))
 
 abbrev pub protected_of : ℕ → ProtectedParts → ProtectedTree
 protected_of place x = record { place = place; name = x.0; aspect = x.1.0; operations = x.1.1.0; components = x.1.1.1.0; end_name = x.1.1.1.1 }

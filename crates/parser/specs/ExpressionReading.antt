@@ -10,8 +10,10 @@ use Rattle.ada_tree.specs.declared.expression.UnaryOperator.{UnaryOperator}
 use Rattle.ada_tree.specs.declared.expression.UnaryOperator.TheVariants as unary
 use Rattle.ada_tree.specs.declared.expression.BinaryOperator.{BinaryOperator}
 use Rattle.ada_tree.specs.declared.expression.BinaryOperator.TheVariants as binary
-use Rattle.ada_tree.specs.ExpressionTree.{ExprTree, Number, Named, Parenthesized, Conditional, Unary, Binary, SelectorTree, Component, Arguments, Attribute, ArgumentTree, Value, Text, NameTree, selectors_of, arguments_of, elsif_values_of}
-use Rattle.parser.specs.Reading.{Reader, is_next, is_word, is_mark, entry_of, is_there, mark_of, skip_word, skip_mark, identifier_of, seq, after, mapped, choose, many, separated_by, nothing, closed, opened}
+use Rattle.ada_tree.specs.ExpressionTree.{ExprTree, Number, Named, Parenthesized, Conditional, Unary, Binary, SelectorTree, Component, Arguments, Attribute}
+use Rattle.ada_tree.specs.ExpressionTree.{ArgumentTree, Value, Text, NameTree, selectors_of, arguments_of, elsif_values_of}
+use Rattle.parser.specs.Reading.{Reader, is_next, is_word, is_mark, entry_of, is_there, mark_of, skip_word, skip_mark, identifier_of, seq, after, mapped}
+use Rattle.parser.specs.Reading.{choose, many, separated_by, nothing, closed, opened}
 
 -- ---- tokens
 
@@ -99,7 +101,8 @@ abbrev pub arguments_list : Values → Reader (List ArgumentTree)
 arguments_list r = separated_by (kinds.Delimiter marks.Comma) (argument_in r)
 
 abbrev pub arguments_in : Values → Reader SelectorTree
-arguments_in r = mapped (λ x. Arguments (arguments_of x.1.0)) (seq (skip_mark marks.LeftParenthesis) (seq (arguments_list r) (skip_mark marks.RightParenthesis)))
+arguments_in r =
+    mapped (λ x. Arguments (arguments_of x.1.0)) (seq (skip_mark marks.LeftParenthesis) (seq (arguments_list r) (skip_mark marks.RightParenthesis)))
 
 abbrev pub component_of : Reader SelectorTree
 component_of = mapped (λ x. Component x.1) (seq (skip_mark marks.Dot) identifier_of)
@@ -137,7 +140,8 @@ elsif_values_in r = many (is_word words.Elsif) (elsif_value_in r)
 abbrev pub conditional_in : ℕ → Values → Reader ExprTree
 conditional_in place r =
     mapped (λ x. Conditional place x.1.0 x.1.1.1.0 (elsif_values_of x.1.1.1.1.0) x.1.1.1.1.1.1)
-    (seq (skip_word words.If) (seq r.expression (seq (skip_word words.Then) (seq r.expression (seq (elsif_values_in r) (seq (skip_word words.Else) r.expression))))))
+    (seq (skip_word words.If)
+    (seq r.expression (seq (skip_word words.Then) (seq r.expression (seq (elsif_values_in r) (seq (skip_word words.Else) r.expression))))))
 
 abbrev pub enclosed_in : Values → ℕ → Reader ExprTree
 enclosed_in r place = choose (is_word words.If) (r.conditional place) (mapped (Parenthesized place) r.expression)
@@ -204,7 +208,8 @@ with_more short more long = choose (is_word more) (mapped (λ x. long) (skip_wor
 abbrev pub logical_of : Reader BinaryOperator
 logical_of =
     choose (is_word words.And) (mapped (λ x. x.1) (seq (skip_word words.And) (with_more binary.And words.Then binary.AndThen)))
-    (choose (is_word words.Or) (mapped (λ x. x.1) (seq (skip_word words.Or) (with_more binary.Or words.Else binary.OrElse))) (mapped (λ x. binary.Xor) (skip_word words.Xor)))
+    (choose (is_word words.Or) (mapped (λ x. x.1) (seq (skip_word words.Or) (with_more binary.Or words.Else binary.OrElse)))
+    (mapped (λ x. binary.Xor) (skip_word words.Xor)))
 
 -- the words of a logical operator
 abbrev pub first_word : BinaryOperator → Word

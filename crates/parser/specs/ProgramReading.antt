@@ -15,11 +15,16 @@ use Rattle.ada_tree.specs.declared.program.MainStatement.{MainStatement}
 use Rattle.ada_tree.specs.declared.program.MainStatement.TheVariants as main_statements
 use Rattle.ada_tree.specs.ExpressionTree.{ExprTree, bare_name}
 use Rattle.ada_tree.specs.StatementTree.{AspectTree, TaskDefinitionTree, RangeTree, SubprogramTree}
-use Rattle.ada_tree.specs.ProgramTree.{IndexTree, OfRange, OfSubtype, DefinitionTree, Integer, Array, Record, Subtype, TypeTree, BodyTree, ItemTree, OfType, OfObject, OfException, OfSubprogram, OfTask, OfProtected, ProtectedItemTree, OperationBody, EntryBody, BodyItemTree, OfItem, SubprogramBody, TaskBody, ProtectedBody, PackageDeclarationTree, PackageBodyTree, PackageTree, MainTree, ProgramTree}
-use Rattle.parser.specs.Reading.{Reader, refuse, is_next, is_word, is_mark, word_of, identifier_of, seq, after, mapped, choose, many, several, nothing, opened, skip_mark}
+use Rattle.ada_tree.specs.ProgramTree.{IndexTree, OfRange, OfSubtype, DefinitionTree, Integer, Array, Record, Subtype, TypeTree, BodyTree, ItemTree, OfType}
+use Rattle.ada_tree.specs.ProgramTree.{OfObject, OfException, OfSubprogram, OfTask, OfProtected, ProtectedItemTree, OperationBody, EntryBody, BodyItemTree}
+use Rattle.ada_tree.specs.ProgramTree.{OfItem, SubprogramBody, TaskBody, ProtectedBody, PackageDeclarationTree, PackageBodyTree, PackageTree, MainTree}
+use Rattle.ada_tree.specs.ProgramTree.{ProgramTree}
+use Rattle.parser.specs.Reading.{Reader, refuse, is_next, is_word, is_mark, word_of, identifier_of, seq, after, mapped, choose, many, several, nothing, opened}
+use Rattle.parser.specs.Reading.{skip_mark}
 use Rattle.parser.specs.MoreReading.{past_word, past_mark, ended, perhaps, Either, Left, Right, either, by_word, is_identifier}
 use Rattle.parser.specs.ExpressionReading.{expression_at, simple_at}
-use Rattle.parser.specs.DeclarationReading.{range_at, aspect_part, object_rest_at, object_of, subprogram_at, entry_at, task_rest_at, task_of, task_at, begins_operation, protected_rest_at, protected_of, protected_at, declarations_at, ProtectedParts}
+use Rattle.parser.specs.DeclarationReading.{range_at, aspect_part, object_rest_at, object_of, subprogram_at, entry_at, task_rest_at, task_of, task_at}
+use Rattle.parser.specs.DeclarationReading.{begins_operation, protected_rest_at, protected_of, protected_at, declarations_at, ProtectedParts}
 use Rattle.parser.specs.StatementReading.{Readers, readers, component_part, statements_at, handlers_at}
 
 -- ---- types
@@ -30,7 +35,9 @@ named_index (Some name) = nothing (OfSubtype name)
 
 -- the rest of a range, or nothing more after a name
 abbrev pub index_rest_at : ℕ → ExprTree → Reader IndexTree
-index_rest_at k x = choose (is_mark marks.DoubleDot) (mapped (λ y. OfRange (record { first = x; last = y })) (past_mark marks.DoubleDot (simple_at k))) (named_index (bare_name x))
+index_rest_at k x =
+    choose (is_mark marks.DoubleDot) (mapped (λ y. OfRange (record { first = x; last = y })) (past_mark marks.DoubleDot (simple_at k)))
+    (named_index (bare_name x))
 
 abbrev pub index_at : ℕ → Reader IndexTree
 index_at k = after (simple_at k) (index_rest_at k)
@@ -122,7 +129,8 @@ abbrev pub body_at : ℕ → Reader BodyTree
 body_at k =
     let statements = statements_at k (readers k) in
     mapped (λ x. record { declarations = x.0; statements = x.1.0; handlers = x.1.1.0; end_name = x.1.1.1 })
-    (seq (declarations_at k) (past_word words.Begin (seq statements (seq (handlers_at statements) (past_word words.End (ended identifier_of (skip_mark marks.Semicolon)))))))
+    (seq (declarations_at k)
+    (past_word words.Begin (seq statements (seq (handlers_at statements) (past_word words.End (ended identifier_of (skip_mark marks.Semicolon)))))))
 
 abbrev pub operation_body_at : ℕ → Reader ProtectedItemTree
 operation_body_at k = mapped (λ x. OperationBody x.0 x.1) (seq (subprogram_at k) (past_word words.Is (body_at k)))
@@ -142,7 +150,9 @@ subprogram_body_of d (Right b) = SubprogramBody d b
 
 -- a subprogram's declaration or body
 abbrev pub subprogram_body_at : ℕ → Reader BodyItemTree
-subprogram_body_at k = mapped (λ x. subprogram_body_of x.0 x.1) (seq (subprogram_at k) (either (is_mark marks.Semicolon) (skip_mark marks.Semicolon) (past_word words.Is (body_at k))))
+subprogram_body_at k =
+    mapped (λ x. subprogram_body_of x.0 x.1)
+    (seq (subprogram_at k) (either (is_mark marks.Semicolon) (skip_mark marks.Semicolon) (past_word words.Is (body_at k))))
 
 abbrev pub task_body_at : ℕ → Reader (Identifier × BodyTree)
 task_body_at k = past_word words.Body (seq identifier_of (past_word words.Is (body_at k)))
@@ -157,7 +167,8 @@ task_item_at k = mapped (λ x. task_item_of x.0 x.1) (seq (word_of words.Task) (
 
 abbrev pub protected_body_at : ℕ → Reader (Identifier × (List ProtectedItemTree × Identifier))
 protected_body_at k =
-    past_word words.Body (seq identifier_of (past_word words.Is (seq (protected_item_list_at k) (past_word words.End (ended identifier_of (skip_mark marks.Semicolon))))))
+    past_word words.Body (seq identifier_of
+    (past_word words.Is (seq (protected_item_list_at k) (past_word words.End (ended identifier_of (skip_mark marks.Semicolon))))))
 
 abbrev pub protected_item_of : ℕ → Either (Identifier × (List ProtectedItemTree × Identifier)) ProtectedParts → BodyItemTree
 protected_item_of place (Left x) = ProtectedBody x.0 x.1.0 x.1.1
@@ -165,7 +176,8 @@ protected_item_of place (Right x) = OfItem (OfProtected (protected_of place x))
 
 -- a protected object's declaration or body
 abbrev pub protected_object_at : ℕ → Reader BodyItemTree
-protected_object_at k = mapped (λ x. protected_item_of x.0 x.1) (seq (word_of words.Protected) (either (is_word words.Body) (protected_body_at k) (protected_rest_at k)))
+protected_object_at k =
+    mapped (λ x. protected_item_of x.0 x.1) (seq (word_of words.Protected) (either (is_word words.Body) (protected_body_at k) (protected_rest_at k)))
 
 -- how an item of a package's body is read that begins with this word, or with something else
 abbrev pub body_item_of : ℕ → Option Word → Reader BodyItemTree
@@ -197,12 +209,15 @@ clause_list_at = many (is_word words.With) unit_clause_at
 abbrev pub package_declaration_at : ℕ → Reader PackageDeclarationTree
 package_declaration_at k =
     mapped (λ x. record { place = x.0; name = x.1.0; items = x.1.1.0; end_name = x.1.1.1 })
-    (seq (word_of words.Package) (seq identifier_of (past_word words.Is (seq (item_list_at k) (past_word words.End (ended identifier_of (skip_mark marks.Semicolon)))))))
+    (seq (word_of words.Package)
+    (seq identifier_of (past_word words.Is (seq (item_list_at k) (past_word words.End (ended identifier_of (skip_mark marks.Semicolon)))))))
 
 abbrev pub package_body_at : ℕ → Reader PackageBodyTree
 package_body_at k =
     mapped (λ x. record { place = x.0; name = x.1.0; items = x.1.1.0; end_name = x.1.1.1 })
-    (seq (word_of words.Package) (past_word words.Body (seq identifier_of (past_word words.Is (seq (body_item_list_at k) (past_word words.End (ended identifier_of (skip_mark marks.Semicolon))))))))
+    (seq (word_of words.Package)
+    (past_word words.Body (seq identifier_of
+    (past_word words.Is (seq (body_item_list_at k) (past_word words.End (ended identifier_of (skip_mark marks.Semicolon))))))))
 
 -- a package, and main's `with` of it
 abbrev pub package_at : ℕ → Reader PackageTree
@@ -218,7 +233,9 @@ main_statement_of (Right x) = main_statements.Call x.0 x.1
 
 abbrev pub main_statement_at : Reader MainStatement
 main_statement_at =
-    mapped main_statement_of (either (is_word words.Null) (ended (word_of words.Null) (skip_mark marks.Semicolon)) (seq identifier_of (past_mark marks.Dot (ended identifier_of (skip_mark marks.Semicolon)))))
+    mapped main_statement_of
+    (either (is_word words.Null) (ended (word_of words.Null) (skip_mark marks.Semicolon))
+    (seq identifier_of (past_mark marks.Dot (ended identifier_of (skip_mark marks.Semicolon)))))
 
 abbrev pub begins_main_statement : Option Token → Bool
 begins_main_statement o = is_identifier o || is_word words.Null o
@@ -235,7 +252,8 @@ main_at k =
 abbrev pub pragma_at : Reader Pragma
 pragma_at =
     mapped (λ x. record { place = x.0; name = x.1.0; argument = x.1.1 })
-    (seq (word_of words.Pragma) (seq identifier_of (past_mark marks.LeftParenthesis (ended identifier_of (past_mark marks.RightParenthesis (skip_mark marks.Semicolon))))))
+    (seq (word_of words.Pragma)
+    (seq identifier_of (past_mark marks.LeftParenthesis (ended identifier_of (past_mark marks.RightParenthesis (skip_mark marks.Semicolon))))))
 
 abbrev pub pragma_list_at : Reader (List Pragma)
 pragma_list_at = many (is_word words.Pragma) pragma_at

@@ -10,8 +10,12 @@ use Rattle.ada_tree.specs.declared.expression.Identifier.{Identifier}
 use Rattle.ada_tree.specs.declared.statement.ExceptionChoice.{ExceptionChoice}
 use Rattle.ada_tree.specs.declared.statement.ExceptionChoice.TheVariants as exceptions
 use Rattle.ada_tree.specs.ExpressionTree.{ExprTree, NameTree}
-use Rattle.ada_tree.specs.StatementTree.{DeclarationTree, RangeTree, IterationTree, Forever, While, For, ChoicesTree, Values, OtherValues, StmtTree, Null, Assignment, Call, Exit, Return, Raise, Delay, DelayUntil, If, Case, Loop, Block, Abort, Requeue, Accept, Select, StmtTrees, NoStmts, ElsifTrees, AlternativeTrees, HandlerTrees, NoHandlers, stmts_of, elsifs_of, alternatives_of, handlers_of}
-use Rattle.parser.specs.Reading.{Reader, refuse, is_next, is_word, is_mark, word_of, identifier_of, seq, mapped, choose, many, several, separated_by, nothing, opened, skip_word, skip_mark}
+use Rattle.ada_tree.specs.StatementTree.{DeclarationTree, RangeTree, IterationTree, Forever, While, For, ChoicesTree, Values, OtherValues, StmtTree, Null}
+use Rattle.ada_tree.specs.StatementTree.{Assignment, Call, Exit, Return, Raise, Delay, DelayUntil, If, Case, Loop, Block, Abort, Requeue, Accept, Select}
+use Rattle.ada_tree.specs.StatementTree.{StmtTrees, NoStmts, ElsifTrees, AlternativeTrees, HandlerTrees, NoHandlers, stmts_of, elsifs_of, alternatives_of}
+use Rattle.ada_tree.specs.StatementTree.{handlers_of}
+use Rattle.parser.specs.Reading.{Reader, refuse, is_next, is_word, is_mark, word_of, identifier_of, seq, mapped, choose, many, several, separated_by, nothing}
+use Rattle.parser.specs.Reading.{opened, skip_word, skip_mark}
 use Rattle.parser.specs.MoreReading.{past_word, past_mark, ended, perhaps, flag, Either, Left, Right, either, by_word, is_identifier, is_not}
 use Rattle.parser.specs.ExpressionReading.{expression_at, name_at}
 use Rattle.parser.specs.DeclarationReading.{range_at, initial_part, declarations_at}
@@ -130,7 +134,9 @@ alternatives_at r = mapped alternatives_of (alternative_list_at r)
 abbrev pub case_at : Readers → Reader StmtTree
 case_at r =
     mapped (λ x. Case x.0 x.1.0 x.1.1)
-    (seq (word_of words.Case) (seq (expression_at r.levels) (past_word words.Is (ended (alternatives_at r) (past_word words.End (past_word words.Case (skip_mark marks.Semicolon)))))))
+    (seq (word_of words.Case)
+    (seq (expression_at r.levels)
+    (past_word words.Is (ended (alternatives_at r) (past_word words.End (past_word words.Case (skip_mark marks.Semicolon)))))))
 
 -- `while` and a condition; or `for`, a parameter and a range
 abbrev pub Turns : Type 0
@@ -181,7 +187,9 @@ block_start_of (Right place) = (place, [])
 
 -- what stands before a block's statements
 abbrev pub block_start_at : ℕ → Reader (ℕ × List DeclarationTree)
-block_start_at k = mapped block_start_of (either (is_word words.Declare) (seq (word_of words.Declare) (ended (declarations_at k) (skip_word words.Begin))) (word_of words.Begin))
+block_start_at k =
+    mapped block_start_of (either (is_word words.Declare) (seq (word_of words.Declare) (ended (declarations_at k) (skip_word words.Begin)))
+    (word_of words.Begin))
 
 abbrev pub block_at : Readers → Reader StmtTree
 block_at r =

@@ -1,6 +1,6 @@
 use Rattle.std.proofs.Common.{ap, sym, ◌∙◌}
 use Rattle.lexer.specs.declared.token.Token.{Token}
-use Rattle.parser.proofs.Whole.{end_last}
+use Rattle.parser.proofs.programs.Whole.{end_last}
 use Rattle.parser.proofs.parsing.end_of.Goals as goal
 
 pub returns-in-len1-up : goal.returns-in-len1-up

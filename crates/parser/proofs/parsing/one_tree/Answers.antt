@@ -1,4 +1,4 @@
-use Rattle.parser.proofs.Whole.{one_tree}
+use Rattle.parser.proofs.programs.Whole.{one_tree}
 use Rattle.parser.proofs.parsing.one_tree.Goals as goal
 
 pub returns : goal.returns

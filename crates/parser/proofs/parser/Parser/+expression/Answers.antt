@@ -7,18 +7,20 @@ use Rattle.ada_tree.specs.ExpressionGrammar.{Factor, Term, derives}
 use Rattle.parser.specs.Reading.{first, is_mark, is_word, seq, mapped, skip_mark}
 use Rattle.parser.specs.ExpressionReading as reading
 use Rattle.parser.specs.ExpressionReading.{term_in, simple_in}
-use Rattle.parser.proofs.Exact.{Ends}
-use Rattle.parser.proofs.Expressions.{continues_term}
-use Rattle.parser.proofs.Operations.{exact_factor, exact_term}
-use Rattle.parser.proofs.Levelled.{below}
-use Rattle.parser.proofs.Loops.{pushed, goes, ends, gives_up, handed_on, fold_starts, many_starts, list_starts, map_none, map_one, map_pushed, next_read, both_read, first_fails, second_fails, no_longer}
-use Rattle.parser.proofs.ExpressionLoops.{argument_smaller, selector_smaller, elsif_smaller, operator_read, operator_begins, operator_smaller, logical_smaller}
+use Rattle.parser.proofs.general.Several.{Ends}
+use Rattle.parser.proofs.expressions.Expressions.{continues_term}
+use Rattle.parser.proofs.expressions.Operations.{exact_factor, exact_term}
+use Rattle.parser.proofs.expressions.Levelled.{below}
+use Rattle.parser.proofs.general.Loops.{pushed, goes, ends, gives_up, handed_on, fold_starts, many_starts, list_starts, map_none, map_one, map_pushed, next_read}
+use Rattle.parser.proofs.general.Loops.{both_read, first_fails, second_fails, no_longer}
+use Rattle.parser.proofs.expressions.ExpressionLoops.{argument_smaller, selector_smaller, elsif_smaller, operator_read, operator_begins, operator_smaller, logical_smaller}
 use Rattle.parser.proofs.parser.Parser.+expression.Goals as goal
 
 pub argument_list-loop-self-init : goal.argument_list-loop-self-init
 argument_list-loop-self-init t c =
     let a = reading.argument_in (reading.values_at c.args.levels) in
-    list_starts (is_mark marks.Comma) (mapped (λ x. x.1) (seq (skip_mark marks.Comma) a)) a c.args.self.now.rest.now (argument_tree c.in_ok-one.one) _ _ c.in_ok-one.ensures
+    list_starts (is_mark marks.Comma) (mapped (λ x. x.1) (seq (skip_mark marks.Comma) a)) a c.args.self.now.rest.now (argument_tree c.in_ok-one.one) _ _
+    c.in_ok-one.ensures
     (map_one argument_tree _ _ c.in_ok-one.one c.new-all.ensures.items c.in_ok-push.ensures.items)
 
 pub argument_list-loop-self-smaller : goal.argument_list-loop-self-smaller
@@ -27,66 +29,84 @@ argument_list-loop-self-smaller t c = argument_smaller c.args.levels c.loop-self
 pub argument_list-loop-self-preserved : goal.argument_list-loop-self-preserved
 argument_list-loop-self-preserved t c =
     let a = reading.argument_in (reading.values_at c.args.levels) in
-    goes pushed (is_mark marks.Comma) refl (mapped (λ x. x.1) (seq (skip_mark marks.Comma) a)) c.loop-self.invariant.0 c.loop-self.self.rest.now (map argument_tree c.loop-self.all.items) (argument_tree c.in_ok-next.next) _
-    (reading.arguments_list (reading.values_at c.args.levels) c.args.self.now.rest.now) _ (map_pushed argument_tree _ _ c.in_ok-next.next c.in_ok-push-2.ensures.items)
-    (sym c.at_mark.ensures ∙ c.loop-self-test.true) (next_read (kinds.Delimiter marks.Comma) a c.loop-self.self.rest.now _ _ _ (argument_tree c.in_ok-next.next) c.in_ok-mark.ensures c.in_ok-next.ensures)
+    goes pushed (is_mark marks.Comma) refl (mapped (λ x. x.1) (seq (skip_mark marks.Comma) a)) c.loop-self.invariant.0 c.loop-self.self.rest.now
+    (map argument_tree c.loop-self.all.items) (argument_tree c.in_ok-next.next) _
+    (reading.arguments_list (reading.values_at c.args.levels) c.args.self.now.rest.now) _
+    (map_pushed argument_tree _ _ c.in_ok-next.next c.in_ok-push-2.ensures.items)
+    (sym c.at_mark.ensures ∙ c.loop-self-test.true)
+    (next_read (kinds.Delimiter marks.Comma) a c.loop-self.self.rest.now _ _ _ (argument_tree c.in_ok-next.next) c.in_ok-mark.ensures c.in_ok-next.ensures)
     (argument_smaller c.args.levels c.loop-self.self.rest.now _ _ _ _ c.in_ok-mark.ensures c.in_ok-next.ensures) c.loop-self.invariant.1 c.loop-self.invariant.2
 
 pub argument_list-returns : goal.argument_list-returns
 argument_list-returns t c =
     let a = reading.argument_in (reading.values_at c.args.levels) in
-    ends pushed (is_mark marks.Comma) refl (mapped (λ x. x.1) (seq (skip_mark marks.Comma) a)) c.loop-self.invariant.0 c.loop-self.self.rest.now (map argument_tree c.loop-self.all.items)
+    ends pushed (is_mark marks.Comma) refl (mapped (λ x. x.1) (seq (skip_mark marks.Comma) a)) c.loop-self.invariant.0 c.loop-self.self.rest.now
+    (map argument_tree c.loop-self.all.items)
     (reading.arguments_list (reading.values_at c.args.levels) c.args.self.now.rest.now) (sym c.at_mark.ensures ∙ c.loop-self-test.false) c.loop-self.invariant.2
 
 pub selectors-loop-self-init : goal.selectors-loop-self-init
 selectors-loop-self-init t c =
-    many_starts reading.begins_selector (reading.selector_in (reading.values c.args.levels)) c.args.self.now.rest.now _ (map_none selector_tree _ c.new-all.ensures.items)
+    many_starts reading.begins_selector (reading.selector_in (reading.values c.args.levels)) c.args.self.now.rest.now _
+    (map_none selector_tree _ c.new-all.ensures.items)
 
 pub selectors-loop-self-smaller : goal.selectors-loop-self-smaller
 selectors-loop-self-smaller t c = selector_smaller c.args.levels c.loop-self.self.rest.now _ _ c.in_ok-next.ensures
 
 pub selectors-loop-self-preserved : goal.selectors-loop-self-preserved
 selectors-loop-self-preserved t c =
-    goes pushed reading.begins_selector refl (reading.selector_in (reading.values c.args.levels)) c.loop-self.invariant.0 c.loop-self.self.rest.now (map selector_tree c.loop-self.all.items) (selector_tree c.in_ok-next.next) _
+    goes pushed reading.begins_selector refl (reading.selector_in (reading.values c.args.levels)) c.loop-self.invariant.0 c.loop-self.self.rest.now
+    (map selector_tree c.loop-self.all.items) (selector_tree c.in_ok-next.next) _
     (reading.selectors_in (reading.values c.args.levels) c.args.self.now.rest.now) _ (map_pushed selector_tree _ _ c.in_ok-next.next c.in_ok-push.ensures.items)
     (sym c.at_selector.ensures ∙ c.loop-self-test.true) c.in_ok-next.ensures
     (selector_smaller c.args.levels c.loop-self.self.rest.now _ _ c.in_ok-next.ensures) c.loop-self.invariant.1 c.loop-self.invariant.2
 
 pub selectors-returns : goal.selectors-returns
 selectors-returns t c =
-    ends pushed reading.begins_selector refl (reading.selector_in (reading.values c.args.levels)) c.loop-self.invariant.0 c.loop-self.self.rest.now (map selector_tree c.loop-self.all.items)
+    ends pushed reading.begins_selector refl (reading.selector_in (reading.values c.args.levels)) c.loop-self.invariant.0 c.loop-self.self.rest.now
+    (map selector_tree c.loop-self.all.items)
     (reading.selectors_in (reading.values c.args.levels) c.args.self.now.rest.now) (sym c.at_selector.ensures ∙ c.loop-self-test.false) c.loop-self.invariant.2
 
 pub selectors-returns-in_err-next : goal.selectors-returns-in_err-next
 selectors-returns-in_err-next t c =
-    handed_on (λ all. map selector_tree all.items) _ _ (reading.selectors_in (reading.values c.args.levels) c.args.self.now.rest.now) _ c.from_residual.ensures.1
-    (gives_up pushed reading.begins_selector refl (reading.selector_in (reading.values c.args.levels)) c.loop-self.invariant.0 c.loop-self.self.rest.now (map selector_tree c.loop-self.all.items) _
-    (reading.selectors_in (reading.values c.args.levels) c.args.self.now.rest.now) (sym c.at_selector.ensures ∙ c.loop-self-test.true) c.in_err-next.ensures c.loop-self.invariant.1 c.loop-self.invariant.2)
+    handed_on (λ all. map selector_tree all.items) _ _ (reading.selectors_in (reading.values c.args.levels) c.args.self.now.rest.now) _
+    c.from_residual.ensures.1
+    (gives_up pushed reading.begins_selector refl (reading.selector_in (reading.values c.args.levels)) c.loop-self.invariant.0 c.loop-self.self.rest.now
+    (map selector_tree c.loop-self.all.items) _
+    (reading.selectors_in (reading.values c.args.levels) c.args.self.now.rest.now) (sym c.at_selector.ensures ∙ c.loop-self-test.true) c.in_err-next.ensures
+    c.loop-self.invariant.1 c.loop-self.invariant.2)
 
 pub elsif_values-loop-self-init : goal.elsif_values-loop-self-init
 elsif_values-loop-self-init t c =
-    many_starts (is_word words.Elsif) (reading.elsif_value_in (reading.values_at c.args.levels)) c.args.self.now.rest.now _ (map_none elsif_value_tree _ c.new-all.ensures.items)
+    many_starts (is_word words.Elsif) (reading.elsif_value_in (reading.values_at c.args.levels)) c.args.self.now.rest.now _
+    (map_none elsif_value_tree _ c.new-all.ensures.items)
 
 pub elsif_values-loop-self-smaller : goal.elsif_values-loop-self-smaller
 elsif_values-loop-self-smaller t c = elsif_smaller c.args.levels c.loop-self.self.rest.now _ _ c.in_ok-next.ensures
 
 pub elsif_values-loop-self-preserved : goal.elsif_values-loop-self-preserved
 elsif_values-loop-self-preserved t c =
-    goes pushed (is_word words.Elsif) refl (reading.elsif_value_in (reading.values_at c.args.levels)) c.loop-self.invariant.0 c.loop-self.self.rest.now (map elsif_value_tree c.loop-self.all.items) (elsif_value_tree c.in_ok-next.next) _
-    (reading.elsif_values_in (reading.values_at c.args.levels) c.args.self.now.rest.now) _ (map_pushed elsif_value_tree _ _ c.in_ok-next.next c.in_ok-push.ensures.items)
+    goes pushed (is_word words.Elsif) refl (reading.elsif_value_in (reading.values_at c.args.levels)) c.loop-self.invariant.0 c.loop-self.self.rest.now
+    (map elsif_value_tree c.loop-self.all.items) (elsif_value_tree c.in_ok-next.next) _
+    (reading.elsif_values_in (reading.values_at c.args.levels) c.args.self.now.rest.now) _
+    (map_pushed elsif_value_tree _ _ c.in_ok-next.next c.in_ok-push.ensures.items)
     (sym c.at_word.ensures ∙ c.loop-self-test.true) c.in_ok-next.ensures
     (elsif_smaller c.args.levels c.loop-self.self.rest.now _ _ c.in_ok-next.ensures) c.loop-self.invariant.1 c.loop-self.invariant.2
 
 pub elsif_values-returns : goal.elsif_values-returns
 elsif_values-returns t c =
-    ends pushed (is_word words.Elsif) refl (reading.elsif_value_in (reading.values_at c.args.levels)) c.loop-self.invariant.0 c.loop-self.self.rest.now (map elsif_value_tree c.loop-self.all.items)
-    (reading.elsif_values_in (reading.values_at c.args.levels) c.args.self.now.rest.now) (sym c.at_word.ensures ∙ c.loop-self-test.false) c.loop-self.invariant.2
+    ends pushed (is_word words.Elsif) refl (reading.elsif_value_in (reading.values_at c.args.levels)) c.loop-self.invariant.0 c.loop-self.self.rest.now
+    (map elsif_value_tree c.loop-self.all.items)
+    (reading.elsif_values_in (reading.values_at c.args.levels) c.args.self.now.rest.now) (sym c.at_word.ensures ∙ c.loop-self-test.false)
+    c.loop-self.invariant.2
 
 pub elsif_values-returns-in_err-next : goal.elsif_values-returns-in_err-next
 elsif_values-returns-in_err-next t c =
-    handed_on (λ all. map elsif_value_tree all.items) _ _ (reading.elsif_values_in (reading.values_at c.args.levels) c.args.self.now.rest.now) _ c.from_residual.ensures.1
-    (gives_up pushed (is_word words.Elsif) refl (reading.elsif_value_in (reading.values_at c.args.levels)) c.loop-self.invariant.0 c.loop-self.self.rest.now (map elsif_value_tree c.loop-self.all.items) _
-    (reading.elsif_values_in (reading.values_at c.args.levels) c.args.self.now.rest.now) (sym c.at_word.ensures ∙ c.loop-self-test.true) c.in_err-next.ensures c.loop-self.invariant.1 c.loop-self.invariant.2)
+    handed_on (λ all. map elsif_value_tree all.items) _ _ (reading.elsif_values_in (reading.values_at c.args.levels) c.args.self.now.rest.now) _
+    c.from_residual.ensures.1
+    (gives_up pushed (is_word words.Elsif) refl (reading.elsif_value_in (reading.values_at c.args.levels)) c.loop-self.invariant.0 c.loop-self.self.rest.now
+    (map elsif_value_tree c.loop-self.all.items) _
+    (reading.elsif_values_in (reading.values_at c.args.levels) c.args.self.now.rest.now) (sym c.at_word.ensures ∙ c.loop-self-test.true) c.in_err-next.ensures
+    c.loop-self.invariant.1 c.loop-self.invariant.2)
 
 -- ---- chains
 
@@ -97,23 +117,30 @@ term-returns-in_err-left t c = search rules
 pub term-loop-operator-init : goal.term-loop-operator-init
 unfolding term_in
 term-loop-operator-init t c =
-    fold_starts reading.joined (reading.begins reading.multiplying) (seq (reading.operator_of reading.multiplying) (reading.factor_in (reading.values c.args.levels))) (reading.factor_in (reading.values c.args.levels)) c.args.self.now.rest.now _ _ c.in_ok-left.ensures
+    fold_starts reading.joined (reading.begins reading.multiplying)
+    (seq (reading.operator_of reading.multiplying) (reading.factor_in (reading.values c.args.levels))) (reading.factor_in (reading.values c.args.levels))
+    c.args.self.now.rest.now _ _ c.in_ok-left.ensures
 
 pub term-loop-operator-smaller : goal.term-loop-operator-smaller
 term-loop-operator-smaller t c =
     let k = c.args.levels in
     operator_smaller reading.multiplying c.loop-operator.self.rest.now c.in-Some.operator c.pass.new.self.rest.now _ c.in-Some.ensures c.pass.ensures
-    (no_longer (reading.factor_in (reading.values k)) (derives Factor (Some k)) (λ _. Ends reading.starts_selector) c.pass.new.self.rest.now _ _ (exact_factor k (reading.values k) (below k)) c.in_ok-right.ensures)
+    (no_longer (reading.factor_in (reading.values k)) (derives Factor (Some k)) (λ _. Ends reading.starts_selector) c.pass.new.self.rest.now _ _
+    (exact_factor k (reading.values k) (below k)) c.in_ok-right.ensures)
 
 pub term-loop-operator-preserved : goal.term-loop-operator-preserved
 term-loop-operator-preserved t c =
     let k = c.args.levels in
     let a = reading.factor_in (reading.values k) in
-    goes reading.joined (reading.begins reading.multiplying) refl (seq (reading.operator_of reading.multiplying) a) c.loop-operator.invariant.0 c.loop-operator.self.rest.now (expr_tree c.loop-operator.left) (c.in-Some.operator, expr_tree c.in_ok-right.right) _
-    (reading.term_in (reading.values k) c.args.self.now.rest.now) _ c.in_ok-left-2.ensures (operator_begins reading.multiplying c.loop-operator.self.rest.now c.in-Some.operator c.in-Some.ensures)
-    (operator_read reading.multiplying a c.loop-operator.self.rest.now c.in-Some.operator c.pass.new.self.rest.now _ _ c.in-Some.ensures c.pass.ensures c.in_ok-right.ensures)
+    goes reading.joined (reading.begins reading.multiplying) refl (seq (reading.operator_of reading.multiplying) a) c.loop-operator.invariant.0
+    c.loop-operator.self.rest.now (expr_tree c.loop-operator.left) (c.in-Some.operator, expr_tree c.in_ok-right.right) _
+    (reading.term_in (reading.values k) c.args.self.now.rest.now) _ c.in_ok-left-2.ensures
+    (operator_begins reading.multiplying c.loop-operator.self.rest.now c.in-Some.operator c.in-Some.ensures)
+    (operator_read reading.multiplying a c.loop-operator.self.rest.now c.in-Some.operator c.pass.new.self.rest.now _ _ c.in-Some.ensures c.pass.ensures
+    c.in_ok-right.ensures)
     (operator_smaller reading.multiplying c.loop-operator.self.rest.now c.in-Some.operator c.pass.new.self.rest.now _ c.in-Some.ensures c.pass.ensures
-    (no_longer a (derives Factor (Some k)) (λ _. Ends reading.starts_selector) c.pass.new.self.rest.now _ _ (exact_factor k (reading.values k) (below k)) c.in_ok-right.ensures))
+    (no_longer a (derives Factor (Some k)) (λ _. Ends reading.starts_selector) c.pass.new.self.rest.now _ _ (exact_factor k (reading.values k) (below k))
+    c.in_ok-right.ensures))
     c.loop-operator.invariant.1 c.loop-operator.invariant.2
 
 pub simple-returns-in_err-left : goal.simple-returns-in_err-left
@@ -124,62 +151,84 @@ pub simple-loop-operator-init : goal.simple-loop-operator-init
 unfolding simple_in
 simple-loop-operator-init t c =
     let a = reading.term_in (reading.values c.args.levels) in
-    fold_starts reading.joined (reading.begins reading.adding) (seq (reading.operator_of reading.adding) a) (reading.prefixed reading.sign a) c.args.self.now.rest.now _ _ c.in_ok-left.ensures
+    fold_starts reading.joined (reading.begins reading.adding) (seq (reading.operator_of reading.adding) a) (reading.prefixed reading.sign a)
+    c.args.self.now.rest.now _ _ c.in_ok-left.ensures
 
 pub simple-loop-operator-smaller : goal.simple-loop-operator-smaller
 simple-loop-operator-smaller t c =
     let k = c.args.levels in
     operator_smaller reading.adding c.loop-operator.self.rest.now c.in-Some.operator c.pass.new.self.rest.now _ c.in-Some.ensures c.pass.ensures
-    (no_longer (reading.term_in (reading.values k)) (derives Term (Some k)) (λ _. Ends continues_term) c.pass.new.self.rest.now _ _ (exact_term k (reading.values k) (below k)) c.in_ok-right.ensures)
+    (no_longer (reading.term_in (reading.values k)) (derives Term (Some k)) (λ _. Ends continues_term) c.pass.new.self.rest.now _ _
+    (exact_term k (reading.values k) (below k)) c.in_ok-right.ensures)
 
 pub simple-loop-operator-preserved : goal.simple-loop-operator-preserved
 simple-loop-operator-preserved t c =
     let k = c.args.levels in
     let a = reading.term_in (reading.values k) in
-    goes reading.joined (reading.begins reading.adding) refl (seq (reading.operator_of reading.adding) a) c.loop-operator.invariant.0 c.loop-operator.self.rest.now (expr_tree c.loop-operator.left) (c.in-Some.operator, expr_tree c.in_ok-right.right) _
-    (reading.simple_in (reading.values k) c.args.self.now.rest.now) _ c.in_ok-left-2.ensures (operator_begins reading.adding c.loop-operator.self.rest.now c.in-Some.operator c.in-Some.ensures)
-    (operator_read reading.adding a c.loop-operator.self.rest.now c.in-Some.operator c.pass.new.self.rest.now _ _ c.in-Some.ensures c.pass.ensures c.in_ok-right.ensures)
+    goes reading.joined (reading.begins reading.adding) refl (seq (reading.operator_of reading.adding) a) c.loop-operator.invariant.0
+    c.loop-operator.self.rest.now (expr_tree c.loop-operator.left) (c.in-Some.operator, expr_tree c.in_ok-right.right) _
+    (reading.simple_in (reading.values k) c.args.self.now.rest.now) _ c.in_ok-left-2.ensures
+    (operator_begins reading.adding c.loop-operator.self.rest.now c.in-Some.operator c.in-Some.ensures)
+    (operator_read reading.adding a c.loop-operator.self.rest.now c.in-Some.operator c.pass.new.self.rest.now _ _ c.in-Some.ensures c.pass.ensures
+    c.in_ok-right.ensures)
     (operator_smaller reading.adding c.loop-operator.self.rest.now c.in-Some.operator c.pass.new.self.rest.now _ c.in-Some.ensures c.pass.ensures
-    (no_longer a (derives Term (Some k)) (λ _. Ends continues_term) c.pass.new.self.rest.now _ _ (exact_term k (reading.values k) (below k)) c.in_ok-right.ensures))
+    (no_longer a (derives Term (Some k)) (λ _. Ends continues_term) c.pass.new.self.rest.now _ _ (exact_term k (reading.values k) (below k))
+    c.in_ok-right.ensures))
     c.loop-operator.invariant.1 c.loop-operator.invariant.2
 
 pub chain-loop-operator-smaller : goal.chain-loop-operator-smaller
-chain-loop-operator-smaller t c = logical_smaller c.args.levels c.args.operator c.loop-operator.self.rest.now _ _ _ c.in_ok-repeated.ensures c.in_ok-right-2.ensures
+chain-loop-operator-smaller t c =
+    logical_smaller c.args.levels c.args.operator c.loop-operator.self.rest.now _ _ _ c.in_ok-repeated.ensures c.in_ok-right-2.ensures
 
 pub chain-loop-operator-preserved : goal.chain-loop-operator-preserved
 chain-loop-operator-preserved t c =
     let k = c.args.levels in
     let o = c.args.operator in
     let a = reading.relation_in (reading.values k) in
-    goes (reading.operated o) (is_word (reading.first_word o)) refl (mapped (λ x. x.1) (seq (reading.repeated o) a)) c.loop-operator.invariant.0 c.loop-operator.self.rest.now (expr_tree c.loop-operator.all) (expr_tree c.in_ok-right-2.right) _
-    (reading.logical_chain (reading.values k) (expr_tree c.args.left) o c.args.self.now.rest.now) _ c.in_ok-all-2.ensures (ap (λ w. is_word w (first c.loop-operator.self.rest.now)) (sym c.first_word.ensures) ∙ sym c.at_word.ensures ∙ c.loop-operator-test.true)
-    (both_read (λ x. x.1) (reading.repeated o) a c.loop-operator.self.rest.now _ _ tt (expr_tree c.in_ok-right-2.right) c.in_ok-repeated.ensures c.in_ok-right-2.ensures)
-    (logical_smaller k o c.loop-operator.self.rest.now _ _ _ c.in_ok-repeated.ensures c.in_ok-right-2.ensures) c.loop-operator.invariant.1 c.loop-operator.invariant.2
+    goes (reading.operated o) (is_word (reading.first_word o)) refl (mapped (λ x. x.1) (seq (reading.repeated o) a)) c.loop-operator.invariant.0
+    c.loop-operator.self.rest.now (expr_tree c.loop-operator.all) (expr_tree c.in_ok-right-2.right) _
+    (reading.logical_chain (reading.values k) (expr_tree c.args.left) o c.args.self.now.rest.now) _ c.in_ok-all-2.ensures
+    (ap (λ w. is_word w (first c.loop-operator.self.rest.now)) (sym c.first_word.ensures) ∙ sym c.at_word.ensures ∙ c.loop-operator-test.true)
+    (both_read (λ x. x.1) (reading.repeated o) a c.loop-operator.self.rest.now _ _ tt (expr_tree c.in_ok-right-2.right) c.in_ok-repeated.ensures
+    c.in_ok-right-2.ensures)
+    (logical_smaller k o c.loop-operator.self.rest.now _ _ _ c.in_ok-repeated.ensures c.in_ok-right-2.ensures) c.loop-operator.invariant.1
+    c.loop-operator.invariant.2
 
 pub chain-returns : goal.chain-returns
 chain-returns t c =
     let k = c.args.levels in
     let o = c.args.operator in
     let a = reading.relation_in (reading.values k) in
-    ends (reading.operated o) (is_word (reading.first_word o)) refl (mapped (λ x. x.1) (seq (reading.repeated o) a)) c.loop-operator.invariant.0 c.loop-operator.self.rest.now (expr_tree c.loop-operator.all)
-    (reading.logical_chain (reading.values k) (expr_tree c.args.left) o c.args.self.now.rest.now) (ap (λ w. is_word w (first c.loop-operator.self.rest.now)) (sym c.first_word.ensures) ∙ sym c.at_word.ensures ∙ c.loop-operator-test.false) c.loop-operator.invariant.2
+    ends (reading.operated o) (is_word (reading.first_word o)) refl (mapped (λ x. x.1) (seq (reading.repeated o) a)) c.loop-operator.invariant.0
+    c.loop-operator.self.rest.now (expr_tree c.loop-operator.all)
+    (reading.logical_chain (reading.values k) (expr_tree c.args.left) o c.args.self.now.rest.now)
+    (ap (λ w. is_word w (first c.loop-operator.self.rest.now)) (sym c.first_word.ensures) ∙ sym c.at_word.ensures ∙ c.loop-operator-test.false)
+    c.loop-operator.invariant.2
 
 pub chain-returns-in_err-repeated : goal.chain-returns-in_err-repeated
 chain-returns-in_err-repeated t c =
     let k = c.args.levels in
     let o = c.args.operator in
     let a = reading.relation_in (reading.values k) in
-    handed_on expr_tree _ _ (reading.logical_chain (reading.values k) (expr_tree c.args.left) o c.args.self.now.rest.now) _ c.from_residual-in_err-repeated.ensures.1
-    (gives_up (reading.operated o) (is_word (reading.first_word o)) refl (mapped (λ x. x.1) (seq (reading.repeated o) a)) c.loop-operator.invariant.0 c.loop-operator.self.rest.now (expr_tree c.loop-operator.all) _
-    (reading.logical_chain (reading.values k) (expr_tree c.args.left) o c.args.self.now.rest.now) (ap (λ w. is_word w (first c.loop-operator.self.rest.now)) (sym c.first_word.ensures) ∙ sym c.at_word.ensures ∙ c.loop-operator-test.true)
-    (first_fails (λ x. x.1) (reading.repeated o) a c.loop-operator.self.rest.now _ c.in_err-repeated.ensures) c.loop-operator.invariant.1 c.loop-operator.invariant.2)
+    handed_on expr_tree _ _ (reading.logical_chain (reading.values k) (expr_tree c.args.left) o c.args.self.now.rest.now) _
+    c.from_residual-in_err-repeated.ensures.1
+    (gives_up (reading.operated o) (is_word (reading.first_word o)) refl (mapped (λ x. x.1) (seq (reading.repeated o) a)) c.loop-operator.invariant.0
+    c.loop-operator.self.rest.now (expr_tree c.loop-operator.all) _
+    (reading.logical_chain (reading.values k) (expr_tree c.args.left) o c.args.self.now.rest.now)
+    (ap (λ w. is_word w (first c.loop-operator.self.rest.now)) (sym c.first_word.ensures) ∙ sym c.at_word.ensures ∙ c.loop-operator-test.true)
+    (first_fails (λ x. x.1) (reading.repeated o) a c.loop-operator.self.rest.now _ c.in_err-repeated.ensures) c.loop-operator.invariant.1
+    c.loop-operator.invariant.2)
 
 pub chain-returns-in_err-right-2 : goal.chain-returns-in_err-right-2
 chain-returns-in_err-right-2 t c =
     let k = c.args.levels in
     let o = c.args.operator in
     let a = reading.relation_in (reading.values k) in
-    handed_on expr_tree _ _ (reading.logical_chain (reading.values k) (expr_tree c.args.left) o c.args.self.now.rest.now) _ c.from_residual-in_err-right-2.ensures.1
-    (gives_up (reading.operated o) (is_word (reading.first_word o)) refl (mapped (λ x. x.1) (seq (reading.repeated o) a)) c.loop-operator.invariant.0 c.loop-operator.self.rest.now (expr_tree c.loop-operator.all) _
-    (reading.logical_chain (reading.values k) (expr_tree c.args.left) o c.args.self.now.rest.now) (ap (λ w. is_word w (first c.loop-operator.self.rest.now)) (sym c.first_word.ensures) ∙ sym c.at_word.ensures ∙ c.loop-operator-test.true)
-    (second_fails (λ x. x.1) (reading.repeated o) a c.loop-operator.self.rest.now _ tt _ c.in_ok-repeated.ensures c.in_err-right-2.ensures) c.loop-operator.invariant.1 c.loop-operator.invariant.2)
+    handed_on expr_tree _ _ (reading.logical_chain (reading.values k) (expr_tree c.args.left) o c.args.self.now.rest.now) _
+    c.from_residual-in_err-right-2.ensures.1
+    (gives_up (reading.operated o) (is_word (reading.first_word o)) refl (mapped (λ x. x.1) (seq (reading.repeated o) a)) c.loop-operator.invariant.0
+    c.loop-operator.self.rest.now (expr_tree c.loop-operator.all) _
+    (reading.logical_chain (reading.values k) (expr_tree c.args.left) o c.args.self.now.rest.now)
+    (ap (λ w. is_word w (first c.loop-operator.self.rest.now)) (sym c.first_word.ensures) ∙ sym c.at_word.ensures ∙ c.loop-operator-test.true)
+    (second_fails (λ x. x.1) (reading.repeated o) a c.loop-operator.self.rest.now _ tt _ c.in_ok-repeated.ensures c.in_err-right-2.ensures)
+    c.loop-operator.invariant.1 c.loop-operator.invariant.2)

@@ -4,7 +4,7 @@ use Rattle.lexer.specs.declared.word.Word.TheVariants as words
 use Rattle.ada_tree.specs.ExpressionTree.{expr_tree, selector_tree, argument_tree, elsif_value_tree}
 use Rattle.parser.specs.Reading.{is_word, is_mark, seq, mapped, skip_mark}
 use Rattle.parser.specs.ExpressionReading as reading
-use Rattle.parser.proofs.Loops.{still, pushed}
+use Rattle.parser.proofs.general.Loops.{still, pushed}
 use Rattle.parser.proofs.parser.Parser.+expression.Given as goal
 
 abbrev pub decreases-arguments : goal.decreases-arguments
@@ -75,42 +75,56 @@ decreases-enclosed l = 22 * l.levels + 21
 
 abbrev pub invariant-argument_list-loop-self : goal.invariant-argument_list-loop-self
 invariant-argument_list-loop-self l =
-    (n : ℕ) × (length l.self.rest.now ≤ n) × (still pushed (is_mark marks.Comma) (mapped (λ x. x.1) (seq (skip_mark marks.Comma) (reading.argument_in (reading.values_at l.levels)))) n (map argument_tree l.all.items) l.self.rest.now ≡ reading.arguments_list (reading.values_at l.levels) l.fn.self.rest.now)
+    (n : ℕ) × (length l.self.rest.now ≤ n)
+    × (still pushed (is_mark marks.Comma) (mapped (λ x. x.1) (seq (skip_mark marks.Comma) (reading.argument_in (reading.values_at l.levels)))) n
+    (map argument_tree l.all.items) l.self.rest.now ≡ reading.arguments_list (reading.values_at l.levels) l.fn.self.rest.now)
 
 abbrev pub decreases-argument_list-loop-self : goal.decreases-argument_list-loop-self
 decreases-argument_list-loop-self l = length l.self.rest.now
 
 abbrev pub invariant-selectors-loop-self : goal.invariant-selectors-loop-self
 invariant-selectors-loop-self l =
-    (n : ℕ) × (length l.self.rest.now ≤ n) × (still pushed reading.begins_selector (reading.selector_in (reading.values l.levels)) n (map selector_tree l.all.items) l.self.rest.now ≡ reading.selectors_in (reading.values l.levels) l.fn.self.rest.now)
+    (n : ℕ) × (length l.self.rest.now ≤ n)
+    × (still pushed reading.begins_selector (reading.selector_in (reading.values l.levels)) n (map selector_tree l.all.items) l.self.rest.now
+    ≡ reading.selectors_in (reading.values l.levels) l.fn.self.rest.now)
 
 abbrev pub decreases-selectors-loop-self : goal.decreases-selectors-loop-self
 decreases-selectors-loop-self l = length l.self.rest.now
 
 abbrev pub invariant-elsif_values-loop-self : goal.invariant-elsif_values-loop-self
 invariant-elsif_values-loop-self l =
-    (n : ℕ) × (length l.self.rest.now ≤ n) × (still pushed (is_word words.Elsif) (reading.elsif_value_in (reading.values_at l.levels)) n (map elsif_value_tree l.all.items) l.self.rest.now ≡ reading.elsif_values_in (reading.values_at l.levels) l.fn.self.rest.now)
+    (n : ℕ) × (length l.self.rest.now ≤ n)
+    × (still pushed (is_word words.Elsif) (reading.elsif_value_in (reading.values_at l.levels)) n (map elsif_value_tree l.all.items) l.self.rest.now
+    ≡ reading.elsif_values_in (reading.values_at l.levels) l.fn.self.rest.now)
 
 abbrev pub decreases-elsif_values-loop-self : goal.decreases-elsif_values-loop-self
 decreases-elsif_values-loop-self l = length l.self.rest.now
 
 abbrev pub invariant-term-loop-operator : goal.invariant-term-loop-operator
 invariant-term-loop-operator l =
-    (n : ℕ) × (length l.self.rest.now ≤ n) × (still reading.joined (reading.begins reading.multiplying) (seq (reading.operator_of reading.multiplying) (reading.factor_in (reading.values l.levels))) n (expr_tree l.left) l.self.rest.now ≡ reading.term_in (reading.values l.levels) l.fn.self.rest.now)
+    (n : ℕ) × (length l.self.rest.now ≤ n)
+    × (still reading.joined (reading.begins reading.multiplying)
+    (seq (reading.operator_of reading.multiplying) (reading.factor_in (reading.values l.levels))) n (expr_tree l.left) l.self.rest.now
+    ≡ reading.term_in (reading.values l.levels) l.fn.self.rest.now)
 
 abbrev pub decreases-term-loop-operator : goal.decreases-term-loop-operator
 decreases-term-loop-operator l = length l.self.rest.now
 
 abbrev pub invariant-simple-loop-operator : goal.invariant-simple-loop-operator
 invariant-simple-loop-operator l =
-    (n : ℕ) × (length l.self.rest.now ≤ n) × (still reading.joined (reading.begins reading.adding) (seq (reading.operator_of reading.adding) (reading.term_in (reading.values l.levels))) n (expr_tree l.left) l.self.rest.now ≡ reading.simple_in (reading.values l.levels) l.fn.self.rest.now)
+    (n : ℕ) × (length l.self.rest.now ≤ n)
+    × (still reading.joined (reading.begins reading.adding) (seq (reading.operator_of reading.adding) (reading.term_in (reading.values l.levels))) n
+    (expr_tree l.left) l.self.rest.now ≡ reading.simple_in (reading.values l.levels) l.fn.self.rest.now)
 
 abbrev pub decreases-simple-loop-operator : goal.decreases-simple-loop-operator
 decreases-simple-loop-operator l = length l.self.rest.now
 
 abbrev pub invariant-chain-loop-operator : goal.invariant-chain-loop-operator
 invariant-chain-loop-operator l =
-    (n : ℕ) × (length l.self.rest.now ≤ n) × (still (reading.operated l.operator) (is_word (reading.first_word l.operator)) (mapped (λ x. x.1) (seq (reading.repeated l.operator) (reading.relation_in (reading.values l.levels)))) n (expr_tree l.all) l.self.rest.now ≡ reading.logical_chain (reading.values l.levels) (expr_tree l.fn.left) l.operator l.fn.self.rest.now)
+    (n : ℕ) × (length l.self.rest.now ≤ n)
+    × (still (reading.operated l.operator) (is_word (reading.first_word l.operator))
+    (mapped (λ x. x.1) (seq (reading.repeated l.operator) (reading.relation_in (reading.values l.levels)))) n (expr_tree l.all) l.self.rest.now
+    ≡ reading.logical_chain (reading.values l.levels) (expr_tree l.fn.left) l.operator l.fn.self.rest.now)
 
 abbrev pub decreases-chain-loop-operator : goal.decreases-chain-loop-operator
 decreases-chain-loop-operator l = length l.self.rest.now

@@ -1,23 +1,32 @@
 use Rattle.std.proofs.Common.{rules, sym, ◌∙◌}
 use Rattle.ada_tree.specs.ProgramTree.{item_tree}
 use Rattle.parser.specs.ProgramReading.{begins_item, item_at}
-use Rattle.parser.proofs.Lists.{list_starts_empty, list_goes, list_ends, list_fails}
-use Rattle.parser.proofs.Programs.{item_turns}
+use Rattle.parser.proofs.general.Lists.{list_starts_empty, list_goes, list_ends, list_fails}
+use Rattle.parser.proofs.programs.Programs.{item_turns}
 use Rattle.parser.proofs.parser.Parser.item_list.Goals as goal
 
 pub loop-self-init : goal.loop-self-init
-loop-self-init c = list_starts_empty item_tree begins_item (item_at c.args.levels) (item_turns c.args.levels) c.args.self.now.rest.now c.new-all.result.items c.new-all.ensures.items
+loop-self-init c =
+    list_starts_empty item_tree begins_item (item_at c.args.levels) (item_turns c.args.levels) c.args.self.now.rest.now c.new-all.result.items
+    c.new-all.ensures.items
 
 pub returns-in_err-next : goal.returns-in_err-next
 returns-in_err-next c =
-    let failed = list_fails item_tree begins_item (item_at c.args.levels) (item_turns c.args.levels) c.loop-self.invariant.0 c.loop-self.self.rest.now c.loop-self.all.items _ _ (sym c.at_item.ensures ∙ c.loop-self-test.true) c.in_err-next.ensures c.loop-self.invariant.1 c.loop-self.invariant.2 in search rules
+    let failed =
+    list_fails item_tree begins_item (item_at c.args.levels) (item_turns c.args.levels) c.loop-self.invariant.0 c.loop-self.self.rest.now
+    c.loop-self.all.items _ _ (sym c.at_item.ensures ∙ c.loop-self-test.true) c.in_err-next.ensures c.loop-self.invariant.1 c.loop-self.invariant.2 in
+    search rules
 
 pub loop-self-smaller : goal.loop-self-smaller
 loop-self-smaller c = ((item_turns c.args.levels)).shrinks c.loop-self.self.rest.now _ _ c.in_ok-next.ensures
 
 pub loop-self-preserved : goal.loop-self-preserved
 loop-self-preserved c =
-    list_goes item_tree begins_item (item_at c.args.levels) (item_turns c.args.levels) c.loop-self.invariant.0 c.loop-self.self.rest.now c.loop-self.all.items _ c.in_ok-next.next _ _ c.in_ok-push.ensures.items (sym c.at_item.ensures ∙ c.loop-self-test.true) c.in_ok-next.ensures c.loop-self.invariant.1 c.loop-self.invariant.2
+    list_goes item_tree begins_item (item_at c.args.levels) (item_turns c.args.levels) c.loop-self.invariant.0 c.loop-self.self.rest.now c.loop-self.all.items _
+    c.in_ok-next.next _ _ c.in_ok-push.ensures.items (sym c.at_item.ensures ∙ c.loop-self-test.true) c.in_ok-next.ensures c.loop-self.invariant.1
+    c.loop-self.invariant.2
 
 pub returns : goal.returns
-returns c = list_ends item_tree begins_item (item_at c.args.levels) (item_turns c.args.levels) c.loop-self.invariant.0 c.loop-self.self.rest.now c.loop-self.all.items _ (sym c.at_item.ensures ∙ c.loop-self-test.false) c.loop-self.invariant.2
+returns c =
+    list_ends item_tree begins_item (item_at c.args.levels) (item_turns c.args.levels) c.loop-self.invariant.0 c.loop-self.self.rest.now c.loop-self.all.items _
+    (sym c.at_item.ensures ∙ c.loop-self-test.false) c.loop-self.invariant.2

@@ -2,11 +2,14 @@ use Rattle.std.proofs.Common.{◌≡◌, ℕ, ◌≤◌, length, map}
 use Rattle.ada_tree.specs.ProgramTree.{protected_item_tree}
 use Rattle.parser.specs.ProgramReading.{protected_item_at, protected_item_list_at}
 use Rattle.parser.specs.DeclarationReading.{begins_operation}
-use Rattle.parser.proofs.Loops.{still, pushed}
+use Rattle.parser.proofs.general.Loops.{still, pushed}
 use Rattle.parser.proofs.parser.Parser.protected_item_list.Given as goal
 
 abbrev pub invariant-loop-self : goal.invariant-loop-self
-invariant-loop-self l = (n : ℕ) × (length l.self.rest.now ≤ n) × (still pushed begins_operation (protected_item_at l.levels) n (map protected_item_tree l.all.items) l.self.rest.now ≡ protected_item_list_at l.levels l.fn.self.rest.now)
+invariant-loop-self l =
+    (n : ℕ) × (length l.self.rest.now ≤ n)
+    × (still pushed begins_operation (protected_item_at l.levels) n (map protected_item_tree l.all.items) l.self.rest.now
+    ≡ protected_item_list_at l.levels l.fn.self.rest.now)
 
 abbrev pub decreases-loop-self : goal.decreases-loop-self
 decreases-loop-self l = length l.self.rest.now

@@ -1,5 +1,7 @@
 -- The laws over whole token lists.
-use Rattle.std.proofs.Common.{◌≡◌, ℕ, suc, ◌-◌, ◌≤◌, Bool, true, false, cond, [], ◌∷◌, ◌++◌, length, drop, get_or, Some, Result, Ok, Err, refl, sym, ap, subst, ◌∙◌, arith, append-nil, inl, inr, ◌⊎◌, length-append}
+use Rattle.parser.specs.declared.refusal.Refusal.TheVariants as refusals
+use Rattle.std.proofs.Common.{◌≡◌, ℕ, suc, ◌-◌, ◌≤◌, Bool, true, false, cond, [], ◌∷◌, ◌++◌, length, drop, get_or, Some, Result, Ok, Err, refl, sym, ap, subst}
+use Rattle.std.proofs.Common.{◌∙◌, arith, append-nil, inl, inr, ◌⊎◌, length-append}
 use Rattle.std.specs.Prelude.{IfOk, IfErr}
 use Rattle.lexer.specs.declared.token.Token.{Token}
 use Rattle.ada_tree.specs.declared.program.Program.{Program}
@@ -9,14 +11,14 @@ use Rattle.ada_tree.specs.ProgramGrammar.{program}
 use Rattle.ada_tree.specs.Laws.{LimitIsDepth}
 use Rattle.parser.specs.declared.refusal.Broken.{Broken}
 use Rattle.parser.specs.declared.refusal.Refusal.{Refusal}
-use Rattle.parser.specs.declared.refusal.Refusal.TheVariants as refusals
 use Rattle.parser.specs.Levels.{opens, openers}
 use Rattle.parser.specs.Reading.{first, Gives, is_next}
 use Rattle.parser.specs.ProgramReading.{whole_at}
-use Rattle.parser.specs.Parsing.{Derives, Gave, end_of, place_behind, NoneBegins, IsFaulty, IsRefusal, IsTooDeep, HasOneTree, start_or, place_at, fault_of, answer_of}
-use Rattle.parser.proofs.Exact.{ok_is, ok_not_err}
-use Rattle.parser.proofs.Programs.{whole_exact}
-use Rattle.parser.proofs.DeepPrograms.{deep_whole}
+use Rattle.parser.specs.Parsing.{Derives, Gave, end_of, place_behind, NoneBegins, IsFaulty, IsRefusal, IsTooDeep, HasOneTree, start_or, place_at, fault_of}
+use Rattle.parser.specs.Parsing.{answer_of}
+use Rattle.parser.proofs.general.Exact.{ok_is, ok_not_err}
+use Rattle.parser.proofs.programs.Programs.{whole_exact}
+use Rattle.parser.proofs.programs.DeepPrograms.{deep_whole}
 
 module _ (limit : LimitIsDepth) where
   pub whole_sound : (ts : Tokens) (t : ProgramTree) → whole_at 40 ts ≡ Ok (t, []) → Derives t ts
@@ -34,7 +36,8 @@ module _ (limit : LimitIsDepth) where
   never : (ts : Tokens) (t : ProgramTree) (f : Broken) → Derives t ts → whole_at 40 ts ≡ Err f → ⊥
   never ts t f d e = ok_not_err (t, []) f (sym (whole_complete ts t d) ∙ e)
 
-  none_begins : (front back : Tokens) (f : Tokens → Broken) → ((g : Tokens) → first g ≡ first back → whole_at 40 (front ++ g) ≡ Err (f g)) → NoneBegins front back
+  none_begins : (front back : Tokens) (f : Tokens → Broken) → ((g : Tokens) → first g ≡ first back → whole_at 40 (front ++ g) ≡ Err (f g))
+      → NoneBegins front back
   none_begins front [] f again = λ t d. never front t (f []) d (ap (whole_at 40) (sym (append-nil front)) ∙ again [] refl)
   none_begins front (x ∷ rest) f again = λ t more d. never (front ++ (x ∷ more)) t (f (x ∷ more)) d (again (x ∷ more) refl)
 
@@ -98,17 +101,20 @@ first_fault limit ts b e =
 
 -- ---- the clauses
 
-pub is_found : LimitIsDepth → (ts : Tokens) (r : Result Program Refusal) → Gives program_tree r [] (whole_at 40 ts) → IfOk (answer_of ts r) (λ p. Derives (program_tree p) ts)
+pub is_found : LimitIsDepth → (ts : Tokens) (r : Result Program Refusal) → Gives program_tree r [] (whole_at 40 ts)
+    → IfOk (answer_of ts r) (λ p. Derives (program_tree p) ts)
 is_found limit ts (Ok p) h = whole_sound limit ts (program_tree p) h
 is_found limit ts (Err refusals.Memory) h = tt
 is_found limit ts (Err (refusals.Broken b)) h = tt
 
-pub is_only : LimitIsDepth → (ts : Tokens) (r : Result Program Refusal) → Gives program_tree r [] (whole_at 40 ts) → (t : ProgramTree) → Derives t ts → Gave (answer_of ts r) t
+pub is_only : LimitIsDepth → (ts : Tokens) (r : Result Program Refusal) → Gives program_tree r [] (whole_at 40 ts) → (t : ProgramTree) → Derives t ts
+    → Gave (answer_of ts r) t
 is_only limit ts (Ok p) h t d = ap (λ (x : ProgramTree × Tokens). x.0) (ok_is (program_tree p, []) (t, []) (sym h ∙ whole_complete limit ts t d))
 is_only limit ts (Err refusals.Memory) h t d = refl
 is_only limit ts (Err (refusals.Broken b)) h t d = absurd (never limit ts t b d h)
 
-pub is_refusal : LimitIsDepth → (ts : Tokens) (r : Result Program Refusal) → Gives program_tree r [] (whole_at 40 ts) → IfErr (answer_of ts r) (λ f. IsRefusal ts f)
+pub is_refusal : LimitIsDepth → (ts : Tokens) (r : Result Program Refusal) → Gives program_tree r [] (whole_at 40 ts)
+    → IfErr (answer_of ts r) (λ f. IsRefusal ts f)
 is_refusal limit ts (Ok p) h = tt
 is_refusal limit ts (Err refusals.Memory) h = inl refl
 is_refusal limit ts (Err (refusals.Broken b)) h = inr (first_fault limit ts b h)

@@ -1,12 +1,15 @@
 -- A fault of depth stands at a token that opens a level, behind enough of them.
-use Rattle.std.proofs.Common.{◌≡◌, ℕ, zero, suc, ◌+◌, ◌≤◌, Bool, true, false, cond, List, [], ◌∷◌, ◌++◌, length, Option, Some, None, Ok, Err, refl, sym, ap, ◌∙◌, append_assoc, arith, inl, inr}
+use Rattle.std.proofs.Common.{◌≡◌, ℕ, zero, suc, ◌+◌, ◌≤◌, Bool, true, false, cond, List, [], ◌∷◌, ◌++◌, length, Option, Some, None, Ok, Err, refl, sym, ap}
+use Rattle.std.proofs.Common.{◌∙◌, append_assoc, arith, inl, inr}
 use Rattle.lexer.specs.declared.token.Token.{Token}
 use Rattle.lexer.specs.declared.token.TokenKind.{TokenKind}
 use Rattle.ada_tree.specs.Language.{Tokens, token, token_at}
 use Rattle.parser.specs.declared.refusal.Broken.{Broken}
-use Rattle.parser.specs.Reading.{Read, Reader, ◌>>=◌, first, refuse, is_kind, is_next, is_first, entry_of, just, token_of, skipped, named, identifier_of, seq, after, mapped, choose, many_at, many, several, separated_by, nothing, checked, closed, opened}
+use Rattle.parser.specs.Reading.{Read, Reader, ◌>>=◌, first, refuse, is_kind, is_next, is_first, entry_of, just, token_of, skipped, named, identifier_of, seq}
+use Rattle.parser.specs.Reading.{after, mapped, choose, many_at, many, several, separated_by, nothing, checked, closed, opened}
 use Rattle.parser.specs.Levels.{opens, openers, IsDeep}
-use Rattle.parser.proofs.Exact.{Exact, Free, bind_err, chosen, ok_not_err, err_is, entry_fault, exact_skipped, exact_next, next_item, Next, Below, is_that_kind}
+use Rattle.parser.proofs.general.Exact.{Exact, Free, bind_err, chosen, ok_not_err, err_is, entry_fault, is_that_kind}
+use Rattle.parser.proofs.general.Several.{exact_skipped, exact_next, next_item, Next, Below}
 
 pub record Deep {A : Type 0} (k : ℕ) (read : Reader A) : Type 0 where
   pub at : (ts : Tokens) (f : Broken) → read ts ≡ Err f → f.deep ≡ true → IsDeep k ts f.left
@@ -38,7 +41,8 @@ one_opener_at k place s o g = one_opener k s o (g.0, g.1, g.2)
 
 -- ---- readers without levels
 
-pub never_deep : {A : Type 0} (k : ℕ) (read : Reader A) → ((ts : Tokens) (f : Broken) → read ts ≡ Err f → f ≡ record { deep = false; left = length ts }) → Deep k read
+pub never_deep : {A : Type 0} (k : ℕ) (read : Reader A) → ((ts : Tokens) (f : Broken) → read ts ≡ Err f → f ≡ record { deep = false; left = length ts })
+    → Deep k read
 never_deep k read h =
     record {
       at = λ ts f e is.
@@ -97,7 +101,8 @@ deep_seq k m a b PA SA ea da db more =
     }
 
 -- both with k levels
-pub deep_then : {A B : Type 0} (k : ℕ) (a : Reader A) (b : Reader B) (PA : A → Tokens → Type 0) (SA : A → Option Token → Type 0) → Exact a PA SA → Deep k a → Deep k b → Deep k (seq a b)
+pub deep_then : {A B : Type 0} (k : ℕ) (a : Reader A) (b : Reader B) (PA : A → Tokens → Type 0) (SA : A → Option Token → Type 0) → Exact a PA SA → Deep k a
+    → Deep k b → Deep k (seq a b)
 deep_then k a b PA SA ea da db = deep_seq k k a b PA SA ea da db (λ x s g. omega arith)
 
 pub deep_after : {A B : Type 0} (k m : ℕ) (a : Reader A) (b : A → Reader B) (PA : A → Tokens → Type 0) (SA : A → Option Token → Type 0)
@@ -123,7 +128,8 @@ deep_choose k p a b da db =
           ];
     }
 
-pub deep_choose_where : {A : Type 0} (q : Option Token → Bool) (k : ℕ) (p : Option Token → Bool) (a b : Reader A) → DeepWhere p k a → DeepWhere q k b → DeepWhere q k (choose p a b)
+pub deep_choose_where : {A : Type 0} (q : Option Token → Bool) (k : ℕ) (p : Option Token → Bool) (a b : Reader A) → DeepWhere p k a → DeepWhere q k b
+    → DeepWhere q k (choose p a b)
 deep_choose_where q k p a b da db =
     record {
       at = λ ts f o h is.
@@ -152,7 +158,8 @@ deep_closed {A} k p a d =
 
 -- ---- lists
 
-module _ {A : Type 0} (k : ℕ) (p : Option Token → Bool) (a : Reader A) (P : A → Tokens → Type 0) (S : A → Option Token → Type 0) (ea : Exact a P S) (da : DeepWhere p k a) where
+module _ {A : Type 0} (k : ℕ) (p : Option Token → Bool) (a : Reader A) (P : A → Tokens → Type 0) (S : A → Option Token → Type 0) (ea : Exact a P S)
+    (da : DeepWhere p k a) where
   abbrev more : A × Tokens → ℕ → Read (List A)
   more x n = many_at p a n x.1 >>= λ xs. Ok (x.0 ∷ xs.0, xs.1)
 
@@ -177,19 +184,24 @@ module _ {A : Type 0} (k : ℕ) (p : Option Token → Bool) (a : Reader A) (P : 
   pub deep_many_where : Deep k (many p a)
   deep_many_where = record { at = λ ts f h is. many_deep (length ts) ts f h is }
 
-pub deep_many : {A : Type 0} (k : ℕ) (p : Option Token → Bool) (a : Reader A) (P : A → Tokens → Type 0) (S : A → Option Token → Type 0) → Exact a P S → Deep k a → Deep k (many p a)
+pub deep_many : {A : Type 0} (k : ℕ) (p : Option Token → Bool) (a : Reader A) (P : A → Tokens → Type 0) (S : A → Option Token → Type 0) → Exact a P S → Deep k a
+    → Deep k (many p a)
 deep_many k p a P S ea da = deep_many_where k p a P S ea (deep_where p k a da)
 
-pub deep_several : {A : Type 0} (k : ℕ) (p : Option Token → Bool) (a : Reader A) (P : A → Tokens → Type 0) (S : A → Option Token → Type 0) → Exact a P S → Deep k a → Deep k (several p a)
+pub deep_several : {A : Type 0} (k : ℕ) (p : Option Token → Bool) (a : Reader A) (P : A → Tokens → Type 0) (S : A → Option Token → Type 0) → Exact a P S
+    → Deep k a → Deep k (several p a)
 deep_several k p a P S ea da = deep_mapped k _ (seq a (many p a)) (deep_then k a (many p a) P S ea da (deep_many k p a P S ea da))
 
-pub deep_separated : {A : Type 0} (k : ℕ) (kind : TokenKind) (itself : is_kind kind kind ≡ true) (a : Reader A) (P : A → Tokens → Type 0) (S : A → Option Token → Type 0)
+pub deep_separated : {A : Type 0} (k : ℕ) (kind : TokenKind) (itself : is_kind kind kind ≡ true) (a : Reader A) (P : A → Tokens → Type 0)
+    (S : A → Option Token → Type 0)
     (ea : Exact a P S) (goes : (x : A) (o : Option Token) → is_first kind o ≡ true → S x o) → Deep k a → Deep k (separated_by kind a)
 deep_separated k kind itself a P S ea goes da =
     let item = next_item kind itself a P S ea goes in
-    let deep_item : Deep k item = deep_mapped k _ (seq (skipped kind) a) (deep_then k (skipped kind) a (λ _. token kind) Free (exact_skipped kind itself) (deep_skipped k kind) da) in
+    let deep_item : Deep k item =
+    deep_mapped k _ (seq (skipped kind) a) (deep_then k (skipped kind) a (λ _. token kind) Free (exact_skipped kind itself) (deep_skipped k kind) da) in
     deep_mapped k _ (seq a (many (is_first kind) item))
-    (deep_then k a (many (is_first kind) item) P S ea da (deep_many k (is_first kind) item (Next kind itself a P S ea goes) S (exact_next kind itself a P S ea goes) deep_item))
+    (deep_then k a (many (is_first kind) item) P S ea da
+    (deep_many k (is_first kind) item (Next kind itself a P S ea goes) S (exact_next kind itself a P S ea goes) deep_item))
 
 -- ---- levels
 
@@ -200,7 +212,8 @@ deep_none {A} ts f o h =
     ([], ts, refl, sym (ap (λ (d : Broken). d.left) same), o, omega arith)
 
 pub deep_opened : {R A : Type 0} (Holds : ℕ → R → Type 0) (p : Option Token → Bool) (k : ℕ) (d : Option R) (f : R → Reader A)
-    → ((o : Option Token) → p o ≡ true → is_next opens o ≡ true) → Below Holds k d → ((n : ℕ) (r : R) → Holds n r → Deep (suc n) (f r)) → DeepWhere p k (opened d f)
+    → ((o : Option Token) → p o ≡ true → is_next opens o ≡ true) → Below Holds k d → ((n : ℕ) (r : R) → Holds n r → Deep (suc n) (f r))
+    → DeepWhere p k (opened d f)
 deep_opened {A = A} Holds p zero None f opening below df = record { at = λ ts e o h is. deep_none {A = A} ts e (opening (first ts) o) h }
 deep_opened Holds p zero (Some r) f opening below df = absurd below
 deep_opened Holds p (suc k) None f opening below df = absurd below

@@ -1,19 +1,22 @@
 -- Further readers made of exact ones are exact: tokens that are gone past, parts that may be left out, choices.
-use Rattle.std.proofs.Common.{◌≡◌, ℕ, Bool, true, false, List, [], ◌∷◌, ◌++◌, Option, Some, None, Ok, Err, refl, sym, ap, subst, ◌∙◌, append_assoc, inl, inr, ◌⊎◌}
+use Rattle.lexer.specs.declared.token.TokenKind.TheVariants as kinds
+use Rattle.parser.specs.Reading as reading
+use Rattle.std.proofs.Common.{◌≡◌, ℕ, Bool, true, false, List, [], ◌∷◌, ◌++◌, Option, Some, None, Ok, Err, refl, sym, ap, subst, ◌∙◌, append_assoc, inl, inr}
+use Rattle.std.proofs.Common.{◌⊎◌}
 use Rattle.lexer.specs.declared.token.Token.{Token}
 use Rattle.lexer.specs.declared.token.TokenKind.{TokenKind}
-use Rattle.lexer.specs.declared.token.TokenKind.TheVariants as kinds
 use Rattle.lexer.specs.declared.word.Word.{Word}
 use Rattle.ada_tree.specs.declared.expression.Identifier.{Identifier}
 use Rattle.ada_tree.specs.Language.{Tokens, nothing, ◌⨾◌, token, token_at, identifier, optional}
-use Rattle.parser.specs.Reading.{Read, Reader, ◌>>=◌, first, is_kind, is_next, is_first, token_of, skipped, identifier_of, seq, mapped, choose}
-use Rattle.parser.specs.Reading as reading
+use Rattle.parser.specs.Reading.{Read, Reader, ◌>>=◌, first, is_kind, is_first, token_of, skipped, identifier_of, seq, mapped}
 use Rattle.parser.specs.MoreReading.{past, ended, perhaps, flag, Either, Left, Right, either, next_word, by_word}
-use Rattle.parser.proofs.Exact.{Exact, Free, ManyStops, first-append, exact_seq, exact_mapped, exact_nothing, exact_either, exact_token, exact_skipped, exact_identifier, token_first}
+use Rattle.parser.proofs.general.Exact.{Exact, Free, first-append, exact_seq, exact_mapped, exact_nothing, exact_either}
+use Rattle.parser.proofs.general.Several.{ManyStops, exact_token, exact_skipped, exact_identifier, token_first}
 
 -- ---- the same reader, written otherwise
 
-pub exact_same : {A : Type 0} {a b : Reader A} {P : A → Tokens → Type 0} {S : A → Option Token → Type 0} → ((ts : Tokens) → a ts ≡ b ts) → Exact a P S → Exact b P S
+pub exact_same : {A : Type 0} {a b : Reader A} {P : A → Tokens → Type 0} {S : A → Option Token → Type 0} → ((ts : Tokens) → a ts ≡ b ts) → Exact a P S
+    → Exact b P S
 exact_same {a = a} {b = b} same e =
     record {
       sound = λ ts x h. e.sound ts x (same ts ∙ h);
@@ -44,10 +47,12 @@ heads_then k P Q h s g =
     (u.0, u.1 ++ g.1, g.2 ∙ ap (λ (z : Tokens). z ++ g.1) u.2, u.3)
 
 -- a fact on the next token, from its kind
-pub at_kind : (X : Option Token → Type 0) (k : TokenKind) → ((start end : ℕ) → X (Some (record { kind = k; start = start; end_ = end }))) → (t : Token) → t.kind ≡ k → X (Some t)
+pub at_kind : (X : Option Token → Type 0) (k : TokenKind) → ((start end : ℕ) → X (Some (record { kind = k; start = start; end_ = end }))) → (t : Token)
+    → t.kind ≡ k → X (Some t)
 at_kind X k x t h = subst (λ (kind : TokenKind). X (Some (record { kind = kind; start = t.start; end_ = t.end_ }))) (sym h) (x t.start t.end_)
 
-pub at_head : (X : Option Token → Type 0) (k : TokenKind) (P : Tokens → Type 0) → Heads k P → ((start end : ℕ) → X (Some (record { kind = k; start = start; end_ = end })))
+pub at_head : (X : Option Token → Type 0) (k : TokenKind) (P : Tokens → Type 0) → Heads k P
+    → ((start end : ℕ) → X (Some (record { kind = k; start = start; end_ = end })))
     → (s r : Tokens) → P s → X (first (s ++ r))
 at_head X k P h x s r g =
     let u = h s g in
@@ -58,7 +63,8 @@ pub at_nothing : (X : Option Token → Type 0) (s r : Tokens) → s ≡ [] → X
 at_nothing X s r g x = subst (λ (z : Tokens). X (first (z ++ r))) (sym g) x
 
 -- the first token of two parts
-pub at_both : (X : Option Token → Type 0) (P Q : Tokens → Type 0) (s r : Tokens) → (P ⨾ Q) s → ((u v : Tokens) → P u → Q v → X (first (u ++ (v ++ r)))) → X (first (s ++ r))
+pub at_both : (X : Option Token → Type 0) (P Q : Tokens → Type 0) (s r : Tokens) → (P ⨾ Q) s → ((u v : Tokens) → P u → Q v → X (first (u ++ (v ++ r))))
+    → X (first (s ++ r))
 at_both X P Q s r g x = subst (λ (z : Tokens). X (first z)) (sym (ap (λ (z : Tokens). z ++ r) g.2 ∙ append_assoc g.0 g.1 r)) (x g.0 g.1 g.3 g.4)
 
 pub regroup : (P Q R : Tokens → Type 0) (s : Tokens) → ((P ⨾ Q) ⨾ R) s → (P ⨾ (Q ⨾ R)) s
@@ -90,8 +96,10 @@ front_of x = x.0
 abbrev on_first : {A B C : Type 0} → (A → C) → A × B → C × B
 on_first f x = (f x.0, x.1)
 
-pub then_exact : {A B : Type 0} {a : Reader A} {b : Reader B} {P : A → Tokens → Type 0} {Q : B → Tokens → Type 0} {SA : A → Option Token → Type 0} {SB : B → Option Token → Type 0}
-    → Exact a P SA → Exact b Q SB → ((x : A) (y : B) (v r : Tokens) → Q y v → SB y (first r) → SA x (first (v ++ r))) → Exact (seq a b) (λ x. P x.0 ⨾ Q x.1) (λ x. SB x.1)
+pub then_exact : {A B : Type 0} {a : Reader A} {b : Reader B} {P : A → Tokens → Type 0} {Q : B → Tokens → Type 0} {SA : A → Option Token → Type 0}
+    {SB : B → Option Token → Type 0}
+    → Exact a P SA → Exact b Q SB → ((x : A) (y : B) (v r : Tokens) → Q y v → SB y (first r) → SA x (first (v ++ r)))
+    → Exact (seq a b) (λ x. P x.0 ⨾ Q x.1) (λ x. SB x.1)
 then_exact {A} {B} {a} {b} {P} {Q} {SA} {SB} ea eb fits =
     exact_seq a b P Q SA SB (λ x. SB x.1) ea eb (λ x y v r g st. (fits x y v r g st, st)) (λ x y v r g st h. h)
 
@@ -104,10 +112,12 @@ pub placed_exact : {B : Type 0} {b : Reader B} {Q : B → Tokens → Type 0} {SB
     → Exact (seq (token_of k) b) (λ x. token_at k x.0 ⨾ Q x.1) (λ x. SB x.1)
 placed_exact k itself eb = free_then (exact_token k itself) eb
 
-pub named_exact : {B : Type 0} {b : Reader B} {Q : B → Tokens → Type 0} {SB : B → Option Token → Type 0} → Exact b Q SB → Exact (seq identifier_of b) (λ x. identifier x.0 ⨾ Q x.1) (λ x. SB x.1)
+pub named_exact : {B : Type 0} {b : Reader B} {Q : B → Tokens → Type 0} {SB : B → Option Token → Type 0} → Exact b Q SB
+    → Exact (seq identifier_of b) (λ x. identifier x.0 ⨾ Q x.1) (λ x. SB x.1)
 named_exact eb = free_then exact_identifier eb
 
-pub past_exact : {B : Type 0} {b : Reader B} {Q : B → Tokens → Type 0} {SB : B → Option Token → Type 0} (k : TokenKind) → is_kind k k ≡ true → Exact b Q SB → Exact (past k b) (λ y. token k ⨾ Q y) SB
+pub past_exact : {B : Type 0} {b : Reader B} {Q : B → Tokens → Type 0} {SB : B → Option Token → Type 0} (k : TokenKind) → is_kind k k ≡ true → Exact b Q SB
+    → Exact (past k b) (λ y. token k ⨾ Q y) SB
 past_exact {B} {b} {Q} {SB} k itself eb =
     exact_same (λ ts. past_same (token_of k ts))
     (exact_mapped (λ x. x.1) (seq (skipped k) b) (λ x. token k ⨾ Q x.1) (λ y. token k ⨾ Q y) (λ x. SB x.1) SB (free_then (exact_skipped k itself) eb)
@@ -121,8 +131,10 @@ past_exact {B} {b} {Q} {SB} k itself eb =
     past_same (Ok x) = second (b x.1)
     past_same (Err f) = refl
 
-pub ended_by : {A : Type 0} {a : Reader A} {b : Reader (Unit {0})} {P : A → Tokens → Type 0} {Q : Tokens → Type 0} {SA : A → Option Token → Type 0} {T : Option Token → Type 0}
-    → Exact a P SA → Exact b (λ _. Q) (λ _. T) → ((x : A) (v r : Tokens) → Q v → T (first r) → SA x (first (v ++ r))) → Exact (ended a b) (λ x. P x ⨾ Q) (λ _. T)
+pub ended_by : {A : Type 0} {a : Reader A} {b : Reader (Unit {0})} {P : A → Tokens → Type 0} {Q : Tokens → Type 0} {SA : A → Option Token → Type 0}
+    {T : Option Token → Type 0}
+    → Exact a P SA → Exact b (λ _. Q) (λ _. T) → ((x : A) (v r : Tokens) → Q v → T (first r) → SA x (first (v ++ r)))
+    → Exact (ended a b) (λ x. P x ⨾ Q) (λ _. T)
 ended_by {A} {a} {b} {P} {Q} {SA} {T} ea eb fits =
     exact_same (λ ts. ended_same (a ts))
     (exact_mapped (λ x. x.0) (seq a b) (λ x. P x.0 ⨾ Q) (λ x. P x ⨾ Q) (λ x. T) (λ _. T) (then_exact ea eb (λ x y v r g st. fits x v r g st))
@@ -140,12 +152,14 @@ pub ended_exact : {A : Type 0} {a : Reader A} {b : Reader (Unit {0})} {P : A →
     → Exact a P SA → Exact b (λ _. Q) Free → ((x : A) (v r : Tokens) → Q v → SA x (first (v ++ r))) → Exact (ended a b) (λ x. P x ⨾ Q) Free
 ended_exact ea eb fits = ended_by ea eb (λ x v r g st. fits x v r g)
 
-pub free_ended : {A : Type 0} {a : Reader A} {b : Reader (Unit {0})} {P : A → Tokens → Type 0} {Q : Tokens → Type 0} → Exact a P Free → Exact b (λ _. Q) Free → Exact (ended a b) (λ x. P x ⨾ Q) Free
+pub free_ended : {A : Type 0} {a : Reader A} {b : Reader (Unit {0})} {P : A → Tokens → Type 0} {Q : Tokens → Type 0} → Exact a P Free → Exact b (λ _. Q) Free
+    → Exact (ended a b) (λ x. P x ⨾ Q) Free
 free_ended ea eb = ended_exact ea eb (λ x v r g. tt)
 
 -- ---- a changed value
 
-pub mapped_exact : {A B : Type 0} {a : Reader A} {PA : A → Tokens → Type 0} {SA : A → Option Token → Type 0} (f : A → B) (PB : B → Tokens → Type 0) (SB : B → Option Token → Type 0) → Exact a PA SA
+pub mapped_exact : {A B : Type 0} {a : Reader A} {PA : A → Tokens → Type 0} {SA : A → Option Token → Type 0} (f : A → B) (PB : B → Tokens → Type 0)
+    (SB : B → Option Token → Type 0) → Exact a PA SA
     → ((x : A) (ts : Tokens) → PA x ts → PB (f x) ts)
     → ((y : B) (ts : Tokens) → PB y ts → (x : A) × PA x ts × (f x ≡ y))
     → ((x : A) (o : Option Token) → SA x o → SB (f x) o)
@@ -154,7 +168,8 @@ pub mapped_exact : {A B : Type 0} {a : Reader A} {PA : A → Tokens → Type 0} 
 mapped_exact {A} {B} {a} {PA} {SA} f PB SB ea to back stop go = exact_mapped f a PA PB SA SB ea to back (λ x ts o g st. stop x o st) (λ x ts o g st. go x o st)
 
 -- where anything may follow
-pub free_mapped : {A B : Type 0} {a : Reader A} {PA : A → Tokens → Type 0} {SA : A → Option Token → Type 0} (f : A → B) (PB : B → Tokens → Type 0) → Exact a PA SA
+pub free_mapped : {A B : Type 0} {a : Reader A} {PA : A → Tokens → Type 0} {SA : A → Option Token → Type 0} (f : A → B) (PB : B → Tokens → Type 0)
+    → Exact a PA SA
     → ((x : A) (o : Option Token) → SA x o)
     → ((x : A) (ts : Tokens) → PA x ts → PB (f x) ts)
     → ((y : B) (ts : Tokens) → PB y ts → (x : A) × PA x ts × (f x ≡ y))
@@ -162,7 +177,8 @@ pub free_mapped : {A B : Type 0} {a : Reader A} {PA : A → Tokens → Type 0} {
 free_mapped f PB ea free to back = mapped_exact f PB Free ea to back (λ x o st. tt) (λ x o st. free x o)
 
 -- a changed value, and then another, which shows that the first is whole
-pub mapped_then : {A B C : Type 0} {a : Reader A} {b : Reader B} {P : A → Tokens → Type 0} {Q : B → Tokens → Type 0} {SA : A → Option Token → Type 0} {SB : B → Option Token → Type 0} (f : A → C) (R : C → Tokens → Type 0)
+pub mapped_then : {A B C : Type 0} {a : Reader A} {b : Reader B} {P : A → Tokens → Type 0} {Q : B → Tokens → Type 0} {SA : A → Option Token → Type 0}
+    {SB : B → Option Token → Type 0} (f : A → C) (R : C → Tokens → Type 0)
     → Exact a P SA → Exact b Q SB → ((x : A) (y : B) (v r : Tokens) → Q y v → SB y (first r) → SA x (first (v ++ r)))
     → ((x : A) (ts : Tokens) → P x ts → R (f x) ts) → ((y : C) (ts : Tokens) → R y ts → (x : A) × P x ts × (f x ≡ y))
     → Exact (seq (mapped f a) b) (λ x. R x.0 ⨾ Q x.1) (λ x. SB x.1)
@@ -187,7 +203,8 @@ abbrev pub PerhapsStops : {A : Type 0} → (Option Token → Bool) → (A → Op
 PerhapsStops p S None o = p o ≡ false
 PerhapsStops p S (Some x) o = S x o
 
-module _ {A : Type 0} {a : Reader A} {P : A → Tokens → Type 0} {S : A → Option Token → Type 0} (p : Option Token → Bool) (ea : Exact a P S) (heads : (x : A) (s r : Tokens) → P x s → p (first (s ++ r)) ≡ true) where
+module _ {A : Type 0} {a : Reader A} {P : A → Tokens → Type 0} {S : A → Option Token → Type 0} (p : Option Token → Bool) (ea : Exact a P S)
+    (heads : (x : A) (s r : Tokens) → P x s → p (first (s ++ r)) ≡ true) where
   abbrev There : Option A → Tokens → Type 0
   There None s = ⊥
   There (Some x) s = P x s
@@ -271,8 +288,10 @@ abbrev pub EitherStops : {A B : Type 0} → (A → Option Token → Type 0) → 
 EitherStops S T (Left x) = S x
 EitherStops S T (Right y) = T y
 
-module _ {A B : Type 0} {a : Reader A} {b : Reader B} {P : A → Tokens → Type 0} {Q : B → Tokens → Type 0} {S : A → Option Token → Type 0} {T : B → Option Token → Type 0} (p : Option Token → Bool)
-    (ea : Exact a P S) (eb : Exact b Q T) (heads : (x : A) (s r : Tokens) → P x s → p (first (s ++ r)) ≡ true) (others : (y : B) (s r : Tokens) → Q y s → T y (first r) → p (first (s ++ r)) ≡ false) where
+module _ {A B : Type 0} {a : Reader A} {b : Reader B} {P : A → Tokens → Type 0} {Q : B → Tokens → Type 0} {S : A → Option Token → Type 0}
+    {T : B → Option Token → Type 0} (p : Option Token → Bool)
+    (ea : Exact a P S) (eb : Exact b Q T) (heads : (x : A) (s r : Tokens) → P x s → p (first (s ++ r)) ≡ true) (others : (y : B) (s r : Tokens) → Q y s
+    → T y (first r) → p (first (s ++ r)) ≡ false) where
   abbrev OnLeft : Either A B → Tokens → Type 0
   OnLeft (Left x) s = P x s
   OnLeft (Right y) s = ⊥
@@ -311,8 +330,10 @@ module _ {A B : Type 0} {a : Reader A} {b : Reader B} {P : A → Tokens → Type
 
 -- ---- as the next word says
 
-pub by_word_exact : {A : Type 0} (f : Option Word → Reader A) (Q : Option Word → A → Tokens → Type 0) (P : A → Tokens → Type 0) → ((w : Option Word) → Exact (f w) (Q w) Free)
-    → ((w : Option Word) (x : A) (s : Tokens) → Q w x s → P x s) → ((x : A) (s r : Tokens) → P x s → Q (next_word (first (s ++ r))) x s) → Exact (by_word f) P Free
+pub by_word_exact : {A : Type 0} (f : Option Word → Reader A) (Q : Option Word → A → Tokens → Type 0) (P : A → Tokens → Type 0)
+    → ((w : Option Word) → Exact (f w) (Q w) Free)
+    → ((w : Option Word) (x : A) (s : Tokens) → Q w x s → P x s) → ((x : A) (s r : Tokens) → P x s → Q (next_word (first (s ++ r))) x s)
+    → Exact (by_word f) P Free
 by_word_exact f Q P ef to back =
     record {
       sound = λ ts x h.
@@ -336,17 +357,23 @@ by_word_exact f Q P ef to back =
 
 -- ---- the token after
 
-pub at_token : (X : Option Token → Type 0) (k : TokenKind) → ((start end : ℕ) → X (Some (record { kind = k; start = start; end_ = end }))) → (s r : Tokens) → token k s → X (first (s ++ r))
+pub at_token : (X : Option Token → Type 0) (k : TokenKind) → ((start end : ℕ) → X (Some (record { kind = k; start = start; end_ = end }))) → (s r : Tokens)
+    → token k s → X (first (s ++ r))
 at_token X k x s r g = at_head X k (token k) (heads_token k) x s r g
 
-pub at_past : {Q : Tokens → Type 0} (X : Option Token → Type 0) (k : TokenKind) → ((start end : ℕ) → X (Some (record { kind = k; start = start; end_ = end }))) → (s r : Tokens) → (token k ⨾ Q) s → X (first (s ++ r))
+pub at_past : {Q : Tokens → Type 0} (X : Option Token → Type 0) (k : TokenKind) → ((start end : ℕ) → X (Some (record { kind = k; start = start; end_ = end })))
+    → (s r : Tokens) → (token k ⨾ Q) s → X (first (s ++ r))
 at_past {Q} X k x s r g = at_head X k (token k ⨾ Q) (heads_then k (token k) Q (heads_token k)) x s r g
 
-pub at_placed : {Q : Tokens → Type 0} (X : Option Token → Type 0) (k : TokenKind) (place : ℕ) → ((start end : ℕ) → X (Some (record { kind = k; start = start; end_ = end }))) → (s r : Tokens) → (token_at k place ⨾ Q) s → X (first (s ++ r))
+pub at_placed : {Q : Tokens → Type 0} (X : Option Token → Type 0) (k : TokenKind) (place : ℕ)
+    → ((start end : ℕ) → X (Some (record { kind = k; start = start; end_ = end }))) → (s r : Tokens) → (token_at k place ⨾ Q) s → X (first (s ++ r))
 at_placed {Q} X k place x s r g = at_head X k (token_at k place ⨾ Q) (heads_then k (token_at k place) Q (heads_placed k place)) x s r g
 
-pub at_name : {Q : Tokens → Type 0} (X : Option Token → Type 0) (i : Identifier) → ((start end : ℕ) → X (Some (record { kind = kinds.Identifier i.name; start = start; end_ = end }))) → (s r : Tokens) → (identifier i ⨾ Q) s → X (first (s ++ r))
-at_name {Q} X i x s r g = at_head X (kinds.Identifier i.name) (identifier i ⨾ Q) (heads_then (kinds.Identifier i.name) (identifier i) Q (heads_identifier i)) x s r g
+pub at_name : {Q : Tokens → Type 0} (X : Option Token → Type 0) (i : Identifier)
+    → ((start end : ℕ) → X (Some (record { kind = kinds.Identifier i.name; start = start; end_ = end }))) → (s r : Tokens) → (identifier i ⨾ Q) s
+    → X (first (s ++ r))
+at_name {Q} X i x s r g =
+    at_head X (kinds.Identifier i.name) (identifier i ⨾ Q) (heads_then (kinds.Identifier i.name) (identifier i) Q (heads_identifier i)) x s r g
 
 pub many_stop : {A : Type 0} (p : Option Token → Bool) (S : Option Token → Type 0) (o : Option Token) → p o ≡ false → S o → (xs : List A) → ManyStops p S xs o
 many_stop p S o h s [] = h
@@ -356,7 +383,8 @@ pub set_stop : (k : TokenKind) (o : Option Token) → is_first k o ≡ false →
 set_stop k o h false = h
 set_stop k o h true = tt
 
-pub perhaps_stop : {A : Type 0} (p : Option Token → Bool) (S : A → Option Token → Type 0) (o : Option Token) → p o ≡ false → ((x : A) → S x o) → (x : Option A) → PerhapsStops p S x o
+pub perhaps_stop : {A : Type 0} (p : Option Token → Bool) (S : A → Option Token → Type 0) (o : Option Token) → p o ≡ false → ((x : A) → S x o) → (x : Option A)
+    → PerhapsStops p S x o
 perhaps_stop p S o h s None = h
 perhaps_stop p S o h s (Some x) = s x
 

@@ -1,14 +1,14 @@
 -- The tokens of a select statement are read exactly.
-use Rattle.std.proofs.Common.{◌≡◌, Bool, true, false, cond, [], ◌∷◌, ◌++◌, length, Some, None, Ok, Err, refl, sym, ap, subst, ◌∙◌, inl, inr, ◌⊎◌}
-use Rattle.lexer.specs.declared.token.Token.{Token}
 use Rattle.lexer.specs.declared.token.TokenKind.TheVariants as kinds
 use Rattle.lexer.specs.declared.word.Word.TheVariants as words
+use Rattle.std.proofs.Common.{◌≡◌, Bool, true, false, cond, [], ◌∷◌, ◌++◌, length, Some, None, Ok, Err, refl, sym, ap, subst, ◌∙◌, inl, inr, ◌⊎◌}
+use Rattle.lexer.specs.declared.token.Token.{Token}
 use Rattle.ada_tree.specs.Language.{Tokens, ◌⨾◌, word}
 use Rattle.ada_tree.specs.StatementGrammar.{selected}
 use Rattle.parser.specs.declared.refusal.Broken.{Broken}
 use Rattle.parser.specs.Reading.{first, refuse, is_kind, is_word}
 use Rattle.parser.specs.StatementReading.{selected_at}
-use Rattle.parser.proofs.Exact.{Took, Refused, Exact, Free, chosen, ok_is, ok_not_err, err_is, is_that_kind, refused_here, exact_told}
+use Rattle.parser.proofs.general.Exact.{Took, Refused, Exact, Free, chosen, ok_is, ok_not_err, err_is, is_that_kind, refused_here, exact_told}
 
 abbrev pub Ends : Tokens → Type 0
 Ends = word words.End ⨾ word words.Select
@@ -67,7 +67,8 @@ end_ends s r b g =
     let t = g.3.0 in
     let kind = g.3.2 in
     let whole : s ++ r ≡ t ∷ (g.1 ++ r) = ap (λ (z : Tokens). z ++ r) (g.2 ∙ ap (λ (z : Tokens). z ++ g.1) g.3.1) in
-    ap (selected_at b) whole ∙ past_other t (g.1 ++ r) b (ap (is_kind (kinds.Word words.Select)) kind) ∙ ap (λ (c : Bool). selected_at c (g.1 ++ r)) (ap (is_kind (kinds.Word words.End)) kind) ∙ select_ends g.1 r g.4
+    ap (selected_at b) whole ∙ past_other t (g.1 ++ r) b (ap (is_kind (kinds.Word words.Select)) kind)
+    ∙ ap (λ (c : Bool). selected_at c (g.1 ++ r)) (ap (is_kind (kinds.Word words.End)) kind) ∙ select_ends g.1 r g.4
 
 other : (t : Token) → (t.kind ≡ kinds.Word words.Select → ⊥) → is_select t ≡ false
 other t h = decided (is_select t) (λ e. h (is_that_kind (kinds.Word words.Select) t.kind e))
@@ -112,7 +113,14 @@ selected_local (t ∷ ts) b f e =
           ]
       | inr w ↦
           let l = selected_local ts (is_end t) f w.1 in
-          record { front = t ∷ l.front; back = l.back; parts = ap (λ (z : Tokens). t ∷ z) l.parts; left = l.left; again = λ g same. past_other t (l.front ++ g) b w.0 ∙ l.again g same }
+          record {
+            front = t ∷ l.front;
+            back = l.back;
+            parts = ap (λ (z : Tokens). t ∷ z) l.parts;
+            left = l.left;
+            again =
+                λ g same. past_other t (l.front ++ g) b w.0 ∙ l.again g same;
+          }
     ]
 
 exact_after : (b : Bool) → Exact (selected_at b) (Selected b) Free
@@ -128,4 +136,6 @@ selected_to x ts (inl g) = absurd cc
 selected_to x ts (inr g) = g
 
 pub selected_exact : Exact (selected_at false) (λ _. selected ⨾ word words.End ⨾ word words.Select) Free
-selected_exact = exact_told (selected_at false) (Selected false) (λ _. selected ⨾ word words.End ⨾ word words.Select) Free Free (exact_after false) selected_to (λ x ts g. inr g) (λ x ts o g st. st) (λ x ts o g st. st)
+selected_exact =
+    exact_told (selected_at false) (Selected false) (λ _. selected ⨾ word words.End ⨾ word words.Select) Free Free (exact_after false) selected_to
+    (λ x ts g. inr g) (λ x ts o g st. st) (λ x ts o g st. st)

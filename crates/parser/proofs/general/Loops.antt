@@ -1,5 +1,7 @@
 -- A loop reads what `many` reads.
-use Rattle.std.proofs.Common.{rules, ◌≡◌, ℕ, zero, suc, ◌<◌, ◌≤◌, Bool, true, false, List, [], ◌∷◌, ◌++◌, length, map, Option, None, Result, Ok, Err, refl, sym, ap, subst, ◌∙◌, append_assoc, arith, length-append}
+use Rattle.parser.specs.declared.refusal.Refusal.TheVariants as refusals
+use Rattle.std.proofs.Common.{rules, ◌≡◌, ℕ, zero, suc, ◌<◌, ◌≤◌, Bool, true, false, List, [], ◌∷◌, ◌++◌, length, map, Option, None, Result, Ok, Err, refl, sym}
+use Rattle.std.proofs.Common.{ap, subst, ◌∙◌, append_assoc, arith, length-append}
 use Rattle.std.specs.Result.{IsErrAnd}
 use Rattle.std.proofs.lemmas.List.{map-append}
 use Rattle.lexer.specs.declared.token.Token.{Token}
@@ -7,10 +9,9 @@ use Rattle.lexer.specs.declared.token.TokenKind.{TokenKind}
 use Rattle.ada_tree.specs.Language.{Tokens}
 use Rattle.parser.specs.declared.refusal.Broken.{Broken}
 use Rattle.parser.specs.declared.refusal.Refusal.{Refusal}
-use Rattle.parser.specs.declared.refusal.Refusal.TheVariants as refusals
 use Rattle.parser.specs.Reading.{Read, Reader, ◌>>=◌, first, seq, mapped, many_at, many, Fails, Gives, skipped, token_of}
 use Rattle.parser.specs.ExpressionReading.{folded}
-use Rattle.parser.proofs.Exact.{Exact, not_both}
+use Rattle.parser.proofs.general.Exact.{Exact, not_both}
 
 -- the last of a list
 abbrev pub pushed : {A : Type 0} → List A → A → List A
@@ -35,7 +36,8 @@ module _ {A B : Type 0} (step : B → A → B) (p : Option Token → Bool) (none
   regroup b x (Ok y) = refl
   regroup b x (Err d) = refl
 
-  pub goes : (n : ℕ) (ts : Tokens) (b : B) (x : A) (after : Tokens) (total : Read B) (made : B) → made ≡ step b x → p (first ts) ≡ true → a ts ≡ Ok (x, after) → length after < length ts → length ts ≤ n
+  pub goes : (n : ℕ) (ts : Tokens) (b : B) (x : A) (after : Tokens) (total : Read B) (made : B) → made ≡ step b x → p (first ts) ≡ true → a ts ≡ Ok (x, after)
+      → length after < length ts → length ts ≤ n
       → still step p a n b ts ≡ total → (m : ℕ) × (length after ≤ m) × (still step p a m made after ≡ total)
   goes zero ts b x after total made is test h short le so_far = absurd (omega arith)
   goes (suc n) ts b x after total made is test h short le so_far =
@@ -48,7 +50,8 @@ module _ {A B : Type 0} (step : B → A → B) (p : Option Token → Bool) (none
       let one : still step p a (suc n) b ts ≡ Ok (b, ts) = rw test refl in
       sym so_far ∙ one
 
-  pub fails : (n : ℕ) (ts : Tokens) (b : B) (f : Broken) (total : Read B) → p (first ts) ≡ true → a ts ≡ Err f → length ts ≤ n → still step p a n b ts ≡ total → total ≡ Err f
+  pub fails : (n : ℕ) (ts : Tokens) (b : B) (f : Broken) (total : Read B) → p (first ts) ≡ true → a ts ≡ Err f → length ts ≤ n → still step p a n b ts ≡ total
+      → total ≡ Err f
   fails zero [] b f total test h le so_far = not_both (p None) test none
   fails zero (t ∷ ts) b f total test h le so_far = absurd (omega arith)
   fails (suc n) ts b f total test h le so_far =
@@ -56,12 +59,14 @@ module _ {A B : Type 0} (step : B → A → B) (p : Option Token → Bool) (none
       sym so_far ∙ one
 
   -- the same, with what a method returned
-  pub gives_up : (n : ℕ) (ts : Tokens) (b : B) (e : Refusal) (total : Read B) → p (first ts) ≡ true → Fails e (a ts) → length ts ≤ n → still step p a n b ts ≡ total → Fails e total
+  pub gives_up : (n : ℕ) (ts : Tokens) (b : B) (e : Refusal) (total : Read B) → p (first ts) ≡ true → Fails e (a ts) → length ts ≤ n
+      → still step p a n b ts ≡ total → Fails e total
   gives_up n ts b refusals.Memory total test h le so_far = tt
   gives_up n ts b (refusals.Broken f) total test h le so_far = fails n ts b f total test h le so_far
 
 -- what `?` hands on
-pub handed_on : {X A : Type 0} (view : X → A) (result : Result X Refusal) (after : Tokens) (total : Read A) (e : Refusal) → IsErrAnd result (λ f. f ≡ e) → Fails e total → Gives view result after total
+pub handed_on : {X A : Type 0} (view : X → A) (result : Result X Refusal) (after : Tokens) (total : Read A) (e : Refusal) → IsErrAnd result (λ f. f ≡ e)
+    → Fails e total → Gives view result after total
 handed_on view (Ok x) after total e is h = absurd is
 handed_on view (Err f) after total e is h = subst (λ (z : Refusal). Fails z total) (sym is) h
 
@@ -77,31 +82,36 @@ pub map_one : {X A : Type 0} (view : X → A) (old new : List X) (x : X) → old
 map_one {X = X} view old new x none h = ap (map view) (h ∙ ap (λ (z : List X). z ++ (x ∷ [])) none)
 
 -- a reader leaves no more than it was given
-pub no_longer : {A : Type 0} (a : Reader A) (P : A → Tokens → Type 0) (S : A → Option Token → Type 0) (ts : Tokens) (x : A) (after : Tokens) → Exact a P S → a ts ≡ Ok (x, after) → length after ≤ length ts
+pub no_longer : {A : Type 0} (a : Reader A) (P : A → Tokens → Type 0) (S : A → Option Token → Type 0) (ts : Tokens) (x : A) (after : Tokens) → Exact a P S
+    → a ts ≡ Ok (x, after) → length after ≤ length ts
 no_longer a P S ts x after ea e =
     let t = ea.sound ts (x, after) e in
     omega (arith, ap length t.parts, length-append t.front after)
 
 -- and less where what it read has a token
-pub shorter : {A : Type 0} (a : Reader A) (P : A → Tokens → Type 0) (S : A → Option Token → Type 0) (ts : Tokens) (x : A) (after : Tokens) → Exact a P S → ((x : A) (s : Tokens) → P x s → 0 < length s) → a ts ≡ Ok (x, after) → length after < length ts
+pub shorter : {A : Type 0} (a : Reader A) (P : A → Tokens → Type 0) (S : A → Option Token → Type 0) (ts : Tokens) (x : A) (after : Tokens) → Exact a P S
+    → ((x : A) (s : Tokens) → P x s → 0 < length s) → a ts ≡ Ok (x, after) → length after < length ts
 shorter a P S ts x after ea some e =
     let t = ea.sound ts (x, after) e in
     omega (arith, ap length t.parts, length-append t.front after, some x t.front t.spells)
 
 -- one after the other, read in turn
-pub both_read : {A B C : Type 0} (f : A × B → C) (a : Reader A) (b : Reader B) (ts middle after : Tokens) (x : A) (y : B) → a ts ≡ Ok (x, middle) → b middle ≡ Ok (y, after) → mapped f (seq a b) ts ≡ Ok (f (x, y), after)
+pub both_read : {A B C : Type 0} (f : A × B → C) (a : Reader A) (b : Reader B) (ts middle after : Tokens) (x : A) (y : B) → a ts ≡ Ok (x, middle)
+    → b middle ≡ Ok (y, after) → mapped f (seq a b) ts ≡ Ok (f (x, y), after)
 both_read f a b ts middle after x y h i = rw h (rw i refl)
 
 pub first_fails : {A B C : Type 0} (f : A × B → C) (a : Reader A) (b : Reader B) (ts : Tokens) (e : Refusal) → Fails e (a ts) → Fails e (mapped f (seq a b) ts)
 first_fails f a b ts refusals.Memory h = tt
 first_fails f a b ts (refusals.Broken d) h = rw h refl
 
-pub second_fails : {A B C : Type 0} (f : A × B → C) (a : Reader A) (b : Reader B) (ts middle : Tokens) (x : A) (e : Refusal) → a ts ≡ Ok (x, middle) → Fails e (b middle) → Fails e (mapped f (seq a b) ts)
+pub second_fails : {A B C : Type 0} (f : A × B → C) (a : Reader A) (b : Reader B) (ts middle : Tokens) (x : A) (e : Refusal) → a ts ≡ Ok (x, middle)
+    → Fails e (b middle) → Fails e (mapped f (seq a b) ts)
 second_fails f a b ts middle x refusals.Memory h i = tt
 second_fails f a b ts middle x (refusals.Broken d) h i = rw h (rw i refl)
 
 -- a separator and an item, read in turn
-pub next_read : {A : Type 0} (k : TokenKind) (a : Reader A) (ts middle after : Tokens) (place : ℕ) (x : A) → token_of k ts ≡ Ok (place, middle) → a middle ≡ Ok (x, after) → mapped (λ x. x.1) (seq (skipped k) a) ts ≡ Ok (x, after)
+pub next_read : {A : Type 0} (k : TokenKind) (a : Reader A) (ts middle after : Tokens) (place : ℕ) (x : A) → token_of k ts ≡ Ok (place, middle)
+    → a middle ≡ Ok (x, after) → mapped (λ x. x.1) (seq (skipped k) a) ts ≡ Ok (x, after)
 next_read k a ts middle after place x h i = rw h (rw i refl)
 
 -- ---- how loops start
@@ -117,7 +127,8 @@ both_whole step b (Ok x) = refl
 both_whole step b (Err d) = refl
 
 -- behind the first
-pub fold_starts : {A B : Type 0} (step : B → A → B) (p : Option Token → Bool) (a : Reader A) (head : Reader B) (ts : Tokens) (b : B) (after : Tokens) → head ts ≡ Ok (b, after)
+pub fold_starts : {A B : Type 0} (step : B → A → B) (p : Option Token → Bool) (a : Reader A) (head : Reader B) (ts : Tokens) (b : B) (after : Tokens)
+    → head ts ≡ Ok (b, after)
     → (n : ℕ) × (length after ≤ n) × (still step p a n b after ≡ mapped (λ x. folded step x.0 x.1) (seq head (many p a)) ts)
 fold_starts step p a head ts b after h = (length after, omega arith, both_whole step b (many_at p a (length after) after) ∙ sym (rw h refl))
 
@@ -129,7 +140,8 @@ pushed_all (Ok x) = ap (λ z. Ok (z, x.1)) (folded-pushed [] x.0)
 pushed_all (Err d) = refl
 
 -- a list from nothing
-pub many_starts : {A : Type 0} (p : Option Token → Bool) (a : Reader A) (ts : Tokens) (xs : List A) → xs ≡ [] → (n : ℕ) × (length ts ≤ n) × (still pushed p a n xs ts ≡ many p a ts)
+pub many_starts : {A : Type 0} (p : Option Token → Bool) (a : Reader A) (ts : Tokens) (xs : List A) → xs ≡ []
+    → (n : ℕ) × (length ts ≤ n) × (still pushed p a n xs ts ≡ many p a ts)
 many_starts p a ts xs none = (length ts, omega arith, ap (λ z. still pushed p a (length ts) z ts) none ∙ pushed_all (many_at p a (length ts) ts))
 
 abbrev consed : {A : Type 0} → (A × List A) × Tokens → Read (List A)
@@ -140,7 +152,8 @@ pushed_behind x (Ok y) = ap (λ z. Ok (z, y.1)) (folded-pushed (x ∷ []) y.0)
 pushed_behind x (Err d) = refl
 
 -- a list behind its first
-pub list_starts : {A : Type 0} (p : Option Token → Bool) (a : Reader A) (head : Reader A) (ts : Tokens) (x : A) (after : Tokens) (xs : List A) → head ts ≡ Ok (x, after) → xs ≡ x ∷ []
+pub list_starts : {A : Type 0} (p : Option Token → Bool) (a : Reader A) (head : Reader A) (ts : Tokens) (x : A) (after : Tokens) (xs : List A)
+    → head ts ≡ Ok (x, after) → xs ≡ x ∷ []
     → (n : ℕ) × (length after ≤ n) × (still pushed p a n xs after ≡ mapped (λ x. x.0 ∷ x.1) (seq head (many p a)) ts)
 list_starts p a head ts x after xs h is =
     (length after, omega arith, ap (λ z. still pushed p a (length after) z after) is ∙ pushed_behind x (many_at p a (length after) after) ∙ sym (rw h refl))

@@ -1,23 +1,27 @@
 -- Factors, terms, sums and relations are read exactly.
+use Rattle.lexer.specs.declared.token.TokenKind.TheVariants as kinds
+use Rattle.lexer.specs.declared.word.Word.TheVariants as words
+use Rattle.lexer.specs.declared.delimiter.Delimiter.TheVariants as marks
+use Rattle.ada_tree.specs.declared.expression.UnaryOperator.TheVariants as unary
+use Rattle.ada_tree.specs.declared.expression.BinaryOperator.TheVariants as binary
 use Rattle.std.proofs.Common.{◌≡◌, ℕ, Bool, true, false, List, [], ◌∷◌, ◌++◌, Option, Some, None, refl, sym, ap, subst, ◌∙◌, append_assoc, inl, inr, ◌⊎◌}
 use Rattle.std.proofs.lemmas.List.{append-nil}
 use Rattle.lexer.specs.declared.token.Token.{Token}
 use Rattle.lexer.specs.declared.token.TokenKind.{TokenKind}
-use Rattle.lexer.specs.declared.token.TokenKind.TheVariants as kinds
-use Rattle.lexer.specs.declared.word.Word.TheVariants as words
-use Rattle.lexer.specs.declared.delimiter.Delimiter.TheVariants as marks
 use Rattle.ada_tree.specs.declared.expression.UnaryOperator.{UnaryOperator}
-use Rattle.ada_tree.specs.declared.expression.UnaryOperator.TheVariants as unary
 use Rattle.ada_tree.specs.declared.expression.BinaryOperator.{BinaryOperator}
-use Rattle.ada_tree.specs.declared.expression.BinaryOperator.TheVariants as binary
 use Rattle.ada_tree.specs.ExpressionTree.{ExprTree, Number, Named, Parenthesized, Conditional, Unary, Binary}
 use Rattle.ada_tree.specs.Language.{Tokens, ◌⨾◌, token, token_at, each, Limit, inside}
-use Rattle.ada_tree.specs.ExpressionGrammar.{Production, Primary, Factor, Term, Simple, Relation, production, unary_production, left_operand, right_operand, made_by, stands_for, unary_symbol, operator, derives}
+use Rattle.ada_tree.specs.ExpressionGrammar.{Production, Primary, Factor, Term, Simple, Relation, production, unary_production, left_operand, right_operand}
+use Rattle.ada_tree.specs.ExpressionGrammar.{made_by, stands_for, unary_symbol, operator, derives}
 use Rattle.parser.specs.Reading.{Reader, first, is_next, is_there, seq, mapped, many}
-use Rattle.parser.specs.ExpressionReading.{multiplying, adding, relational, sign, prefix, begins, operator_of, placed, unary_of, Values, starts_selector, primary_in, prefixed, factor_in, folded, joined, chain_of, term_in, simple_in}
-use Rattle.parser.proofs.Exact.{Exact, Free, Both, entry, exact_entry, exact_seq, exact_mapped, exact_told, exact_either, ManyStops, exact_many, Below, first_then, first_token_at, first_of_at, first_inside, apart, Ends, ends_both, ends_left, ends_right}
-use Rattle.parser.proofs.Expressions.{continues_term, continues_simple, starts_primary, Exacts}
-use Rattle.parser.proofs.Primaries.{exact_primary, no_unary_primary, no_binary_primary}
+use Rattle.parser.specs.ExpressionReading.{multiplying, adding, relational, sign, prefix, begins, operator_of, placed, unary_of, Values, starts_selector}
+use Rattle.parser.specs.ExpressionReading.{primary_in, prefixed, factor_in, folded, joined, chain_of, term_in, simple_in}
+use Rattle.parser.proofs.general.Exact.{Exact, Free, Both, entry, exact_entry, exact_seq, exact_mapped, exact_told, exact_either}
+use Rattle.parser.proofs.general.Several.{ManyStops, exact_many, Below, first_then, first_token_at, first_of_at, first_inside, apart, Ends, ends_both}
+use Rattle.parser.proofs.general.Several.{ends_left, ends_right}
+use Rattle.parser.proofs.expressions.Expressions.{continues_term, continues_simple, starts_primary, Exacts}
+use Rattle.parser.proofs.expressions.Primaries.{exact_primary, no_unary_primary, no_binary_primary}
 
 -- ---- which production stands for which
 
@@ -51,8 +55,11 @@ widen m n k e ts w g = (w (made_by e) g.0, g.1)
 
 -- ---- what begins a primary and a term
 
-first_open : (q : TokenKind → Bool) (l : Limit) (place : ℕ) (Q : Limit → Tokens → Type 0) (s r : Tokens) → inside l (λ m. token_at (kinds.Delimiter marks.LeftParenthesis) place ⨾ Q m) s → is_next q (first (s ++ r)) ≡ q (kinds.Delimiter marks.LeftParenthesis)
-first_open q l place Q s r g = first_inside q (q (kinds.Delimiter marks.LeftParenthesis)) l (λ m. token_at (kinds.Delimiter marks.LeftParenthesis) place ⨾ Q m) s r (λ m s g. first_of_at q (kinds.Delimiter marks.LeftParenthesis) place (Q m) s r g) g
+first_open : (q : TokenKind → Bool) (l : Limit) (place : ℕ) (Q : Limit → Tokens → Type 0) (s r : Tokens)
+    → inside l (λ m. token_at (kinds.Delimiter marks.LeftParenthesis) place ⨾ Q m) s → is_next q (first (s ++ r)) ≡ q (kinds.Delimiter marks.LeftParenthesis)
+first_open q l place Q s r g =
+    first_inside q (q (kinds.Delimiter marks.LeftParenthesis)) l (λ m. token_at (kinds.Delimiter marks.LeftParenthesis) place ⨾ Q m) s r
+    (λ m s g. first_of_at q (kinds.Delimiter marks.LeftParenthesis) place (Q m) s r g) g
 
 pub first_primary : (e : ExprTree) (l : Limit) (s r : Tokens) → derives Primary l e s → is_next starts_primary (first (s ++ r)) ≡ true
 first_primary (Number value place) l s r g = first_token_at starts_primary (kinds.Number value) place s r g.1
@@ -86,7 +93,8 @@ first_term (Unary unary.Abs place e) l s r g = first_of_at starts_term (kinds.Wo
 first_term (Unary unary.Not place e) l s r g = first_of_at starts_term (kinds.Word words.Not) place _ s r g.1
 first_term (Unary o place e) l s r g = absurd cc
 first_term (Binary o left right) l s r g =
-    first_then starts_term true _ _ s r (λ u r h. first_term left l u r (subst (λ (n : Production). derives (left_operand n) l left u) (term_operator o g.0) h)) g.1
+    first_then starts_term true _ _ s r (λ u r h. first_term left l u r (subst (λ (n : Production). derives (left_operand n) l left u) (term_operator o g.0) h))
+    g.1
 
 -- ---- operators before their operands
 
@@ -107,8 +115,12 @@ exact_unary_of f n table =
     exact_told (unary_of f) (entry (λ k place. placed (f k) place)) (unary_token n) Free Free (exact_entry (λ k place. placed (f k) place))
     (λ x ts g. let p = placed_is (f g.0.kind) g.0.start x g.2 in let t = table.to g.0.kind x.0 p.0 in (t.1, (g.0, g.1, t.0, p.1)))
     (λ x ts g.
-    let t = g.1 in
-    (t.0, t.1, ap (λ (z : TokenKind). placed (f z) t.0.start) t.2 ∙ ap (λ (m : Option UnaryOperator). placed m t.0.start) (table.back x.0 g.0) ∙ ap (λ (z : ℕ). Some (x.0, z)) t.3))
+    let t = g.1 in (
+      t.0,
+      t.1,
+      ap (λ (z : TokenKind). placed (f z) t.0.start) t.2 ∙ ap (λ (m : Option UnaryOperator). placed m t.0.start) (table.back x.0 g.0)
+          ∙ ap (λ (z : ℕ). Some (x.0, z)) t.3,
+    ))
     (λ x ts o g st. tt) (λ x ts o g st. tt)
 
 -- an operation of the production
@@ -129,9 +141,12 @@ pub exact_prefixed : (f : TokenKind → Option UnaryOperator) (n : Production) (
     → ((e : ExprTree) (s r : Tokens) → derives (right_operand n) (Some k) e s → begins f (first (s ++ r)) ≡ false)
     → Exact (prefixed f a) (prefixed_with n k) (λ _. S)
 exact_prefixed f n k a S table ea clear =
-    exact_either (begins f) (mapped (λ x. Unary x.0.0 x.0.1 x.1) (seq (unary_of f) a)) a (unary_with n k) (derives (right_operand n) (Some k)) (prefixed_with n k) (λ _. S) (λ _. S) (λ _. S)
-    (exact_mapped (λ x. Unary x.0.0 x.0.1 x.1) (seq (unary_of f) a) (Both (unary_token n) (derives (right_operand n) (Some k))) (unary_with n k) (λ x. S) (λ _. S)
-    (exact_seq (unary_of f) a (unary_token n) (derives (right_operand n) (Some k)) Free (λ _. S) (λ x. S) (exact_unary_of f n table) ea (λ x y v r g st. (tt, st)) (λ x y v r g st t. t))
+    exact_either (begins f) (mapped (λ x. Unary x.0.0 x.0.1 x.1) (seq (unary_of f) a)) a (unary_with n k) (derives (right_operand n) (Some k))
+    (prefixed_with n k) (λ _. S) (λ _. S) (λ _. S)
+    (exact_mapped (λ x. Unary x.0.0 x.0.1 x.1) (seq (unary_of f) a) (Both (unary_token n) (derives (right_operand n) (Some k))) (unary_with n k) (λ x. S)
+    (λ _. S)
+    (exact_seq (unary_of f) a (unary_token n) (derives (right_operand n) (Some k)) Free (λ _. S) (λ x. S) (exact_unary_of f n table) ea
+    (λ x y v r g st. (tt, st)) (λ x y v r g st t. t))
     (λ x ts g. (g.3.0, (g.0, g.1, g.2, g.3.1, g.4))) (unary_back n k) (λ x ts o g st. st) (λ x ts o g st. st))
     ea (λ x s r g st h. (inl g, st)) (λ x s r g st h. (inr g, st))
     (λ x s r g st. elim g [
@@ -145,8 +160,11 @@ exact_prefixed f n k a S table ea clear =
 
 -- the operation as the grammar has it
 unary_made : (n : Production) (k : ℕ) (e : ExprTree) (ts : Tokens) → stands_for n n ≡ true → unary_with n k e ts → derives n (Some k) e ts
-unary_made n k (Unary o place e) ts stands g =
-    (ap (λ (z : Production). stands_for z n) g.0 ∙ stands, subst (λ (z : Production). (token_at (unary_symbol o) place ⨾ derives (right_operand z) (Some k) e) ts) (sym g.0) g.1)
+unary_made n k (Unary o place e) ts stands g = (
+  ap (λ (z : Production). stands_for z n) g.0
+      ∙ stands,
+  subst (λ (z : Production). (token_at (unary_symbol o) place ⨾ derives (right_operand z) (Some k) e) ts) (sym g.0) g.1,
+)
 unary_made n k e ts stands g = absurd g
 
 prefix_to : (k : TokenKind) (o : UnaryOperator) → prefix k ≡ Some o → (k ≡ unary_symbol o) × (unary_production o ≡ Factor)
@@ -227,7 +245,8 @@ exact_operator f n table =
     exact_told (operator_of f) (entry (λ k place. f k)) (operator_with n) Free Free (exact_entry (λ k place. f k))
     (λ o ts g. table.to g.0.kind o ts g.2 (g.0, g.1, refl)) (λ o ts g. table.back o ts g.0 g.1) (λ x ts o g st. tt) (λ x ts o g st. tt)
 
-pub operator_first : (f : TokenKind → Option BinaryOperator) (n : Production) → Table f n → (o : BinaryOperator) (s r : Tokens) → operator_with n o s → begins f (first (s ++ r)) ≡ true
+pub operator_first : (f : TokenKind → Option BinaryOperator) (n : Production) → Table f n → (o : BinaryOperator) (s r : Tokens) → operator_with n o s
+    → begins f (first (s ++ r)) ≡ true
 operator_first f n table o s r g =
     let t = table.back o s g.0 g.1 in
     ap (λ (z : Tokens). begins f (first (z ++ r))) t.1 ∙ ap is_there t.2
@@ -245,7 +264,8 @@ binary_made n k o e t u v w itself stands p g h i = (
   ),
 )
 
-pub binary_parts : (n : Production) (k : ℕ) (o : BinaryOperator) (e t : ExprTree) (ts : Tokens) → left_operand n ≡ n → production o ≡ n → derives n (Some k) (Binary o e t) ts
+pub binary_parts : (n : Production) (k : ℕ) (o : BinaryOperator) (e t : ExprTree) (ts : Tokens) → left_operand n ≡ n → production o ≡ n
+    → derives n (Some k) (Binary o e t) ts
     → (derives n (Some k) e ⨾ operator o ⨾ derives (right_operand n) (Some k) t) ts
 binary_parts n k o e t ts itself p g =
     let a = g.1 in
@@ -266,17 +286,21 @@ pub each_more : {A : Type 0} (P : A → Tokens → Type 0) (xs : List A) (x : A)
 each_more P [] x u v g h = (v, [], ap (λ (z : Tokens). z ++ v) g ∙ sym (append-nil v), h, refl)
 each_more P (y ∷ xs) x u v g h = (g.0, g.1 ++ v, ap (λ (z : Tokens). z ++ v) g.2 ∙ append_assoc g.0 g.1 v, g.3, each_more P xs x g.1 v g.4 h)
 
-module _ (n : Production) (k : ℕ) (f : TokenKind → Option BinaryOperator) (table : Table f n) (a b : Reader ExprTree) (PF : ExprTree → Tokens → Type 0) (S : Option Token → Type 0)
+module _ (n : Production) (k : ℕ) (f : TokenKind → Option BinaryOperator) (table : Table f n) (a b : Reader ExprTree) (PF : ExprTree → Tokens → Type 0)
+    (S : Option Token → Type 0)
     (ea : Exact a PF (λ _. S)) (eb : Exact b (derives (right_operand n) (Some k)) (λ _. S))
     (itself : left_operand n ≡ n) (stands : stands_for n n ≡ true)
     (one : (e : ExprTree) (ts : Tokens) → PF e ts → derives n (Some k) e ts)
-    (of : (e : ExprTree) (ts : Tokens) → derives n (Some k) e ts → PF e ts ⊎ ((o : BinaryOperator) × (l : ExprTree) × (r : ExprTree) × (e ≡ Binary o l r) × (production o ≡ n)))
+    (of : (e : ExprTree) (ts : Tokens) → derives n (Some k) e ts
+    → PF e ts ⊎ ((o : BinaryOperator) × (l : ExprTree) × (r : ExprTree) × (e ≡ Binary o l r) × (production o ≡ n)))
     (goes : (o : Option Token) → begins f o ≡ true → S o) where
   abbrev pub Item : BinaryOperator × ExprTree → Tokens → Type 0
   Item x = operator_with n x.0 ⨾ derives (right_operand n) (Some k) x.1
 
   pub exact_item : Exact (seq (operator_of f) b) Item (λ _. S)
-  exact_item = exact_seq (operator_of f) b (operator_with n) (derives (right_operand n) (Some k)) Free (λ _. S) (λ _. S) (exact_operator f n table) eb (λ x y v r g st. (tt, st)) (λ x y v r g st t. t)
+  exact_item =
+      exact_seq (operator_of f) b (operator_with n) (derives (right_operand n) (Some k)) Free (λ _. S) (λ _. S) (exact_operator f n table) eb
+      (λ x y v r g st. (tt, st)) (λ x y v r g st t. t)
 
   pub item_first : (x : BinaryOperator × ExprTree) (s r : Tokens) → Item x s → begins f (first (s ++ r)) ≡ true
   item_first x s r g = first_then (λ z. is_there (f z)) true (operator_with n x.0) _ s r (λ u r h. operator_first f n table x.0 u r h) g
@@ -291,17 +315,21 @@ module _ (n : Production) (k : ℕ) (f : TokenKind → Option BinaryOperator) (t
   stops_in [] v r g st = (subst (λ (z : Tokens). S (first (z ++ r))) (sym g) st.1, st.0)
   stops_in (x ∷ xs) v r g st = (goes (first (v ++ r)) (first_then (λ z. is_there (f z)) true (Item x) (each Item xs) v r (item_first x) g), st)
 
-  stops_out : (xs : List (BinaryOperator × ExprTree)) (v r : Tokens) → each Item xs v → S (first (v ++ r)) → ManyStops (begins f) S xs (first r) → Stop (first r)
+  stops_out : (xs : List (BinaryOperator × ExprTree)) (v r : Tokens) → each Item xs v → S (first (v ++ r)) → ManyStops (begins f) S xs (first r)
+      → Stop (first r)
   stops_out [] v r g st m = (m, subst (λ (z : Tokens). S (first (z ++ r))) g st)
   stops_out (x ∷ xs) v r g st m = m
 
-  is_chain : (e : ExprTree) (xs : List (BinaryOperator × ExprTree)) (u v : Tokens) → derives n (Some k) e u → each Item xs v → derives n (Some k) (folded joined e xs) (u ++ v)
+  is_chain : (e : ExprTree) (xs : List (BinaryOperator × ExprTree)) (u v : Tokens) → derives n (Some k) e u → each Item xs v
+      → derives n (Some k) (folded joined e xs) (u ++ v)
   is_chain e [] u v g h = subst (λ (z : Tokens). derives n (Some k) e z) (sym (append-nil u) ∙ ap (λ (z : Tokens). u ++ z) (sym h)) g
   is_chain e (x ∷ xs) u v g h =
       let i = h.3 in
       let made_one = binary_made n k x.0 e x.1 u i.0 i.1 itself stands i.3.0 g i.3.1 i.4 in
-      let first_part : derives n (Some k) (Binary x.0 e x.1) (u ++ h.0) = subst (λ (z : Tokens). derives n (Some k) (Binary x.0 e x.1) (u ++ z)) (sym i.2) made_one in
-      subst (λ (z : Tokens). derives n (Some k) (folded joined (Binary x.0 e x.1) xs) z) (append_assoc u h.0 h.1 ∙ ap (λ (z : Tokens). u ++ z) (sym h.2)) (is_chain (Binary x.0 e x.1) xs (u ++ h.0) h.1 first_part h.4)
+      let first_part : derives n (Some k) (Binary x.0 e x.1) (u ++ h.0) =
+      subst (λ (z : Tokens). derives n (Some k) (Binary x.0 e x.1) (u ++ z)) (sym i.2) made_one in
+      subst (λ (z : Tokens). derives n (Some k) (folded joined (Binary x.0 e x.1) xs) z) (append_assoc u h.0 h.1 ∙ ap (λ (z : Tokens). u ++ z) (sym h.2))
+      (is_chain (Binary x.0 e x.1) xs (u ++ h.0) h.1 first_part h.4)
 
   abbrev Split : ExprTree → Tokens → Type 0
   Split e ts = (x : ExprTree × List (BinaryOperator × ExprTree)) × (PF x.0 ⨾ each Item x.1) ts × (folded joined x.0 x.1 ≡ e)
@@ -309,12 +337,20 @@ module _ (n : Production) (k : ℕ) (f : TokenKind → Option BinaryOperator) (t
   alone : (e : ExprTree) (ts : Tokens) → PF e ts → Split e ts
   alone e ts g = ((e, []), (ts, [], sym (append-nil ts), g, refl), refl)
 
-  more : (o : BinaryOperator) (l r : ExprTree) (u v w : Tokens) → Split l u → operator_with n o v → derives (right_operand n) (Some k) r w → Split (Binary o l r) (u ++ (v ++ w))
+  more : (o : BinaryOperator) (l r : ExprTree) (u v w : Tokens) → Split l u → operator_with n o v → derives (right_operand n) (Some k) r w
+      → Split (Binary o l r) (u ++ (v ++ w))
   more o l r u v w d g h =
       let x = d.0 in
       let p = d.1 in (
         (x.0, x.1 ++ ((o, r) ∷ [])),
-        (p.0, p.1 ++ (v ++ w), ap (λ (z : Tokens). z ++ (v ++ w)) p.2 ∙ append_assoc p.0 p.1 (v ++ w), p.3, each_more Item x.1 (o, r) p.1 (v ++ w) p.4 (v, w, refl, g, h)),
+        (
+          p.0,
+          p.1 ++ (v ++ w),
+          ap (λ (z : Tokens). z ++ (v ++ w)) p.2
+              ∙ append_assoc p.0 p.1 (v ++ w),
+          p.3,
+          each_more Item x.1 (o, r) p.1 (v ++ w) p.4 (v, w, refl, g, h),
+        ),
         folded_more joined x.0 x.1 (o, r) ∙ ap (λ (z : ExprTree). Binary o z r) d.2,
       )
 
@@ -344,7 +380,8 @@ module _ (n : Production) (k : ℕ) (f : TokenKind → Option BinaryOperator) (t
 
   pub exact_chain : Exact (chain_of a f b) (derives n (Some k)) (λ _. Stop)
   exact_chain =
-      exact_mapped (λ x. folded joined x.0 x.1) (seq a (many (begins f) (seq (operator_of f) b))) (Both PF (each Item)) (derives n (Some k)) (λ x. Stop) (λ _. Stop)
+      exact_mapped (λ x. folded joined x.0 x.1) (seq a (many (begins f) (seq (operator_of f) b))) (Both PF (each Item)) (derives n (Some k)) (λ x. Stop)
+      (λ _. Stop)
       (exact_seq a (many (begins f) (seq (operator_of f) b)) PF (each Item) (λ _. S) (ManyStops (begins f) S) (λ x. Stop) ea items_exact
       (λ x y v r g st. stops_in y v r g st) (λ x y v r g st t. stops_out y v r g st t))
       (λ x ts g. subst (λ (z : Tokens). derives n (Some k) (folded joined x.0 x.1) z) (sym g.2) (is_chain x.0 x.1 g.0 g.1 (one x.0 g.0 g.3) g.4))
@@ -353,10 +390,14 @@ module _ (n : Production) (k : ℕ) (f : TokenKind → Option BinaryOperator) (t
 -- ---- the tables
 
 multiplying_to : (k : TokenKind) (o : BinaryOperator) (ts : Tokens) → multiplying k ≡ Some o → token k ts → (production o ≡ Term) × operator o ts
-multiplying_to (kinds.Delimiter marks.Asterisk) o ts h g = let same : binary.Multiply ≡ o = cc in (ap production (sym same), subst (λ (z : BinaryOperator). operator z ts) same g)
-multiplying_to (kinds.Delimiter marks.Slash) o ts h g = let same : binary.Divide ≡ o = cc in (ap production (sym same), subst (λ (z : BinaryOperator). operator z ts) same g)
-multiplying_to (kinds.Word words.Mod) o ts h g = let same : binary.Mod ≡ o = cc in (ap production (sym same), subst (λ (z : BinaryOperator). operator z ts) same g)
-multiplying_to (kinds.Word words.Rem) o ts h g = let same : binary.Rem ≡ o = cc in (ap production (sym same), subst (λ (z : BinaryOperator). operator z ts) same g)
+multiplying_to (kinds.Delimiter marks.Asterisk) o ts h g = let same : binary.Multiply ≡ o = cc in
+    (ap production (sym same), subst (λ (z : BinaryOperator). operator z ts) same g)
+multiplying_to (kinds.Delimiter marks.Slash) o ts h g = let same : binary.Divide ≡ o = cc in
+    (ap production (sym same), subst (λ (z : BinaryOperator). operator z ts) same g)
+multiplying_to (kinds.Word words.Mod) o ts h g = let same : binary.Mod ≡ o = cc in
+    (ap production (sym same), subst (λ (z : BinaryOperator). operator z ts) same g)
+multiplying_to (kinds.Word words.Rem) o ts h g = let same : binary.Rem ≡ o = cc in
+    (ap production (sym same), subst (λ (z : BinaryOperator). operator z ts) same g)
 multiplying_to k o ts h g = absurd cc
 
 multiplying_back : (o : BinaryOperator) (ts : Tokens) → production o ≡ Term → operator o ts → (t : Token) × (ts ≡ t ∷ []) × (multiplying t.kind ≡ Some o)
@@ -370,8 +411,10 @@ pub multiplying_table : Table multiplying Term
 multiplying_table = record { to = multiplying_to; back = multiplying_back }
 
 adding_to : (k : TokenKind) (o : BinaryOperator) (ts : Tokens) → adding k ≡ Some o → token k ts → (production o ≡ Simple) × operator o ts
-adding_to (kinds.Delimiter marks.Plus) o ts h g = let same : binary.Add ≡ o = cc in (ap production (sym same), subst (λ (z : BinaryOperator). operator z ts) same g)
-adding_to (kinds.Delimiter marks.Minus) o ts h g = let same : binary.Subtract ≡ o = cc in (ap production (sym same), subst (λ (z : BinaryOperator). operator z ts) same g)
+adding_to (kinds.Delimiter marks.Plus) o ts h g = let same : binary.Add ≡ o = cc in
+    (ap production (sym same), subst (λ (z : BinaryOperator). operator z ts) same g)
+adding_to (kinds.Delimiter marks.Minus) o ts h g = let same : binary.Subtract ≡ o = cc in
+    (ap production (sym same), subst (λ (z : BinaryOperator). operator z ts) same g)
 adding_to k o ts h g = absurd cc
 
 adding_back : (o : BinaryOperator) (ts : Tokens) → production o ≡ Simple → operator o ts → (t : Token) × (ts ≡ t ∷ []) × (adding t.kind ≡ Some o)
@@ -383,12 +426,18 @@ pub adding_table : Table adding Simple
 adding_table = record { to = adding_to; back = adding_back }
 
 relational_to : (k : TokenKind) (o : BinaryOperator) (ts : Tokens) → relational k ≡ Some o → token k ts → (production o ≡ Relation) × operator o ts
-relational_to (kinds.Delimiter marks.Equals) o ts h g = let same : binary.Equal ≡ o = cc in (ap production (sym same), subst (λ (z : BinaryOperator). operator z ts) same g)
-relational_to (kinds.Delimiter marks.Inequality) o ts h g = let same : binary.NotEqual ≡ o = cc in (ap production (sym same), subst (λ (z : BinaryOperator). operator z ts) same g)
-relational_to (kinds.Delimiter marks.LessThan) o ts h g = let same : binary.Less ≡ o = cc in (ap production (sym same), subst (λ (z : BinaryOperator). operator z ts) same g)
-relational_to (kinds.Delimiter marks.LessOrEqual) o ts h g = let same : binary.LessOrEqual ≡ o = cc in (ap production (sym same), subst (λ (z : BinaryOperator). operator z ts) same g)
-relational_to (kinds.Delimiter marks.GreaterThan) o ts h g = let same : binary.Greater ≡ o = cc in (ap production (sym same), subst (λ (z : BinaryOperator). operator z ts) same g)
-relational_to (kinds.Delimiter marks.GreaterOrEqual) o ts h g = let same : binary.GreaterOrEqual ≡ o = cc in (ap production (sym same), subst (λ (z : BinaryOperator). operator z ts) same g)
+relational_to (kinds.Delimiter marks.Equals) o ts h g = let same : binary.Equal ≡ o = cc in
+    (ap production (sym same), subst (λ (z : BinaryOperator). operator z ts) same g)
+relational_to (kinds.Delimiter marks.Inequality) o ts h g = let same : binary.NotEqual ≡ o = cc in
+    (ap production (sym same), subst (λ (z : BinaryOperator). operator z ts) same g)
+relational_to (kinds.Delimiter marks.LessThan) o ts h g = let same : binary.Less ≡ o = cc in
+    (ap production (sym same), subst (λ (z : BinaryOperator). operator z ts) same g)
+relational_to (kinds.Delimiter marks.LessOrEqual) o ts h g = let same : binary.LessOrEqual ≡ o = cc in
+    (ap production (sym same), subst (λ (z : BinaryOperator). operator z ts) same g)
+relational_to (kinds.Delimiter marks.GreaterThan) o ts h g = let same : binary.Greater ≡ o = cc in
+    (ap production (sym same), subst (λ (z : BinaryOperator). operator z ts) same g)
+relational_to (kinds.Delimiter marks.GreaterOrEqual) o ts h g = let same : binary.GreaterOrEqual ≡ o = cc in
+    (ap production (sym same), subst (λ (z : BinaryOperator). operator z ts) same g)
 relational_to k o ts h g = absurd cc
 
 relational_back : (o : BinaryOperator) (ts : Tokens) → production o ≡ Relation → operator o ts → (t : Token) × (ts ≡ t ∷ []) × (relational t.kind ≡ Some o)
@@ -430,10 +479,13 @@ multiplies k = is_there (multiplying k)
 pub exact_term : (k : ℕ) (d : Option Values) → Below Exacts k d → Exact (term_in d) (derives Term (Some k)) (λ _. Ends continues_term)
 unfolding term_in
 exact_term k d b =
-    exact_told (chain_of (factor_in d) multiplying (factor_in d)) (derives Term (Some k)) (derives Term (Some k)) (λ _ o. (begins multiplying o ≡ false) × Ends starts_selector o) (λ _. Ends continues_term)
-    (exact_chain Term k multiplying multiplying_table (factor_in d) (factor_in d) (derives Factor (Some k)) (Ends starts_selector) (exact_factor k d b) (exact_factor k d b) refl refl
+    exact_told (chain_of (factor_in d) multiplying (factor_in d)) (derives Term (Some k)) (derives Term (Some k))
+    (λ _ o. (begins multiplying o ≡ false) × Ends starts_selector o) (λ _. Ends continues_term)
+    (exact_chain Term k multiplying multiplying_table (factor_in d) (factor_in d) (derives Factor (Some k)) (Ends starts_selector) (exact_factor k d b)
+    (exact_factor k d b) refl refl
     (λ e ts g. widen Factor Term k e ts widen_term g) (term_of k) (apart multiplies starts_selector multiplying_goes))
-    (λ x ts g. g) (λ x ts g. g) (λ x ts o g st. ends_both multiplies starts_selector o st.0 st.1) (λ x ts o g st. (ends_left multiplies starts_selector o st, ends_right multiplies starts_selector o st))
+    (λ x ts g. g) (λ x ts g. g) (λ x ts o g st. ends_both multiplies starts_selector o st.0 st.1)
+    (λ x ts o g st. (ends_left multiplies starts_selector o st, ends_right multiplies starts_selector o st))
 
 -- ---- sums
 
@@ -481,7 +533,10 @@ exact_signed k d b =
 pub exact_simple_in : (k : ℕ) (d : Option Values) → Below Exacts k d → Exact (simple_in d) (derives Simple (Some k)) (λ _. Ends continues_simple)
 unfolding simple_in
 exact_simple_in k d b =
-    exact_told (chain_of (prefixed sign (term_in d)) adding (term_in d)) (derives Simple (Some k)) (derives Simple (Some k)) (λ _ o. (begins adding o ≡ false) × Ends continues_term o) (λ _. Ends continues_simple)
-    (exact_chain Simple k adding adding_table (prefixed sign (term_in d)) (term_in d) (prefixed_with Simple k) (Ends continues_term) (exact_signed k d b) (exact_term k d b) refl refl
+    exact_told (chain_of (prefixed sign (term_in d)) adding (term_in d)) (derives Simple (Some k)) (derives Simple (Some k))
+    (λ _ o. (begins adding o ≡ false) × Ends continues_term o) (λ _. Ends continues_simple)
+    (exact_chain Simple k adding adding_table (prefixed sign (term_in d)) (term_in d) (prefixed_with Simple k) (Ends continues_term) (exact_signed k d b)
+    (exact_term k d b) refl refl
     (simple_one k) (simple_of k) (apart adds continues_term adding_goes))
-    (λ x ts g. g) (λ x ts g. g) (λ x ts o g st. ends_both adds continues_term o st.0 st.1) (λ x ts o g st. (ends_left adds continues_term o st, ends_right adds continues_term o st))
+    (λ x ts g. g) (λ x ts g. g) (λ x ts o g st. ends_both adds continues_term o st.0 st.1)
+    (λ x ts o g st. (ends_left adds continues_term o st, ends_right adds continues_term o st))

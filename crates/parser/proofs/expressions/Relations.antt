@@ -1,22 +1,24 @@
 -- Relations are read exactly.
+use Rattle.lexer.specs.declared.token.TokenKind.TheVariants as kinds
+use Rattle.lexer.specs.declared.delimiter.Delimiter.TheVariants as marks
+use Rattle.ada_tree.specs.declared.expression.UnaryOperator.TheVariants as unary
+use Rattle.ada_tree.specs.declared.expression.BinaryOperator.TheVariants as binary
 use Rattle.std.proofs.Common.{◌≡◌, ℕ, Bool, true, false, [], ◌++◌, Option, Some, refl, sym, ap, subst, ◌∙◌, inl, inr, ◌⊎◌}
 use Rattle.std.proofs.lemmas.List.{append-nil}
 use Rattle.lexer.specs.declared.token.Token.{Token}
 use Rattle.lexer.specs.declared.token.TokenKind.{TokenKind}
-use Rattle.lexer.specs.declared.token.TokenKind.TheVariants as kinds
-use Rattle.lexer.specs.declared.delimiter.Delimiter.TheVariants as marks
 use Rattle.ada_tree.specs.declared.expression.UnaryOperator.{UnaryOperator}
-use Rattle.ada_tree.specs.declared.expression.UnaryOperator.TheVariants as unary
 use Rattle.ada_tree.specs.declared.expression.BinaryOperator.{BinaryOperator}
-use Rattle.ada_tree.specs.declared.expression.BinaryOperator.TheVariants as binary
 use Rattle.ada_tree.specs.ExpressionTree.{ExprTree, Number, Named, Parenthesized, Conditional, Unary, Binary}
 use Rattle.ada_tree.specs.Language.{Tokens, ◌⨾◌}
 use Rattle.ada_tree.specs.ExpressionGrammar.{Production, Simple, Relation, production, unary_production, left_operand, right_operand, stands_for, derives}
 use Rattle.parser.specs.Reading.{first, is_next, is_there, seq, mapped, after, closed, nothing}
 use Rattle.parser.specs.ExpressionReading.{relational, begins, operator_of, Values, simple_in, compared_in, relation_in}
-use Rattle.parser.proofs.Exact.{Exact, Free, Both, exact_seq, exact_behind, exact_mapped, exact_told, exact_either, exact_closed, Closed, exact_nothing, Below, first_then, apart, Ends, ends_both, ends_left, ends_right, not_both}
-use Rattle.parser.proofs.Expressions.{continues_simple, continues_relation, Exacts}
-use Rattle.parser.proofs.Operations.{widen, widen_relation, operator_with, exact_operator, operator_first, relational_table, exact_simple_in}
+use Rattle.parser.proofs.general.Exact.{Exact, Free, Both, exact_seq, exact_behind, exact_mapped, exact_told, exact_either, exact_closed, Closed, exact_nothing}
+use Rattle.parser.proofs.general.Exact.{not_both}
+use Rattle.parser.proofs.general.Several.{Below, first_then, apart, Ends, ends_both, ends_left, ends_right}
+use Rattle.parser.proofs.expressions.Expressions.{continues_simple, continues_relation, Exacts}
+use Rattle.parser.proofs.expressions.Operations.{widen, widen_relation, operator_with, exact_operator, operator_first, relational_table, exact_simple_in}
 
 abbrev pub compares : TokenKind → Bool
 compares k = is_there (relational k)
@@ -83,21 +85,30 @@ second_is : (k : ℕ) (left e : ExprTree) (ts : Tokens) → with_second k left e
 second_is k left e ts g = ap is_relation g.2 ∙ relational_is g.0 g.3.3.0
 
 second_first : (k : ℕ) (left e : ExprTree) (s r : Tokens) → with_second k left e s → is_next compares (first (s ++ r)) ≡ true
-second_first k left e s r g = first_then compares true (operator_with Relation g.0) _ s r (λ u r h. operator_first relational Relation relational_table g.0 u r h) g.3
+second_first k left e s r g =
+    first_then compares true (operator_with Relation g.0) _ s r (λ u r h. operator_first relational Relation relational_table g.0 u r h) g.3
 
-exact_second : (k : ℕ) (d : Option Values) (left : ExprTree) → Below Exacts k d → Exact (mapped (λ x. Binary x.0 left x.1) (seq (operator_of relational) (simple_in d))) (with_second k left) (λ _. Ends continues_simple)
+exact_second : (k : ℕ) (d : Option Values) (left : ExprTree) → Below Exacts k d
+    → Exact (mapped (λ x. Binary x.0 left x.1) (seq (operator_of relational) (simple_in d))) (with_second k left) (λ _. Ends continues_simple)
 exact_second k d left b =
-    exact_mapped (λ x. Binary x.0 left x.1) (seq (operator_of relational) (simple_in d)) (Both (operator_with Relation) (derives Simple (Some k))) (with_second k left) (λ x. Ends continues_simple) (λ _. Ends continues_simple)
-    (exact_seq (operator_of relational) (simple_in d) (operator_with Relation) (derives Simple (Some k)) Free (λ _. Ends continues_simple) (λ x. Ends continues_simple) (exact_operator relational Relation relational_table) (exact_simple_in k d b)
+    exact_mapped (λ x. Binary x.0 left x.1) (seq (operator_of relational) (simple_in d)) (Both (operator_with Relation) (derives Simple (Some k)))
+    (with_second k left) (λ x. Ends continues_simple) (λ _. Ends continues_simple)
+    (exact_seq (operator_of relational) (simple_in d) (operator_with Relation) (derives Simple (Some k)) Free (λ _. Ends continues_simple)
+    (λ x. Ends continues_simple) (exact_operator relational Relation relational_table) (exact_simple_in k d b)
     (λ x y v r g st. (tt, st)) (λ x y v r g st t. t))
     (λ x ts g. (x.0, x.1, refl, g)) (λ y ts g. ((g.0, g.1), g.3, sym g.2)) (λ x ts o g st. st) (λ x ts o g st. st)
 
-exact_compared : (k : ℕ) (d : Option Values) (left : ExprTree) → Below Exacts k d → is_relation left ≡ false → Exact (compared_in d left) (compared k left) ComparedStops
+exact_compared : (k : ℕ) (d : Option Values) (left : ExprTree) → Below Exacts k d → is_relation left ≡ false
+    → Exact (compared_in d left) (compared k left) ComparedStops
 exact_compared k d left b alone =
-    exact_either (begins relational) (mapped (λ x. Binary x.0 left x.1) (seq (operator_of relational) (simple_in d))) (nothing left) (with_second k left) (same_here left) (compared k left) (λ _. Ends continues_simple) Free ComparedStops
+    exact_either (begins relational) (mapped (λ x. Binary x.0 left x.1) (seq (operator_of relational) (simple_in d))) (nothing left) (with_second k left)
+    (same_here left) (compared k left) (λ _. Ends continues_simple) Free ComparedStops
     (exact_second k d left b) (exact_nothing left)
     (λ x s r g st p. (inl g, (λ f. not_both (is_relation x) (second_is k left x s g) f, λ t. st)))
-    (λ x s r g st p. (inr g, (λ f. subst (λ (z : Tokens). begins relational (first (z ++ r)) ≡ false) g.1 p, λ t. not_both (is_relation x) t (ap is_relation g.0 ∙ alone))))
+    (λ x s r g st p. (
+      inr g,
+      (λ f. subst (λ (z : Tokens). begins relational (first (z ++ r)) ≡ false) g.1 p, λ t. not_both (is_relation x) t (ap is_relation g.0 ∙ alone)),
+    ))
     (λ x s r g st. elim g [
       | inl w ↦ inl (second_first k left x s r w, w, st.1 (second_is k left x s w))
       | inr w ↦ inr (subst (λ (z : Tokens). begins relational (first (z ++ r)) ≡ false) (sym w.1) (st.0 (ap is_relation w.0 ∙ alone)), w, tt)
@@ -111,11 +122,18 @@ relation_to k x y u v g (inl w) =
     let p : production w.0 ≡ Relation = h.3.0 in
     subst (λ (z : ExprTree). derives Relation (Some k) z (u ++ v)) (sym w.2) (
       ap (λ (z : Production). stands_for z Relation) p,
-      (u, v, refl, subst (λ (z : Production). derives (left_operand z) (Some k) x u) (sym p) g, (h.0, h.1, h.2, h.3.1, subst (λ (z : Production). derives (right_operand z) (Some k) w.1 h.1) (sym p) h.4)),
+      (
+        u,
+        v,
+        refl,
+        subst (λ (z : Production). derives (left_operand z) (Some k) x u) (sym p) g,
+        (h.0, h.1, h.2, h.3.1, subst (λ (z : Production). derives (right_operand z) (Some k) w.1 h.1) (sym p) h.4),
+      ),
     )
 relation_to k x y u v g (inr w) =
     subst (λ (z : ExprTree). derives Relation (Some k) z (u ++ v)) (sym w.0)
-    (subst (λ (z : Tokens). derives Relation (Some k) x z) (sym (ap (λ (z : Tokens). u ++ z) w.1 ∙ append-nil u)) (widen Simple Relation k x u widen_relation g))
+    (subst (λ (z : Tokens). derives Relation (Some k) x z) (sym (ap (λ (z : Tokens). u ++ z) w.1 ∙ append-nil u))
+    (widen Simple Relation k x u widen_relation g))
 
 relation_operator : (o : BinaryOperator) → stands_for (production o) Relation ≡ true → (stands_for (production o) Simple ≡ true) ⊎ (production o ≡ Relation)
 relation_operator binary.Equal h = inr refl
@@ -167,24 +185,28 @@ relation_back k (Conditional place condition value others else_value) ts g = one
 abbrev OpenStops : ExprTree → Option Token → Type 0
 OpenStops y t = Ends continues_simple t × (is_relation y ≡ false → Ends compares t)
 
-relation_fits : (k : ℕ) (x y : ExprTree) (v r : Tokens) → compared k x y v → OpenStops y (first r) → Ends continues_simple (first (v ++ r)) × ComparedStops y (first r)
+relation_fits : (k : ℕ) (x y : ExprTree) (v r : Tokens) → compared k x y v → OpenStops y (first r)
+    → Ends continues_simple (first (v ++ r)) × ComparedStops y (first r)
 relation_fits k x y v r (inl w) st = (apart compares continues_simple relational_goes (first (v ++ r)) (second_first k x y v r w), (st.1, λ t. st.0))
 relation_fits k x y v r (inr w) st = (subst (λ (z : Tokens). Ends continues_simple (first (z ++ r))) (sym w.1) st.0, (st.1, λ t. st.0))
 
-relation_stop : (k : ℕ) (x y : ExprTree) (v r : Tokens) → compared k x y v → Ends continues_simple (first (v ++ r)) → ComparedStops y (first r) → OpenStops y (first r)
+relation_stop : (k : ℕ) (x y : ExprTree) (v r : Tokens) → compared k x y v → Ends continues_simple (first (v ++ r)) → ComparedStops y (first r)
+    → OpenStops y (first r)
 relation_stop k x y v r (inl w) sa sb = (sb.1 (second_is k x y v w), sb.0)
 relation_stop k x y v r (inr w) sa sb = (subst (λ (z : Tokens). Ends continues_simple (first (z ++ r))) w.1 sa, sb.0)
 
 exact_open_relation : (k : ℕ) (d : Option Values) → Below Exacts k d → Exact (after (simple_in d) (compared_in d)) (derives Relation (Some k)) OpenStops
 exact_open_relation k d b =
-    exact_behind (simple_in d) (compared_in d) (derives Simple (Some k)) (compared k) (λ _. Ends continues_simple) (λ left. ComparedStops) (derives Relation (Some k)) OpenStops
+    exact_behind (simple_in d) (compared_in d) (derives Simple (Some k)) (compared k) (λ _. Ends continues_simple) (λ left. ComparedStops)
+    (derives Relation (Some k)) OpenStops
     (exact_simple_in k d b) (λ x u g. exact_compared k d x b (simple_alone k x u g)) (relation_to k) (relation_back k)
     (λ x y u v r g h st. relation_fits k x y v r h st) (λ x y u v r g h sa sb. relation_stop k x y v r h sa sb)
 
 pub exact_relation : (k : ℕ) (d : Option Values) → Below Exacts k d → Exact (relation_in d) (derives Relation (Some k)) (λ _. Ends continues_relation)
 unfolding relation_in
 exact_relation k d b =
-    exact_told (closed (begins relational) (after (simple_in d) (compared_in d))) (derives Relation (Some k)) (derives Relation (Some k)) (Closed (begins relational) OpenStops) (λ _. Ends continues_relation)
+    exact_told (closed (begins relational) (after (simple_in d) (compared_in d))) (derives Relation (Some k)) (derives Relation (Some k))
+    (Closed (begins relational) OpenStops) (λ _. Ends continues_relation)
     (exact_closed (begins relational) (after (simple_in d) (compared_in d)) (derives Relation (Some k)) OpenStops (exact_open_relation k d b))
     (λ x ts g. g) (λ x ts g. g) (λ x ts o g st. ends_both compares continues_simple o st.0 st.1.0)
     (λ x ts o g st. (ends_left compares continues_simple o st, (ends_right compares continues_simple o st, λ f. ends_left compares continues_simple o st)))

@@ -1,26 +1,31 @@
 -- Expressions are read exactly.
+use Rattle.lexer.specs.declared.token.TokenKind.TheVariants as kinds
+use Rattle.lexer.specs.declared.word.Word.TheVariants as words
+use Rattle.ada_tree.specs.declared.expression.UnaryOperator.TheVariants as unary
+use Rattle.ada_tree.specs.declared.expression.BinaryOperator.TheVariants as binary
 use Rattle.std.proofs.Common.{◌≡◌, ℕ, Bool, true, false, cond, List, [], ◌∷◌, ◌++◌, Option, Some, None, refl, sym, ap, subst, ◌∙◌, append_assoc, inl, inr, ◌⊎◌}
 use Rattle.std.proofs.lemmas.List.{append-nil}
 use denote.Enum.Bare.{same_true, true_same}
 use Rattle.lexer.specs.declared.token.Token.{Token}
 use Rattle.lexer.specs.declared.token.TokenKind.{TokenKind}
-use Rattle.lexer.specs.declared.token.TokenKind.TheVariants as kinds
 use Rattle.lexer.specs.declared.word.Word.{Word}
-use Rattle.lexer.specs.declared.word.Word.TheVariants as words
 use Rattle.ada_tree.specs.declared.expression.UnaryOperator.{UnaryOperator}
-use Rattle.ada_tree.specs.declared.expression.UnaryOperator.TheVariants as unary
 use Rattle.ada_tree.specs.declared.expression.BinaryOperator.{BinaryOperator}
-use Rattle.ada_tree.specs.declared.expression.BinaryOperator.TheVariants as binary
 use Rattle.ada_tree.specs.contracts.expression.BinaryOperator.{the_type}
 use Rattle.ada_tree.specs.ExpressionTree.{ExprTree, Number, Named, Parenthesized, Conditional, Unary, Binary}
 use Rattle.ada_tree.specs.Language.{Tokens, ◌⨾◌, word, each}
-use Rattle.ada_tree.specs.ExpressionGrammar.{Production, Primary, Factor, Term, Simple, Relation, Chain, Expression, production, unary_production, stands_for, operator, derives}
+use Rattle.ada_tree.specs.ExpressionGrammar.{Production, Primary, Factor, Term, Simple, Relation, Chain, Expression, production, unary_production, stands_for}
+use Rattle.ada_tree.specs.ExpressionGrammar.{operator, derives}
 use Rattle.parser.specs.Reading.{Reader, first, is_kind, is_next, is_first, is_word, skip_word, seq, mapped, choose, many, after, closed, nothing}
-use Rattle.parser.specs.ExpressionReading.{Values, folded, relation_in, starts_logical, begins_logical, with_more, logical_of, first_word, second_word, optional_word, repeated, operated, logical_chain, logical_in, expression_in}
-use Rattle.parser.proofs.Exact.{Exact, Free, Both, exact_seq, exact_behind, exact_mapped, exact_told, exact_either, exact_closed, Closed, exact_nothing, exact_skipped, ManyStops, exact_many, Below, is_itself, is_that_kind, no_such, kind_ends, first_then, first_token, first_of, apart, Ends, ends_both, ends_left, ends_right, not_both, true_or_false}
-use Rattle.parser.proofs.Expressions.{continues_relation, starts, first_made, Exacts, ExpressionStops}
-use Rattle.parser.proofs.Operations.{Widens, widen, binary_made, binary_parts, folded_more, each_more}
-use Rattle.parser.proofs.Relations.{exact_relation}
+use Rattle.parser.specs.ExpressionReading.{Values, folded, relation_in, starts_logical, begins_logical, with_more, logical_of, first_word, second_word}
+use Rattle.parser.specs.ExpressionReading.{optional_word, repeated, operated, logical_chain, logical_in, expression_in}
+use Rattle.parser.proofs.general.Exact.{Exact, Free, Both, exact_seq, exact_behind, exact_mapped, exact_told, exact_either, exact_closed, Closed, exact_nothing}
+use Rattle.parser.proofs.general.Exact.{is_itself, is_that_kind, no_such, not_both, true_or_false}
+use Rattle.parser.proofs.general.Several.{exact_skipped, ManyStops, exact_many, Below, kind_ends, first_then, first_token, first_of, apart, Ends, ends_both}
+use Rattle.parser.proofs.general.Several.{ends_left, ends_right}
+use Rattle.parser.proofs.expressions.Expressions.{continues_relation, starts, first_made, Exacts, ExpressionStops}
+use Rattle.parser.proofs.expressions.Operations.{Widens, widen, binary_made, binary_parts, folded_more, each_more}
+use Rattle.parser.proofs.expressions.Relations.{exact_relation}
 
 -- ---- logical operators
 
@@ -52,8 +57,10 @@ module _ (short : BinaryOperator) (more : Word) (long : BinaryOperator) (differ 
 
   exact_with_more : Exact (with_more short more long) More (MoreStops short more)
   exact_with_more =
-      exact_either (is_word more) (mapped (λ x. long) (skip_word more)) (nothing short) (λ o ts. (o ≡ long) × word more ts) (λ o ts. (o ≡ short) × (ts ≡ [])) More Free Free (MoreStops short more)
-      (exact_mapped (λ x. long) (skip_word more) (λ _. word more) (λ o ts. (o ≡ long) × word more ts) Free Free (exact_skipped (kinds.Word more) (is_itself more))
+      exact_either (is_word more) (mapped (λ x. long) (skip_word more)) (nothing short) (λ o ts. (o ≡ long) × word more ts) (λ o ts. (o ≡ short) × (ts ≡ []))
+      More Free Free (MoreStops short more)
+      (exact_mapped (λ x. long) (skip_word more) (λ _. word more) (λ o ts. (o ≡ long) × word more ts) Free Free
+      (exact_skipped (kinds.Word more) (is_itself more))
       (λ x ts g. (refl, g)) (λ y ts g. (tt, g.1, sym g.0)) (λ x ts o g st. tt) (λ x ts o g st. tt))
       (exact_nothing short)
       (λ x s r g st p. (inl g, λ is. absurd (differ (sym is ∙ g.0))))
@@ -79,8 +86,10 @@ module _ (short : BinaryOperator) (more : Word) (long : BinaryOperator) (differ 
 
   exact_words : (w : Word) → Exact (mapped (λ x. x.1) (seq (skip_word w) (with_more short more long))) (Words w) (MoreStops short more)
   exact_words w =
-      exact_mapped (λ x. x.1) (seq (skip_word w) (with_more short more long)) (Both (λ _. word w) More) (Words w) (λ x. MoreStops short more x.1) (MoreStops short more)
-      (exact_seq (skip_word w) (with_more short more long) (λ _. word w) More Free (MoreStops short more) (λ x. MoreStops short more x.1) (exact_skipped (kinds.Word w) (is_itself w)) exact_with_more (λ x y v r g st. (tt, st)) (λ x y v r g st t. t))
+      exact_mapped (λ x. x.1) (seq (skip_word w) (with_more short more long)) (Both (λ _. word w) More) (Words w) (λ x. MoreStops short more x.1)
+      (MoreStops short more)
+      (exact_seq (skip_word w) (with_more short more long) (λ _. word w) More Free (MoreStops short more) (λ x. MoreStops short more x.1)
+      (exact_skipped (kinds.Word w) (is_itself w)) exact_with_more (λ x y v r g st. (tt, st)) (λ x y v r g st t. t))
       (words_to w) (words_back w) (λ x ts o g st. st) (λ x ts o g st. st)
 
 and_differ : binary.And ≡ binary.AndThen → ⊥
@@ -120,7 +129,8 @@ xor_out : (x : BinaryOperator) (s : Tokens) (t : Option Token) → xor_word x s 
 xor_out x s t g = subst (λ (z : BinaryOperator). or_with z s × OperatorStops z t) (sym g.0) (g.1, tt)
 
 which_or : (x : BinaryOperator) (s r : Tokens) → or_with x s → OperatorStops x (first r)
-    → ((is_word words.Or (first (s ++ r)) ≡ true) × or_words x s × MoreStops binary.Or words.Else x (first r)) ⊎ ((is_word words.Or (first (s ++ r)) ≡ false) × xor_word x s × Unit {0})
+    → ((is_word words.Or (first (s ++ r)) ≡ true) × or_words x s × MoreStops binary.Or words.Else x (first r))
+    ⊎ ((is_word words.Or (first (s ++ r)) ≡ false) × xor_word x s × Unit {0})
 which_or binary.Or s r g st = inl (first_token (is_kind (kinds.Word words.Or)) (kinds.Word words.Or) s r g, inr (refl, g), λ is. st)
 which_or binary.OrElse s r g st = inl (first_of (is_kind (kinds.Word words.Or)) (kinds.Word words.Or) _ s r g, inl (refl, g), λ is. absurd (or_differ (sym is)))
 which_or binary.Xor s r g st = inr (first_token (is_kind (kinds.Word words.Or)) (kinds.Word words.Xor) s r g, (refl, g), tt)
@@ -143,9 +153,11 @@ or_logical binary.Xor s g = g
 or_logical x s g = absurd g
 
 which_logical : (x : BinaryOperator) (s r : Tokens) → logical_with x s → OperatorStops x (first r)
-    → ((is_word words.And (first (s ++ r)) ≡ true) × and_words x s × MoreStops binary.And words.Then x (first r)) ⊎ ((is_word words.And (first (s ++ r)) ≡ false) × or_with x s × OperatorStops x (first r))
+    → ((is_word words.And (first (s ++ r)) ≡ true) × and_words x s × MoreStops binary.And words.Then x (first r))
+    ⊎ ((is_word words.And (first (s ++ r)) ≡ false) × or_with x s × OperatorStops x (first r))
 which_logical binary.And s r g st = inl (first_token (is_kind (kinds.Word words.And)) (kinds.Word words.And) s r g, inr (refl, g), λ is. st)
-which_logical binary.AndThen s r g st = inl (first_of (is_kind (kinds.Word words.And)) (kinds.Word words.And) _ s r g, inl (refl, g), λ is. absurd (and_differ (sym is)))
+which_logical binary.AndThen s r g st =
+    inl (first_of (is_kind (kinds.Word words.And)) (kinds.Word words.And) _ s r g, inl (refl, g), λ is. absurd (and_differ (sym is)))
 which_logical binary.Or s r g st = inr (first_token (is_kind (kinds.Word words.And)) (kinds.Word words.Or) s r g, g, st)
 which_logical binary.OrElse s r g st = inr (first_of (is_kind (kinds.Word words.And)) (kinds.Word words.Or) _ s r g, g, st)
 which_logical binary.Xor s r g st = inr (first_token (is_kind (kinds.Word words.And)) (kinds.Word words.Xor) s r g, g, st)
@@ -153,7 +165,8 @@ which_logical x s r g st = absurd g
 
 pub exact_logical_of : Exact logical_of logical_with OperatorStops
 exact_logical_of =
-    exact_either (is_word words.And) and_of (choose (is_word words.Or) or_of xor_of) and_words or_with logical_with (MoreStops binary.And words.Then) OperatorStops OperatorStops
+    exact_either (is_word words.And) and_of (choose (is_word words.Or) or_of xor_of) and_words or_with logical_with (MoreStops binary.And words.Then)
+    OperatorStops OperatorStops
     (exact_words binary.And words.Then binary.AndThen and_differ words.And) exact_or
     (λ x s r g st p. and_out x s (first r) g st) (λ x s r g st p. (or_logical x s g, st)) which_logical
 
@@ -244,7 +257,9 @@ optionally None ts = ts ≡ []
 optionally (Some w) ts = word w ts
 
 exact_optional : (m : Option Word) → Exact (optional_word m) (λ _. optionally m) Free
-exact_optional None = exact_told (nothing tt) (λ y ts. (y ≡ tt) × (ts ≡ [])) (λ _. optionally None) Free Free (exact_nothing tt) (λ y ts g. g.1) (λ y ts g. (refl, g)) (λ x ts o g st. tt) (λ x ts o g st. tt)
+exact_optional None =
+    exact_told (nothing tt) (λ y ts. (y ≡ tt) × (ts ≡ [])) (λ _. optionally None) Free Free (exact_nothing tt) (λ y ts g. g.1) (λ y ts g. (refl, g))
+    (λ x ts o g st. tt) (λ x ts o g st. tt)
 exact_optional (Some w) = exact_skipped (kinds.Word w) (is_itself w)
 
 repeated_to : (o : BinaryOperator) (ts : Tokens) → is_logical o ≡ true → (word (first_word o) ⨾ optionally (second_word o)) ts → logical_with o ts
@@ -268,13 +283,17 @@ words_of o = word (first_word o) ⨾ optionally (second_word o)
 
 pub exact_words_of : (o : BinaryOperator) → Exact (repeated o) (λ _. words_of o) Free
 exact_words_of o =
-    exact_mapped (λ x. tt) (seq (skip_word (first_word o)) (optional_word (second_word o))) (Both (λ _. word (first_word o)) (λ _. optionally (second_word o))) (λ _. words_of o) Free Free
-    (exact_seq (skip_word (first_word o)) (optional_word (second_word o)) (λ _. word (first_word o)) (λ _. optionally (second_word o)) Free Free Free (exact_skipped (kinds.Word (first_word o)) (is_itself (first_word o))) (exact_optional (second_word o)) (λ x y v r g st. (tt, tt)) (λ x y v r g st t. tt))
+    exact_mapped (λ x. tt) (seq (skip_word (first_word o)) (optional_word (second_word o))) (Both (λ _. word (first_word o)) (λ _. optionally (second_word o)))
+    (λ _. words_of o) Free Free
+    (exact_seq (skip_word (first_word o)) (optional_word (second_word o)) (λ _. word (first_word o)) (λ _. optionally (second_word o)) Free Free Free
+    (exact_skipped (kinds.Word (first_word o)) (is_itself (first_word o))) (exact_optional (second_word o)) (λ x y v r g st. (tt, tt))
+    (λ x y v r g st t. tt))
     (λ x ts g. g) (λ y ts g. ((tt, tt), g, refl)) (λ x ts t g st. tt) (λ x ts t g st. tt)
 
 exact_repeated : (o : BinaryOperator) → is_logical o ≡ true → Exact (repeated o) (λ _. logical_with o) Free
 exact_repeated o h =
-    exact_told (repeated o) (λ _. words_of o) (λ _. logical_with o) Free Free (exact_words_of o) (λ x ts g. repeated_to o ts h g) (λ x ts g. repeated_back o ts g) (λ x ts t g st. tt) (λ x ts t g st. tt)
+    exact_told (repeated o) (λ _. words_of o) (λ _. logical_with o) Free Free (exact_words_of o) (λ x ts g. repeated_to o ts h g)
+    (λ x ts g. repeated_back o ts g) (λ x ts t g st. tt) (λ x ts t g st. tt)
 
 -- ---- a chain of one operator, behind its first operand
 
@@ -287,13 +306,16 @@ module _ (k : ℕ) (d : Option Values) (b : Below Exacts k d) (o : BinaryOperato
 
   pub exact_next_operand : Exact item (next_operand k o) (λ _. Ends continues_relation)
   exact_next_operand =
-      exact_mapped (λ x. x.1) (seq (repeated o) (relation_in d)) (Both (λ _. logical_with o) (derives Relation (Some k))) (next_operand k o) (λ x. Ends continues_relation) (λ _. Ends continues_relation)
-      (exact_seq (repeated o) (relation_in d) (λ _. logical_with o) (derives Relation (Some k)) Free (λ _. Ends continues_relation) (λ x. Ends continues_relation) (exact_repeated o lo) (exact_relation k d b) (λ x y v r g st. (tt, st)) (λ x y v r g st t. t))
+      exact_mapped (λ x. x.1) (seq (repeated o) (relation_in d)) (Both (λ _. logical_with o) (derives Relation (Some k))) (next_operand k o)
+      (λ x. Ends continues_relation) (λ _. Ends continues_relation)
+      (exact_seq (repeated o) (relation_in d) (λ _. logical_with o) (derives Relation (Some k)) Free (λ _. Ends continues_relation)
+      (λ x. Ends continues_relation) (exact_repeated o lo) (exact_relation k d b) (λ x y v r g st. (tt, st)) (λ x y v r g st t. t))
       (λ x ts g. g) (λ y ts g. ((tt, y), g, refl)) (λ x ts t g st. st) (λ x ts t g st. st)
 
   pub operand_first : (x : ExprTree) (s r : Tokens) → next_operand k o x s → is_word (first_word o) (first (s ++ r)) ≡ true
   operand_first x s r g =
-      first_then (is_kind (kinds.Word (first_word o))) true (logical_with o) _ s r (λ u r h. logical_first o u r (is_kind (kinds.Word (first_word o))) h ∙ is_itself (first_word o)) g
+      first_then (is_kind (kinds.Word (first_word o))) true (logical_with o) _ s r (λ u r h. logical_first o u r (is_kind (kinds.Word (first_word o))) h
+      ∙ is_itself (first_word o)) g
 
   pub operand_goes : (t : Option Token) → is_word (first_word o) t ≡ true → Ends continues_relation t
   operand_goes t h = kind_ends (kinds.Word (first_word o)) continues_relation t (word_ends o) h
@@ -301,26 +323,36 @@ module _ (k : ℕ) (d : Option Values) (b : Below Exacts k d) (o : BinaryOperato
   abbrev Stop : Option Token → Type 0
   Stop t = (is_word (first_word o) t ≡ false) × Ends continues_relation t
 
-  stops_in : (xs : List ExprTree) (v r : Tokens) → each (next_operand k o) xs v → Stop (first r) → Ends continues_relation (first (v ++ r)) × ManyStops (is_word (first_word o)) (Ends continues_relation) xs (first r)
+  stops_in : (xs : List ExprTree) (v r : Tokens) → each (next_operand k o) xs v → Stop (first r)
+      → Ends continues_relation (first (v ++ r)) × ManyStops (is_word (first_word o)) (Ends continues_relation) xs (first r)
   stops_in [] v r g st = (subst (λ (z : Tokens). Ends continues_relation (first (z ++ r))) (sym g) st.1, st.0)
-  stops_in (x ∷ xs) v r g st = (operand_goes (first (v ++ r)) (first_then (is_kind (kinds.Word (first_word o))) true (next_operand k o x) (each (next_operand k o) xs) v r (operand_first x) g), st)
+  stops_in (x ∷ xs) v r g st = (
+    operand_goes (first (v ++ r))
+        (first_then (is_kind (kinds.Word (first_word o))) true (next_operand k o x) (each (next_operand k o) xs) v r (operand_first x) g),
+    st,
+  )
 
-  stops_out : (xs : List ExprTree) (v r : Tokens) → each (next_operand k o) xs v → Ends continues_relation (first (v ++ r)) → ManyStops (is_word (first_word o)) (Ends continues_relation) xs (first r) → Stop (first r)
+  stops_out : (xs : List ExprTree) (v r : Tokens) → each (next_operand k o) xs v → Ends continues_relation (first (v ++ r))
+      → ManyStops (is_word (first_word o)) (Ends continues_relation) xs (first r) → Stop (first r)
   stops_out [] v r g st m = (m, subst (λ (z : Tokens). Ends continues_relation (first (z ++ r))) g st)
   stops_out (x ∷ xs) v r g st m = m
 
   pub exact_operands : Exact (seq (relation_in d) (many (is_word (first_word o)) item)) (Both (derives Relation (Some k)) (each (next_operand k o))) (λ _. Stop)
   exact_operands =
-      exact_seq (relation_in d) (many (is_word (first_word o)) item) (derives Relation (Some k)) (each (next_operand k o)) (λ _. Ends continues_relation) (ManyStops (is_word (first_word o)) (Ends continues_relation)) (λ _. Stop)
-      (exact_relation k d b) (exact_many (is_word (first_word o)) item (next_operand k o) (Ends continues_relation) exact_next_operand operand_first operand_goes refl)
+      exact_seq (relation_in d) (many (is_word (first_word o)) item) (derives Relation (Some k)) (each (next_operand k o)) (λ _. Ends continues_relation)
+      (ManyStops (is_word (first_word o)) (Ends continues_relation)) (λ _. Stop)
+      (exact_relation k d b) (exact_many (is_word (first_word o)) item (next_operand k o) (Ends continues_relation) exact_next_operand operand_first
+      operand_goes refl)
       (λ x y v r g st. stops_in y v r g st) (λ x y v r g st t. stops_out y v r g st t)
 
   abbrev ChainWith : ExprTree → ExprTree → Tokens → Type 0
-  ChainWith left e ts = (x : ExprTree) × (xs : List ExprTree) × (e ≡ folded (operated o) (Binary o left x) xs) × (derives Relation (Some k) x ⨾ each (next_operand k o) xs) ts
+  ChainWith left e ts =
+      (x : ExprTree) × (xs : List ExprTree) × (e ≡ folded (operated o) (Binary o left x) xs) × (derives Relation (Some k) x ⨾ each (next_operand k o) xs) ts
 
   exact_logical_chain : (left : ExprTree) → Exact (logical_chain d left o) (ChainWith left) (λ _. Stop)
   exact_logical_chain left =
-      exact_mapped (λ x. folded (operated o) (Binary o left x.0) x.1) (seq (relation_in d) (many (is_word (first_word o)) item)) (Both (derives Relation (Some k)) (each (next_operand k o))) (ChainWith left) (λ _. Stop) (λ _. Stop)
+      exact_mapped (λ x. folded (operated o) (Binary o left x.0) x.1) (seq (relation_in d) (many (is_word (first_word o)) item))
+      (Both (derives Relation (Some k)) (each (next_operand k o))) (ChainWith left) (λ _. Stop) (λ _. Stop)
       exact_operands (λ x ts g. (x.0, x.1, refl, g)) (λ y ts g. ((g.0, g.1), g.3, sym g.2)) (λ x ts t g st. st) (λ x ts t g st. st)
 
 -- ---- which words may follow a tree
@@ -340,13 +372,15 @@ again_chain o left right [] None h = refl
 again_chain o left right [] (Some t) h = ap (λ (b : Bool). cond b (is_kind (kinds.Word (first_word o)) t.kind) (starts_logical t.kind)) h
 again_chain o left right (x ∷ xs) t h = again_chain o (Binary o left right) x xs t h
 
-chain_is : (o : BinaryOperator) (left right : ExprTree) (xs : List ExprTree) → is_logical o ≡ true → is_chain (folded (operated o) (Binary o left right) xs) ≡ true
+chain_is : (o : BinaryOperator) (left right : ExprTree) (xs : List ExprTree) → is_logical o ≡ true
+    → is_chain (folded (operated o) (Binary o left right) xs) ≡ true
 chain_is o left right [] h = h
 chain_is o left right (x ∷ xs) h = chain_is o (Binary o left right) x xs h
 
 again_relation : (k : ℕ) (e : ExprTree) (ts : Tokens) (t : Option Token) → derives Relation (Some k) e ts → is_next (again e) t ≡ is_next starts_logical t
 again_relation k e ts None g = refl
-again_relation k (Binary o left right) ts (Some t) g = ap (λ (b : Bool). cond b (is_kind (kinds.Word (first_word o)) t.kind) (starts_logical t.kind)) (not_logical o g.0)
+again_relation k (Binary o left right) ts (Some t) g =
+    ap (λ (b : Bool). cond b (is_kind (kinds.Word (first_word o)) t.kind) (starts_logical t.kind)) (not_logical o g.0)
 again_relation k e ts (Some t) g = refl
 
 relation_alone : (k : ℕ) (e : ExprTree) (ts : Tokens) → derives Relation (Some k) e ts → is_chain e ≡ false
@@ -366,14 +400,16 @@ either_false false c d h i = i
 
 again_less : (e : ExprTree) (t : Option Token) → Ends starts_logical t → Ends (again e) t
 again_less e None h = refl
-again_less (Binary o left right) (Some t) h = either_false (is_logical o) (is_kind (kinds.Word (first_word o)) t.kind) (starts_logical t.kind) (word_less o t.kind h) h
+again_less (Binary o left right) (Some t) h =
+    either_false (is_logical o) (is_kind (kinds.Word (first_word o)) t.kind) (starts_logical t.kind) (word_less o t.kind h) h
 again_less e (Some t) h = h
 
 -- ---- an operator and its chain
 
 abbrev Chained : ℕ → ExprTree → ExprTree → Tokens → Type 0
 Chained k left e ts =
-    (o : BinaryOperator) × (x : ExprTree) × (xs : List ExprTree) × (e ≡ folded (operated o) (Binary o left x) xs) × (logical_with o ⨾ (derives Relation (Some k) x ⨾ each (next_operand k o) xs)) ts
+    (o : BinaryOperator) × (x : ExprTree) × (xs : List ExprTree) × (e ≡ folded (operated o) (Binary o left x) xs)
+    × (logical_with o ⨾ (derives Relation (Some k) x ⨾ each (next_operand k o) xs)) ts
 
 abbrev ChainStops : ExprTree → Option Token → Type 0
 ChainStops e t = Ends (again e) t × Ends continues_relation t
@@ -392,12 +428,14 @@ operator_stops binary.And t h = no_such (kinds.Word words.Then) starts t refl h
 operator_stops binary.Or t h = no_such (kinds.Word words.Else) starts t refl h
 operator_stops o t h = tt
 
-again_is : (o : BinaryOperator) (left e x : ExprTree) (xs : List ExprTree) (t : Option Token) → is_logical o ≡ true → e ≡ folded (operated o) (Binary o left x) xs → is_next (again e) t ≡ is_first (kinds.Word (first_word o)) t
+again_is : (o : BinaryOperator) (left e x : ExprTree) (xs : List ExprTree) (t : Option Token) → is_logical o ≡ true
+    → e ≡ folded (operated o) (Binary o left x) xs → is_next (again e) t ≡ is_first (kinds.Word (first_word o)) t
 again_is o left e x xs t lo is = ap (λ (z : ExprTree). is_next (again z) t) is ∙ again_chain o left x xs t lo
 
 exact_chained : (k : ℕ) (d : Option Values) (left : ExprTree) → Below Exacts k d → Exact (after logical_of (logical_chain d left)) (Chained k left) ChainStops
 exact_chained k d left b =
-    exact_behind logical_of (logical_chain d left) logical_with With OperatorStops (λ o e t. (is_word (first_word o) t ≡ false) × Ends continues_relation t) (Chained k left) ChainStops
+    exact_behind logical_of (logical_chain d left) logical_with With OperatorStops (λ o e t. (is_word (first_word o) t ≡ false) × Ends continues_relation t)
+    (Chained k left) ChainStops
     exact_logical_of (λ o u g. exact_logical_chain k d b o (logical_is o u g) left)
     (λ o e u v g h. (o, h.0, h.1, h.2, (u, v, refl, g, h.3)))
     (λ e ts g. let p = g.4 in (g.0, (p.0, p.1, p.2, p.3, (g.1, g.2, g.3, p.4))))
@@ -408,7 +446,8 @@ exact_chained k d left b =
     (λ o e u v r g h sa sb. (again_is o left e h.0 h.1 (first r) (logical_is o u g) h.2 ∙ sb.0, sb.1))
   where
     With : BinaryOperator → ExprTree → Tokens → Type 0
-    With o e ts = (x : ExprTree) × (xs : List ExprTree) × (e ≡ folded (operated o) (Binary o left x) xs) × (derives Relation (Some k) x ⨾ each (next_operand k o) xs) ts
+    With o e ts =
+        (x : ExprTree) × (xs : List ExprTree) × (e ≡ folded (operated o) (Binary o left x) xs) × (derives Relation (Some k) x ⨾ each (next_operand k o) xs) ts
 
 -- ---- what may follow the first relation
 
@@ -421,22 +460,30 @@ Rest k left e ts = Chained k left e ts ⊎ same_here left e ts
 abbrev RestStops : ExprTree → Option Token → Type 0
 RestStops e t = Ends (again e) t × (is_chain e ≡ true → Ends continues_relation t)
 
-exact_rest : (k : ℕ) (d : Option Values) (left : ExprTree) (u : Tokens) → Below Exacts k d → derives Relation (Some k) left u → Exact (logical_in d left) (Rest k left) RestStops
+exact_rest : (k : ℕ) (d : Option Values) (left : ExprTree) (u : Tokens) → Below Exacts k d → derives Relation (Some k) left u
+    → Exact (logical_in d left) (Rest k left) RestStops
 exact_rest k d left u b whole =
-    exact_either begins_logical (after logical_of (logical_chain d left)) (nothing left) (Chained k left) (same_here left) (Rest k left) ChainStops Free RestStops
+    exact_either begins_logical (after logical_of (logical_chain d left)) (nothing left) (Chained k left) (same_here left) (Rest k left) ChainStops Free
+    RestStops
     (exact_chained k d left b) (exact_nothing left)
     (λ x s r g st p. (inl g, (st.0, λ t. st.1)))
     (λ x s r g st p. (
       inr g,
       (
-        ap (λ (z : ExprTree). is_next (again z) (first r)) g.0 ∙ again_relation k left u (first r) whole ∙ subst (λ (z : Tokens). begins_logical (first (z ++ r)) ≡ false) g.1 p,
+        ap (λ (z : ExprTree). is_next (again z) (first r)) g.0 ∙ again_relation k left u (first r) whole
+            ∙ subst (λ (z : Tokens). begins_logical (first (z ++ r)) ≡ false) g.1 p,
         λ t. not_both (is_chain x) t (ap is_chain g.0 ∙ relation_alone k left u whole),
       ),
     ))
     (λ x s r g st. elim g [
       | inl w ↦ inl (chained_first k left x s r w, w, (st.0, st.1 (chained_chain k left x s w)))
       | inr w ↦
-          inr (subst (λ (z : Tokens). begins_logical (first (z ++ r)) ≡ false) (sym w.1) (sym (again_relation k left u (first r) whole) ∙ ap (λ (z : ExprTree). is_next (again z) (first r)) (sym w.0) ∙ st.0), w, tt)
+          inr (
+            subst (λ (z : Tokens). begins_logical (first (z ++ r)) ≡ false) (sym w.1) (sym (again_relation k left u (first r) whole)
+                ∙ ap (λ (z : ExprTree). is_next (again z) (first r)) (sym w.0) ∙ st.0),
+            w,
+            tt,
+          )
     ])
 
 -- ---- the trees of chains
@@ -463,23 +510,28 @@ ChainOf k o e ts = derives (Chain o) (Some k) e ts
 chain_itself : (o : BinaryOperator) → stands_for (Chain o) (Chain o) ≡ true
 chain_itself o = true_same the_type o o refl
 
-chain_one : (k : ℕ) (o : BinaryOperator) (e t : ExprTree) (u v w : Tokens) → is_logical o ≡ true → ChainOf k o e u → operator o v → derives Relation (Some k) t w → ChainOf k o (Binary o e t) (u ++ (v ++ w))
+chain_one : (k : ℕ) (o : BinaryOperator) (e t : ExprTree) (u v w : Tokens) → is_logical o ≡ true → ChainOf k o e u → operator o v
+    → derives Relation (Some k) t w → ChainOf k o (Binary o e t) (u ++ (v ++ w))
 chain_one k o e t u v w lo g h i = binary_made (Chain o) k o e t u v w refl (chain_itself o) (logical_production o lo) g h i
 
-chain_all : (k : ℕ) (o : BinaryOperator) (e : ExprTree) (xs : List ExprTree) (u v : Tokens) → is_logical o ≡ true → ChainOf k o e u → each (next_operand k o) xs v → ChainOf k o (folded (operated o) e xs) (u ++ v)
+chain_all : (k : ℕ) (o : BinaryOperator) (e : ExprTree) (xs : List ExprTree) (u v : Tokens) → is_logical o ≡ true → ChainOf k o e u
+    → each (next_operand k o) xs v → ChainOf k o (folded (operated o) e xs) (u ++ v)
 chain_all k o e [] u v lo g h = subst (λ (z : Tokens). ChainOf k o e z) (sym (append-nil u) ∙ ap (λ (z : Tokens). u ++ z) (sym h)) g
 chain_all k o e (x ∷ xs) u v lo g h =
     let i = h.3 in
     let made_one : ChainOf k o (Binary o e x) (u ++ (i.0 ++ i.1)) = chain_one k o e x u i.0 i.1 lo g (logical_operator o i.0 i.3) i.4 in
     let first_part : ChainOf k o (Binary o e x) (u ++ h.0) = subst (λ (z : Tokens). ChainOf k o (Binary o e x) (u ++ z)) (sym i.2) made_one in
-    subst (λ (z : Tokens). ChainOf k o (folded (operated o) (Binary o e x) xs) z) (append_assoc u h.0 h.1 ∙ ap (λ (z : Tokens). u ++ z) (sym h.2)) (chain_all k o (Binary o e x) xs (u ++ h.0) h.1 lo first_part h.4)
+    subst (λ (z : Tokens). ChainOf k o (folded (operated o) (Binary o e x) xs) z) (append_assoc u h.0 h.1 ∙ ap (λ (z : Tokens). u ++ z) (sym h.2))
+    (chain_all k o (Binary o e x) xs (u ++ h.0) h.1 lo first_part h.4)
 
 -- a first operand, and the others
 abbrev Operands : ℕ → BinaryOperator → ExprTree → Tokens → Type 0
 Operands k o e ts =
-    (left : ExprTree) × (x : ExprTree) × (xs : List ExprTree) × (e ≡ folded (operated o) (Binary o left x) xs) × (derives Relation (Some k) left ⨾ (logical_with o ⨾ (derives Relation (Some k) x ⨾ each (next_operand k o) xs))) ts
+    (left : ExprTree) × (x : ExprTree) × (xs : List ExprTree) × (e ≡ folded (operated o) (Binary o left x) xs)
+    × (derives Relation (Some k) left ⨾ (logical_with o ⨾ (derives Relation (Some k) x ⨾ each (next_operand k o) xs))) ts
 
-operands_more : (k : ℕ) (o : BinaryOperator) (l r : ExprTree) (u v w : Tokens) → Operands k o l u → logical_with o v → derives Relation (Some k) r w → Operands k o (Binary o l r) (u ++ (v ++ w))
+operands_more : (k : ℕ) (o : BinaryOperator) (l r : ExprTree) (u v w : Tokens) → Operands k o l u → logical_with o v → derives Relation (Some k) r w
+    → Operands k o (Binary o l r) (u ++ (v ++ w))
 operands_more k o l r u v w d g h =
     let p = d.4 in
     let q = p.4 in
@@ -492,7 +544,13 @@ operands_more k o l r u v w d g h =
       d.1,
       d.2 ++ (r ∷ []),
       ap (λ (z : ExprTree). Binary o z r) d.3 ∙ sym (folded_more (operated o) (Binary o d.0 d.1) d.2 r),
-      (p.0, p.1 ++ end, outer, p.3, (q.0, q.1 ++ end, middle, q.3, (s.0, s.1 ++ end, inner, s.3, each_more (next_operand k o) d.2 r s.1 end s.4 (v, w, refl, g, h)))),
+      (
+        p.0,
+        p.1 ++ end,
+        outer,
+        p.3,
+        (q.0, q.1 ++ end, middle, q.3, (s.0, s.1 ++ end, inner, s.3, each_more (next_operand k o) d.2 r s.1 end s.4 (v, w, refl, g, h))),
+      ),
     )
 
 chain_operator : (o p : BinaryOperator) → stands_for (production p) (Chain o) ≡ true → (stands_for (production p) Relation ≡ true) ⊎ (p ≡ o)
@@ -538,14 +596,18 @@ expression_to k x y u v g (inl w) =
     let lo = chained_logical k x y v w in
     let p = w.4 in
     let q = p.4 in
-    let one : ChainOf k o (Binary o x w.1) (u ++ (p.0 ++ q.0)) = chain_one k o x w.1 u p.0 q.0 lo (widen Relation (Chain o) k x u (widen_chain o) g) (logical_operator o p.0 p.3) q.3 in
-    let all : ChainOf k o (folded (operated o) (Binary o x w.1) w.2) ((u ++ (p.0 ++ q.0)) ++ q.1) = chain_all k o (Binary o x w.1) w.2 (u ++ (p.0 ++ q.0)) q.1 lo one q.4 in
-    let whole : (u ++ (p.0 ++ q.0)) ++ q.1 ≡ u ++ v = append_assoc u (p.0 ++ q.0) q.1 ∙ ap (λ (z : Tokens). u ++ z) (append_assoc p.0 q.0 q.1 ∙ ap (λ (z : Tokens). p.0 ++ z) (sym q.2) ∙ sym p.2) in
+    let one : ChainOf k o (Binary o x w.1) (u ++ (p.0 ++ q.0)) =
+    chain_one k o x w.1 u p.0 q.0 lo (widen Relation (Chain o) k x u (widen_chain o) g) (logical_operator o p.0 p.3) q.3 in
+    let all : ChainOf k o (folded (operated o) (Binary o x w.1) w.2) ((u ++ (p.0 ++ q.0)) ++ q.1) =
+    chain_all k o (Binary o x w.1) w.2 (u ++ (p.0 ++ q.0)) q.1 lo one q.4 in
+    let whole : (u ++ (p.0 ++ q.0)) ++ q.1 ≡ u ++ v = append_assoc u (p.0 ++ q.0) q.1
+    ∙ ap (λ (z : Tokens). u ++ z) (append_assoc p.0 q.0 q.1 ∙ ap (λ (z : Tokens). p.0 ++ z) (sym q.2) ∙ sym p.2) in
     widen (Chain o) Expression k y (u ++ v) (chain_expression o)
     (subst (λ (z : ExprTree). ChainOf k o z (u ++ v)) (sym w.3) (subst (λ (z : Tokens). ChainOf k o (folded (operated o) (Binary o x w.1) w.2) z) whole all))
 expression_to k x y u v g (inr w) =
     subst (λ (z : ExprTree). derives Expression (Some k) z (u ++ v)) (sym w.0)
-    (subst (λ (z : Tokens). derives Expression (Some k) x z) (sym (ap (λ (z : Tokens). u ++ z) w.1 ∙ append-nil u)) (widen Relation Expression k x u widen_expression g))
+    (subst (λ (z : Tokens). derives Expression (Some k) x z) (sym (ap (λ (z : Tokens). u ++ z) w.1 ∙ append-nil u))
+    (widen Relation Expression k x u widen_expression g))
 
 abbrev Parts : ℕ → ExprTree → Tokens → Type 0
 Parts k y ts = (x : ExprTree) × (derives Relation (Some k) x ⨾ Rest k x y) ts
@@ -567,29 +629,37 @@ expression_back k (Unary p place e) ts g = one_relation k (Unary p place e) ts (
 expression_back k (Number value place) ts g = one_relation k (Number value place) ts (refl, g.1)
 expression_back k (Named name all) ts g = one_relation k (Named name all) ts (refl, g.1)
 expression_back k (Parenthesized place e) ts g = one_relation k (Parenthesized place e) ts (refl, g.1)
-expression_back k (Conditional place condition value others else_value) ts g = one_relation k (Conditional place condition value others else_value) ts (refl, g.1)
+expression_back k (Conditional place condition value others else_value) ts g =
+    one_relation k (Conditional place condition value others else_value) ts (refl, g.1)
 
 abbrev OpenStops : ExprTree → Option Token → Type 0
 OpenStops y t = Ends continues_relation t × Ends (again y) t
 
-expression_fits : (k : ℕ) (x y : ExprTree) (v r : Tokens) → Rest k x y v → OpenStops y (first r) → Ends continues_relation (first (v ++ r)) × RestStops y (first r)
+expression_fits : (k : ℕ) (x y : ExprTree) (v r : Tokens) → Rest k x y v → OpenStops y (first r)
+    → Ends continues_relation (first (v ++ r)) × RestStops y (first r)
 expression_fits k x y v r (inl w) st = (apart starts_logical continues_relation logical_goes (first (v ++ r)) (chained_first k x y v r w), (st.1, λ t. st.0))
 expression_fits k x y v r (inr w) st = (subst (λ (z : Tokens). Ends continues_relation (first (z ++ r))) (sym w.1) st.0, (st.1, λ t. st.0))
 
-expression_stop : (k : ℕ) (x y : ExprTree) (v r : Tokens) → Rest k x y v → Ends continues_relation (first (v ++ r)) → RestStops y (first r) → OpenStops y (first r)
+expression_stop : (k : ℕ) (x y : ExprTree) (v r : Tokens) → Rest k x y v → Ends continues_relation (first (v ++ r)) → RestStops y (first r)
+    → OpenStops y (first r)
 expression_stop k x y v r (inl w) sa sb = (sb.1 (chained_chain k x y v w), sb.0)
 expression_stop k x y v r (inr w) sa sb = (subst (λ (z : Tokens). Ends continues_relation (first (z ++ r))) w.1 sa, sb.0)
 
 exact_open_expression : (k : ℕ) (d : Option Values) → Below Exacts k d → Exact (after (relation_in d) (logical_in d)) (derives Expression (Some k)) OpenStops
 exact_open_expression k d b =
-    exact_behind (relation_in d) (logical_in d) (derives Relation (Some k)) (Rest k) (λ _. Ends continues_relation) (λ left. RestStops) (derives Expression (Some k)) OpenStops
+    exact_behind (relation_in d) (logical_in d) (derives Relation (Some k)) (Rest k) (λ _. Ends continues_relation) (λ left. RestStops)
+    (derives Expression (Some k)) OpenStops
     (exact_relation k d b) (λ x u g. exact_rest k d x u b g) (expression_to k) (expression_back k)
     (λ x y u v r g h st. expression_fits k x y v r h st) (λ x y u v r g h sa sb. expression_stop k x y v r h sa sb)
 
 pub exact_expression_in : (k : ℕ) (d : Option Values) → Below Exacts k d → Exact (expression_in d) (derives Expression (Some k)) ExpressionStops
 unfolding expression_in
 exact_expression_in k d b =
-    exact_told (closed begins_logical (after (relation_in d) (logical_in d))) (derives Expression (Some k)) (derives Expression (Some k)) (Closed begins_logical OpenStops) ExpressionStops
+    exact_told (closed begins_logical (after (relation_in d) (logical_in d))) (derives Expression (Some k)) (derives Expression (Some k))
+    (Closed begins_logical OpenStops) ExpressionStops
     (exact_closed begins_logical (after (relation_in d) (logical_in d)) (derives Expression (Some k)) OpenStops (exact_open_expression k d b))
     (λ x ts g. g) (λ x ts g. g) (λ x ts o g st. ends_both starts_logical continues_relation o st.0 st.1.0)
-    (λ x ts o g st. (ends_left starts_logical continues_relation o st, (ends_right starts_logical continues_relation o st, again_less x o (ends_left starts_logical continues_relation o st))))
+    (λ x ts o g st. (
+      ends_left starts_logical continues_relation o st,
+      (ends_right starts_logical continues_relation o st, again_less x o (ends_left starts_logical continues_relation o st)),
+    ))

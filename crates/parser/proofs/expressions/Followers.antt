@@ -2,8 +2,8 @@
 use Rattle.std.proofs.Common.{Option}
 use Rattle.lexer.specs.declared.token.Token.{Token}
 use Rattle.parser.specs.ExpressionReading.{starts_selector}
-use Rattle.parser.proofs.Exact.{Ends}
-use Rattle.parser.proofs.Expressions.{continues_expression, continues_simple}
+use Rattle.parser.proofs.general.Several.{Ends}
+use Rattle.parser.proofs.expressions.Expressions.{continues_expression, continues_simple}
 
 abbrev pub NameStops : Option Token → Type 0
 NameStops = Ends starts_selector

@@ -1,0 +1,9 @@
+pub mod Expressions
+pub mod Primaries
+pub mod Operations
+pub mod Relations
+pub mod Logical
+pub mod Levelled
+pub mod Followers
+pub mod ExpressionLoops
+pub mod DeepExpressions

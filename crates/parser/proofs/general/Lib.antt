@@ -1,0 +1,7 @@
+pub mod Exact
+pub mod Several
+pub mod MoreExact
+pub mod Loops
+pub mod Lists
+pub mod Deep
+pub mod Heads

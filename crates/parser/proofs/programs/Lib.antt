@@ -1,0 +1,6 @@
+pub mod Types
+pub mod Items
+pub mod Bodies
+pub mod Programs
+pub mod DeepPrograms
+pub mod Whole

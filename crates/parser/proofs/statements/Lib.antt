@@ -1,0 +1,5 @@
+pub mod PlainStatements
+pub mod CompoundStatements
+pub mod Statements
+pub mod Selected
+pub mod DeepStatements
