@@ -1,0 +1,188 @@
+#!/usr/bin/env python3
+"""Writes the longest and the deepest texts of each kind that the grammar in docs/LANGUAGE.md has.
+
+`large_texts.py FOLDER` writes for each text NAME.adb, NAME.status, NAME.out and NAME.err: the source, the exit status, and what
+standard output and standard error are to have (docs/FORMATS.md). A long text repeats one part as often as 65,536 bytes allow. A deep
+text has 40 levels open at once, or 41, of which the last is refused at the token that opens it.
+"""
+import sys
+from pathlib import Path
+
+BYTES = 65536
+LEVELS = 40
+PRAGMA = "pragma Profile (Ravenscar);\n"
+MAIN = "with App; procedure Main is begin App.P; end Main;"
+LAST_LINE = "ended at 0"
+
+
+def app(before, after, items="procedure P;"):
+    """The frame of a text: what stands before its repeated part, and after it."""
+    head = PRAGMA + "with Control_IO; use Control_IO;\npackage App is " + items + " end App;\npackage body App is\n"
+    return head + before, after + " end App;\n" + MAIN
+
+
+def statements(before="", after=""):
+    return app("procedure P is begin\n" + before, after + "\nend P;")
+
+
+def declarations(before="", after=""):
+    return app("procedure P is\n" + before, after + "\nbegin null; end P;")
+
+
+def items(before="", after=""):
+    """Items of the package's specification."""
+    head = PRAGMA + "package App is\n" + before
+    return head, after + "\nprocedure P; end App;\npackage body App is procedure P is begin null; end P; end App;\n" + MAIN
+
+
+def put(before="", after=""):
+    return statements('Put ("n", ' + before, after + ");")
+
+
+def assigned():
+    return statements("X := ", ";")
+
+
+def filled(frame, first, more):
+    """The text with as many of `more` behind `first` as fit, and how many these are."""
+    head, tail = frame
+    count = (BYTES - len(head) - len(first) - len(tail)) // len(more)
+    return head + first + more * count + tail, count
+
+
+def lines(*values):
+    return "".join(f"0 MAIN n {value}\n" for value in values) + LAST_LINE
+
+
+def runs(name, frame, first, more, out):
+    """A long text of the first language, with what it writes, given how often its part is repeated."""
+    text, count = filled(frame, first, more)
+    return name, text, 0, out(count), ""
+
+
+def outside(name, frame, first, more):
+    """A long text that is derived, but not compiled today."""
+    return name, filled(frame, first, more)[0], 2, "", "fault 90 at 1:1"
+
+
+CHAINS = [
+    runs("chain of +", put(), "1", "+1", lambda n: lines(n + 1)),
+    runs("chain of -", put(), "0", "-1", lambda n: lines(-n)),
+    runs("chain of *", put(), "2", "*1", lambda n: lines(2)),
+    runs("chain of + in 39 parentheses", put("(" * 39, ")" * 39), "1", "+1", lambda n: lines(n + 1)),
+] + [
+    outside(f"chain of {name}", assigned(), "1", part)
+    for name, part in [("divided", "/1"), ("mod", " mod 1"), ("rem", " rem 1")]
+] + [
+    outside(f"chain of {word}", assigned(), "X", f" {word} X") for word in ["and", "or", "xor", "and then", "or else"]
+] + [
+    outside(f"chain of relations by {name}", assigned(), f"1{sign}1", f" and 1{sign}1")
+    for name, sign in [("equal", "="), ("unequal", "/="), ("less", "<"), ("less or equal", "<="), ("greater", ">"), ("greater or equal", ">=")]
+]
+
+CALLED = "package App is procedure P; end App; package body App is procedure P is begin null; end P; end App;\n"
+
+LISTS = [
+    runs("null statements", statements(), "null;", "null;", lambda n: LAST_LINE),
+    runs("lines", statements(), "", 'Put("n",7);', lambda n: lines(*[7] * n)),
+    runs("calls of main", (PRAGMA + CALLED + "with App; procedure Main is begin ", "end Main;"), "", "App.P;", lambda n: LAST_LINE),
+    runs("null statements of main", (PRAGMA + "procedure Main is begin ", "end Main;"), "null;", "null;", lambda n: LAST_LINE),
+    outside("pragmas", (PRAGMA, "procedure Main is begin null; end Main;"), "", "pragma A(B);"),
+    outside("unit clauses", (PRAGMA, CALLED + MAIN), "", "with A;use A;"),
+    outside("declarations of procedures", items(), "", "procedure Q;"),
+    outside("bodies", app("procedure P is begin null; end P;", ""), "", "procedure Q is begin null;end Q;"),
+    outside("types", items(), "", "type T is range 1..2;"),
+    outside("subtypes", items(), "", "subtype T is S;"),
+    outside("exceptions", items(), "", "E:exception;"),
+    outside("objects", items(), "", "X:T;"),
+    outside("objects of a body", declarations(), "", "X:T;"),
+    outside("objects of a block", statements("declare ", "begin null; end;"), "", "X:T;"),
+    outside("components", items("type R is record ", "end record;"), "X:T;", "X:T;"),
+    outside("tasks", items(), "", "task T;"),
+    outside("entries of a task", items("task T is ", "end T;"), "", "entry E;"),
+    outside("protected objects", items(), "", "protected T is end T;"),
+    outside("entries of a protected object", items("protected T is ", "end T;"), "", "entry E;"),
+    outside("subprograms of a protected object", items("protected T is ", "end T;"), "", "function Q return T;"),
+    outside("bodies of a protected object", app("protected body T is ", "end T; procedure P is begin null; end P;"), "", "entry E when X is begin null;end E;"),
+    outside("components of a protected object", items("protected T is private ", "end T;"), "", "X:T;"),
+    outside("formals", items("procedure Q(", ");"), "A:T", ";A:T"),
+    outside("arguments", statements("X(", ");"), "1", ",1"),
+    outside("selectors", statements("X", ";"), "", ".X"),
+    outside("attributes", statements("X", ";"), "", "'X"),
+    outside("argument lists", statements("X", ";"), "", "(1)"),
+    outside("elsifs", statements("if X then null; ", "end if;"), "", "elsif X then null;"),
+    outside("elsifs of an if expression", statements("X:=(if X then 1 ", "else 1);"), "", "elsif X then 1 "),
+    outside("alternatives", statements("case X is ", "end case;"), "when 1=>null;", "when 1=>null;"),
+    outside("choices", statements("case X is when 1", "=>null; end case;"), "", "|1"),
+    outside("handlers", statements("null; exception ", ""), "when A=>null;", "when A=>null;"),
+    outside("choices of a handler", statements("null; exception when A", "=>null;"), "", "|A"),
+    outside("tokens of a select", statements("select ", "end select;"), "", "X "),
+]
+
+
+def place_of(text, at):
+    """The line and the column of a byte, both from 1."""
+    return f"{text.count(chr(10), 0, at) + 1}:{at - (text.rfind(chr(10), 0, at) + 1) + 1}"
+
+
+def deep(name, frame, opening, inside, closing, opens_at=0, each=1):
+    """The texts with 40 levels, and with one opening more.
+
+    An opening opens `each` levels, the first of them by the token that stands `opens_at` bytes after the beginning of `opening`.
+    """
+    head, tail = frame
+    count = LEVELS // each
+    texts = [head + opening * times + inside + closing * times + tail for times in (count, count + 1)]
+    fault = "fault 7 at " + place_of(texts[1], len(head) + len(opening) * count + opens_at)
+    return [(f"40 levels of {name}", texts[0], 2, "", "fault 90 at 1:1"), (f"41 levels of {name}", texts[1], 2, "", fault)]
+
+
+def deep_parentheses():
+    """Those of Put open the first level, and the first language has them."""
+    head, tail = put()
+    texts = [head + "(" * levels + "7" + ")" * levels + tail for levels in (LEVELS - 1, LEVELS)]
+    fault = "fault 7 at " + place_of(texts[1], len(head) + LEVELS - 1)
+    return [("40 levels of parentheses in Put", texts[0], 0, lines(7), ""), ("41 levels of parentheses in Put", texts[1], 2, "", fault)]
+
+
+def deep_formals():
+    """Formals, which hold no level, inside 39 blocks and inside 40."""
+    opening, inside, closing = "declare ", "protected T is procedure Q(A:T); end T; ", "begin null; end;"
+    head, tail = statements()
+    found = []
+    for levels in (LEVELS - 1, LEVELS):
+        outer = "begin " * (levels - 1)
+        text = head + outer + opening + inside + closing + " end;" * (levels - 1) + tail
+        found.append((text, len(head) + len(outer) + len(opening) + inside.index("(")))
+    fault = "fault 7 at " + place_of(found[1][0], found[1][1])
+    return [("40 levels, the last of formals", found[0][0], 2, "", "fault 90 at 1:1"), ("41 levels, the last of formals", found[1][0], 2, "", fault)]
+
+
+DEEP = [
+    deep_parentheses(),
+    deep("parentheses", statements("X:=", ";"), "(", "7", ")"),
+    deep("if expressions", statements("X:=", ";"), "(if X then ", "7", " else 7)", each=2),
+    deep("arguments", statements("", ";"), "X(", "7", ")", 1),
+    deep("if statements", statements(), "if X then ", "null;", "end if;"),
+    deep("else parts", statements(), "if X then null; else ", "null;", "end if;"),
+    deep("case statements", statements(), "case X is when 1=>", "null;", "end case;"),
+    deep("loops", statements(), "loop ", "null;", "end loop;"),
+    deep("while loops", statements(), "while X loop ", "null;", "end loop;"),
+    deep("for loops", statements(), "for X in 1..2 loop ", "null;", "end loop;"),
+    deep("blocks", statements(), "begin ", "null;", "end;"),
+    deep("blocks with declarations", statements(), "declare X:T; begin ", "null;", "end;"),
+    deep("blocks in handlers", statements(), "begin null; exception when others=>", "null;", "end;"),
+    deep_formals(),
+]
+
+
+def main():
+    folder = Path(sys.argv[1])
+    folder.mkdir(parents=True, exist_ok=True)
+    for name, text, status, out, err in CHAINS + LISTS + [row for rows in DEEP for row in rows]:
+        assert len(text) <= BYTES, name
+        for ending, content in [("adb", text), ("status", str(status)), ("out", out), ("err", err)]:
+            (folder / f"{name}.{ending}").write_text(content)
+
+
+main()
