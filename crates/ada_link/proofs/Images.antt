@@ -29,9 +29,9 @@ use Rattle.meaning.specs.SameMeaning.{KeepsCount}
 use Rattle.ada_link.specs.Size.{RefusesCode, bodies_labels, body_labels, is_over, labels_of, most_steps, put_labels, statement_labels, statements_labels, instructions_of, is_too_large, words_of}
 use Rattle.ada_link.specs.declared.refusal.Refusal.TheVariants.{Limit}
 use Rattle.ada_link.proofs.Calls.{bodies_plain}
-use Rattle.ada_link.specs.Growing.{AreBuilt, IsPart, Leaves, Runs, returns}
+use Rattle.ada_link.specs.Growing.{AreBuilt, IsPart, ChangesDepth, LeadsTo, returns}
 use Rattle.ada_link.specs.Linked.{main_task}
-use Rattle.ada_link.specs.Whole.{IsWhole}
+use Rattle.ada_link.specs.Whole.{IsCompiled}
 use Rattle.ada_link.proofs.Bodies.{both_left, both_right, plain_statements}
 use Rattle.ada_link.proofs.Emitting.{get_before, get_last}
 use Rattle.ada_link.proofs.Loops.{both}
@@ -40,7 +40,7 @@ use Rattle.ada_link.proofs.Placing.{Stands, all_joined, all_there, all_weaker, b
 
 -- ---- operations
 
-taken_leads : (l p from to : ℕ) (o : Operation) → Leaves l p from o to → is_taken_operation o ≡ true
+taken_leads : (l p from to : ℕ) (o : Operation) → ChangesDepth l p from o to → is_taken_operation o ≡ true
 taken_leads l p from to (op.Push k) h = refl
 taken_leads l p from to op.Negate h = refl
 taken_leads l p from to op.Add h = refl
@@ -78,7 +78,7 @@ get_behind [] back n k e = ap (slice_get back) (omega (arith, e))
 get_behind (x ∷ front) back zero k e = absurd (omega (arith, e))
 get_behind (x ∷ front) back (suc n) k e = get_behind front back n k (omega (arith, e))
 
-module _ (p : ProgramTree) (i : Sections) (h : IsWhole p i) where
+module _ (p : ProgramTree) (i : Sections) (h : IsCompiled p i) where
   abbrev l : ℕ
   l = length i.labels
 
@@ -146,7 +146,7 @@ module _ (p : ProgramTree) (i : Sections) (h : IsWhole p i) where
       let bare = built_get l n 0 all i.instructions m c h.built among in
       (c, ap (λ x. slice_get x m) h.subprograms ∙ among, all_there (λ s. is_plain s.kind) h.procedures m c h.plain there, bare.0, bare.1)
 
-  named : (s : Subprogram) (from to : ℕ) (o : Operation) → Leaves l n from o to → names_things i s o ≡ true
+  named : (s : Subprogram) (from to : ℕ) (o : Operation) → ChangesDepth l n from o to → names_things i s o ≡ true
   named s from to (op.Push k) d = refl
   named s from to op.Negate d = refl
   named s from to op.Add d = refl
@@ -191,7 +191,7 @@ module _ (p : ProgramTree) (i : Sections) (h : IsWhole p i) where
   abbrev leaves_of : Subprogram → ℕ → Operation → ℕ
   leaves_of s from o = from - taken_by i s.results o + given_by i o
 
-  depths : (s : Subprogram) (from to : ℕ) (o : Operation) → Leaves l n from o to → (taken_by i s.results o ≤ from) × (leaves_of s from o ≡ to) × (is_return o ≡ false)
+  depths : (s : Subprogram) (from to : ℕ) (o : Operation) → ChangesDepth l n from o to → (taken_by i s.results o ≤ from) × (leaves_of s from o ≡ to) × (is_return o ≡ false)
   depths s from to (op.Push k) d = (omega arith, omega (arith, d), refl)
   depths s from to op.Negate d = (d.0, omega (arith, d.0, d.1), refl)
   depths s from to op.Add d = (omega (arith, d.0, d.1), omega (arith, d.0, d.1), refl)
@@ -211,7 +211,7 @@ module _ (p : ProgramTree) (i : Sections) (h : IsWhole p i) where
   four : (a b c d : Bool) → a ≡ true → b ≡ true → c ≡ true → d ≡ true → (a && (b && (c && d))) ≡ true
   four a b c d p q r t = both a (b && (c && d)) p (three b c d q r t)
 
-  step_keeps : (place : ℕ) (x y : Instr) (s : Subprogram) (from to : ℕ) → x.depth ≡ from → Leaves l n from x.operation to → from ≤ s.stack → to ≤ s.stack
+  step_keeps : (place : ℕ) (x y : Instr) (s : Subprogram) (from to : ℕ) → x.depth ≡ from → ChangesDepth l n from x.operation to → from ≤ s.stack → to ≤ s.stack
       → slice_get i.instructions (place + 1) ≡ Some y → y.depth ≡ to → keeps_depth i place x s ≡ true
   step_keeps place x y s from to at d low high there next =
       let e = depths s from to x.operation d in
@@ -231,11 +231,11 @@ module _ (p : ProgramTree) (i : Sections) (h : IsWhole p i) where
       three (nat_le 0 s.stack) (nat_eq 0 s.results) (leaves_depth i place returns s) (le_true 0 s.stack (omega arith)) (eq_true 0 s.results (omega (arith, none)))
       (four (nat_le s.results 0) (nat_le (0 - s.results + 0) s.stack) true true (le_true s.results 0 (omega (arith, none))) (le_true (0 - s.results + 0) s.stack (omega (arith, none))) refl refl)
 
-  head_depth : (most from : ℕ) (part behind : List Instr) → Runs l n most from part 0 → (y : Instr) × (slice_get (part ++ returns ∷ behind) 0 ≡ Some y) × (y.depth ≡ from)
+  head_depth : (most from : ℕ) (part behind : List Instr) → LeadsTo l n most from part 0 → (y : Instr) × (slice_get (part ++ returns ∷ behind) 0 ≡ Some y) × (y.depth ≡ from)
   head_depth most from [] behind d = (returns, refl, d)
   head_depth most from (x ∷ part) behind d = (x, refl, d.1)
 
-  part_keeps : (s : Subprogram) (place from : ℕ) (part behind : List Instr) → s.results ≡ 0 → ((k : ℕ) → slice_get i.instructions (place + k) ≡ slice_get (part ++ returns ∷ behind) k) → Runs l n s.stack from part 0
+  part_keeps : (s : Subprogram) (place from : ℕ) (part behind : List Instr) → s.results ≡ 0 → ((k : ℕ) → slice_get i.instructions (place + k) ≡ slice_get (part ++ returns ∷ behind) k) → LeadsTo l n s.stack from part 0
       → all_placed (λ m x. keeps_depth i m x s) place (part ++ returns ∷ []) ≡ true
   part_keeps s place from [] behind none there d = both (keeps_depth i place returns s) true (return_keeps place s none) refl
   part_keeps s place from (x ∷ part) behind none there d =
@@ -373,14 +373,14 @@ neither true b e f = e
 neither false b e f = f
 
 -- parts are made of no program that is too large
-pub whole_fits : (p : ProgramTree) (i : Sections) → IsWhole p i → is_too_large p ≡ false
+pub whole_fits : (p : ProgramTree) (i : Sections) → IsCompiled p i → is_too_large p ≡ false
 whole_fits p i h =
     let labels = ap length h.labels in
     neither (nat_lt 65535 (instructions_of p)) (nat_lt 512 (words_of p) || nat_lt 1024 (length (labels_of p))) (not_less 65535 (instructions_of p) (omega (arith, h.count, h.few_instructions)))
     (neither (nat_lt 512 (words_of p)) (nat_lt 1024 (length (labels_of p))) (not_less 512 (words_of p) h.words) (not_less 1024 (length (labels_of p)) (omega (arith, labels, h.few_labels))))
 
 -- the count of an image's instructions is that of the tree
-pub whole_counts : (p : ProgramTree) (i : Sections) → IsWhole p i → KeepsCount p i (λ s. length i.instructions) → KeepsCount p i (most_steps p)
+pub whole_counts : (p : ProgramTree) (i : Sections) → IsCompiled p i → KeepsCount p i (λ s. length i.instructions) → KeepsCount p i (most_steps p)
 whole_counts p i h kept = subst (λ n. KeepsCount p i (λ s. n)) h.count kept
 
 -- ---- labels of a program

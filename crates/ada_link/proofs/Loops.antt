@@ -25,7 +25,7 @@ use Rattle.ada_link.specs.Growing.{AddsSubprogram, AreBuilt, AreParts, Closes, G
 use Rattle.image.specs.Sections.{Sections}
 use Rattle.ada_tree.specs.declared.program.Package.{Package}
 use Rattle.ada_link.specs.Linked.{main_task}
-use Rattle.ada_link.specs.Whole.{IsWhole}
+use Rattle.ada_link.specs.Whole.{IsCompiled}
 use Rattle.ada_link.proofs.Calls.{few_bodies}
 use Rattle.ada_link.specs.Size.{RefusesCode, instructions_of, labels_of, words_of, bodies_instructions, bodies_labels, bodies_words, body_labels, calls_of, put_labels, statement_instructions, statement_labels, statement_words, statements_instructions, statements_labels, statements_words}
 use Rattle.ada_link.specs.declared.code.Code.{Code}
@@ -336,7 +336,7 @@ module _ (p : ProgramTree) (middle last : Code) (parts : AreParts (bodies_of p.p
   pub last_few : length (bodies_of p.package_) ≤ 128 → length last.subprograms.items ≤ 129
   last_few few = let e = length-append middle.subprograms.items (adds.s ∷ []) in let same = ap length adds.subprograms in omega (arith, e, same, few, parts.count)
 
-  pub whole : (i : Sections) → length (bodies_of p.package_) ≤ 128 → HasCode last p.main.name.name i → IsWhole p i
+  pub whole : (i : Sections) → length (bodies_of p.package_) ≤ 128 → HasCode last p.main.name.name i → IsCompiled p i
   whole i few h =
       let zero_more : here middle ≡ 0 + length middle.instructions.items = omega arith in
       let labels : length i.labels ≡ length last.labels.items = ap length h.labels in

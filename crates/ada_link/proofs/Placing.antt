@@ -5,7 +5,7 @@ use Rattle.std.specs.List.{list_all}
 use Rattle.image.specs.Rules.{all_begun, all_placed, some_and}
 use Rattle.image.specs.declared.instruction.Instr.{Instr}
 use Rattle.image.specs.declared.subprograms.Subprogram.{Subprogram}
-use Rattle.ada_link.specs.Growing.{AreBuilt, IsPart, Leaves, Runs, returns}
+use Rattle.ada_link.specs.Growing.{AreBuilt, IsPart, ChangesDepth, LeadsTo, returns}
 use Rattle.ada_link.proofs.Bodies.{both_left, both_right}
 use Rattle.ada_link.proofs.Loops.{both}
 use Rattle.ada_link.proofs.Sizes.{append_again}
@@ -51,8 +51,8 @@ not_less a b h = search rules
 
 module _ (l p : ℕ) where
   -- a test that every instruction passes which leads from one depth to another, and a return
-  module _ (test : Instr → Bool) (leads : (from to : ℕ) (x : Instr) → Leaves l p from x.operation to → test x ≡ true) where
-    pub runs_all : (most from to : ℕ) (xs : List Instr) → Runs l p most from xs to → list_all test xs ≡ true
+  module _ (test : Instr → Bool) (leads : (from to : ℕ) (x : Instr) → ChangesDepth l p from x.operation to → test x ≡ true) where
+    pub runs_all : (most from to : ℕ) (xs : List Instr) → LeadsTo l p most from xs to → list_all test xs ≡ true
     runs_all most from to [] h = refl
     runs_all most from to (x ∷ xs) h = both (test x) (list_all test xs) (leads from h.0 x h.2) (runs_all most h.0 to xs h.5)
 

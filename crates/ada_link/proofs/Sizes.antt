@@ -11,7 +11,7 @@ use Rattle.image.specs.declared.instruction.Operation.{Operation}
 use Rattle.image.specs.declared.instruction.Operation.TheVariants as op
 use Rattle.ada_link.specs.FirstLanguage.{contains}
 use Rattle.ada_link.specs.Code.{Adds, HasLabel, here}
-use Rattle.ada_link.specs.Growing.{IsSmall, Leaves, Runs, Grows, IsSized}
+use Rattle.ada_link.specs.Growing.{IsSmall, ChangesDepth, LeadsTo, Grows, IsSized}
 use Rattle.ada_link.specs.Size.{RefusesCode, is_over, with_label}
 use Rattle.ada_link.specs.declared.code.Code.{Code}
 use Rattle.ada_link.specs.declared.refusal.Refusal.{Refusal}
@@ -70,7 +70,7 @@ known_over labels label n why is large =
 
 -- ---- depths
 
-leaves_more : (l m p q from to : ℕ) (o : Operation) → l ≤ m → p ≤ q → Leaves l p from o to → Leaves m q from o to
+leaves_more : (l m p q from to : ℕ) (o : Operation) → l ≤ m → p ≤ q → ChangesDepth l p from o to → ChangesDepth m q from o to
 leaves_more l m p q from to (op.Push k) a b h = h
 leaves_more l m p q from to op.Negate a b h = h
 leaves_more l m p q from to op.Add a b h = h
@@ -80,13 +80,13 @@ leaves_more l m p q from to (op.Call n) a b h = (omega (arith, h.0, b), h.1)
 leaves_more l m p q from to (op.PutLine n) a b h = (omega (arith, h.0, a), h.1)
 leaves_more l m p q from to _ a b h = h
 
-pub runs_more : (l m p q most more from to : ℕ) (xs : List Instr) → l ≤ m → p ≤ q → most ≤ more → Runs l p most from xs to → Runs m q more from xs to
+pub runs_more : (l m p q most more from to : ℕ) (xs : List Instr) → l ≤ m → p ≤ q → most ≤ more → LeadsTo l p most from xs to → LeadsTo m q more from xs to
 runs_more l m p q most more from to [] a b c h = h
 runs_more l m p q most more from to (x ∷ xs) a b c h =
     (h.0, h.1, leaves_more l m p q from h.0 x.operation a b h.2, omega (arith, h.3, c), omega (arith, h.4, c), runs_more l m p q most more h.0 to xs a b c h.5)
 
-pub runs_then : (l p most from mid to : ℕ) (xs ys : List Instr) → Runs l p most from xs mid → Runs l p most mid ys to → Runs l p most from (xs ++ ys) to
-runs_then l p most from mid to [] ys h g = subst (λ n. Runs l p most n ys to) h g
+pub runs_then : (l p most from mid to : ℕ) (xs ys : List Instr) → LeadsTo l p most from xs mid → LeadsTo l p most mid ys to → LeadsTo l p most from (xs ++ ys) to
+runs_then l p most from mid to [] ys h g = subst (λ n. LeadsTo l p most n ys to) h g
 runs_then l p most from mid to (x ∷ xs) ys h g = (h.0, h.1, h.2, h.3, h.4, runs_then l p most h.0 mid to xs ys h.5 g)
 
 pub append_again : {X : Type 0} (xs ys zs : List X) → (xs ++ ys) ++ zs ≡ xs ++ (ys ++ zs)
@@ -115,7 +115,7 @@ grows_then old mid new from at to first second =
     }
 
 pub added_grows : (old new : Code) (depth to : ℕ) (o : Operation) → IsSmall old → Adds old (record { depth = depth; operation = o }) new
-    → Leaves (length old.labels.items) (length old.subprograms.items) depth o to → here new ≤ 65535 → old.deepest ≤ new.deepest → depth ≤ new.deepest → to ≤ new.deepest → new.deepest ≤ 512
+    → ChangesDepth (length old.labels.items) (length old.subprograms.items) depth o to → here new ≤ 65535 → old.deepest ≤ new.deepest → depth ≤ new.deepest → to ≤ new.deepest → new.deepest ≤ 512
     → Grows old depth to new
 added_grows old new depth to o small a leaves few deeper low high shallow =
     let same : length new.labels.items ≡ length old.labels.items = ap (λ v. length v.items) a.labels in
@@ -136,7 +136,7 @@ number_grows old new depth k small a deepest shallow few =
     added_grows old new depth (depth + 1) (op.Push k) small a (omega arith) few (omega (arith, deepest)) (omega (arith, deepest)) (omega (arith, deepest)) (omega (arith, deepest, shallow, small.deepest))
 
 pub operation_grows : (old mid new : Code) (from depth to : ℕ) (o : Operation) → Grows old from depth mid → Adds mid (record { depth = depth; operation = o }) new → new.deepest ≡ mid.deepest → here new ≤ 65535
-    → to ≤ depth → Leaves (length mid.labels.items) (length mid.subprograms.items) depth o to → Grows old from to new
+    → to ≤ depth → ChangesDepth (length mid.labels.items) (length mid.subprograms.items) depth o to → Grows old from to new
 operation_grows old mid new from depth to o first a deepest few less leaves =
     grows_then old mid new from depth to first
     (added_grows mid new depth to o first.small a leaves few (omega (arith, deepest)) (omega (arith, deepest, first.high)) (omega (arith, deepest, first.high, less)) (omega (arith, deepest, first.small.deepest)))

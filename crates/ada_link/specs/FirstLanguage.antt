@@ -2,6 +2,7 @@
 use Rattle.std.specs.Prelude.{ℕ, Bool, true, false, ◌&&◌, ◌||◌, not, List, [], ◌∷◌, map, length, Option, Some, None, is_none, nat_eq, nat_le, bytes_eq, codes, if◌then◌else◌}
 use Rattle.std.specs.List.{list_all, list_any}
 use Rattle.base.specs.Names.{is_label, is_name}
+use Rattle.base.specs.declared.limits.TheConstants.{PROCEDURES}
 use Rattle.ada_tree.specs.declared.expression.UnaryOperator.TheVariants as unary
 use Rattle.ada_tree.specs.declared.expression.BinaryOperator.{BinaryOperator}
 use Rattle.ada_tree.specs.declared.expression.BinaryOperator.TheVariants as binary
@@ -147,7 +148,7 @@ writes_nothing item = true
 
 -- the most procedures of a program
 abbrev pub most_procedures : ℕ
-most_procedures = 128
+most_procedures = PROCEDURES
 
 abbrev pub has_first_names : PackageTree → Bool
 has_first_names p =

@@ -1,6 +1,7 @@
 -- What code that grows keeps: its limits, and the depths of the operand stack from instruction to instruction.
 use Rattle.std.specs.Prelude.{◌≡◌, ℕ, suc, ◌+◌, ◌<◌, ◌≤◌, true, List, [], ◌∷◌, ◌++◌, length}
 use Rattle.std.specs.List.{list_all}
+use Rattle.base.specs.declared.limits.TheConstants.{FRAME_WORDS, INSTRUCTIONS, LABELS}
 use Rattle.image.specs.Rules.{is_plain}
 use Rattle.ada_tree.specs.ProgramTree.{BodyItemTree}
 use Rattle.ada_link.specs.Size.{bodies_instructions, bodies_labels, bodies_words}
@@ -14,26 +15,26 @@ use Rattle.ada_link.specs.declared.code.Code.{Code}
 
 -- no limit is passed
 pub record IsSmall (c : Code) : Type 0 where
-  pub deepest : c.deepest ≤ 512
-  pub labels : length c.labels.items ≤ 1024
-  pub instructions : here c ≤ 65535
+  pub deepest : c.deepest ≤ FRAME_WORDS
+  pub labels : length c.labels.items ≤ LABELS
+  pub instructions : here c ≤ INSTRUCTIONS
 
 -- an operation with its operands on a stack of the one depth leaves the other; there are so many labels and procedures
-abbrev pub Leaves : ℕ → ℕ → ℕ → Operation → ℕ → Type 0
-Leaves labels procedures from (op.Push k) to = to ≡ suc from
-Leaves labels procedures from op.Negate to = (1 ≤ from) × (to ≡ from)
-Leaves labels procedures from op.Add to = (from ≡ suc to) × (1 ≤ to)
-Leaves labels procedures from op.Subtract to = (from ≡ suc to) × (1 ≤ to)
-Leaves labels procedures from op.Multiply to = (from ≡ suc to) × (1 ≤ to)
-Leaves labels procedures from (op.Call n) to = (n < procedures) × (to ≡ from)
-Leaves labels procedures from (op.PutLine n) to = (n < labels) × (from ≡ suc to)
-Leaves labels procedures from o to = ⊥
+abbrev pub ChangesDepth : ℕ → ℕ → ℕ → Operation → ℕ → Type 0
+ChangesDepth labels procedures from (op.Push k) to = to ≡ suc from
+ChangesDepth labels procedures from op.Negate to = (1 ≤ from) × (to ≡ from)
+ChangesDepth labels procedures from op.Add to = (from ≡ suc to) × (1 ≤ to)
+ChangesDepth labels procedures from op.Subtract to = (from ≡ suc to) × (1 ≤ to)
+ChangesDepth labels procedures from op.Multiply to = (from ≡ suc to) × (1 ≤ to)
+ChangesDepth labels procedures from (op.Call n) to = (n < procedures) × (to ≡ from)
+ChangesDepth labels procedures from (op.PutLine n) to = (n < labels) × (from ≡ suc to)
+ChangesDepth labels procedures from o to = ⊥
 
 -- instructions that lead from one depth to another, none above the most
-abbrev pub Runs : ℕ → ℕ → ℕ → ℕ → List Instr → ℕ → Type 0
-Runs labels procedures most from [] to = to ≡ from
-Runs labels procedures most from (x ∷ xs) to =
-    (mid : ℕ) × (x.depth ≡ from) × Leaves labels procedures from x.operation mid × (from ≤ most) × (mid ≤ most) × Runs labels procedures most mid xs to
+abbrev pub LeadsTo : ℕ → ℕ → ℕ → ℕ → List Instr → ℕ → Type 0
+LeadsTo labels procedures most from [] to = to ≡ from
+LeadsTo labels procedures most from (x ∷ xs) to =
+    (mid : ℕ) × (x.depth ≡ from) × ChangesDepth labels procedures from x.operation mid × (from ≤ most) × (mid ≤ most) × LeadsTo labels procedures most mid xs to
 
 -- instructions were added that lead from one depth to another
 pub record Grows (old : Code) (from to : ℕ) (new : Code) : Type 0 where
@@ -41,7 +42,7 @@ pub record Grows (old : Code) (from to : ℕ) (new : Code) : Type 0 where
   pub added : new.instructions.items ≡ old.instructions.items ++ code
   pub labels : length old.labels.items ≤ length new.labels.items
   pub subprograms : new.subprograms ≡ old.subprograms
-  pub runs : Runs (length new.labels.items) (length old.subprograms.items) new.deepest from code to
+  pub runs : LeadsTo (length new.labels.items) (length old.subprograms.items) new.deepest from code to
   pub deeper : old.deepest ≤ new.deepest
   pub high : to ≤ new.deepest
   pub small : IsSmall new
@@ -57,8 +58,8 @@ pub record IsPart (labels procedures first : ℕ) (s : Subprogram) (code : List 
   pub parameters : s.parameters ≡ 0
   pub results : s.results ≡ 0
   pub locals : s.locals ≡ 0
-  pub shallow : s.stack ≤ 512
-  pub runs : Runs labels procedures s.stack 0 code 0
+  pub shallow : s.stack ≤ FRAME_WORDS
+  pub runs : LeadsTo labels procedures s.stack 0 code 0
 
 abbrev pub returns : Instr
 returns = record { depth = 0; operation = op.Return }
@@ -95,4 +96,4 @@ pub record AreParts (all : List BodyItemTree) (c : Code) : Type 0 where
   pub count : length c.subprograms.items ≡ length all
   pub instructions : here c ≡ bodies_instructions all
   pub labels : c.labels.items ≡ bodies_labels [] all
-  pub words : bodies_words all ≤ 512
+  pub words : bodies_words all ≤ FRAME_WORDS

@@ -3,6 +3,7 @@ ghost use Rattle.std.specs.Prelude.{◌≡◌, ◌+◌, ◌≤◌, [], length, m
 ghost use Rattle.std.specs.List.{list_all};
 ghost use Rattle.ada_tree.specs.ProgramTree.{body_item_tree, body_tree};
 ghost use Rattle.ada_link.specs.Code.{EmitsBodies, EmitsBody, IsEnded, here};
+ghost use Rattle.base.specs.declared.limits.TheConstants.{FRAME_WORDS};
 ghost use Rattle.ada_link.specs.Growing.{AddsSubprogram, AreParts, IsSized, IsSmall};
 ghost use Rattle.ada_link.specs.Size.{RefusesCode, bodies_instructions, bodies_labels, bodies_words, statements_instructions, statements_labels, statements_words};
 ghost use Rattle.ada_link.specs.FirstLanguage.{is_first_body, is_plain_body};
@@ -21,7 +22,7 @@ impl Code {
         ensures emits { OnOk result (EmitsBody self.old (body_tree body.now) self.new) }
         ensures adds { OnOk result (AddsSubprogram self.old kind self.new) }
         ensures sized { OnOk result (IsSized self.old (statements_instructions (body_tree body.now).statements + 1) (statements_labels self.old.labels.items (body_tree body.now).statements) self.new) }
-        ensures words { OnOk result (statements_words (body_tree body.now).statements ≤ 512) }
+        ensures words { OnOk result (statements_words (body_tree body.now).statements ≤ FRAME_WORDS) }
         ensures refused { IfErr result (λ why. RefusesCode (here self.old + (statements_instructions (body_tree body.now).statements + 1)) (statements_words (body_tree body.now).statements) (length (statements_labels self.old.labels.items (body_tree body.now).statements)) why) }
     {
         self.statements(&body.statements)?;

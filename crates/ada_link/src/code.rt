@@ -4,6 +4,7 @@ ghost use Rattle.base.specs.Names.{is_label};
 ghost use Rattle.image.specs.declared.instruction.Operation.TheVariants as op;
 ghost use Rattle.ada_link.specs.Code.{Adds, EndsSubprogram, HasLabel, here};
 ghost use Rattle.ada_link.specs.FirstLanguage.{contains};
+ghost use Rattle.base.specs.declared.limits.TheConstants.{FRAME_WORDS, INSTRUCTIONS, LABELS};
 ghost use Rattle.ada_link.specs.Growing.{Closes};
 ghost use Rattle.ada_link.specs.Size.{RefusesCode, with_label};
 
@@ -45,7 +46,7 @@ impl Code {
     pub(crate) fn emit(&mut self, depth: u16, operation: Operation) -> Result<(), Refusal>
         ensures adds { OnOk result (Adds self.old (record { depth = depth; operation = operation }) self.new) }
         ensures deepest { self.new.deepest ≡ self.old.deepest }
-        ensures few { OnOk result (here self.new ≤ 65535) }
+        ensures few { OnOk result (here self.new ≤ INSTRUCTIONS) }
         ensures refused { IfErr result (λ why. RefusesCode (here self.old + 1) 0 0 why) }
     {
         if INSTRUCTIONS <= self.instructions.len() {
@@ -59,8 +60,8 @@ impl Code {
     pub(crate) fn push(&mut self, depth: u16, value: i64) -> Result<(), Refusal>
         ensures adds { OnOk result (Adds self.old (record { depth = depth; operation = op.Push value }) self.new) }
         ensures deepest { OnOk result (self.new.deepest ≡ max self.old.deepest (depth + 1)) }
-        ensures shallow { OnOk result (depth < 512) }
-        ensures few { OnOk result (here self.new ≤ 65535) }
+        ensures shallow { OnOk result (depth < FRAME_WORDS) }
+        ensures few { OnOk result (here self.new ≤ INSTRUCTIONS) }
         ensures refused { IfErr result (λ why. RefusesCode (here self.old + 1) (depth + 1) 0 why) }
     {
         if FRAME_WORDS <= usize::from(depth) {
@@ -76,7 +77,7 @@ impl Code {
         requires label { is_label label.now ≡ true }
         ensures has { IfOk result (λ number. HasLabel self.old label.now number self.new) }
         ensures table { OnOk result (self.new.labels.items ≡ with_label self.old.labels.items label.now) }
-        ensures few { OnOk result (length self.old.labels.items ≤ 1024 → length self.new.labels.items ≤ 1024) }
+        ensures few { OnOk result (length self.old.labels.items ≤ LABELS → length self.new.labels.items ≤ LABELS) }
         ensures deepest { self.new.deepest ≡ self.old.deepest }
         ensures refused { IfErr result (λ why. RefusesCode 0 0 (length (with_label self.old.labels.items label.now)) why) }
     {
@@ -102,7 +103,7 @@ impl Code {
         requires unknown { contains self.old.labels.items label.now ≡ false }
         ensures has { IfOk result (λ number. HasLabel self.old label.now number self.new) }
         ensures table { OnOk result (self.new.labels.items ≡ with_label self.old.labels.items label.now) }
-        ensures few { OnOk result (length self.new.labels.items ≤ 1024) }
+        ensures few { OnOk result (length self.new.labels.items ≤ LABELS) }
         ensures deepest { self.new.deepest ≡ self.old.deepest }
         ensures refused { IfErr result (λ why. RefusesCode 0 0 (length (with_label self.old.labels.items label.now)) why) }
     {

@@ -8,10 +8,8 @@ ghost use Rattle.ada_link.specs.FirstLanguage.{are_distinct, are_first_pragmas, 
 use crate::statement::{are_first_statements, are_null};
 use crate::visible::{are_first_clauses, have_control_io, is_named, is_standard, is_visible};
 use ada_tree::{Body, BodyItem, Item, Main, MainStatement, Package, Pragma, Program, Subprogram};
+use base::limits::PROCEDURES;
 use base::names::is_name;
-
-/// The most procedures of a program.
-const PROCEDURES: usize = 128;
 
 // The name of a procedure without parameters, and the empty one of anything else.
 fn procedure_name(subprogram: &Subprogram) -> &[u8]

@@ -9,7 +9,7 @@ ghost use Rattle.meaning.specs.SameMeaning.{KeepsCount, SameMeaning};
 ghost use Rattle.ada_link.specs.Code.{HasCode, HasProcedures, bodies_of};
 ghost use Rattle.ada_link.specs.Growing.{AreParts};
 ghost use Rattle.ada_link.specs.Size.{RefusesCode, bodies_instructions, bodies_labels, bodies_words, instructions_of, is_too_large, labels_of, most_steps, words_of};
-ghost use Rattle.ada_link.specs.Whole.{IsWhole};
+ghost use Rattle.ada_link.specs.Whole.{IsCompiled};
 ghost use Rattle.ada_link.specs.declared.refusal.Refusal.TheVariants.{Memory};
 ghost use Rattle.ada_link.specs.FirstLanguage.{is_first_package_part, is_first_program};
 ghost use Rattle.ada_link.specs.Linked.{Linked};
@@ -20,6 +20,7 @@ use crate::first_language::is_first_program;
 use crate::laws::{linked_keeps_count, linked_means_the_same};
 use crate::refusal::Refusal;
 use ada_tree::{Package, Program};
+use base::faults::{CODE_TOO_LARGE, MEMORY_REFUSED, OUTSIDE_LANGUAGE};
 use handlers::Row;
 use image::{Image, Object, Parts, Task, Text};
 use lexer::Fault;
@@ -106,7 +107,7 @@ fn procedures(alloc: Global, package_: &Option<Package>) -> Result<Code, Refusal
 fn parts_of(alloc: Global, program: &Program) -> Result<Parts, Refusal>
     requires { is_first_program (program_tree program.now) ≡ true }
     ensures linked { IfOk result (λ parts. Linked (program_tree program.now) parts) }
-    ensures whole { IfOk result (λ parts. IsWhole (program_tree program.now) parts) }
+    ensures whole { IfOk result (λ parts. IsCompiled (program_tree program.now) parts) }
     ensures refused { let p = program_tree program.now in IfErr result (λ why. RefusesCode (instructions_of p) (words_of p) (length (labels_of p)) why) }
 {
     let mut code = procedures(alloc, &program.package_)?;
@@ -140,7 +141,7 @@ pub fn compile_tree(alloc: Global, program: &Program) -> Result<Image, Fault>
     };
     match Image::build(alloc, parts) {
         Ok(image) => Ok(image),
-        Err(fault) if fault.number == 60 => Err(Fault::memory()),
+        Err(fault) if fault.number == MEMORY_REFUSED => Err(Fault::memory()),
         Err(_) => unreachable!(),
     }
 }
@@ -150,7 +151,7 @@ const fn outside() -> Fault
     ensures { result ≡ outside }
 {
     Fault {
-        number: 90,
+        number: OUTSIDE_LANGUAGE,
         place: 0,
     }
 }
@@ -160,7 +161,7 @@ fn too_large(program: &Program) -> Fault
     ensures { result ≡ too_large (program_tree program.now) }
 {
     Fault {
-        number: 23,
+        number: CODE_TOO_LARGE,
         place: program.main.place,
     }
 }

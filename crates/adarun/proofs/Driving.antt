@@ -1,6 +1,7 @@
 -- What the work over files leaves.
 use Rattle.std.proofs.Common.{◌≡◌, ℕ, List, Option, Bool, true, false, cond, refl, sym, ap, subst}
 use Rattle.std.specs.Prelude.{nat_eq}
+use Rattle.base.specs.declared.faults.TheConstants.{MEMORY_REFUSED}
 use Rattle.lexer.specs.declared.fault.Fault.{Fault}
 use Rattle.machine.specs.declared.reports.Outcome.{Outcome}
 use Rattle.machine.specs.declared.reports.Outcome.TheVariants as outcomes
@@ -40,7 +41,7 @@ module _ (contents : Contents) (source schedule : List ℕ) (limit : ℕ) (old n
       }))
 
   refusal_leaves : (b : Bool) (fault : Fault) (text lent : List ℕ)
-      → nat_eq fault.number 60 ≡ b → IsRead (contents source) text → lent ≡ text → RefusesText lent fault → new ≡ old
+      → nat_eq fault.number MEMORY_REFUSED ≡ b → IsRead (contents source) text → lent ≡ text → RefusesText lent fault → new ≡ old
       → Leaves contents source schedule limit (cond b NoMemory SourceRefused) old new
   refusal_leaves true fault text lent e read same refused unwritten = unwritten
   refusal_leaves false fault text lent e read same refused unwritten = record {
@@ -48,15 +49,15 @@ module _ (contents : Contents) (source schedule : List ℕ) (limit : ℕ) (old n
     source_read = subst (IsRead (contents source)) (sym same) read;
     fault = fault;
     refused = refused;
-    not_memory = λ h. let is = ap (λ n. nat_eq n 60) h in absurd cc;
+    not_memory = λ h. let is = ap (λ n. nat_eq n MEMORY_REFUSED) h in absurd cc;
     unwritten = unwritten;
   }
 
   pub refused_leaves : (status : Status) (fault : Fault) (text lent : List ℕ)
-      → status ≡ cond (nat_eq fault.number 60) NoMemory SourceRefused → IsRead (contents source) text → lent ≡ text → RefusesText lent fault → new ≡ old
+      → status ≡ cond (nat_eq fault.number MEMORY_REFUSED) NoMemory SourceRefused → IsRead (contents source) text → lent ≡ text → RefusesText lent fault → new ≡ old
       → Leaves contents source schedule limit status old new
   refused_leaves status fault text lent e read same refused unwritten =
-      subst (λ s. Leaves contents source schedule limit s old new) (sym e) (refusal_leaves (nat_eq fault.number 60) fault text lent refl read same refused unwritten)
+      subst (λ s. Leaves contents source schedule limit s old new) (sym e) (refusal_leaves (nat_eq fault.number MEMORY_REFUSED) fault text lent refl read same refused unwritten)
 
   pub schedule_leaves : (status : Status) (x : GoFault) (fault : ScheduleFault) (text lent given lines : List ℕ)
       → status ≡ ScheduleRefused → IsRead (contents source) text → lent ≡ text → IsRead (contents schedule) given → lines ≡ given → x ≡ faults.Schedule fault → Refuses lent lines x → new ≡ old

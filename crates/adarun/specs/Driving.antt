@@ -1,5 +1,6 @@
 -- What the program's work over files leaves, by its exit status.
 use Rattle.std.specs.Prelude.{◌≡◌, ◌≢◌, ◌⊎◌, ℕ, List, Option, Some, None, ⊤}
+use Rattle.base.specs.declared.faults.TheConstants.{MEMORY_REFUSED}
 use Rattle.lexer.specs.declared.fault.Fault.{Fault}
 use Rattle.machine.specs.Schedules.{IsSchedule, RefusesSchedule}
 use Rattle.machine.specs.declared.reports.Outcome.{Outcome}
@@ -52,7 +53,7 @@ pub record HasRefusedSource (contents : Contents) (source : List ℕ) (old new :
   pub source_read : IsRead (contents source) text
   pub fault : Fault
   pub refused : RefusesText text fault
-  pub not_memory : fault.number ≢ 60
+  pub not_memory : fault.number ≢ MEMORY_REFUSED
   pub unwritten : new ≡ old
 
 -- both files were read, the source compiles, and the schedule was refused

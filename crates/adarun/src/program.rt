@@ -1,11 +1,13 @@
 //! The program's work over any files and streams.
 ghost use Rattle.std.specs.Prelude.{◌≡◌, ◌<◌, ◌⊎◌, nat_eq, if◌then◌else◌};
+ghost use Rattle.base.specs.declared.faults.TheConstants.{MEMORY_REFUSED};
 ghost use Rattle.adarun.specs.Driving as driving;
 ghost use Rattle.adarun.specs.Driving.{Answers, Leaves};
 
 use crate::execution::{GoFault, go};
 use crate::files::{FileStore, ReadError};
 use crate::words::{Request, WordsError, request_of};
+use base::faults::MEMORY_REFUSED;
 use itoa::Buffer;
 use lexer::Fault;
 use machine::{Outcome, RunFault, ScheduleFault, Sink, write_all};
@@ -132,9 +134,9 @@ fn unread<E: Sink>(err: &mut E, error: ReadError, name: &str) -> Status
 }
 
 fn refuse_source<E: Sink>(err: &mut E, text: &[u8], fault: &Fault) -> Status
-    ensures { result ≡ (if nat_eq fault.now.number 60 then Status.NoMemory else Status.SourceRefused) }
+    ensures { result ≡ (if nat_eq fault.now.number MEMORY_REFUSED then Status.NoMemory else Status.SourceRefused) }
 {
-    if fault.number == 60 {
+    if fault.number == MEMORY_REFUSED {
         return no_memory(err);
     }
     let (line, column) = position(text, fault.place);

@@ -9,6 +9,9 @@ pub const LABEL_LIMIT: usize = 40;
 /// The greatest value of a literal, `2**63 - 1`.
 pub const LARGEST_NUMBER: u64 = 0x7fff_ffff_ffff_ffff;
 
+/// Levels of a source text that may be open at once (docs/LANGUAGE.md, "Grammar").
+pub const LEVELS: u8 = 40;
+
 /// Priorities are below this number (RM D.1).
 pub const PRIORITIES: usize = 32;
 /// The greatest base priority of a task (RM D.1).
@@ -26,6 +29,8 @@ pub const EXCEPTIONS: usize = 36;
 pub const LABELS: usize = 1_024;
 /// Plain words and words of objects of an image together.
 pub const WORDS: usize = 8_192;
+/// Subprograms of a source.
+pub const PROCEDURES: usize = 128;
 /// Tasks, main among them.
 pub const TASKS: usize = 17;
 /// Protected objects.

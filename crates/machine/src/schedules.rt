@@ -2,6 +2,7 @@
 ghost use Rattle.std.specs.Prelude.{◌↔◌, IfErr, IsOk};
 ghost use Rattle.machine.specs.Schedules.{IsSchedule, RefusesSchedule};
 
+use base::faults::WRONG_SCHEDULE_LINE;
 use std::alloc::Global;
 use thiserror::Error;
 
@@ -30,7 +31,7 @@ impl Schedule {
             Ok(Schedule {})
         } else {
             Err(ScheduleFault {
-                number: 50,
+                number: WRONG_SCHEDULE_LINE,
                 line: 1,
             })
         }

@@ -7,7 +7,8 @@ use Rattle.ada_tree.specs.Language.{Tokens}
 use Rattle.ada_tree.specs.ProgramTree.{ProgramTree, program_tree}
 use Rattle.ada_tree.specs.ProgramGrammar.{program}
 use Rattle.ada_tree.specs.Depth.{depth}
-use Rattle.parser.specs.declared.parsing.TheConstants.{LEVELS, UNEXPECTED_TOKEN, TOO_MANY_LEVELS}
+use Rattle.base.specs.declared.limits.TheConstants.{LEVELS}
+use Rattle.base.specs.declared.faults.TheConstants.{TOO_MANY_LEVELS, UNEXPECTED_TOKEN}
 use Rattle.parser.specs.declared.refusal.Broken.{Broken}
 use Rattle.parser.specs.declared.refusal.Refusal.{Refusal}
 use Rattle.parser.specs.declared.refusal.Refusal.TheVariants as refusals

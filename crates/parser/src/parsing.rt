@@ -9,17 +9,10 @@ use crate::parser::Parser;
 use crate::refusal::{Broken, Refusal};
 use ada_tree::Program;
 use ada_tree::laws::limit_is_depth;
+use base::faults::{TOO_MANY_LEVELS, UNEXPECTED_TOKEN};
+use base::limits::LEVELS;
 use lexer::{Fault, Token};
 use std::alloc::Global;
-
-/// How many levels may be open at once.
-const LEVELS: u8 = 40;
-
-/// The number of the fault at a token that no derivation allows, or at the end of the tokens.
-const UNEXPECTED_TOKEN: u8 = 6;
-
-/// The number of the fault at a token that opens a level, where as many are open as may be.
-const TOO_MANY_LEVELS: u8 = 7;
 
 /// The place where the last token ends.
 fn end_of(tokens: &[Token]) -> u32

@@ -20,7 +20,7 @@ unreachable-requires c =
     let first : is_first_program p ≡ true = sym c.is_first_program.ensures ∙ c.if-not-is_first_program.false in
     let alone =
     memory_alone p _ (rw c.in-Ok.parts-is at c.in-Ok.ensures.whole) (main_named p first) (labelled_package c.args.program.now.package_ (package_first p first)) c.in-Err.fault c.in-Err.ensures.refused in
-    c.if-fault-eq60.false (ap (λ f. f.number) alone)
+    c.if-fault-eq-MEMORY_REFUSED.false (ap (λ f. f.number) alone)
 
 pub returns-in-Ok-build-clause-fits : goal.returns-in-Ok-build-clause-fits
 returns-in-Ok-build-clause-fits c = whole_fits (program_tree c.args.program.now) _ (rw c.in-Ok.parts-is at c.in-Ok.ensures.whole)

@@ -14,12 +14,12 @@ pub main-requires-clause-all : goal.main-requires-clause-all
 main-requires-clause-all c = rw c.deref.ensures.value (statements_first (program_tree c.args.program.now) c.requires)
 
 pub into_parts-requires-clause-name : goal.into_parts-requires-clause-name
-into_parts-requires-clause-name c = rw c.as_bytes.ensures (main_named (program_tree c.args.program.now) c.requires)
+into_parts-requires-clause-name c = rw c.as_bytes.ensures.same (main_named (program_tree c.args.program.now) c.requires)
 
 pub returns-clause-linked : goal.returns-clause-linked
 returns-clause-linked c =
     IfOk-weaker _ _ _
-    (λ parts h. program_linked (program_tree c.args.program.now) parts _ _ c.in_ok-code.ensures.has (rw c.deref.ensures.value at c.in_ok-main.ensures.emits) (rw c.as_bytes.ensures at h))
+    (λ parts h. program_linked (program_tree c.args.program.now) parts _ _ c.in_ok-code.ensures.has (rw c.deref.ensures.value at c.in_ok-main.ensures.emits) (rw c.as_bytes.ensures.same at h))
     c.into_parts.ensures.has
 
 pub into_parts-requires-clause-few : goal.into_parts-requires-clause-few
@@ -31,5 +31,5 @@ pub returns-clause-whole : goal.returns-clause-whole
 returns-clause-whole c =
     let p = program_tree c.args.program.now in
     IfOk-weaker _ _ _
-    (λ parts h. whole p _ _ c.in_ok-code.ensures.parts c.in_ok-main.ensures.adds (rw c.deref.ensures.value at c.in_ok-main.ensures.sized) parts (few_of c.args.program.now.package_ (package_first p c.requires)) (rw c.as_bytes.ensures at h))
+    (λ parts h. whole p _ _ c.in_ok-code.ensures.parts c.in_ok-main.ensures.adds (rw c.deref.ensures.value at c.in_ok-main.ensures.sized) parts (few_of c.args.program.now.package_ (package_first p c.requires)) (rw c.as_bytes.ensures.same at h))
     c.into_parts.ensures.has
