@@ -13,3 +13,4 @@ mod StepLinks
 mod Today
 mod WellFormed
 mod Widths
+pub mod Written

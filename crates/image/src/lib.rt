@@ -2,6 +2,7 @@
 #![tactic(auto)]
 
 mod building;
+mod encoding;
 mod fault;
 mod instruction;
 mod instruction_rules;
@@ -18,6 +19,7 @@ mod word_ranges;
 
 pub use base::Text;
 pub use building::Image;
+pub use encoding::encode;
 pub use fault::ImageFault;
 pub use instruction::{Instr, Operation, Region};
 pub use objects::{Barrier, Object};

@@ -32,6 +32,7 @@ use Rattle.parser.proofs.statements.CompoundStatements.{HandlersStop, handlers_e
 use Rattle.parser.proofs.statements.Statements.{statements_exact}
 use Rattle.parser.proofs.programs.Types.{semicolon, end_word}
 use Rattle.parser.proofs.programs.Items.{ItemClass, definition_class, item_class, either_free, item_exact}
+use Rattle.parser.proofs.programs.Items.{Types, Subtypes, Names, Subprograms, Tasks, Protecteds}
 
 -- ---- bodies
 

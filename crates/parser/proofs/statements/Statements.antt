@@ -25,6 +25,7 @@ use Rattle.parser.specs.ExpressionReading.{expression_at}
 use Rattle.parser.proofs.general.Heads.{when_first}
 use Rattle.parser.proofs.statements.PlainStatements.{Class, class_of, class_at, Of, null_exact, named_statement, exit_exact, return_exact, raise_exact}
 use Rattle.parser.proofs.statements.PlainStatements.{delay_exact, abort_exact, requeue_exact, accept_exact, select_exact}
+use Rattle.parser.proofs.statements.PlainStatements.{Nulls, Names, Exits, Returns, Raises, Delays, Ifs, Cases, Loops, Blocks, Aborts, Requeues, Accepts, Selects}
 use Rattle.parser.proofs.statements.CompoundStatements.{AllStop, ExactStatements, line_stops, line, exception_choice_exact, handler_exact, IfParts, CaseParts}
 use Rattle.parser.proofs.statements.CompoundStatements.{LoopParts, BlockParts, l, elsif_exact, if_exact, alternative_exact, case_exact, loop_exact, block_exact}
 
