@@ -1,6 +1,6 @@
 //! Reading expressions.
 ghost use Rattle.std.specs.Prelude.{◌≡◌, map};
-ghost use Rattle.ada_tree.specs.ExpressionTree.{expr_tree, name_tree, selector_tree, argument_tree, elsif_value_tree};
+ghost use Rattle.ada_tree.specs.ExpressionTree.{Unary, expr_tree, name_tree, selector_tree, argument_tree, elsif_value_tree};
 ghost use Rattle.lexer.specs.declared.word.Word.TheVariants as words;
 ghost use Rattle.lexer.specs.declared.delimiter.Delimiter.TheVariants as marks;
 ghost use Rattle.parser.specs.Reading.{Gives, first, is_next, opened, seq, mapped, skip_mark};
@@ -197,6 +197,7 @@ impl<'a> Parser<'a> {
         Ok(Selector::of_arguments(all))
     }
 
+    #[inline(never)]
     fn component(&mut self) -> Result<Selector, Refusal>
         ensures { Gives selector_tree result self.new.rest.now (reading.component_of self.old.rest.now) }
     {
@@ -204,6 +205,7 @@ impl<'a> Parser<'a> {
         Ok(Selector::Component(self.identifier()?))
     }
 
+    #[inline(never)]
     fn attribute(&mut self) -> Result<Selector, Refusal>
         ensures { Gives selector_tree result self.new.rest.now (reading.attribute_of self.old.rest.now) }
     {
@@ -262,6 +264,7 @@ impl<'a> Parser<'a> {
     }
 
     #[cycle(expression)]
+    #[inline(never)]
     fn elsif_values(&mut self, levels: u8) -> Result<Vec<ElsifValue>, Refusal>
         ensures { Gives (λ all. map elsif_value_tree all.items) result self.new.rest.now (reading.elsif_values_in (reading.values_at levels) self.old.rest.now) }
     {
@@ -274,6 +277,7 @@ impl<'a> Parser<'a> {
     }
 
     #[cycle(expression)]
+    #[inline(never)]
     fn conditional(&mut self, levels: u8, place: u32) -> Result<Expr, Refusal>
         ensures { Gives expr_tree result self.new.rest.now (opened (reading.values levels) (reading.conditional_in place) self.old.rest.now) }
     {
@@ -357,8 +361,17 @@ impl<'a> Parser<'a> {
     }
 }
 
-// Operations.
+// Operations. What stands behind an operator is read by methods of its own, so that the frames that are open at each level stay small.
 impl<'a> Parser<'a> {
+    #[cycle(expression)]
+    #[inline(never)]
+    fn modified(&mut self, levels: u8, operator: UnaryOperator, place: u32) -> Result<Expr, Refusal>
+        ensures { Gives expr_tree result self.new.rest.now (mapped (Unary operator place) (reading.primary_in (reading.values levels)) self.old.rest.now) }
+    {
+        let operand = self.primary(levels)?;
+        Ok(Expr::unary(self.alloc, operator, place, operand)?)
+    }
+
     #[cycle(expression)]
     #[tactic(auto, unfolding(crate::specs::ExpressionReading::factor_in))]
     fn factor(&mut self, levels: u8) -> Result<Expr, Refusal>
@@ -367,8 +380,7 @@ impl<'a> Parser<'a> {
         match self.prefix() {
             Some((operator, place)) => {
                 self.pass();
-                let operand = self.primary(levels)?;
-                Ok(Expr::unary(self.alloc, operator, place, operand)?)
+                self.modified(levels, operator, place)
             }
             None => self.primary(levels),
         }
@@ -388,14 +400,22 @@ impl<'a> Parser<'a> {
     }
 
     #[cycle(expression)]
+    #[inline(never)]
+    fn negated(&mut self, levels: u8, operator: UnaryOperator, place: u32) -> Result<Expr, Refusal>
+        ensures { Gives expr_tree result self.new.rest.now (mapped (Unary operator place) (reading.term_in (reading.values levels)) self.old.rest.now) }
+    {
+        let operand = self.term(levels)?;
+        Ok(Expr::unary(self.alloc, operator, place, operand)?)
+    }
+
+    #[cycle(expression)]
     fn signed(&mut self, levels: u8) -> Result<Expr, Refusal>
         ensures { Gives expr_tree result self.new.rest.now (reading.prefixed reading.sign (reading.term_in (reading.values levels)) self.old.rest.now) }
     {
         match self.sign() {
             Some((operator, place)) => {
                 self.pass();
-                let operand = self.term(levels)?;
-                Ok(Expr::unary(self.alloc, operator, place, operand)?)
+                self.negated(levels, operator, place)
             }
             None => self.term(levels),
         }
@@ -416,6 +436,7 @@ impl<'a> Parser<'a> {
     }
 
     #[cycle(expression)]
+    #[inline(never)]
     fn compared(&mut self, levels: u8, left: Expr) -> Result<Expr, Refusal>
         ensures { Gives expr_tree result self.new.rest.now (reading.compared_in (reading.values levels) (expr_tree left) self.old.rest.now) }
     {
@@ -442,6 +463,7 @@ impl<'a> Parser<'a> {
         Ok(relation)
     }
 
+    #[inline(never)]
     fn logical(&mut self) -> Result<BinaryOperator, Refusal>
         ensures { Gives (λ operator. operator) result self.new.rest.now (reading.logical_of self.old.rest.now) }
     {
@@ -473,6 +495,7 @@ impl<'a> Parser<'a> {
     }
 
     /// Goes past the logical operator again.
+    #[inline(never)]
     fn repeated(&mut self, operator: BinaryOperator) -> Result<(), Refusal>
         ensures { Gives (λ _. tt) result self.new.rest.now (reading.repeated operator self.old.rest.now) }
     {
@@ -487,6 +510,7 @@ impl<'a> Parser<'a> {
     }
 
     #[cycle(expression)]
+    #[inline(never)]
     fn chain(&mut self, levels: u8, left: Expr, operator: BinaryOperator) -> Result<Expr, Refusal>
         ensures { Gives expr_tree result self.new.rest.now (reading.logical_chain (reading.values levels) (expr_tree left) operator self.old.rest.now) }
     {

@@ -87,6 +87,7 @@ impl<'a> Parser<'a> {
     }
 
     /// Goes past an identifier.
+    #[inline(never)]
     pub(crate) fn identifier(&mut self) -> Result<Identifier, Refusal>
         ensures { Gives (λ identifier. identifier) result self.new.rest.now (identifier_of self.old.rest.now) }
     {

@@ -8,70 +8,76 @@ use Rattle.parser.proofs.general.Loops.{still, pushed}
 use Rattle.parser.proofs.parser.Parser.+expression.Given as goal
 
 abbrev pub decreases-arguments : goal.decreases-arguments
-decreases-arguments l = 22 * l.levels + 0
+decreases-arguments l = 24 * l.levels + 0
 
 abbrev pub decreases-selector : goal.decreases-selector
-decreases-selector l = 22 * l.levels + 1
+decreases-selector l = 24 * l.levels + 1
 
 abbrev pub decreases-selectors : goal.decreases-selectors
-decreases-selectors l = 22 * l.levels + 2
+decreases-selectors l = 24 * l.levels + 2
 
 abbrev pub decreases-name : goal.decreases-name
-decreases-name l = 22 * l.levels + 3
+decreases-name l = 24 * l.levels + 3
 
 abbrev pub decreases-conditional : goal.decreases-conditional
-decreases-conditional l = 22 * l.levels + 4
+decreases-conditional l = 24 * l.levels + 4
 
 abbrev pub decreases-parenthesis : goal.decreases-parenthesis
-decreases-parenthesis l = 22 * l.levels + 5
+decreases-parenthesis l = 24 * l.levels + 5
 
 abbrev pub decreases-open_primary : goal.decreases-open_primary
-decreases-open_primary l = 22 * l.levels + 6
+decreases-open_primary l = 24 * l.levels + 6
 
 abbrev pub decreases-primary : goal.decreases-primary
-decreases-primary l = 22 * l.levels + 7
+decreases-primary l = 24 * l.levels + 7
+
+abbrev pub decreases-modified : goal.decreases-modified
+decreases-modified l = 24 * l.levels + 8
 
 abbrev pub decreases-factor : goal.decreases-factor
-decreases-factor l = 22 * l.levels + 8
+decreases-factor l = 24 * l.levels + 9
 
 abbrev pub decreases-term : goal.decreases-term
-decreases-term l = 22 * l.levels + 9
+decreases-term l = 24 * l.levels + 10
+
+abbrev pub decreases-negated : goal.decreases-negated
+decreases-negated l = 24 * l.levels + 11
 
 abbrev pub decreases-signed : goal.decreases-signed
-decreases-signed l = 22 * l.levels + 10
+decreases-signed l = 24 * l.levels + 12
 
 abbrev pub decreases-simple : goal.decreases-simple
-decreases-simple l = 22 * l.levels + 11
+decreases-simple l = 24 * l.levels + 13
 
 abbrev pub decreases-compared : goal.decreases-compared
-decreases-compared l = 22 * l.levels + 12
+decreases-compared l = 24 * l.levels + 14
 
 abbrev pub decreases-relation : goal.decreases-relation
-decreases-relation l = 22 * l.levels + 13
+decreases-relation l = 24 * l.levels + 15
 
 abbrev pub decreases-chain : goal.decreases-chain
-decreases-chain l = 22 * l.levels + 14
+decreases-chain l = 24 * l.levels + 16
 
 abbrev pub decreases-combined : goal.decreases-combined
-decreases-combined l = 22 * l.levels + 15
+decreases-combined l = 24 * l.levels + 17
 
 abbrev pub decreases-expression : goal.decreases-expression
-decreases-expression l = 22 * l.levels + 16
+decreases-expression l = 24 * l.levels + 18
 
 abbrev pub decreases-argument : goal.decreases-argument
-decreases-argument l = 22 * l.levels + 17
+decreases-argument l = 24 * l.levels + 19
 
 abbrev pub decreases-argument_list : goal.decreases-argument_list
-decreases-argument_list l = 22 * l.levels + 18
+decreases-argument_list l = 24 * l.levels + 20
 
 abbrev pub decreases-elsif_value : goal.decreases-elsif_value
-decreases-elsif_value l = 22 * l.levels + 19
+decreases-elsif_value l = 24 * l.levels + 21
 
 abbrev pub decreases-elsif_values : goal.decreases-elsif_values
-decreases-elsif_values l = 22 * l.levels + 20
+decreases-elsif_values l = 24 * l.levels + 22
 
 abbrev pub decreases-enclosed : goal.decreases-enclosed
-decreases-enclosed l = 22 * l.levels + 21
+decreases-enclosed l = 24 * l.levels + 23
 
 abbrev pub invariant-argument_list-loop-self : goal.invariant-argument_list-loop-self
 invariant-argument_list-loop-self l =
