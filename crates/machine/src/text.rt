@@ -2,6 +2,7 @@
 ghost use Rattle.std.specs.Prelude.{◌≡◌, ◌+◌, ◌-◌, ◌≤◌, ◌++◌, length, slice_get};
 ghost use Rattle.std.specs.Fmt.{signed_decimal};
 ghost use Rattle.arrayvec.specs.ArrayVec.{array_vec_len};
+ghost use Rattle.base.specs.declared.limits.TheConstants.{NAME_LIMIT};
 ghost use Rattle.image.specs.Texts.{name_of, names_of, text_at, text_from_one};
 ghost use Rattle.kernel.specs.Text.{last_line, line_text, outcome_text};
 ghost use Rattle.machine.specs.Outcomes.{line_of, ending_of, time_of};
@@ -33,7 +34,7 @@ fn put_number(line: &mut LineText, number: i64)
 // The bytes of the text with this number, or none where there isn't one.
 fn text_at(texts: &[Text], number: usize) -> &[u8]
     ensures same { result.now ≡ text_at texts.now number }
-    ensures short { length result.now ≤ 40 }
+    ensures short { length result.now ≤ NAME_LIMIT }
 {
     match texts.get(number) {
         None => &[],
@@ -44,7 +45,7 @@ fn text_at(texts: &[Text], number: usize) -> &[u8]
 // The text with this number, counted from 1; number 0 is none.
 fn text_from_one(texts: &[Text], number: u16) -> &[u8]
     ensures same { result.now ≡ text_from_one texts.now number }
-    ensures short { length result.now ≤ 40 }
+    ensures short { length result.now ≤ NAME_LIMIT }
 {
     match number.checked_sub(1) {
         None => &[],
@@ -55,7 +56,7 @@ fn text_from_one(texts: &[Text], number: u16) -> &[u8]
 // The name of the task with this number, or none where there isn't one.
 fn name_at(tasks: &[Task], number: usize) -> &[u8]
     ensures same { result.now ≡ name_of (slice_get tasks.now number) }
-    ensures short { length result.now ≤ 40 }
+    ensures short { length result.now ≤ NAME_LIMIT }
 {
     match tasks.get(number) {
         None => &[],

@@ -1,7 +1,6 @@
 -- What a program declares: its procedures, its tasks, and the names of tasks and exceptions.
 use Rattle.std.specs.Prelude.{ℕ, List, [], ◌∷◌, Option, Some, None, bytes_eq, slice_get, if◌then◌else◌}
-use Rattle.base.specs.Exceptions.{name_of}
-use Rattle.base.specs.declared.exceptions.PredefinedException.TheVariants.{ConstraintError, ProgramError, StorageError, TaskingError}
+use Rattle.base.specs.Names.{predefined}
 use Rattle.kernel.specs.State.{Partition}
 use Rattle.kernel.specs.Text.{Names}
 use Rattle.image.specs.Texts.{text_at, text_from_one}
@@ -37,7 +36,7 @@ partition_of p = record { tasks = 1; objects = 0; base = λ t. number_or_zero (s
 
 -- the predefined exceptions alone, numbered from 1; number 0 is none (RM 11.1)
 abbrev pub exception_names : List (List ℕ)
-exception_names = name_of ConstraintError ∷ name_of ProgramError ∷ name_of StorageError ∷ name_of TaskingError ∷ []
+exception_names = predefined
 
 abbrev pub exception_name : ℕ → List ℕ
 exception_name x = text_from_one exception_names x

@@ -60,7 +60,7 @@ fn answer_of(tokens: &[Token], read: Result<Program, Refusal>) -> Result<Program
 }
 
 fn whole(alloc: Global, tokens: &[Token]) -> Result<Program, Refusal>
-    ensures { Gives program_tree result [] (whole_at 40 tokens.now) }
+    ensures { Gives program_tree result [] (whole_at LEVELS tokens.now) }
 {
     let mut parser = Parser {
         alloc,
