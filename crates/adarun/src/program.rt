@@ -6,8 +6,8 @@ ghost use Rattle.adarun.specs.Driving.{Answers, Leaves};
 
 use crate::execution::{GoFault, go};
 use crate::files::{FileStore, ReadError};
-use crate::words::{Request, WordsError, request_of};
 use base::faults::MEMORY_REFUSED;
+use command_line::{Request, WordsError, request_of};
 use itoa::Buffer;
 use lexer::Fault;
 use machine::{Outcome, RunFault, ScheduleFault, Sink, write_all};

@@ -1,4 +1,6 @@
-//! The words of a command line.
+//! The words of a command line: what they ask the program for (docs/FORMATS.md, "Exit statuses").
+#![tactic(auto)]
+
 use clap::error::ErrorKind;
 use clap::{Arg, Command, Error};
 use std::alloc::{AllocError, Global};

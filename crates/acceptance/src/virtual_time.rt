@@ -1,0 +1,85 @@
+//! Schedules, sleeping tasks and ready tasks, each kept as the manual has it (docs/FORMATS.md, "Schedule"; RM D.2.1, D.8).
+ghost use Rattle.std.specs.Prelude.{◌≡◌};
+
+use clock::{Delays, ListDelays, Schedule};
+use dispatch::{ListReady, Ready};
+use std::alloc::Global;
+use std::test::Fail;
+
+// The number and the line of the fault that a text is refused with, 0 and 0 where it is read.
+fn refusal(alloc: Global, text: &[u8]) -> (u8, u32) {
+    match Schedule::read(alloc, text) {
+        Ok(_) => (0, 0),
+        Err(fault) => (fault.number, fault.line),
+    }
+}
+
+#[test]
+fn names_the_first_faulty_line(rt: HostRuntime) -> Result<(), Fail> {
+    let rows: [(&[u8], u8, u32); 12] = [
+        (b"", 0, 0),
+        (b"500 1 7\n", 0, 0),
+        (
+            b"0 1 -9223372036854775808\n0 8 0\n9223372036854775807 1 1\n",
+            0,
+            0,
+        ),
+        (b"500 1 7\n400 1 8\n", 51, 2),
+        (b"500 1 7", 50, 1),
+        (b"\n", 50, 1),
+        (b"500 1 7\n\n", 50, 2),
+        (b"500 1 -0\n", 50, 1),
+        (b"007 1 0\n", 50, 1),
+        (b"500 9 7\n", 52, 1),
+        (b"500 18446744073709551617 7\n", 52, 1),
+        (b"500 9 9223372036854775808\n", 50, 1),
+    ];
+    for (text, number, line) in rows {
+        assert_eq!(rt; refusal(rt.alloc(), text), (number, line));
+    }
+    Ok(())
+}
+
+#[test]
+fn a_channel_has_its_last_value(rt: HostRuntime) -> Result<(), Fail> {
+    let schedule = Schedule::read(rt.alloc(), b"10 1 5\n10 2 -6\n20 1 7\n").ok();
+    let schedule = schedule.expect(&rt, "a schedule");
+    assert_eq!(rt; schedule.value(1, 9), 0);
+    assert_eq!(rt; schedule.value(1, 19), 5);
+    assert_eq!(rt; schedule.value(1, 20), 7);
+    assert_eq!(rt; schedule.value(2, 30), -6);
+    assert_eq!(rt; schedule.value(3, 30), 0);
+    assert_eq!(rt; schedule.lines().len(), 3);
+    Ok(())
+}
+
+#[test]
+fn those_due_wake_in_their_order(rt: HostRuntime) -> Result<(), Fail> {
+    let mut delays = ListDelays::new();
+    assert_eq!(rt; delays.next_time(), None);
+    delays.add(2, 30);
+    delays.add(0, 10);
+    delays.add(1, 10);
+    assert_eq!(rt; delays.next_time(), Some(10));
+    let due = delays.expire(10);
+    assert_eq!(rt; due.as_slice(), [0, 1].as_slice());
+    assert_eq!(rt; delays.next_time(), Some(30));
+    Ok(())
+}
+
+#[test]
+fn the_head_of_the_highest_list_is_taken(rt: HostRuntime) -> Result<(), Fail> {
+    let mut ready = ListReady::new();
+    assert_eq!(rt; ready.highest(), None);
+    ready.add_tail(3, 5);
+    ready.add_tail(4, 5);
+    ready.add_head(2, 5);
+    ready.add_tail(1, 31);
+    assert_eq!(rt; ready.highest(), Some(31));
+    assert_eq!(rt; ready.take_highest(), Some(1));
+    assert_eq!(rt; ready.take_highest(), Some(2));
+    assert_eq!(rt; ready.take_highest(), Some(3));
+    assert_eq!(rt; ready.take_highest(), Some(4));
+    assert_eq!(rt; ready.take_highest(), None);
+    Ok(())
+}

@@ -1,0 +1,4 @@
+pub mod Texts
+pub mod Schedules
+pub mod Capped
+pub mod Sleepers

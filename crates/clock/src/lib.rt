@@ -1,0 +1,13 @@
+//! Virtual time: sleeping tasks, and schedules of input values.
+#![tactic(auto)]
+
+mod delays;
+mod faults;
+mod list_delays;
+mod reading;
+mod schedule;
+
+pub use base::ScheduleLine;
+pub use delays::{Delays, Sleeper};
+pub use list_delays::ListDelays;
+pub use schedule::{Schedule, ScheduleFault};
