@@ -7,6 +7,7 @@ mod Links
 mod ObjectExamples
 mod Placed
 mod Plain
+mod RowTables
 mod Runs
 mod Shapes
 mod StepLinks

@@ -13,7 +13,6 @@ mod sections;
 mod subprograms;
 mod table_rules;
 mod tables;
-mod taken;
 mod tasks;
 mod word_ranges;
 
