@@ -4,6 +4,8 @@ mod BytesExamples
 mod Examples
 mod Exclusion
 mod Links
+mod Listed
+mod ListingExamples
 mod ObjectExamples
 mod Placed
 mod Plain
