@@ -14,4 +14,6 @@ mod rows;
 #[cfg(test)]
 mod spelling;
 #[cfg(test)]
+mod tables;
+#[cfg(test)]
 mod virtual_time;

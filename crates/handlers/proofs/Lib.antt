@@ -1,4 +1,6 @@
+mod Crossing
 mod Examples
 mod Found
 mod Joined
 mod Regions
+mod Swept

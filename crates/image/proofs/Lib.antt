@@ -4,9 +4,12 @@ mod BytesExamples
 mod Examples
 mod Exclusion
 mod Links
+mod Listed
+mod ListingExamples
 mod ObjectExamples
 mod Placed
 mod Plain
+mod RowTables
 mod Runs
 mod Shapes
 mod StepLinks

@@ -4,6 +4,7 @@ pub mod Faults
 pub mod Frames
 pub mod Laws
 pub mod Linked
+pub mod Listing
 pub mod ObjectTable
 pub mod Operations
 pub mod Refusals
