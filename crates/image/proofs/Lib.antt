@@ -4,6 +4,7 @@ mod BytesExamples
 mod Examples
 mod Exclusion
 mod Links
+mod LoadingExamples
 mod ObjectExamples
 mod Placed
 mod Plain

@@ -1,11 +1,16 @@
 pub mod Bytes
 pub mod Code
+pub mod Decoding
+pub mod FaultOrder
 pub mod Faults
 pub mod Frames
 pub mod Laws
 pub mod Linked
+pub mod Loading
 pub mod ObjectTable
 pub mod Operations
+pub mod RawRows
+pub mod Reading
 pub mod Refusals
 pub mod Rules
 pub mod Scalars

@@ -9,6 +9,7 @@ mod instruction_rules;
 pub mod laws;
 mod objects;
 mod operation_rules;
+mod raw_sections;
 mod sections;
 mod subprograms;
 mod table_rules;
