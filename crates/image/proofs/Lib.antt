@@ -8,6 +8,7 @@ mod LoadingExamples
 mod ObjectExamples
 mod Placed
 mod Plain
+mod ReadLoop
 mod Runs
 mod Shapes
 mod StepLinks

@@ -10,6 +10,7 @@ pub mod Loading
 pub mod ObjectTable
 pub mod Operations
 pub mod RawRows
+pub mod ReadResults
 pub mod Reading
 pub mod Refusals
 pub mod Rules

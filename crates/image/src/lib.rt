@@ -10,6 +10,7 @@ pub mod laws;
 mod objects;
 mod operation_rules;
 mod raw_sections;
+mod reading;
 mod sections;
 mod subprograms;
 mod table_rules;
