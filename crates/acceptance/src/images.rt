@@ -1,5 +1,6 @@
-//! Images through `Image::build`: one that is built, and some that break one rule.
-use image::{Image, Instr, Kind, Operation, Parts, Subprogram, Task, Text};
+//! Images through `Image::build`: some that are built, one of them not run today, and some that break one rule.
+use image::{Image, Instr, Kind, Operation, Parts, Region, Subprogram, Task, Text};
+use machine::{Machine, RunFault, Schedule};
 use std::alloc::Global;
 use std::test::Fail;
 
@@ -42,8 +43,12 @@ const fn main_body(end_: u16) -> Subprogram {
     }
 }
 
-/// What building answers for an image whose main is its first subprogram: the number of the fault, or 0 where there is none.
-fn answer(alloc: Global, subprograms: &[Subprogram], instructions: &[Instr]) -> Result<u8, Fail> {
+/// An image whose main is its first subprogram, or the number of the fault that refuses it.
+fn built(
+    alloc: Global,
+    subprograms: &[Subprogram],
+    instructions: &[Instr],
+) -> Result<Result<Image, u8>, Fail> {
     let mut parts = Parts {
         exceptions: Vec::new(alloc),
         labels: Vec::new(alloc),
@@ -74,10 +79,7 @@ fn answer(alloc: Global, subprograms: &[Subprogram], instructions: &[Instr]) -> 
     }
     parts.subprograms.extend_from_slice(subprograms)?;
     parts.instructions.extend_from_slice(instructions)?;
-    match Image::build(alloc, parts) {
-        Ok(_) => Ok(0),
-        Err(fault) => Ok(fault.number),
-    }
+    Ok(Image::build(alloc, parts).map_err(|fault| fault.number))
 }
 
 #[test]
@@ -91,7 +93,10 @@ fn names_the_rule_that_is_broken(rt: HostRuntime) -> Result<(), Fail> {
             &[main_body(1)],
             &[Instr {
                 depth: 0,
-                operation: Operation::CheckBlocking,
+                operation: Operation::LoadBlock {
+                    region: Region::Locals,
+                    words: 0,
+                },
             }],
             43,
         ),
@@ -109,7 +114,30 @@ fn names_the_rule_that_is_broken(rt: HostRuntime) -> Result<(), Fail> {
         (&[main_body(2)], &[PUSH, RETURN], 46),
     ];
     for (subprograms, instructions, number) in rows {
-        assert_eq!(rt; answer(rt.alloc(), subprograms, instructions)?, number);
+        let answer = built(rt.alloc(), subprograms, instructions)?
+            .err()
+            .unwrap_or(0);
+        assert_eq!(rt; answer, number);
+    }
+    Ok(())
+}
+
+#[test]
+fn builds_what_the_machine_does_not_run(rt: HostRuntime) -> Result<(), Fail> {
+    let alloc = rt.alloc();
+    let check = Instr {
+        depth: 0,
+        operation: Operation::CheckBlocking,
+    };
+    let rows: [(&[Instr], bool); 2] = [(&[RETURN], true), (&[check, RETURN], false)];
+    for (instructions, runs) in rows {
+        let image = built(alloc, &[main_body(instructions.len() as u16)], instructions)?.expect(
+            &rt, "an image",
+        );
+        let schedule = Schedule::read(alloc, b"").expect(&rt, "a schedule");
+        let started = Machine::start(alloc, &image, &schedule);
+        let refused = matches!(started, Err(RunFault::Unsupported));
+        assert_eq!(rt; refused, !runs);
     }
     Ok(())
 }

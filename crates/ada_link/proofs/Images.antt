@@ -7,7 +7,7 @@ use Rattle.image.specs.Sections.{Sections, end_of, holder_number, object_of}
 use Rattle.image.specs.Operations.{called, given_by, goes_on, jump_target, parameters_of, results_of, taken_by}
 use Rattle.base.specs.Names.{is_label, is_name, predefined}
 use Rattle.image.specs.Rules.{all_begun, all_nested, all_placed, begins_with, has_counts, is_entry_of_object, is_object, is_subprogram, is_task, is_task_body, is_within, tables_agree, covers_places, has_effect, has_ends, leaves_depth, where_ends, last_end, calls_inside, depth_after, has_body, has_depth, has_entry, has_object, has_operands, in_holder, is_closed, is_plain, is_return, is_row_within, jumps_within, operands_in_range, jumps_stay_inside, named_things_exist, depths_agree, keeps_depth, names_things, none_or, same_number, some_and}
-use Rattle.image.specs.Taken.{is_taken_kind, is_taken_operation, takes_operations, takes_tables}
+use Rattle.image.specs.Taken.{IsTaken, is_taken_kind, is_taken_operation, takes_operations, takes_tables}
 use Rattle.image.specs.Faults.{memory_fault}
 use Rattle.image.specs.Refusals.{Refuses}
 use Rattle.image.specs.declared.fault.ImageFault.{ImageFault}
@@ -93,8 +93,8 @@ module _ (p : ProgramTree) (i : Sections) (h : IsCompiled p i) where
   taken : takes_operations i ≡ true
   taken = built_all l n (λ x. is_taken_operation x.operation) (λ from to x. taken_leads l n from to x.operation) refl 0 all i.instructions h.built
 
-  pub operands_in_range_taken : (operands_in_range i && takes_operations i) ≡ true
-  operands_in_range_taken = both (operands_in_range i) (takes_operations i) (all_weaker (λ x. is_taken_operation x.operation) (λ x. has_operands x.operation) (λ x. taken_operands x.operation) i.instructions taken) taken
+  operands_in_range_whole : operands_in_range i ≡ true
+  operands_in_range_whole = all_weaker (λ x. is_taken_operation x.operation) (λ x. has_operands x.operation) (λ x. taken_operands x.operation) i.instructions taken
 
   -- ---- kinds
 
@@ -333,8 +333,12 @@ module _ (p : ProgramTree) (i : Sections) (h : IsCompiled p i) where
       (both (nat_eq (length i.tasks) 1) (nat_eq (length i.objects) 0 && kinds_taken) (ap (λ x. nat_eq (length x) 1) h.tasks)
       (both (nat_eq (length i.objects) 0) kinds_taken (ap (λ x. nat_eq (length x) 0) h.objects) taken_all))
 
-  pub tables_agree_taken : is_name p.main.name.name ≡ true → list_all is_label (labels_of p) ≡ true → (tables_agree i && takes_tables i) ≡ true
-  tables_agree_taken name labelled =
+  -- the machine runs it
+  pub whole_taken : IsTaken i
+  whole_taken = record { operations = taken; tables = tables }
+
+  tables_agree_whole : is_name p.main.name.name ≡ true → list_all is_label (labels_of p) ≡ true → tables_agree i ≡ true
+  tables_agree_whole name labelled =
       let a = has_counts i in
       let b = all_begun (λ first s. nat_lt first s.end_) 0 i.subprograms in
       let c = nat_eq (last_end i.subprograms) (length i.instructions) in
@@ -346,8 +350,7 @@ module _ (p : ProgramTree) (i : Sections) (h : IsCompiled p i) where
       let k = list_all is_label i.labels in
       let m = list_all (λ r. nat_le r.exception (length i.exceptions)) i.rows in
       let o = all_nested i.rows in
-      both (tables_agree i) (takes_tables i)
-      (both a ((b && c) && (d && (e && (f && (g && (j && (k && (m && o)))))))) counts
+      both a ((b && c) && (d && (e && (f && (g && (j && (k && (m && o)))))))) counts
       (both (b && c) (d && (e && (f && (g && (j && (k && (m && o))))))) (both b c (ap (all_begun (λ first s. nat_lt first s.end_) 0) h.subprograms ∙ begun l n i.instructions (λ first s. nat_lt first s.end_) ends_later 0 all i.instructions [] h.built refl refl) (eq_true (last_end i.subprograms) (length i.instructions) ends))
       (both d (e && (f && (g && (j && (k && (m && o)))))) (ap (all_placed (is_subprogram i) 0) h.subprograms ∙ bare_subprograms 0 0 all i.instructions h.built taken_kinds)
       (both e (f && (g && (j && (k && (m && o))))) (ap (all_placed (is_object i) 0) h.objects)
@@ -355,18 +358,17 @@ module _ (p : ProgramTree) (i : Sections) (h : IsCompiled p i) where
       (both g (j && (k && (m && o))) (ap (begins_with predefined) h.exceptions)
       (both j (k && (m && o)) (ap (list_all is_name) h.exceptions)
       (both k (m && o) (ap (list_all is_label) h.labels ∙ labelled)
-      (both m o (ap (list_all (λ r. nat_le r.exception (length i.exceptions))) h.rows) (ap all_nested h.rows))))))))))
-      tables
+      (both m o (ap (list_all (λ r. nat_le r.exception (length i.exceptions))) h.rows) (ap all_nested h.rows)))))))))
 
   -- ---- nothing but memory
 
   pub memory_alone : is_name p.main.name.name ≡ true → list_all is_label (labels_of p) ≡ true → (fault : ImageFault) → Refuses i fault → fault ≡ memory_fault
   memory_alone name labelled fault (inl e) = e
-  memory_alone name labelled fault (inr (byte, inl (number, e))) = absurd (both_ways (operands_in_range i && takes_operations i) e operands_in_range_taken)
+  memory_alone name labelled fault (inr (byte, inl (number, e))) = absurd (both_ways (operands_in_range i) e operands_in_range_whole)
   memory_alone name labelled fault (inr (byte, inr (inl (number, e)))) = absurd (both_ways (jumps_stay_inside i) e jumps_stay_inside_whole)
   memory_alone name labelled fault (inr (byte, inr (inr (inl (number, e))))) = absurd (both_ways (named_things_exist i) e named_things_exist_whole)
   memory_alone name labelled fault (inr (byte, inr (inr (inr (inl (number, e)))))) = absurd (both_ways (depths_agree i) e depths_agree_whole)
-  memory_alone name labelled fault (inr (byte, inr (inr (inr (inr (number, e)))))) = absurd (both_ways (tables_agree i && takes_tables i) e (tables_agree_taken name labelled))
+  memory_alone name labelled fault (inr (byte, inr (inr (inr (inr (number, e)))))) = absurd (both_ways (tables_agree i) e (tables_agree_whole name labelled))
 
 neither : (a b : Bool) → a ≡ false → b ≡ false → (a || b) ≡ false
 neither true b e f = e

@@ -2,6 +2,7 @@
 ghost use Rattle.std.specs.Prelude.{◌≡◌, ◌<◌, ◌≤◌, [], false, length, true, IfErr, IfOk, OnOk};
 ghost use Rattle.base.specs.Names.{is_name};
 ghost use Rattle.image.specs.Rules.{IsWellFormed};
+ghost use Rattle.image.specs.Taken.{IsTaken};
 ghost use Rattle.ada_tree.specs.StatementTree.{optional_tree};
 ghost use Rattle.ada_tree.specs.ProgramTree.{package_tree, program_tree};
 ghost use Rattle.meaning.specs.Programs.{exception_names};
@@ -115,8 +116,8 @@ fn parts_of(alloc: Global, program: &Program) -> Result<Parts, Refusal>
     code.into_parts(program.main.name.name.as_bytes())
 }
 
-/// The image of a program (docs/ARCHITECTURE.md): it means the same, with the same lines, times and outcome. For one step of the
-/// program each frame takes at most as many steps as the program's code has instructions.
+/// The image of a program (docs/ARCHITECTURE.md): it means the same, with the same lines, times and outcome, and it is one that the
+/// machine runs today. For one step of the program each frame takes at most as many steps as the program's code has instructions.
 ///
 /// # Errors
 /// 90, at byte 0, for a program outside the first language; 60, at byte 0, where memory was refused; 23, at main's first byte, where
@@ -125,6 +126,7 @@ pub fn compile_tree(alloc: Global, program: &Program) -> Result<Image, Fault>
     ensures means { IfOk result (λ image. SameMeaning (program_tree program.now) image) }
     ensures counted { IfOk result (λ image. KeepsCount (program_tree program.now) image (most_steps (program_tree program.now))) }
     ensures well_formed { IfOk result (λ image. IsWellFormed image) }
+    ensures taken { IfOk result (λ image. IsTaken image) }
     ensures first { OnOk result (is_first_program (program_tree program.now) ≡ true) }
     ensures fits { OnOk result (is_too_large (program_tree program.now) ≡ false) }
     ensures refused { IfErr result (λ fault. RefusesTree (program_tree program.now) fault) }

@@ -1,5 +1,6 @@
 //! From a source text to an image.
 ghost use Rattle.std.specs.Prelude.{IfErr, IfOk};
+ghost use Rattle.image.specs.Taken.{IsTaken};
 ghost use Rattle.ada_tree.specs.ProgramTree.{ProgramTree};
 ghost use Rattle.adarun.specs.Accepted.{Compiles, IsAccepted, IsGiven, RefusesText};
 
@@ -9,7 +10,7 @@ use lexer::{Fault, tokens};
 use parser::parse;
 use std::alloc::Global;
 
-/// Compiles a source text (docs/LANGUAGE.md) to an image that means the same.
+/// Compiles a source text (docs/LANGUAGE.md) to an image that means the same, and that the machine runs today.
 ///
 /// # Errors
 /// 1 to 5 where no tokens spell the text, and 6 or 7 where they have no tree, at the place that breaks the rule; 90, at byte 0, for a
@@ -17,6 +18,7 @@ use std::alloc::Global;
 /// refused.
 pub fn compile(alloc: Global, source: &[u8]) -> Result<Image, Fault>
     ensures means { IfOk result (λ image. Compiles source.now image) }
+    ensures taken { IfOk result (λ image. IsTaken image) }
     ensures accepted { (tree : ProgramTree) → IsAccepted tree source.now → IsGiven tree result }
     ensures refused { IfErr result (λ fault. RefusesText source.now fault) }
 {

@@ -86,6 +86,7 @@ fn drive_go<F: FileStore, O: Sink, E: Sink>(
         Ok(outcome) => status_of(&outcome),
         Err(GoFault::Source(fault)) => refuse_source(err, &text, &fault),
         Err(GoFault::Schedule(fault)) => refuse_schedule(err, &fault),
+        Err(GoFault::Run(RunFault::Unsupported)) => unreachable!(),
         Err(GoFault::Run(RunFault::Memory)) => no_memory(err),
         Err(GoFault::Run(RunFault::Write)) => tell(err, Status::Failed, &[b"cannot write"]),
     }

@@ -1,8 +1,8 @@
 -- The innermost row, found from the first row on.
-use Rattle.std.proofs.Common.{◌≡◌, ℕ, ◌+◌, ◌<◌, List, ◌∷◌, length, drop, get_or, Bool, true, false, cond, ◌&&◌, Option, Some, None, nat_le, All, IfSome, add-one, drop-cons, arith, refl, sym, ap, ◌∙◌, subst}
+use Rattle.std.proofs.Common.{◌≡◌, ℕ, ◌+◌, ◌<◌, List, ◌∷◌, length, drop, get_or, Bool, true, false, cond, ◌&&◌, Option, Some, None, nat_le, IfSome, add-one, drop-cons, arith, refl, sym, ap, ◌∙◌, subst}
 use Rattle.std.proofs.lemmas.Bool.{true≢false, leb-true, ltb-true}
 use Rattle.std.proofs.lemmas.Bool.Decides.{leb_tells}
-use Rattle.handlers.specs.Handlers.{Handlers, IsWithinOne, LeadsWithin}
+use Rattle.handlers.specs.Handlers.{Handlers, LeadsWithin, are_within_one}
 use Rattle.handlers.proofs.Regions.{leads_within}
 use Rattle.handlers.specs.declared.rows.Row.{Row}
 use Rattle.handlers.specs.Innermost.{covers, handles, width, inner_of, inside, innermost}
@@ -45,7 +45,7 @@ module _ (h : Handlers) (place x k : ℕ) (found : Option Row) (d : Row) (so_far
   both true b e = (refl, e)
   both false b e = absurd (true≢false (sym e))
 
-  leads : All (IsWithinOne h.ends) h.rows → covers place row ≡ true → LeadsWithin h place row.target
+  leads : are_within_one h.ends h.rows ≡ true → covers place row ≡ true → LeadsWithin h place row.target
   leads all here =
       let e = both _ _ here in
       leads_within h k d place all within (leb-true _ _ e.0) (ltb-true _ _ e.1)
@@ -58,7 +58,7 @@ module _ (h : Handlers) (place x k : ℕ) (found : Option Row) (d : Row) (so_far
       by true = before
       by false = own
 
-  pub finding-taken : All (IsWithinOne h.ends) h.rows → covers place row ≡ true → handles x row ≡ true → Finding h place x (k + 1) (Some (inside found row))
+  pub finding-taken : are_within_one h.ends h.rows ≡ true → covers place row ≡ true → handles x row ≡ true → Finding h place x (k + 1) (Some (inside found row))
   finding-taken all here takes =
       (sym (found-taken found row (drop (k + 1) h.rows) place x here takes) ∙ (ap (λ rows. found_and found (innermost rows place x)) (sym next) ∙ so_far.0), leads_inside found so_far.1 (leads all here))
 
@@ -67,7 +67,7 @@ module _ (h : Handlers) (place x k : ℕ) (found : Option Row) (d : Row) (so_far
       (sym (found-passed found row (drop (k + 1) h.rows) place x e) ∙ (ap (λ rows. found_and found (innermost rows place x)) (sym next) ∙ so_far.0), so_far.1)
 
 -- the same over the rows as the search reads them
-module _ (h : Handlers) (place x k : ℕ) (found : Option Row) (d : Row) (so_far : Finding h place x k found) (all : All (IsWithinOne h.ends) h.rows) (ys : List Row) (same : ys ≡ h.rows) (within : k < length ys) (found_next : Option Row) where
+module _ (h : Handlers) (place x k : ℕ) (found : Option Row) (d : Row) (so_far : Finding h place x k found) (all : are_within_one h.ends h.rows ≡ true) (ys : List Row) (same : ys ≡ h.rows) (within : k < length ys) (found_next : Option Row) where
   inside_rows : k < length h.rows
   inside_rows = subst (λ v. k < length v) same within
 

@@ -1,7 +1,7 @@
 //! Handler rows, the table made of them, and its search.
 
-ghost use Rattle.std.specs.Prelude.{◌≡◌, [], IfErr, IfOk, IfSome};
-ghost use Rattle.handlers.specs.Handlers.{LeadsWithin};
+ghost use Rattle.std.specs.Prelude.{◌≡◌, true, IfErr, IfOk, IfSome};
+ghost use Rattle.handlers.specs.Handlers.{LeadsWithin, are_within_one};
 ghost use Rattle.handlers.specs.Innermost.{covers, handles, width, inside, innermost, handler_of};
 
 use crate::Probes;
@@ -84,23 +84,24 @@ pub struct Table {
 }
 
 impl Model for Table {
-    ghost use Rattle.std.specs.Prelude.{All};
-    ghost use Rattle.handlers.specs.Handlers.{Handlers, IsWithinOne};
+    ghost use Rattle.std.specs.Prelude.{◌≡◌, true};
+    ghost use Rattle.handlers.specs.Handlers.{Handlers, are_within_one};
 
     ghost Value = { Handlers };
 
     ghost view = { λ t. record { rows = t.rows.items; ends = t.ends.items } };
 
-    ghost invariant = { λ t. All (IsWithinOne t.ends.items) t.rows.items };
+    ghost invariant = { λ t. are_within_one t.ends.items t.rows.items ≡ true };
 }
 
-/// The table of a program without handlers, whose subprograms end at `ends`.
+/// The table of these rows and of subprograms that end at `ends`. Each row covers a place, and its region and target lie in one of
+/// the subprograms.
 ///
 /// # Errors
 /// 60 where memory was refused.
 pub fn build(alloc: Global, rows: Vec<Row>, ends: &[u16]) -> Result<Table, TableFault>
-    requires { rows.items ≡ [] }
-    ensures ok { IfOk result (λ table. table ≡ record { rows = []; ends = ends.now }) }
+    requires { are_within_one ends.now rows.items ≡ true }
+    ensures ok { IfOk result (λ table. table ≡ record { rows = rows.items; ends = ends.now }) }
     ensures err { IfErr result (λ fault. fault ≡ record { number = MEMORY_REFUSED; row = 0 }) }
 {
     let ends = ends.to_vec(alloc)?;

@@ -9,6 +9,7 @@ mod ObjectExamples
 mod Placed
 mod Plain
 mod ReadLoop
+mod RowTables
 mod Runs
 mod Shapes
 mod StepLinks

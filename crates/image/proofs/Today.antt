@@ -1,4 +1,4 @@
--- Runs of images that hold what they may hold today: no task opens an action, so the state of each is its own.
+-- Runs of images that the machine runs today: no task opens an action, so the state of each is its own.
 use Rattle.std.proofs.Common.{◌≡◌, ℕ, zero, suc, ℤ, List, [], ◌∷◌, Bool, true, false, cond, Option, Some, None, Ok, Err, refl, sym, subst}
 use Rattle.std.proofs.lemmas.Bool.{true≢false}
 use Rattle.std.specs.Prelude.{slice_get}

@@ -1,4 +1,4 @@
--- What images may hold today. Lifting a restriction changes this file alone.
+-- Which images the machine runs today; every well-formed one may be built. Lifting a restriction changes this file and the machine.
 use Rattle.std.specs.Prelude.{length, Bool, true, false, ◌&&◌, IsTrue, nat_eq}
 use Rattle.std.specs.List.{list_all}
 use Rattle.image.specs.Sections.{Sections}
@@ -23,16 +23,20 @@ is_taken_kind Plain = true
 is_taken_kind TaskBody = true
 is_taken_kind _ = false
 
--- only these operations; an image with others breaks rule 43
+-- only these operations
 abbrev pub takes_operations : Sections → Bool
 takes_operations i = list_all (λ x. is_taken_operation x.operation) i.instructions
 
--- no handler rows, one task, no objects; an image with others breaks rule 47
+-- no handler rows, one task, no objects
 abbrev pub takes_tables : Sections → Bool
 takes_tables i =
     nat_eq (length i.rows) 0
     && (nat_eq (length i.tasks) 1
     && (nat_eq (length i.objects) 0 && list_all (λ s. is_taken_kind s.kind) i.subprograms))
+
+-- the machine runs the image
+abbrev pub is_taken : Sections → Bool
+is_taken i = takes_operations i && takes_tables i
 
 pub record IsTaken (i : Sections) : Type 0 where
   pub operations : IsTrue (takes_operations i)

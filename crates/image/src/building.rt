@@ -4,7 +4,6 @@ ghost use Rattle.image.specs.Faults.{memory_fault};
 ghost use Rattle.image.specs.Refusals.{Refuses};
 ghost use Rattle.image.specs.Rules.{IsWellFormed};
 ghost use Rattle.image.specs.Sections.{ends_of};
-ghost use Rattle.image.specs.Taken.{IsTaken};
 ghost use Rattle.image.specs.Width.{ImageFits};
 
 use crate::{ImageFault, Instr, Object, Parts, Subprogram, Task, Text};
@@ -26,13 +25,12 @@ impl Model for Image {
     ghost use Rattle.std.specs.Prelude.{◌≡◌};
     ghost use Rattle.image.specs.Rules.{IsWellFormed};
     ghost use Rattle.image.specs.Sections.{Sections, ends_of};
-    ghost use Rattle.image.specs.Taken.{IsTaken};
 
     ghost Value = { Sections };
 
     ghost view = { λ i. i.parts };
 
-    ghost invariant = { λ i. IsWellFormed i.parts × IsTaken i.parts × (i.table ≡ record { rows = i.parts.rows; ends = ends_of i.parts.subprograms }) };
+    ghost invariant = { λ i. IsWellFormed i.parts × (i.table ≡ record { rows = i.parts.rows; ends = ends_of i.parts.subprograms }) };
 }
 
 impl Image {
@@ -43,12 +41,12 @@ impl Image {
     pub fn build(alloc: Global, parts: Parts) -> Result<Image, ImageFault>
         ensures same { IfOk result (λ image. image ≡ parts) }
         ensures well_formed { OnOk result (IsWellFormed parts) }
-        ensures taken { OnOk result (IsTaken parts) }
         ensures refused { IfErr result (Refuses parts) }
     {
         parts.check()?;
         let ends = parts.ends(alloc)?;
-        let table = build(alloc, Vec::new(alloc), &ends).map_err(|_| ImageFault::memory())?;
+        let rows = parts.copied_rows(alloc)?;
+        let table = build(alloc, rows, &ends).map_err(|_| ImageFault::memory())?;
         Ok(Image { parts, table })
     }
 
@@ -96,7 +94,6 @@ impl Image {
     pub fn tasks(&self) -> &[Task]
         ensures same { result.now ≡ self.now.tasks }
         ensures well_formed { IsWellFormed self.now }
-        ensures taken { IsTaken self.now }
     {
         &self.parts.tasks
     }
@@ -120,7 +117,6 @@ impl Image {
     pub fn instructions(&self) -> &[Instr]
         ensures same { result.now ≡ self.now.instructions }
         ensures well_formed { IsWellFormed self.now }
-        ensures taken { IsTaken self.now }
     {
         &self.parts.instructions
     }
@@ -137,10 +133,9 @@ impl Parts {
     // The first of the rules 43 to 47 that is broken, in their order.
     fn check(&self) -> Result<(), ImageFault>
         ensures well_formed { OnOk result (IsWellFormed self.now) }
-        ensures taken { OnOk result (IsTaken self.now) }
         ensures refused { IfErr result (Refuses self.now) }
     {
-        if !self.operands_in_range() || !self.takes_operations() {
+        if !self.operands_in_range() {
             return Err(ImageFault::broken(OPERAND_OUT_OF_RANGE));
         }
         if !self.jumps_stay_inside() {
@@ -152,10 +147,21 @@ impl Parts {
         if !self.depths_agree() {
             return Err(ImageFault::broken(DEPTHS_DISAGREE));
         }
-        if !self.tables_agree() || !self.takes_tables() {
+        if !self.tables_agree() {
             return Err(ImageFault::broken(TABLES_DISAGREE));
         }
         Ok(())
+    }
+
+    fn copied_rows(&self, alloc: Global) -> Result<Vec<Row>, ImageFault>
+        ensures ok { IfOk result (λ rows. rows.items ≡ self.now.rows) }
+        ensures refused { IfErr result (λ fault. fault ≡ memory_fault) }
+    {
+        self.rows
+            .iter()
+            .copied()
+            .collect(alloc)
+            .map_err(|_: AllocError| ImageFault::memory())
     }
 
     // Where each subprogram ends.

@@ -24,7 +24,7 @@ pub fn frames_have_room()
     ensures { FramesHaveRoom }
 {}
 
-/// In every world that a run of an image reaches which holds what images may hold today, the frames of each task have their shape.
+/// In every world that a run of an image reaches which the machine runs today, the frames of each task have their shape.
 pub fn sound_today()
     ensures { SoundToday }
 {}

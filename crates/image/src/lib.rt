@@ -15,7 +15,6 @@ mod sections;
 mod subprograms;
 mod table_rules;
 mod tables;
-mod taken;
 mod tasks;
 mod word_ranges;
 

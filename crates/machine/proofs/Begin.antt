@@ -1,5 +1,5 @@
 -- The start of the only task.
-use Rattle.std.proofs.Common.{◌≡◌, ℕ, zero, suc, ◌<◌, ◌≤◌, pos, List, [], ◌∷◌, length, true, Option, Some, None, slice_get, nat_eq, nat_le, nat_lt, ⊎_elim, refl, sym, ap, subst, ◌∙◌, arith}
+use Rattle.std.proofs.Common.{◌≡◌, ℕ, zero, suc, ◌<◌, ◌≤◌, pos, List, [], ◌∷◌, length, true, Option, Some, None, slice_get, nat_eq, nat_le, ⊎_elim, refl, sym, ap, subst, ◌∙◌, arith}
 use Rattle.std.proofs.lemmas.Bool.{eqb-true, leb-true}
 use Rattle.kernel.specs.State as kernel
 use Rattle.kernel.specs.State.{Kernel, Partition, put}
@@ -7,6 +7,7 @@ use Rattle.kernel.specs.PutLaws.{by_put, put_other, put_same, same_or_not}
 use Rattle.kernel.specs.Clock.{clock}
 use Rattle.kernel.specs.Dispatching.{becomes_ready, dispatch, highest, runs_from, runs_head}
 use Rattle.kernel.specs.Effects.{activated, begin, blank}
+use Rattle.kernel.specs.Laws.{LeftUnmoved}
 use Rattle.base.specs.declared.limits.TheConstants.{PRIORITIES}
 use Rattle.image.specs.Sections.{Sections}
 use Rattle.image.specs.Operations.{called}
@@ -37,8 +38,8 @@ module _ (i : Sections) (taken : IsTaken i) where
   one_task : length i.tasks ≡ 1
   one_task = eqb-true _ _ (and-left _ _ (and-right (nat_eq (length i.rows) 0) _ taken.tables))
 
-  pub sound_start : IsWellFormed i → BeginsSound → IsSound i (initial_state i 0)
-  sound_start whole begins = begins i whole 0
+pub sound_start : (i : Sections) → IsWellFormed i → BeginsSound → IsSound i (initial_state i 0)
+sound_start i whole begins = begins i whole 0
 
 pub few_locals : (i : Sections) → IsWellFormed i → FramesHaveRoom → IsSound i (initial_state i 0) → (s : Subprogram) → called i (body_of (slice_get i.tasks 0)) ≡ Some s → s.locals ≤ 512
 few_locals i whole room sound s e =
@@ -97,6 +98,15 @@ tasks_right i whole =
     (and-right (all_placed (is_object i) 0 i.objects) _
     (and-right (all_placed (is_subprogram i) 0 i.subprograms) _
     (and-right (has_ends i) _ (and-right (has_counts i) _ whole.tables))))
+
+no_lines : (n : ℕ) (p : Partition) → (activated n (blank p)).lines ≡ []
+no_lines zero p = refl
+no_lines (suc n) p = no_lines n p
+
+-- nothing is written before the first step
+pub starts_without_lines : LeftUnmoved → (i : Sections) → (start i).kernel.lines ≡ []
+starts_without_lines left i =
+    (left (activated (partition_of i).tasks (blank (partition_of i)))).lines ∙ no_lines (partition_of i).tasks (partition_of i)
 
 -- the machine at its start stands for the start of code
 pub stands_start : (i : Sections) (h : Held) → IsWellFormed i → IsTaken i → h ≡ record { image = i; state = initial_state i 0; time = pos 0; outcome = None } → StandsFor h (start i)

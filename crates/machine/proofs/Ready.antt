@@ -1,9 +1,9 @@
 -- A frame of a sound task is ready for its instruction.
-use Rattle.std.proofs.Common.{◌≡◌, ℕ, zero, suc, ◌+◌, ◌-◌, ◌<◌, ◌≤◌, List, [], ◌∷◌, length, Bool, true, false, ◌&&◌, ◌||◌, not, Option, Some, None, option_map, slice_get, nat_eq, nat_lt, refl, sym, ap, subst, ◌∙◌, add-zero, zero-add, arith}
+use Rattle.std.proofs.Common.{◌≡◌, ℕ, zero, suc, ◌+◌, ◌<◌, ◌≤◌, List, [], ◌∷◌, length, Bool, true, false, ◌&&◌, ◌||◌, not, Option, Some, None, option_map, slice_get, refl, sym, ap, subst, ◌∙◌, add-zero, zero-add, arith}
 use Rattle.std.proofs.lemmas.Bool.{leb-true}
 use Rattle.image.specs.Sections.{Sections, holder}
-use Rattle.image.specs.Operations.{called, entry_called, given_by, goes_on, parameters_of, results_of, taken_by}
-use Rattle.image.specs.Rules.{IsWellFormed, all_begun, all_placed, has_counts, has_ends, in_holder, is_subprogram, names_things, some_and}
+use Rattle.image.specs.Operations.{called, given_by, parameters_of, results_of, taken_by}
+use Rattle.image.specs.Rules.{IsWellFormed, all_placed, has_counts, has_ends, in_holder, is_subprogram, names_things, some_and}
 use Rattle.image.specs.Frames.{Frame, Inner, TaskState}
 use Rattle.image.specs.Shape.{AreBelow, IsGoing, IsGoingOrPlaced, IsSound, IsWaiting, callee}
 use Rattle.image.specs.Laws.{FramesHaveRoom, HasRoom}

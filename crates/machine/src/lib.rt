@@ -8,6 +8,7 @@ mod processor;
 mod reports;
 mod running;
 mod schedules;
+mod taken;
 mod task_state;
 mod text;
 mod writer_sink;

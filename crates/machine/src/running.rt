@@ -1,8 +1,9 @@
 //! The machine: one processor that runs the tasks of an image in virtual time.
-ghost use Rattle.std.specs.Prelude.{◌≡◌, [], None, Some, ◌<◌, Err, IfErr, IfOk, IfSome, OnErr, OnOk};
+ghost use Rattle.std.specs.Prelude.{◌≡◌, [], None, Some, ◌<◌, ◌↔◌, false, if◌then◌else◌, Err, IfErr, IfOk, IfSome, OnErr, OnOk};
 ghost use Rattle.std.specs.Io.KnownBytes.{Appends};
 ghost use Rattle.kernel.specs.Text.{lines_text};
 ghost use Rattle.image.specs.Code.{code, code_text};
+ghost use Rattle.image.specs.Taken.{IsTaken, is_taken};
 ghost use Rattle.image.specs.Texts.{names_of};
 ghost use Rattle.machine.specs.Stands.{EndsBy};
 ghost use Rattle.machine.specs.Written.{AppendsBeginning};
@@ -11,11 +12,12 @@ use crate::fault::RunFault;
 use crate::processor::Processor;
 use crate::reports::{Event, Line, LineText, Outcome, Signal};
 use crate::schedules::Schedule;
+use crate::taken::is_taken;
 use crate::text::{last_line, line_text};
 use crate::writing::{Sink, write_all};
 use image::Image;
 use image::laws::{frames_have_room, lines_grow_on, outcome_stays, steps_sound};
-use kernel::laws::{quiet_stays, says_on};
+use kernel::laws::{left_unmoved, quiet_stays, says_on};
 use std::alloc::Global;
 use std::marker::Model;
 
@@ -47,7 +49,7 @@ impl<'a> Machine<'a> {
     /// The machine at time 0, before its first step: it stands for the world of code at its start.
     ///
     /// # Errors
-    /// `Memory` where memory was refused.
+    /// `Unsupported` where the image isn't one that the machine runs today, and only there; else `Memory` where memory was refused.
     pub fn start(
         alloc: Global,
         image: &'a Image,
@@ -57,8 +59,13 @@ impl<'a> Machine<'a> {
         ensures image { IfOk result (λ machine. machine.image ≡ image.now) }
         ensures runs { IfOk result (λ machine. machine.outcome ≡ None) }
         ensures empty { (code image.now [] 0).kernel.lines ≡ [] }
-        ensures fault { IfErr result (λ fault. fault ≡ RunFault.Memory) }
+        ensures taken { OnOk result (IsTaken image.now) }
+        ensures fault { IfErr result (λ fault. fault ≡ (if is_taken image.now then RunFault.Memory else RunFault.Unsupported)) }
     {
+        left_unmoved();
+        if !is_taken(image) {
+            return Err(RunFault::Unsupported);
+        }
         let processor = Processor::new(alloc, image, schedule)?;
         Ok(Machine { processor })
     }
@@ -157,7 +164,8 @@ impl<'a> Machine<'a> {
 /// after `limit` steps. The limit on steps is the outcome only where that world has none.
 ///
 /// # Errors
-/// `Memory` where memory was refused, before anything is written; `Write` where a write failed, and what was written then is a
+/// `Unsupported` where the image isn't one that the machine runs today, and only there; `Memory` where memory was refused, before
+/// anything is written; `Write` where a write failed, and what was written then is a
 /// beginning of the text.
 pub fn run<S: Sink>(
     alloc: Global,
@@ -169,6 +177,8 @@ pub fn run<S: Sink>(
     ensures text { OnOk result (Appends (S.bytes sink.old) (S.bytes sink.new) (code_text image.now [] limit)) }
     ensures ends { IfOk result (λ outcome. EndsBy outcome (code image.now [] limit)) }
     ensures kept { OnOk result (S.failures sink.new ≡ S.failures sink.old) }
+    ensures unsupported { (result ≡ Err RunFault.Unsupported) ↔ (is_taken image.now ≡ false) }
+    ensures unwritten { result ≡ Err RunFault.Unsupported → sink.new ≡ sink.old }
     ensures memory { result ≡ Err RunFault.Memory → sink.new ≡ sink.old }
     ensures failed { result ≡ Err RunFault.Write → S.failures sink.old < S.failures sink.new }
     ensures beginning { AppendsBeginning (S.bytes sink.old) (S.bytes sink.new) (code_text image.now [] limit) }

@@ -1,7 +1,7 @@
 use Rattle.std.proofs.Common.{◌≡◌, true, sym, ap, ◌∙◌}
 use Rattle.ada_tree.specs.ProgramTree.{program_tree}
 use Rattle.ada_link.specs.FirstLanguage.{is_first_program}
-use Rattle.ada_link.proofs.Images.{labelled_package, memory_alone, whole_counts, whole_fits}
+use Rattle.ada_link.proofs.Images.{labelled_package, memory_alone, whole_counts, whole_fits, whole_taken}
 use Rattle.ada_link.proofs.Mains.{main_named, package_first}
 use Rattle.ada_link.proofs.link.compile_tree.Goals as goal
 
@@ -13,6 +13,10 @@ pub returns-in-Ok-build-clause-counted : goal.returns-in-Ok-build-clause-counted
 returns-in-Ok-build-clause-counted c =
     rw c.in-Ok-build.ensures.same
     (whole_counts (program_tree c.args.program.now) _ (rw c.in-Ok.parts-is at c.in-Ok.ensures.whole) (c.linked_keeps_count.ensures _ _ c.in-Ok-build.ensures.well_formed (rw c.in-Ok.parts-is at c.in-Ok.ensures.linked)))
+
+pub returns-in-Ok-build-clause-taken : goal.returns-in-Ok-build-clause-taken
+returns-in-Ok-build-clause-taken c =
+    rw c.in-Ok-build.ensures.same (whole_taken (program_tree c.args.program.now) _ (rw c.in-Ok.parts-is at c.in-Ok.ensures.whole))
 
 pub unreachable-requires : goal.unreachable-requires
 unreachable-requires c =

@@ -5,4 +5,4 @@ use Rattle.machine.proofs.processor.body.Goals as goal
 pub returns-clause-few : goal.returns-clause-few
 returns-clause-few c =
     few_locals c.args.image.now c.tasks.ensures.well_formed c.frames_have_room.ensures
-    (sound_start c.args.image.now c.tasks.ensures.taken c.tasks.ensures.well_formed c.begins_sound.ensures) c.in-Some.subprogram (search rules)
+    (sound_start c.args.image.now c.tasks.ensures.well_formed c.begins_sound.ensures) c.in-Some.subprogram (search rules)
