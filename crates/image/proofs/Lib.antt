@@ -4,8 +4,10 @@ mod BytesExamples
 mod Examples
 mod Exclusion
 mod Links
+mod FirstFault
 mod LoadingExamples
 mod ObjectExamples
+mod Opcodes
 mod Placed
 mod Plain
 mod ReadLoop

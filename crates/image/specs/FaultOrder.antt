@@ -1,5 +1,5 @@
 -- Broken rules of an image by number and byte, and the first of them: at the least byte, and there of the least number.
-use Rattle.std.specs.Prelude.{ℕ, ◌+◌, ◌*◌, Bool, List, [], ◌∷◌, Option, Some, None, nat_le, nat_lt, if◌then◌else◌}
+use Rattle.std.specs.Prelude.{ℕ, ◌+◌, ◌*◌, Bool, List, [], ◌∷◌, Option, Some, None, nat_lt, min, if◌then◌else◌}
 use Rattle.image.specs.declared.fault.ImageFault.{ImageFault}
 
 -- each entry: this rule is broken at this byte
@@ -10,8 +10,12 @@ Faults = List ImageFault
 abbrev pub last_byte : ℕ
 last_byte = 4294967295
 
+-- so many bytes behind a byte
+abbrev pub after : ℕ → ℕ → ℕ
+after byte count = min (byte + count) last_byte
+
 abbrev pub fault_at : ℕ → ℕ → ImageFault
-fault_at number byte = record { number = number; byte = if nat_le byte last_byte then byte else last_byte }
+fault_at number byte = record { number = number; byte = byte }
 
 -- the rule of this number is broken at this byte, if the test says so
 abbrev pub rule : ℕ → ℕ → Bool → Faults

@@ -217,7 +217,7 @@ fn put_object(out: &mut Vec<u8>, object: &Object) -> Result<(), AllocError>
 
 impl Kind {
     // Its number in images.
-    fn number(&self) -> u8
+    pub(crate) fn number(&self) -> u8
         ensures { result ≡ kind_number self.now }
     {
         match self {

@@ -2,8 +2,11 @@
 #![tactic(auto)]
 
 mod building;
+mod code_faults;
+mod decoding;
 mod encoding;
 mod fault;
+mod fault_order;
 mod instruction;
 mod instruction_rules;
 pub mod laws;
@@ -13,6 +16,7 @@ mod raw_sections;
 mod reading;
 mod sections;
 mod subprograms;
+mod table_faults;
 mod table_rules;
 mod tables;
 mod tasks;
