@@ -117,3 +117,6 @@ three x y z a b c p q r =
     ∙ (ap (λ w. sooner (first_of a) (sooner w z)) q
     ∙ (ap (λ w. sooner (first_of a) (sooner (first_of b) w)) r
     ∙ (sym (sooner_assoc (first_of a) (first_of b) (first_of c)) ∙ (ap (λ w. sooner w (first_of c)) (sym (first_append a b)) ∙ sym (first_append (a ++ b) c)))))
+
+pub two : (x y : Option ImageFault) (a b : Faults) → x ≡ first_of a → y ≡ first_of b → sooner x y ≡ first_of (a ++ b)
+two x y a b p q = ap (λ w. sooner w y) p ∙ (ap (sooner (first_of a)) q ∙ sym (first_append a b))

@@ -1,6 +1,6 @@
 -- Which rule the bytes of an image break, and at which byte (docs/FORMATS.md, "Well-formed images"): the first byte of the field that breaks it,
 -- and where a rule speaks of several fields, of the one that stands last. The rules themselves are those of specs/Rules.
-use Rattle.std.specs.Prelude.{ℕ, ◌+◌, ◌-◌, ◌*◌, List, [], ◌∷◌, ◌++◌, length, drop, take, sum_by, Bool, true, ◌&&◌, ◌||◌, not, Option, Some, None, is_some, unwrap_or, nat_eq, nat_le, nat_lt, slice_get, bytes_eq, if◌then◌else◌}
+use Rattle.std.specs.Prelude.{ℕ, ◌+◌, ◌-◌, ◌*◌, List, [], ◌∷◌, ◌++◌, length, min, take, sum_by, Bool, true, ◌&&◌, ◌||◌, not, Option, Some, None, is_some, unwrap_or, nat_eq, nat_le, nat_lt, slice_get, bytes_eq, if◌then◌else◌}
 use Rattle.std.specs.List.{Contains, list_all}
 use Rattle.handlers.specs.declared.rows.Row.{Row}
 use Rattle.base.specs.Names.{is_label, is_name, predefined}
@@ -283,31 +283,42 @@ abbrev pub behind_row : {X : Type 0} → ℕ → ℕ → X → ℕ
 behind_row size byte x = after byte size
 
 -- 43 to 47, all sections
-abbrev pub faults_as : Raw → Sections → Faults
-faults_as r i =
-    count_faults i
-    ++ text_count_faults i
-    ++ word_faults r i
-    ++ each behind_text exception_faults 0 22 r.exceptions
-    ++ each behind_text label_faults 0 (labels_start r) r.labels
-    ++ each behind_object (object_faults i (subprograms_start r)) 0 (objects_start r) r.objects
+abbrev pub head_faults : Raw → Sections → Faults
+head_faults r i = count_faults i ++ text_count_faults i ++ word_faults r i
+
+abbrev pub text_faults : Raw → Faults
+text_faults r = each behind_text exception_faults 0 22 r.exceptions ++ each behind_text label_faults 0 (labels_start r) r.labels
+
+abbrev pub table_faults : Raw → Sections → Faults
+table_faults r i =
+    each behind_object (object_faults i (subprograms_start r)) 0 (objects_start r) r.objects
     ++ each (behind_row 13) (subprogram_faults i (has_ends i) (code_start r)) 0 (subprograms_start r) r.subprograms
     ++ each behind_task (task_faults i) 0 (tasks_start r) r.tasks
-    ++ each (behind_row 8) (row_faults i (has_ends i) (code_start r)) 0 (rows_start r) r.rows
+
+abbrev pub code_part_faults : Raw → Sections → Faults
+code_part_faults r i =
+    each (behind_row 8) (row_faults i (has_ends i) (code_start r)) 0 (rows_start r) r.rows
     ++ each (behind_row 13) instruction_faults 0 (code_start r) r.instructions
     ++ (if has_ends i then each (behind_row 13) (place_faults i (code_start r)) 0 (code_start r) r.instructions else [])
+
+abbrev pub faults_as : Raw → Sections → Faults
+faults_as r i = (head_faults r i ++ text_faults r) ++ table_faults r i ++ code_part_faults r i
 
 abbrev pub sections_faults : Raw → Faults
 sections_faults r = faults_as r (sections_of r)
 
 -- 40: the magic and the version, as far as bytes are there
 abbrev pub agrees : List ℕ → List ℕ → Bool
-agrees [] bytes = true
-agrees (x ∷ front) [] = true
-agrees (x ∷ front) (b ∷ bytes) = nat_eq x b && agrees front bytes
+agrees front bytes = let n = min (length front) (length bytes) in bytes_eq (take n front) (take n bytes)
+
+abbrev pub magic : List ℕ
+magic = 65 ∷ 82 ∷ 86 ∷ 78 ∷ []
+
+abbrev pub magic_and_version : List ℕ
+magic_and_version = 65 ∷ 82 ∷ 86 ∷ 78 ∷ 0 ∷ 1 ∷ []
 
 abbrev pub header_faults : List ℕ → Faults
-header_faults bytes = rule WRONG_HEADER 0 (not (agrees (65 ∷ 82 ∷ 86 ∷ 78 ∷ []) bytes)) ++ rule WRONG_HEADER 4 (not (agrees (0 ∷ 1 ∷ []) (drop 4 bytes)))
+header_faults bytes = rule WRONG_HEADER 0 (not (agrees magic bytes)) ++ rule WRONG_HEADER 4 (agrees magic bytes && not (agrees magic_and_version bytes))
 
 -- 41: no section ends early; 42: nothing follows
 abbrev pub read_faults : List ℕ → Option (Raw × List ℕ) → Faults

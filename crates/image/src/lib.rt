@@ -10,6 +10,7 @@ mod fault_order;
 mod instruction;
 mod instruction_rules;
 pub mod laws;
+mod loading;
 mod objects;
 mod operation_rules;
 mod raw_sections;
