@@ -1,3 +1,4 @@
+mod Crossing
 mod Examples
 mod Found
 mod Joined

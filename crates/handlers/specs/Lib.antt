@@ -2,3 +2,4 @@ pub mod Counts
 pub mod Handlers
 pub mod Innermost
 pub mod Laws
+pub mod Nesting

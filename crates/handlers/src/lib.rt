@@ -3,7 +3,9 @@
 
 mod counting;
 pub mod laws;
+mod nesting;
 mod rows;
 
 pub use counting::Probes;
+pub use nesting::first_crossing;
 pub use rows::{Row, Table, TableFault, build, lookup};

@@ -1,11 +1,12 @@
 //! Handler rows, the table made of them, and its search.
 
-ghost use Rattle.std.specs.Prelude.{◌≡◌, true, IfErr, IfOk, IfSome};
-ghost use Rattle.handlers.specs.Handlers.{LeadsWithin, are_within_one};
+ghost use Rattle.std.specs.Prelude.{◌≡◌, length, not, position, is_none, true, IfErr, IfOk, IfSome, OnOk};
+ghost use Rattle.handlers.specs.Handlers.{LeadsWithin, is_within_one, share_subprogram, subprogram_at};
+ghost use Rattle.handlers.specs.Nesting.{IsFirst, RefusesRows, are_sound, is_broken_at, lesser_of, memory_fault};
 ghost use Rattle.handlers.specs.Innermost.{covers, handles, width, inside, innermost, handler_of};
 
-use crate::Probes;
-use base::faults::MEMORY_REFUSED;
+use crate::{Probes, first_crossing};
+use base::faults::{MEMORY_REFUSED, TABLES_DISAGREE};
 use std::alloc::{AllocError, Global};
 use std::marker::Model;
 use std::sync::ledger::Ledger;
@@ -36,6 +37,16 @@ impl Row {
         self.exception == 0 || self.exception == exception
     }
 
+    // Whether it covers a place, and one subprogram holds its region and its target.
+    fn is_within_one(&self, ends: &[u16]) -> bool
+        ensures { result ≡ is_within_one ends.now self.now }
+    {
+        let last = self.end_.saturating_sub(1);
+        self.start < self.end_
+            && share_subprogram(ends, self.start, last)
+            && share_subprogram(ends, self.start, self.target)
+    }
+
     // How many places it covers.
     fn width(&self) -> u16
         ensures { result ≡ width self.now }
@@ -54,13 +65,13 @@ impl Row {
     }
 }
 
-/// Why no table was made: 60 for want of memory, with row 0.
+/// Why no table was made: 47 for a row that breaks a rule, 60 for want of memory, with row 0.
 #[derive(Clone, Copy, PartialEq, Eq, Debug)]
 pub struct TableFault {
     /// The number of the rule.
     pub number: u8,
     /// The row that breaks it, counted from 0.
-    pub row: u16,
+    pub row: usize,
 }
 
 impl From<AllocError> for TableFault {
@@ -94,16 +105,63 @@ impl Model for Table {
     ghost invariant = { λ t. are_within_one t.ends.items t.rows.items ≡ true };
 }
 
-/// The table of these rows and of subprograms that end at `ends`. Each row covers a place, and its region and target lie in one of
-/// the subprograms.
+// The number of the subprogram that holds a place.
+fn subprogram_at(ends: &[u16], place: u16) -> Option<usize>
+    ensures { result ≡ subprogram_at ends.now place }
+{
+    ends.iter().position(|end| place < *end)
+}
+
+fn share_subprogram(ends: &[u16], first: u16, second: u16) -> bool
+    ensures { result ≡ share_subprogram ends.now first second }
+{
+    match (subprogram_at(ends, first), subprogram_at(ends, second)) {
+        (Some(m), Some(n)) => m == n,
+        _ => false,
+    }
+}
+
+// The first row that breaks a rule by itself.
+fn first_outside(rows: &[Row], ends: &[u16]) -> Option<usize>
+    ensures { result ≡ position (λ r. not (is_within_one ends.now r)) rows.now }
+{
+    rows.iter().position(|row| !row.is_within_one(ends))
+}
+
+fn lesser(first: Option<usize>, second: Option<usize>) -> Option<usize>
+    ensures { result ≡ lesser_of first second }
+{
+    match (first, second) {
+        (Some(m), Some(n)) => Some(m.min(n)),
+        (None, other) | (other, None) => other,
+    }
+}
+
+// The first row that breaks a rule by itself or together with a row before it.
+fn first_broken(alloc: Global, rows: &[Row], ends: &[u16]) -> Result<Option<usize>, AllocError>
+    ensures first { IfOk result (IsFirst (is_broken_at ends.now rows.now) (length rows.now)) }
+    ensures sound { IfOk result (λ found. is_none found ≡ are_sound ends.now rows.now) }
+{
+    Ok(lesser(first_outside(rows, ends), first_crossing(alloc, rows)?))
+}
+
+/// The table of these rows and of subprograms that end at `ends`. It is made exactly where each row covers a place, its region and its
+/// target lie in one subprogram, and the regions of any two rows are nested, equal or disjoint.
 ///
 /// # Errors
-/// 60 where memory was refused.
+/// 47 with the first row that breaks this by itself or together with a row before it; 60, with row 0, where memory was refused.
 pub fn build(alloc: Global, rows: Vec<Row>, ends: &[u16]) -> Result<Table, TableFault>
-    requires { are_within_one ends.now rows.items ≡ true }
     ensures ok { IfOk result (λ table. table ≡ record { rows = rows.items; ends = ends.now }) }
-    ensures err { IfErr result (λ fault. fault ≡ record { number = MEMORY_REFUSED; row = 0 }) }
+    ensures sound { OnOk result (are_sound ends.now rows.items ≡ true) }
+    ensures refused { IfErr result (RefusesRows ends.now rows.items) }
+    ensures accepted { are_sound ends.now rows.items ≡ true → IfErr result (λ fault. fault ≡ memory_fault) }
 {
+    if let Some(row) = first_broken(alloc, &rows, ends)? {
+        return Err(TableFault {
+            number: TABLES_DISAGREE,
+            row,
+        });
+    }
     let ends = ends.to_vec(alloc)?;
     Ok(Table { rows, ends })
 }

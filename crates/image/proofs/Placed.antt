@@ -1,10 +1,7 @@
 -- Tests of a list from a place on, a step at a time.
-use Rattle.std.proofs.Common.{◌≡◌, ℕ, ◌+◌, ◌<◌, ◌≤◌, List, [], ◌∷◌, length, drop, take, get_or, ◌-◌, length-drop, Bool, true, false, ◌&&◌, sym, ◌∙◌, add-one, drop-cons, subst}
+use Rattle.std.proofs.Common.{◌≡◌, ℕ, ◌+◌, ◌<◌, ◌≤◌, List, [], ◌∷◌, length, drop, get_or, Bool, true, false, ◌&&◌, sym, ◌∙◌, add-one, drop-cons, subst}
 use Rattle.std.proofs.Math.ListN.{drop_of_length-le}
-use Rattle.std.proofs.Math.Seq.{take-length}
-use Rattle.std.specs.List.{list_all}
-use Rattle.handlers.specs.declared.rows.Row.{Row}
-use Rattle.image.specs.Rules.{all_begun, all_nested, all_placed, are_nested}
+use Rattle.image.specs.Rules.{all_begun, all_placed}
 use Rattle.image.specs.declared.subprograms.Subprogram.{Subprogram}
 use Rattle.image.specs.declared.subprograms.Kind.TheVariants.{Plain}
 
@@ -58,22 +55,3 @@ all_begun-done test xs whole first p left ys same past =
 
 pub no_subprogram : Subprogram
 no_subprogram = record { kind = Plain; end_ = 0; parameters = 0; results = 0; locals = 0; stack = 0 }
-
--- regions from a place on, a row at a time
-module _ (xs : List Row) (whole : Bool) (p : ℕ) (left : all_nested (drop p xs) ≡ whole) (ys : List Row) (same : ys ≡ xs) (d : Row) (within : p < length ys) where
-  nested_apart : (list_all (are_nested (get_or ys p d)) (drop (p + 1) ys) && all_nested (drop (p + 1) xs)) ≡ whole
-  nested_apart =
-      let inside : p < length xs = subst (λ v. p < length v) same within in
-      let next : drop p xs ≡ get_or xs p d ∷ drop (p + 1) xs = drop-next xs p d inside in
-      rw same (subst (λ v. all_nested v ≡ whole) next left)
-
-  pub all_nested-passed : (b : Bool) → b ≡ list_all (are_nested (get_or ys p d)) (take (length ys - (p + 1)) (drop (p + 1) ys)) → b ≡ true → all_nested (drop (p + 1) xs) ≡ whole
-  all_nested-passed b is e =
-      let all : take (length ys - (p + 1)) (drop (p + 1) ys) ≡ drop (p + 1) ys = rw (← length-drop (p + 1) ys) (take-length (drop (p + 1) ys)) in
-      let passes : list_all (are_nested (get_or ys p d)) (drop (p + 1) ys) ≡ true = rw (← all) (sym is ∙ e) in
-      rw passes at nested_apart
-
-pub all_nested-done : (xs : List Row) (whole : Bool) (p : ℕ) → all_nested (drop p xs) ≡ whole → (ys : List Row) → ys ≡ xs → length ys ≤ p → true ≡ whole
-all_nested-done xs whole p left ys same past =
-    let none : drop p xs ≡ [] = drop_of_length-le xs (subst (λ v. length v ≤ p) same past) in
-    subst (λ v. all_nested v ≡ whole) none left

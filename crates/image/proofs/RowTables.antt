@@ -1,10 +1,16 @@
 -- The handler rows of a well-formed image are those of a sound table.
-use Rattle.std.proofs.Common.{◌≡◌, ℕ, suc, ◌+◌, ◌-◌, List, [], ◌∷◌, length, Bool, true, cond, not, ◌&&◌, Option, Some, None, nat_lt, refl, sym, ap, ◌∙◌}
+use Rattle.std.proofs.Common.{◌≡◌, ℕ, suc, ◌+◌, ◌-◌, List, [], ◌∷◌, length, Bool, true, cond, not, ◌&&◌, Option, Some, None, nat_le, nat_lt, refl, sym, ap, ◌∙◌}
 use Rattle.std.specs.List.{list_all, position_or_len}
 use Rattle.handlers.specs.declared.rows.Row.{Row}
 use Rattle.handlers.specs.Handlers.{are_same, are_within_one, is_within_one, subprogram_at}
+use Rattle.handlers.specs.Nesting as nesting
+use Rattle.handlers.specs.Nesting.{are_sound}
 use Rattle.image.specs.Sections.{Sections, ends_of, holder_number}
-use Rattle.image.specs.Rules.{IsWellFormed, covers_places, is_row_within, same_number}
+use Rattle.image.specs.Rules.{IsWellFormed, all_nested, all_placed, begins_with, covers_places, has_counts, has_ends, is_object, is_row_within, is_subprogram, is_task, same_number}
+use Rattle.base.specs.Names.{is_label, is_name, predefined}
+use Rattle.image.specs.Faults.{memory_fault}
+use Rattle.image.specs.declared.fault.ImageFault.{ImageFault}
+use Rattle.handlers.specs.declared.rows.TableFault.{TableFault}
 use Rattle.image.specs.declared.subprograms.Subprogram.{Subprogram}
 use Rattle.image.proofs.WellFormed.{both, jumps}
 
@@ -45,3 +51,22 @@ pub rows_within_one : (i : Sections) → IsWellFormed i → are_within_one (ends
 rows_within_one i w =
     let covered = both (list_all covers_places i.rows) _ w.jumps in
     all_by_both covers_places (is_row_within i) (is_within_one (ends_of i.subprograms)) (within_one i) i.rows covered.0 (both _ _ (both _ _ (jumps i w)).1).1
+
+nested : (i : Sections) → IsWellFormed i → all_nested i.rows ≡ true
+nested i w =
+    let a = both (has_counts i) _ w.tables in
+    let b = both (has_ends i) _ a.1 in
+    let c = both (all_placed (is_subprogram i) 0 i.subprograms) _ b.1 in
+    let d = both (all_placed (is_object i) 0 i.objects) _ c.1 in
+    let e = both (list_all (is_task i) i.tasks) _ d.1 in
+    let f = both (begins_with predefined i.exceptions) _ e.1 in
+    let g = both (list_all is_name i.exceptions) _ f.1 in
+    let h = both (list_all is_label i.labels) _ g.1 in
+    (both (list_all (λ r. nat_le r.exception (length i.exceptions)) i.rows) _ h.1).1
+
+pub rows_sound : (i : Sections) → IsWellFormed i → are_sound (ends_of i.subprograms) i.rows ≡ true
+rows_sound i w = ap (λ b. b && all_nested i.rows) (rows_within_one i w) ∙ nested i w
+
+-- so no table of its rows is refused but for want of memory
+pub refused_for_memory : (f : ImageFault) (t : TableFault) → f ≡ record { number = t.number; byte = 0 } → t ≡ nesting.memory_fault → f ≡ memory_fault
+refused_for_memory f t e h = e ∙ (λ j. record { number = (h j).number; byte = 0 })

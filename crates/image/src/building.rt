@@ -43,11 +43,13 @@ impl Image {
         ensures well_formed { OnOk result (IsWellFormed parts) }
         ensures refused { IfErr result (Refuses parts) }
     {
-        parts.check()?;
+        parts.check(alloc)?;
         let ends = parts.ends(alloc)?;
         let rows = parts.copied_rows(alloc)?;
-        let table = build(alloc, rows, &ends).map_err(|_| ImageFault::memory())?;
-        Ok(Image { parts, table })
+        match build(alloc, rows, &ends) {
+            Ok(table) => Ok(Image { parts, table }),
+            Err(fault) => Err(ImageFault::broken(fault.number)),
+        }
     }
 
     /// The exceptions' names, numbered from 1.
@@ -130,8 +132,8 @@ impl Image {
 }
 
 impl Parts {
-    // The first of the rules 43 to 47 that is broken, in their order.
-    fn check(&self) -> Result<(), ImageFault>
+    // Whether the rules 43 to 47 are kept; else the first that is broken, in their order.
+    fn check(&self, alloc: Global) -> Result<(), ImageFault>
         ensures well_formed { OnOk result (IsWellFormed self.now) }
         ensures refused { IfErr result (Refuses self.now) }
     {
@@ -147,7 +149,7 @@ impl Parts {
         if !self.depths_agree() {
             return Err(ImageFault::broken(DEPTHS_DISAGREE));
         }
-        if !self.tables_agree() {
+        if !self.tables_agree(alloc)? {
             return Err(ImageFault::broken(TABLES_DISAGREE));
         }
         Ok(())

@@ -9,7 +9,7 @@ ghost use Rattle.image.specs.Sections.{first_place};
 
 use crate::fault_order::{after, after_all, rule, sooner};
 use crate::raw_sections::{RawObject, RawSubprogram, RawTask, RawText};
-use crate::table_rules::{are_nested, is_closed};
+use crate::table_rules::is_closed;
 use crate::{Barrier, ImageFault, Kind, Parts, Subprogram};
 use base::PredefinedException;
 use base::faults::{DEPTHS_DISAGREE, JUMP_OUTSIDE, NAMED_THING_MISSING, TABLES_DISAGREE};
@@ -532,6 +532,16 @@ pub(crate) fn tasks_fault(parts: &Parts, start: u32, tasks: &[RawTask]) -> Optio
         byte = behind_task(byte, task);
     }
     fault
+}
+
+// Whether one region lies in the other, they are the same, or they don't meet.
+fn are_nested(r: &Row, q: &Row) -> bool
+    ensures { result ≡ are_nested r.now q.now }
+{
+    r.start <= q.start && q.end_ <= r.end_
+        || q.start <= r.start && r.end_ <= q.end_
+        || r.end_ <= q.start
+        || q.end_ <= r.start
 }
 
 fn are_nested_around(rows: &[Row], row: &Row) -> bool

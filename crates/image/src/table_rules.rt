@@ -1,17 +1,19 @@
 //! The rules of the tables (docs/FORMATS.md, "Well-formed images", 47).
-ghost use Rattle.std.specs.Prelude.{◌≡◌, ◌+◌, ◌≤◌, ◌&&◌, ◌||◌, length, nat_eq, nat_le, nat_lt, not, slice_get, sum_by};
+ghost use Rattle.std.specs.Prelude.{◌≡◌, ◌+◌, ◌≤◌, ◌&&◌, ◌||◌, length, nat_eq, nat_le, nat_lt, not, slice_get, sum_by, IfErr, IfOk};
+ghost use Rattle.image.specs.Faults.{memory_fault};
 ghost use Rattle.std.specs.List.{list_all};
 ghost use Rattle.base.specs.Names.{is_label, is_name, predefined};
-ghost use Rattle.image.specs.Rules.{all_begun, all_nested, all_placed, are_nested, begins_with, has_counts, has_ends, is_barrier, is_closed_barrier, is_entry_body_of, is_entry_of_object, is_object, is_subprogram, is_task, is_task_body, tables_agree, last_end, none_or};
+ghost use Rattle.image.specs.Rules.{all_begun, all_nested, all_placed, begins_with, has_counts, has_ends, is_barrier, is_closed_barrier, is_entry_body_of, is_entry_of_object, is_object, is_subprogram, is_task, is_task_body, tables_agree, last_end, none_or};
 
-use crate::{Barrier, Kind, Object, Parts, Subprogram, Task, Text};
+use crate::{Barrier, ImageFault, Kind, Object, Parts, Subprogram, Task, Text};
 use base::PredefinedException;
 use base::limits::{
     CEILING, EXCEPTIONS, FRAME_WORDS, INSTRUCTIONS, LABELS, OBJECTS, ROWS, SUBPROGRAMS,
     TASK_PRIORITY, TASKS, WORDS,
 };
 use base::names::{is_label, is_name};
-use handlers::Row;
+use handlers::first_crossing;
+use std::alloc::Global;
 
 impl Kind {
     pub(crate) fn is_task_body(&self) -> bool
@@ -30,21 +32,12 @@ impl Kind {
     }
 }
 
-// Whether one region lies in the other, they are the same, or they don't meet.
-pub(crate) fn are_nested(r: &Row, q: &Row) -> bool
-    ensures { result ≡ are_nested r.now q.now }
-{
-    r.start <= q.start && q.end_ <= r.end_
-        || q.start <= r.start && r.end_ <= q.end_
-        || r.end_ <= q.start
-        || q.end_ <= r.start
-}
-
 impl Parts {
-    pub(crate) fn tables_agree(&self) -> bool
-        ensures { result ≡ tables_agree self.now }
+    pub(crate) fn tables_agree(&self, alloc: Global) -> Result<bool, ImageFault>
+        ensures ok { IfOk result (λ agree. agree ≡ tables_agree self.now) }
+        ensures refused { IfErr result (λ fault. fault ≡ memory_fault) }
     {
-        self.has_counts()
+        let agree = self.has_counts()
             && self.has_ends()
             && self.all_subprograms()
             && self.all_objects()
@@ -52,8 +45,8 @@ impl Parts {
             && self.begins_with_predefined()
             && self.all_exceptions()
             && self.all_labels()
-            && self.all_row_exceptions()
-            && self.all_nested()
+            && self.all_row_exceptions();
+        Ok(agree && self.all_nested(alloc)?)
     }
 
     fn has_counts(&self) -> bool
@@ -230,23 +223,15 @@ impl Parts {
         self.rows.iter().all(|r| usize::from(r.exception) <= last)
     }
 
-    fn all_nested(&self) -> bool
-        ensures { result ≡ all_nested self.now.rows }
+    fn all_nested(&self, alloc: Global) -> Result<bool, ImageFault>
+        ensures ok { IfOk result (λ nested. nested ≡ all_nested self.now.rows) }
+        ensures refused { IfErr result (λ fault. fault ≡ memory_fault) }
     {
-        let rows = self.rows.as_slice();
-        for (index, first) in rows.iter().enumerate() {
-            if !are_nested_in_or_around(first, &rows[index + 1..]) {
-                return false;
-            }
+        match first_crossing(alloc, &self.rows) {
+            Ok(crossing) => Ok(crossing.is_none()),
+            Err(_) => Err(ImageFault::memory()),
         }
-        true
     }
-}
-
-fn are_nested_in_or_around(r: &Row, rows: &[Row]) -> bool
-    ensures { result ≡ list_all (are_nested r.now) rows.now }
-{
-    rows.iter().all(|q| are_nested(r, q))
 }
 
 fn begin_with_predefined(names: &[Text]) -> bool
