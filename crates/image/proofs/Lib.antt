@@ -1,3 +1,7 @@
+mod Accepted
+mod AcceptedCode
+mod AcceptedSections
+mod AcceptedTables
 mod Bounds
 mod Broken
 mod BytesExamples
