@@ -9,6 +9,7 @@ mod Examples
 mod Exclusion
 mod Links
 mod FirstFault
+mod LoadedImage
 mod LoadingExamples
 mod ObjectExamples
 mod Opcodes
@@ -18,6 +19,7 @@ mod ReadLoop
 mod RowTables
 mod Runs
 mod Shapes
+mod Spelled
 mod StepLinks
 mod Today
 mod WellFormed

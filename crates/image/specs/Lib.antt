@@ -6,6 +6,7 @@ pub mod Faults
 pub mod Frames
 pub mod Laws
 pub mod Linked
+pub mod Loaded
 pub mod Loading
 pub mod ObjectTable
 pub mod Operations

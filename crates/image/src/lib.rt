@@ -28,6 +28,7 @@ pub use building::Image;
 pub use encoding::encode;
 pub use fault::ImageFault;
 pub use instruction::{Instr, Operation, Region};
+pub use loading::load;
 pub use objects::{Barrier, Object};
 pub use sections::Parts;
 pub use subprograms::{Kind, Subprogram};

@@ -1,19 +1,22 @@
 //! Loads images from bytes with full checks (docs/FORMATS.md, "Well-formed images").
-ghost use Rattle.std.specs.Prelude.{◌≡◌, ◌++◌, [], if◌then◌else◌};
+ghost use Rattle.std.specs.Prelude.{◌≡◌, ◌++◌, [], if◌then◌else◌, IfErr, IfOk};
+ghost use Rattle.image.specs.Loaded.{IsLoaded, IsRead, IsRefused};
 ghost use Rattle.image.specs.FaultOrder.{first_of};
 ghost use Rattle.image.specs.Loading.{agrees, behind_object, behind_row, behind_task, code_part_faults, code_start, each, faults_as, head_faults, header_faults, instruction_faults, labels_start, object_faults, objects_start, place_faults, row_faults, rows_start, subprogram_faults, subprograms_start, table_faults, task_faults, tasks_start, text_faults, word_faults, words_start};
 ghost use Rattle.image.specs.Rules.{has_ends};
 
 use crate::code_faults::{operands_fault, places_fault};
-use crate::fault::WRONG_HEADER;
-use crate::fault_order::{after_all, rule, sooner};
+use crate::fault::{SECTION_CUT_SHORT, STRAY_BYTES, WRONG_HEADER};
+use crate::fault_order::{after, after_all, rule, sooner};
 use crate::raw_sections::RawSections;
+use crate::reading::{Unread, read};
 use crate::table_faults::{
     behind_objects, behind_tasks, behind_texts, count_fault, exceptions_fault, labels_fault,
     last_size_byte, objects_fault, rows_fault, subprograms_fault, tasks_fault, text_count_fault,
 };
-use crate::{ImageFault, Parts};
+use crate::{Image, ImageFault, Parts};
 use base::faults::TABLES_DISAGREE;
+use std::alloc::Global;
 
 // Where each section begins.
 impl RawSections {
@@ -204,4 +207,49 @@ fn header_fault(bytes: &[u8]) -> Option<ImageFault>
         rule(WRONG_HEADER, 0, !magic),
         rule(WRONG_HEADER, 4, magic && !header),
     )
+}
+
+// The sections of these bytes, all of them.
+fn read_whole(alloc: Global, bytes: &[u8]) -> Result<RawSections, ImageFault>
+    ensures read { IfOk result (λ raw. IsRead bytes.now raw) }
+    ensures refused { IfErr result (λ fault. IsRefused bytes.now fault) }
+{
+    if let Some(fault) = header_fault(bytes) {
+        return Err(fault);
+    }
+    match read(alloc, bytes) {
+        Err(Unread::Memory) => Err(ImageFault::memory()),
+        Err(Unread::Short) => Err(ImageFault {
+            number: SECTION_CUT_SHORT,
+            byte: after(0, bytes.len()),
+        }),
+        Ok((raw, behind)) => {
+            if behind.is_empty() {
+                return Ok(raw);
+            }
+            Err(ImageFault {
+                number: STRAY_BYTES,
+                byte: after(0, bytes.len().saturating_sub(behind.len())),
+            })
+        }
+    }
+}
+
+/// The image of these bytes.
+///
+/// # Errors
+/// The first of the rules 40 to 47 that is broken, at its byte: 40, 41, 42, then the least byte among 43 to 47, then the least number;
+/// 60, at byte 0, where memory was refused.
+pub fn load(alloc: Global, bytes: &[u8]) -> Result<Image, ImageFault>
+    ensures loaded { IfOk result (λ image. IsLoaded bytes.now image) }
+    ensures refused { IfErr result (λ fault. IsRefused bytes.now fault) }
+{
+    let raw = read_whole(alloc, bytes)?;
+    let Ok(parts) = raw.parts(alloc) else {
+        return Err(ImageFault::memory());
+    };
+    match raw.fault(&parts) {
+        Some(fault) => Err(fault),
+        None => Image::build(alloc, parts),
+    }
 }
