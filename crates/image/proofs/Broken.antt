@@ -30,7 +30,7 @@ broken i =
 abbrev object_of_entry : ObjectRow
 object_of_entry = record { ceiling = 10; entry = Some 2; barrier = barriers.Word 1; words = pos 0 ∷ pos 0 ∷ [] }
 
-abbrev kept : Sections
+abbrev pub kept : Sections
 kept = record {
   exceptions = predefined ++ codes "BAD" ∷ [];
   labels = codes "x" ∷ [];

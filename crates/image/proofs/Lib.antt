@@ -1,3 +1,7 @@
+mod Accepted
+mod AcceptedCode
+mod AcceptedSections
+mod AcceptedTables
 mod Bounds
 mod Broken
 mod BytesExamples
@@ -6,12 +10,18 @@ mod Exclusion
 mod Links
 mod Listed
 mod ListingExamples
+mod FirstFault
+mod LoadedImage
+mod LoadingExamples
 mod ObjectExamples
+mod Opcodes
 mod Placed
 mod Plain
+mod ReadLoop
 mod RowTables
 mod Runs
 mod Shapes
+mod Spelled
 mod StepLinks
 mod Today
 mod WellFormed

@@ -42,7 +42,7 @@ impl Kind {
 }
 
 impl Subprogram {
-    fn has_region(&self, region: Region) -> bool
+    pub(crate) fn has_region(&self, region: Region) -> bool
         ensures { result ≡ has_region self.now region }
     {
         match region {
@@ -106,7 +106,7 @@ impl Parts {
         self.rows.iter().all(|r| self.is_row_within(r))
     }
 
-    fn jumps_within(&self, place: usize, x: &Instr) -> bool
+    pub(crate) fn jumps_within(&self, place: usize, x: &Instr) -> bool
         ensures { result ≡ jumps_within self.now place x.now }
     {
         match x.operation.jump_target() {
@@ -126,7 +126,7 @@ impl Parts {
     }
 
     // Whether its last instruction lets no other follow.
-    fn is_closed(&self, s: &Subprogram) -> bool
+    pub(crate) fn is_closed(&self, s: &Subprogram) -> bool
         ensures { result ≡ is_closed self.now s.now }
     {
         let last = usize::from(s.end_.saturating_sub(1));
@@ -135,7 +135,7 @@ impl Parts {
             .is_some_and(|x| !x.operation.goes_on())
     }
 
-    fn is_row_within(&self, r: &Row) -> bool
+    pub(crate) fn is_row_within(&self, r: &Row) -> bool
         ensures { result ≡ is_row_within self.now r.now }
     {
         let start = usize::from(r.start);
@@ -190,7 +190,7 @@ impl Parts {
         self.tasks.iter().all(|t| self.has_body(t))
     }
 
-    fn has_object(&self, s: &Subprogram) -> bool
+    pub(crate) fn has_object(&self, s: &Subprogram) -> bool
         ensures { result ≡ has_object self.now s.now }
     {
         match s.kind.object() {
@@ -199,7 +199,7 @@ impl Parts {
         }
     }
 
-    fn has_entry(&self, o: &Object) -> bool
+    pub(crate) fn has_entry(&self, o: &Object) -> bool
         ensures { result ≡ has_entry self.now o.now }
     {
         match o.entry() {
@@ -227,7 +227,7 @@ impl Parts {
         }
     }
 
-    fn names_things(&self, s: &Subprogram, operation: &Operation) -> bool
+    pub(crate) fn names_things(&self, s: &Subprogram, operation: &Operation) -> bool
         ensures { result ≡ names_things self.now s.now operation.now }
     {
         match operation {
@@ -316,7 +316,7 @@ impl Parts {
         true
     }
 
-    fn has_depth(&self, place: usize, depth: usize) -> bool
+    pub(crate) fn has_depth(&self, place: usize, depth: usize) -> bool
         ensures { result ≡ has_depth self.now place depth }
     {
         match self.instructions.get(place) {
@@ -335,7 +335,7 @@ impl Parts {
     }
 
     // Whether it is known what the operation takes and gives: what it calls is there.
-    fn has_effect(&self, operation: &Operation) -> bool
+    pub(crate) fn has_effect(&self, operation: &Operation) -> bool
         ensures { result ≡ has_effect self.now operation.now }
     {
         match operation {

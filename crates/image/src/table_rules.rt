@@ -16,7 +16,7 @@ use handlers::first_crossing;
 use std::alloc::Global;
 
 impl Kind {
-    fn is_task_body(&self) -> bool
+    pub(crate) fn is_task_body(&self) -> bool
         ensures { result ≡ is_task_body self.now }
     {
         matches!(self, Kind::TaskBody)
@@ -67,7 +67,7 @@ impl Parts {
     }
 
     // Whether the plain words and those of the objects are within the limit.
-    fn has_words(&self) -> bool
+    pub(crate) fn has_words(&self) -> bool
         ensures { result ≡ nat_le (length self.now.plain_words + sum_by (λ o. length o.words) self.now.objects) WORDS }
     {
         let mut left = match WORDS.checked_sub(self.plain_words.len()) {
@@ -133,7 +133,7 @@ impl Parts {
     }
 
     // Whether an entry's body is the one that its object has.
-    fn is_entry_of_object(&self, number: usize, kind: &Kind) -> bool
+    pub(crate) fn is_entry_of_object(&self, number: usize, kind: &Kind) -> bool
         ensures { result ≡ is_entry_of_object self.now number kind.now }
     {
         let Kind::EntryBody(object) = kind else {
@@ -248,7 +248,7 @@ fn begin_with_predefined(names: &[Text]) -> bool
     }
 }
 
-fn is_barrier(o: &Object) -> bool
+pub(crate) fn is_barrier(o: &Object) -> bool
     ensures { result ≡ is_barrier o.now o.now.barrier }
 {
     match o.barrier() {
@@ -257,7 +257,7 @@ fn is_barrier(o: &Object) -> bool
     }
 }
 
-fn is_closed(barrier: Barrier) -> bool
+pub(crate) fn is_closed(barrier: Barrier) -> bool
     ensures { result ≡ is_closed_barrier barrier }
 {
     matches!(barrier, Barrier::Closed)

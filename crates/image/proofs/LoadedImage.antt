@@ -1,0 +1,44 @@
+-- What is loaded where no fault was found.
+use Rattle.std.proofs.Common.{◌≡◌, ℕ, List, [], Option, None, Result, Ok, Err, sym, ap, ◌∙◌, subst, inl, ⊎_elim}
+use Rattle.std.specs.Prelude.{IfErr, IfOk}
+use Rattle.std.proofs.lemmas.Bool.{true≢false}
+use Rattle.image.specs.Decoding.{sections_of}
+use Rattle.image.specs.FaultOrder.{first_of}
+use Rattle.image.specs.Loaded.{IsLoaded, IsRead, IsRefused}
+use Rattle.image.specs.Loading.{faults_as, read_faults, sections_faults, unless_faulty}
+use Rattle.image.specs.Reading.{Raw, read_image}
+use Rattle.image.specs.Refusals.{Breaks, Refuses}
+use Rattle.image.specs.Rules.{IsWellFormed}
+use Rattle.image.specs.Sections.{Sections}
+use Rattle.image.specs.declared.fault.ImageFault.{ImageFault}
+use Rattle.image.proofs.AcceptedCode.{accepted}
+use Rattle.image.proofs.FirstFault.{none_first}
+
+pub faultless : (raw : Raw) (parts : Sections) (fault : Option ImageFault) → parts ≡ sections_of raw → fault ≡ first_of (faults_as raw parts) → fault ≡ None → sections_faults raw ≡ []
+faultless raw parts fault same is none = none_first (sections_faults raw) (sym none ∙ (is ∙ ap (λ i. first_of (faults_as raw i)) same))
+
+pub loaded : {E : Type 0} (bytes : List ℕ) (raw : Raw) (parts : Sections) (r : Result Sections E) → IsRead bytes raw → parts ≡ sections_of raw → sections_faults raw ≡ [] → IfOk r (λ image. image ≡ parts) → IfOk r (λ image. IsLoaded bytes image)
+loaded bytes raw parts (Err e) is same none h = tt
+loaded bytes raw parts (Ok image) is same none h =
+    record {
+      faultless = ap (λ f. unless_faulty f (read_faults bytes (read_image bytes))) is.header ∙ (ap (read_faults bytes) is.read ∙ none);
+      raw = raw;
+      read = is.read;
+      same = h ∙ same;
+    }
+
+never : {X : Type 0} (i : Sections) → IsWellFormed i → (n : ℕ) → Breaks i n → X
+never i w n b =
+    absurd
+    (⊎_elim
+    (λ h. true≢false (sym w.operands ∙ h.1))
+    (λ b. ⊎_elim
+    (λ h. true≢false (sym w.jumps ∙ h.1))
+    (λ b. ⊎_elim (λ h. true≢false (sym w.named ∙ h.1)) (λ b. ⊎_elim (λ h. true≢false (sym w.depths ∙ h.1)) (λ h. true≢false (sym w.tables ∙ h.1)) b) b)
+    b)
+    b)
+
+pub refused : {X : Type 0} (bytes : List ℕ) (raw : Raw) (parts : Sections) (r : Result X ImageFault) → parts ≡ sections_of raw → sections_faults raw ≡ [] → IfErr r (Refuses parts) → IfErr r (λ fault. IsRefused bytes fault)
+refused bytes raw parts (Ok x) same none h = tt
+refused bytes raw parts (Err fault) same none h =
+    ⊎_elim (λ m. inl m) (λ b. never parts (subst IsWellFormed (sym same) (accepted raw none)) fault.number b.1) h

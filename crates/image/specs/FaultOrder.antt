@@ -1,0 +1,35 @@
+-- Broken rules of an image by number and byte, and the first of them: at the least byte, and there of the least number.
+use Rattle.std.specs.Prelude.{ℕ, ◌+◌, ◌*◌, Bool, List, [], ◌∷◌, Option, Some, None, nat_lt, min, if◌then◌else◌}
+use Rattle.image.specs.declared.fault.ImageFault.{ImageFault}
+
+-- each entry: this rule is broken at this byte
+abbrev pub Faults : Type 0
+Faults = List ImageFault
+
+-- the last byte that a fault can name; it stands for those behind it too
+abbrev pub last_byte : ℕ
+last_byte = 4294967295
+
+-- so many bytes behind a byte
+abbrev pub after : ℕ → ℕ → ℕ
+after byte count = min (byte + count) last_byte
+
+abbrev pub fault_at : ℕ → ℕ → ImageFault
+fault_at number byte = record { number = number; byte = byte }
+
+-- the rule of this number is broken at this byte, if the test says so
+abbrev pub rule : ℕ → ℕ → Bool → Faults
+rule number byte broken = if broken then fault_at number byte ∷ [] else []
+
+-- the order in which faults are named
+abbrev pub order_of : ImageFault → ℕ
+order_of f = f.byte * 256 + f.number
+
+abbrev pub sooner : Option ImageFault → Option ImageFault → Option ImageFault
+sooner None b = b
+sooner (Some a) None = Some a
+sooner (Some a) (Some b) = if nat_lt (order_of b) (order_of a) then Some b else Some a
+
+abbrev pub first_of : Faults → Option ImageFault
+first_of [] = None
+first_of (f ∷ fs) = sooner (Some f) (first_of fs)
