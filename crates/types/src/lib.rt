@@ -1,0 +1,11 @@
+// What names, types and values are, and which value an expression has (docs/LANGUAGE.md, "Names and types").
+#![tactic(auto)]
+
+mod entity;
+mod standing;
+
+pub use entity::{
+    Barrier, Entity, FormalParameter, Operation, PredefinedOperation, Profile, ProtectedObject,
+    RecordComponent, Role, Subtype, TypeForm, Value,
+};
+pub use standing::{Callee, Standing};
