@@ -5,3 +5,7 @@ pub mod Standings
 pub mod Values
 pub mod Shapes
 pub mod Layouts
+pub mod Evaluations
+pub mod Operators
+pub mod Places
+pub mod Evaluating
