@@ -1,0 +1,3 @@
+mod Trees
+mod Operating
+mod Examples

@@ -9,3 +9,4 @@ pub mod Evaluations
 pub mod Operators
 pub mod Places
 pub mod Evaluating
+pub mod Statics

@@ -3,9 +3,11 @@
 
 mod entity;
 mod standing;
+mod statics;
 
 pub use entity::{
     Barrier, Entity, FormalParameter, Operation, PredefinedOperation, Profile, ProtectedObject,
     RecordComponent, Role, Subtype, TypeForm, Value,
 };
 pub use standing::{Callee, Standing};
+pub use statics::StaticForm;
