@@ -1,3 +1,5 @@
 mod Trees
 mod Operating
 mod Examples
+mod Lists
+mod Adding

@@ -4,7 +4,8 @@ use Rattle.ada_tree.specs.declared.declaration.Mode.TheVariants as mode
 use Rattle.types.specs.declared.entity.Subtype.{Subtype}
 use Rattle.types.specs.declared.entity.PredefinedOperation.{PredefinedOperation}
 use Rattle.types.specs.declared.entity.PredefinedOperation.TheVariants as predefined
-use Rattle.types.specs.Entities.{TypeForm, Integers, Booleans, Times, Spans, Profile, ProtectedObject, Entity, OfType, OfSubtype, Literal, Exception, Subprogram, Entry, Predefined, Put, Protected}
+use Rattle.types.specs.declared.entity.Entity as declared_entity
+use Rattle.types.specs.Entities.{entity_value, TypeForm, Integers, Booleans, Times, Spans, Profile, ProtectedObject, Entity, OfType, OfSubtype, Literal, Exception, Subprogram, Entry, Predefined, Put, Protected}
 
 pub record Named : Type 0 where
   pub name : List ℕ
@@ -16,7 +17,7 @@ abbrev pub Scope : Type 0
 Scope = List Named
 
 abbrev pub number_of : Scope → List ℕ → Option ℕ
-number_of s name = position (λ n. bytes_eq n.name name) s
+number_of s name = position (λ n. bytes_eq name n.name) s
 
 abbrev pub entity_of : Option Named → Option Entity
 entity_of (Some n) = Some n.entity
@@ -125,3 +126,8 @@ with_real_time s = with_times s (length s) (suc (length s))
 -- what Control_IO makes visible
 abbrev pub with_control_io : Scope → Scope
 with_control_io s = with_name (with_name s (codes "PUT") Put) (codes "READ") (from_integer predefined.Read integer)
+
+-- ---- what the entries in memory are
+
+abbrev pub entry_value : List ℕ × declared_entity.Entity → Named
+entry_value e = record { name = e.0; entity = entity_value e.1 }

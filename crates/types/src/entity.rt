@@ -1,4 +1,7 @@
 //! What names stand for.
+ghost use Rattle.std.specs.Prelude.{◌≡◌, bytes_eq, position};
+ghost use Rattle.types.specs.Entities.{protected_value};
+ghost use Rattle.types.specs.Scopes.{base_range_of};
 
 use ada_tree::Mode;
 use lexer::Text;
@@ -10,6 +13,26 @@ pub struct Subtype {
     pub type_number: usize,
     pub first: i64,
     pub last: i64,
+}
+
+impl Subtype {
+    /// The predefined type Boolean (RM 3.5.3).
+    pub const BOOLEAN: Subtype = Subtype {
+        type_number: 3,
+        first: 0,
+        last: 1,
+    };
+
+    /// The subtype of the whole base range of a type (RM 3.5.4).
+    pub fn base_range_of(type_number: usize) -> Subtype
+        ensures { result ≡ base_range_of type_number }
+    {
+        Subtype {
+            type_number,
+            first: i64::MIN,
+            last: i64::MAX,
+        }
+    }
 }
 
 /// What an object may be used for (RM 3.3, 5.5, 6.2, 9.5.1).
@@ -35,14 +58,14 @@ pub enum Value {
 }
 
 /// A component of a record type or of a protected object (RM 3.8, 9.4).
-#[derive(Debug, Drop)]
+#[derive(Drop)]
 pub struct RecordComponent {
     pub name: Text,
     pub subtype: Subtype,
 }
 
 /// The form of a type (RM 3.2).
-#[derive(Debug, Drop)]
+#[derive(Drop)]
 pub enum TypeForm {
     Integer,
     Boolean,
@@ -61,7 +84,7 @@ pub struct FormalParameter {
 }
 
 /// The formal parameters of a subprogram or an entry, and the result of a function (RM 6.1).
-#[derive(Debug, Drop)]
+#[derive(Drop)]
 pub struct Profile {
     pub formals: Vec<FormalParameter>,
     pub result: Option<Subtype>,
@@ -77,7 +100,7 @@ pub enum PredefinedOperation {
 }
 
 /// A procedure, function or entry of a protected object (RM 9.4).
-#[derive(Debug, Drop)]
+#[derive(Drop)]
 pub struct Operation {
     pub name: Text,
     pub is_entry: bool,
@@ -93,7 +116,7 @@ pub enum Barrier {
 
 /// A protected object (RM 9.4): its number among the protected objects in the order of their declarations, from 0 on, its ceiling priority (RM D.3),
 /// its operations and components, and the barrier of its entry, once the body of that is known.
-#[derive(Debug, Drop)]
+#[derive(Drop)]
 pub struct ProtectedObject {
     pub number: usize,
     pub ceiling: u8,
@@ -102,8 +125,25 @@ pub struct ProtectedObject {
     pub barrier: Option<Barrier>,
 }
 
+fn position_of(operations: &[Operation], name: &Text) -> Option<usize>
+    ensures { result ≡ position (λ o. bytes_eq o.name name.now) operations.now }
+{
+    operations
+        .iter()
+        .position(|operation| operation.name.as_bytes() == name.as_bytes())
+}
+
+impl ProtectedObject {
+    /// The position of the operation with this name.
+    pub fn position_of(&self, name: &Text) -> Option<usize>
+        ensures { result ≡ position (λ o. bytes_eq o.name name.now) (protected_value self.now).operations }
+    {
+        position_of(&self.operations, name)
+    }
+}
+
 /// What a name stands for.
-#[derive(Debug, Drop)]
+#[derive(Drop)]
 pub enum Entity {
     /// A type and its first subtype (RM 3.2.1).
     Type(TypeForm, Subtype),

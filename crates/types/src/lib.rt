@@ -2,6 +2,7 @@
 #![tactic(auto)]
 
 mod entity;
+mod scope;
 mod standing;
 mod statics;
 
@@ -9,5 +10,6 @@ pub use entity::{
     Barrier, Entity, FormalParameter, Operation, PredefinedOperation, Profile, ProtectedObject,
     RecordComponent, Role, Subtype, TypeForm, Value,
 };
+pub use scope::Scope;
 pub use standing::{Callee, Standing};
 pub use statics::StaticForm;
