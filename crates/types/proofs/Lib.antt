@@ -3,3 +3,7 @@ mod Operating
 mod Examples
 mod Lists
 mod Adding
+mod Finding
+mod Fixed
+mod Words
+mod Apart

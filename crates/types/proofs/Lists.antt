@@ -1,5 +1,5 @@
 -- Positions in lists whose items are seen by their names, and numbers of arguments.
-use Rattle.std.proofs.Common.{◌≡◌, not, ℕ, suc, ◌+◌, List, [], ◌∷◌, length, map, Bool, Some, None, refl, ap, sym, ◌∙◌}
+use Rattle.std.proofs.Common.{◌≡◌, not, suc, ◌+◌, List, [], ◌∷◌, length, map, Bool, Some, None, refl, ap, sym, ◌∙◌}
 use Rattle.std.specs.Prelude.{position, cond, nat_lt}
 use Rattle.std.specs.List.{position_or_len}
 use Rattle.std.proofs.lemmas.List.{length-map}

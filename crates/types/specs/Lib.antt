@@ -10,3 +10,5 @@ pub mod Operators
 pub mod Places
 pub mod Evaluating
 pub mod Statics
+pub mod Knowing
+pub mod Laws

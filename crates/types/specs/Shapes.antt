@@ -103,6 +103,7 @@ abbrev mutual
   has_shape Timed (Number z) = true
   has_shape (Repeated length x) (Array vs) = nat_eq (count_values vs) length && all_values (has_shape x) vs
   has_shape (Grouped parts) (Record fs) = have_shapes parts fs
+  has_shape Shapeless (Record NoFields) = true
   has_shape x v = false
 
   pub have_shapes : Shapes → Fields → Bool

@@ -2,6 +2,7 @@
 ghost use Rattle.std.specs.Prelude.{◌≡◌, bytes_eq, position};
 ghost use Rattle.types.specs.Entities.{protected_value};
 ghost use Rattle.types.specs.Scopes.{base_range_of};
+ghost use Rattle.types.specs.Values.{fits, value_of};
 
 use ada_tree::Mode;
 use lexer::Text;
@@ -31,6 +32,16 @@ impl Subtype {
             type_number,
             first: i64::MIN,
             last: i64::MAX,
+        }
+    }
+
+    /// Whether a value lies in the subtype (RM 3.2).
+    pub fn fits(self, value: Value) -> bool
+        ensures { result ≡ fits self (value_of value) }
+    {
+        match value {
+            Value::Number(number) => self.first <= number && number <= self.last,
+            Value::Truth(_) => true,
         }
     }
 }

@@ -2,6 +2,8 @@
 #![tactic(auto)]
 
 mod entity;
+mod evaluation;
+pub mod laws;
 mod scope;
 mod standing;
 mod statics;
@@ -12,4 +14,4 @@ pub use entity::{
 };
 pub use scope::Scope;
 pub use standing::{Callee, Standing};
-pub use statics::StaticForm;
+pub use statics::{StaticForm, start_of, static_value, static_value_within};
