@@ -17,6 +17,27 @@ pub struct Subtype {
 }
 
 impl Subtype {
+    /// The predefined type Integer (RM 3.5.4), whose bounds are those of its base range.
+    pub const INTEGER: Subtype = Subtype {
+        type_number: 0,
+        first: i64::MIN,
+        last: i64::MAX,
+    };
+
+    /// The predefined subtype Natural.
+    pub const NATURAL: Subtype = Subtype {
+        type_number: 0,
+        first: 0,
+        last: i64::MAX,
+    };
+
+    /// The predefined subtype Positive.
+    pub const POSITIVE: Subtype = Subtype {
+        type_number: 0,
+        first: 1,
+        last: i64::MAX,
+    };
+
     /// The predefined type Boolean (RM 3.5.3).
     pub const BOOLEAN: Subtype = Subtype {
         type_number: 3,

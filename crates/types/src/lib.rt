@@ -4,6 +4,7 @@
 mod entity;
 mod evaluation;
 pub mod laws;
+mod predefined;
 mod scope;
 mod standing;
 mod statics;

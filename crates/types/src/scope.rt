@@ -1,5 +1,5 @@
 //! Scopes: the visible names and what they stand for (RM 8.3).
-ghost use Rattle.std.specs.Prelude.{◌≡◌, [], length, take, option_map, OnOk, OnErr, IfOk};
+ghost use Rattle.std.specs.Prelude.{◌≡◌, ◌<◌, ◌^◌, [], length, take, option_map, OnOk, OnErr, IfOk};
 ghost use Rattle.types.specs.Entities.{entity_value, form_value, profile_value, protected_value};
 ghost use Rattle.types.specs.Scopes.{entity_at, form_at, is_visible, number_of, profile_at, protected_at, with_name};
 
@@ -36,7 +36,8 @@ impl Scope {
 
     /// The number of names.
     pub fn len(&self) -> usize
-        ensures { result ≡ length self.now }
+        ensures value { result ≡ length self.now }
+        ensures small { result < 2 ^ 63 }
     {
         self.names.len()
     }
