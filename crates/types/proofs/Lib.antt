@@ -7,3 +7,4 @@ mod Finding
 mod Fixed
 mod Words
 mod Apart
+mod Sizes

@@ -1,8 +1,16 @@
 -- Where objects and components stand (docs/FORMATS.md): one behind the other, in the order of their declarations.
-use Rattle.std.specs.Prelude.{ℕ, ◌+◌, ◌*◌, List, [], ◌∷◌, take, Option, Some, None, bytes_eq, if◌then◌else◌}
+use Rattle.base.specs.declared.limits.TheConstants.{WORDS}
+use Rattle.std.specs.Prelude.{suc, min, ℕ, ◌+◌, ◌*◌, List, [], ◌∷◌, take, Option, Some, None, bytes_eq, if◌then◌else◌}
 use Rattle.types.specs.declared.entity.Subtype.{Subtype}
 use Rattle.types.specs.Scopes.{Scope}
-use Rattle.types.specs.Shapes.{Shape, Shapes, NoShapes, MoreShapes, words, shape_of}
+use Rattle.types.specs.Shapes.{Shape, Shapes, NoShapes, MoreShapes, words, words_of_parts, shape_of, shapes, entity_shape, component_shapes}
+use Rattle.types.specs.Entities.{Entity}
+use Rattle.types.specs.declared.entity.RecordComponent.{RecordComponent}
+use Rattle.types.specs.declared.scope.Declared.{Declared}
+
+-- a number of words, where one more than a program may have stands for all larger ones
+abbrev pub capped : ℕ → ℕ
+capped n = min n (suc WORDS)
 
 -- the words of an object of a subtype
 abbrev pub words_of : Scope → Subtype → ℕ
@@ -27,3 +35,17 @@ further words (Some n) = Some (words + n)
 abbrev pub field_offset : Shapes → List ℕ → Option ℕ
 field_offset NoShapes name = None
 field_offset (MoreShapes own x rest) name = if bytes_eq own name then Some 0 else further (words x) (field_offset rest name)
+
+-- the words of what an entity, a form, a component is, where the types before it are known
+abbrev pub entity_words : Scope → Entity → ℕ
+entity_words s e = words (entity_shape (shapes s) e)
+
+abbrev pub components_words : Scope → List RecordComponent → ℕ
+components_words s components = words_of_parts (component_shapes (shapes s) components)
+
+-- what the entries in memory keep
+abbrev pub entry_words : List ℕ × Declared → ℕ
+entry_words e = e.1.words
+
+abbrev pub capped_words : Shape → ℕ
+capped_words x = capped (words x)

@@ -4,7 +4,7 @@ use Rattle.ada_tree.specs.declared.declaration.Mode.TheVariants as mode
 use Rattle.types.specs.declared.entity.Subtype.{Subtype}
 use Rattle.types.specs.declared.entity.PredefinedOperation.{PredefinedOperation}
 use Rattle.types.specs.declared.entity.PredefinedOperation.TheVariants as predefined
-use Rattle.types.specs.declared.entity.Entity as declared_entity
+use Rattle.types.specs.declared.scope.Declared.{Declared}
 use Rattle.types.specs.Entities.{entity_value, TypeForm, Integers, Booleans, Times, Spans, Profile, ProtectedObject, Entity, OfType, OfSubtype, Literal, Exception, Subprogram, Entry, Predefined, Put, Protected}
 
 pub record Named : Type 0 where
@@ -129,5 +129,5 @@ with_control_io s = with_name (with_name s (codes "PUT") Put) (codes "READ") (fr
 
 -- ---- what the entries in memory are
 
-abbrev pub entry_value : List ℕ × declared_entity.Entity → Named
-entry_value e = record { name = e.0; entity = entity_value e.1 }
+abbrev pub entry_value : List ℕ × Declared → Named
+entry_value e = record { name = e.0; entity = entity_value e.1.entity }

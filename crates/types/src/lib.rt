@@ -13,6 +13,6 @@ pub use entity::{
     Barrier, Entity, FormalParameter, Operation, PredefinedOperation, Profile, ProtectedObject,
     RecordComponent, Role, Subtype, TypeForm, Value,
 };
-pub use scope::Scope;
+pub use scope::{MORE_WORDS, Scope};
 pub use standing::{Callee, Standing};
 pub use statics::{StaticForm, start_of, static_value, static_value_within};
