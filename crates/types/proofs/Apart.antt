@@ -3,11 +3,9 @@ use Rattle.std.proofs.Common.{◌≡◌, ℕ, zero, suc, ◌+◌, ◌*◌, ◌<�
 use Rattle.std.specs.Prelude.{ℤ, bytes_eq}
 use Rattle.std.proofs.Math.Nat.{suc-mul}
 use Rattle.std.proofs.Math.Seq.{drop-append-add, take-append_seam}
-use Rattle.types.specs.declared.entity.Subtype.{Subtype}
-use Rattle.types.specs.Scopes.{Scope}
 use Rattle.types.specs.Values.{Value, Values, NoValues, MoreValues, Fields, MoreFields, element_at, field_of}
 use Rattle.types.specs.Shapes.{Shape, Shapes, MoreShapes, all_values, has_shape, have_shapes, value_words, values_words, fields_words, words}
-use Rattle.types.specs.Layouts.{words_of, words_of_all, first_word_of, further, element_offset, field_offset}
+use Rattle.types.specs.Layouts.{total, first_word, further, element_offset, field_offset}
 use Rattle.types.specs.Laws.{ObjectsLieApart, PartsHavePlaces}
 use Rattle.types.proofs.Words.{both_left, both_right, sized, taken, same_name}
 
@@ -16,21 +14,21 @@ use Rattle.types.proofs.Words.{both_left, both_right, sized, taken, same_name}
 some_is : {A : Type 0} {u v : A} → Some u ≡ Some v → u ≡ v
 some_is {A} {u} {v} e = ap (λ r. unwrap_or r u) e
 
-within : (s : Scope) (ts : List Subtype) (m : ℕ) (t : Subtype) → slice_get ts m ≡ Some t → first_word_of s ts m + words_of s t ≤ words_of_all s ts
-within s [] m t at = cc
-within s (u ∷ ts) zero t at = let e : words_of s u ≡ words_of s t = ap (words_of s) (some_is at) in omega (arith, e)
-within s (u ∷ ts) (suc m) t at = let rest = within s ts m t at in omega (arith, rest)
+within : (ws : List ℕ) (m w : ℕ) → slice_get ws m ≡ Some w → first_word ws m + w ≤ total ws
+within [] m w at = cc
+within (u ∷ ws) zero w at = let e = some_is at in omega (arith, e)
+within (u ∷ ws) (suc m) w at = let rest = within ws m w at in omega (arith, rest)
 
-before : (s : Scope) (ts : List Subtype) (m : ℕ) (t : Subtype) → slice_get ts m ≡ Some t → (n : ℕ) → m < n → first_word_of s ts m + words_of s t ≤ first_word_of s ts n
-before s [] m t at n less = cc
-before s (u ∷ ts) m t at zero less = absurd (omega (arith, less))
-before s (u ∷ ts) zero t at (suc n) less = let e : words_of s u ≡ words_of s t = ap (words_of s) (some_is at) in omega (arith, e)
-before s (u ∷ ts) (suc m) t at (suc n) less =
+before : (ws : List ℕ) (m w : ℕ) → slice_get ws m ≡ Some w → (n : ℕ) → m < n → first_word ws m + w ≤ first_word ws n
+before [] m w at n less = cc
+before (u ∷ ws) m w at zero less = absurd (omega (arith, less))
+before (u ∷ ws) zero w at (suc n) less = let e = some_is at in omega (arith, e)
+before (u ∷ ws) (suc m) w at (suc n) less =
     let below : m < n = omega (arith, less) in
-    let rest = before s ts m t at n below in omega (arith, rest)
+    let rest = before ws m w at n below in omega (arith, rest)
 
 pub objects_lie_apart : ObjectsLieApart
-objects_lie_apart s ts m t at = record { before = before s ts m t at; within = within s ts m t at }
+objects_lie_apart ws m w at = record { before = before ws m w at; within = within ws m w at }
 
 -- ---- components
 

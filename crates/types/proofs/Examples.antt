@@ -15,7 +15,7 @@ use Rattle.types.specs.Scopes.{Scope, Named, standard, with_name, with_real_time
 use Rattle.types.specs.Standings.{standing_of}
 use Rattle.types.specs.Values.{Value, Number, Truth, Array, Record, NoValues, MoreValues, NoFields, MoreFields, fits}
 use Rattle.types.specs.Shapes.{shape_of, initial, value_words, value_back, has_shape}
-use Rattle.types.specs.Layouts.{words_of, first_word_of}
+use Rattle.types.specs.Layouts.{words_of, first_word}
 use Rattle.types.specs.Evaluations.{Gives, Raises, Meaningless}
 use Rattle.types.specs.Places as places
 use Rattle.types.specs.Places.{Function, Place, active_priority}
@@ -127,7 +127,7 @@ of_its_shape = refl
 not_of_another_shape : has_shape (shape_of package_scope vec) set_pair ≡ false
 not_of_another_shape = refl
 
-layout : first_word_of package_scope (vec ∷ integer ∷ pairs ∷ boolean ∷ []) 3 ≡ 8
+layout : first_word (words_of package_scope vec ∷ words_of package_scope integer ∷ words_of package_scope pairs ∷ words_of package_scope boolean ∷ []) 3 ≡ 8
 layout = refl
 
 fits_at_bounds : fits odd (Number (pos 7)) ≡ true

@@ -8,3 +8,4 @@ mod Fixed
 mod Words
 mod Apart
 mod Sizes
+mod Placing

@@ -1,18 +1,16 @@
 -- The laws of layouts and words, as statements; each is the contract of a public function.
 use Rattle.std.specs.Prelude.{◌≡◌, ℕ, ◌+◌, ◌<◌, ◌≤◌, List, length, take, drop, slice_get, true, Some}
-use Rattle.types.specs.declared.entity.Subtype.{Subtype}
-use Rattle.types.specs.Scopes.{Scope}
 use Rattle.types.specs.Values.{Value, Values, Fields, element_at, field_of}
 use Rattle.types.specs.Shapes.{Shape, Shapes, all_values, has_shape, have_shapes, initial_of, value_words, values_words, fields_words, value_back, words}
-use Rattle.types.specs.Layouts.{words_of, words_of_all, first_word_of, element_offset, field_offset}
+use Rattle.types.specs.Layouts.{total, first_word, element_offset, field_offset}
 
--- the words of different objects do not overlap, and all lie within those of the whole
-pub record LiesApart (s : Scope) (ts : List Subtype) (m : ℕ) (t : Subtype) : Type 0 where
-  pub before : (n : ℕ) → m < n → first_word_of s ts m + words_of s t ≤ first_word_of s ts n
-  pub within : first_word_of s ts m + words_of s t ≤ words_of_all s ts
+-- an object of w words ends before each later one begins, and within the words of all
+pub record LiesApart (ws : List ℕ) (m w : ℕ) : Type 0 where
+  pub before : (n : ℕ) → m < n → first_word ws m + w ≤ first_word ws n
+  pub within : first_word ws m + w ≤ total ws
 
 abbrev pub ObjectsLieApart : Type 0
-ObjectsLieApart = (s : Scope) (ts : List Subtype) (m : ℕ) (t : Subtype) → slice_get ts m ≡ Some t → LiesApart s ts m t
+ObjectsLieApart = (ws : List ℕ) (m w : ℕ) → slice_get ws m ≡ Some w → LiesApart ws m w
 
 -- a value of a shape takes the words of the shape, and comes back from them; an object without initial value has one
 pub record HasWords (x : Shape) (v : Value) : Type 0 where

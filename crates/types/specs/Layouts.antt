@@ -6,6 +6,7 @@ use Rattle.types.specs.Scopes.{Scope}
 use Rattle.types.specs.Shapes.{Shape, Shapes, NoShapes, MoreShapes, words, words_of_parts, shape_of, shapes, entity_shape, component_shapes}
 use Rattle.types.specs.Entities.{Entity}
 use Rattle.types.specs.declared.entity.RecordComponent.{RecordComponent}
+use Rattle.types.specs.declared.layout.Placed.{Placed}
 use Rattle.types.specs.declared.scope.Declared.{Declared}
 
 -- a number of words, where one more than a program may have stands for all larger ones
@@ -16,13 +17,22 @@ capped n = min n (suc WORDS)
 abbrev pub words_of : Scope → Subtype → ℕ
 words_of s t = words (shape_of s t)
 
-abbrev pub words_of_all : Scope → List Subtype → ℕ
-words_of_all s [] = 0
-words_of_all s (t ∷ ts) = words_of s t + words_of_all s ts
+-- ---- objects one behind the other, by their words
 
--- the first word of the object at a position, among objects of these subtypes
-abbrev pub first_word_of : Scope → List Subtype → ℕ → ℕ
-first_word_of s ts n = words_of_all s (take n ts)
+abbrev pub total : List ℕ → ℕ
+total [] = 0
+total (w ∷ ws) = w + total ws
+
+-- the first word of the object at a position: behind all objects before it
+abbrev pub first_word : List ℕ → ℕ → ℕ
+first_word ws n = total (take n ws)
+
+-- what a layout says: the words of each object, and how many there may be together
+pub record Objects : Type 0 where
+  pub words : List ℕ
+  pub limit : ℕ
+
+-- ---- components
 
 -- the first word of the component of an array at a position, and of the component of a record with this name, counted from the object's own
 abbrev pub element_offset : Shape → ℕ → ℕ
@@ -49,3 +59,15 @@ entry_words e = e.1.words
 
 abbrev pub capped_words : Shape → ℕ
 capped_words x = capped (words x)
+
+-- what a layout in memory keeps of its objects
+abbrev pub placed_first : Placed → ℕ
+placed_first p = p.first
+
+abbrev pub placed_words : Placed → ℕ
+placed_words p = p.words
+
+-- the first words of objects, of which the first one begins here
+abbrev pub first_words : ℕ → List ℕ → List ℕ
+first_words from [] = []
+first_words from (w ∷ ws) = from ∷ first_words (from + w) ws

@@ -4,6 +4,7 @@
 mod entity;
 mod evaluation;
 pub mod laws;
+mod layout;
 mod predefined;
 mod scope;
 mod standing;
@@ -13,6 +14,7 @@ pub use entity::{
     Barrier, Entity, FormalParameter, Operation, PredefinedOperation, Profile, ProtectedObject,
     RecordComponent, Role, Subtype, TypeForm, Value,
 };
+pub use layout::{Layout, LayoutFault};
 pub use scope::{MORE_WORDS, Scope};
 pub use standing::{Callee, Standing};
 pub use statics::{StaticForm, start_of, static_value, static_value_within};

@@ -1,4 +1,4 @@
-use Rattle.std.proofs.Common.{sym, ap, ◌∙◌}
+use Rattle.std.proofs.Common.{ap, ◌∙◌}
 use Rattle.types.specs.Layouts.{capped, words_of}
 use Rattle.types.proofs.Sizes.{kept_words, no_words}
 use Rattle.types.proofs.scope.Scope.words.Goals as goal
