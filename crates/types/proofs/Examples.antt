@@ -16,7 +16,7 @@ use Rattle.types.specs.Standings.{standing_of}
 use Rattle.types.specs.Values.{Value, Number, Truth, Array, Record, NoValues, MoreValues, NoFields, MoreFields, fits}
 use Rattle.types.specs.Shapes.{shape_of, initial, value_words, value_back, has_shape}
 use Rattle.types.specs.Layouts.{words_of, first_word}
-use Rattle.types.specs.Evaluations.{Gives, Raises, Meaningless}
+use Rattle.types.specs.Evaluations.{Val, Gives, Raises, Meaningless}
 use Rattle.types.specs.Places as places
 use Rattle.types.specs.Places.{Function, Place, active_priority}
 use Rattle.types.specs.Evaluating.{val, passed}
@@ -418,3 +418,38 @@ then_the_right = refl
 
 wrong_number : val (record here { functions = first_of_two ∷ [] }) (function_at (codes "G") (num 1)) ≡ Meaningless
 wrong_number = refl
+
+-- a function of the object, and a local object, go before a constant that the package declares behind the body
+abbrev seven : Function
+seven = record { object = Some 0; name = codes "SEVEN"; formals = []; result = small; value = num 3 }
+
+own_function_first : val (record here { within = Some 0; functions = seven ∷ [] }) (name (codes "SEVEN")) ≡ Gives (Number (pos 3))
+own_function_first = refl
+
+own_object_first : val (record here { locals = object (codes "SEVEN") integer (Number (pos 2)) ∷ [] }) (name (codes "SEVEN")) ≡ Gives (Number (pos 2))
+own_object_first = refl
+
+constant_of_the_package : val here (name (codes "SEVEN")) ≡ Gives (Number (pos 7))
+constant_of_the_package = refl
+
+-- ---- `for I in reverse Idx'First .. Idx'Last loop V (I) := N; N := N * 2; end loop; P.B := N > 30;`, with N = 20 and then 40
+
+doubled : val (record here { locals = object (codes "N") integer (Number (pos 20)) ∷ [] }) (two binary.Multiply (name (codes "N")) (num 2)) ≡ Gives (Number (pos 40))
+doubled = refl
+
+above_thirty : val (record here { locals = object (codes "N") integer (Number (pos 40)) ∷ [] }) (two binary.Greater (name (codes "N")) (num 30)) ≡ Gives (Truth true)
+above_thirty = refl
+
+first_index : static_value package_scope (name_of (codes "IDX") (tick (codes "FIRST") ∷ [])) ≡ Gives (Number (pos 1))
+first_index = refl
+
+-- `case I mod 3`, with I from 1 to 4, and `exit when I = 4`
+abbrev case_of : ℕ → Val Value
+case_of i = val (record here { locals = object (codes "I") integer (Number (pos i)) ∷ [] }) (two binary.Mod (name (codes "I")) (num 3))
+
+cases : (case_of 1 ≡ Gives (Number (pos 1))) × (case_of 2 ≡ Gives (Number (pos 2))) × (case_of 3 ≡ Gives (Number (pos 0))) × (case_of 4 ≡ Gives (Number (pos 1)))
+cases = (refl, refl, refl, refl)
+
+-- no value lies in a subtype whose first value is above its last one
+null_range : fits (subtype_of 0 1 0) (Number (pos 1)) ≡ false
+null_range = refl

@@ -3,7 +3,8 @@ use Rattle.std.proofs.Common.{◌≡◌, ℕ, zero, suc, ◌+◌, List, [], ◌�
 use Rattle.std.proofs.lemmas.List.{map-append}
 use Rattle.std.proofs.lemmas.Option.{slice_get-map}
 use Rattle.types.specs.declared.layout.Placed.{Placed}
-use Rattle.types.specs.Layouts.{total, first_word, first_words, placed_first, placed_words}
+use Rattle.types.specs.Layouts.{total, first_word}
+use Rattle.types.specs.Kept.{first_words, placed_first, placed_words}
 
 at_first : (from : ℕ) (ws : List ℕ) (n f : ℕ) → slice_get (first_words from ws) n ≡ Some f → f ≡ from + first_word ws n
 at_first from [] n f h = cc

@@ -7,7 +7,8 @@ use Rattle.types.specs.declared.scope.Declared.{Declared}
 use Rattle.types.specs.Entities.{entity_value}
 use Rattle.types.specs.Scopes.{Scope, Named, entry_value}
 use Rattle.types.specs.Shapes.{Shape, Ranged, Logical, Timed, Repeated, Grouped, Shapeless, shapes, shapes_after, entity_shape, shape_or_none, narrowed, words}
-use Rattle.types.specs.Layouts.{capped, capped_words, entry_words, entity_words, words_of}
+use Rattle.types.specs.Layouts.{capped, words_of}
+use Rattle.types.specs.Kept.{capped_words, entry_words, entity_words}
 
 -- ---- shapes of more names and of fewer
 

@@ -9,7 +9,7 @@ use Rattle.std.specs.Cmp.Derive.{both_true}
 use Rattle.types.specs.Laws.{InitialValuesHaveShape, ValuesHaveWords}
 use Rattle.std.proofs.Math.Seq.{take-append_seam, drop-append_seam}
 use Rattle.types.specs.Values.{Value, Number, Truth, Array, Record, Values, NoValues, MoreValues, Fields, NoFields, MoreFields}
-use Rattle.types.specs.Shapes.{Shape, Ranged, Logical, Timed, Repeated, Grouped, Shapeless, Shapes, NoShapes, MoreShapes, all_values, count_values, has_shape, have_shapes, initial_of, initial_fields, repeated, value_words, values_words, fields_words, value_back, values_back, fields_back, first_word, is_set, word_of, words, words_of_parts}
+use Rattle.types.specs.Shapes.{Shape, Ranged, Logical, Timed, Repeated, Grouped, Shapeless, Shapes, NoShapes, MoreShapes, all_values, count_values, has_shape, have_shapes, initial_of, initial_fields, repeated, value_words, values_words, fields_words, value_back, values_back, fields_back, leading_word, is_set, word_of, words, words_of_parts}
 
 pub both_left : (a b : Bool) → (a && b) ≡ true → a ≡ true
 both_left true b h = refl
@@ -75,7 +75,7 @@ back_values x ok (MoreValues v rest) h =
     λ j. MoreValues (here j) (there j)
     )
 
-truth_back : (b : Bool) → is_set (first_word (word_of b ∷ [])) ≡ b
+truth_back : (b : Bool) → is_set (leading_word (word_of b ∷ [])) ≡ b
 truth_back true = refl
 truth_back false = refl
 

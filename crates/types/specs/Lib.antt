@@ -12,3 +12,4 @@ pub mod Evaluating
 pub mod Statics
 pub mod Knowing
 pub mod Laws
+pub mod Kept

@@ -73,7 +73,8 @@ abbrev pub own_components : Place → Option ℕ → List Object
 own_components p (Some object) = p.components object
 own_components p None = []
 
--- the object of this name that is visible: nothing hides another one, so the order does not matter
+-- the object of this name that is visible. An object or a function of the running body goes before a name of the scope, where the package may declare
+-- one like it behind the body; else nothing hides another one.
 abbrev pub visible_object : Place → List ℕ → Option Object
 visible_object p name = or_else (object_of p.locals name) (or_else (object_of (own_components p p.within) name) (object_of p.variables name))
 
@@ -110,8 +111,12 @@ abbrev pub object_stands : Option Object → Standing → Standing
 object_stands (Some x) w = standing.Part role.Variable x.subtype
 object_stands None w = w
 
+abbrev pub function_stands : Option Function → Standing → Standing
+function_stands (Some f) w = standing.Given f.result None
+function_stands None w = w
+
 abbrev pub stands_here : Place → List ℕ → Standing
-stands_here p name = object_stands (visible_object p name) (stands_first p.scope (number_of p.scope name))
+stands_here p name = object_stands (visible_object p name) (function_stands (visible_function p name) (stands_first p.scope (number_of p.scope name)))
 
 -- ---- what a name means here
 

@@ -148,9 +148,9 @@ abbrev mutual
 
 -- ---- and back: the value of a shape that words stand for
 
-abbrev pub first_word : List ℤ → ℤ
-first_word [] = pos 0
-first_word (z ∷ rest) = z
+abbrev pub leading_word : List ℤ → ℤ
+leading_word [] = pos 0
+leading_word (z ∷ rest) = z
 
 abbrev pub is_set : ℤ → Bool
 is_set (pos zero) = false
@@ -163,9 +163,9 @@ values_back (suc n) width back ws = MoreValues (back (take width ws)) (values_ba
 
 abbrev mutual
   pub value_back : Shape → List ℤ → Value
-  value_back (Ranged first) ws = Number (first_word ws)
-  value_back Logical ws = Truth (is_set (first_word ws))
-  value_back Timed ws = Number (first_word ws)
+  value_back (Ranged first) ws = Number (leading_word ws)
+  value_back Logical ws = Truth (is_set (leading_word ws))
+  value_back Timed ws = Number (leading_word ws)
   value_back (Repeated length x) ws = Array (values_back length (words x) (value_back x) ws)
   value_back (Grouped parts) ws = Record (fields_back parts ws)
   value_back Shapeless ws = Record NoFields

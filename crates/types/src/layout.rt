@@ -43,7 +43,8 @@ pub struct Layout {
 
 impl Model for Layout {
     ghost use Rattle.std.specs.Prelude.{◌≡◌, ◌≤◌, map};
-    ghost use Rattle.types.specs.Layouts.{Objects, first_words, placed_first, placed_words, total};
+    ghost use Rattle.types.specs.Layouts.{Objects, total};
+    ghost use Rattle.types.specs.Kept.{first_words, placed_first, placed_words};
 
     ghost Value = { Objects };
 

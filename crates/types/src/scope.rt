@@ -1,7 +1,8 @@
 //! Scopes: the visible names and what they stand for (RM 8.3).
 ghost use Rattle.std.specs.Prelude.{◌≡◌, ◌+◌, ◌*◌, ◌<◌, ◌^◌, [], length, take, option_map, OnOk, OnErr, IfOk};
 ghost use Rattle.types.specs.Entities.{entity_value, form_value, profile_value, protected_value};
-ghost use Rattle.types.specs.Layouts.{capped, components_words, entity_words, words_of};
+ghost use Rattle.types.specs.Layouts.{capped, words_of};
+ghost use Rattle.types.specs.Kept.{components_words, entity_words};
 ghost use Rattle.types.specs.Scopes.{entity_at, form_at, is_visible, number_of, profile_at, protected_at, with_name};
 
 use crate::entity::{Entity, Profile, ProtectedObject, RecordComponent, Subtype, TypeForm};
@@ -29,7 +30,7 @@ pub struct Scope {
 
 impl Model for Scope {
     ghost use Rattle.std.specs.Prelude.{◌≡◌, List, map};
-    ghost use Rattle.types.specs.Layouts.{capped_words, entry_words};
+    ghost use Rattle.types.specs.Kept.{capped_words, entry_words};
     ghost use Rattle.types.specs.Scopes.{Named, entry_value};
     ghost use Rattle.types.specs.Shapes.{shapes};
 

@@ -1,7 +1,8 @@
 use Rattle.std.proofs.Common.{◌≡◌, ◌+◌, [], ◌∷◌, map, sym, ap, ◌∙◌, subst, arith}
 use Rattle.std.proofs.lemmas.List.{map-append}
 use Rattle.types.specs.declared.layout.Placed.{Placed}
-use Rattle.types.specs.Layouts.{first_words, placed_first, placed_words, total}
+use Rattle.types.specs.Layouts.{total}
+use Rattle.types.specs.Kept.{first_words, placed_first, placed_words}
 use Rattle.types.proofs.Placing.{placed_more, total_more}
 use Rattle.types.proofs.layout.Layout.add.Goals as goal
 

@@ -1,7 +1,8 @@
 use Rattle.std.proofs.Common.{◌≡◌, false, sym, ap, ◌∙◌, map, is_some, subst}
 use Rattle.types.specs.declared.scope.Declared.{Declared}
 use Rattle.types.specs.Entities.{entity_value}
-use Rattle.types.specs.Layouts.{capped, entity_words}
+use Rattle.types.specs.Layouts.{capped}
+use Rattle.types.specs.Kept.{entity_words}
 use Rattle.types.specs.Scopes.{entry_value, is_visible, with_name}
 use Rattle.types.proofs.Adding.{appended, goes_last}
 use Rattle.types.proofs.Sizes.{AreKept, kept_push}

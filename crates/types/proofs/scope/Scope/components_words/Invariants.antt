@@ -1,6 +1,7 @@
 use Rattle.std.proofs.Common.{◌≡◌, ◌+◌, ◌≤◌, suc, drop}
 use Rattle.base.specs.declared.limits.TheConstants.{WORDS}
-use Rattle.types.specs.Layouts.{capped, components_words}
+use Rattle.types.specs.Layouts.{capped}
+use Rattle.types.specs.Kept.{components_words}
 use Rattle.types.proofs.scope.Scope.components_words.Given as goal
 
 abbrev pub invariant-loop-component : goal.invariant-loop-component
