@@ -426,6 +426,9 @@ seven = record { object = Some 0; name = codes "SEVEN"; formals = []; result = s
 own_function_first : val (record here { within = Some 0; functions = seven ∷ [] }) (name (codes "SEVEN")) ≡ Gives (Number (pos 3))
 own_function_first = refl
 
+own_function_before_variable : val (record here { within = Some 0; variables = object (codes "GET") integer (Number (pos 1)) ∷ [] }) (function_at (codes "GET") (num 5)) ≡ Gives (Number (pos 9))
+own_function_before_variable = refl
+
 own_object_first : val (record here { locals = object (codes "SEVEN") integer (Number (pos 2)) ∷ [] }) (name (codes "SEVEN")) ≡ Gives (Number (pos 2))
 own_object_first = refl
 

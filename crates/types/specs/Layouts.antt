@@ -2,8 +2,9 @@
 use Rattle.base.specs.declared.limits.TheConstants.{WORDS}
 use Rattle.std.specs.Prelude.{suc, min, ℕ, ◌+◌, ◌*◌, List, [], ◌∷◌, take, Option, Some, None, bytes_eq, if◌then◌else◌}
 use Rattle.types.specs.declared.entity.Subtype.{Subtype}
+use Rattle.types.specs.declared.entity.RecordComponent.{RecordComponent}
 use Rattle.types.specs.Scopes.{Scope}
-use Rattle.types.specs.Shapes.{Shape, Shapes, NoShapes, MoreShapes, words, shape_of}
+use Rattle.types.specs.Shapes.{Shape, Shapes, NoShapes, MoreShapes, words, shape_of, shapes, component_shapes}
 
 -- a number of words, where one more than a program may have stands for all larger ones
 abbrev pub capped : ℕ → ℕ
@@ -41,3 +42,6 @@ further words (Some n) = Some (words + n)
 abbrev pub field_offset : Shapes → List ℕ → Option ℕ
 field_offset NoShapes name = None
 field_offset (MoreShapes own x rest) name = if bytes_eq own name then Some 0 else further (words x) (field_offset rest name)
+
+abbrev pub component_offset : Scope → List RecordComponent → List ℕ → Option ℕ
+component_offset s components name = field_offset (component_shapes (shapes s) components) name

@@ -73,14 +73,19 @@ abbrev pub own_components : Place → Option ℕ → List Object
 own_components p (Some object) = p.components object
 own_components p None = []
 
--- the object of this name that is visible. An object or a function of the running body goes before a name of the scope, where the package may declare
--- one like it behind the body; else nothing hides another one.
-abbrev pub visible_object : Place → List ℕ → Option Object
-visible_object p name = or_else (object_of p.locals name) (or_else (object_of (own_components p p.within) name) (object_of p.variables name))
+-- What the running body sees as its own: its objects, and the components and functions of its protected object. They go before what the package declares,
+-- since the package may declare one of the same name behind the body; else nothing hides another one.
+abbrev pub own_object : Place → List ℕ → Option Object
+own_object p name = or_else (object_of p.locals name) (object_of (own_components p p.within) name)
 
--- the function that is called by its own name: one of the package, or of the protected object in whose operation this is
-abbrev pub visible_function : Place → List ℕ → Option Function
-visible_function p name = or_else (function_of p.functions p.within name) (function_of p.functions None name)
+abbrev pub own_function : Place → List ℕ → Option Function
+own_function p name = function_of p.functions p.within name
+
+abbrev pub package_object : Place → List ℕ → Option Object
+package_object p name = object_of p.variables name
+
+abbrev pub package_function : Place → List ℕ → Option Function
+package_function p name = function_of p.functions None name
 
 -- ---- priorities (RM D.1, D.3)
 
@@ -116,7 +121,10 @@ function_stands (Some f) w = standing.Given f.result None
 function_stands None w = w
 
 abbrev pub stands_here : Place → List ℕ → Standing
-stands_here p name = object_stands (visible_object p name) (function_stands (visible_function p name) (stands_first p.scope (number_of p.scope name)))
+stands_here p name =
+    object_stands
+    (own_object p name)
+    (function_stands (own_function p name) (object_stands (package_object p name) (function_stands (package_function p name) (stands_first p.scope (number_of p.scope name)))))
 
 -- ---- what a name means here
 
@@ -159,5 +167,5 @@ meaning_or None other = other
 abbrev pub meaning_of : Place → List ℕ → Meaning
 meaning_of p name =
     meaning_or
-    (or_else (object_meaning (visible_object p name)) (function_meaning (visible_function p name)))
-    (meaning_in_scope p.scope (number_of p.scope name))
+    (or_else (object_meaning (own_object p name)) (function_meaning (own_function p name)))
+    (meaning_or (or_else (object_meaning (package_object p name)) (function_meaning (package_function p name))) (meaning_in_scope p.scope (number_of p.scope name)))

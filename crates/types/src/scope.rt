@@ -1,7 +1,7 @@
 //! Scopes: the visible names and what they stand for (RM 8.3).
 ghost use Rattle.std.specs.Prelude.{◌≡◌, ◌+◌, ◌*◌, ◌<◌, ◌^◌, [], length, take, option_map, OnOk, OnErr, IfOk};
 ghost use Rattle.types.specs.Entities.{entity_value, form_value, profile_value, protected_value};
-ghost use Rattle.types.specs.Layouts.{capped, words_of};
+ghost use Rattle.types.specs.Layouts.{capped, component_offset, words_of};
 ghost use Rattle.types.specs.Kept.{components_words, entity_words};
 ghost use Rattle.types.specs.Scopes.{entity_at, form_at, is_visible, number_of, profile_at, protected_at, with_name};
 
@@ -138,6 +138,21 @@ impl Scope {
             Some((_, declared)) => declared.words,
             None => 0,
         }
+    }
+
+    /// The first word of the component with this name, counted from that of the record, or `MORE_WORDS` where it is behind more words than a program may
+    /// have.
+    pub fn component_offset(&self, components: &[RecordComponent], name: &Text) -> Option<u16>
+        ensures { result ≡ option_map capped (component_offset self.now components.now name.now) }
+    {
+        let mut words = 0;
+        for component in components {
+            if component.name.as_bytes() == name.as_bytes() {
+                return Some(words);
+            }
+            words = capped_sum(words, self.words(component.subtype));
+        }
+        None
     }
 
     /// The words of the components of a record, or `MORE_WORDS`.
