@@ -14,6 +14,12 @@ pub const WRONG_LABEL: u8 = 5;
 pub const UNEXPECTED_TOKEN: u8 = 6;
 /// Too many levels are open.
 pub const TOO_MANY_LEVELS: u8 = 7;
+/// A type is not as expected, or an operator, a call or a name has no meaning where it stands (RM 4).
+pub const NO_MEANING: u8 = 12;
+/// An expression must be static, and is not (RM 4.9).
+pub const NOT_STATIC: u8 = 14;
+/// The value of an expression that must be static raises an exception or is outside its subtype (RM 4.9).
+pub const WRONG_STATIC_VALUE: u8 = 15;
 /// The code of a program passes a limit of images.
 pub const CODE_TOO_LARGE: u8 = 23;
 /// An image: the operands of an instruction are out of range by themselves.

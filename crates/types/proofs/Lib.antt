@@ -1,0 +1,11 @@
+mod Trees
+mod Operating
+mod Examples
+mod Lists
+mod Adding
+mod Finding
+mod Fixed
+mod Words
+mod Apart
+mod Sizes
+mod Placing

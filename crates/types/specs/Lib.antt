@@ -1,0 +1,15 @@
+pub use Rattle.ada_tree.specs.ExpressionTree
+pub mod Entities
+pub mod Scopes
+pub mod Standings
+pub mod Values
+pub mod Shapes
+pub mod Layouts
+pub mod Evaluations
+pub mod Operators
+pub mod Places
+pub mod Evaluating
+pub mod Statics
+pub mod Knowing
+pub mod Laws
+pub mod Kept

@@ -1,0 +1,20 @@
+// What names, types and values are, and which value an expression has (docs/LANGUAGE.md, "Names and types").
+#![tactic(auto)]
+
+mod entity;
+mod evaluation;
+pub mod laws;
+mod layout;
+mod predefined;
+mod scope;
+mod standing;
+mod statics;
+
+pub use entity::{
+    Barrier, Entity, FormalParameter, Operation, PredefinedOperation, Profile, ProtectedObject,
+    RecordComponent, Role, Subtype, TypeForm, Value,
+};
+pub use layout::{Layout, LayoutFault};
+pub use scope::{MORE_WORDS, Scope};
+pub use standing::{Callee, Standing};
+pub use statics::{StaticForm, start_of, static_value, static_value_within};

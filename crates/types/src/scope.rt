@@ -1,0 +1,202 @@
+//! Scopes: the visible names and what they stand for (RM 8.3).
+ghost use Rattle.std.specs.Prelude.{◌≡◌, ◌+◌, ◌*◌, ◌<◌, ◌^◌, [], length, take, option_map, OnOk, OnErr, IfOk};
+ghost use Rattle.types.specs.Entities.{entity_value, form_value, profile_value, protected_value};
+ghost use Rattle.types.specs.Layouts.{capped, component_offset, words_of};
+ghost use Rattle.types.specs.Kept.{components_words, entity_words};
+ghost use Rattle.types.specs.Scopes.{entity_at, form_at, is_visible, number_of, profile_at, protected_at, with_name};
+
+use crate::entity::{Entity, Profile, ProtectedObject, RecordComponent, Subtype, TypeForm};
+use base::limits::WORDS;
+use indexmap::IndexMap;
+use lexer::Text;
+use std::alloc::{AllocError, Global};
+use std::marker::Model;
+
+/// One more word than a program may have.
+pub const MORE_WORDS: u16 = WORDS as u16 + 1;
+
+// What a name stands for, and the words of an object of the type that it is: 0 where it is none, `MORE_WORDS` where there are more than a program may have.
+#[derive(Drop)]
+struct Declared {
+    entity: Entity,
+    words: u16,
+}
+
+/// The visible names in the order of their declarations, with what they stand for. A name's number is its position. Contracts see a list.
+#[derive(Drop)]
+pub struct Scope {
+    names: IndexMap<Text, Declared>,
+}
+
+impl Model for Scope {
+    ghost use Rattle.std.specs.Prelude.{◌≡◌, List, map};
+    ghost use Rattle.types.specs.Kept.{capped_words, entry_words};
+    ghost use Rattle.types.specs.Scopes.{Named, entry_value};
+    ghost use Rattle.types.specs.Shapes.{shapes};
+
+    ghost Value = { List Named };
+
+    ghost view = { λ s. map entry_value s.names.entries };
+
+    ghost invariant = { λ s. map entry_words s.names.entries ≡ map capped_words (shapes (map entry_value s.names.entries)) };
+}
+
+fn capped(words: u32) -> u16
+    ensures { result ≡ capped words }
+{
+    if words < MORE_WORDS as u32 {
+        words as u16
+    } else {
+        MORE_WORDS
+    }
+}
+
+fn capped_sum(left: u16, right: u16) -> u16
+    ensures { result ≡ capped (left + right) }
+{
+    capped(left as u32 + right as u32)
+}
+
+fn capped_product(left: u16, right: u16) -> u16
+    ensures { result ≡ capped (left * right) }
+{
+    capped(left as u32 * right as u32)
+}
+
+impl Scope {
+    /// No names.
+    pub fn new(alloc: Global) -> Scope
+        ensures { result ≡ [] }
+    {
+        Scope {
+            names: IndexMap::new(alloc),
+        }
+    }
+
+    /// The number of names.
+    pub fn len(&self) -> usize
+        ensures value { result ≡ length self.now }
+        ensures small { result < 2 ^ 63 }
+    {
+        self.names.len()
+    }
+
+    /// The number of a visible name.
+    pub fn number_of(&self, name: &Text) -> Option<usize>
+        ensures { result ≡ number_of self.now name.now }
+    {
+        self.names.get_index_of(name)
+    }
+
+    /// What the name with this number stands for.
+    pub fn entity(&self, number: usize) -> Option<&Entity>
+        ensures { option_map (λ e. entity_value e.now) result ≡ entity_at self.now number }
+    {
+        match self.names.get_index(number) {
+            Some((_, declared)) => Some(&declared.entity),
+            None => None,
+        }
+    }
+
+    /// The form of the type with this number, if it is one.
+    pub fn form(&self, number: usize) -> Option<&TypeForm>
+        ensures { option_map (λ f. form_value f.now) result ≡ form_at self.now number }
+    {
+        match self.entity(number) {
+            Some(Entity::Type(form, _)) => Some(form),
+            _ => None,
+        }
+    }
+
+    /// The profile of the subprogram or entry with this number, if it is one.
+    pub fn profile(&self, number: usize) -> Option<&Profile>
+        ensures { option_map (λ p. profile_value p.now) result ≡ profile_at self.now number }
+    {
+        match self.entity(number) {
+            Some(Entity::Subprogram(profile)) => Some(profile),
+            Some(Entity::Entry(profile)) => Some(profile),
+            Some(Entity::Predefined(_, profile)) => Some(profile),
+            _ => None,
+        }
+    }
+
+    /// The protected object with this number, if it is one.
+    pub fn protected(&self, number: usize) -> Option<&ProtectedObject>
+        ensures { option_map (λ p. protected_value p.now) result ≡ protected_at self.now number }
+    {
+        match self.entity(number) {
+            Some(Entity::Protected(object)) => Some(object),
+            _ => None,
+        }
+    }
+
+    /// The words of an object of this subtype (docs/FORMATS.md), or `MORE_WORDS` where they are more than a program may have.
+    pub fn words(&self, subtype: Subtype) -> u16
+        ensures { result ≡ capped (words_of self.now subtype) }
+    {
+        match self.names.get_index(subtype.type_number) {
+            Some((_, declared)) => declared.words,
+            None => 0,
+        }
+    }
+
+    /// The first word of the component with this name, counted from that of the record, or `MORE_WORDS` where it is behind more words than a program may
+    /// have.
+    pub fn component_offset(&self, components: &[RecordComponent], name: &Text) -> Option<u16>
+        ensures { result ≡ option_map capped (component_offset self.now components.now name.now) }
+    {
+        let mut words = 0;
+        for component in components {
+            if component.name.as_bytes() == name.as_bytes() {
+                return Some(words);
+            }
+            words = capped_sum(words, self.words(component.subtype));
+        }
+        None
+    }
+
+    /// The words of the components of a record, or `MORE_WORDS`.
+    fn components_words(&self, components: &[RecordComponent]) -> u16
+        ensures { result ≡ capped (components_words self.now components.now) }
+    {
+        let mut words = 0;
+        for component in components {
+            words = capped_sum(words, self.words(component.subtype));
+        }
+        words
+    }
+
+    /// The words of an object of the type that this is, or `MORE_WORDS`; 0 where it is none.
+    fn entity_words(&self, entity: &Entity) -> u16
+        ensures { result ≡ capped (entity_words self.now (entity_value entity.now)) }
+    {
+        match entity {
+            Entity::Type(TypeForm::Array(_, length, element), _) => {
+                capped_product(*length, self.words(*element))
+            }
+            Entity::Type(TypeForm::Record(components), _) => self.components_words(components),
+            Entity::Type(_, _) => 1,
+            _ => 0,
+        }
+    }
+
+    /// Adds a name, unless one like it is visible: the first keeps the name. Memory is the only refusal, and leaves the scope as it was.
+    pub fn add(&mut self, name: Text, entity: Entity) -> Result<(), AllocError>
+        ensures ok { OnOk result (self.new ≡ with_name self.old name (entity_value entity)) }
+        ensures err { OnErr result (self.new ≡ self.old) }
+    {
+        if self.number_of(&name).is_some() {
+            return Ok(());
+        }
+        let words = self.entity_words(&entity);
+        self.names.insert(name, Declared { entity, words })?;
+        Ok(())
+    }
+
+    /// Drops all names but the first `len`, as at the end of a body.
+    pub fn truncate(&mut self, len: usize)
+        ensures { self.new ≡ take len self.old }
+    {
+        self.names.truncate(len);
+    }
+}
