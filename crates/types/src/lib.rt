@@ -1,4 +1,4 @@
-// What names, types and values are, and which value an expression has (docs/LANGUAGE.md, "Names and types").
+//! What names, types and values are, and which value an expression has (docs/LANGUAGE.md, "Names, types and values").
 #![tactic(auto)]
 
 mod entity;
