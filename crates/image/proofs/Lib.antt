@@ -20,6 +20,9 @@ mod RowTables
 mod Runs
 mod Shapes
 mod Spelled
+mod SpelledImage
+mod SpelledRows
+mod SpelledWhole
 mod StepLinks
 mod Today
 mod WellFormed
