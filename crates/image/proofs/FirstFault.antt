@@ -1,6 +1,6 @@
 -- The first fault of joined lists.
 use Rattle.std.proofs.Common.{◌≡◌, suc, ◌+◌, ◌⊎◌, inl, inr, length, drop, ◌<◌, ◌≤◌, ℕ, List, [], ◌∷◌, ◌++◌, Option, Some, None, Bool, true, false, refl, sym, ap, ◌∙◌, arith}
-use Rattle.std.specs.Prelude.{nat_lt, cond}
+use Rattle.std.specs.Prelude.{nat_lt, cond, zero}
 use Rattle.std.specs.Prelude.{get_or}
 use Rattle.std.specs.List.{Contains}
 use Rattle.std.proofs.lemmas.List.{at_drop_more}
@@ -120,3 +120,34 @@ three x y z a b c p q r =
 
 pub two : (x y : Option ImageFault) (a b : Faults) → x ≡ first_of a → y ≡ first_of b → sooner x y ≡ first_of (a ++ b)
 two x y a b p q = ap (λ w. sooner w y) p ∙ (ap (sooner (first_of a)) q ∙ sym (first_append a b))
+
+-- none comes before the first
+
+same_order : (a f : ImageFault) → Some f ≡ Some a → order_of f ≡ order_of a
+same_order a f h = ap order_of (sym (some_same a f h))
+
+sooner_left : (b : Option ImageFault) (a f : ImageFault) → Some f ≡ sooner (Some a) b → order_of f ≤ order_of a
+sooner_left None a f h = let e = same_order a f h in omega (arith, e)
+sooner_left (Some b) a f h = left_by (nat_lt (order_of b) (order_of a)) refl h
+  where
+    left_by : (u : Bool) → nat_lt (order_of b) (order_of a) ≡ u → Some f ≡ cond u (Some b) (Some a) → order_of f ≤ order_of a
+    left_by true q e = let same = same_order b f e in grind (arith, q, same)
+    left_by false q e = let same = same_order a f e in omega (arith, same)
+
+sooner_right : (b a f : ImageFault) → Some f ≡ sooner (Some a) (Some b) → order_of f ≤ order_of b
+sooner_right b a f h = right_by (nat_lt (order_of b) (order_of a)) refl h
+  where
+    right_by : (u : Bool) → nat_lt (order_of b) (order_of a) ≡ u → Some f ≡ cond u (Some b) (Some a) → order_of f ≤ order_of b
+    right_by true q e = let same = same_order b f e in omega (arith, same)
+    right_by false q e = let same = same_order a f e in grind (arith, q, same)
+
+first_of_rest : (x : ImageFault) (xs : Faults) (f : ImageFault) (b : Option ImageFault) → b ≡ first_of xs → Some f ≡ sooner (Some x) b → (g : ImageFault) (i : ℕ) → i < length xs → ((b : ImageFault) → Some b ≡ first_of xs → order_of b ≤ order_of g) → order_of f ≤ order_of g
+first_of_rest x xs f None e h g i less again = let none = ap length (none_first xs e) in absurd (grind (arith, none, less))
+first_of_rest x xs f (Some b) e h g i less again = let rest = again b e in let first = sooner_right b x f h in omega (arith, rest, first)
+
+pub first_of_all : (fs : Faults) (f : ImageFault) → Some f ≡ first_of fs → (g : ImageFault) (i : ℕ) → i < length fs → get_or fs i g ≡ g → order_of f ≤ order_of g
+first_of_all [] f h g i less is = cc
+first_of_all (x ∷ xs) f h g zero less is = let a = sooner_left (first_of xs) x f h in let e = ap order_of is in omega (arith, a, e)
+first_of_all (x ∷ xs) f h g (suc i) less is =
+    let less_rest : i < length xs = grind (arith, less) in
+    first_of_rest x xs f (first_of xs) refl h g i less_rest (λ b e. first_of_all xs b e g i less_rest is)

@@ -22,6 +22,9 @@ mod RowTables
 mod Runs
 mod Shapes
 mod Spelled
+mod SpelledImage
+mod SpelledRows
+mod SpelledWhole
 mod StepLinks
 mod Today
 mod WellFormed

@@ -11,8 +11,11 @@ use Rattle.image.specs.Refusals.{Breaks, Refuses}
 use Rattle.image.specs.Rules.{IsWellFormed}
 use Rattle.image.specs.Sections.{Sections}
 use Rattle.image.specs.declared.fault.ImageFault.{ImageFault}
+use Rattle.image.specs.Bytes.{bytes_of}
 use Rattle.image.proofs.AcceptedCode.{accepted}
 use Rattle.image.proofs.FirstFault.{none_first}
+use Rattle.image.proofs.Spelled.{IsBytes}
+use Rattle.image.proofs.SpelledWhole.{spelled}
 
 pub faultless : (raw : Raw) (parts : Sections) (fault : Option ImageFault) → parts ≡ sections_of raw → fault ≡ first_of (faults_as raw parts) → fault ≡ None → sections_faults raw ≡ []
 faultless raw parts fault same is none = none_first (sections_faults raw) (sym none ∙ (is ∙ ap (λ i. first_of (faults_as raw i)) same))
@@ -26,6 +29,10 @@ loaded bytes raw parts (Ok image) is same none h =
       read = is.read;
       same = h ∙ same;
     }
+
+pub same_bytes : {E : Type 0} (bytes : List ℕ) (raw : Raw) (parts : Sections) (r : Result Sections E) → IsBytes bytes → IsRead bytes raw → parts ≡ sections_of raw → sections_faults raw ≡ [] → IfOk r (λ image. image ≡ parts) → IfOk r (λ image. bytes_of image ≡ bytes)
+same_bytes bytes raw parts (Err e) fits is same none h = tt
+same_bytes bytes raw parts (Ok image) fits is same none h = ap bytes_of (h ∙ same) ∙ spelled bytes raw fits is.header is.read none
 
 never : {X : Type 0} (i : Sections) → IsWellFormed i → (n : ℕ) → Breaks i n → X
 never i w n b =

@@ -1,8 +1,10 @@
 -- What loading an image from bytes promises.
-use Rattle.std.specs.Prelude.{◌≡◌, ◌⊎◌, ℕ, List, [], Some}
+use Rattle.std.specs.Prelude.{◌≡◌, ◌≤◌, ◌⊎◌, ℕ, List, [], Some}
+use Rattle.std.specs.List.{Contains}
 use Rattle.image.specs.Decoding.{sections_of}
 use Rattle.image.specs.Faults.{memory_fault}
-use Rattle.image.specs.Loading.{header_faults, image_fault, image_faults}
+use Rattle.image.specs.FaultOrder.{order_of}
+use Rattle.image.specs.Loading.{IsBroken, header_faults, image_fault, image_faults}
 use Rattle.image.specs.Reading.{Raw, read_image}
 use Rattle.image.specs.Sections.{Sections}
 use Rattle.image.specs.declared.fault.ImageFault.{ImageFault}
@@ -22,3 +24,11 @@ pub record IsLoaded (bytes : List ℕ) (i : Sections) : Type 0 where
 -- memory was refused, or this is the first of the faults of these bytes
 abbrev pub IsRefused : List ℕ → ImageFault → Type 0
 IsRefused bytes fault = (fault ≡ memory_fault) ⊎ (image_fault bytes ≡ Some fault)
+
+-- the fault that is named is a broken rule, and none that is broken comes before it
+pub record IsFirstBroken (bytes : List ℕ) (f : ImageFault) : Type 0 where
+  pub broken : IsBroken f.number f.byte bytes
+  pub least : (g : ImageFault) → Contains (image_faults bytes) g → order_of f ≤ order_of g
+
+abbrev pub NamesFirst : Type 0
+NamesFirst = (bytes : List ℕ) (f : ImageFault) → image_fault bytes ≡ Some f → IsFirstBroken bytes f

@@ -1,6 +1,7 @@
 //! Loads images from bytes with full checks (docs/FORMATS.md, "Well-formed images").
 ghost use Rattle.std.specs.Prelude.{◌≡◌, ◌++◌, [], if◌then◌else◌, IfErr, IfOk};
 ghost use Rattle.image.specs.Loaded.{IsLoaded, IsRead, IsRefused};
+ghost use Rattle.image.specs.Bytes.{bytes_of};
 ghost use Rattle.image.specs.FaultOrder.{first_of};
 ghost use Rattle.image.specs.Loading.{agrees, behind_object, behind_row, behind_task, code_part_faults, code_start, each, faults_as, head_faults, header_faults, instruction_faults, labels_start, object_faults, objects_start, place_faults, row_faults, rows_start, subprogram_faults, subprograms_start, table_faults, task_faults, tasks_start, text_faults, word_faults, words_start};
 ghost use Rattle.image.specs.Rules.{has_ends};
@@ -241,6 +242,7 @@ fn read_whole(alloc: Global, bytes: &[u8]) -> Result<RawSections, ImageFault>
 /// The first of the rules 40 to 47 that is broken, at its byte: 40, 41, 42, then the least byte among 43 to 47, then the least number;
 /// 60, at byte 0, where memory was refused.
 pub fn load(alloc: Global, bytes: &[u8]) -> Result<Image, ImageFault>
+    ensures bytes { IfOk result (λ image. bytes_of image ≡ bytes.now) }
     ensures loaded { IfOk result (λ image. IsLoaded bytes.now image) }
     ensures refused { IfErr result (λ fault. IsRefused bytes.now fault) }
 {
