@@ -10,6 +10,8 @@ mod images;
 #[cfg(test)]
 mod memory;
 #[cfg(test)]
+mod names;
+#[cfg(test)]
 mod rows;
 #[cfg(test)]
 mod spelling;
