@@ -1,5 +1,5 @@
 //! Images through `Image::build`: some that are built, one of them not run today, and some that break one rule.
-use image::{Image, Instr, Kind, Operation, Parts, Region, Subprogram, Task, Text};
+use image::{Image, Instr, Kind, Operation, Parts, Region, Subprogram, Task, Text, list};
 use machine::{Machine, RunFault, Schedule};
 use std::alloc::Global;
 use std::test::Fail;
@@ -139,5 +139,17 @@ fn builds_what_the_machine_does_not_run(rt: HostRuntime) -> Result<(), Fail> {
         let refused = matches!(started, Err(RunFault::Unsupported));
         assert_eq!(rt; refused, !runs);
     }
+    Ok(())
+}
+
+#[test]
+fn lists_what_was_built(rt: HostRuntime) -> Result<(), Fail> {
+    let alloc = rt.alloc();
+    let image = built(alloc, &[main_body(1)], &[RETURN])?.expect(&rt, "an image");
+    let listing = list(alloc, &image).expect(&rt, "a listing");
+    assert_eq!(rt;
+        listing.as_str(),
+        "exception 1 CONSTRAINT_ERROR\nexception 2 PROGRAM_ERROR\nexception 3 STORAGE_ERROR\nexception 4 TASKING_ERROR\ntask MAIN priority 15 sub 0\nsub 0 kind 4 object - params 0 results 0 locals 0 stack 0\n    0 RET 0 0 0\n"
+    );
     Ok(())
 }

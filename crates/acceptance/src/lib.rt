@@ -13,3 +13,5 @@ mod memory;
 mod rows;
 #[cfg(test)]
 mod spelling;
+#[cfg(test)]
+mod tables;

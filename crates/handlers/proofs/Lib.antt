@@ -3,3 +3,4 @@ mod Examples
 mod Found
 mod Joined
 mod Regions
+mod Swept

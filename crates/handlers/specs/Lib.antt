@@ -3,3 +3,4 @@ pub mod Handlers
 pub mod Innermost
 pub mod Laws
 pub mod Nesting
+pub mod Sweeping

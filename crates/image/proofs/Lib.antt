@@ -11,6 +11,8 @@ mod Links
 mod FirstFault
 mod LoadedImage
 mod LoadingExamples
+mod Listed
+mod ListingExamples
 mod ObjectExamples
 mod Opcodes
 mod Placed

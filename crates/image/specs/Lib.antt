@@ -8,6 +8,7 @@ pub mod Laws
 pub mod Linked
 pub mod Loaded
 pub mod Loading
+pub mod Listing
 pub mod ObjectTable
 pub mod Operations
 pub mod RawRows
