@@ -1,7 +1,9 @@
 //! Images through `Image::build`: some that are built, one of them not run today, and some that break one rule.
-use image::{Image, Instr, Kind, Operation, Parts, Region, Subprogram, Task, Text, list};
+use image::{
+    Image, Instr, Kind, Operation, Parts, Region, Subprogram, Task, Text, encode, list, load,
+};
 use machine::{Machine, RunFault, Schedule};
-use std::alloc::Global;
+use std::alloc::{AllocError, Global};
 use std::test::Fail;
 
 const PUSH: Instr = Instr {
@@ -151,5 +153,95 @@ fn lists_what_was_built(rt: HostRuntime) -> Result<(), Fail> {
         listing.as_str(),
         "exception 1 CONSTRAINT_ERROR\nexception 2 PROGRAM_ERROR\nexception 3 STORAGE_ERROR\nexception 4 TASKING_ERROR\ntask MAIN priority 15 sub 0\nsub 0 kind 4 object - params 0 results 0 locals 0 stack 0\n    0 RET 0 0 0\n"
     );
+    Ok(())
+}
+
+// A single return, in the sections of docs/FORMATS.md: header, names, subprogram, task, instruction.
+const RETURN_ALONE: [&[u8]; 5] = [
+    b"ARVN\x00\x01\x00\x01\x00\x01\x00\x00\x00\x01\x00\x04\x00\x00\x00\x00\x00\x00",
+    b"\x10CONSTRAINT_ERROR\x0dPROGRAM_ERROR\x0dSTORAGE_ERROR\x0dTASKING_ERROR",
+    b"\x04\xff\xff\x00\x01\x00\x00\x00\x00\x00\x00\x00\x00",
+    b"\x04MAIN\x0f\x00\x00",
+    b"(\x00\x00\x00\x00\x00\x00\x00\x00\x00\x00\x00\x00",
+];
+
+// A line `x 1000` and a return.
+const THOUSAND: [&[u8]; 7] = [
+    b"ARVN\x00\x01\x00\x03\x00\x01\x00\x00\x00\x01\x00\x04\x00\x00\x00\x01\x00\x00",
+    b"\x10CONSTRAINT_ERROR\x0dPROGRAM_ERROR\x0dSTORAGE_ERROR\x0dTASKING_ERROR\x01x",
+    b"\x04\xff\xff\x00\x03\x00\x00\x00\x00\x00\x00\x00\x01",
+    b"\x04MAIN\x0f\x00\x00",
+    b"\x01\x00\x00\x00\x00\x00\x00\x00\x00\x00\x00\x03\xe8",
+    b",\x00\x01\x00\x00\x00\x00\x00\x00\x00\x00\x00\x00",
+    b"(\x00\x00\x00\x00\x00\x00\x00\x00\x00\x00\x00\x00",
+];
+
+fn joined(alloc: Global, parts: &[&[u8]]) -> Result<Vec<u8>, AllocError> {
+    let mut bytes = Vec::new(alloc);
+    for part in parts {
+        bytes.extend_from_slice(part)?;
+    }
+    Ok(bytes)
+}
+
+// The number and the byte of the fault that bytes are refused with, 0 and 0 where they are loaded and come back.
+fn refusal(alloc: Global, bytes: &[u8]) -> (u8, u32) {
+    match load(alloc, bytes) {
+        Err(fault) => (fault.number, fault.byte),
+        Ok(image) => match encode(alloc, &image) {
+            Ok(again) if again.as_slice() == bytes => (0, 0),
+            _ => (255, 0),
+        },
+    }
+}
+
+#[test]
+fn images_come_back_from_their_bytes(rt: HostRuntime) -> Result<(), Fail> {
+    let first = joined(rt.alloc(), &RETURN_ALONE)?;
+    assert_eq!(rt; first.len(), 115);
+    assert_eq!(rt; refusal(rt.alloc(), &first), (0, 0));
+    let mut second = joined(rt.alloc(), &THOUSAND)?;
+    assert_eq!(rt; second.len(), 143);
+    assert_eq!(rt; refusal(rt.alloc(), &second), (0, 0));
+    second.push(0)?;
+    assert_eq!(rt; refusal(rt.alloc(), &second), (42, 143));
+    Ok(())
+}
+
+// The first bytes, so many of them.
+fn beginning(alloc: Global, bytes: &[u8], length: usize) -> Result<Vec<u8>, AllocError> {
+    bytes.iter().copied().take(length).collect(alloc)
+}
+
+// The bytes with another one at a place.
+fn changed(alloc: Global, bytes: &[u8], at: usize, value: u8) -> Result<Vec<u8>, AllocError> {
+    let mut all = Vec::new(alloc);
+    for (number, byte) in bytes.iter().enumerate() {
+        all.push(if number == at { value } else { *byte })?;
+    }
+    Ok(all)
+}
+
+#[test]
+fn each_beginning_is_too_short(rt: HostRuntime) -> Result<(), Fail> {
+    let bytes = joined(rt.alloc(), &THOUSAND)?;
+    for length in 0..143usize {
+        let front = beginning(rt.alloc(), &bytes, length)?;
+        assert_eq!(rt; refusal(rt.alloc(), &front), (41, length as u32));
+    }
+    Ok(())
+}
+
+#[test]
+fn each_byte_counts(rt: HostRuntime) -> Result<(), Fail> {
+    let bytes = joined(rt.alloc(), &THOUSAND)?;
+    for at in 0..143usize {
+        for value in 0..=255u8 {
+            let other = changed(rt.alloc(), &bytes, at, value)?;
+            assert!(rt; refusal(rt.alloc(), &other).0 != 255);
+        }
+    }
+    let other = changed(rt.alloc(), &bytes, 0, 0)?;
+    assert_eq!(rt; refusal(rt.alloc(), &other), (40, 0));
     Ok(())
 }
