@@ -8,5 +8,5 @@ mod program;
 
 pub use compilation::compile;
 pub use execution::{GoFault, go};
-pub use files::{FileStore, ReadError};
+pub use files::{FileStore, ReadError, WriteError};
 pub use program::{Status, drive};
