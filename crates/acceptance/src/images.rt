@@ -1,7 +1,6 @@
 //! Images through `Image::build`: some that are built, one of them not run today, and some that break one rule.
-use image::{
-    Image, Instr, Kind, Operation, Parts, Region, Subprogram, Task, Text, encode, list, load,
-};
+use image::{Image, Instr, Kind, Operation, Parts, Region, Subprogram, Task, Text};
+use image_format::{encode, list, load};
 use machine::{Machine, RunFault, Schedule};
 use std::alloc::{AllocError, Global};
 use std::test::Fail;
