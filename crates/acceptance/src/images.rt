@@ -1,8 +1,7 @@
 //! Images through `Image::build`: some that are built, one of them not run today, and some that break one rule.
 use clock::Schedule;
-use image::{
-    Image, Instr, Kind, Operation, Parts, Region, Subprogram, Task, Text, encode, list, load,
-};
+use image::{Image, Instr, Kind, Operation, Parts, Region, Subprogram, Task, Text};
+use image_format::{encode, list, load};
 use machine::{Machine, RunFault};
 use std::alloc::{AllocError, Global};
 use std::test::Fail;

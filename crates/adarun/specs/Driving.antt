@@ -6,11 +6,11 @@ use Rattle.base.specs.declared.schedule.ScheduleLine.{ScheduleLine}
 use Rattle.clock.specs.Schedules as schedules
 use Rattle.clock.specs.declared.schedule.ScheduleFault.{ScheduleFault}
 use Rattle.lexer.specs.declared.fault.Fault.{Fault}
-use Rattle.image.specs.Bytes.{bytes_of}
+use Rattle.image_format.specs.Bytes.{bytes_of}
 use Rattle.image.specs.Code.{code, code_text}
-use Rattle.image.specs.Listing.{listing_of}
-use Rattle.image.specs.Loaded.{IsLoaded}
-use Rattle.image.specs.Loading.{image_fault}
+use Rattle.image_format.specs.Listing.{listing_of}
+use Rattle.image_format.specs.Loaded.{IsLoaded}
+use Rattle.image_format.specs.Loading.{image_fault}
 use Rattle.image.specs.Sections.{Sections}
 use Rattle.image.specs.Taken.{is_taken}
 use Rattle.image.specs.declared.fault.ImageFault as refused

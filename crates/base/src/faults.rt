@@ -22,6 +22,12 @@ pub const NOT_STATIC: u8 = 14;
 pub const WRONG_STATIC_VALUE: u8 = 15;
 /// The code of a program passes a limit of images.
 pub const CODE_TOO_LARGE: u8 = 23;
+/// An image: the magic or the version is another one.
+pub const WRONG_HEADER: u8 = 40;
+/// An image: a section ends early.
+pub const SECTION_CUT_SHORT: u8 = 41;
+/// An image: bytes follow the last section.
+pub const STRAY_BYTES: u8 = 42;
 /// An image: the operands of an instruction are out of range by themselves.
 pub const OPERAND_OUT_OF_RANGE: u8 = 43;
 /// An image: a jump, a subprogram's end or a handler leaves its subprogram.

@@ -1,6 +1,6 @@
 use Rattle.std.proofs.Common.{inr, refl, subst}
 use Rattle.clock.specs.Schedules.{IsScheduleText}
-use Rattle.image.specs.Loaded.{IsLoaded}
+use Rattle.image_format.specs.Loaded.{IsLoaded}
 use Rattle.adarun.proofs.Driving.{image_run_leaves}
 use Rattle.adarun.proofs.program.drive_run.Goals as goal
 

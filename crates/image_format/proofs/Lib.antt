@@ -1,0 +1,20 @@
+mod Accepted
+mod AcceptedCode
+mod AcceptedSections
+mod AcceptedTables
+mod BytesExamples
+mod Crossings
+mod FirstFault
+mod Images
+mod Listed
+mod ListingExamples
+mod LoadedImage
+mod LoadingExamples
+mod Opcodes
+mod ReadLoop
+mod Rules
+mod Spelled
+mod SpelledImage
+mod SpelledRows
+mod SpelledWhole
+pub mod Written
