@@ -1,0 +1,5 @@
+mod Least
+mod Loops
+mod Chains
+mod Unbroken
+mod Times
