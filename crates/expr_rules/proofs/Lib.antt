@@ -3,3 +3,4 @@ mod Loops
 mod Chains
 mod Unbroken
 mod Times
+mod Examples
