@@ -1,0 +1,6 @@
+mod Least
+mod Loops
+mod Chains
+mod Unbroken
+mod Times
+mod Examples
