@@ -3,6 +3,9 @@
 
 mod list_ready;
 mod ready;
+mod ring;
+mod ring_ready;
 
 pub use list_ready::ListReady;
 pub use ready::Ready;
+pub use ring_ready::RingReady;
