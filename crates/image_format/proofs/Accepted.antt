@@ -94,7 +94,7 @@ swapped false false true false = refl
 swapped false false false true = refl
 swapped false false false false = refl
 
-nested_either_way : (r q : Row) → are_nested r q ≡ are_nested q r
+pub nested_either_way : (r q : Row) → are_nested r q ≡ are_nested q r
 nested_either_way r q = swapped (nat_le r.start q.start && nat_le q.end_ r.end_) (nat_le q.start r.start && nat_le r.end_ q.end_) (nat_le r.end_ q.start) (nat_le q.end_ r.start)
 
 pub nested_from : (rows : List Row) → ((k : ℕ) (row : Row) → slice_get rows k ≡ Some row → list_all (are_nested row) (take k rows) ≡ true) → all_nested rows ≡ true

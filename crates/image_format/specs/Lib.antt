@@ -4,6 +4,7 @@ pub mod FaultOrder
 pub mod Listing
 pub mod Loaded
 pub mod Loading
+pub mod NumberRanges
 pub mod RawRows
 pub mod ReadResults
 pub mod Reading

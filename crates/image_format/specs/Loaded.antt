@@ -32,3 +32,9 @@ pub record IsFirstBroken (bytes : List ℕ) (f : ImageFault) : Type 0 where
 
 abbrev pub NamesFirst : Type 0
 NamesFirst = (bytes : List ℕ) (f : ImageFault) → image_fault bytes ≡ Some f → IsFirstBroken bytes f
+
+-- bytes of which loading gives this image and no other, unless memory was refused
+pub record ComesFrom (bytes : List ℕ) (i : Sections) : Type 0 where
+  pub loaded : IsLoaded bytes i
+  pub only : (other : Sections) → IsLoaded bytes other → other ≡ i
+  pub refused : (fault : ImageFault) → IsRefused bytes fault → fault ≡ memory_fault

@@ -8,6 +8,7 @@ mod fault_order;
 pub mod laws;
 mod listing;
 mod loading;
+mod number_ranges;
 mod raw_sections;
 mod reading;
 mod table_faults;
