@@ -1,3 +1,7 @@
 mod Numbers
 mod Lines
 mod Examples
+mod Heaps
+mod Adding
+mod Waking
+mod HeapExamples

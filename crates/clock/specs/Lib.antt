@@ -2,3 +2,4 @@ pub mod Texts
 pub mod Schedules
 pub mod Capped
 pub mod Sleepers
+pub mod Heaps

@@ -3,11 +3,14 @@
 
 mod delays;
 mod faults;
+mod heap;
+mod heap_delays;
 mod list_delays;
 mod reading;
 mod schedule;
 
 pub use base::ScheduleLine;
 pub use delays::{Delays, Sleeper};
+pub use heap_delays::HeapDelays;
 pub use list_delays::ListDelays;
 pub use schedule::{Schedule, ScheduleFault};

@@ -1,0 +1,146 @@
+//! Sleeping tasks in a heap.
+ghost use Rattle.std.specs.Prelude.{◌≡◌, ◌<◌, ◌≤◌, ◌-◌, ◌^◌, [], filter, length, map, not};
+ghost use Rattle.clock.specs.Heaps.{AreDistinct, AreNumbered, IsWithin, by_number, is_due_entry, sleepers_of};
+ghost use Rattle.base.specs.declared.limits.TheConstants.{TASKS};
+
+use crate::delays::Delays;
+use crate::heap::{Entry, Heap};
+use arrayvec::ArrayVec;
+use base::limits::TASKS;
+use std::marker::Model;
+
+/// A binary heap, by wake time and then by the number of adding. Where that number would pass the greatest value of 64 bits, the
+/// sleepers are numbered anew from 0 in their order.
+#[derive(Drop)]
+pub struct HeapDelays {
+    heap: Heap,
+    next_number: u64,
+}
+
+impl Model for HeapDelays {
+    ghost use Rattle.std.specs.Prelude.{List, ◌≤◌, length};
+    ghost use Rattle.base.specs.declared.limits.TheConstants.{TASKS};
+    ghost use Rattle.clock.specs.declared.delays.Sleeper.{Sleeper as Row};
+    ghost use Rattle.clock.specs.Heaps.{AreNumbered, sleepers_of};
+
+    ghost Value = { List Row };
+
+    ghost view = { λ d. sleepers_of d.heap };
+
+    ghost invariant = { λ d. (length d.heap ≤ TASKS) × AreNumbered d.next_number d.heap };
+}
+
+impl Delays for HeapDelays {
+    ghost sleepers = { λ d. d };
+
+    fn new() -> Self {
+        HeapDelays::numbered_from(0)
+    }
+
+    fn add(&mut self, task: u8, wake: i64) {
+        let number = next_free(&mut self.heap, self.next_number);
+        self.heap.push(Entry { wake, number, task });
+        self.next_number = number + 1;
+    }
+
+    fn next_time(&self) -> Option<i64> {
+        let first = self.heap.first()?;
+        Some(first.wake)
+    }
+
+    fn expire(&mut self, now: i64) -> ArrayVec<u8, TASKS> {
+        let mut tasks = ArrayVec::new();
+        for entry in take_due(&mut self.heap, now).as_slice() {
+            tasks.push(entry.task);
+        }
+        tasks
+    }
+}
+
+impl HeapDelays {
+    /// Nobody sleeps. The first task that is added gets this number.
+    pub fn numbered_from(number: u64) -> HeapDelays
+        ensures { result ≡ [] }
+    {
+        HeapDelays {
+            heap: Heap::new(),
+            next_number: number,
+        }
+    }
+}
+
+// The number of one more: the next one, or where that is the greatest value, the one behind those that all get anew.
+fn next_free(heap: &mut Heap, next: u64) -> u64
+    requires short { length heap.old ≤ TASKS }
+    requires numbered { AreNumbered next heap.old }
+    ensures same { sleepers_of heap.new ≡ sleepers_of heap.old }
+    ensures long { length heap.new ≡ length heap.old }
+    ensures numbered { AreNumbered result heap.new }
+    ensures less { result < 2 ^ 64 - 1 }
+{
+    if next == u64::MAX {
+        number_anew(heap)
+    } else {
+        next
+    }
+}
+
+// Numbers all from 0 in the order of their adding, and returns the next number.
+fn number_anew(heap: &mut Heap) -> u64
+    requires short { length heap.old ≤ TASKS }
+    requires distinct { AreDistinct heap.old }
+    ensures same { sleepers_of heap.new ≡ sleepers_of heap.old }
+    ensures long { length heap.new ≡ length heap.old }
+    ensures numbered { AreNumbered result heap.new }
+    ensures few { result ≤ TASKS }
+{
+    let mut number = 0;
+    let entries = take_all(heap);
+    for entry in entries.as_slice() {
+        heap.push(Entry { number, ..*entry });
+        number += 1;
+    }
+    number
+}
+
+// Takes all out, in the order of their adding.
+fn take_all(heap: &mut Heap) -> ArrayVec<Entry, TASKS>
+    requires short { length heap.old ≤ TASKS }
+    requires distinct { AreDistinct heap.old }
+    ensures taken { result.items ≡ by_number heap.old }
+    ensures none { heap.new ≡ [] }
+{
+    let mut entries = ArrayVec::new();
+    while let Some(entry) = heap.pop() {
+        entries.push(entry);
+    }
+    sort(entries.as_mut_slice());
+    entries
+}
+
+// Takes out those that wait for a time or an earlier one, in the order of their adding.
+fn take_due(heap: &mut Heap, now: i64) -> ArrayVec<Entry, TASKS>
+    requires short { length heap.old ≤ TASKS }
+    requires distinct { AreDistinct heap.old }
+    ensures due { result.items ≡ filter (is_due_entry now) (by_number heap.old) }
+    ensures waiting { by_number heap.new ≡ filter (λ e. not (is_due_entry now e)) (by_number heap.old) }
+    ensures distinct { AreDistinct heap.new }
+    ensures within { IsWithin heap.new heap.old }
+    ensures long { length heap.new ≤ length heap.old }
+{
+    let mut due = ArrayVec::new();
+    while let Some(entry) = heap.pop_due(now) {
+        due.push(entry);
+    }
+    sort(due.as_mut_slice());
+    due
+}
+
+// Puts entries into the order of their adding.
+fn sort(entries: &mut [Entry])
+    requires { AreDistinct entries.old }
+    ensures order { entries.new ≡ by_number entries.old }
+    ensures long { length entries.new ≡ length entries.old }
+{
+    entries.sort_unstable_by_key(|entry| entry.number);
+}
