@@ -4,6 +4,8 @@
 ghost use Rattle.std.specs.Prelude.{◌≡◌};
 
 #[cfg(test)]
+mod expressions;
+#[cfg(test)]
 mod grammar;
 #[cfg(test)]
 mod images;
