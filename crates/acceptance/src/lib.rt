@@ -6,6 +6,8 @@ ghost use Rattle.std.specs.Prelude.{◌≡◌};
 #[cfg(test)]
 mod commands;
 #[cfg(test)]
+mod expressions;
+#[cfg(test)]
 mod grammar;
 #[cfg(test)]
 mod images;

@@ -165,7 +165,6 @@ time_has_number_10 = refl
 small_has_number_17 : number_of package_scope (codes "SMALL") ≡ Some 17
 small_has_number_17 = refl
 
-
 -- ---- nothing is broken
 
 -- `V (V'First) + F (V (Idx (1)))`

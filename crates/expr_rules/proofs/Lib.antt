@@ -4,3 +4,5 @@ mod Chains
 mod Unbroken
 mod Times
 mod Examples
+mod TypeShapes
+mod TypedLaw

@@ -9,3 +9,4 @@ pub mod NameRules
 pub mod ExpressionRules
 pub mod StaticRules
 pub mod Judging
+pub mod Laws

@@ -1,4 +1,5 @@
-//! The laws of lists of faults, each what a function without work ensures.
+//! The laws of lists of faults and of types, each what a function without work ensures.
+ghost use Rattle.expr_rules.specs.Laws.{TypedValues};
 ghost use Rattle.expr_rules.specs.Faults.{LeastByParts, LeastIsLeast, SoonerAssociates};
 
 /// The least of joined lists is the sooner of the least of each.
@@ -14,4 +15,9 @@ pub fn sooner_associates()
 /// Where there is no least fault nothing is broken; a least fault is broken, and none comes before it.
 pub fn least_is_least()
     ensures { LeastIsLeast }
+{}
+
+/// A legal expression has a type, and is worth a value of it or raises an exception, where each legal name is.
+pub fn typed_values()
+    ensures { TypedValues }
 {}
