@@ -4,6 +4,7 @@
 mod compilation;
 mod execution;
 mod files;
+pub mod laws;
 mod program;
 
 pub use compilation::compile;
