@@ -1,8 +1,8 @@
 //! Images through `Image::build`: some that are built, one of them not run today, and some that break one rule.
-use image::{
-    Image, Instr, Kind, Operation, Parts, Region, Subprogram, Task, Text, encode, list, load,
-};
-use machine::{Machine, RunFault, Schedule};
+use clock::Schedule;
+use image::{Image, Instr, Kind, Operation, Parts, Region, Subprogram, Task, Text};
+use image_format::{encode, list, load};
+use machine::{Machine, RunFault};
 use std::alloc::{AllocError, Global};
 use std::test::Fail;
 
@@ -157,7 +157,7 @@ fn lists_what_was_built(rt: HostRuntime) -> Result<(), Fail> {
 }
 
 // A single return, in the sections of docs/FORMATS.md: header, names, subprogram, task, instruction.
-const RETURN_ALONE: [&[u8]; 5] = [
+pub(crate) const RETURN_ALONE: [&[u8]; 5] = [
     b"ARVN\x00\x01\x00\x01\x00\x01\x00\x00\x00\x01\x00\x04\x00\x00\x00\x00\x00\x00",
     b"\x10CONSTRAINT_ERROR\x0dPROGRAM_ERROR\x0dSTORAGE_ERROR\x0dTASKING_ERROR",
     b"\x04\xff\xff\x00\x01\x00\x00\x00\x00\x00\x00\x00\x00",
@@ -166,7 +166,7 @@ const RETURN_ALONE: [&[u8]; 5] = [
 ];
 
 // A line `x 1000` and a return.
-const THOUSAND: [&[u8]; 7] = [
+pub(crate) const THOUSAND: [&[u8]; 7] = [
     b"ARVN\x00\x01\x00\x03\x00\x01\x00\x00\x00\x01\x00\x04\x00\x00\x00\x01\x00\x00",
     b"\x10CONSTRAINT_ERROR\x0dPROGRAM_ERROR\x0dSTORAGE_ERROR\x0dTASKING_ERROR\x01x",
     b"\x04\xff\xff\x00\x03\x00\x00\x00\x00\x00\x00\x00\x01",
@@ -176,7 +176,7 @@ const THOUSAND: [&[u8]; 7] = [
     b"(\x00\x00\x00\x00\x00\x00\x00\x00\x00\x00\x00\x00",
 ];
 
-fn joined(alloc: Global, parts: &[&[u8]]) -> Result<Vec<u8>, AllocError> {
+pub(crate) fn joined(alloc: Global, parts: &[&[u8]]) -> Result<Vec<u8>, AllocError> {
     let mut bytes = Vec::new(alloc);
     for part in parts {
         bytes.extend_from_slice(part)?;
@@ -209,7 +209,7 @@ fn images_come_back_from_their_bytes(rt: HostRuntime) -> Result<(), Fail> {
 }
 
 // The first bytes, so many of them.
-fn beginning(alloc: Global, bytes: &[u8], length: usize) -> Result<Vec<u8>, AllocError> {
+pub(crate) fn beginning(alloc: Global, bytes: &[u8], length: usize) -> Result<Vec<u8>, AllocError> {
     bytes.iter().copied().take(length).collect(alloc)
 }
 

@@ -4,6 +4,10 @@
 ghost use Rattle.std.specs.Prelude.{◌≡◌};
 
 #[cfg(test)]
+mod commands;
+#[cfg(test)]
+mod expressions;
+#[cfg(test)]
 mod grammar;
 #[cfg(test)]
 mod images;

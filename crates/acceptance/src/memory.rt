@@ -1,7 +1,7 @@
 //! Files and streams in memory, and one call of the program over them.
 ghost use Rattle.std.specs.Prelude.{◌≡◌, None};
 
-use adarun::{FileStore, ReadError, drive};
+use adarun::{FileStore, ReadError, WriteError, drive};
 use machine::{MemorySink, Plan};
 use std::alloc::{AllocError, Global};
 use std::marker::Brand;
@@ -10,10 +10,12 @@ use std::sync::ledger::{Blank, Ledger};
 /// A name with the content of the file.
 pub(crate) type Entry<'a> = (&'a str, &'a [u8]);
 
-/// Files by their names; a name that isn't there can't be read.
+/// Files by their names; a name that isn't there can't be read, and one that begins with '/' can't be written.
 #[derive(Drop)]
 pub(crate) struct Files<'a> {
-    pub(crate) entries: &'a [Entry<'a>],
+    alloc: Global,
+    entries: &'a [Entry<'a>],
+    written: Option<(String, Vec<u8>)>,
 }
 
 impl<'a> FileStore for Files<'a> {
@@ -27,12 +29,23 @@ impl<'a> FileStore for Files<'a> {
         }
         Err(ReadError::Unreadable)
     }
+
+    fn write(&mut self, name: &str, bytes: &[u8]) -> Result<(), WriteError> {
+        if name.starts_with('/') {
+            return Err(WriteError::Unwritable);
+        }
+        let name = String::from_str(self.alloc, name).map_err(|_| WriteError::Memory)?;
+        let bytes = bytes.to_vec(self.alloc).map_err(|_| WriteError::Memory)?;
+        self.written = Some((name, bytes));
+        Ok(())
+    }
 }
 
-/// What a call of the program left: its exit status, and the bytes of both streams.
+/// What a call of the program left: its exit status, the bytes of both streams, and the file that it wrote last.
 #[derive(Drop)]
 pub(crate) struct Left {
     pub(crate) status: u8,
+    pub(crate) written: Option<(String, Vec<u8>)>,
     pub(crate) out: Vec<u8>,
     pub(crate) err: Vec<u8>,
 }
@@ -64,9 +77,15 @@ fn call_over<L: Ledger, M: Ledger>(
 {
     let mut out = MemorySink::<L>::new(alloc, 65_536, plan, first)?;
     let mut err = MemorySink::<M>::new(alloc, 4_096, Plan::TakesAll, second)?;
-    let status = drive(alloc, words, &Files { entries }, &mut out, &mut err);
+    let mut files = Files {
+        alloc,
+        entries,
+        written: None,
+    };
+    let status = drive(alloc, words, &mut files, &mut out, &mut err);
     Ok(Left {
         status,
+        written: files.written.take(),
         out: out.bytes().to_vec(alloc)?,
         err: err.bytes().to_vec(alloc)?,
     })

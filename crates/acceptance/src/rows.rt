@@ -299,18 +299,26 @@ fn files_are_read_in_order(rt: HostRuntime) -> Result<(), Fail> {
 fn schedules_and_streams_are_checked(rt: HostRuntime) -> Result<(), Fail> {
     let alloc = rt.alloc();
     let source = source_of(alloc, SUMS)?;
-    let refused = Expected {
-        status: 7,
-        out: "",
-        err: "schedule fault 50 at line 1\n",
-    };
-    let case = Call {
-        words: &GO,
-        source: &source,
-        schedule: "0",
-        plan: Plan::TakesAll,
-    };
-    expect(&rt, alloc, &case, &refused)?;
+    let schedules = [
+        ("0", 7, "", "schedule fault 50 at line 1\n"),
+        ("0 1 5\n0 9 0\n", 7, "", "schedule fault 52 at line 2\n"),
+        ("7 1 5\n6 1 0\n", 7, "", "schedule fault 51 at line 2\n"),
+        (
+            "0 1 5\n7 8 -5\n",
+            0,
+            "0 MAIN a 14\n0 MAIN b 3\nended at 0\n",
+            "",
+        ),
+    ];
+    for (schedule, status, out, err) in schedules {
+        let case = Call {
+            words: &GO,
+            source: &source,
+            schedule,
+            plan: Plan::TakesAll,
+        };
+        expect(&rt, alloc, &case, &Expected { status, out, err })?;
+    }
     let plans = [
         (
             Plan::TakesOne,

@@ -14,7 +14,9 @@ use Rattle.image.specs.Frames.{Words, Frame, TaskState}
 use Rattle.image.specs.Steps.{act, behaviour, unwind, does, does_operation, does_instruction, gives, unary, binary}
 use Rattle.image.specs.declared.instruction.Operation.{Operation}
 use Rattle.image.specs.declared.instruction.Operation.TheVariants as op
-use Rattle.meaning.specs.Values.{Scalar, Evaluation, Gives, Raises, Meaningless, Whole, Truth, then, checked}
+use Rattle.types.specs.Values as values
+use Rattle.types.specs.Evaluations.{Gives, Raises, Meaningless, and_then, computed}
+use Rattle.meaning.specs.Values.{Evaluation}
 use Rattle.meaning.specs.SameMeaning.{frames_of}
 use Rattle.meaning.specs.MeetingLaws.{quiet_spends}
 use Rattle.ada_link.specs.Computing.{At, in_frame, placed, Computes}
@@ -34,7 +36,7 @@ module _ (quiet : QuietStays) (i : Sections) where
   one limit schedule k t m f fs place stack calm e =
       quiet_spends (behaviour i schedule) t frames_of limit quiet k calm (in_frame m f fs) (in_frame m (placed f place stack) fs) (ap (λ y. y.effect) e) (ap (λ y. y.solo) e) refl Done
 
-  pub computes_number : (from : ℕ) (v : ℤ) → At i from (op.Push v) → Computes i from (suc from) (Gives (Whole v))
+  pub computes_number : (from : ℕ) (v : ℤ) → At i from (op.Push v) → Computes i from (suc from) (Gives (values.Number v))
   computes_number from v here limit schedule k t m f fs calm at =
       let e : suc from - from ≡ 1 = omega arith in
       let next : f.place + 1 ≡ suc from = omega (arith, at) in
@@ -44,7 +46,7 @@ module _ (quiet : QuietStays) (i : Sections) where
 
   -- a value computed, and then what computes the rest from the frame with the value
   After : ℕ → ℕ → ℕ → ℤ → Evaluation → Type 0
-  After from mid to v (Gives (Whole w)) =
+  After from mid to v (Gives (values.Number w)) =
       (limit : TaskState → ℕ) (schedule : List ScheduleLine) (k : Kernel) (t : ℕ) (m : Words) (f : Frame) (fs : List Frame)
       → Calm k t
       → Spends (behaviour i schedule) t frames_of limit (suc (length fs)) (to - mid) k (in_frame m (placed f mid (v ∷ f.stack)) fs) k (in_frame m (placed f to (w ∷ f.stack)) fs)
@@ -55,12 +57,11 @@ module _ (quiet : QuietStays) (i : Sections) where
       × (suc n ≤ to - mid)
       × Spends (behaviour i schedule) t frames_of limit (suc (length fs)) n k (in_frame m (placed f mid (v ∷ f.stack)) fs) k (in_frame m (placed f place stack) fs)
       × (act i schedule k t (in_frame m (placed f place stack) fs) ≡ unwind i m x (placed f place stack) fs)
-  After from mid to v (Gives (Truth b)) = ⊥
-  After from mid to v Meaningless = ⊥
+  After from mid to v e = ⊥
 
-  after_value : (from mid to : ℕ) (v : ℤ) (e : Evaluation) → from ≤ mid → mid ≤ to → Computes i from mid (Gives (Whole v)) → After from mid to v e → Computes i from to e
+  after_value : (from mid to : ℕ) (v : ℤ) (e : Evaluation) → from ≤ mid → mid ≤ to → Computes i from mid (Gives (values.Number v)) → After from mid to v e → Computes i from to e
   unfolding After
-  after_value from mid to v (Gives (Whole w)) le up first rest =
+  after_value from mid to v (Gives (values.Number w)) le up first rest =
       λ limit schedule k t m f fs calm at.
       let e : (mid - from) + (to - mid) ≡ to - from = omega (arith, le, up) in
       subst (λ n. Spends (behaviour i schedule) t frames_of limit (suc (length fs)) n k (in_frame m f fs) k (in_frame m (placed f to (w ∷ f.stack)) fs)) e
@@ -75,8 +76,7 @@ module _ (quiet : QuietStays) (i : Sections) where
         spends_trans (behaviour i schedule) t frames_of limit r.0 k (in_frame m (placed f r.1 r.2) fs) (first limit schedule k t m f fs calm at) r.4,
         r.5,
       )
-  after_value from mid to v (Gives (Truth b)) le up first rest = absurd rest
-  after_value from mid to v Meaningless le up first rest = absurd rest
+  after_value from mid to v e le up first rest = absurd rest
 
   -- what raises, raises before what would follow
   raises_before : (from mid to x : ℕ) → mid ≤ to → Computes i from mid (Raises x) → Computes i from to (Raises x)
@@ -86,7 +86,7 @@ module _ (quiet : QuietStays) (i : Sections) where
   -- an operation on one operand
   unary_after : (from mid : ℕ) (o : Operation) (function : ℤ → Checked) (v : ℤ) → At i mid o
       → ((schedule : List ScheduleLine) (k : Kernel) (t : ℕ) (m : Words) (f : Frame) (fs : List Frame) → does_operation i schedule k t m f fs o ≡ unary i schedule k t m f fs function)
-      → (result : Checked) → function v ≡ result → After from mid (suc mid) v (checked result)
+      → (result : Checked) → function v ≡ result → After from mid (suc mid) v (computed result)
   unfolding After
   unary_after from mid o function v here is (Ok w) e =
       λ limit schedule k t m f fs calm.
@@ -101,20 +101,19 @@ module _ (quiet : QuietStays) (i : Sections) where
       let g = placed f mid (v ∷ f.stack) in
       (0, mid, v ∷ f.stack, omega arith, Done, acts i mid o here schedule k t m g fs refl ∙ is schedule k t m g fs ∙ ap (λ r. gives i schedule k t m g fs r f.stack) e)
 
-  pub computes_unary : (from mid : ℕ) (o : Operation) (function : ℤ → Checked) (operator : Scalar → Evaluation) (e : Evaluation) → from ≤ mid → Computes i from mid e → At i mid o
+  pub computes_unary : (from mid : ℕ) (o : Operation) (function : ℤ → Checked) (operator : values.Value → Evaluation) (e : Evaluation) → from ≤ mid → Computes i from mid e → At i mid o
       → ((schedule : List ScheduleLine) (k : Kernel) (t : ℕ) (m : Words) (f : Frame) (fs : List Frame) → does_operation i schedule k t m f fs o ≡ unary i schedule k t m f fs function)
-      → ((v : ℤ) → operator (Whole v) ≡ checked (function v))
-      → Computes i from (suc mid) (then e operator)
-  computes_unary from mid o function operator (Gives (Whole v)) le first here is means =
-      subst (Computes i from (suc mid)) (sym (means v)) (after_value from mid (suc mid) v (checked (function v)) le (omega arith) first (unary_after from mid o function v here is (function v) refl))
+      → ((v : ℤ) → operator (values.Number v) ≡ computed (function v))
+      → Computes i from (suc mid) (and_then e operator)
+  computes_unary from mid o function operator (Gives (values.Number v)) le first here is means =
+      subst (Computes i from (suc mid)) (sym (means v)) (after_value from mid (suc mid) v (computed (function v)) le (omega arith) first (unary_after from mid o function v here is (function v) refl))
   computes_unary from mid o function operator (Raises x) le first here is means = raises_before from mid (suc mid) x (omega arith) first
-  computes_unary from mid o function operator (Gives (Truth b)) le first here is means = absurd first
-  computes_unary from mid o function operator Meaningless le first here is means = absurd first
+  computes_unary from mid o function operator e le first here is means = absurd first
 
   both_after : (from mid to : ℕ) (o : Operation) (function : ℤ → ℤ → Checked) (v w : ℤ) → from ≤ mid → mid ≤ to
-      → Computes i mid to (Gives (Whole w)) → At i to o
+      → Computes i mid to (Gives (values.Number w)) → At i to o
       → ((schedule : List ScheduleLine) (k : Kernel) (t : ℕ) (m : Words) (f : Frame) (fs : List Frame) → does_operation i schedule k t m f fs o ≡ binary i schedule k t m f fs function)
-      → (result : Checked) → function v w ≡ result → After from mid (suc to) v (checked result)
+      → (result : Checked) → function v w ≡ result → After from mid (suc to) v (computed result)
   unfolding After
   both_after from mid to o function v w le up second here is (Ok x) e =
       λ limit schedule k t m f fs calm.
@@ -132,27 +131,25 @@ module _ (quiet : QuietStays) (i : Sections) where
       (to - mid, to, w ∷ v ∷ f.stack, omega (arith, up), second limit schedule k t m g fs calm refl, acts i to o here schedule k t m h fs refl ∙ is schedule k t m h fs ∙ ap (λ r. gives i schedule k t m h fs r f.stack) e)
 
   -- an operation on two operands, the value of the first one known
-  binary_after : (from mid to : ℕ) (o : Operation) (function : ℤ → ℤ → Checked) (v : ℤ) (operator : Scalar → Scalar → Evaluation) (e : Evaluation) → from ≤ mid → mid ≤ to
+  binary_after : (from mid to : ℕ) (o : Operation) (function : ℤ → ℤ → Checked) (v : ℤ) (operator : values.Value → values.Value → Evaluation) (e : Evaluation) → from ≤ mid → mid ≤ to
       → Computes i mid to e → At i to o
       → ((schedule : List ScheduleLine) (k : Kernel) (t : ℕ) (m : Words) (f : Frame) (fs : List Frame) → does_operation i schedule k t m f fs o ≡ binary i schedule k t m f fs function)
-      → ((w : ℤ) → operator (Whole v) (Whole w) ≡ checked (function v w))
-      → After from mid (suc to) v (then e (operator (Whole v)))
+      → ((w : ℤ) → operator (values.Number v) (values.Number w) ≡ computed (function v w))
+      → After from mid (suc to) v (and_then e (operator (values.Number v)))
   unfolding After
-  binary_after from mid to o function v operator (Gives (Whole w)) le up second here is means =
+  binary_after from mid to o function v operator (Gives (values.Number w)) le up second here is means =
       subst (After from mid (suc to) v) (sym (means w)) (both_after from mid to o function v w le up second here is (function v w) refl)
   binary_after from mid to o function v operator (Raises x) le up second here is means =
       λ limit schedule k t m f fs calm.
       let r = second limit schedule k t m (placed f mid (v ∷ f.stack)) fs calm refl in (r.0, r.1, r.2, omega (arith, up, r.3), r.4, r.5)
-  binary_after from mid to o function v operator (Gives (Truth b)) le up second here is means = absurd second
-  binary_after from mid to o function v operator Meaningless le up second here is means = absurd second
+  binary_after from mid to o function v operator e le up second here is means = absurd second
 
-  pub computes_binary : (from mid to : ℕ) (o : Operation) (function : ℤ → ℤ → Checked) (operator : Scalar → Scalar → Evaluation) (d e : Evaluation) → from ≤ mid → mid ≤ to
+  pub computes_binary : (from mid to : ℕ) (o : Operation) (function : ℤ → ℤ → Checked) (operator : values.Value → values.Value → Evaluation) (d e : Evaluation) → from ≤ mid → mid ≤ to
       → Computes i from mid d → Computes i mid to e → At i to o
       → ((schedule : List ScheduleLine) (k : Kernel) (t : ℕ) (m : Words) (f : Frame) (fs : List Frame) → does_operation i schedule k t m f fs o ≡ binary i schedule k t m f fs function)
-      → ((v w : ℤ) → operator (Whole v) (Whole w) ≡ checked (function v w))
-      → Computes i from (suc to) (then d (λ v. then e (operator v)))
-  computes_binary from mid to o function operator (Gives (Whole v)) e le up first second here is means =
-      after_value from mid (suc to) v (then e (operator (Whole v))) le (omega arith) first (binary_after from mid to o function v operator e le up second here is (means v))
+      → ((v w : ℤ) → operator (values.Number v) (values.Number w) ≡ computed (function v w))
+      → Computes i from (suc to) (and_then d (λ v. and_then e (operator v)))
+  computes_binary from mid to o function operator (Gives (values.Number v)) e le up first second here is means =
+      after_value from mid (suc to) v (and_then e (operator (values.Number v))) le (omega arith) first (binary_after from mid to o function v operator e le up second here is (means v))
   computes_binary from mid to o function operator (Raises x) e le up first second here is means = raises_before from mid (suc to) x (omega (arith, up)) first
-  computes_binary from mid to o function operator (Gives (Truth b)) e le up first second here is means = absurd first
-  computes_binary from mid to o function operator Meaningless e le up first second here is means = absurd first
+  computes_binary from mid to o function operator d e le up first second here is means = absurd first

@@ -17,7 +17,8 @@ use Rattle.ada_tree.specs.declared.expression.BinaryOperator.TheVariants as bina
 use Rattle.ada_tree.specs.ExpressionTree.{ExprTree, Number, Parenthesized, Unary, Binary, NameTree, SelectorTrees, NoSelectors, MoreSelectors, Arguments, ArgumentTrees, MoreArguments, NoArguments, Value, Text}
 use Rattle.ada_tree.specs.StatementTree.{StmtTree, Call, stmt_tree}
 use Rattle.ada_tree.specs.declared.statement.Stmt.{Stmt}
-use Rattle.meaning.specs.Values.{value, unary_value, binary_value}
+use Rattle.types.specs.Operators.{unary_value, binary_value}
+use Rattle.meaning.specs.Values.{value}
 use Rattle.ada_link.specs.Computing.{At, Computes}
 use Rattle.ada_link.specs.FirstLanguage.{label_and_value, put_of, put_with}
 use Rattle.ada_link.specs.Linked.{IsPut, IsCall, IsStatement}

@@ -25,7 +25,9 @@ use Rattle.ada_tree.specs.StatementTree.{StmtTree, Null, Call, StmtTrees, NoStmt
 use Rattle.ada_tree.specs.ProgramTree.{ProgramTree}
 use Rattle.meaning.specs.Meeting.{Last, Met}
 use Rattle.meaning.specs.MeetingLaws.{spends_takes, still_by, moves_by}
-use Rattle.meaning.specs.Values.{Evaluation, Gives, Raises, Meaningless, Whole, Truth, value}
+use Rattle.types.specs.Values as values
+use Rattle.types.specs.Evaluations.{Gives, Raises, Meaningless}
+use Rattle.meaning.specs.Values.{Evaluation, value}
 use Rattle.meaning.specs.Works.{Item, Declares, Sequence, Does, DoesMain, Handles, EndsHandler, EndsCall, Work, Goes, Raising, Activation, TaskWork, Store, ends_of_calls}
 use Rattle.meaning.specs.SourceSteps as source
 use Rattle.meaning.specs.SourceSteps.{source_behaviour, work_step, item_step, before, with_value, put_line, call_step}
@@ -223,7 +225,7 @@ module _ (p : ProgramTree) (i : Sections) (no_rows : i.rows ≡ []) (schedule : 
           → (mid number : ℕ) → s.frame.place ≤ mid → Computes i s.frame.place mid v → At i mid (op.PutLine number) → text_at i.labels number ≡ label → to ≡ suc mid
           → (stmts : StmtTrees) → InBody p i stmts ms s → AreStatements i to rest
           → Meet k a (record { memory = m; task = s })
-      met_put d s (Gives (Whole z)) w is less mid number le computes at named up stmts h later =
+      met_put d s (Gives (values.Number z)) w is less mid number le computes at named up stmts h later =
           let f = running s.frame in
           let fs = h.caller ∷ [] in
           let g = placed f mid (z ∷ []) in
@@ -245,8 +247,7 @@ module _ (p : ProgramTree) (i : Sections) (no_rows : i.rows ≡ []) (schedule : 
           by_none s (Goes (d ∷ left)) (Raising x left) w (source.does Quiet a.memory (Raising x left) a.task.activations) is refl refl
           (Raised x left refl (unhandled_body p i rest ms) (subst (Dying p i x) (sym (in_body_is stmts ms s h)) (dying x mid s.frame h.caller (omega (arith, within)) computes)))
           less
-      met_put d s (Gives (Truth b)) w is less mid number le computes at named up stmts h later = absurd computes
-      met_put d s Meaningless w is less mid number le computes at named up stmts h later = absurd computes
+      met_put d s e w is less mid number le computes at named up stmts h later = absurd computes
 
     -- statements
 

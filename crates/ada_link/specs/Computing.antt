@@ -9,7 +9,9 @@ use Rattle.image.specs.Sections.{Sections}
 use Rattle.image.specs.Frames.{Words, Frame, TaskState}
 use Rattle.image.specs.Steps.{act, behaviour, unwind}
 use Rattle.image.specs.declared.instruction.Operation.{Operation}
-use Rattle.meaning.specs.Values.{Evaluation, Gives, Raises, Meaningless, Whole, Truth}
+use Rattle.types.specs.Values as values
+use Rattle.types.specs.Evaluations.{Gives, Raises, Meaningless}
+use Rattle.meaning.specs.Values.{Evaluation}
 use Rattle.meaning.specs.SameMeaning.{frames_of}
 
 -- the operation that stands at a place, with some depth
@@ -27,7 +29,7 @@ placed f place stack = record f { place = place; stack = stack }
 -- In each calm world, a frame that stands at `from` comes to `to` with the value on its operand stack, in at most as many steps as there are instructions
 -- between, or to an instruction that raises the exception; every task, word and line stays.
 abbrev pub Computes : Sections → ℕ → ℕ → Evaluation → Type 0
-Computes i from to (Gives (Whole v)) =
+Computes i from to (Gives (values.Number v)) =
     (limit : TaskState → ℕ) (schedule : List ScheduleLine) (k : Kernel) (t : ℕ) (m : Words) (f : Frame) (fs : List Frame)
     → Calm k t
     → f.place ≡ from
@@ -40,5 +42,4 @@ Computes i from to (Raises x) =
     × (suc n ≤ to - from)
     × Spends (behaviour i schedule) t frames_of limit (suc (length fs)) n k (in_frame m f fs) k (in_frame m (placed f place stack) fs)
     × (act i schedule k t (in_frame m (placed f place stack) fs) ≡ unwind i m x (placed f place stack) fs)
-Computes i from to (Gives (Truth b)) = ⊥
-Computes i from to Meaningless = ⊥
+Computes i from to e = ⊥

@@ -1,12 +1,24 @@
--- What the program's work over files leaves, by its exit status.
-use Rattle.std.specs.Prelude.{◌≡◌, ◌≢◌, ◌⊎◌, ℕ, List, Option, Some, None, ⊤}
+-- What the program's work over files leaves, by what is asked for and by its exit status.
+use Rattle.std.specs.Prelude.{◌≡◌, ◌≢◌, ◌⊎◌, ℕ, List, Option, Some, None, false, ⊤}
+use Rattle.std.specs.Io.KnownBytes.{Appends}
 use Rattle.base.specs.declared.faults.TheConstants.{MEMORY_REFUSED}
+use Rattle.base.specs.declared.schedule.ScheduleLine.{ScheduleLine}
+use Rattle.clock.specs.Schedules as schedules
+use Rattle.clock.specs.declared.schedule.ScheduleFault.{ScheduleFault}
 use Rattle.lexer.specs.declared.fault.Fault.{Fault}
-use Rattle.machine.specs.Schedules.{IsSchedule, RefusesSchedule}
+use Rattle.image_format.specs.Bytes.{bytes_of}
+use Rattle.image.specs.Code.{code, code_text}
+use Rattle.image_format.specs.Listing.{listing_of}
+use Rattle.image_format.specs.Loaded.{IsLoaded}
+use Rattle.image_format.specs.Loading.{image_fault}
+use Rattle.image.specs.Sections.{Sections}
+use Rattle.image.specs.Taken.{is_taken}
+use Rattle.image.specs.declared.fault.ImageFault as refused
+use Rattle.machine.specs.Stands.{EndsBy}
+use Rattle.machine.specs.Written.{AppendsBeginning}
 use Rattle.machine.specs.declared.reports.Outcome.{Outcome}
 use Rattle.machine.specs.declared.reports.Outcome.TheVariants as outcomes
-use Rattle.machine.specs.declared.schedules.ScheduleFault.{ScheduleFault}
-use Rattle.adarun.specs.Accepted.{RefusesText}
+use Rattle.adarun.specs.Accepted.{Compiles, RefusesText}
 use Rattle.adarun.specs.Headline.{Runs, WritesBeginning}
 use Rattle.adarun.specs.Stopping.{HasImage}
 use Rattle.adarun.specs.declared.files.ReadError.{ReadError}
@@ -36,16 +48,15 @@ abbrev pub unread : ReadError → Status
 unread errors.Memory = NoMemory
 unread errors.Unreadable = Failed
 
--- both files were read, the second of them is a schedule, and the run of the source had an outcome of this status
+-- both files were read, and the run of the source under the schedule had an outcome of this status
 pub record HasRun (contents : Contents) (source schedule : List ℕ) (limit : ℕ) (status : Status) (old new : Option (List ℕ)) : Type 0 where
   pub text : List ℕ
   pub source_read : IsRead (contents source) text
-  pub lines : List ℕ
-  pub schedule_read : IsRead (contents schedule) lines
-  pub is_schedule : IsSchedule lines
+  pub input : List ℕ
+  pub input_read : IsRead (contents schedule) input
   pub outcome : Outcome
   pub status_is : status ≡ status_of outcome
-  pub runs : Runs text limit outcome old new
+  pub runs : Runs text input limit outcome old new
 
 -- the source was read, and refused for its own sake
 pub record HasRefusedSource (contents : Contents) (source : List ℕ) (old new : Option (List ℕ)) : Type 0 where
@@ -56,33 +67,165 @@ pub record HasRefusedSource (contents : Contents) (source : List ℕ) (old new :
   pub not_memory : fault.number ≢ MEMORY_REFUSED
   pub unwritten : new ≡ old
 
--- both files were read, the source compiles, and the schedule was refused
+-- both files were read, the source compiles, and the schedule was refused for its own sake
 pub record HasRefusedSchedule (contents : Contents) (source schedule : List ℕ) (old new : Option (List ℕ)) : Type 0 where
   pub text : List ℕ
   pub source_read : IsRead (contents source) text
-  pub lines : List ℕ
-  pub schedule_read : IsRead (contents schedule) lines
+  pub input : List ℕ
+  pub input_read : IsRead (contents schedule) input
   pub compiles : HasImage text
   pub fault : ScheduleFault
-  pub refused : RefusesSchedule lines fault
+  pub refused : schedules.RefusesText input fault
+  pub not_memory : fault.number ≢ MEMORY_REFUSED
   pub unwritten : new ≡ old
 
 -- both files were read, and the source's run was begun, of which a beginning was written
 pub record HasBegun (contents : Contents) (source schedule : List ℕ) (limit : ℕ) (old new : Option (List ℕ)) : Type 0 where
   pub text : List ℕ
   pub source_read : IsRead (contents source) text
-  pub lines : List ℕ
-  pub schedule_read : IsRead (contents schedule) lines
-  pub is_schedule : IsSchedule lines
-  pub begins : WritesBeginning text limit old new
+  pub input : List ℕ
+  pub input_read : IsRead (contents schedule) input
+  pub begins : WritesBeginning text input limit old new
 
--- what was written to standard output, by the exit status
-abbrev pub Leaves : Contents → List ℕ → List ℕ → ℕ → Status → Option (List ℕ) → Option (List ℕ) → Type 0
-Leaves contents source schedule limit SourceRefused old new = HasRefusedSource contents source old new
-Leaves contents source schedule limit ScheduleRefused old new = HasRefusedSchedule contents source schedule old new
-Leaves contents source schedule limit NoMemory old new = new ≡ old
-Leaves contents source schedule limit Failed old new = (new ≡ old) ⊎ HasBegun contents source schedule limit old new
-Leaves contents source schedule limit status old new = HasRun contents source schedule limit status old new
+-- what `go` wrote to standard output, by the exit status
+abbrev pub LeavesGo : Contents → List ℕ → List ℕ → ℕ → Status → Option (List ℕ) → Option (List ℕ) → Type 0
+LeavesGo contents source schedule limit SourceRefused old new = HasRefusedSource contents source old new
+LeavesGo contents source schedule limit ScheduleRefused old new = HasRefusedSchedule contents source schedule old new
+LeavesGo contents source schedule limit NoMemory old new = new ≡ old
+LeavesGo contents source schedule limit Failed old new = (new ≡ old) ⊎ HasBegun contents source schedule limit old new
+LeavesGo contents source schedule limit status old new = HasRun contents source schedule limit status old new
+
+-- ---- images
+
+-- the file was read, and its bytes are those of this image
+pub record HasLoaded (contents : Contents) (name : List ℕ) (i : Sections) : Type 0 where
+  pub bytes : List ℕ
+  pub read : IsRead (contents name) bytes
+  pub loaded : IsLoaded bytes i
+
+-- the file was read, and its bytes break a rule
+pub record HasRefusedImage (contents : Contents) (name : List ℕ) (old new : Option (List ℕ)) : Type 0 where
+  pub bytes : List ℕ
+  pub read : IsRead (contents name) bytes
+  pub fault : refused.ImageFault
+  pub refused : image_fault bytes ≡ Some fault
+  pub unwritten : new ≡ old
+
+-- the file was read, and its lines are a schedule
+pub record HasSchedule (contents : Contents) (name : List ℕ) : Type 0 where
+  pub input : List ℕ
+  pub read : IsRead (contents name) input
+  pub lines : List ScheduleLine
+  pub is_schedule : schedules.IsScheduleText input lines
+
+-- ---- `list`
+
+pub record HasListed (contents : Contents) (name : List ℕ) (old new : Option (List ℕ)) : Type 0 where
+  pub image : Sections
+  pub loaded : HasLoaded contents name image
+  pub written : Appends old new (listing_of image)
+
+-- a beginning of the listing was written
+pub record HasBegunListing (contents : Contents) (name : List ℕ) (old new : Option (List ℕ)) : Type 0 where
+  pub image : Sections
+  pub loaded : HasLoaded contents name image
+  pub begins : AppendsBeginning old new (listing_of image)
+
+abbrev pub LeavesList : Contents → List ℕ → Status → Option (List ℕ) → Option (List ℕ) → Type 0
+LeavesList contents name Done old new = HasListed contents name old new
+LeavesList contents name ImageFault old new = HasRefusedImage contents name old new
+LeavesList contents name NoMemory old new = new ≡ old
+LeavesList contents name Failed old new = (new ≡ old) ⊎ HasBegunListing contents name old new
+LeavesList contents name status old new = ⊥
+
+-- ---- `run`
+
+-- the image was loaded, the second file is a schedule, and the image's run had an outcome of this status
+pub record HasRunImage (contents : Contents) (name schedule : List ℕ) (limit : ℕ) (status : Status) (old new : Option (List ℕ)) : Type 0 where
+  pub image : Sections
+  pub loaded : HasLoaded contents name image
+  pub given : HasSchedule contents schedule
+  pub outcome : Outcome
+  pub status_is : status ≡ status_of outcome
+  pub written : Appends old new (code_text image given.lines limit)
+  pub ends : EndsBy outcome (code image given.lines limit)
+
+-- the image was loaded, and it isn't one that runs today
+pub record HasUnsupportedImage (contents : Contents) (name : List ℕ) (old new : Option (List ℕ)) : Type 0 where
+  pub image : Sections
+  pub loaded : HasLoaded contents name image
+  pub unsupported : is_taken image ≡ false
+  pub unwritten : new ≡ old
+
+-- the image was loaded, and the schedule was refused for its own sake
+pub record HasRefusedScheduleOfImage (contents : Contents) (name schedule : List ℕ) (old new : Option (List ℕ)) : Type 0 where
+  pub image : Sections
+  pub loaded : HasLoaded contents name image
+  pub input : List ℕ
+  pub read : IsRead (contents schedule) input
+  pub fault : ScheduleFault
+  pub refused : schedules.RefusesText input fault
+  pub not_memory : fault.number ≢ MEMORY_REFUSED
+  pub unwritten : new ≡ old
+
+-- a beginning of the image's run was written
+pub record HasBegunImage (contents : Contents) (name schedule : List ℕ) (limit : ℕ) (old new : Option (List ℕ)) : Type 0 where
+  pub image : Sections
+  pub loaded : HasLoaded contents name image
+  pub given : HasSchedule contents schedule
+  pub begins : AppendsBeginning old new (code_text image given.lines limit)
+
+abbrev pub LeavesRun : Contents → List ℕ → List ℕ → ℕ → Status → Option (List ℕ) → Option (List ℕ) → Type 0
+LeavesRun contents name schedule limit ImageFault old new =
+    HasRefusedImage contents name old new ⊎ (HasUnsupportedImage contents name old new ⊎ HasRunImage contents name schedule limit ImageFault old new)
+LeavesRun contents name schedule limit ScheduleRefused old new = HasRefusedScheduleOfImage contents name schedule old new
+LeavesRun contents name schedule limit NoMemory old new = new ≡ old
+LeavesRun contents name schedule limit Failed old new = (new ≡ old) ⊎ HasBegunImage contents name schedule limit old new
+LeavesRun contents name schedule limit SourceRefused old new = ⊥
+LeavesRun contents name schedule limit status old new = HasRunImage contents name schedule limit status old new
+
+-- ---- `compile`
+
+-- each file has the content that it had
+abbrev pub AreKept : Contents → Contents → Type 0
+AreKept before after = (name : List ℕ) → after name ≡ before name
+
+-- each file but this one has the content that it had
+abbrev pub OthersAreKept : List ℕ → Contents → Contents → Type 0
+OthersAreKept name before after = (other : List ℕ) → other ≢ name → after other ≡ before other
+
+-- the source was read, and the other file has the bytes of an image that it compiles to
+pub record HasCompiled (before after : Contents) (source name : List ℕ) : Type 0 where
+  pub text : List ℕ
+  pub source_read : IsRead (before source) text
+  pub image : Sections
+  pub compiles : Compiles text image
+  pub written : IsRead (after name) (bytes_of image)
+
+abbrev pub LeavesCompile : Contents → Contents → List ℕ → List ℕ → Status → Option (List ℕ) → Option (List ℕ) → Type 0
+LeavesCompile before after source name Done old new = (new ≡ old) × (OthersAreKept name before after × HasCompiled before after source name)
+LeavesCompile before after source name SourceRefused old new = AreKept before after × HasRefusedSource before source old new
+LeavesCompile before after source name NoMemory old new = (new ≡ old) × OthersAreKept name before after
+LeavesCompile before after source name Failed old new = (new ≡ old) × OthersAreKept name before after
+LeavesCompile before after source name status old new = ⊥
+
+-- ---- all
+
+-- what is asked for; that these are the words is tested
+pub data Work : Type 0 where
+  CompileText : (source image : List ℕ) → Work
+  ListImage : (image : List ℕ) → Work
+  RunImage : (image schedule : List ℕ) (limit : ℕ) → Work
+  GoText : (source schedule : List ℕ) (limit : ℕ) → Work
+  Nothing : Work
+
+-- what was written to standard output and to files
+abbrev pub Leaves : Work → Contents → Contents → Status → Option (List ℕ) → Option (List ℕ) → Type 0
+Leaves (CompileText source image) before after status old new = LeavesCompile before after source image status old new
+Leaves (ListImage image) before after status old new = AreKept before after × LeavesList before image status old new
+Leaves (RunImage image schedule limit) before after status old new = AreKept before after × LeavesRun before image schedule limit status old new
+Leaves (GoText source schedule limit) before after status old new = AreKept before after × LeavesGo before source schedule limit status old new
+Leaves Nothing before after status old new = AreKept before after × ((new ≡ old) × ((status ≡ Failed) ⊎ (status ≡ NoMemory)))
 
 -- the number of an exit status
 abbrev pub number_of : Status → ℕ
@@ -96,11 +239,9 @@ number_of ImageFault = 6
 number_of ScheduleRefused = 7
 number_of NoMemory = 8
 
--- the answer is the number of a status, with what it leaves for some names of files and some limit; that these are those of the words is tested
-pub record Answers (contents : Contents) (answer : ℕ) (old new : Option (List ℕ)) : Type 0 where
-  pub source : List ℕ
-  pub schedule : List ℕ
-  pub limit : ℕ
+-- the answer is the number of a status, with what it leaves for what was asked for
+pub record Answers (before after : Contents) (answer : ℕ) (old new : Option (List ℕ)) : Type 0 where
+  pub work : Work
   pub status : Status
   pub answer_is : answer ≡ number_of status
-  pub leaves : Leaves contents source schedule limit status old new
+  pub leaves : Leaves work before after status old new

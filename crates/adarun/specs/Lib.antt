@@ -2,3 +2,4 @@ pub mod Accepted
 pub mod Driving
 pub mod Headline
 pub mod Stopping
+pub mod Joined

@@ -1,15 +1,15 @@
 //! Compiling and running in one call.
 ghost use Rattle.std.specs.Prelude.{◌≡◌, ◌<◌, Err, IfErr, IfOk, OnOk};
 ghost use Rattle.ada_tree.specs.ProgramTree.{ProgramTree};
-ghost use Rattle.machine.specs.Schedules.{IsSchedule};
 ghost use Rattle.adarun.specs.Accepted.{IsAccepted, IsRefusedOnlyBy};
 ghost use Rattle.adarun.specs.Headline.{Runs, WritesBeginning};
 ghost use Rattle.adarun.specs.Stopping.{Refuses};
 
 use crate::compilation::compile;
+use clock::{Schedule, ScheduleFault};
 use image::laws::outcome_stays;
 use lexer::Fault;
-use machine::{Outcome, RunFault, Schedule, ScheduleFault, Sink, run};
+use machine::{Outcome, RunFault, Sink, run};
 use std::alloc::Global;
 use thiserror::Error;
 
@@ -42,8 +42,7 @@ pub fn go<S: Sink>(
     sink: &mut S,
 ) -> Result<Outcome, GoFault>
     // What is written means what the source means.
-    ensures runs { IfOk result (λ outcome. Runs source.now limit outcome (S.bytes sink.old) (S.bytes sink.new)) }
-    ensures read { OnOk result (IsSchedule schedule.now) }
+    ensures runs { IfOk result (λ outcome. Runs source.now schedule.now limit outcome (S.bytes sink.old) (S.bytes sink.new)) }
     ensures kept { OnOk result (S.failures sink.new ≡ S.failures sink.old) }
     // A refusal is that of the call it comes from, where the calls before it gave their answers.
     ensures refused { IfErr result (Refuses source.now schedule.now) }
@@ -55,7 +54,7 @@ pub fn go<S: Sink>(
     ensures supported { result ≡ Err (GoFault.Run RunFault.Unsupported) → ⊥ }
     ensures memory { result ≡ Err (GoFault.Run RunFault.Memory) → sink.new ≡ sink.old }
     ensures failed { result ≡ Err (GoFault.Run RunFault.Write) → S.failures sink.old < S.failures sink.new }
-    ensures beginning { result ≡ Err (GoFault.Run RunFault.Write) → WritesBeginning source.now limit (S.bytes sink.old) (S.bytes sink.new) }
+    ensures beginning { result ≡ Err (GoFault.Run RunFault.Write) → WritesBeginning source.now schedule.now limit (S.bytes sink.old) (S.bytes sink.new) }
 {
     outcome_stays();
     let image = match compile(alloc, source) {

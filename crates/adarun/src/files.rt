@@ -1,5 +1,5 @@
 //! Files by their names.
-ghost use Rattle.std.specs.Prelude.{ℕ, List, Option, IfOk};
+ghost use Rattle.std.specs.Prelude.{◌≡◌, ◌≢◌, ℕ, List, Option, IfOk, OnOk};
 ghost use Rattle.adarun.specs.Driving.{IsRead};
 
 use std::alloc::Global;
@@ -13,7 +13,16 @@ pub enum ReadError {
     Unreadable,
 }
 
-/// Where files are read. Its meaning is the contents of files by their names, where these are known: not for those of a system.
+/// Why a file was not written.
+#[derive(Clone, Copy, PartialEq, Eq, Debug)]
+pub enum WriteError {
+    /// Memory was refused.
+    Memory,
+    /// Any other cause.
+    Unwritable,
+}
+
+/// Where files are read and written. Its meaning is the contents of files by their names, where these are known: not for those of a system.
 pub trait FileStore {
     ghost contents: { Self → List ℕ → Option (List ℕ) };
 
@@ -23,4 +32,12 @@ pub trait FileStore {
     /// Memory where memory was refused, and Unreadable for any other cause.
     fn read(&self, alloc: Global, name: &str) -> Result<Vec<u8>, ReadError>
         ensures { IfOk result (λ bytes. IsRead (contents self.now name.now) bytes.items) };
+
+    /// Replaces the content of the file of this name, which is made where there is none.
+    ///
+    /// # Errors
+    /// Memory where memory was refused, and Unwritable for any other cause; of the content nothing is promised then.
+    fn write(&mut self, name: &str, bytes: &[u8]) -> Result<(), WriteError>
+        ensures written { OnOk result (IsRead (contents self.new name.now) bytes.now) }
+        ensures others { (other : List ℕ) → other ≢ name.now → contents self.new other ≡ contents self.old other };
 }

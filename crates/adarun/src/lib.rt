@@ -4,9 +4,10 @@
 mod compilation;
 mod execution;
 mod files;
+pub mod laws;
 mod program;
 
 pub use compilation::compile;
 pub use execution::{GoFault, go};
-pub use files::{FileStore, ReadError};
+pub use files::{FileStore, ReadError, WriteError};
 pub use program::{Status, drive};

@@ -1,16 +1,20 @@
 //! The program's work over any files and streams.
-ghost use Rattle.std.specs.Prelude.{◌≡◌, ◌<◌, ◌⊎◌, nat_eq, if◌then◌else◌};
+ghost use Rattle.std.specs.Prelude.{◌≡◌, ◌<◌, ◌⊎◌, ℕ, List, Option, nat_eq, if◌then◌else◌};
 ghost use Rattle.base.specs.declared.faults.TheConstants.{MEMORY_REFUSED};
 ghost use Rattle.adarun.specs.Driving as driving;
-ghost use Rattle.adarun.specs.Driving.{Answers, Leaves};
+ghost use Rattle.adarun.specs.Driving.{Answers, LeavesCompile, LeavesGo, LeavesList, LeavesRun};
 
+use crate::compilation::compile;
 use crate::execution::{GoFault, go};
-use crate::files::{FileStore, ReadError};
-use base::faults::MEMORY_REFUSED;
+use crate::files::{FileStore, ReadError, WriteError};
+use base::faults::{MEMORY_REFUSED, OUTSIDE_LANGUAGE};
+use clock::{Schedule, ScheduleFault};
 use command_line::{Request, WordsError, request_of};
+use image::ImageFault;
+use image_format::{encode, list, load};
 use itoa::Buffer;
 use lexer::Fault;
-use machine::{Outcome, RunFault, ScheduleFault, Sink, write_all};
+use machine::{Outcome, RunFault, Sink, run, write_all};
 use std::alloc::Global;
 
 /// The program's exit statuses (docs/FORMATS.md, "Exit statuses").
@@ -27,17 +31,19 @@ pub enum Status {
     NoMemory = 8,
 }
 
-/// Does what the words, without the program's name, ask for: reads the files, writes to `out`, and where it stops early one line to
-/// `err`. It answers the exit status. Where the run came to an outcome, `out` was given what the source means (`go`), and no write to
-/// it failed; where a text was refused or memory was wanting, nothing was written to it; where a write failed, a beginning of the run.
+/// Does what the words, without the program's name, ask for: reads files, writes one of them or to `out`, and where it stops early one
+/// line to `err`. It answers the exit status. Where a run came to an outcome, `out` was given its text (`go`, `run`), and no write to it
+/// failed; where an image was listed, its listing. Where a text, an image or a schedule was refused or memory was wanting, nothing was
+/// written; where a write to `out` failed, a beginning of what was to be written. `compile` writes the image's file, and nothing to `out`:
+/// the file stays as it was where the source is refused.
 pub fn drive<F: FileStore, O: Sink, E: Sink>(
     alloc: Global,
     words: &[&str],
-    files: &F,
+    files: &mut F,
     out: &mut O,
     err: &mut E,
 ) -> u8
-    ensures answers { Answers (F.contents files.now) result (O.bytes out.old) (O.bytes out.new) }
+    ensures answers { Answers (F.contents files.old) (F.contents files.new) result (O.bytes out.old) (O.bytes out.new) }
     ensures source { result ≡ 2 → out.new ≡ out.old }
     ensures schedule { result ≡ 7 → out.new ≡ out.old }
     ensures memory { result ≡ 8 → out.new ≡ out.old }
@@ -45,6 +51,15 @@ pub fn drive<F: FileStore, O: Sink, E: Sink>(
     ensures done { result ≡ 0 → O.failures out.new ≡ O.failures out.old }
 {
     let status = match request_of(alloc, words) {
+        Ok(Request::Compile { source, image }) => drive_compile(alloc, files, source, image, err),
+        Ok(Request::List { image }) => drive_list(alloc, files, image, out, err),
+        Ok(
+            Request::Run {
+                image,
+                schedule,
+                limit,
+            },
+        ) => drive_run(alloc, files, image, schedule, limit, out, err),
         Ok(
             Request::Go {
                 source,
@@ -58,6 +73,109 @@ pub fn drive<F: FileStore, O: Sink, E: Sink>(
     status as u8
 }
 
+fn drive_compile<F: FileStore, E: Sink>(
+    alloc: Global,
+    files: &mut F,
+    source: &str,
+    image: &str,
+    err: &mut E,
+) -> Status
+    ensures { (written : Option (List ℕ)) → LeavesCompile (F.contents files.old) (F.contents files.new) source.now image.now result written written }
+{
+    let text = match files.read(alloc, source) {
+        Ok(text) => text,
+        Err(error) => return unread(err, error, source),
+    };
+    let compiled = match compile(alloc, &text) {
+        Ok(compiled) => compiled,
+        Err(fault) => return refuse_source(err, &text, &fault),
+    };
+    let bytes = match encode(alloc, &compiled) {
+        Ok(bytes) => bytes,
+        Err(_) => return no_memory(err),
+    };
+    match files.write(image, &bytes) {
+        Ok(()) => Status::Done,
+        Err(WriteError::Memory) => no_memory(err),
+        Err(WriteError::Unwritable) => cannot_write(err),
+    }
+}
+
+fn drive_list<F: FileStore, O: Sink, E: Sink>(
+    alloc: Global,
+    files: &F,
+    name: &str,
+    out: &mut O,
+    err: &mut E,
+) -> Status
+    ensures leaves { LeavesList (F.contents files.now) name.now result (O.bytes out.old) (O.bytes out.new) }
+    ensures memory { result ≡ Status.NoMemory → out.new ≡ out.old }
+    ensures failed { result ≡ Status.Failed → (out.new ≡ out.old) ⊎ (O.failures out.old < O.failures out.new) }
+    ensures done { result ≡ Status.Done → O.failures out.new ≡ O.failures out.old }
+{
+    let bytes = match files.read(alloc, name) {
+        Ok(bytes) => bytes,
+        Err(error) => return unread(err, error, name),
+    };
+    let image = match load(alloc, &bytes) {
+        Ok(image) => image,
+        Err(fault) => return refuse_image(err, &fault),
+    };
+    let text = match list(alloc, &image) {
+        Ok(text) => text,
+        Err(_) => return no_memory(err),
+    };
+    match write_all(out, text.as_bytes()) {
+        Ok(()) => Status::Done,
+        Err(_) => cannot_write(err),
+    }
+}
+
+fn drive_run<F: FileStore, O: Sink, E: Sink>(
+    alloc: Global,
+    files: &F,
+    name: &str,
+    schedule: &str,
+    limit: u64,
+    out: &mut O,
+    err: &mut E,
+) -> Status
+    ensures leaves { LeavesRun (F.contents files.now) name.now schedule.now limit result (O.bytes out.old) (O.bytes out.new) }
+    ensures schedule { result ≡ Status.ScheduleRefused → out.new ≡ out.old }
+    ensures memory { result ≡ Status.NoMemory → out.new ≡ out.old }
+    ensures failed { result ≡ Status.Failed → (out.new ≡ out.old) ⊎ (O.failures out.old < O.failures out.new) }
+    ensures done { result ≡ Status.Done → O.failures out.new ≡ O.failures out.old }
+{
+    let bytes = match files.read(alloc, name) {
+        Ok(bytes) => bytes,
+        Err(error) => return unread(err, error, name),
+    };
+    let lines = match files.read(alloc, schedule) {
+        Ok(lines) => lines,
+        Err(error) => return unread(err, error, schedule),
+    };
+    let image = match load(alloc, &bytes) {
+        Ok(image) => image,
+        Err(fault) => return refuse_image(err, &fault),
+    };
+    let schedule = match Schedule::read(alloc, &lines) {
+        Ok(schedule) => schedule,
+        Err(fault) => return refuse_schedule(err, &fault),
+    };
+    match run(alloc, &image, &schedule, limit, out) {
+        Ok(outcome) => status_of(&outcome),
+        Err(RunFault::Unsupported) => refuse_image(
+            err,
+            &ImageFault {
+                number: OUTSIDE_LANGUAGE,
+                byte: 0,
+            },
+        ),
+        Err(RunFault::Memory) => no_memory(err),
+        Err(RunFault::Write) => cannot_write(err),
+    }
+}
+
 fn drive_go<F: FileStore, O: Sink, E: Sink>(
     alloc: Global,
     files: &F,
@@ -67,7 +185,7 @@ fn drive_go<F: FileStore, O: Sink, E: Sink>(
     out: &mut O,
     err: &mut E,
 ) -> Status
-    ensures leaves { Leaves (F.contents files.now) source.now schedule.now limit result (O.bytes out.old) (O.bytes out.new) }
+    ensures leaves { LeavesGo (F.contents files.now) source.now schedule.now limit result (O.bytes out.old) (O.bytes out.new) }
     ensures source { result ≡ Status.SourceRefused → out.new ≡ out.old }
     ensures schedule { result ≡ Status.ScheduleRefused → out.new ≡ out.old }
     ensures memory { result ≡ Status.NoMemory → out.new ≡ out.old }
@@ -88,7 +206,7 @@ fn drive_go<F: FileStore, O: Sink, E: Sink>(
         Err(GoFault::Schedule(fault)) => refuse_schedule(err, &fault),
         Err(GoFault::Run(RunFault::Unsupported)) => unreachable!(),
         Err(GoFault::Run(RunFault::Memory)) => no_memory(err),
-        Err(GoFault::Run(RunFault::Write)) => tell(err, Status::Failed, &[b"cannot write"]),
+        Err(GoFault::Run(RunFault::Write)) => cannot_write(err),
     }
 }
 
@@ -125,6 +243,12 @@ fn no_memory<E: Sink>(err: &mut E) -> Status
     tell(err, Status::NoMemory, &[b"no memory"])
 }
 
+fn cannot_write<E: Sink>(err: &mut E) -> Status
+    ensures { result ≡ Status.Failed }
+{
+    tell(err, Status::Failed, &[b"cannot write"])
+}
+
 fn unread<E: Sink>(err: &mut E, error: ReadError, name: &str) -> Status
     ensures { result ≡ driving.unread error }
 {
@@ -155,9 +279,29 @@ fn refuse_source<E: Sink>(err: &mut E, text: &[u8], fault: &Fault) -> Status
     tell(err, Status::SourceRefused, &pieces)
 }
 
-fn refuse_schedule<E: Sink>(err: &mut E, fault: &ScheduleFault) -> Status
-    ensures { result ≡ Status.ScheduleRefused }
+fn refuse_image<E: Sink>(err: &mut E, fault: &ImageFault) -> Status
+    ensures { result ≡ (if nat_eq fault.now.number MEMORY_REFUSED then Status.NoMemory else Status.ImageFault) }
 {
+    if fault.number == MEMORY_REFUSED {
+        return no_memory(err);
+    }
+    let mut number = Buffer::new();
+    let mut byte = Buffer::new();
+    let pieces: [&[u8]; 4] = [
+        b"image fault ",
+        number.format(fault.number).as_bytes(),
+        b" at byte ",
+        byte.format(fault.byte).as_bytes(),
+    ];
+    tell(err, Status::ImageFault, &pieces)
+}
+
+fn refuse_schedule<E: Sink>(err: &mut E, fault: &ScheduleFault) -> Status
+    ensures { result ≡ (if nat_eq fault.now.number MEMORY_REFUSED then Status.NoMemory else Status.ScheduleRefused) }
+{
+    if fault.number == MEMORY_REFUSED {
+        return no_memory(err);
+    }
     let mut number = Buffer::new();
     let mut line = Buffer::new();
     let pieces: [&[u8]; 4] = [

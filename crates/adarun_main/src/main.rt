@@ -3,7 +3,7 @@
 
 ghost use Rattle.std.specs.Prelude.{◌≡◌, None};
 
-use adarun::{FileStore, ReadError, Status, drive};
+use adarun::{FileStore, ReadError, Status, WriteError, drive};
 use machine::WriterSink;
 use std::alloc::Global;
 use std::io::{self, ErrorKind};
@@ -27,6 +27,13 @@ impl<'a> FileStore for SystemFiles<'a> {
             _ => ReadError::Unreadable,
         })
     }
+
+    fn write(&mut self, name: &str, bytes: &[u8]) -> Result<(), WriteError> {
+        fs::write(self.rt, name, bytes).map_err(|error| match error.kind() {
+            ErrorKind::OutOfMemory => WriteError::Memory,
+            _ => WriteError::Unwritable,
+        })
+    }
 }
 
 // The status of the program's work over its streams.
@@ -45,7 +52,13 @@ fn status_over<L: Ledger, M: Ledger>(
 {
     let mut out = WriterSink::<_, L>::new(rt.stdout(), first);
     let mut err = WriterSink::<_, M>::new(rt.stderr(), second);
-    drive(rt.alloc(), words, &SystemFiles { rt }, &mut out, &mut err)
+    drive(
+        rt.alloc(),
+        words,
+        &mut SystemFiles { rt },
+        &mut out,
+        &mut err,
+    )
 }
 
 fn status(rt: &HostRuntime) -> io::Result<u8> {

@@ -14,14 +14,26 @@ pub const WRONG_LABEL: u8 = 5;
 pub const UNEXPECTED_TOKEN: u8 = 6;
 /// Too many levels are open.
 pub const TOO_MANY_LEVELS: u8 = 7;
+/// A name is not visible where it stands, or there is no component or operation of this name (RM 4.1, 8.3).
+pub const NAME_NOT_VISIBLE: u8 = 10;
 /// A type is not as expected, or an operator, a call or a name has no meaning where it stands (RM 4).
 pub const NO_MEANING: u8 = 12;
+/// What is to be changed is a constant, a loop parameter, an `in` formal, or a component in the body of a protected function (RM 3.3, 6.4.1, 9.5.1).
+pub const NOT_A_VARIABLE: u8 = 13;
 /// An expression must be static, and is not (RM 4.9).
 pub const NOT_STATIC: u8 = 14;
 /// The value of an expression that must be static raises an exception or is outside its subtype (RM 4.9).
 pub const WRONG_STATIC_VALUE: u8 = 15;
+/// A call has not as many actual parameters as there are formal ones (RM 6.4).
+pub const WRONG_ARGUMENT_COUNT: u8 = 16;
 /// The code of a program passes a limit of images.
 pub const CODE_TOO_LARGE: u8 = 23;
+/// An image: the magic or the version is another one.
+pub const WRONG_HEADER: u8 = 40;
+/// An image: a section ends early.
+pub const SECTION_CUT_SHORT: u8 = 41;
+/// An image: bytes follow the last section.
+pub const STRAY_BYTES: u8 = 42;
 /// An image: the operands of an instruction are out of range by themselves.
 pub const OPERAND_OUT_OF_RANGE: u8 = 43;
 /// An image: a jump, a subprogram's end or a handler leaves its subprogram.

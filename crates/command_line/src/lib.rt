@@ -2,12 +2,27 @@
 #![tactic(auto)]
 
 use clap::error::ErrorKind;
-use clap::{Arg, Command, Error};
+use clap::{Arg, ArgMatches, Command, Error};
 use std::alloc::{AllocError, Global};
 
-/// What a command line asks for.
+/// What a command line asks for. Names are those of files.
 #[derive(Clone, Copy, PartialEq, Eq, Debug)]
 pub enum Request<'a> {
+    /// Compile a source to an image.
+    Compile {
+        source: &'a str,
+        image: &'a str,
+    },
+    /// List an image.
+    List {
+        image: &'a str,
+    },
+    /// Run an image on a schedule, for at most this many steps.
+    Run {
+        image: &'a str,
+        schedule: &'a str,
+        limit: u64,
+    },
     /// Compile a source and run it on a schedule, for at most this many steps.
     Go {
         source: &'a str,
@@ -35,32 +50,54 @@ pub fn request_of<'a>(alloc: Global, words: &'a [&'a str]) -> Result<Request<'a>
         .map_err(|_| WordsError::Memory)?
         .try_get_matches_from(words)
         .map_err(|error| error_of(&error))?;
-    let Some(("go", found)) = matches.subcommand() else {
-        return Err(WordsError::Usage);
-    };
-    match (
-        found.get_str("SRC"),
-        found.get_str("SCHED"),
-        found.get_str("LIMIT"),
-    ) {
-        (Some(source), Some(schedule), Some(limit)) => Ok(Request::Go {
-            source,
-            schedule,
-            limit: limit_of(limit).ok_or(WordsError::Usage)?,
+    match matches.subcommand() {
+        Some(("compile", found)) => Ok(Request::Compile {
+            source: word(found, "SRC")?,
+            image: word(found, "IMG")?,
+        }),
+        Some(("list", found)) => Ok(Request::List {
+            image: word(found, "IMG")?,
+        }),
+        Some(("run", found)) => Ok(Request::Run {
+            image: word(found, "IMG")?,
+            schedule: word(found, "SCHED")?,
+            limit: limit_of(word(found, "LIMIT")?).ok_or(WordsError::Usage)?,
+        }),
+        Some(("go", found)) => Ok(Request::Go {
+            source: word(found, "SRC")?,
+            schedule: word(found, "SCHED")?,
+            limit: limit_of(word(found, "LIMIT")?).ok_or(WordsError::Usage)?,
         }),
         _ => Err(WordsError::Usage),
     }
 }
 
+// The word that stands for this argument.
+fn word<'a>(found: &ArgMatches<'a>, name: &str) -> Result<&'a str, WordsError> {
+    found.get_str(name).ok_or(WordsError::Usage)
+}
+
+// A command with these words behind it.
+fn command_with<'a>(
+    alloc: Global,
+    name: &'a str,
+    words: &[&'a str],
+) -> Result<Command<'a>, AllocError> {
+    let mut command = Command::new(alloc, name);
+    for word in words {
+        command = command.arg(Arg::new(alloc, *word).required(true))?;
+    }
+    Ok(command)
+}
+
 fn command<'a>(alloc: Global) -> Result<Command<'a>, AllocError> {
-    let go = Command::new(alloc, "go")
-        .arg(Arg::new(alloc, "SRC").required(true))?
-        .arg(Arg::new(alloc, "SCHED").required(true))?
-        .arg(Arg::new(alloc, "LIMIT").required(true))?;
     Command::new(alloc, "adarun")
         .no_binary_name(true)
         .subcommand_required(true)
-        .subcommand(go)
+        .subcommand(command_with(alloc, "compile", &["SRC", "IMG"])?)?
+        .subcommand(command_with(alloc, "list", &["IMG"])?)?
+        .subcommand(command_with(alloc, "run", &["IMG", "SCHED", "LIMIT"])?)?
+        .subcommand(command_with(alloc, "go", &["SRC", "SCHED", "LIMIT"])?)
 }
 
 fn error_of(error: &Error) -> WordsError {

@@ -1,6 +1,7 @@
 mod Crossing
 mod Examples
 mod Found
+mod PlacesHeld
 mod Joined
 mod Regions
 mod Swept

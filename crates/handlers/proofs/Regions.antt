@@ -15,7 +15,7 @@ pub and-right : (a b : Bool) → (a && b) ≡ true → b ≡ true
 and-right true b e = e
 and-right false b e = absurd (true≢false (sym e))
 
-abbrev ends_after : ℕ → ℕ → Bool
+abbrev pub ends_after : ℕ → ℕ → Bool
 ends_after p e = nat_lt p e
 
 -- a later place lies in no earlier subprogram

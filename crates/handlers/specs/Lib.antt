@@ -1,5 +1,6 @@
 pub mod Counts
 pub mod Handlers
+pub mod Holding
 pub mod Innermost
 pub mod Laws
 pub mod Nesting

@@ -2,10 +2,12 @@
 #![tactic(auto)]
 
 mod counting;
+mod holding;
 pub mod laws;
 mod nesting;
 mod rows;
 
 pub use counting::Probes;
+pub use holding::Holders;
 pub use nesting::first_crossing;
 pub use rows::{Row, Table, TableFault, build, lookup};

@@ -1,11 +1,11 @@
 //! Handler rows, the table made of them, and its search.
 
 ghost use Rattle.std.specs.Prelude.{◌≡◌, length, not, position, is_none, true, IfErr, IfOk, IfSome, OnOk};
-ghost use Rattle.handlers.specs.Handlers.{LeadsWithin, is_within_one, share_subprogram, subprogram_at};
+ghost use Rattle.handlers.specs.Handlers.{LeadsWithin, is_within_one};
 ghost use Rattle.handlers.specs.Nesting.{IsFirst, RefusesRows, are_sound, is_broken_at, lesser_of, memory_fault};
 ghost use Rattle.handlers.specs.Innermost.{covers, handles, width, inside, innermost, handler_of};
 
-use crate::{Probes, first_crossing};
+use crate::{Holders, Probes, first_crossing};
 use base::faults::{MEMORY_REFUSED, TABLES_DISAGREE};
 use std::alloc::{AllocError, Global};
 use std::marker::Model;
@@ -38,13 +38,14 @@ impl Row {
     }
 
     // Whether it covers a place, and one subprogram holds its region and its target.
-    fn is_within_one(&self, ends: &[u16]) -> bool
-        ensures { result ≡ is_within_one ends.now self.now }
+    fn is_within_one(&self, holders: &Holders) -> bool
+        ensures { result ≡ is_within_one holders.now self.now }
     {
-        let last = self.end_.saturating_sub(1);
+        let start = usize::from(self.start);
+        let last = usize::from(self.end_.saturating_sub(1));
         self.start < self.end_
-            && share_subprogram(ends, self.start, last)
-            && share_subprogram(ends, self.start, self.target)
+            && holders.share(start, last)
+            && holders.share(start, usize::from(self.target))
     }
 
     // How many places it covers.
@@ -105,27 +106,11 @@ impl Model for Table {
     ghost invariant = { λ t. are_within_one t.ends.items t.rows.items ≡ true };
 }
 
-// The number of the subprogram that holds a place.
-fn subprogram_at(ends: &[u16], place: u16) -> Option<usize>
-    ensures { result ≡ subprogram_at ends.now place }
-{
-    ends.iter().position(|end| place < *end)
-}
-
-fn share_subprogram(ends: &[u16], first: u16, second: u16) -> bool
-    ensures { result ≡ share_subprogram ends.now first second }
-{
-    match (subprogram_at(ends, first), subprogram_at(ends, second)) {
-        (Some(m), Some(n)) => m == n,
-        _ => false,
-    }
-}
-
 // The first row that breaks a rule by itself.
-fn first_outside(rows: &[Row], ends: &[u16]) -> Option<usize>
-    ensures { result ≡ position (λ r. not (is_within_one ends.now r)) rows.now }
+fn first_outside(rows: &[Row], holders: &Holders) -> Option<usize>
+    ensures { result ≡ position (λ r. not (is_within_one holders.now r)) rows.now }
 {
-    rows.iter().position(|row| !row.is_within_one(ends))
+    rows.iter().position(|row| !row.is_within_one(holders))
 }
 
 fn lesser(first: Option<usize>, second: Option<usize>) -> Option<usize>
@@ -138,11 +123,11 @@ fn lesser(first: Option<usize>, second: Option<usize>) -> Option<usize>
 }
 
 // The first row that breaks a rule by itself or together with a row before it.
-fn first_broken(alloc: Global, rows: &[Row], ends: &[u16]) -> Result<Option<usize>, AllocError>
-    ensures first { IfOk result (IsFirst (is_broken_at ends.now rows.now) (length rows.now)) }
-    ensures sound { IfOk result (λ found. is_none found ≡ are_sound ends.now rows.now) }
+fn first_broken(alloc: Global, rows: &[Row], holders: &Holders) -> Result<Option<usize>, AllocError>
+    ensures first { IfOk result (IsFirst (is_broken_at holders.now rows.now) (length rows.now)) }
+    ensures sound { IfOk result (λ found. is_none found ≡ are_sound holders.now rows.now) }
 {
-    Ok(lesser(first_outside(rows, ends), first_crossing(alloc, rows)?))
+    Ok(lesser(first_outside(rows, holders), first_crossing(alloc, rows)?))
 }
 
 /// The table of these rows and of subprograms that end at `ends`. It is made exactly where each row covers a place, its region and its
@@ -156,7 +141,8 @@ pub fn build(alloc: Global, rows: Vec<Row>, ends: &[u16]) -> Result<Table, Table
     ensures refused { IfErr result (RefusesRows ends.now rows.items) }
     ensures accepted { are_sound ends.now rows.items ≡ true → IfErr result (λ fault. fault ≡ memory_fault) }
 {
-    if let Some(row) = first_broken(alloc, &rows, ends)? {
+    let holders = Holders::new(alloc, ends.to_vec(alloc)?)?;
+    if let Some(row) = first_broken(alloc, &rows, &holders)? {
         return Err(TableFault {
             number: TABLES_DISAGREE,
             row,

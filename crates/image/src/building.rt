@@ -6,19 +6,16 @@ ghost use Rattle.image.specs.Rules.{IsWellFormed};
 ghost use Rattle.image.specs.Sections.{ends_of};
 ghost use Rattle.image.specs.Width.{ImageFits};
 
-use crate::{ImageFault, Instr, Object, Parts, Subprogram, Task, Text};
-use base::faults::{
-    DEPTHS_DISAGREE, JUMP_OUTSIDE, NAMED_THING_MISSING, OPERAND_OUT_OF_RANGE, TABLES_DISAGREE,
-};
-use handlers::{Row, Table, build};
+use crate::{Draft, ImageFault, Instr, Object, Parts, Subprogram, Task, Text};
+use handlers::{Row, Table};
 use std::alloc::{AllocError, Global};
 use std::marker::Model;
 
 /// A well-formed image. Contracts see its sections.
 #[derive(Drop)]
 pub struct Image {
-    parts: Parts,
-    table: Table,
+    pub(crate) parts: Parts,
+    pub(crate) table: Table,
 }
 
 impl Model for Image {
@@ -43,13 +40,7 @@ impl Image {
         ensures well_formed { OnOk result (IsWellFormed parts) }
         ensures refused { IfErr result (Refuses parts) }
     {
-        parts.check(alloc)?;
-        let ends = parts.ends(alloc)?;
-        let rows = parts.copied_rows(alloc)?;
-        match build(alloc, rows, &ends) {
-            Ok(table) => Ok(Image { parts, table }),
-            Err(fault) => Err(ImageFault::broken(fault.number)),
-        }
+        Draft::new(alloc, parts)?.build(alloc)
     }
 
     /// The exceptions' names, numbered from 1.
@@ -132,30 +123,7 @@ impl Image {
 }
 
 impl Parts {
-    // Whether the rules 43 to 47 are kept; else the first that is broken, in their order.
-    fn check(&self, alloc: Global) -> Result<(), ImageFault>
-        ensures well_formed { OnOk result (IsWellFormed self.now) }
-        ensures refused { IfErr result (Refuses self.now) }
-    {
-        if !self.operands_in_range() {
-            return Err(ImageFault::broken(OPERAND_OUT_OF_RANGE));
-        }
-        if !self.jumps_stay_inside() {
-            return Err(ImageFault::broken(JUMP_OUTSIDE));
-        }
-        if !self.named_things_exist() {
-            return Err(ImageFault::broken(NAMED_THING_MISSING));
-        }
-        if !self.depths_agree() {
-            return Err(ImageFault::broken(DEPTHS_DISAGREE));
-        }
-        if !self.tables_agree(alloc)? {
-            return Err(ImageFault::broken(TABLES_DISAGREE));
-        }
-        Ok(())
-    }
-
-    fn copied_rows(&self, alloc: Global) -> Result<Vec<Row>, ImageFault>
+    pub(crate) fn copied_rows(&self, alloc: Global) -> Result<Vec<Row>, ImageFault>
         ensures ok { IfOk result (λ rows. rows.items ≡ self.now.rows) }
         ensures refused { IfErr result (λ fault. fault ≡ memory_fault) }
     {
@@ -167,7 +135,7 @@ impl Parts {
     }
 
     // Where each subprogram ends.
-    fn ends(&self, alloc: Global) -> Result<Vec<u16>, ImageFault>
+    pub(crate) fn ends(&self, alloc: Global) -> Result<Vec<u16>, ImageFault>
         ensures ok { IfOk result (λ ends. ends.items ≡ ends_of self.now.subprograms) }
         ensures refused { IfErr result (λ fault. fault ≡ memory_fault) }
     {

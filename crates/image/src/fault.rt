@@ -5,13 +5,6 @@ ghost use Rattle.image.specs.Faults.{memory_fault};
 use base::faults::MEMORY_REFUSED;
 use thiserror::Error;
 
-/// The magic or the version is another one.
-pub const WRONG_HEADER: u8 = 40;
-/// A section ends early.
-pub const SECTION_CUT_SHORT: u8 = 41;
-/// Bytes follow the last section.
-pub const STRAY_BYTES: u8 = 42;
-
 /// The rule that an image breaks, by its number in docs/FORMATS.md, and the byte where it does, counted from 0.
 /// Number 60 is no broken rule: memory was refused, and the byte is 0.
 #[derive(Clone, Copy, Debug, PartialEq, Eq, Error)]

@@ -6,7 +6,7 @@ ghost use Rattle.image.specs.Operations.{called};
 ghost use Rattle.image.specs.Sections.{holder_number};
 ghost use Rattle.image.specs.Rules.{all_begun, all_placed, same_number, some_and, calls_inside, has_body, covers_places, has_depth, has_effect, has_entry, has_object, has_region, has_word, in_holder, is_closed, is_external, is_plain, is_row_within, jumps_within, operands_in_range, jumps_stay_inside, named_things_exist, depths_agree, keeps_depth, leaves_depth, where_ends, names_things, writes_region};
 
-use crate::{Instr, Kind, Object, Operation, Parts, Region, Subprogram, Task};
+use crate::{Draft, Instr, Kind, Object, Operation, Parts, Region, Subprogram, Task};
 use handlers::Row;
 
 impl Kind {
@@ -42,7 +42,8 @@ impl Kind {
 }
 
 impl Subprogram {
-    pub(crate) fn has_region(&self, region: Region) -> bool
+    /// Whether the region is there in it (45).
+    pub fn has_region(&self, region: Region) -> bool
         ensures { result ≡ has_region self.now region }
     {
         match region {
@@ -68,30 +69,11 @@ impl Parts {
         self.instructions.iter().all(|x| x.operation.has_operands())
     }
 
-    pub(crate) fn jumps_stay_inside(&self) -> bool
-        ensures { result ≡ jumps_stay_inside self.now }
-    {
-        self.all_cover_places()
-            && (!self.has_ends()
-                || self.all_jumps_within() && self.all_closed() && self.all_rows_within())
-    }
-
     // Whether no handler's region is empty.
     fn all_cover_places(&self) -> bool
         ensures { result ≡ list_all covers_places self.now.rows }
     {
         self.rows.iter().all(|r| r.start < r.end_)
-    }
-
-    fn all_jumps_within(&self) -> bool
-        ensures { result ≡ all_placed (jumps_within self.now) 0 self.now.instructions }
-    {
-        for (place, x) in self.instructions.iter().enumerate() {
-            if !self.jumps_within(place, x) {
-                return false;
-            }
-        }
-        true
     }
 
     fn all_closed(&self) -> bool
@@ -100,76 +82,14 @@ impl Parts {
         self.subprograms.iter().all(|s| self.is_closed(s))
     }
 
-    fn all_rows_within(&self) -> bool
-        ensures { result ≡ list_all (is_row_within self.now) self.now.rows }
-    {
-        self.rows.iter().all(|r| self.is_row_within(r))
-    }
-
-    pub(crate) fn jumps_within(&self, place: usize, x: &Instr) -> bool
-        ensures { result ≡ jumps_within self.now place x.now }
-    {
-        match x.operation.jump_target() {
-            None => true,
-            Some(target) => self.share_holder(place, usize::from(target)),
-        }
-    }
-
-    // Whether one subprogram holds both places.
-    fn share_holder(&self, place: usize, other: usize) -> bool
-        ensures { result ≡ same_number (holder_number self.now.subprograms place) (holder_number self.now.subprograms other) }
-    {
-        match (self.holder_number(place), self.holder_number(other)) {
-            (Some(m), Some(n)) => m == n,
-            _ => false,
-        }
-    }
-
-    // Whether its last instruction lets no other follow.
-    pub(crate) fn is_closed(&self, s: &Subprogram) -> bool
+    /// Whether its last instruction lets no other follow (44).
+    pub fn is_closed(&self, s: &Subprogram) -> bool
         ensures { result ≡ is_closed self.now s.now }
     {
         let last = usize::from(s.end_.saturating_sub(1));
         self.instructions
             .get(last)
             .is_some_and(|x| !x.operation.goes_on())
-    }
-
-    pub(crate) fn is_row_within(&self, r: &Row) -> bool
-        ensures { result ≡ is_row_within self.now r.now }
-    {
-        let start = usize::from(r.start);
-        let last = usize::from(r.end_.saturating_sub(1));
-        self.share_holder(start, last) && self.share_holder(start, usize::from(r.target))
-    }
-
-    pub(crate) fn named_things_exist(&self) -> bool
-        ensures { result ≡ named_things_exist self.now }
-    {
-        (!self.has_ends() || self.all_name_things())
-            && self.all_have_objects()
-            && self.all_have_entries()
-            && self.all_have_bodies()
-    }
-
-    fn all_name_things(&self) -> bool
-        ensures { result ≡ all_placed (λ place x. in_holder self.now place (λ s. names_things self.now s x.operation)) 0 self.now.instructions }
-    {
-        for (place, x) in self.instructions.iter().enumerate() {
-            if !self.names_at(place, x) {
-                return false;
-            }
-        }
-        true
-    }
-
-    fn names_at(&self, place: usize, x: &Instr) -> bool
-        ensures { result ≡ in_holder self.now place (λ s. names_things self.now s x.now.operation) }
-    {
-        match self.holder(place) {
-            None => false,
-            Some(s) => self.names_things(&s, &x.operation),
-        }
     }
 
     fn all_have_objects(&self) -> bool
@@ -190,7 +110,8 @@ impl Parts {
         self.tasks.iter().all(|t| self.has_body(t))
     }
 
-    pub(crate) fn has_object(&self, s: &Subprogram) -> bool
+    /// Whether the object that it belongs to is there (45).
+    pub fn has_object(&self, s: &Subprogram) -> bool
         ensures { result ≡ has_object self.now s.now }
     {
         match s.kind.object() {
@@ -199,7 +120,7 @@ impl Parts {
         }
     }
 
-    pub(crate) fn has_entry(&self, o: &Object) -> bool
+    fn has_entry(&self, o: &Object) -> bool
         ensures { result ≡ has_entry self.now o.now }
     {
         match o.entry() {
@@ -227,7 +148,8 @@ impl Parts {
         }
     }
 
-    pub(crate) fn names_things(&self, s: &Subprogram, operation: &Operation) -> bool
+    /// Whether what an operation names is there, and may be used so in this subprogram (45).
+    pub fn names_things(&self, s: &Subprogram, operation: &Operation) -> bool
         ensures { result ≡ names_things self.now s.now operation.now }
     {
         match operation {
@@ -266,34 +188,6 @@ impl Parts {
         }
     }
 
-    pub(crate) fn depths_agree(&self) -> bool
-        ensures { result ≡ depths_agree self.now }
-    {
-        !self.has_ends()
-            || self.all_keep_depth() && self.begins_empty() && self.all_targets_at_one()
-    }
-
-    fn all_keep_depth(&self) -> bool
-        ensures { result ≡ all_placed (λ place x. in_holder self.now place (keeps_depth self.now place x)) 0 self.now.instructions }
-    {
-        for (place, x) in self.instructions.iter().enumerate() {
-            if !self.keeps_depth_at(place, x) {
-                return false;
-            }
-        }
-        true
-    }
-
-    fn keeps_depth_at(&self, place: usize, x: &Instr) -> bool
-        requires { place < 2 ^ 64 - 1 }
-        ensures { result ≡ in_holder self.now place (keeps_depth self.now place x.now) }
-    {
-        match self.holder(place) {
-            None => false,
-            Some(s) => self.keeps_depth(place, x, &s),
-        }
-    }
-
     fn all_targets_at_one(&self) -> bool
         ensures { result ≡ list_all (λ r. has_depth self.now r.target 1) self.now.rows }
     {
@@ -316,7 +210,8 @@ impl Parts {
         true
     }
 
-    pub(crate) fn has_depth(&self, place: usize, depth: usize) -> bool
+    /// Whether the instruction at a place has this depth; it has where none is there (46).
+    pub fn has_depth(&self, place: usize, depth: usize) -> bool
         ensures { result ≡ has_depth self.now place depth }
     {
         match self.instructions.get(place) {
@@ -334,8 +229,8 @@ impl Parts {
             && (!self.has_effect(&x.operation) || self.leaves_depth(place, x, s))
     }
 
-    // Whether it is known what the operation takes and gives: what it calls is there.
-    pub(crate) fn has_effect(&self, operation: &Operation) -> bool
+    /// Whether it is known what the operation takes and gives: what it calls is there (46).
+    pub fn has_effect(&self, operation: &Operation) -> bool
         ensures { result ≡ has_effect self.now operation.now }
     {
         match operation {
@@ -364,5 +259,118 @@ impl Parts {
                 None => true,
                 Some(target) => self.has_depth(usize::from(target), after),
             }
+    }
+}
+
+impl Draft {
+    pub(crate) fn jumps_stay_inside(&self) -> bool
+        ensures { result ≡ jumps_stay_inside self.now }
+    {
+        self.parts.all_cover_places()
+            && (!self.parts.has_ends()
+                || self.all_jumps_within() && self.parts.all_closed() && self.all_rows_within())
+    }
+
+    fn all_jumps_within(&self) -> bool
+        ensures { result ≡ all_placed (jumps_within self.now) 0 self.now.instructions }
+    {
+        for (place, x) in self.parts.instructions.iter().enumerate() {
+            if !self.jumps_within(place, x) {
+                return false;
+            }
+        }
+        true
+    }
+
+    fn all_rows_within(&self) -> bool
+        ensures { result ≡ list_all (is_row_within self.now) self.now.rows }
+    {
+        self.parts.rows.iter().all(|r| self.is_row_within(r))
+    }
+
+    /// Whether its jump stays in the subprogram that holds its place (44).
+    pub fn jumps_within(&self, place: usize, x: &Instr) -> bool
+        ensures { result ≡ jumps_within self.now place x.now }
+    {
+        match x.operation.jump_target() {
+            None => true,
+            Some(target) => self.share_holder(place, usize::from(target)),
+        }
+    }
+
+    // Whether one subprogram holds both places.
+    fn share_holder(&self, place: usize, other: usize) -> bool
+        ensures { result ≡ same_number (holder_number self.now.subprograms place) (holder_number self.now.subprograms other) }
+    {
+        match (self.holder_number(place), self.holder_number(other)) {
+            (Some(m), Some(n)) => m == n,
+            _ => false,
+        }
+    }
+
+    /// Whether one subprogram holds a handler's region and its target (44).
+    pub fn is_row_within(&self, r: &Row) -> bool
+        ensures { result ≡ is_row_within self.now r.now }
+    {
+        let start = usize::from(r.start);
+        let last = usize::from(r.end_.saturating_sub(1));
+        self.share_holder(start, last) && self.share_holder(start, usize::from(r.target))
+    }
+
+    pub(crate) fn named_things_exist(&self) -> bool
+        ensures { result ≡ named_things_exist self.now }
+    {
+        (!self.parts.has_ends() || self.all_name_things())
+            && self.parts.all_have_objects()
+            && self.parts.all_have_entries()
+            && self.parts.all_have_bodies()
+    }
+
+    fn all_name_things(&self) -> bool
+        ensures { result ≡ all_placed (λ place x. in_holder self.now place (λ s. names_things self.now s x.operation)) 0 self.now.instructions }
+    {
+        for (place, x) in self.parts.instructions.iter().enumerate() {
+            if !self.names_at(place, x) {
+                return false;
+            }
+        }
+        true
+    }
+
+    fn names_at(&self, place: usize, x: &Instr) -> bool
+        ensures { result ≡ in_holder self.now place (λ s. names_things self.now s x.now.operation) }
+    {
+        match self.holder(place) {
+            None => false,
+            Some(s) => self.parts.names_things(&s, &x.operation),
+        }
+    }
+
+    pub(crate) fn depths_agree(&self) -> bool
+        ensures { result ≡ depths_agree self.now }
+    {
+        !self.parts.has_ends()
+            || self.all_keep_depth() && self.parts.begins_empty() && self.parts.all_targets_at_one()
+    }
+
+    fn all_keep_depth(&self) -> bool
+        ensures { result ≡ all_placed (λ place x. in_holder self.now place (keeps_depth self.now place x)) 0 self.now.instructions }
+    {
+        for (place, x) in self.parts.instructions.iter().enumerate() {
+            if !self.keeps_depth_at(place, x) {
+                return false;
+            }
+        }
+        true
+    }
+
+    fn keeps_depth_at(&self, place: usize, x: &Instr) -> bool
+        requires { place < 2 ^ 64 - 1 }
+        ensures { result ≡ in_holder self.now place (keeps_depth self.now place x.now) }
+    {
+        match self.holder(place) {
+            None => false,
+            Some(s) => self.parts.keeps_depth(place, x, &s),
+        }
     }
 }

@@ -1,6 +1,5 @@
 //! The laws of images and their runs: each is what a function without work ensures.
 ghost use Rattle.image.specs.Laws.{BeginsSound, FitsAlways, FourInEveryWorld, FramesHaveRoom, KernelKept, LinesGrowOn, LinkedInEveryWorld, OutcomeStays, SoundToday, StepsSound};
-ghost use Rattle.image.specs.Loaded.{NamesFirst};
 
 use crate::Image;
 use kernel::laws::{
@@ -89,8 +88,3 @@ pub fn fits_64_bits(image: &Image)
 {
     image.words_fit();
 }
-
-/// The fault that `load` names is a rule that is broken at that byte, and no rule is broken that comes before it.
-pub fn names_first()
-    ensures { NamesFirst }
-{}

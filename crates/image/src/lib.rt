@@ -2,23 +2,15 @@
 #![tactic(auto)]
 
 mod building;
-mod code_faults;
-mod decoding;
-mod encoding;
+mod draft;
 mod fault;
-mod fault_order;
 mod instruction;
 mod instruction_rules;
 pub mod laws;
-mod listing;
-mod loading;
 mod objects;
 mod operation_rules;
-mod raw_sections;
-mod reading;
 mod sections;
 mod subprograms;
-mod table_faults;
 mod table_rules;
 mod tables;
 mod tasks;
@@ -26,11 +18,9 @@ mod word_ranges;
 
 pub use base::Text;
 pub use building::Image;
-pub use encoding::encode;
+pub use draft::Draft;
 pub use fault::ImageFault;
 pub use instruction::{Instr, Operation, Region};
-pub use listing::list;
-pub use loading::load;
 pub use objects::{Barrier, Object};
 pub use sections::Parts;
 pub use subprograms::{Kind, Subprogram};

@@ -8,7 +8,7 @@ use base::limits::WORDS;
 
 impl Operation {
     /// Whether its operands are in range by themselves: a block has 1 to 8,192 words.
-    pub(crate) fn has_operands(&self) -> bool
+    pub fn has_operands(&self) -> bool
         ensures { result ≡ has_operands self.now }
     {
         match self {
@@ -20,7 +20,7 @@ impl Operation {
     }
 
     /// Whether the next instruction may follow.
-    pub(crate) fn goes_on(&self) -> bool
+    pub fn goes_on(&self) -> bool
         ensures { result ≡ goes_on self.now }
     {
         !matches!(
@@ -30,14 +30,14 @@ impl Operation {
     }
 
     /// Whether it is a return.
-    pub(crate) fn is_return(&self) -> bool
+    pub fn is_return(&self) -> bool
         ensures { result ≡ is_return self.now }
     {
         matches!(self, Operation::Return)
     }
 
     /// Where it may jump.
-    pub(crate) fn jump_target(&self) -> Option<u16>
+    pub fn jump_target(&self) -> Option<u16>
         ensures { result ≡ jump_target self.now }
     {
         match self {

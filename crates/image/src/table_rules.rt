@@ -16,7 +16,8 @@ use handlers::first_crossing;
 use std::alloc::Global;
 
 impl Kind {
-    pub(crate) fn is_task_body(&self) -> bool
+    /// Whether it is that of a task's body.
+    pub fn is_task_body(&self) -> bool
         ensures { result ≡ is_task_body self.now }
     {
         matches!(self, Kind::TaskBody)
@@ -66,8 +67,8 @@ impl Parts {
             && self.has_words()
     }
 
-    // Whether the plain words and those of the objects are within the limit.
-    pub(crate) fn has_words(&self) -> bool
+    /// Whether the plain words and those of the objects are within the limit together (47).
+    pub fn has_words(&self) -> bool
         ensures { result ≡ nat_le (length self.now.plain_words + sum_by (λ o. length o.words) self.now.objects) WORDS }
     {
         let mut left = match WORDS.checked_sub(self.plain_words.len()) {
@@ -83,8 +84,8 @@ impl Parts {
         true
     }
 
-    // Whether the ends of subprograms are in order.
-    pub(crate) fn has_ends(&self) -> bool
+    /// Whether the ends of subprograms are in order (47): they increase from above 0, and the last one is the number of instructions.
+    pub fn has_ends(&self) -> bool
         ensures { result ≡ has_ends self.now }
     {
         self.ends_increase() && self.last_end() == self.instructions.len()
@@ -132,8 +133,8 @@ impl Parts {
             && self.is_entry_of_object(number, &s.kind)
     }
 
-    // Whether an entry's body is the one that its object has.
-    pub(crate) fn is_entry_of_object(&self, number: usize, kind: &Kind) -> bool
+    /// Whether an entry's body is the one that its object has (47).
+    pub fn is_entry_of_object(&self, number: usize, kind: &Kind) -> bool
         ensures { result ≡ is_entry_of_object self.now number kind.now }
     {
         let Kind::EntryBody(object) = kind else {
@@ -248,7 +249,7 @@ fn begin_with_predefined(names: &[Text]) -> bool
     }
 }
 
-pub(crate) fn is_barrier(o: &Object) -> bool
+fn is_barrier(o: &Object) -> bool
     ensures { result ≡ is_barrier o.now o.now.barrier }
 {
     match o.barrier() {
@@ -257,7 +258,7 @@ pub(crate) fn is_barrier(o: &Object) -> bool
     }
 }
 
-pub(crate) fn is_closed(barrier: Barrier) -> bool
+fn is_closed(barrier: Barrier) -> bool
     ensures { result ≡ is_closed_barrier barrier }
 {
     matches!(barrier, Barrier::Closed)

@@ -1,6 +1,6 @@
 //! Looking things up in the sections of an image.
 ghost use Rattle.std.specs.Prelude.{◌≡◌, ◌≤◌, ◌^◌};
-ghost use Rattle.image.specs.Sections.{holder, holder_number, object_of, writes_object};
+ghost use Rattle.image.specs.Sections.{object_of, writes_object};
 ghost use Rattle.image.specs.Operations.{called, entry_called, given_by, parameters_of, results_of, taken_by};
 
 use crate::{Kind, Operation, Parts, Subprogram};
@@ -27,42 +27,23 @@ impl Kind {
 }
 
 impl Parts {
-    // The subprogram that holds a place.
-    pub(crate) fn holder(&self, place: usize) -> Option<Subprogram>
-        ensures { result ≡ holder self.now.subprograms place }
-    {
-        self.subprograms
-            .iter()
-            .copied()
-            .find(|s| place < usize::from(s.end_))
-    }
-
-    // The number of the subprogram that holds a place.
-    pub(crate) fn holder_number(&self, place: usize) -> Option<usize>
-        ensures { result ≡ holder_number self.now.subprograms place }
-    {
-        self.subprograms
-            .iter()
-            .position(|s| place < usize::from(s.end_))
-    }
-
-    // The subprogram of this number.
-    pub(crate) fn called(&self, number: u16) -> Option<Subprogram>
+    /// The subprogram of this number.
+    pub fn called(&self, number: u16) -> Option<Subprogram>
         ensures { result ≡ called self.now number }
     {
         self.subprograms.get(usize::from(number)).copied()
     }
 
-    // The subprogram of an object's entry.
-    pub(crate) fn entry_called(&self, object: u16) -> Option<Subprogram>
+    /// The subprogram of an object's entry.
+    pub fn entry_called(&self, object: u16) -> Option<Subprogram>
         ensures { result ≡ entry_called self.now object }
     {
         let entry = self.objects.get(usize::from(object))?.entry()?;
         self.called(entry)
     }
 
-    // How many words an operation takes; a return takes the results of its subprogram.
-    pub(crate) fn taken_by(&self, results: u16, operation: &Operation) -> usize
+    /// How many words an operation takes; a return takes the results of its subprogram.
+    pub fn taken_by(&self, results: u16, operation: &Operation) -> usize
         ensures taken { result ≡ taken_by self.now results operation.now }
         ensures small { result ≤ 2 ^ 16 }
     {
@@ -101,8 +82,8 @@ impl Parts {
         }
     }
 
-    // How many words an operation gives.
-    pub(crate) fn given_by(&self, operation: &Operation) -> usize
+    /// How many words an operation gives.
+    pub fn given_by(&self, operation: &Operation) -> usize
         ensures given { result ≡ given_by self.now operation.now }
         ensures small { result ≤ 2 ^ 16 }
     {

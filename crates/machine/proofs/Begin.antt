@@ -1,6 +1,7 @@
 -- The start of the only task.
 use Rattle.std.proofs.Common.{◌≡◌, ℕ, zero, suc, ◌<◌, ◌≤◌, pos, List, [], ◌∷◌, length, true, Option, Some, None, slice_get, nat_eq, nat_le, ⊎_elim, refl, sym, ap, subst, ◌∙◌, arith}
 use Rattle.std.proofs.lemmas.Bool.{eqb-true, leb-true}
+use Rattle.base.specs.declared.schedule.ScheduleLine.{ScheduleLine}
 use Rattle.kernel.specs.State as kernel
 use Rattle.kernel.specs.State.{Kernel, Partition, put}
 use Rattle.kernel.specs.PutLaws.{by_put, put_other, put_same, same_or_not}
@@ -109,11 +110,11 @@ starts_without_lines left i =
     (left (activated (partition_of i).tasks (blank (partition_of i)))).lines ∙ no_lines (partition_of i).tasks (partition_of i)
 
 -- the machine at its start stands for the start of code
-pub stands_start : (i : Sections) (h : Held) → IsWellFormed i → IsTaken i → h ≡ record { image = i; state = initial_state i 0; time = pos 0; outcome = None } → StandsFor h (start i)
-stands_start i h whole taken is =
+pub stands_start : (i : Sections) (schedule : List ScheduleLine) (h : Held) → IsWellFormed i → IsTaken i → h ≡ record { image = i; schedule = schedule; state = initial_state i 0; time = pos 0; outcome = None } → StandsFor h (start i)
+stands_start i schedule h whole taken is =
     let low : priority_of (slice_get i.tasks 0) < 32 = low_priority i whole i.tasks (tasks_right i whole) in
     let k = begin_one (partition_of i) (one_task i taken) low in
-    let there : StandsFor (record { image = i; state = initial_state i 0; time = pos 0; outcome = None }) (start i) =
+    let there : StandsFor (record { image = i; schedule = schedule; state = initial_state i 0; time = pos 0; outcome = None }) (start i) =
     record {
       last = tt;
       outcome = ap (λ q. q.outcome) k;

@@ -46,16 +46,17 @@ unwinds_more i x before s u lt none =
 -- the same for a whole machine
 pub record Raises (before after : Held) (x : ℕ) : Type 0 where
   pub image : after.image ≡ before.image
+  pub schedule : after.schedule ≡ before.schedule
   pub time : after.time ≡ before.time
   pub unwinds : Unwinds before.image x before.state after.state
 
 pub raises_nothing : (h : Held) (x : ℕ) → AreInner (h.state.frame ∷ h.state.callers) → h.state.raising ≡ None → Raises h h x
-raises_nothing h x inner quiet = record { image = refl; time = refl; unwinds = unwinds_nothing h.image x h.state inner quiet }
+raises_nothing h x inner quiet = record { image = refl; schedule = refl; time = refl; unwinds = unwinds_nothing h.image x h.state inner quiet }
 
 pub raises_more : (before h same after : Held) (x : ℕ) → Raises before h x → same ≡ h → 0 < length h.state.callers → handler_of h.image.rows h.state.frame.place x ≡ None → after ≡ record same { state = abandoned same.state same.state.callers } → Raises before after x
 raises_more before h same after x r e lt none is =
     let rows : handler_of before.image.rows h.state.frame.place x ≡ None = subst (λ i. handler_of i.rows h.state.frame.place x ≡ None) r.image none in
-    let next : Raises before (record h { state = abandoned h.state h.state.callers }) x = record { image = r.image; time = r.time; unwinds = unwinds_more before.image x before.state h.state r.unwinds lt rows } in
+    let next : Raises before (record h { state = abandoned h.state h.state.callers }) x = record { image = r.image; schedule = r.schedule; time = r.time; unwinds = unwinds_more before.image x before.state h.state r.unwinds lt rows } in
     let same_next : Raises before (record same { state = abandoned same.state same.state.callers }) x = subst (λ g. Raises before (record g { state = abandoned g.state g.state.callers }) x) (sym e) next in
     subst (λ g. Raises before g x) (sym is) same_next
 
@@ -80,6 +81,7 @@ raises_dying before h same after x told r e none_left none is says m stack =
     subst (λ a. Follows before after told a) (sym all)
     (record {
       image = ap (λ g. g.image) is ∙ ap (λ g. g.image) e ∙ r.image;
+      schedule = ap (λ g. g.schedule) is ∙ ap (λ g. g.schedule) e ∙ r.schedule;
       time = ap (λ g. g.time) is ∙ ap (λ g. g.time) e ∙ r.time;
       state =
           ap (λ g. g.state) is

@@ -3,6 +3,7 @@ use Rattle.std.proofs.Common.{◌≡◌, ℕ, ◌+◌, ◌-◌, ◌<◌, ℤ, Li
 use Rattle.std.proofs.Math.Seq.{take-append-add, take-length}
 use Rattle.std.proofs.lemmas.List.{take-append-le}
 use Rattle.std.specs.Io.KnownBytes.{Appends}
+use Rattle.base.specs.declared.schedule.ScheduleLine.{ScheduleLine}
 use Rattle.kernel.specs.State as kernel
 use Rattle.kernel.specs.Text.{Names, last_line, line_text, lines_text}
 use Rattle.image.specs.Sections.{Sections}
@@ -62,101 +63,109 @@ still_on h w stands none = on h.outcome stands.last (sym stands.outcome ∙ none
     on (Some o) last e = absurd (none_some last.0 (sym e ∙ last.1))
 
 -- after n steps: the machine stands for the world, which has no outcome, and its lines are written
-pub record Ran (i : Sections) (n : ℕ) (h : Held) (old new : Option (List ℕ)) (before after : ℕ) : Type 0 where
+pub record Ran (i : Sections) (schedule : List ScheduleLine) (n : ℕ) (h : Held) (old new : Option (List ℕ)) (before after : ℕ) : Type 0 where
   pub image : h.image ≡ i
-  pub stands : StandsFor h (code i [] n)
+  pub schedule_is : h.schedule ≡ schedule
+  pub stands : StandsFor h (code i schedule n)
   pub on : h.outcome ≡ None
-  pub written : Appends old new (lines_text (names_of i) (code i [] n).kernel.lines)
+  pub written : Appends old new (lines_text (names_of i) (code i schedule n).kernel.lines)
   pub kept : after ≡ before
 
-pub ran_nothing : (h : Held) (old : Option (List ℕ)) (before : ℕ) → StandsFor h (code h.image [] 0) → h.outcome ≡ None → (code h.image [] 0).kernel.lines ≡ [] → Ran h.image 0 h old old before before
+pub ran_nothing : (h : Held) (old : Option (List ℕ)) (before : ℕ) → StandsFor h (code h.image h.schedule 0) → h.outcome ≡ None → (code h.image h.schedule 0).kernel.lines ≡ [] → Ran h.image h.schedule 0 h old old before before
 ran_nothing h old before stands on empty =
-    record { image = refl; stands = stands; on = on; written = rw empty (appends_nothing old); kept = refl }
+    record { image = refl; schedule_is = refl; stands = stands; on = on; written = rw empty (appends_nothing old); kept = refl }
 
-module _ (i : Sections) (n : ℕ) (h next : Held) (old new : Option (List ℕ)) (before after : ℕ) (r : Ran i n h old new before after) (image : next.image ≡ h.image) where
-  advances : (told : Signal) → ((m : ℕ) → StandsFor h (code h.image [] m) → Advances h.image next (code h.image [] m).kernel (code h.image [] (m + 1)) told) → Advances i next (code i [] n).kernel (code i [] (n + 1)) told
+module _ (i : Sections) (schedule : List ScheduleLine) (n : ℕ) (h next : Held) (old new : Option (List ℕ)) (before after : ℕ) (r : Ran i schedule n h old new before after) (image : next.image ≡ h.image) (schedule_is : next.schedule ≡ h.schedule) where
+  advances : (told : Signal) → ((m : ℕ) → StandsFor h (code h.image h.schedule m) → Advances h.image next (code h.image h.schedule m).kernel (code h.image h.schedule (m + 1)) told) → Advances i next (code i schedule n).kernel (code i schedule (n + 1)) told
   advances told world =
-      subst (λ j. Advances j next (code j [] n).kernel (code j [] (n + 1)) told) r.image
-      (world n (subst (λ j. StandsFor h (code j [] n)) (sym r.image) r.stands))
+      subst (λ s. Advances i next (code i s n).kernel (code i s (n + 1)) told) r.schedule_is
+      (subst (λ j. Advances j next (code j h.schedule n).kernel (code j h.schedule (n + 1)) told) r.image
+      (world n (subst (λ j. StandsFor h (code j h.schedule n)) (sym r.image) (subst (λ s. StandsFor h (code i s n)) (sym r.schedule_is) r.stands))))
 
-  pub ran_quiet : ((m : ℕ) → StandsFor h (code h.image [] m) → Advances h.image next (code h.image [] m).kernel (code h.image [] (m + 1)) signals.Quiet) → Ran i (n + 1) next old new before after
+  pub ran_quiet : ((m : ℕ) → StandsFor h (code h.image h.schedule m) → Advances h.image next (code h.image h.schedule m).kernel (code h.image h.schedule (m + 1)) signals.Quiet) → Ran i schedule (n + 1) next old new before after
   ran_quiet world =
       let a = advances signals.Quiet world in
       record {
         image = image ∙ r.image;
+        schedule_is = schedule_is ∙ r.schedule_is;
         stands = a.stands;
-        on = still_on next (code i [] (n + 1)) a.stands a.shows.1;
+        on = still_on next (code i schedule (n + 1)) a.stands a.shows.1;
         written = rw a.shows.0 r.written;
         kept = r.kept;
       }
 
   -- the lines after one more step, with the line that it wrote
-  line_more : (line : Line) (text : List ℕ) → text ≡ line_text (names_of next.image) (line_of next.image line) → Advances i next (code i [] n).kernel (code i [] (n + 1)) (signals.Line line) → lines_text (names_of i) (code i [] (n + 1)).kernel.lines ≡ lines_text (names_of i) (code i [] n).kernel.lines ++ text
+  line_more : (line : Line) (text : List ℕ) → text ≡ line_text (names_of next.image) (line_of next.image line) → Advances i next (code i schedule n).kernel (code i schedule (n + 1)) (signals.Line line) → lines_text (names_of i) (code i schedule (n + 1)).kernel.lines ≡ lines_text (names_of i) (code i schedule n).kernel.lines ++ text
   line_more line text is a =
       ap (lines_text (names_of i)) a.shows.0
-      ∙ lines_text-append (names_of i) (code i [] n).kernel.lines (line_of i line ∷ [])
-      ∙ ap (λ v. lines_text (names_of i) (code i [] n).kernel.lines ++ v) (append-nil (line_text (names_of i) (line_of i line)) ∙ sym (subst (λ j. text ≡ line_text (names_of j) (line_of j line)) (image ∙ r.image) is))
+      ∙ lines_text-append (names_of i) (code i schedule n).kernel.lines (line_of i line ∷ [])
+      ∙ ap (λ v. lines_text (names_of i) (code i schedule n).kernel.lines ++ v) (append-nil (line_text (names_of i) (line_of i line)) ∙ sym (subst (λ j. text ≡ line_text (names_of j) (line_of j line)) (image ∙ r.image) is))
 
-  pub ran_line : (line : Line) (text : List ℕ) (later : Option (List ℕ)) (count : ℕ) → text ≡ line_text (names_of next.image) (line_of next.image line) → ((m : ℕ) → StandsFor h (code h.image [] m) → Advances h.image next (code h.image [] m).kernel (code h.image [] (m + 1)) (signals.Line line)) → Appends new later text → count ≡ after → Ran i (n + 1) next old later before count
+  pub ran_line : (line : Line) (text : List ℕ) (later : Option (List ℕ)) (count : ℕ) → text ≡ line_text (names_of next.image) (line_of next.image line) → ((m : ℕ) → StandsFor h (code h.image h.schedule m) → Advances h.image next (code h.image h.schedule m).kernel (code h.image h.schedule (m + 1)) (signals.Line line)) → Appends new later text → count ≡ after → Ran i schedule (n + 1) next old later before count
   ran_line line text later count is world app same =
       let a = advances (signals.Line line) world in
       record {
         image = image ∙ r.image;
+        schedule_is = schedule_is ∙ r.schedule_is;
         stands = a.stands;
-        on = still_on next (code i [] (n + 1)) a.stands a.shows.1;
+        on = still_on next (code i schedule (n + 1)) a.stands a.shows.1;
         written = rw (line_more line text is a) (appends_two old new later _ text r.written app);
         kept = same ∙ r.kept;
       }
 
   -- a line whose write failed: what is written is a beginning of what the run writes
-  pub broken_line : (grow : LinesGrowOn) (limit : ℕ) → n < limit → (line : Line) (text : List ℕ) (later : Option (List ℕ)) → text ≡ line_text (names_of next.image) (line_of next.image line) → ((m : ℕ) → StandsFor h (code h.image [] m) → Advances h.image next (code h.image [] m).kernel (code h.image [] (m + 1)) (signals.Line line)) → AppendsBeginning new later text → AppendsBeginning old later (lines_text (names_of i) (code i [] limit).kernel.lines)
+  pub broken_line : (grow : LinesGrowOn) (limit : ℕ) → n < limit → (line : Line) (text : List ℕ) (later : Option (List ℕ)) → text ≡ line_text (names_of next.image) (line_of next.image line) → ((m : ℕ) → StandsFor h (code h.image h.schedule m) → Advances h.image next (code h.image h.schedule m).kernel (code h.image h.schedule (m + 1)) (signals.Line line)) → AppendsBeginning new later text → AppendsBeginning old later (lines_text (names_of i) (code i schedule limit).kernel.lines)
   broken_line grow limit lt line text later is world part =
       let a = advances (signals.Line line) world in
-      let rest = grow i [] (n + 1) (limit - (n + 1)) in
+      let rest = grow i schedule (n + 1) (limit - (n + 1)) in
       let at : (n + 1) + (limit - (n + 1)) ≡ limit = omega (arith, lt) in
-      let more : (code i [] limit).kernel.lines ≡ (code i [] (n + 1)).kernel.lines ++ rest.0 = subst (λ k. (code i [] k).kernel.lines ≡ (code i [] (n + 1)).kernel.lines ++ rest.0) at rest.1 in
-      let whole : lines_text (names_of i) (code i [] limit).kernel.lines ≡ (lines_text (names_of i) (code i [] n).kernel.lines ++ text) ++ lines_text (names_of i) rest.0 =
-      ap (lines_text (names_of i)) more ∙ lines_text-append (names_of i) (code i [] (n + 1)).kernel.lines rest.0 ∙ ap (λ v. v ++ lines_text (names_of i) rest.0) (line_more line text is a) in
+      let more : (code i schedule limit).kernel.lines ≡ (code i schedule (n + 1)).kernel.lines ++ rest.0 = subst (λ k. (code i schedule k).kernel.lines ≡ (code i schedule (n + 1)).kernel.lines ++ rest.0) at rest.1 in
+      let whole : lines_text (names_of i) (code i schedule limit).kernel.lines ≡ (lines_text (names_of i) (code i schedule n).kernel.lines ++ text) ++ lines_text (names_of i) rest.0 =
+      ap (lines_text (names_of i)) more ∙ lines_text-append (names_of i) (code i schedule (n + 1)).kernel.lines rest.0 ∙ ap (λ v. v ++ lines_text (names_of i) rest.0) (line_more line text is a) in
       subst (AppendsBeginning old later) (sym whole)
       (beginning_of_more old later _ (lines_text (names_of i) rest.0) (beginning_after old new later _ text r.written part))
 
   -- an outcome: the world at the limit is the one after this step
-  pub ran_done : (stay : OutcomeStays) (limit : ℕ) → n < limit → (o : Outcome) → ((m : ℕ) → StandsFor h (code h.image [] m) → Advances h.image next (code h.image [] m).kernel (code h.image [] (m + 1)) (signals.Done o)) → Appends old new (lines_text (names_of i) (code i [] limit).kernel.lines) × EndsBy o (code i [] limit)
+  pub ran_done : (stay : OutcomeStays) (limit : ℕ) → n < limit → (o : Outcome) → ((m : ℕ) → StandsFor h (code h.image h.schedule m) → Advances h.image next (code h.image h.schedule m).kernel (code h.image h.schedule (m + 1)) (signals.Done o)) → Appends old new (lines_text (names_of i) (code i schedule limit).kernel.lines) × EndsBy o (code i schedule limit)
   ran_done stay limit lt o world =
       let a = advances (signals.Done o) world in
       let at : (n + 1) + (limit - (n + 1)) ≡ limit = omega (arith, lt) in
-      let same : code i [] limit ≡ code i [] (n + 1) = subst (λ k. code i [] k ≡ code i [] (n + 1)) at (stay i [] (n + 1) (limit - (n + 1)) a.shows.3.0 (a.shows.1 ∙ a.shows.3.1)) in (
+      let same : code i schedule limit ≡ code i schedule (n + 1) = subst (λ k. code i schedule k ≡ code i schedule (n + 1)) at (stay i schedule (n + 1) (limit - (n + 1)) a.shows.3.0 (a.shows.1 ∙ a.shows.3.1)) in (
         subst (λ w. Appends old new (lines_text (names_of i) w.kernel.lines)) (sym same) (rw a.shows.0 r.written),
         subst (EndsBy o) (sym same) (record { outcome = a.shows.1; time = a.shows.2 }),
       )
 
 -- no outcome up to the limit
-pub ran_out : (i : Sections) (limit : ℕ) (h : Held) (old new : Option (List ℕ)) (before after : ℕ) (time : ℤ) → Ran i limit h old new before after → time ≡ h.time → EndsBy (outcomes.StepLimit time) (code i [] limit)
-ran_out i limit h old new before after time r is =
+pub ran_out : (i : Sections) (schedule : List ScheduleLine) (limit : ℕ) (h : Held) (old new : Option (List ℕ)) (before after : ℕ) (time : ℤ) → Ran i schedule limit h old new before after → time ≡ h.time → EndsBy (outcomes.StepLimit time) (code i schedule limit)
+ran_out i schedule limit h old new before after time r is =
     record { outcome = r.stands.outcome ∙ ap kernel_outcome r.on; time = r.stands.time ∙ sym is }
 
 -- the whole text: the lines, and then the last line
-module _ (j i : Sections) (limit : ℕ) (old middle new : Option (List ℕ)) (same : j ≡ i) where
-  pub part_of_lines : AppendsBeginning old new (lines_text (names_of j) (code j [] limit).kernel.lines) → AppendsBeginning old new (code_text i [] limit)
+module _ (j i : Sections) (given schedule : List ScheduleLine) (limit : ℕ) (old middle new : Option (List ℕ)) (same : j ≡ i) (same_schedule : given ≡ schedule) where
+  -- what holds of the code as it is held holds of that which was given
+  of_code : (P : Sections → CodeWorld → Type 0) → P j (code j given limit) → P i (code i schedule limit)
+  of_code P p = subst (λ k. P k (code k schedule limit)) same (subst (λ s. P j (code j s limit)) same_schedule p)
+
+  pub part_of_lines : AppendsBeginning old new (lines_text (names_of j) (code j given limit).kernel.lines) → AppendsBeginning old new (code_text i schedule limit)
   part_of_lines part =
-      beginning_of_more old new (lines_text (names_of i) (code i [] limit).kernel.lines) (last_line (names_of i) (code i [] limit).kernel.outcome (code i [] limit).kernel.now)
-      (subst (λ k. AppendsBeginning old new (lines_text (names_of k) (code k [] limit).kernel.lines)) same part)
+      beginning_of_more old new (lines_text (names_of i) (code i schedule limit).kernel.lines) (last_line (names_of i) (code i schedule limit).kernel.outcome (code i schedule limit).kernel.now)
+      (of_code (λ k w. AppendsBeginning old new (lines_text (names_of k) w.kernel.lines)) part)
 
-  module _ (o : Outcome) (last : List ℕ) (ends : EndsBy o (code j [] limit)) (is : last ≡ last_line (names_of i) (ending_of o) (time_of o)) (lines : Appends old middle (lines_text (names_of j) (code j [] limit).kernel.lines)) where
-    last_is : last ≡ last_line (names_of i) (code i [] limit).kernel.outcome (code i [] limit).kernel.now
+  module _ (o : Outcome) (last : List ℕ) (ends : EndsBy o (code j given limit)) (is : last ≡ last_line (names_of i) (ending_of o) (time_of o)) (lines : Appends old middle (lines_text (names_of j) (code j given limit).kernel.lines)) where
+    last_is : last ≡ last_line (names_of i) (code i schedule limit).kernel.outcome (code i schedule limit).kernel.now
     last_is =
-        let here : EndsBy o (code i [] limit) = subst (λ k. EndsBy o (code k [] limit)) same ends in
-        is ∙ ap (λ q. last_line (names_of i) q (time_of o)) (sym here.outcome) ∙ ap (λ q. last_line (names_of i) (code i [] limit).kernel.outcome q) (sym here.time)
+        let here : EndsBy o (code i schedule limit) = of_code (λ k w. EndsBy o w) ends in
+        is ∙ ap (λ q. last_line (names_of i) q (time_of o)) (sym here.outcome) ∙ ap (λ q. last_line (names_of i) (code i schedule limit).kernel.outcome q) (sym here.time)
 
-    lines_are : Appends old middle (lines_text (names_of i) (code i [] limit).kernel.lines)
-    lines_are = subst (λ k. Appends old middle (lines_text (names_of k) (code k [] limit).kernel.lines)) same lines
+    lines_are : Appends old middle (lines_text (names_of i) (code i schedule limit).kernel.lines)
+    lines_are = of_code (λ k w. Appends old middle (lines_text (names_of k) w.kernel.lines)) lines
 
-    pub whole_text : Appends middle new last → Appends old new (code_text i [] limit)
+    pub whole_text : Appends middle new last → Appends old new (code_text i schedule limit)
     whole_text app =
-        appends_two old middle new (lines_text (names_of i) (code i [] limit).kernel.lines) (last_line (names_of i) (code i [] limit).kernel.outcome (code i [] limit).kernel.now) lines_are
+        appends_two old middle new (lines_text (names_of i) (code i schedule limit).kernel.lines) (last_line (names_of i) (code i schedule limit).kernel.outcome (code i schedule limit).kernel.now) lines_are
         (subst (Appends middle new) last_is app)
 
-    pub part_of_text : AppendsBeginning middle new last → AppendsBeginning old new (code_text i [] limit)
+    pub part_of_text : AppendsBeginning middle new last → AppendsBeginning old new (code_text i schedule limit)
     part_of_text part =
-        beginning_after old middle new (lines_text (names_of i) (code i [] limit).kernel.lines) (last_line (names_of i) (code i [] limit).kernel.outcome (code i [] limit).kernel.now) lines_are
+        beginning_after old middle new (lines_text (names_of i) (code i schedule limit).kernel.lines) (last_line (names_of i) (code i schedule limit).kernel.outcome (code i schedule limit).kernel.now) lines_are
         (subst (AppendsBeginning middle new) last_is part)

@@ -10,6 +10,7 @@ use Rattle.kernel.specs.Laws.{QuietStays, SaysOn}
 use Rattle.kernel.specs.RunLaws.{run_over, run_plus, step_running}
 use Rattle.kernel.specs.Worlds.{among, ending, reached, solo_of, step}
 use Rattle.base.specs.declared.limits.TheConstants.{PRIORITIES}
+use Rattle.base.specs.declared.schedule.ScheduleLine.{ScheduleLine}
 use Rattle.image.specs.Sections.{Sections}
 use Rattle.image.specs.Code.{CodeWorld, code, start}
 use Rattle.image.specs.Frames.{TaskState, Words}
@@ -135,37 +136,37 @@ closes : (k : Kernel) (e : Effect) (i : Sections) (time : ℤ) (o : Option Outco
 closes k (Ends b) i time o told tells = absurd (no_end b i time o told tells)
 closes k _ i time o told tells = refl
 
-module _ (quiet_stays : QuietStays) (says_on : SaysOn) (h after_step : Held) (told : Signal) (w : CodeWorld) (stands : StandsFor h w) (on : h.outcome ≡ None) (follows : (k : Kernel) (m : Words) → Follows h after_step told (act h.image [] k 0 (record { memory = m; task = h.state }))) where
+module _ (quiet_stays : QuietStays) (says_on : SaysOn) (h after_step : Held) (told : Signal) (w : CodeWorld) (stands : StandsFor h w) (on : h.outcome ≡ None) (follows : (k : Kernel) (m : Words) → Follows h after_step told (act h.image h.schedule k 0 (record { memory = m; task = h.state }))) where
   abbrev acted : Stepped
-  acted = act h.image [] w.kernel 0 (solo_of 0 w.rest)
+  acted = act h.image h.schedule w.kernel 0 (solo_of 0 w.rest)
 
   follows_acted : Follows h after_step told acted
   follows_acted =
-      subst (λ s. Follows h after_step told (act h.image [] w.kernel 0 (record { memory = w.rest.memory; task = s }))) (sym stands.state) (follows w.kernel w.rest.memory)
+      subst (λ s. Follows h after_step told (act h.image h.schedule w.kernel 0 (record { memory = w.rest.memory; task = s }))) (sym stands.state) (follows w.kernel w.rest.memory)
 
   -- the machine after a step stands for the world after a step
-  pub next_world : Advances h.image after_step w.kernel (step (among (behaviour h.image [])) w) told
+  pub next_world : Advances h.image after_step w.kernel (step (among (behaviour h.image h.schedule)) w) told
   next_world =
-      let a : Stepped = act h.image [] w.kernel 0 (solo_of 0 w.rest) in
+      let a : Stepped = act h.image h.schedule w.kernel 0 (solo_of 0 w.rest) in
       let f : Follows h after_step told a = follows_acted in
       let own : ℕ → TaskState = kernel.put 0 a.solo.task w.rest.tasks in
       let ended : ending w.kernel 0 a.effect ≡ Closes = closes w.kernel a.effect h.image h.time after_step.outcome told f.tells in
-      let stepped = step_running (among (behaviour h.image [])) w.kernel 0 w.rest (record { on = stands.outcome ∙ ap kernel_outcome on; running = stands.running ∙ ap running_of on }) in
-      let reaches : step (among (behaviour h.image [])) w ≡ next_of w a.effect a.solo.task a.solo.memory =
-      stepped ∙ ap (λ e. (let v : CodeWorld = record { kernel = after 0 a.effect w.kernel; rest = record { memory = a.solo.memory; tasks = reached (behaviour h.image []) 0 e a.given own } } in v)) ended in
+      let stepped = step_running (among (behaviour h.image h.schedule)) w.kernel 0 w.rest (record { on = stands.outcome ∙ ap kernel_outcome on; running = stands.running ∙ ap running_of on }) in
+      let reaches : step (among (behaviour h.image h.schedule)) w ≡ next_of w a.effect a.solo.task a.solo.memory =
+      stepped ∙ ap (λ e. (let v : CodeWorld = record { kernel = after 0 a.effect w.kernel; rest = record { memory = a.solo.memory; tasks = reached (behaviour h.image h.schedule) 0 e a.given own } } in v)) ended in
       let here : Advances h.image after_step w.kernel (next_of w a.effect after_step.state a.solo.memory) told = by_effect quiet_stays says_on h after_step w a.solo.memory stands on f.image f.time a.effect after_step.outcome told refl f.tells in
       subst (λ v. Advances h.image after_step w.kernel v told) (sym reaches)
       (subst (λ s. Advances h.image after_step w.kernel (next_of w a.effect s a.solo.memory) told) f.state here)
 
 -- a machine with an outcome, and the world that it stands for, stay as they are
-pub same_world : (h : Held) (o : Outcome) (w : CodeWorld) → StandsFor h w → h.outcome ≡ Some o → Advances h.image h w.kernel (step (among (behaviour h.image [])) w) (signals.Done o)
+pub same_world : (h : Held) (o : Outcome) (w : CodeWorld) → StandsFor h w → h.outcome ≡ Some o → Advances h.image h w.kernel (step (among (behaviour h.image h.schedule)) w) (signals.Done o)
 same_world h o w stands is =
     let last : IsLast h.time (Some o) = subst (IsLast h.time) is stands.last in
     let ended : w.kernel.outcome ≡ Some last.0 = stands.outcome ∙ ap kernel_outcome is ∙ last.1 in
-    let same : step (among (behaviour h.image [])) w ≡ w = run_over (among (behaviour h.image [])) 1 w last.0 ended in
+    let same : step (among (behaviour h.image h.schedule)) w ≡ w = run_over (among (behaviour h.image h.schedule)) 1 w last.0 ended in
     subst (λ v. Advances h.image h w.kernel v (signals.Done o)) (sym same)
     (record { stands = stands; shows = (refl, ended ∙ sym last.1, stands.time ∙ sym last.2, (last.0, last.1)) })
 
 -- the world after one more step
-pub code_next : (i : Sections) (m : ℕ) → code i [] (m + 1) ≡ step (among (behaviour i [])) (code i [] m)
-code_next i m = run_plus (among (behaviour i [])) m 1 (start i)
+pub code_next : (i : Sections) (schedule : List ScheduleLine) (m : ℕ) → code i schedule (m + 1) ≡ step (among (behaviour i schedule)) (code i schedule m)
+code_next i schedule m = run_plus (among (behaviour i schedule)) m 1 (start i)

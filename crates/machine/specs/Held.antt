@@ -8,6 +8,7 @@ use Rattle.image.specs.Frames.{Frame, Inner, TaskState, Words, arguments}
 use Rattle.image.specs.Shape.{IsSound}
 use Rattle.image.specs.Steps.{Stepped, does_operation}
 use Rattle.base.specs.declared.limits.TheConstants.{FRAME_WORDS, FRAMES, INSTRUCTIONS}
+use Rattle.base.specs.declared.schedule.ScheduleLine.{ScheduleLine}
 use Rattle.image.specs.declared.instruction.Operation.{Operation}
 use Rattle.image.specs.declared.instruction.Operation.TheVariants.{Call, Return}
 use Rattle.image.specs.declared.subprograms.Subprogram.{Subprogram}
@@ -18,9 +19,10 @@ use Rattle.machine.specs.declared.reports.Outcome.TheVariants as outcomes
 use Rattle.machine.specs.declared.reports.Signal.{Signal}
 use Rattle.machine.specs.declared.reports.Signal.TheVariants as signals
 
--- an image, the frames of its one task, virtual time, and the outcome once there is one
+-- an image, the lines of the schedule, the frames of its one task, virtual time, and the outcome once there is one
 pub record Held : Type 0 where
   pub image : Sections
+  pub schedule : List ScheduleLine
   pub state : TaskState
   pub time : ℤ
   pub outcome : Option Outcome
@@ -37,6 +39,7 @@ Tells i now _ _ _ = ⊥
 -- what a step of code does is what the machine has done
 pub record Follows (before after : Held) (signal : Signal) (a : Stepped) : Type 0 where
   pub image : after.image ≡ before.image
+  pub schedule : after.schedule ≡ before.schedule
   pub time : after.time ≡ before.time
   pub state : after.state ≡ a.solo.task
   pub tells : Tells before.image before.time a.effect after.outcome signal
@@ -44,7 +47,7 @@ pub record Follows (before after : Held) (signal : Signal) (a : Stepped) : Type 
 -- it has done what code does by this operation, whatever the kernel and the words that tasks share are
 abbrev pub Does : Held → Held → Signal → Operation → Type 0
 Does before after signal operation =
-    (k : Kernel) (m : Words) → Follows before after signal (does_operation before.image [] k 0 m before.state.frame before.state.callers operation)
+    (k : Kernel) (m : Words) → Follows before after signal (does_operation before.image before.schedule k 0 m before.state.frame before.state.callers operation)
 
 abbrev pub FitsCallee : Option Subprogram → Type 0
 FitsCallee None = ⊥

@@ -2,6 +2,5 @@ pub mod Held
 pub mod Layout
 pub mod Memory
 pub mod Outcomes
-pub mod Schedules
 pub mod Stands
 pub mod Written

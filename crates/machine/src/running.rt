@@ -11,10 +11,10 @@ ghost use Rattle.machine.specs.Written.{AppendsBeginning};
 use crate::fault::RunFault;
 use crate::processor::Processor;
 use crate::reports::{Event, Line, LineText, Outcome, Signal};
-use crate::schedules::Schedule;
 use crate::taken::is_taken;
 use crate::text::{last_line, line_text};
 use crate::writing::{Sink, write_all};
+use clock::Schedule;
 use image::Image;
 use image::laws::{frames_have_room, lines_grow_on, outcome_stays, steps_sound};
 use kernel::laws::{left_unmoved, quiet_stays, says_on};
@@ -55,10 +55,11 @@ impl<'a> Machine<'a> {
         image: &'a Image,
         schedule: &'a Schedule,
     ) -> Result<Machine<'a>, RunFault>
-        ensures stands { IfOk result (λ machine. StandsFor machine (code image.now [] 0)) }
+        ensures stands { IfOk result (λ machine. StandsFor machine (code image.now schedule.now 0)) }
         ensures image { IfOk result (λ machine. machine.image ≡ image.now) }
+        ensures schedule { IfOk result (λ machine. machine.schedule ≡ schedule.now) }
         ensures runs { IfOk result (λ machine. machine.outcome ≡ None) }
-        ensures empty { (code image.now [] 0).kernel.lines ≡ [] }
+        ensures empty { (code image.now schedule.now 0).kernel.lines ≡ [] }
         ensures taken { OnOk result (IsTaken image.now) }
         ensures fault { IfErr result (λ fault. fault ≡ (if is_taken image.now then RunFault.Memory else RunFault.Unsupported)) }
     {
@@ -90,8 +91,9 @@ impl<'a> Machine<'a> {
     /// Does one step and tells what it has shown. It leads from the world of code after m steps to the one after m + 1. After the last
     /// step it tells the outcome again and changes nothing.
     pub fn step(&mut self) -> Event
-        ensures world { (m : ℕ) → StandsFor self.old (code self.old.image [] m) → StandsFor self.new (code self.old.image [] (m + 1)) × ShowsText self.old.image (code self.old.image [] m).kernel (code self.old.image [] (m + 1)).kernel result }
+        ensures world { (m : ℕ) → StandsFor self.old (code self.old.image self.old.schedule m) → StandsFor self.new (code self.old.image self.old.schedule (m + 1)) × ShowsText self.old.image (code self.old.image self.old.schedule m).kernel (code self.old.image self.old.schedule (m + 1)).kernel result }
         ensures image { self.new.image ≡ self.old.image }
+        ensures schedule { self.new.schedule ≡ self.old.schedule }
         ensures done { IfSome self.old.outcome (λ o. (result ≡ events.Done o) × (self.new ≡ self.old)) }
     {
         match self.advance() {
@@ -110,8 +112,9 @@ impl<'a> Machine<'a> {
 
     // One step, without text.
     fn advance(&mut self) -> Signal
-        ensures world { (m : ℕ) → StandsFor self.old (code self.old.image [] m) → Advances self.old.image self.new (code self.old.image [] m).kernel (code self.old.image [] (m + 1)) result }
+        ensures world { (m : ℕ) → StandsFor self.old (code self.old.image self.old.schedule m) → Advances self.old.image self.new (code self.old.image self.old.schedule m).kernel (code self.old.image self.old.schedule (m + 1)) result }
         ensures image { self.new.image ≡ self.old.image }
+        ensures schedule { self.new.schedule ≡ self.old.schedule }
         ensures done { IfSome self.old.outcome (λ o. (result ≡ signals.Done o) × (self.new ≡ self.old)) }
     {
         steps_sound();
@@ -129,15 +132,15 @@ impl<'a> Machine<'a> {
 
     // Does steps up to an outcome, `limit` of them at most, and writes their lines.
     fn run_on<S: Sink>(&mut self, limit: u64, sink: &mut S) -> Result<Outcome, RunFault>
-        requires stands { StandsFor self.old (code self.old.image [] 0) }
+        requires stands { StandsFor self.old (code self.old.image self.old.schedule 0) }
         requires runs { self.old.outcome ≡ None }
-        requires empty { (code self.old.image [] 0).kernel.lines ≡ [] }
-        ensures lines { OnOk result (Appends (S.bytes sink.old) (S.bytes sink.new) (lines_text (names_of self.old.image) (code self.old.image [] limit).kernel.lines)) }
-        ensures ends { IfOk result (λ outcome. EndsBy outcome (code self.old.image [] limit)) }
+        requires empty { (code self.old.image self.old.schedule 0).kernel.lines ≡ [] }
+        ensures lines { OnOk result (Appends (S.bytes sink.old) (S.bytes sink.new) (lines_text (names_of self.old.image) (code self.old.image self.old.schedule limit).kernel.lines)) }
+        ensures ends { IfOk result (λ outcome. EndsBy outcome (code self.old.image self.old.schedule limit)) }
         ensures kept { OnOk result (S.failures sink.new ≡ S.failures sink.old) }
         ensures fault { IfErr result (λ fault. fault ≡ RunFault.Write) }
         ensures failed { OnErr result (S.failures sink.old < S.failures sink.new) }
-        ensures beginning { OnErr result (AppendsBeginning (S.bytes sink.old) (S.bytes sink.new) (lines_text (names_of self.old.image) (code self.old.image [] limit).kernel.lines)) }
+        ensures beginning { OnErr result (AppendsBeginning (S.bytes sink.old) (S.bytes sink.new) (lines_text (names_of self.old.image) (code self.old.image self.old.schedule limit).kernel.lines)) }
     {
         outcome_stays();
         lines_grow_on();
@@ -174,14 +177,14 @@ pub fn run<S: Sink>(
     limit: u64,
     sink: &mut S,
 ) -> Result<Outcome, RunFault>
-    ensures text { OnOk result (Appends (S.bytes sink.old) (S.bytes sink.new) (code_text image.now [] limit)) }
-    ensures ends { IfOk result (λ outcome. EndsBy outcome (code image.now [] limit)) }
+    ensures text { OnOk result (Appends (S.bytes sink.old) (S.bytes sink.new) (code_text image.now schedule.now limit)) }
+    ensures ends { IfOk result (λ outcome. EndsBy outcome (code image.now schedule.now limit)) }
     ensures kept { OnOk result (S.failures sink.new ≡ S.failures sink.old) }
     ensures unsupported { (result ≡ Err RunFault.Unsupported) ↔ (is_taken image.now ≡ false) }
     ensures unwritten { result ≡ Err RunFault.Unsupported → sink.new ≡ sink.old }
     ensures memory { result ≡ Err RunFault.Memory → sink.new ≡ sink.old }
     ensures failed { result ≡ Err RunFault.Write → S.failures sink.old < S.failures sink.new }
-    ensures beginning { AppendsBeginning (S.bytes sink.old) (S.bytes sink.new) (code_text image.now [] limit) }
+    ensures beginning { AppendsBeginning (S.bytes sink.old) (S.bytes sink.new) (code_text image.now schedule.now limit) }
 {
     let mut machine = Machine::start(alloc, image, schedule)?;
     let outcome = machine.run_on(limit, sink)?;

@@ -13,7 +13,9 @@ use Rattle.ada_tree.specs.declared.program.MainStatement.TheVariants as main
 use Rattle.ada_tree.specs.ExpressionTree.{SelectorTrees, NoSelectors, MoreSelectors, Arguments, NoArguments, MoreArguments, Value, Text}
 use Rattle.ada_tree.specs.StatementTree as statements
 use Rattle.ada_tree.specs.ProgramTree.{ProgramTree, BodyTree}
-use Rattle.meaning.specs.Values.{Scalar, Whole, Truth, Evaluation, Gives, Raises, Meaningless, value}
+use Rattle.types.specs.Values as values
+use Rattle.types.specs.Evaluations.{Gives, Raises, Meaningless}
+use Rattle.meaning.specs.Values.{Evaluation, value}
 use Rattle.meaning.specs.Works.{Item, Declares, Sequence, Does, DoesMain, Handles, EndsHandler, EndsCall, Work, Goes, Raising, Activation, TaskWork, Store, frames_left}
 use Rattle.meaning.specs.Programs.{procedure_body, partition_of}
 use Rattle.meaning.specs.SourceSteps.{means_nothing, handler_for, with_value, put_line, call, enter, handled, call_step, statement_step, main_step, item_step, raise_step, work_step, source_behaviour}
@@ -102,9 +104,9 @@ module _ (p : ProgramTree) (m : Store) (activations : List Activation) where
   raise_plain x (DoesMain s) items = IsQuiet
   raise_plain x (EndsHandler y) items = IsQuiet
 
-  put_plain : (label : List ℕ) (v : Scalar) (items : List Item) → Plain (put_line p m activations label v items).effect
-  put_plain label (Whole z) items = IsLine
-  put_plain label (Truth b) items = IsDeath
+  put_plain : (label : List ℕ) (v : values.Value) (items : List Item) → Plain (put_line p m activations label v items).effect
+  put_plain label (values.Number z) items = IsLine
+  put_plain label v items = IsDeath
 
   value_plain : (label : List ℕ) (v : Evaluation) (items : List Item) → Plain (with_value p m activations v items (λ w. put_line p m activations label w items)).effect
   value_plain label (Gives v) items = put_plain label v items

@@ -12,7 +12,9 @@ use Rattle.ada_tree.specs.declared.program.MainStatement.TheVariants as main
 use Rattle.ada_tree.specs.ExpressionTree.{SelectorTrees, NoSelectors, MoreSelectors, Arguments, MoreArguments, NoArguments, Value, Text}
 use Rattle.ada_tree.specs.StatementTree.{StmtTree, Null, Call, Block, StmtTrees, NoStmts, MoreStmts, HandlerTrees, NoHandlers, MoreHandlers}
 use Rattle.ada_tree.specs.ProgramTree.{ProgramTree, BodyTree}
-use Rattle.meaning.specs.Values.{Scalar, Whole, Truth, Evaluation, Gives, Raises, Meaningless, value}
+use Rattle.types.specs.Values as values
+use Rattle.types.specs.Evaluations.{Gives, Raises, Meaningless}
+use Rattle.meaning.specs.Values.{Evaluation, value}
 use Rattle.meaning.specs.Works.{Item, Declares, Sequence, Does, DoesMain, Handles, EndsHandler, EndsCall, Work, Goes, Raising, Activation, TaskWork, Store, Given, frames_left}
 use Rattle.meaning.specs.Programs.{exception_name, procedure_body}
 
@@ -72,7 +74,7 @@ module _ (p : ProgramTree) (m : Store) (activations : List Activation) where
 
   -- Statements (RM 5, 6)
 
-  abbrev pub with_value : Evaluation → List Item → (Scalar → Stepped) → Stepped
+  abbrev pub with_value : Evaluation → List Item → (values.Value → Stepped) → Stepped
   with_value (Gives v) items go = go v
   with_value (Raises x) items go = raises x items
   with_value Meaningless items go = means_nothing items
@@ -88,9 +90,9 @@ module _ (p : ProgramTree) (m : Store) (activations : List Activation) where
   call name (Some body) items = enter name body (frames_left items) items
 
   -- `Put (label, value)` of Control_IO writes a line
-  abbrev pub put_line : List ℕ → Scalar → List Item → Stepped
-  put_line label (Whole z) items = does (Says label z) m (Goes items) activations
-  put_line label (Truth b) items = means_nothing items
+  abbrev pub put_line : List ℕ → values.Value → List Item → Stepped
+  put_line label (values.Number z) items = does (Says label z) m (Goes items) activations
+  put_line label v items = means_nothing items
 
   -- a call of a procedure without parameters, or of Put
   abbrev pub call_step : List ℕ → SelectorTrees → List Item → Stepped

@@ -3,7 +3,7 @@ use Rattle.std.specs.Prelude.{ℕ, suc, ◌-◌, List, [], ◌∷◌}
 use Rattle.base.specs.declared.limits.TheConstants.{FRAMES}
 use Rattle.ada_tree.specs.declared.program.MainStatement.{MainStatement}
 use Rattle.ada_tree.specs.StatementTree.{StmtTree, StmtTrees, HandlerTrees, DeclarationTree}
-use Rattle.meaning.specs.Values.{Scalar}
+use Rattle.types.specs.Values as values
 
 -- To join with what they stand for: a loop with its parameter and last value (RM 5.5), the copy-backs of a call with their named targets (RM 6.4.1),
 -- the end of a protected action with a pending exception or none (RM 9.5.1), the end of an entry body that is run for a queued caller,
@@ -31,7 +31,7 @@ pub data Work : Type 0 where
 -- the execution of a body, with its local names; a call's is there up to the end of the call
 pub record Activation : Type 0 where
   pub subprogram : List ℕ
-  pub locals : List (List ℕ × Scalar)
+  pub locals : List (List ℕ × values.Value)
 
 -- what a task holds; the innermost activation first, the last one that of the task's own body
 pub record TaskWork : Type 0 where
@@ -40,11 +40,11 @@ pub record TaskWork : Type 0 where
 
 -- the variables of the package, by name (RM 7)
 pub record Store : Type 0 where
-  pub variables : List (List ℕ × Scalar)
+  pub variables : List (List ℕ × values.Value)
 
 -- what a served caller is given: the values of its `out` parameters, or an exception
 pub data Given : Type 0 where
-  Results : List Scalar → Given
+  Results : List values.Value → Given
   Raised : (exception : ℕ) → Given
 
 abbrev pub ends_of_calls : List Item → ℕ

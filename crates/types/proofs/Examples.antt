@@ -1,9 +1,11 @@
 -- Names, types and values of two small programs, worked by computation.
-use Rattle.std.proofs.Common.{◌≡◌, ℕ, ℤ, List, [], ◌∷◌, Some, None, true, false, refl}
+use Rattle.std.proofs.Common.{◌≡◌, ℕ, ℤ, List, [], ◌∷◌, Option, Some, None, true, false, refl}
 use Rattle.std.specs.Prelude.{pos, negsuc, codes, ◌^◌, ◌-◌}
 use Rattle.ada_tree.specs.declared.expression.BinaryOperator.TheVariants as binary
 use Rattle.ada_tree.specs.declared.declaration.Mode.TheVariants as mode
 use Rattle.ada_tree.specs.ExpressionTree.{ExprTree, SelectorTree, selectors_of}
+use Rattle.types.specs.declared.entity.Barrier as barrier
+use Rattle.types.specs.declared.entity.Barrier.TheVariants as barriers
 use Rattle.types.specs.declared.entity.Subtype.{Subtype}
 use Rattle.types.specs.declared.entity.Role.TheVariants as role
 use Rattle.types.specs.declared.entity.Value.TheVariants as scalar
@@ -11,7 +13,7 @@ use Rattle.types.specs.declared.standing.Standing.TheVariants as standing
 use Rattle.types.specs.declared.statics.StaticForm.TheVariants as form
 use Rattle.types.specs.declared.standing.Standing.{Standing}
 use Rattle.types.specs.Entities.{Profile, Integers, Arrays, Records, OfType, OfSubtype, Object, Constant, Subprogram, Protected}
-use Rattle.types.specs.Scopes.{Scope, Named, standard, with_name, with_real_time, with_control_io, number_of, integer, boolean, base_range_of, least_number}
+use Rattle.types.specs.Scopes.{Scope, Named, standard, with_name, with_real_time, with_control_io, number_of, integer, boolean, base_range_of, least_number, protected_at, with_barrier}
 use Rattle.types.specs.Standings.{standing_of}
 use Rattle.types.specs.Values.{Value, Number, Truth, Array, Record, NoValues, MoreValues, NoFields, MoreFields, fits}
 use Rattle.types.specs.Shapes.{shape_of, initial, value_words, value_back, has_shape}
@@ -456,3 +458,21 @@ cases = (refl, refl, refl, refl)
 -- no value lies in a subtype whose first value is above its last one
 null_range : fits (subtype_of 0 1 0) (Number (pos 1)) ≡ false
 null_range = refl
+
+-- so what is converted to it or passed for it raises Constraint_Error, also at each bound
+null_range_raises : (passed (subtype_of 0 1 0) (Number (pos 1)) ≡ Raises 1) × (passed (subtype_of 0 1 0) (Number (pos 0)) ≡ Raises 1)
+null_range_raises = (refl, refl)
+
+-- ---- the barrier of P's entry becomes known, and nothing else changes
+
+abbrev barrier_in : Scope → Option barrier.Barrier
+barrier_in s = elim (protected_at s 27) [ Some p ↦ p.barrier | None ↦ None ]
+
+barrier_unknown : barrier_in package_scope ≡ None
+barrier_unknown = refl
+
+barrier_known : barrier_in (with_barrier package_scope 27 (barriers.Component 0)) ≡ Some (barriers.Component 0)
+barrier_known = refl
+
+no_barrier_of_a_type : with_barrier package_scope 17 (barriers.Always true) ≡ package_scope
+no_barrier_of_a_type = refl

@@ -3,6 +3,7 @@ mod Operating
 mod Examples
 mod Lists
 mod Adding
+mod Barring
 mod Finding
 mod Fixed
 mod Words

@@ -1,6 +1,7 @@
 -- Which names are visible, and the numbers by which types and other names are known (RM 8.3, A.1).
-use Rattle.std.specs.Prelude.{ℕ, suc, ◌-◌, ◌^◌, ℤ, pos, negsuc, Bool, true, false, List, [], ◌∷◌, ◌++◌, length, Option, Some, None, position, slice_get, bytes_eq, codes, if◌then◌else◌, is_some}
+use Rattle.std.specs.Prelude.{ℕ, zero, suc, ◌-◌, ◌^◌, ℤ, pos, negsuc, Bool, true, false, List, [], ◌∷◌, ◌++◌, length, Option, Some, None, position, slice_get, bytes_eq, codes, if◌then◌else◌, is_some}
 use Rattle.ada_tree.specs.declared.declaration.Mode.TheVariants as mode
+use Rattle.types.specs.declared.entity.Barrier.{Barrier}
 use Rattle.types.specs.declared.entity.Subtype.{Subtype}
 use Rattle.types.specs.declared.entity.PredefinedOperation.{PredefinedOperation}
 use Rattle.types.specs.declared.entity.PredefinedOperation.TheVariants as predefined
@@ -32,6 +33,17 @@ is_visible s name = is_some (number_of s name)
 -- a name is visible after its declaration, unless one like it is visible already: the first keeps the name
 abbrev pub with_name : Scope → List ℕ → Entity → Scope
 with_name s name e = if is_visible s name then s else s ++ record { name = name; entity = e } ∷ []
+
+-- a protected object whose entry has this barrier; nothing else has one (RM 9.5.2)
+abbrev pub barred : Entity → Barrier → Entity
+barred (Protected p) barrier = Protected (record p { barrier = Some barrier })
+barred e barrier = e
+
+-- the scope once the body of an entry, and so its barrier, is known
+abbrev pub with_barrier : Scope → ℕ → Barrier → Scope
+with_barrier [] number barrier = []
+with_barrier (n ∷ rest) zero barrier = record { name = n.name; entity = barred n.entity barrier } ∷ rest
+with_barrier (n ∷ rest) (suc number) barrier = n ∷ with_barrier rest number barrier
 
 -- the form of the type with this number, if it is one
 abbrev pub form_of : Option Entity → Option TypeForm

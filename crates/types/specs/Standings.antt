@@ -27,7 +27,7 @@ stands_for n (Some (Predefined o p)) = standing.Callee (callee.Direct n)
 stands_for n (Some Put) = standing.Put
 stands_for n (Some (Protected p)) = standing.Protected n
 stands_for n (Some Exception) = standing.Other
-stands_for n (Some (Task priority)) = standing.Other
+stands_for n (Some (Task priority)) = standing.Task
 stands_for n (Some LibraryUnit) = standing.Other
 stands_for n (Some Doubtful) = standing.Doubtful
 stands_for n None = standing.Doubtful
@@ -146,6 +146,7 @@ settle s (standing.Callee f) = call_stands (callee_profile s f)
 settle s standing.Put = standing.Statement
 settle s (standing.Named t) = standing.Other
 settle s (standing.Protected n) = standing.Other
+settle s standing.Task = standing.Other
 settle s w = w
 
 abbrev pub select_all : Scope → Standing → SelectorTrees → Standing

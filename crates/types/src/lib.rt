@@ -16,5 +16,5 @@ pub use entity::{
 };
 pub use layout::{Layout, LayoutFault};
 pub use scope::{MORE_WORDS, Scope};
-pub use standing::{Callee, Standing};
+pub use standing::{Callee, Standing, component_of};
 pub use statics::{StaticForm, start_of, static_value, static_value_within};

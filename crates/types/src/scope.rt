@@ -3,9 +3,11 @@ ghost use Rattle.std.specs.Prelude.{◌≡◌, ◌+◌, ◌*◌, ◌<◌, ◌^�
 ghost use Rattle.types.specs.Entities.{entity_value, form_value, profile_value, protected_value};
 ghost use Rattle.types.specs.Layouts.{capped, component_offset, words_of};
 ghost use Rattle.types.specs.Kept.{components_words, entity_words};
-ghost use Rattle.types.specs.Scopes.{entity_at, form_at, is_visible, number_of, profile_at, protected_at, with_name};
+ghost use Rattle.types.specs.Scopes.{barred, entity_at, form_at, is_visible, number_of, profile_at, protected_at, with_barrier, with_name};
 
-use crate::entity::{Entity, Profile, ProtectedObject, RecordComponent, Subtype, TypeForm};
+use crate::entity::{
+    Barrier, Entity, Profile, ProtectedObject, RecordComponent, Subtype, TypeForm,
+};
 use base::limits::WORDS;
 use indexmap::IndexMap;
 use lexer::Text;
@@ -20,6 +22,17 @@ pub const MORE_WORDS: u16 = WORDS as u16 + 1;
 struct Declared {
     entity: Entity,
     words: u16,
+}
+
+impl Declared {
+    fn set_barrier(&mut self, barrier: Barrier)
+        ensures entity { entity_value self.new.entity ≡ barred (entity_value self.old.entity) barrier }
+        ensures words { self.new.words ≡ self.old.words }
+    {
+        if let Entity::Protected(object) = &mut self.entity {
+            object.barrier = Some(barrier);
+        }
+    }
 }
 
 /// The visible names in the order of their declarations, with what they stand for. A name's number is its position. Contracts see a list.
@@ -191,6 +204,16 @@ impl Scope {
         let words = self.entity_words(&entity);
         self.names.insert(name, Declared { entity, words })?;
         Ok(())
+    }
+
+    /// Gives the protected object with this number the barrier of its entry, once the entry's body is known (RM 9.5.2). Where the number is
+    /// none of a protected object, nothing changes.
+    pub fn set_barrier(&mut self, number: usize, barrier: Barrier)
+        ensures { self.new ≡ with_barrier self.old number barrier }
+    {
+        if let Some(declared) = self.names.get_index_mut(number) {
+            declared.set_barrier(barrier);
+        }
     }
 
     /// Drops all names but the first `len`, as at the end of a body.

@@ -42,7 +42,9 @@ pub enum Standing {
     Protected(usize),
     /// A call that is a statement: of a procedure, of an entry, or of `Put`.
     Statement,
-    /// What is no part of an expression: an exception, a task, a unit.
+    /// A task, of which no entry can be named.
+    Task,
+    /// What is no part of an expression: an exception, a unit.
     Other,
     /// What has no meaning, or is not known.
     Doubtful,
@@ -64,7 +66,7 @@ fn stands_for(number: usize, entity: Option<&Entity>) -> Standing
         Some(Entity::Put) => Standing::Put,
         Some(Entity::Protected(_)) => Standing::Protected(number),
         Some(Entity::Exception) => Standing::Other,
-        Some(Entity::Task(_)) => Standing::Other,
+        Some(Entity::Task(_)) => Standing::Task,
         Some(Entity::Unit) => Standing::Other,
         Some(Entity::Doubtful) => Standing::Doubtful,
         None => Standing::Doubtful,
@@ -297,6 +299,7 @@ impl Scope {
             Standing::Put => Standing::Statement,
             Standing::Named(_) => Standing::Other,
             Standing::Protected(_) => Standing::Other,
+            Standing::Task => Standing::Other,
             _ => standing,
         }
     }

@@ -1,6 +1,40 @@
-use Rattle.std.proofs.Common.{[], refl}
+use Rattle.std.proofs.Common.{inr, refl, rules}
+use Rattle.adarun.specs.Driving.{CompileText, GoText, ListImage, Nothing, RunImage}
 use Rattle.adarun.specs.declared.program.Status.TheVariants.{NoMemory}
 use Rattle.adarun.proofs.program.drive.Goals as goal
 
 pub returns-in-Err-Memory-clause-answers : goal.returns-in-Err-Memory-clause-answers
-returns-in-Err-Memory-clause-answers g c = rw c.no_memory-status.ensures (record { source = []; schedule = []; limit = 0; status = NoMemory; answer_is = refl; leaves = refl })
+returns-in-Err-Memory-clause-answers g c =
+    rw c.no_memory-status.ensures (record { work = Nothing; status = NoMemory; answer_is = refl; leaves = (λ name. refl, (refl, inr refl)) })
+
+pub returns-in-Ok-Compile-clause-answers : goal.returns-in-Ok-Compile-clause-answers
+returns-in-Ok-Compile-clause-answers g c = record {
+  work = CompileText c.in-Ok-Compile.source.now c.in-Ok-Compile.image.now;
+  status = c.drive_compile-status.result;
+  answer_is = search rules;
+  leaves = c.drive_compile-status.ensures (g.O.Sink.bytes c.args.out.now);
+}
+
+pub returns-in-Ok-List-clause-answers : goal.returns-in-Ok-List-clause-answers
+returns-in-Ok-List-clause-answers g c = record {
+  work = ListImage c.in-Ok-List.image.now;
+  status = c.drive_list-status.result;
+  answer_is = search rules;
+  leaves = (λ name. refl, c.drive_list-status.ensures.leaves);
+}
+
+pub returns-in-Ok-Run-clause-answers : goal.returns-in-Ok-Run-clause-answers
+returns-in-Ok-Run-clause-answers g c = record {
+  work = RunImage c.in-Ok-Run.image.now c.in-Ok-Run.schedule.now c.in-Ok-Run.limit;
+  status = c.drive_run-status.result;
+  answer_is = search rules;
+  leaves = (λ name. refl, c.drive_run-status.ensures.leaves);
+}
+
+pub returns-in-Ok-Go-clause-answers : goal.returns-in-Ok-Go-clause-answers
+returns-in-Ok-Go-clause-answers g c = record {
+  work = GoText c.in-Ok-Go.source.now c.in-Ok-Go.schedule.now c.in-Ok-Go.limit;
+  status = c.drive_go-status.result;
+  answer_is = search rules;
+  leaves = (λ name. refl, c.drive_go-status.ensures.leaves);
+}

@@ -1,4 +1,5 @@
-use Rattle.std.proofs.Common.{Err, ap, inr, subst, ◌∙◌}
+use Rattle.std.proofs.Common.{Err, ap, inr, subst, sym, ◌∙◌}
+use Rattle.adarun.specs.Driving.{IsRead}
 use Rattle.adarun.specs.Stopping.{Refuses}
 use Rattle.adarun.specs.declared.execution.GoFault.TheVariants as faults
 use Rattle.adarun.proofs.Driving.{refused_leaves, run_leaves, schedule_leaves}
@@ -6,7 +7,7 @@ use Rattle.adarun.proofs.program.drive_go.Goals as goal
 
 pub returns-in-Ok-go-clause-leaves : goal.returns-in-Ok-go-clause-leaves
 returns-in-Ok-go-clause-leaves g c =
-    run_leaves _ _ _ _ _ _ _ _ _ _ _ _ c.status_of.ensures.is c.in-Ok.ensures c.deref.ensures.value c.in-Ok-read.ensures c.deref-2.ensures.value c.in-Ok-go.ensures.read c.in-Ok-go.ensures.runs
+    run_leaves _ _ _ _ _ _ _ _ _ _ _ _ c.status_of.ensures.is c.in-Ok.ensures c.deref.ensures.value c.in-Ok-read.ensures c.deref-2.ensures.value c.in-Ok-go.ensures.runs
 
 pub returns-in-Err-Source-clause-leaves : goal.returns-in-Err-Source-clause-leaves
 returns-in-Err-Source-clause-leaves g c =
@@ -19,3 +20,14 @@ returns-in-Err-Schedule-clause-leaves g c =
 pub returns-clause-failed : goal.returns-clause-failed
 returns-clause-failed g c = λ _.
     inr (c.in-Err-Run-Write.ensures.failed (ap Err (c.in-Err-Run-Write.field-0-is ∙ ap faults.Run c.in-Err-Run-Write.field-0-0-is)))
+
+pub returns-clause-leaves : goal.returns-clause-leaves
+returns-clause-leaves g c =
+    rw c.cannot_write.ensures
+    (inr (record {
+      text = c.deref.result.now;
+      source_read = subst (IsRead (g.F.FileStore.contents c.args.files.now c.args.source.now)) (sym c.deref.ensures.value) c.in-Ok.ensures;
+      input = c.deref-2.result.now;
+      input_read = subst (IsRead (g.F.FileStore.contents c.args.files.now c.args.schedule.now)) (sym c.deref-2.ensures.value) c.in-Ok-read.ensures;
+      begins = c.in-Err-Run-Write.ensures.beginning (ap Err (c.in-Err-Run-Write.field-0-is ∙ ap faults.Run c.in-Err-Run-Write.field-0-0-is));
+    }))

@@ -1,4 +1,4 @@
-use Rattle.std.proofs.Common.{◌≡◌, None, [], rules, sym, subst, ◌∙◌}
+use Rattle.std.proofs.Common.{◌≡◌, None, rules, sym, subst, ◌∙◌}
 use Rattle.kernel.specs.Effects.{begin}
 use Rattle.kernel.specs.State.{Kernel}
 use Rattle.image.specs.Code.{code, initial_words, partition_of}
@@ -32,7 +32,7 @@ invariant_of-self c =
     (λ k m.
     subst (λ a. Follows c.self.inside.processor c.act.new.self c.act.result a)
     (sym
-    (act_does c.self.inside.processor.image k m c.self.inside.processor.state c.in-Some-operation.operation good.quiet
+    (act_does c.self.inside.processor.image c.self.inside.processor.schedule k m c.self.inside.processor.state c.in-Some-operation.operation good.quiet
     (sym c.in-Some-operation.is ∙ c.operation.ensures.here)))
     (c.act.ensures.follows k m))
     c.act.ensures.calm.0 c.act.ensures.calm.1
@@ -41,18 +41,18 @@ pub returns-in-Some-clause-world : goal.returns-in-Some-clause-world
 returns-in-Some-clause-world c =
     λ m stands.
     subst
-    (λ v. Advances c.args.self.now.image c.args.self.now (code c.args.self.now.image [] m).kernel v (signals.Done c.in-Some.outcome))
-    (sym (code_next c.args.self.now.image m))
-    (same_world c.args.self.now c.in-Some.outcome (code c.args.self.now.image [] m) stands (search rules))
+    (λ v. Advances c.args.self.now.image c.args.self.now (code c.args.self.now.image c.args.self.now.schedule m).kernel v (signals.Done c.in-Some.outcome))
+    (sym (code_next c.args.self.now.image c.args.self.now.schedule m))
+    (same_world c.args.self.now c.in-Some.outcome (code c.args.self.now.image c.args.self.now.schedule m) stands (search rules))
 
-follows : (c : goal.After-act) → c.args.self.now.outcome ≡ None → (k : Kernel) (m : Words) → Follows c.args.self.now c.act.new.self c.act.result (act c.args.self.now.image [] k 0 (record { memory = m; task = c.args.self.now.state }))
+follows : (c : goal.After-act) → c.args.self.now.outcome ≡ None → (k : Kernel) (m : Words) → Follows c.args.self.now c.act.new.self c.act.result (act c.args.self.now.image c.args.self.now.schedule k 0 (record { memory = m; task = c.args.self.now.state }))
 follows c now_on k m =
     let on : c.self.inside.processor.outcome ≡ None = search rules in
     let good : IsGood c.self.inside.processor = c.self.invariant on in
-    subst (λ h. Follows h c.act.new.self c.act.result (act h.image [] k 0 (record { memory = m; task = h.state }))) c.self.view_is
+    subst (λ h. Follows h c.act.new.self c.act.result (act h.image h.schedule k 0 (record { memory = m; task = h.state }))) c.self.view_is
     (subst (λ a. Follows c.self.inside.processor c.act.new.self c.act.result a)
     (sym
-    (act_does c.self.inside.processor.image k m c.self.inside.processor.state c.in-Some-operation.operation good.quiet
+    (act_does c.self.inside.processor.image c.self.inside.processor.schedule k m c.self.inside.processor.state c.in-Some-operation.operation good.quiet
     (sym c.in-Some-operation.is ∙ c.operation.ensures.here)))
     (c.act.ensures.follows k m))
 
@@ -61,11 +61,16 @@ returns-clause-world c =
     λ m stands.
     let on : c.args.self.now.outcome ≡ None = search rules in
     subst
-    (λ v. Advances c.args.self.now.image c.act.new.self (code c.args.self.now.image [] m).kernel v c.act.result)
-    (sym (code_next c.args.self.now.image m))
-    (next_world c.quiet_stays.ensures c.says_on.ensures c.args.self.now c.act.new.self c.act.result (code c.args.self.now.image [] m) stands on (follows c on))
+    (λ v. Advances c.args.self.now.image c.act.new.self (code c.args.self.now.image c.args.self.now.schedule m).kernel v c.act.result)
+    (sym (code_next c.args.self.now.image c.args.self.now.schedule m))
+    (next_world c.quiet_stays.ensures c.says_on.ensures c.args.self.now c.act.new.self c.act.result (code c.args.self.now.image c.args.self.now.schedule m) stands on (follows c on))
 
 pub returns-clause-image : goal.returns-clause-image
 returns-clause-image c =
     let on : c.args.self.now.outcome ≡ None = search rules in
     (follows c on (begin (partition_of c.args.self.now.image)) (initial_words c.args.self.now.image)).image
+
+pub returns-clause-schedule : goal.returns-clause-schedule
+returns-clause-schedule c =
+    let on : c.args.self.now.outcome ≡ None = search rules in
+    (follows c on (begin (partition_of c.args.self.now.image)) (initial_words c.args.self.now.image)).schedule

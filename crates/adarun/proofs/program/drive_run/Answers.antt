@@ -1,0 +1,28 @@
+use Rattle.std.proofs.Common.{inr, refl, subst}
+use Rattle.clock.specs.Schedules.{IsScheduleText}
+use Rattle.image_format.specs.Loaded.{IsLoaded}
+use Rattle.adarun.proofs.Driving.{image_run_leaves}
+use Rattle.adarun.proofs.program.drive_run.Goals as goal
+
+pub returns-in-Ok-run-clause-leaves : goal.returns-in-Ok-run-clause-leaves
+returns-in-Ok-run-clause-leaves g c =
+    image_run_leaves _ _ _ _ _ _ _ _ c.status_of.ensures.is
+    (record {
+      image = c.in-Ok-load.image;
+      loaded = record { bytes = c.in-Ok.bytes.items; read = c.in-Ok.ensures; loaded = subst (λ bytes. IsLoaded bytes c.in-Ok-load.image) c.deref.ensures.value c.in-Ok-load.ensures.loaded };
+      given = record { input = c.in-Ok-read.lines.items; read = c.in-Ok-read.ensures; lines = c.in-Ok-read-2.schedule; is_schedule = subst (λ input. IsScheduleText input c.in-Ok-read-2.schedule) c.deref-2.ensures.value c.in-Ok-read-2.ensures.read };
+      outcome = c.in-Ok-run.outcome;
+      status_is = refl;
+      written = c.in-Ok-run.ensures.text;
+      ends = c.in-Ok-run.ensures.ends;
+    })
+
+pub returns-clause-leaves : goal.returns-clause-leaves
+returns-clause-leaves g c =
+    rw c.cannot_write.ensures
+    (inr (record {
+      image = c.in-Ok-load.image;
+      loaded = record { bytes = c.in-Ok.bytes.items; read = c.in-Ok.ensures; loaded = subst (λ bytes. IsLoaded bytes c.in-Ok-load.image) c.deref.ensures.value c.in-Ok-load.ensures.loaded };
+      given = record { input = c.in-Ok-read.lines.items; read = c.in-Ok-read.ensures; lines = c.in-Ok-read-2.schedule; is_schedule = subst (λ input. IsScheduleText input c.in-Ok-read-2.schedule) c.deref-2.ensures.value c.in-Ok-read-2.ensures.read };
+      begins = c.in-Err-Write.ensures.beginning;
+    }))

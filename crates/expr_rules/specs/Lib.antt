@@ -1,0 +1,12 @@
+pub use Rattle.types.specs.Entities
+pub use Rattle.types.specs.Scopes
+pub use Rattle.types.specs.Standings
+pub use Rattle.types.specs.Values
+pub use Rattle.types.specs.Statics
+pub mod Faults
+pub mod Typing
+pub mod NameRules
+pub mod ExpressionRules
+pub mod StaticRules
+pub mod Judging
+pub mod Laws

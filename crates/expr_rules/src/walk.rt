@@ -1,0 +1,388 @@
+//! The least fault in an expression, in one walk (docs/LANGUAGE.md, "Rules of expressions").
+ghost use Rattle.std.specs.Prelude.{◌≡◌, [], IfErr, OnOk};
+ghost use Rattle.ada_tree.specs.ExpressionTree.{expr_tree, elsif_value_tree, elsif_value_trees, selector_tree, selector_trees, argument_tree, argument_trees, name_tree};
+ghost use Rattle.expr_rules.specs.Faults.{IsLeast, least, rule, sooner};
+ghost use Rattle.expr_rules.specs.Typing.{elsif_own_of, own_of, typed_wanted};
+ghost use Rattle.expr_rules.specs.ExpressionRules.{argument_faults, arguments_faults, below, beside, beside_typed, binary_rule, call_faults, conditional_wanted, elsif_faults, faults_of, first_typed, name_faults, or_first, part_faults, parts_own, parts_wanted, selector_faults, selectors_faults, target_faults, unary_rule, wanted_of};
+ghost use Rattle.expr_rules.specs.Judging.{joined, judged, judged_after};
+
+use crate::fault::{rule, sooner};
+use crate::names::{
+    Slot, call_rule, end_rule, label_rule, mismatch, part_rule, slot_at, slot_rule, slot_wanted,
+    value_rule, variable_rule,
+};
+use crate::own::{
+    Own, Wanted, binary_own, has_binary, has_unary, is_integers, is_known, is_logical, is_relation,
+    own_of, own_of_standing, parts_own, typed_wanted, unary_own,
+};
+use ada_tree::laws::{arguments_by_parts, chains_by_parts, conditional_by_parts, names_by_parts};
+use ada_tree::{
+    Argument, BinaryOperator, ElsifValue, Expr, NameExpr, Operand, Selector, UnaryOperator,
+};
+use base::faults::{NAME_NOT_VISIBLE, NO_MEANING};
+use lexer::Fault;
+use types::{Scope, Standing};
+
+// The type that an expression has by itself, the least fault in it, and its place.
+#[derive(Clone, Copy, Debug)]
+struct Judged {
+    own: Own,
+    fault: Option<Fault>,
+    place: u32,
+}
+
+fn unary_rule(scope: &Scope, operator: UnaryOperator, place: u32, own: Own) -> Option<Fault>
+    ensures { result ≡ least (unary_rule scope.now operator place own) }
+{
+    rule(
+        NO_MEANING,
+        place,
+        is_known(own) && !has_unary(scope, operator, own),
+    )
+}
+
+fn binary_rule(scope: &Scope, operator: BinaryOperator, place: u32, a: Own, b: Own) -> Option<Fault>
+    ensures { result ≡ least (binary_rule scope.now operator place a b) }
+{
+    rule(
+        NO_MEANING,
+        place,
+        is_known(a) && (is_known(b) && !has_binary(scope, operator, a, b)),
+    )
+}
+
+fn below(operator: UnaryOperator, wanted: Wanted) -> Wanted
+    ensures { result ≡ below operator wanted }
+{
+    match operator {
+        UnaryOperator::Not => Wanted::BOOLEAN,
+        _ => wanted,
+    }
+}
+
+fn beside_typed(scope: &Scope, operator: BinaryOperator, own: Own) -> Wanted
+    ensures { result ≡ beside_typed scope.now operator own }
+{
+    match own {
+        Own::Typed(number) => {
+            if is_relation(operator) || is_integers(scope.form(number)) {
+                Wanted::OfType(number)
+            } else {
+                Wanted::Anything
+            }
+        }
+        _ => Wanted::Anything,
+    }
+}
+
+// What is wanted of an operand beside one of this type.
+fn beside(scope: &Scope, operator: BinaryOperator, own: Own) -> Wanted
+    ensures { result ≡ beside scope.now operator own }
+{
+    if is_logical(operator) {
+        Wanted::BOOLEAN
+    } else {
+        beside_typed(scope, operator, own)
+    }
+}
+
+fn or_first(a: Own, b: Own) -> Own
+    ensures { result ≡ or_first a b }
+{
+    match a {
+        Own::Typed(number) => Own::Typed(number),
+        _ => b,
+    }
+}
+
+// The first part of an if expression that has a type by itself.
+fn first_typed(scope: &Scope, parts: &[ElsifValue], last: Own) -> Own
+    ensures { result ≡ first_typed scope.now (elsif_value_trees parts.now) last }
+{
+    for part in parts {
+        if let Own::Typed(number) = own_of(scope, &part.value) {
+            return Own::Typed(number);
+        }
+    }
+    last
+}
+
+fn parts_wanted(own: Own, wanted: Wanted, first: Own) -> Wanted
+    ensures { result ≡ parts_wanted own wanted first }
+{
+    match own {
+        Own::Unknown => match wanted {
+            Wanted::OfType(number) => Wanted::OfType(number),
+            _ => typed_wanted(first),
+        },
+        _ => Wanted::Anything,
+    }
+}
+
+// What is wanted of the parts of an if expression.
+fn conditional_wanted(
+    scope: &Scope,
+    wanted: Wanted,
+    value: &Expr,
+    parts: &[ElsifValue],
+    else_value: &Expr,
+) -> Wanted
+    ensures { result ≡ conditional_wanted scope.now wanted (expr_tree value.now) (elsif_value_trees parts.now) (expr_tree else_value.now) }
+{
+    let first = or_first(
+        own_of(scope, value),
+        first_typed(scope, parts, own_of(scope, else_value)),
+    );
+    parts_wanted(parts_own(scope, value, parts, else_value), wanted, first)
+}
+
+#[cycle(expression)]
+#[tactic(auto, using(crate::proofs::Least::least_append, crate::proofs::Least::sooner_assoc))]
+fn judge(scope: &Scope, wanted: Wanted, e: &Expr) -> Judged
+    ensures { result ≡ judged scope.now wanted (expr_tree e.now) }
+{
+    names_by_parts();
+    conditional_by_parts();
+    chains_by_parts();
+    match e {
+        Expr::Number(_, place) => found(Own::Universal, None, *place),
+        Expr::Name(name) => {
+            let standing = scope.standing(name);
+            let fault = sooner(
+                name_fault(scope, name),
+                value_rule(name.first.place, standing),
+            );
+            found(own_of_standing(standing), fault, name.first.place)
+        }
+        Expr::Parenthesized(place, inner) => {
+            let inner = judge(scope, wanted, inner);
+            found(inner.own, inner.fault, *place)
+        }
+        Expr::Unary(operator, place, operand) => {
+            let inner = judge(scope, below(*operator, wanted), operand);
+            let fault = sooner(inner.fault, unary_rule(scope, *operator, *place, inner.own));
+            found(unary_own(scope, *operator, inner.own), fault, *place)
+        }
+        Expr::Chain(first, second, more) => {
+            let beside = beside(scope, second.operator, own_of(scope, &second.value));
+            let left = judge(scope, beside, first);
+            judge_operands(scope, judge_operand(scope, left, second), more)
+        }
+        Expr::Conditional(place, condition, value, parts, else_value) => {
+            let inner = conditional_wanted(scope, wanted, value, parts, else_value);
+            let condition = expected(scope, Wanted::BOOLEAN, condition);
+            let value = expected(scope, inner, value);
+            let others = elsif_fault(scope, inner, parts);
+            let last = expected(scope, inner, else_value);
+            let fault = sooner(sooner(sooner(condition, value), others), last);
+            found(own_of(scope, e), fault, *place)
+        }
+    }
+}
+
+fn found(own: Own, fault: Option<Fault>, place: u32) -> Judged
+    ensures own { result.own ≡ own }
+    ensures fault { result.fault ≡ fault }
+    ensures place { result.place ≡ place }
+{
+    Judged { own, fault, place }
+}
+
+// An operator and the operand behind it, where all before them was judged so.
+#[cycle(expression)]
+fn judge_operand(scope: &Scope, left: Judged, operand: &Operand) -> Judged
+    ensures { result ≡ joined scope.now left operand.now.operator (expr_tree operand.now.value) }
+{
+    let operator = operand.operator;
+    let right = judge(scope, beside(scope, operator, left.own), &operand.value);
+    let operands = sooner(left.fault, right.fault);
+    let fault = sooner(
+        operands,
+        binary_rule(scope, operator, left.place, left.own, right.own),
+    );
+    found(
+        binary_own(scope, operator, left.own, right.own),
+        fault,
+        left.place,
+    )
+}
+
+#[cycle(expression)]
+fn judge_operands(scope: &Scope, first: Judged, operands: &[Operand]) -> Judged
+    ensures { result ≡ judged_after scope.now first operands.now }
+{
+    let mut left = first;
+    for operand in operands {
+        left = judge_operand(scope, left, operand);
+    }
+    left
+}
+
+#[cycle(expression)]
+#[tactic(auto, using(crate::proofs::Least::least_append))]
+fn expected(scope: &Scope, wanted: Wanted, e: &Expr) -> Option<Fault>
+    ensures { result ≡ least (faults_of scope.now wanted (expr_tree e.now)) }
+{
+    let inside = judge(scope, wanted, e);
+    sooner(
+        inside.fault,
+        mismatch(scope, wanted, inside.own, inside.place),
+    )
+}
+
+#[cycle(expression)]
+#[tactic(auto, using(crate::proofs::Least::least_append))]
+fn part_fault(scope: &Scope, wanted: Wanted, part: &ElsifValue) -> Option<Fault>
+    ensures { result ≡ least (part_faults scope.now wanted (elsif_value_tree part.now).0 (elsif_value_tree part.now).1) }
+{
+    let condition = expected(scope, Wanted::BOOLEAN, &part.condition);
+    let value = expected(scope, wanted, &part.value);
+    sooner(condition, value)
+}
+
+#[cycle(expression)]
+#[tactic(auto, using(crate::proofs::Least::least_append))]
+fn elsif_fault(scope: &Scope, wanted: Wanted, parts: &[ElsifValue]) -> Option<Fault>
+    ensures { result ≡ least (elsif_faults scope.now wanted (elsif_value_trees parts.now)) }
+{
+    let mut fault = None;
+    for part in parts {
+        fault = sooner(fault, part_fault(scope, wanted, part));
+    }
+    fault
+}
+
+#[cycle(expression)]
+#[tactic(auto, using(crate::proofs::Least::least_append))]
+fn name_fault(scope: &Scope, name: &NameExpr) -> Option<Fault>
+    ensures { result ≡ least (name_faults scope.now (name_tree name.now).first (name_tree name.now).selectors) }
+{
+    let place = name.first.place;
+    let hidden = rule(
+        NAME_NOT_VISIBLE,
+        place,
+        scope.number_of(&name.first.name).is_none(),
+    );
+    let first = scope.stands_first(&name.first);
+    sooner(
+        hidden,
+        selectors_fault(scope, place, first, &name.selectors),
+    )
+}
+
+#[cycle(expression)]
+#[tactic(auto, using(crate::proofs::Least::least_append))]
+fn selectors_fault(
+    scope: &Scope,
+    place: u32,
+    first: Standing,
+    selectors: &[Selector],
+) -> Option<Fault>
+    ensures { result ≡ least (selectors_faults scope.now place first (selector_trees selectors.now)) }
+{
+    let mut standing = first;
+    let mut fault = None;
+    for selector in selectors {
+        fault = sooner(fault, selector_fault(scope, place, standing, selector));
+        standing = scope.select(standing, selector);
+    }
+    sooner(fault, end_rule(scope, place, standing))
+}
+
+#[cycle(expression)]
+#[tactic(auto, using(crate::proofs::Least::least_append))]
+fn selector_fault(
+    scope: &Scope,
+    place: u32,
+    standing: Standing,
+    selector: &Selector,
+) -> Option<Fault>
+    ensures { result ≡ least (selector_faults scope.now place standing (selector_tree selector.now)) }
+{
+    arguments_by_parts();
+    let part = part_rule(scope, place, standing, selector);
+    match selector {
+        Selector::Arguments(arguments) => {
+            sooner(part, arguments_fault(scope, standing, arguments))
+        }
+        _ => part,
+    }
+}
+
+#[cycle(expression)]
+#[tactic(auto, using(crate::proofs::Least::least_append))]
+fn arguments_fault(scope: &Scope, standing: Standing, arguments: &[Argument]) -> Option<Fault>
+    ensures { result ≡ least (arguments_faults scope.now standing 0 (argument_trees arguments.now)) }
+{
+    let mut fault = None;
+    for (index, argument) in arguments.iter().enumerate() {
+        let slot = slot_at(scope, standing, index);
+        fault = sooner(fault, argument_fault(scope, slot, argument));
+    }
+    fault
+}
+
+#[cycle(expression)]
+#[tactic(auto, using(crate::proofs::Least::least_append))]
+fn argument_fault(scope: &Scope, slot: Slot, argument: &Argument) -> Option<Fault>
+    ensures { result ≡ least (argument_faults scope.now slot (argument_tree argument.now)) }
+{
+    match argument {
+        Argument::Expr(e) => {
+            let inside = judge(scope, slot_wanted(slot), e);
+            sooner(inside.fault, slot_rule(scope, slot, e, inside.own))
+        }
+        Argument::Label(_, place) => label_rule(slot, *place),
+    }
+}
+
+/// The least fault in an expression of which this is expected: of rules 10, 12, 13 and 16 (docs/LANGUAGE.md, "Rules of expressions").
+pub fn expression_fault(scope: &Scope, wanted: Wanted, e: &Expr) -> Option<Fault>
+    ensures { result ≡ least (faults_of scope.now wanted (expr_tree e.now)) }
+{
+    expected(scope, wanted, e)
+}
+
+/// The least fault in a statement that is this name: the call of a procedure or entry, or of `Put` (RM 6.4, 9.5.3).
+#[tactic(auto, using(crate::proofs::Least::least_append))]
+pub fn call_fault(scope: &Scope, name: &NameExpr) -> Option<Fault>
+    ensures { result ≡ least (call_faults scope.now (name_tree name.now).first (name_tree name.now).selectors) }
+{
+    sooner(
+        name_fault(scope, name),
+        call_rule(name.first.place, scope.standing(name)),
+    )
+}
+
+/// The least fault in the target of an assignment (RM 5.2).
+#[tactic(auto, using(crate::proofs::Least::least_append))]
+pub fn target_fault(scope: &Scope, name: &NameExpr) -> Option<Fault>
+    ensures { result ≡ least (target_faults scope.now (name_tree name.now).first (name_tree name.now).selectors) }
+{
+    let standing = scope.standing(name);
+    sooner(
+        name_fault(scope, name),
+        variable_rule(scope, name.first.place, Wanted::Anything, standing),
+    )
+}
+
+fn wanted_of(expected: Option<u16>) -> Wanted
+    ensures { result ≡ wanted_of expected }
+{
+    match expected {
+        Some(number) => Wanted::OfType(number as usize),
+        None => Wanted::Anything,
+    }
+}
+
+/// Checks an expression of which a type is expected, if one is, by its number. It is refused just where it breaks one of the rules 10, 12, 13 and 16, by the
+/// broken one with the least place, and at one place the least number (docs/LANGUAGE.md, "Rules of expressions").
+pub fn check_expr(scope: &Scope, e: &Expr, expected: Option<u16>) -> Result<(), Fault>
+    ensures accepted { OnOk result (faults_of scope.now (wanted_of expected) (expr_tree e.now) ≡ []) }
+    ensures refused { IfErr result (λ f. IsLeast (faults_of scope.now (wanted_of expected) (expr_tree e.now)) f) }
+{
+    match expression_fault(scope, wanted_of(expected), e) {
+        None => Ok(()),
+        Some(fault) => Err(fault),
+    }
+}

@@ -1,7 +1,0 @@
-use Rattle.std.proofs.Common.{◌≡◌, ◌++◌, drop, flat_map}
-use Rattle.image.specs.Bytes.{text}
-use Rattle.image.proofs.encoding.put_texts.Given as goal
-
--- what is left, behind what stands, is the whole
-abbrev pub invariant-loop-one : goal.invariant-loop-one
-invariant-loop-one l = l.out.items ++ flat_map text (drop l.one-index l.texts) ≡ l.fn.out.items ++ flat_map text l.texts

@@ -1,5 +1,0 @@
-use Rattle.image.proofs.Listed.{name_ascii}
-use Rattle.image.proofs.listing.put_exception.Goals as goal
-
-pub put_ascii-requires : goal.put_ascii-requires
-put_ascii-requires c = name_ascii _ c.requires

@@ -1,0 +1,24 @@
+mod Accepted
+mod AcceptedCode
+mod AcceptedSections
+mod AcceptedTables
+mod BytesExamples
+mod ComesBack
+mod Crossings
+mod DecodedBack
+mod FirstFault
+mod Images
+mod Listed
+mod ListingExamples
+mod LoadedImage
+mod LoadingExamples
+mod NoFaults
+mod Opcodes
+mod ReadBack
+mod ReadLoop
+mod Rules
+mod Spelled
+mod SpelledImage
+mod SpelledRows
+mod SpelledWhole
+pub mod Written

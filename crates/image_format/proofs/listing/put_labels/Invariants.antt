@@ -1,0 +1,7 @@
+use Rattle.std.proofs.Common.{◌≡◌, ◌++◌, drop, string_bytes}
+use Rattle.image_format.specs.Listing.{label_line, numbered}
+use Rattle.image_format.proofs.listing.put_labels.Given as goal
+
+-- what is left, behind what stands, is the whole
+abbrev pub invariant-loop-number : goal.invariant-loop-number
+invariant-loop-number l = string_bytes l.out ++ numbered label_line l.number (drop l.number l.fn.labels) ≡ string_bytes l.fn.out ++ numbered label_line 0 l.fn.labels
