@@ -16,6 +16,8 @@ mod memory;
 #[cfg(test)]
 mod names;
 #[cfg(test)]
+mod protected_actions;
+#[cfg(test)]
 mod rows;
 #[cfg(test)]
 mod spelling;

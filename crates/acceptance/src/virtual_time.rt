@@ -1,9 +1,10 @@
 //! Schedules, sleeping tasks and ready tasks, each kept as the manual has it (docs/FORMATS.md, "Schedule"; RM D.2.1, D.8).
-ghost use Rattle.std.specs.Prelude.{◌≡◌};
+ghost use Rattle.std.specs.Prelude.{◌≡◌, ℕ, []};
 
-use clock::{Delays, ListDelays, Schedule};
-use dispatch::{ListReady, Ready};
+use clock::{Delays, HeapDelays, ListDelays, Schedule};
+use dispatch::{ListReady, Ready, RingReady};
 use std::alloc::Global;
+use std::process::Abort;
 use std::test::Fail;
 
 // The number and the line of the fault that a text is refused with, 0 and 0 where it is read.
@@ -53,23 +54,47 @@ fn a_channel_has_its_last_value(rt: HostRuntime) -> Result<(), Fail> {
     Ok(())
 }
 
-#[test]
-fn those_due_wake_in_their_order(rt: HostRuntime) -> Result<(), Fail> {
-    let mut delays = ListDelays::new();
+// Rows of sleepers over any keeper of them that is empty.
+fn wakes_in_order<D: Delays>(rt: &impl Abort, mut delays: D) -> D
+    requires { D.sleepers delays ≡ [] }
+    ensures { D.sleepers result ≡ [] }
+{
     assert_eq!(rt; delays.next_time(), None);
-    delays.add(2, 30);
-    delays.add(0, 10);
-    delays.add(1, 10);
-    assert_eq!(rt; delays.next_time(), Some(10));
-    let due = delays.expire(10);
-    assert_eq!(rt; due.as_slice(), [0, 1].as_slice());
-    assert_eq!(rt; delays.next_time(), Some(30));
-    Ok(())
+    delays.add(3, 50);
+    delays.add(1, 20);
+    delays.add(2, 50);
+    delays.add(4, 20);
+    assert_eq!(rt; delays.next_time(), Some(20));
+    assert_eq!(rt; delays.expire(20).as_slice(), [1, 4].as_slice());
+    assert_eq!(rt; delays.next_time(), Some(50));
+    assert_eq!(rt; delays.expire(60).as_slice(), [3, 2].as_slice());
+    assert_eq!(rt; delays.next_time(), None);
+    delays.add(5, 30);
+    delays.add(6, 10);
+    assert_eq!(rt; delays.expire(30).as_slice(), [5, 6].as_slice());
+    delays
 }
 
 #[test]
-fn the_head_of_the_highest_list_is_taken(rt: HostRuntime) -> Result<(), Fail> {
-    let mut ready = ListReady::new();
+fn those_due_wake_in_their_order(rt: HostRuntime) -> Result<(), Fail> {
+    wakes_in_order(&rt, ListDelays::new());
+    wakes_in_order(&rt, HeapDelays::new());
+    Ok(())
+}
+
+// The numbers reach the greatest value at the third task, and later at the second.
+#[test]
+fn those_due_wake_in_their_order_across_a_numbering_anew(rt: HostRuntime) -> Result<(), Fail> {
+    wakes_in_order(&rt, HeapDelays::numbered_from(u64::MAX));
+    wakes_in_order(&rt, HeapDelays::numbered_from(u64::MAX - 2));
+    wakes_in_order(&rt, HeapDelays::numbered_from(u64::MAX - 5));
+    Ok(())
+}
+
+// Rows of ready tasks over any keeper of them that is empty.
+fn takes_the_highest<R: Ready>(rt: &impl Abort, mut ready: R) -> R
+    requires { (p : ℕ) → R.queues ready p ≡ [] }
+{
     assert_eq!(rt; ready.highest(), None);
     ready.add_tail(3, 5);
     ready.add_tail(4, 5);
@@ -81,5 +106,12 @@ fn the_head_of_the_highest_list_is_taken(rt: HostRuntime) -> Result<(), Fail> {
     assert_eq!(rt; ready.take_highest(), Some(3));
     assert_eq!(rt; ready.take_highest(), Some(4));
     assert_eq!(rt; ready.take_highest(), None);
+    ready
+}
+
+#[test]
+fn the_head_of_the_highest_list_is_taken(rt: HostRuntime) -> Result<(), Fail> {
+    takes_the_highest(&rt, ListReady::new());
+    takes_the_highest(&rt, RingReady::new());
     Ok(())
 }

@@ -1,0 +1,169 @@
+//! The protected actions that tasks have open, and the calls that wait.
+ghost use Rattle.std.specs.Prelude.{◌≡◌, ◌<◌, ◌≤◌, ◌++◌, ◌∷◌, [], length, replicate, None, Some, Ok, OnOk, OnErr, if◌then◌else◌};
+ghost use Rattle.protected.specs.Actions.{Actions, IsInnermost, active_of, calling, ceiling_of, has_any, is_among, opened_by, opening, queued_at, raised, served, with_opened, with_queued, without_last};
+ghost use Rattle.protected.specs.Kept.{AreKnown};
+ghost use Rattle.base.specs.declared.limits.TheConstants.{OBJECTS, TASKS};
+
+use crate::refusal::Refusal;
+use arrayvec::ArrayVec;
+use base::limits::{OBJECTS, TASKS};
+use std::marker::Model;
+
+/// Which protected actions each task has open, and which call waits at each object. Nothing takes memory. Tasks and objects are numbers
+/// in the lists that `new` was given, and are only asked for so.
+#[derive(Drop)]
+pub struct Objects {
+    bases: ArrayVec<u8, TASKS>,
+    ceilings: ArrayVec<u8, OBJECTS>,
+    opened: [ArrayVec<u8, OBJECTS>; TASKS],
+    queued: [Option<u8>; OBJECTS],
+}
+
+impl Model for Objects {
+    ghost use Rattle.std.specs.Prelude.{ℕ, List, map};
+    ghost use Rattle.protected.specs.Actions.{Actions};
+    ghost use Rattle.protected.specs.Kept.{IsKept};
+
+    ghost Value = { Actions };
+
+    ghost view = { λ o. record { bases = o.bases.items; ceilings = o.ceilings.items; opened = map (λ l. l.items) o.opened; queued = o.queued } };
+
+    ghost invariant = { λ o. IsKept o.bases.items o.ceilings.items (map (λ l. l.items) o.opened) o.queued };
+}
+
+impl Objects {
+    /// No action is open and no call waits, with the base priority of each task and the ceiling priority of each object.
+    pub fn new(bases: &[u8], ceilings: &[u8]) -> Objects
+        requires tasks { length bases.now ≤ TASKS }
+        requires objects { length ceilings.now ≤ OBJECTS }
+        ensures { result ≡ record { bases = bases.now; ceilings = ceilings.now; opened = replicate TASKS []; queued = replicate OBJECTS None } }
+    {
+        Objects {
+            bases: copied(bases),
+            ceilings: copied(ceilings),
+            opened: Default::default(),
+            queued: [None; OBJECTS],
+        }
+    }
+
+    /// The active priority of a task: the greatest of its base priority and the ceilings of its open actions (RM D.3).
+    pub fn active(&self, task: u8) -> u8
+        requires { task < length self.now.bases }
+        ensures { result ≡ active_of self.now task }
+    {
+        let mut active = self.bases[usize::from(task)];
+        for object in self.open_actions(task) {
+            active = active.max(self.ceiling(*object));
+        }
+        active
+    }
+
+    /// Whether a task has an action open.
+    pub fn in_action(&self, task: u8) -> bool
+        requires { task < length self.now.bases }
+        ensures { result ≡ has_any (opened_by self.now task) }
+    {
+        !self.open_actions(task).is_empty()
+    }
+
+    /// Asks whether a task may open an action of an object. Refuses with `SameObject` where it has one of that object open, else with
+    /// `AboveCeiling` where its active priority exceeds the ceiling.
+    pub fn may_open(&self, task: u8, object: u8) -> Result<(), Refusal>
+        requires task { task < length self.now.bases }
+        requires object { object < length self.now.ceilings }
+        ensures { result ≡ opening self.now task object }
+    {
+        if self.is_open(task, object) {
+            Err(Refusal::SameObject)
+        } else if self.ceiling(object) < self.active(task) {
+            Err(Refusal::AboveCeiling)
+        } else {
+            Ok(())
+        }
+    }
+
+    /// Opens an action of an object, which `may_open` doesn't refuse.
+    pub fn enter(&mut self, task: u8, object: u8)
+        requires task { task < length self.old.bases }
+        requires object { object < length self.old.ceilings }
+        requires allowed { opening self.old task object ≡ Ok tt }
+        ensures { self.new ≡ with_opened task (opened_by self.old task ++ object ∷ []) self.old }
+    {
+        self.opened[usize::from(task)].push(object);
+    }
+
+    /// Puts a task's call into the queue of an object. Refuses with `QueueFull` where another call waits there, and then changes nothing.
+    pub fn queue(&mut self, task: u8, object: u8) -> Result<(), Refusal>
+        requires task { task < length self.old.bases }
+        requires object { object < length self.old.ceilings }
+        ensures answer { result ≡ calling (queued_at self.old object) }
+        ensures waits { OnOk result (self.new ≡ with_queued object (Some task) self.old) }
+        ensures refused { OnErr result (self.new ≡ self.old) }
+    {
+        if self.queued[usize::from(object)].is_some() {
+            Err(Refusal::QueueFull)
+        } else {
+            self.queued[usize::from(object)] = Some(task);
+            Ok(())
+        }
+    }
+
+    /// Takes the call that waits at an object out of its queue where the barrier is open, and returns its task (RM 9.5.3).
+    pub fn to_serve(&mut self, object: u8, barrier: bool) -> Option<u8>
+        requires { object < length self.old.ceilings }
+        ensures task { result ≡ served barrier (queued_at self.old object) }
+        ensures left { self.new ≡ (if barrier then with_queued object None self.old else self.old) }
+    {
+        if barrier {
+            self.queued[usize::from(object)].take()
+        } else {
+            None
+        }
+    }
+
+    /// Closes the innermost action of a task, which is one of this object.
+    pub fn close(&mut self, task: u8, object: u8)
+        requires task { task < length self.old.bases }
+        requires innermost { IsInnermost object (opened_by self.old task) }
+        ensures { self.new ≡ with_opened task (without_last (opened_by self.old task)) self.old }
+    {
+        self.opened[usize::from(task)].pop();
+    }
+
+    // Whether a task has an action of an object open.
+    fn is_open(&self, task: u8, object: u8) -> bool
+        requires { task < length self.now.bases }
+        ensures { result ≡ is_among object (opened_by self.now task) }
+    {
+        self.open_actions(task).contains(&object)
+    }
+
+    // The objects of a task's open actions, the innermost last.
+    fn open_actions(&self, task: u8) -> &[u8]
+        requires { task < length self.now.bases }
+        ensures objects { result.now ≡ opened_by self.now task }
+        ensures known { AreKnown (length self.now.ceilings) result.now }
+    {
+        self.opened[usize::from(task)].as_slice()
+    }
+
+    // The ceiling priority of an object.
+    fn ceiling(&self, object: u8) -> u8
+        requires { object < length self.now.ceilings }
+        ensures { result ≡ ceiling_of self.now.ceilings object }
+    {
+        self.ceilings[usize::from(object)]
+    }
+}
+
+// Priorities in a fixed list.
+fn copied<const N: usize>(priorities: &[u8]) -> ArrayVec<u8, N>
+    requires { length priorities.now ≤ N }
+    ensures { result.items ≡ priorities.now }
+{
+    let mut list = ArrayVec::new();
+    for priority in priorities {
+        list.push(*priority);
+    }
+    list
+}
