@@ -4,6 +4,7 @@ use Rattle.std.specs.Prelude.{nat_lt, cond, get_or}
 use Rattle.std.proofs.lemmas.List.{at_drop_more}
 use Rattle.lexer.specs.declared.fault.Fault.{Fault}
 use Rattle.expr_rules.specs.Faults.{Faults, least, order_of, sooner}
+use Rattle.expr_rules.specs.StaticRules.{if_unbroken}
 
 sooner_none : (a : Option Fault) → sooner a None ≡ a
 sooner_none None = refl
@@ -43,3 +44,29 @@ turn left all n x f one first rest whole less is split h here =
     ∙ ap (sooner f) (sym (least_append first rest))
     ∙ ap (λ l. sooner f (least l)) (sym next)
     ∙ h
+
+some_sooner : (b : Option Fault) (a : Fault) → None ≡ sooner (Some a) b → ⊥
+some_sooner None a h = cc
+some_sooner (Some b) a h = some_chosen (nat_lt (order_of b) (order_of a)) h
+  where
+    some_chosen : (u : Bool) → None ≡ cond u (Some b) (Some a) → ⊥
+    some_chosen true e = cc
+    some_chosen false e = cc
+
+pub none_least : (fs : Faults) → None ≡ least fs → fs ≡ []
+none_least [] h = refl
+none_least (f ∷ fs) h = absurd (some_sooner (least fs) f h)
+
+-- where nothing else is broken, and where something is
+
+by_empty : (fs form value : Faults) (o v : Option Fault) → fs ≡ [] → o ≡ least form → v ≡ least value → sooner o v ≡ least (fs ++ form ++ if_unbroken fs value)
+by_empty [] form value o v e h k = (λ j. sooner (h j) (k j)) ∙ sym (least_append form value)
+by_empty (f ∷ fs) form value o v e h k = cc
+
+pub nothing_else : (fs form value : Faults) (o v : Option Fault) → None ≡ least fs → o ≡ least form → v ≡ least value → sooner o v ≡ least (fs ++ form ++ if_unbroken fs value)
+nothing_else fs form value o v none h k = by_empty fs form value o v (none_least fs none) h k
+
+pub something_else : (fs form value : Faults) (o : Option Fault) (f : Fault) → Some f ≡ least fs → o ≡ least form → sooner (Some f) o ≡ least (fs ++ form ++ if_unbroken fs value)
+something_else [] form value o f h k = cc
+something_else (g ∷ fs) form value o f h k =
+    (λ j. sooner (h j) (k j)) ∙ sym (least_append (g ∷ fs) form) ∙ sym (least_append (g ∷ fs ++ form) [] ∙ sooner_none (least (g ∷ fs ++ form)))

@@ -10,7 +10,7 @@ use Rattle.ada_tree.specs.StatementTree.{declaration_tree}
 use Rattle.types.specs.declared.entity.RecordComponent.{RecordComponent}
 use Rattle.types.specs.Scopes.{Scope}
 use Rattle.expr_rules.specs.Faults.{Faults, least, sooner}
-use Rattle.declaring.specs.ObjectRules.{local_faults, local_scope, locals_faults, locals_scope}
+use Rattle.declaring.specs.ObjectRules.{fixed_local_faults, fixed_locals_faults, local_faults, local_scope, locals_faults, locals_scope}
 use Rattle.declaring.specs.TypeRules.{component_faults, components_faults}
 use Rattle.declaring.proofs.Joined.{turn}
 
@@ -24,6 +24,12 @@ pub locals_turn : (s : Scope) (all : List Declaration) (n : ℕ) (x : Declaratio
     → sooner (sooner f one) (least (locals_faults (local_scope s (declaration_tree x)) (map declaration_tree (drop (n + 1) all)))) ≡ whole
 locals_turn s all n x f one whole less is h here =
     turn (λ l. locals_faults s (map declaration_tree l)) all n x f one (local_faults s (declaration_tree x)) (locals_faults (local_scope s (declaration_tree x)) (map declaration_tree (drop (n + 1) all))) whole less is refl h here
+
+pub fixed_locals_turn : (s : Scope) (all : List Declaration) (n : ℕ) (x : Declaration) (f one : Option Fault) (whole : Option Fault)
+    → n < length all → x ≡ get_or all n x → sooner f (least (fixed_locals_faults s (map declaration_tree (drop n all)))) ≡ whole → one ≡ least (fixed_local_faults s (declaration_tree x))
+    → sooner (sooner f one) (least (fixed_locals_faults (local_scope s (declaration_tree x)) (map declaration_tree (drop (n + 1) all)))) ≡ whole
+fixed_locals_turn s all n x f one whole less is h here =
+    turn (λ l. fixed_locals_faults s (map declaration_tree l)) all n x f one (fixed_local_faults s (declaration_tree x)) (fixed_locals_faults (local_scope s (declaration_tree x)) (map declaration_tree (drop (n + 1) all))) whole less is refl h here
 
 pub scope_turn : (s after : Scope) (all : List Declaration) (n : ℕ) (x : Declaration) → n < length all → x ≡ get_or all n x → locals_scope s (map declaration_tree (drop n all)) ≡ after
     → locals_scope (local_scope s (declaration_tree x)) (map declaration_tree (drop (n + 1) all)) ≡ after

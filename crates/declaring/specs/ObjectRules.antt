@@ -2,7 +2,7 @@
 use Rattle.std.specs.Prelude.{ℕ, ℤ, pos, Bool, true, false, List, [], ◌∷◌, ◌++◌, Option, Some, None}
 use Rattle.base.specs.declared.faults.TheConstants.{NOT_STATIC, WRONG_STATIC_VALUE}
 use Rattle.ada_tree.specs.declared.expression.Identifier.{Identifier}
-use Rattle.ada_tree.specs.ExpressionTree.{ExprTree, Named, SelectorTrees, NoSelectors, MoreSelectors, Arguments, MoreArguments, NoArguments}
+use Rattle.ada_tree.specs.ExpressionTree.{ExprTree, Named, SelectorTrees, NoSelectors, MoreSelectors, Arguments, ArgumentTrees, MoreArguments, NoArguments, bare_name}
 use Rattle.ada_tree.specs.ExpressionTree as tree
 use Rattle.ada_tree.specs.StatementTree.{ObjectTree, DeclarationTree, LocalObject, LocalTask, LocalProtected}
 use Rattle.types.specs.declared.entity.Subtype.{Subtype}
@@ -17,7 +17,8 @@ use Rattle.types.specs.declared.statics.StaticForm.TheVariants.{Static}
 use Rattle.types.specs.Entities.{Entity, Object, Constant, Predefined, Doubtful}
 use Rattle.types.specs.Scopes.{Scope, integer_type, with_name}
 use Rattle.types.specs.Values.{Value, Number, Truth}
-use Rattle.types.specs.Evaluations.{Val, Gives, Raises, Meaningless}
+use Rattle.types.specs.Evaluations.{Val, Gives, Raises, Meaningless, computed}
+use Rattle.base.specs.Arithmetic.{Checked}
 use Rattle.types.specs.Operators.{milliseconds_value, microseconds_value}
 use Rattle.types.specs.Statics.{static_form, start_of}
 use Rattle.expr_rules.specs.declared.own.Wanted.{Wanted}
@@ -30,24 +31,34 @@ use Rattle.declaring.specs.SubtypeNames.{declared_twice, named_entity, subtype_o
 -- ---- initial values that must be static
 
 -- Beside static expressions these may be `Clock`, and `Milliseconds (N)` or `Microseconds (N)` with N static (RM D.8).
-pub data Initial : Type 0 where
-  IsClock : Initial
-  IsSpan : PredefinedOperation → (argument : ExprTree) → Initial
-  IsOther : Initial
+abbrev pub is_clock_entity : Option Entity → Bool
+is_clock_entity (Some (Predefined predefined.Clock p)) = true
+is_clock_entity e = false
 
-abbrev pub initial_clock : Option Entity → Initial
-initial_clock (Some (Predefined predefined.Clock p)) = IsClock
-initial_clock e = IsOther
+abbrev pub is_clock_name : Scope → Option Identifier → Bool
+is_clock_name s (Some name) = is_clock_entity (named_entity s name)
+is_clock_name s None = false
 
-abbrev pub initial_span : Option Entity → ExprTree → Initial
-initial_span (Some (Predefined predefined.Milliseconds p)) e = IsSpan predefined.Milliseconds e
-initial_span (Some (Predefined predefined.Microseconds p)) e = IsSpan predefined.Microseconds e
-initial_span d e = IsOther
+abbrev pub is_clock : Scope → ExprTree → Bool
+is_clock s e = is_clock_name s (bare_name e)
 
-abbrev pub initial_of : Scope → ExprTree → Initial
-initial_of s (Named first NoSelectors) = initial_clock (named_entity s first)
-initial_of s (Named first (MoreSelectors (Arguments (MoreArguments (tree.Value e) NoArguments)) NoSelectors)) = initial_span (named_entity s first) e
-initial_of s e = IsOther
+abbrev pub single_expression : ArgumentTrees → Option ExprTree
+single_expression (MoreArguments (tree.Value e) NoArguments) = Some e
+single_expression a = None
+
+abbrev pub single_argument : SelectorTrees → Option ExprTree
+single_argument (MoreSelectors (Arguments a) NoSelectors) = single_expression a
+single_argument _ = None
+
+abbrev pub span_by : Option Entity → Option ExprTree → Option (PredefinedOperation × ExprTree)
+span_by (Some (Predefined predefined.Milliseconds p)) (Some e) = Some (predefined.Milliseconds, e)
+span_by (Some (Predefined predefined.Microseconds p)) (Some e) = Some (predefined.Microseconds, e)
+span_by d e = None
+
+-- the operation and its argument
+abbrev pub span_call : Scope → ExprTree → Option (PredefinedOperation × ExprTree)
+span_call s (Named first selectors) = span_by (named_entity s first) (single_argument selectors)
+span_call s e = None
 
 -- the span of a static argument, which may overflow
 abbrev pub span_of : PredefinedOperation → ℤ → Val Value
@@ -66,15 +77,22 @@ abbrev pub span_rule : (place : ℕ) → Val Value → Faults
 span_rule place (Raises x) = rule WRONG_STATIC_VALUE place true
 span_rule place v = []
 
-abbrev pub fixed_faults_by : Scope → Option Subtype → ExprTree → Initial → Faults
-fixed_faults_by s t e IsClock = faults_of s (wanted_by t) e
-fixed_faults_by s t e (IsSpan operation argument) =
+abbrev pub span_faults : Scope → Option Subtype → ExprTree → PredefinedOperation → (argument : ExprTree) → Faults
+span_faults s t e operation argument =
     faults_of s (wanted_by t) e ++ form_rule (start_of e) (static_form s argument) ++ if_unbroken (faults_of s (wanted_by t) e) (span_rule (start_of e) (span_value s operation argument))
-fixed_faults_by s t e IsOther = static_faults s (wanted_by t) t e
+
+abbrev pub called_faults : Scope → Option Subtype → ExprTree → Option (PredefinedOperation × ExprTree) → Faults
+called_faults s t e (Some x) = span_faults s t e x.0 x.1
+called_faults s t e None = static_faults s (wanted_by t) t e
 
 -- what is broken in an initial value that must be static
 abbrev pub fixed_faults : Scope → Option Subtype → ExprTree → Faults
-fixed_faults s t e = fixed_faults_by s t e (initial_of s e)
+fixed_faults s t e = elim (is_clock s e) [ true ↦ faults_of s (wanted_by t) e | false ↦ called_faults s t e (span_call s e) ]
+
+-- a span as it is computed
+abbrev pub counted : Option Checked → Val Value
+counted (Some outcome) = computed outcome
+counted None = Meaningless
 
 abbrev pub scalar_of : Val Value → Option Scalar
 scalar_of (Gives (Number z)) = Some (scalar.Number z)
@@ -86,10 +104,12 @@ known_scalar (Some (Number z)) = Some (scalar.Number z)
 known_scalar (Some (Truth b)) = Some (scalar.Truth b)
 known_scalar v = None
 
-abbrev pub fixed_scalar_by : Scope → Option Subtype → ExprTree → Initial → Option Scalar
-fixed_scalar_by s t e IsClock = Some (scalar.Number (pos 0))
-fixed_scalar_by s t e (IsSpan operation argument) = scalar_of (span_value s operation argument)
-fixed_scalar_by s t e IsOther = known_scalar (static_scalar s (wanted_by t) t e)
+abbrev pub called_scalar : Scope → Option Subtype → ExprTree → Option (PredefinedOperation × ExprTree) → Option Scalar
+called_scalar s t e (Some x) = scalar_of (span_value s x.0 x.1)
+called_scalar s t e None = known_scalar (static_scalar s (wanted_by t) t e)
+
+abbrev pub fixed_value : Scope → Option Subtype → ExprTree → Option Scalar
+fixed_value s t e = elim (is_clock s e) [ true ↦ Some (scalar.Number (pos 0)) | false ↦ called_scalar s t e (span_call s e) ]
 
 abbrev pub scalar_if_unbroken : Faults → Option Scalar → Option Scalar
 scalar_if_unbroken [] v = v
@@ -97,7 +117,7 @@ scalar_if_unbroken faults v = None
 
 -- its value, where nothing is broken; the time at the start is 0
 abbrev pub fixed_scalar : Scope → Option Subtype → ExprTree → Option Scalar
-fixed_scalar s t e = scalar_if_unbroken (fixed_faults s t e) (fixed_scalar_by s t e (initial_of s e))
+fixed_scalar s t e = scalar_if_unbroken (fixed_faults s t e) (fixed_value s t e)
 
 -- 14, at the name: a constant without initial value
 abbrev pub local_initial_faults : Scope → ObjectTree → Faults
