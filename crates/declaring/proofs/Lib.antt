@@ -1,3 +1,4 @@
 mod Joined
 mod Turns
 mod Calls
+mod Examples
