@@ -42,7 +42,7 @@ impl Kind {
 }
 
 impl Subprogram {
-    /// Whether the region is there in it (45).
+    /// Whether the region is there in the subprogram (45): region 2 needs an object.
     pub fn has_region(&self, region: Region) -> bool
         ensures { result ≡ has_region self.now region }
     {
@@ -82,7 +82,7 @@ impl Parts {
         self.subprograms.iter().all(|s| self.is_closed(s))
     }
 
-    /// Whether its last instruction lets no other follow (44).
+    /// Whether the last instruction of a subprogram lets no other follow (44).
     pub fn is_closed(&self, s: &Subprogram) -> bool
         ensures { result ≡ is_closed self.now s.now }
     {
@@ -110,7 +110,7 @@ impl Parts {
         self.tasks.iter().all(|t| self.has_body(t))
     }
 
-    /// Whether the object that it belongs to is there (45).
+    /// Whether the object that a subprogram belongs to, if any, is there (45).
     pub fn has_object(&self, s: &Subprogram) -> bool
         ensures { result ≡ has_object self.now s.now }
     {
@@ -288,7 +288,7 @@ impl Draft {
         self.parts.rows.iter().all(|r| self.is_row_within(r))
     }
 
-    /// Whether its jump stays in the subprogram that holds its place (44).
+    /// Whether an instruction that jumps stays in the subprogram that holds its place (44).
     pub fn jumps_within(&self, place: usize, x: &Instr) -> bool
         ensures { result ≡ jumps_within self.now place x.now }
     {
