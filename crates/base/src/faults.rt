@@ -16,6 +16,8 @@ pub const UNEXPECTED_TOKEN: u8 = 6;
 pub const TOO_MANY_LEVELS: u8 = 7;
 /// A name is not visible where it stands, or there is no component or operation of this name (RM 4.1, 8.3).
 pub const NAME_NOT_VISIBLE: u8 = 10;
+/// A name is declared twice, or hides a visible one (RM 8.3).
+pub const DECLARED_TWICE: u8 = 11;
 /// A type is not as expected, or an operator, a call or a name has no meaning where it stands (RM 4).
 pub const NO_MEANING: u8 = 12;
 /// What is to be changed is a constant, a loop parameter, an `in` formal, or a component in the body of a protected function (RM 3.3, 6.4.1, 9.5.1).
@@ -26,6 +28,10 @@ pub const NOT_STATIC: u8 = 14;
 pub const WRONG_STATIC_VALUE: u8 = 15;
 /// A call has not as many actual parameters as there are formal ones (RM 6.4).
 pub const WRONG_ARGUMENT_COUNT: u8 = 16;
+/// A function has a formal parameter that is not `in`, or a composite formal or result.
+pub const WRONG_FUNCTION: u8 = 21;
+/// A program passes a limit of the language.
+pub const LIMIT_PASSED: u8 = 23;
 /// The code of a program passes a limit of images.
 pub const CODE_TOO_LARGE: u8 = 23;
 /// An image: the magic or the version is another one.

@@ -31,6 +31,10 @@ pub const LABELS: usize = 1_024;
 pub const WORDS: usize = 8_192;
 /// Subprograms of a source.
 pub const PROCEDURES: usize = 128;
+/// Formal parameters of a subprogram or an entry.
+pub const FORMALS: usize = 8;
+/// Components of an array.
+pub const COMPONENTS: usize = 1_024;
 /// Tasks, main among them.
 pub const TASKS: usize = 17;
 /// Protected objects.

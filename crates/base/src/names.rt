@@ -96,7 +96,8 @@ pub fn is_label(label: &[u8]) -> bool
     1 <= label.len() && label.len() <= LABEL_LIMIT && has_label_characters(label)
 }
 
-fn has_label_characters(label: &[u8]) -> bool
+/// Whether a label may hold each of these bytes: characters from 33 to 126 but the quotation mark.
+pub fn has_label_characters(label: &[u8]) -> bool
     ensures { result ≡ list_all is_label_character label.now }
 {
     label.iter().all(|c| is_label_character(*c))

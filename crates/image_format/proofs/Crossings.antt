@@ -1,15 +1,15 @@
 -- The first of the faults of crossing regions is that of the first row that crosses one before it.
 use Rattle.std.proofs.Common.{◌≡◌, ℕ, zero, suc, ◌+◌, ◌*◌, ◌<◌, ◌≤◌, List, [], ◌∷◌, ◌++◌, length, take, Bool, true, false, cond, Option, Some, None, refl, sym, ap, ◌∙◌, subst, arith}
 use Rattle.std.specs.Prelude.{nat_lt, slice_get, if◌then◌else◌}
-use Rattle.std.proofs.lemmas.Bool.{true≢false}
+use Rattle.std.proofs.lemmas.Bool.{true≢false, leb-true}
 use Rattle.std.proofs.lemmas.Option.{none-some, same_Some, slice_get_within}
 use Rattle.base.specs.declared.faults.TheConstants.{TABLES_DISAGREE}
 use Rattle.handlers.specs.Nesting.{IsFirst, crosses_at, crosses_one, some_and}
 use Rattle.handlers.specs.declared.rows.Row.{Row}
 use Rattle.image.specs.declared.fault.ImageFault.{ImageFault}
-use Rattle.image_format.specs.FaultOrder.{Faults, after, fault_at, first_of, order_of, rule, sooner}
+use Rattle.image_format.specs.FaultOrder.{Faults, after, fault_at, first_of, is_no_later, order_of, rule, sooner}
 use Rattle.image_format.specs.Loading.{behind_row, crossing_faults, each}
-use Rattle.image_format.proofs.FirstFault.{sooner_assoc}
+use Rattle.image_format.proofs.FirstFault.{first_append, sooner_assoc}
 
 -- what is no later stays
 stays : (f g : ImageFault) → order_of f ≤ order_of g → sooner (Some f) (Some g) ≡ Some f
@@ -86,3 +86,12 @@ first_crossing rows start (Some m) first =
     let r = there rows m (slice_get rows m) refl first.1 in
     first_told (λ n. crosses_one (take n rows)) rows 0 start m r.0 r.1 (crosses_there rows m r.0 true r.1 first.1)
     (λ k q lt is. crosses_there rows k q false is (first.2 k lt))
+
+-- they change nothing behind a fault that comes no later
+pub before_crossings : (rows : List Row) (start : ℕ) (fault : Option ImageFault) (fs : Faults) → fault ≡ first_of fs → is_no_later fault (fault_at TABLES_DISAGREE (after start 2)) ≡ true → fault ≡ first_of (fs ++ each (behind_row 8) (crossing_faults rows) 0 start rows)
+before_crossings rows start None fs is sooner_ = absurd (true≢false (sym sooner_))
+before_crossings rows start (Some f) fs is sooner_ =
+    let crossings = each (behind_row 8) (crossing_faults rows) 0 start rows in
+    sym
+    (first_append fs crossings
+    ∙ (ap (λ o. sooner o (first_of crossings)) (sym is) ∙ later (λ n. crosses_one (take n rows)) rows 0 start f (leb-true (order_of f) (order_of (fault_at TABLES_DISAGREE (after start 2))) sooner_)))

@@ -1,5 +1,5 @@
 -- Broken rules of an image by number and byte, and the first of them: at the least byte, and there of the least number.
-use Rattle.std.specs.Prelude.{ℕ, ◌+◌, ◌*◌, Bool, List, [], ◌∷◌, Option, Some, None, nat_lt, min, if◌then◌else◌}
+use Rattle.std.specs.Prelude.{ℕ, ◌+◌, ◌*◌, Bool, false, List, [], ◌∷◌, Option, Some, None, nat_le, nat_lt, min, if◌then◌else◌}
 use Rattle.image.specs.declared.fault.ImageFault.{ImageFault}
 
 -- each entry: this rule is broken at this byte
@@ -33,3 +33,8 @@ sooner (Some a) (Some b) = if nat_lt (order_of b) (order_of a) then Some b else 
 abbrev pub first_of : Faults → Option ImageFault
 first_of [] = None
 first_of (f ∷ fs) = sooner (Some f) (first_of fs)
+
+-- there is a fault, and it comes no later than the other
+abbrev pub is_no_later : Option ImageFault → ImageFault → Bool
+is_no_later None other = false
+is_no_later (Some f) other = nat_le (order_of f) (order_of other)

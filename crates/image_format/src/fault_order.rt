@@ -1,6 +1,6 @@
 //! The first of several faults of an image, and places in its bytes.
 ghost use Rattle.std.specs.Prelude.{◌≡◌, ◌+◌, ◌*◌};
-ghost use Rattle.image_format.specs.FaultOrder.{after, first_of, order_of, rule, sooner};
+ghost use Rattle.image_format.specs.FaultOrder.{after, fault_at, first_of, is_no_later, order_of, rule, sooner};
 
 use image::ImageFault;
 
@@ -52,5 +52,15 @@ pub(crate) fn sooner(a: Option<ImageFault>, b: Option<ImageFault>) -> Option<Ima
                 Some(a)
             }
         }
+    }
+}
+
+/// Whether there is a fault, and it comes no later than that of this rule at this byte.
+pub(crate) fn is_no_later(fault: Option<ImageFault>, number: u8, byte: u32) -> bool
+    ensures { result ≡ is_no_later fault (fault_at number byte) }
+{
+    match fault {
+        None => false,
+        Some(fault) => order_of(fault) <= order_of(ImageFault { number, byte }),
     }
 }

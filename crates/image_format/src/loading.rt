@@ -7,7 +7,7 @@ ghost use Rattle.image_format.specs.Loading.{agrees, all_crossing_faults, behind
 ghost use Rattle.image.specs.Rules.{has_ends};
 
 use crate::code_faults::{operands_fault, places_fault};
-use crate::fault_order::{after, after_all, rule, sooner};
+use crate::fault_order::{after, after_all, is_no_later, rule, sooner};
 use crate::raw_sections::RawSections;
 use crate::reading::{Unread, read};
 use crate::table_faults::{
@@ -189,7 +189,8 @@ impl RawSections {
         )
     }
 
-    /// The first of the rules 43 to 47 that these sections break, where they stand for those of the draft.
+    /// The first of the rules 43 to 47 that these sections break, where they stand for those of the draft. Whether handler regions cross
+    /// is not asked where a fault comes before: then there may be more rows than an image has.
     ///
     /// # Errors
     /// Where memory was refused.
@@ -201,8 +202,13 @@ impl RawSections {
     ) -> Result<Option<ImageFault>, AllocError>
         ensures { IfOk result (λ fault. fault ≡ first_of (faults_as self.now draft.now ++ all_crossing_faults self.now)) }
     {
-        let crossing = crossing_fault(alloc, self.rows_start(), &self.rows)?;
-        Ok(sooner(self.fault_but_crossing(draft), crossing))
+        let start = self.rows_start();
+        let fault = self.fault_but_crossing(draft);
+        if is_no_later(fault, TABLES_DISAGREE, after(start, 2)) {
+            return Ok(fault);
+        }
+        let crossing = crossing_fault(alloc, start, &self.rows)?;
+        Ok(sooner(fault, crossing))
     }
 }
 

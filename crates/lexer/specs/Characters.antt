@@ -1,6 +1,7 @@
 -- The characters of a text (RM 2.1), by their bytes.
 use Rattle.std.specs.Prelude.{ℕ, Bool, false, List, [], ◌∷◌, ◌&&◌, ◌||◌, ◌==◌, not, nat_le}
 use Rattle.std.specs.Char.{is_ascii_alphabetic, is_ascii_digit}
+pub use Rattle.base.specs.Names.{is_label_character}
 
 abbrev pub line_feed : ℕ
 line_feed = 10
@@ -49,10 +50,6 @@ is_comment_character c = c == 9 || c == 13 || (nat_le 32 c && nat_le c 126) || n
 -- what runs up to the quotation mark that closes a string literal
 abbrev pub is_string_character : ℕ → Bool
 is_string_character c = not (is_quotation_mark c) && stays_on_line c
-
--- what a label may hold
-abbrev pub is_label_character : ℕ → Bool
-is_label_character c = nat_le 33 c && nat_le c 126 && not (is_quotation_mark c)
 
 -- the first character, if there is one, passes the test
 abbrev pub begins : (ℕ → Bool) → List ℕ → Bool

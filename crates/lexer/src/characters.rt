@@ -53,12 +53,6 @@ fn is_string_character(c: u8) -> bool
     c != b'"' && c != b'\n'
 }
 
-fn is_label_character(c: u8) -> bool
-    ensures { result ≡ characters.is_label_character c }
-{
-    matches!(c, b'!'..=b'~') && c != b'"'
-}
-
 /// Whether behind each underline stands another character, which is no underline.
 pub fn has_single_underlines(text: &[u8]) -> bool
     ensures { result ≡ has_single_underlines text.now }
@@ -107,11 +101,4 @@ pub fn string_length(text: &[u8]) -> usize
     ensures in_text { result ≤ length text.now }
 {
     text.iter().take_while(|c| is_string_character(**c)).count()
-}
-
-/// Whether a label may hold each of these characters.
-pub fn has_label_characters(text: &[u8]) -> bool
-    ensures { result ≡ list_all characters.is_label_character text.now }
-{
-    text.iter().all(|c| is_label_character(*c))
 }

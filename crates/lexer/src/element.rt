@@ -3,8 +3,8 @@ ghost use Rattle.std.specs.Prelude.{◌≡◌, ◌<◌, length, pos, option_map}
 ghost use Rattle.lexer.specs.Reading.{broken, kind_or, reserved, value_in_range, word_at, numeral_at, label_at, comment_at, compound_of, simple_of, delimiter_at, element_at};
 
 use crate::characters::{
-    begins_with_quotation_mark, comment_length, has_label_characters, has_single_underlines,
-    is_on_line, numeral_length, runs_on, string_length, word_length,
+    begins_with_quotation_mark, comment_length, has_single_underlines, is_on_line, numeral_length,
+    runs_on, string_length, word_length,
 };
 use crate::spelled::{label_of, name_of};
 use crate::word::reserved_word;
@@ -12,6 +12,7 @@ use crate::{Delimiter, TokenKind};
 use base::Text;
 use base::faults::{STRAY_CHARACTER, WRONG_IDENTIFIER, WRONG_LABEL, WRONG_LITERAL};
 use base::limits::{LABEL_LIMIT, LARGEST_NUMBER, NAME_LIMIT};
+use base::names::has_label_characters;
 
 /// What stands at the front of a text: a token, or white space or a comment, of so many bytes.
 #[derive(Drop)]

@@ -1,0 +1,475 @@
+-- Declarations with their least broken rule, and what they declare, worked by computation. Places are those in the text above each.
+use Rattle.std.proofs.Common.{◌≡◌, ℕ, List, [], ◌∷◌, Option, Some, None, true, false, Bool, refl}
+use Rattle.std.specs.Prelude.{pos, negsuc, codes}
+use Rattle.lexer.specs.declared.fault.Fault.{Fault}
+use Rattle.ada_tree.specs.declared.expression.Identifier.{Identifier}
+use Rattle.ada_tree.specs.declared.expression.UnaryOperator.{UnaryOperator}
+use Rattle.ada_tree.specs.declared.expression.UnaryOperator.TheVariants as unary
+use Rattle.ada_tree.specs.declared.expression.BinaryOperator.{BinaryOperator}
+use Rattle.ada_tree.specs.declared.expression.BinaryOperator.TheVariants as binary
+use Rattle.ada_tree.specs.declared.declaration.Mode.TheVariants as mode
+use Rattle.ada_tree.specs.declared.declaration.Component.{Component as RecordPart}
+use Rattle.ada_tree.specs.ExpressionTree.{ExprTree, Number, Named, Parenthesized, Conditional, Unary, Binary, NoElsifValues, MoreElsifValues, SelectorTree, selectors_of, Component, Arguments, Attribute, ArgumentTree, Value, Text, arguments_of}
+use Rattle.ada_tree.specs.StatementTree.{ObjectTree, RangeTree, LocalObject}
+use Rattle.ada_tree.specs.ProgramTree.{TypeTree, Integer, Array, Record, Subtype as SubtypeOf, OfRange, OfSubtype as OfName}
+use Rattle.types.specs.declared.entity.Subtype.{Subtype}
+use Rattle.types.specs.declared.entity.Role.TheVariants as role
+use Rattle.types.specs.declared.entity.Value.TheVariants as scalar
+use Rattle.types.specs.Entities.{Operation, Profile, Integers, Arrays, Records, OfType, OfSubtype, Object, Constant, Subprogram, Protected, Task, Exception, LibraryUnit, Doubtful, Entity}
+use Rattle.types.specs.Scopes.{Scope, Named as Declaration, standard, with_name, with_real_time, with_control_io, number_of, integer, boolean, base_range_of, entity_at}
+use Rattle.expr_rules.specs.Faults.{least}
+use Rattle.declaring.specs.SubtypeNames.{named_entity}
+use Rattle.declaring.specs.ObjectRules.{local_object_faults, fixed_object_faults, package_object_entity, local_object_scope, locals_faults, locals_scope}
+use Rattle.declaring.specs.TypeRules.{type_faults, definition_entity, type_scope}
+
+-- ---- trees
+
+abbrev identifier : ℕ → List ℕ → Identifier
+identifier place text = record { name = text; place = place }
+
+abbrev num : ℕ → ℕ → ExprTree
+num place n = Number (pos n) place
+
+abbrev one : UnaryOperator → ℕ → ExprTree → ExprTree
+one operator place e = Unary operator place e
+
+abbrev two : BinaryOperator → ExprTree → ExprTree → ExprTree
+two operator a b = Binary operator a b
+
+abbrev if_then : ℕ → ExprTree → ExprTree → ExprTree → ExprTree
+if_then place c a b = Conditional place c a NoElsifValues b
+
+abbrev if_elsif : ℕ → ExprTree → ExprTree → ExprTree → ExprTree → ExprTree → ExprTree
+if_elsif place c a d b other = Conditional place c a (MoreElsifValues d b NoElsifValues) other
+
+abbrev name : ℕ → List ℕ → List SelectorTree → ExprTree
+name place text selectors = Named (identifier place text) (selectors_of selectors)
+
+abbrev of : ExprTree → ArgumentTree
+of e = Value e
+
+abbrev at : List ArgumentTree → SelectorTree
+at arguments = Arguments (arguments_of arguments)
+
+abbrev dot : ℕ → List ℕ → SelectorTree
+dot place text = Component (identifier place text)
+
+abbrev tick : ℕ → List ℕ → SelectorTree
+tick place text = Attribute (identifier place text)
+
+abbrev broken : ℕ → ℕ → Option Fault
+broken number place = Some (record { number = number; place = place })
+
+abbrev object_of : Identifier → Bool → Identifier → Option ExprTree → ObjectTree
+object_of name constant subtype value = record { name = name; constant = constant; subtype = subtype; value = value }
+
+abbrev range_of : ExprTree → ExprTree → RangeTree
+range_of first last = record { first = first; last = last }
+
+-- ---- scopes: the units; `type Small is range 0 .. 9; subtype Odd is Small range 1 .. 7; type Idx is range 1 .. 3; type Vec is array (Idx) of Integer;
+-- type Pair is record A : Integer; B : Boolean; end record; type Pairs is array (1 .. 2) of Pair; Seven : constant Small := 7; V : Vec; Q : Pairs; R : Pair;
+-- L : constant Vec .. ; function F (N : Integer) return Integer; function G return Boolean; procedure Proc (A : out Small; B : in out Integer);`
+-- `protected P is function Get (S : Small) return Small; procedure Give (X : Integer); entry Take (X : out Integer); private Level : Small; end P;`
+-- `task T; Bad : exception;` the package App; W, whose declaration breaks a rule; variables X : Integer, S : Small, B : Boolean, D : Time and E : Time_Span;
+-- formals N : Integer and O : out Integer; a loop parameter J of Integer; a local constant M : Integer
+
+abbrev units : Scope
+units = with_control_io (with_real_time standard)
+
+abbrev subtype_of : ℕ → ℕ → ℕ → Subtype
+subtype_of type_number first last = record { type_number = type_number; first = pos first; last = pos last }
+
+abbrev small : Subtype
+small = subtype_of 17 0 9
+
+abbrev idx : Subtype
+idx = subtype_of 19 1 3
+
+abbrev vec : Subtype
+vec = subtype_of 20 0 0
+
+abbrev pair : Subtype
+pair = subtype_of 21 0 0
+
+abbrev declared : Scope → List Declaration → Scope
+declared s [] = s
+declared s (n ∷ rest) = declared (with_name s n.name n.entity) rest
+
+abbrev from_integer_to : Subtype → Profile
+from_integer_to t = record { formals = record { mode = mode.In; subtype = integer } ∷ []; result = Some t }
+
+abbrev small_to_small : Profile
+small_to_small = record { formals = record { mode = mode.In; subtype = small } ∷ []; result = Some small }
+
+abbrev operations : List Operation
+operations =
+    record { name = codes "GET"; is_entry = false; profile = small_to_small }
+    ∷ record { name = codes "GIVE"; is_entry = false; profile = record { formals = record { mode = mode.In; subtype = integer } ∷ []; result = None } }
+    ∷ record { name = codes "TAKE"; is_entry = true; profile = record { formals = record { mode = mode.Out; subtype = integer } ∷ []; result = None } }
+    ∷ []
+
+abbrev object : List Operation → Entity
+object operations = Protected (record { number = 0; ceiling = 10; operations = operations; components = record { name = codes "LEVEL"; subtype = small } ∷ []; barrier = None })
+
+abbrev with_object : List Operation → List Declaration
+with_object operations =
+    record { name = codes "SMALL"; entity = OfType Integers small }
+    ∷ record { name = codes "ODD"; entity = OfSubtype (subtype_of 17 1 7) }
+    ∷ record { name = codes "IDX"; entity = OfType Integers idx }
+    ∷ record { name = codes "VEC"; entity = OfType (Arrays idx 3 integer) vec }
+    ∷ record { name = codes "PAIR"; entity = OfType (Records (record { name = codes "A"; subtype = integer } ∷ record { name = codes "B"; subtype = boolean } ∷ [])) pair }
+    ∷ record { name = codes "PAIRS"; entity = OfType (Arrays (subtype_of 0 1 2) 2 pair) (subtype_of 22 0 0) }
+    ∷ record { name = codes "SEVEN"; entity = Constant small (Some (scalar.Number (pos 7))) }
+    ∷ record { name = codes "V"; entity = Object role.Variable vec }
+    ∷ record { name = codes "Q"; entity = Object role.Variable (subtype_of 22 0 0) }
+    ∷ record { name = codes "R"; entity = Object role.Variable pair }
+    ∷ record { name = codes "L"; entity = Constant vec None }
+    ∷ record { name = codes "F"; entity = Subprogram (from_integer_to integer) }
+    ∷ record { name = codes "G"; entity = Subprogram (record { formals = []; result = Some boolean }) }
+    ∷ record { name = codes "PROC"; entity = Subprogram (record { formals = record { mode = mode.Out; subtype = small } ∷ record { mode = mode.InOut; subtype = integer } ∷ []; result = None }) }
+    ∷ record { name = codes "P"; entity = object operations }
+    ∷ record { name = codes "T"; entity = Task 15 }
+    ∷ record { name = codes "BAD"; entity = Exception }
+    ∷ record { name = codes "APP"; entity = LibraryUnit }
+    ∷ record { name = codes "W"; entity = Doubtful }
+    ∷ record { name = codes "X"; entity = Object role.Variable integer }
+    ∷ record { name = codes "S"; entity = Object role.Variable small }
+    ∷ record { name = codes "B"; entity = Object role.Variable boolean }
+    ∷ record { name = codes "D"; entity = Object role.Variable (base_range_of 10) }
+    ∷ record { name = codes "E"; entity = Object role.Variable (base_range_of 11) }
+    ∷ record { name = codes "N"; entity = Object role.In integer }
+    ∷ record { name = codes "O"; entity = Object role.Out integer }
+    ∷ record { name = codes "J"; entity = Object role.LoopParameter integer }
+    ∷ record { name = codes "M"; entity = Object role.Constant integer }
+    ∷ []
+
+abbrev package_scope : Scope
+package_scope = declared units (with_object operations)
+
+-- the next type has this number
+abbrev next : ℕ
+next = 45
+
+next_is : number_of (with_name package_scope (codes "NEXT") Doubtful) (codes "NEXT") ≡ Some next
+next_is = refl
+
+abbrev declared_type : TypeTree → Option Entity
+declared_type d = entity_at (type_scope package_scope d) next
+
+-- ---- objects of bodies and blocks
+
+-- `Z : Small;`
+local_variable : least (local_object_faults package_scope (object_of (identifier 0 (codes "Z")) false (identifier 4 (codes "SMALL")) None)) ≡ None
+local_variable = refl
+
+-- `Z : Small := S + 1;`
+local_value : least (local_object_faults package_scope (object_of (identifier 0 (codes "Z")) false (identifier 4 (codes "SMALL")) (Some (two binary.Add (name 13 (codes "S") []) (num 17 1))))) ≡ None
+local_value = refl
+
+-- `Z : Vec := V;`
+local_composite : least (local_object_faults package_scope (object_of (identifier 0 (codes "Z")) false (identifier 4 (codes "VEC")) (Some (name 11 (codes "V") [])))) ≡ None
+local_composite = refl
+
+-- `Z : Time := Clock + E;`
+local_time : least (local_object_faults package_scope (object_of (identifier 0 (codes "Z")) false (identifier 4 (codes "TIME")) (Some (two binary.Add (name 12 (codes "CLOCK") []) (name 20 (codes "E") []))))) ≡ None
+local_time = refl
+
+-- `Z : constant Integer := N;`
+local_constant : least (local_object_faults package_scope (object_of (identifier 0 (codes "Z")) true (identifier 13 (codes "INTEGER")) (Some (name 24 (codes "N") [])))) ≡ None
+local_constant = refl
+
+-- `Z : constant Integer;`
+constant_without_value : least (local_object_faults package_scope (object_of (identifier 0 (codes "Z")) true (identifier 13 (codes "INTEGER")) None)) ≡ broken 14 0
+constant_without_value = refl
+
+-- `Z : Nobody := 1;`
+hidden_subtype : least (local_object_faults package_scope (object_of (identifier 0 (codes "Z")) false (identifier 4 (codes "NOBODY")) (Some (num 14 1)))) ≡ broken 10 4
+hidden_subtype = refl
+
+-- `Z : X := 1;`
+no_subtype : least (local_object_faults package_scope (object_of (identifier 0 (codes "Z")) false (identifier 4 (codes "X")) (Some (num 9 1)))) ≡ broken 12 4
+no_subtype = refl
+
+-- `Z : W := True;`
+doubtful_subtype : least (local_object_faults package_scope (object_of (identifier 0 (codes "Z")) false (identifier 4 (codes "W")) (Some (name 9 (codes "TRUE") [])))) ≡ None
+doubtful_subtype = refl
+
+-- `X : Integer;`
+declared_before : least (local_object_faults package_scope (object_of (identifier 0 (codes "X")) false (identifier 4 (codes "INTEGER")) None)) ≡ broken 11 0
+declared_before = refl
+
+-- `Integer : Small;`
+hides_a_predefined_name : least (local_object_faults package_scope (object_of (identifier 0 (codes "INTEGER")) false (identifier 10 (codes "SMALL")) None)) ≡ broken 11 0
+hides_a_predefined_name = refl
+
+-- `Z : Small := N;`
+value_of_another_type : least (local_object_faults package_scope (object_of (identifier 0 (codes "Z")) false (identifier 4 (codes "SMALL")) (Some (name 13 (codes "N") [])))) ≡ broken 12 13
+value_of_another_type = refl
+
+-- `Z : Integer := Z;`
+hidden_in_its_own_value : least (local_object_faults package_scope (object_of (identifier 0 (codes "Z")) false (identifier 4 (codes "INTEGER")) (Some (name 15 (codes "Z") [])))) ≡ broken 10 15
+hidden_in_its_own_value = refl
+
+-- `X : Small := N;`
+name_before_value : least (local_object_faults package_scope (object_of (identifier 0 (codes "X")) false (identifier 4 (codes "SMALL")) (Some (name 13 (codes "N") [])))) ≡ broken 11 0
+name_before_value = refl
+
+-- `Z : Nobody := Nobody;`
+subtype_before_value : least (local_object_faults package_scope (object_of (identifier 0 (codes "Z")) false (identifier 4 (codes "NOBODY")) (Some (name 14 (codes "NOBODY") [])))) ≡ broken 10 4
+subtype_before_value = refl
+
+-- ---- objects of the package and of task bodies: static initial values
+
+-- `Z : Small := Seven + 2;`
+fixed_value : least (fixed_object_faults package_scope (object_of (identifier 0 (codes "Z")) false (identifier 4 (codes "SMALL")) (Some (two binary.Add (name 13 (codes "SEVEN") []) (num 21 2))))) ≡ None
+fixed_value = refl
+
+-- `Z : Boolean := Seven < 8;`
+fixed_truth : least (fixed_object_faults package_scope (object_of (identifier 0 (codes "Z")) false (identifier 4 (codes "BOOLEAN")) (Some (two binary.Less (name 15 (codes "SEVEN") []) (num 23 8))))) ≡ None
+fixed_truth = refl
+
+-- `Z : Time := Clock;`
+fixed_clock : least (fixed_object_faults package_scope (object_of (identifier 0 (codes "Z")) false (identifier 4 (codes "TIME")) (Some (name 12 (codes "CLOCK") [])))) ≡ None
+fixed_clock = refl
+
+-- `Z : Time_Span := Milliseconds (Seven + 5);`
+span_of_another_type : least (fixed_object_faults package_scope (object_of (identifier 0 (codes "Z")) false (identifier 4 (codes "TIME_SPAN")) (Some (name 17 (codes "MILLISECONDS") (at (of (two binary.Add (name 31 (codes "SEVEN") []) (num 39 5)) ∷ []) ∷ []))))) ≡ broken 12 31
+span_of_another_type = refl
+
+-- `Z : Time_Span := Milliseconds (5);`
+fixed_milliseconds : least (fixed_object_faults package_scope (object_of (identifier 0 (codes "Z")) false (identifier 4 (codes "TIME_SPAN")) (Some (name 17 (codes "MILLISECONDS") (at (of (num 31 5) ∷ []) ∷ []))))) ≡ None
+fixed_milliseconds = refl
+
+-- `Z : Time_Span := Microseconds (-5);`
+fixed_microseconds : least (fixed_object_faults package_scope (object_of (identifier 0 (codes "Z")) false (identifier 4 (codes "TIME_SPAN")) (Some (name 17 (codes "MICROSECONDS") (at (of (one unary.Minus 31 (num 32 5)) ∷ []) ∷ []))))) ≡ None
+fixed_microseconds = refl
+
+-- `Z : Small := 10;`
+outside_the_subtype : least (fixed_object_faults package_scope (object_of (identifier 0 (codes "Z")) false (identifier 4 (codes "SMALL")) (Some (num 13 10)))) ≡ broken 15 13
+outside_the_subtype = refl
+
+-- `Z : Integer := 1 / 0;`
+raising_value : least (fixed_object_faults package_scope (object_of (identifier 0 (codes "Z")) false (identifier 4 (codes "INTEGER")) (Some (two binary.Divide (num 15 1) (num 19 0))))) ≡ broken 15 15
+raising_value = refl
+
+-- `Z : Integer := X;`
+variable_value : least (fixed_object_faults package_scope (object_of (identifier 0 (codes "Z")) false (identifier 4 (codes "INTEGER")) (Some (name 15 (codes "X") [])))) ≡ broken 14 15
+variable_value = refl
+
+-- `Z : Integer := F (1);`
+function_value : least (fixed_object_faults package_scope (object_of (identifier 0 (codes "Z")) false (identifier 4 (codes "INTEGER")) (Some (name 15 (codes "F") (at (of (num 18 1) ∷ []) ∷ []))))) ≡ broken 14 15
+function_value = refl
+
+-- `Z : Time := (Clock);`
+clock_in_parentheses : least (fixed_object_faults package_scope (object_of (identifier 0 (codes "Z")) false (identifier 4 (codes "TIME")) (Some (Parenthesized 12 (name 13 (codes "CLOCK") []))))) ≡ broken 14 12
+clock_in_parentheses = refl
+
+-- `Z : Time := Clock + Milliseconds (5);`
+sum_of_times : least (fixed_object_faults package_scope (object_of (identifier 0 (codes "Z")) false (identifier 4 (codes "TIME")) (Some (two binary.Add (name 12 (codes "CLOCK") []) (name 20 (codes "MILLISECONDS") (at (of (num 34 5) ∷ []) ∷ [])))))) ≡ broken 14 12
+sum_of_times = refl
+
+-- `Z : Time_Span := Milliseconds (X);`
+span_of_a_variable : least (fixed_object_faults package_scope (object_of (identifier 0 (codes "Z")) false (identifier 4 (codes "TIME_SPAN")) (Some (name 17 (codes "MILLISECONDS") (at (of (name 31 (codes "X") []) ∷ []) ∷ []))))) ≡ broken 14 17
+span_of_a_variable = refl
+
+-- `Z : Time_Span := Milliseconds (9223372036854775807);`
+span_that_overflows : least (fixed_object_faults package_scope (object_of (identifier 0 (codes "Z")) false (identifier 4 (codes "TIME_SPAN")) (Some (name 17 (codes "MILLISECONDS") (at (of (num 31 9223372036854775807) ∷ []) ∷ []))))) ≡ broken 15 17
+span_that_overflows = refl
+
+-- `Z : Time_Span := Clock;`
+clock_for_a_span : least (fixed_object_faults package_scope (object_of (identifier 0 (codes "Z")) false (identifier 4 (codes "TIME_SPAN")) (Some (name 17 (codes "CLOCK") [])))) ≡ broken 12 17
+clock_for_a_span = refl
+
+-- `Z : Time := Milliseconds (5);`
+span_for_a_time : least (fixed_object_faults package_scope (object_of (identifier 0 (codes "Z")) false (identifier 4 (codes "TIME")) (Some (name 12 (codes "MILLISECONDS") (at (of (num 26 5) ∷ []) ∷ []))))) ≡ broken 12 12
+span_for_a_time = refl
+
+-- `Z : Vec := L;`
+composite_value : least (fixed_object_faults package_scope (object_of (identifier 0 (codes "Z")) false (identifier 4 (codes "VEC")) (Some (name 11 (codes "L") [])))) ≡ broken 14 11
+composite_value = refl
+
+-- `Z : Small := N;`
+type_before_static : least (fixed_object_faults package_scope (object_of (identifier 0 (codes "Z")) false (identifier 4 (codes "SMALL")) (Some (name 13 (codes "N") [])))) ≡ broken 12 13
+type_before_static = refl
+
+-- `Z : constant Small := Seven + 2;` in the package
+package_constant : package_object_entity package_scope (object_of (identifier 0 (codes "Z")) true (identifier 13 (codes "SMALL")) (Some (two binary.Add (name 22 (codes "SEVEN") []) (num 30 2)))) ≡ Constant small (Some (scalar.Number (pos 9)))
+package_constant = refl
+
+-- `Z : constant Time := Clock;` in the package
+package_time_constant : package_object_entity package_scope (object_of (identifier 0 (codes "Z")) true (identifier 13 (codes "TIME")) (Some (name 21 (codes "CLOCK") []))) ≡ Constant (base_range_of 10) (Some (scalar.Number (pos 0)))
+package_time_constant = refl
+
+-- `Z : constant Time_Span := Milliseconds (2);` in the package
+package_span_constant : package_object_entity package_scope (object_of (identifier 0 (codes "Z")) true (identifier 13 (codes "TIME_SPAN")) (Some (name 26 (codes "MILLISECONDS") (at (of (num 40 2) ∷ []) ∷ [])))) ≡ Constant (base_range_of 11) (Some (scalar.Number (pos 2000)))
+package_span_constant = refl
+
+-- `Z : Small := 3;` in the package
+package_variable : package_object_entity package_scope (object_of (identifier 0 (codes "Z")) false (identifier 4 (codes "SMALL")) (Some (num 13 3))) ≡ Object role.Variable small
+package_variable = refl
+
+-- `Z : constant Small := 10;` in the package
+broken_constant_is_doubtful : package_object_entity package_scope (object_of (identifier 0 (codes "Z")) true (identifier 13 (codes "SMALL")) (Some (num 22 10))) ≡ Doubtful
+broken_constant_is_doubtful = refl
+
+-- `Z : Nobody;` in the package
+broken_subtype_is_doubtful : package_object_entity package_scope (object_of (identifier 0 (codes "Z")) false (identifier 4 (codes "NOBODY")) None) ≡ Doubtful
+broken_subtype_is_doubtful = refl
+
+-- ---- types
+
+-- `type Z is range -5 .. Seven + 5;`
+integer_type : least (type_faults package_scope (record { name = (identifier 5 (codes "Z")); definition = Integer (range_of (one unary.Minus 16 (num 17 5)) (two binary.Add (name 22 (codes "SEVEN") []) (num 30 5))) })) ≡ None
+integer_type = refl
+
+-- `type Z is range Seven .. Integer'Last;`
+integer_type_of_two_types : least (type_faults package_scope (record { name = (identifier 5 (codes "Z")); definition = Integer (range_of (name 16 (codes "SEVEN") []) (name 25 (codes "INTEGER") (tick 33 (codes "LAST") ∷ []))) })) ≡ None
+integer_type_of_two_types = refl
+
+-- `type Z is range 5 .. 4;`
+null_range : least (type_faults package_scope (record { name = (identifier 5 (codes "Z")); definition = Integer (range_of (num 16 5) (num 21 4)) })) ≡ broken 15 16
+null_range = refl
+
+-- `type Z is range 1 .. X;`
+variable_bound : least (type_faults package_scope (record { name = (identifier 5 (codes "Z")); definition = Integer (range_of (num 16 1) (name 21 (codes "X") [])) })) ≡ broken 14 21
+variable_bound = refl
+
+-- `type Z is range 1 / 0 .. 5;`
+raising_bound : least (type_faults package_scope (record { name = (identifier 5 (codes "Z")); definition = Integer (range_of (two binary.Divide (num 16 1) (num 20 0)) (num 25 5)) })) ≡ broken 15 16
+raising_bound = refl
+
+-- `type Z is range False .. 5;`
+truth_bound : least (type_faults package_scope (record { name = (identifier 5 (codes "Z")); definition = Integer (range_of (name 16 (codes "FALSE") []) (num 25 5)) })) ≡ broken 12 16
+truth_bound = refl
+
+-- `type Z is range 1 .. Z'Last;`
+own_name_in_its_range : least (type_faults package_scope (record { name = (identifier 5 (codes "Z")); definition = Integer (range_of (num 16 1) (name 21 (codes "Z") (tick 23 (codes "LAST") ∷ []))) })) ≡ broken 10 21
+own_name_in_its_range = refl
+
+-- `type Small is range 1 .. 2;`
+declared_type_before : least (type_faults package_scope (record { name = (identifier 5 (codes "SMALL")); definition = Integer (range_of (num 20 1) (num 25 2)) })) ≡ broken 11 5
+declared_type_before = refl
+
+-- `type Z is array (Idx) of Pair;`
+array_by_a_name : least (type_faults package_scope (record { name = (identifier 5 (codes "Z")); definition = Array (OfName (identifier 17 (codes "IDX"))) (identifier 25 (codes "PAIR")) })) ≡ None
+array_by_a_name = refl
+
+-- `type Z is array (0 .. 1023) of Integer;`
+array_by_a_range : least (type_faults package_scope (record { name = (identifier 5 (codes "Z")); definition = Array (OfRange (range_of (num 17 0) (num 22 1023))) (identifier 31 (codes "INTEGER")) })) ≡ None
+array_by_a_range = refl
+
+-- `type Z is array (0 .. 1024) of Integer;`
+array_too_long : least (type_faults package_scope (record { name = (identifier 5 (codes "Z")); definition = Array (OfRange (range_of (num 17 0) (num 22 1024))) (identifier 31 (codes "INTEGER")) })) ≡ broken 23 17
+array_too_long = refl
+
+-- `type Z is array (Integer) of Integer;`
+array_by_integer : least (type_faults package_scope (record { name = (identifier 5 (codes "Z")); definition = Array (OfName (identifier 17 (codes "INTEGER"))) (identifier 29 (codes "INTEGER")) })) ≡ broken 23 17
+array_by_integer = refl
+
+-- `type Z is array (Boolean) of Integer;`
+array_by_truth : least (type_faults package_scope (record { name = (identifier 5 (codes "Z")); definition = Array (OfName (identifier 17 (codes "BOOLEAN"))) (identifier 29 (codes "INTEGER")) })) ≡ broken 12 17
+array_by_truth = refl
+
+-- `type Z is array (Idx) of Nobody;`
+array_of_hidden : least (type_faults package_scope (record { name = (identifier 5 (codes "Z")); definition = Array (OfName (identifier 17 (codes "IDX"))) (identifier 25 (codes "NOBODY")) })) ≡ broken 10 25
+array_of_hidden = refl
+
+-- `type Z is array (1 .. Seven) of Integer;`
+array_by_a_range_of_another_type : least (type_faults package_scope (record { name = (identifier 5 (codes "Z")); definition = Array (OfRange (range_of (num 17 1) (name 22 (codes "SEVEN") []))) (identifier 32 (codes "INTEGER")) })) ≡ broken 12 22
+array_by_a_range_of_another_type = refl
+
+-- `type Z is array (1 .. 0) of Integer;`
+array_by_a_null_range : least (type_faults package_scope (record { name = (identifier 5 (codes "Z")); definition = Array (OfRange (range_of (num 17 1) (num 22 0))) (identifier 28 (codes "INTEGER")) })) ≡ broken 15 17
+array_by_a_null_range = refl
+
+-- `type Z is record A : Integer; X : Vec; end record;`
+record_type : least (type_faults package_scope (record { name = (identifier 5 (codes "Z")); definition = Record (record { name = (identifier 17 (codes "A")); subtype = (identifier 21 (codes "INTEGER")) } ∷ record { name = (identifier 30 (codes "X")); subtype = (identifier 34 (codes "VEC")) } ∷ []) })) ≡ None
+record_type = refl
+
+-- `type Z is record A : Integer; A : Vec; end record;`
+components_of_one_name : least (type_faults package_scope (record { name = (identifier 5 (codes "Z")); definition = Record (record { name = (identifier 17 (codes "A")); subtype = (identifier 21 (codes "INTEGER")) } ∷ record { name = (identifier 30 (codes "A")); subtype = (identifier 34 (codes "VEC")) } ∷ []) })) ≡ broken 11 30
+components_of_one_name = refl
+
+-- `type Z is record A : Nobody; A : Vec; end record;`
+component_of_hidden : least (type_faults package_scope (record { name = (identifier 5 (codes "Z")); definition = Record (record { name = (identifier 17 (codes "A")); subtype = (identifier 21 (codes "NOBODY")) } ∷ record { name = (identifier 29 (codes "A")); subtype = (identifier 33 (codes "VEC")) } ∷ []) })) ≡ broken 10 21
+component_of_hidden = refl
+
+-- `type Z is record A : Z; end record;`
+record_in_itself : least (type_faults package_scope (record { name = (identifier 5 (codes "Z")); definition = Record (record { name = (identifier 17 (codes "A")); subtype = (identifier 21 (codes "Z")) } ∷ []) })) ≡ broken 10 21
+record_in_itself = refl
+
+-- `subtype Z is Vec;`
+plain_subtype : least (type_faults package_scope (record { name = (identifier 8 (codes "Z")); definition = SubtypeOf (identifier 13 (codes "VEC")) None })) ≡ None
+plain_subtype = refl
+
+-- `subtype Z is Small range 1 .. Seven;`
+narrower_subtype : least (type_faults package_scope (record { name = (identifier 8 (codes "Z")); definition = SubtypeOf (identifier 13 (codes "SMALL")) (Some (range_of (num 25 1) (name 30 (codes "SEVEN") []))) })) ≡ None
+narrower_subtype = refl
+
+-- `subtype Z is Small range 1 .. 10;`
+bound_outside_the_subtype : least (type_faults package_scope (record { name = (identifier 8 (codes "Z")); definition = SubtypeOf (identifier 13 (codes "SMALL")) (Some (range_of (num 25 1) (num 30 10))) })) ≡ broken 15 30
+bound_outside_the_subtype = refl
+
+-- `subtype Z is Integer range 1 .. Seven;`
+bound_of_another_type : least (type_faults package_scope (record { name = (identifier 8 (codes "Z")); definition = SubtypeOf (identifier 13 (codes "INTEGER")) (Some (range_of (num 27 1) (name 32 (codes "SEVEN") []))) })) ≡ broken 12 32
+bound_of_another_type = refl
+
+-- `subtype Z is Boolean range 0 .. 1;`
+range_of_truths : least (type_faults package_scope (record { name = (identifier 8 (codes "Z")); definition = SubtypeOf (identifier 13 (codes "BOOLEAN")) (Some (range_of (num 27 0) (num 32 1))) })) ≡ broken 12 13
+range_of_truths = refl
+
+-- `subtype Z is Nobody range 1 .. True;`
+subtype_of_hidden : least (type_faults package_scope (record { name = (identifier 8 (codes "Z")); definition = SubtypeOf (identifier 13 (codes "NOBODY")) (Some (range_of (num 26 1) (name 31 (codes "TRUE") []))) })) ≡ broken 10 13
+subtype_of_hidden = refl
+
+-- `subtype Z is X;`
+subtype_of_a_variable : least (type_faults package_scope (record { name = (identifier 8 (codes "Z")); definition = SubtypeOf (identifier 13 (codes "X")) None })) ≡ broken 12 13
+subtype_of_a_variable = refl
+
+-- `type Z is range Nobody .. X;`
+two_broken_bounds : least (type_faults package_scope (record { name = (identifier 5 (codes "Z")); definition = Integer (range_of (name 16 (codes "NOBODY") []) (name 26 (codes "X") [])) })) ≡ broken 10 16
+two_broken_bounds = refl
+
+-- `type Z is range X .. Nobody;`
+two_broken_bounds_turned : least (type_faults package_scope (record { name = (identifier 5 (codes "Z")); definition = Integer (range_of (name 16 (codes "X") []) (name 21 (codes "NOBODY") [])) })) ≡ broken 14 16
+two_broken_bounds_turned = refl
+
+-- `type Z is range -5 .. 12;`
+declares_an_integer_type : declared_type (record { name = (identifier 5 (codes "Z")); definition = Integer (range_of (one unary.Minus 16 (num 17 5)) (num 22 12)) }) ≡ Some (OfType Integers (record { type_number = next; first = negsuc 4; last = pos 12 }))
+declares_an_integer_type = refl
+
+-- `type Z is array (Idx) of Small;`
+declares_an_array : declared_type (record { name = (identifier 5 (codes "Z")); definition = Array (OfName (identifier 17 (codes "IDX"))) (identifier 25 (codes "SMALL")) }) ≡ Some (OfType (Arrays idx 3 small) (subtype_of next 0 0))
+declares_an_array = refl
+
+-- `type Z is array (2 .. 5) of Vec;`
+declares_an_array_of_integer_index : declared_type (record { name = (identifier 5 (codes "Z")); definition = Array (OfRange (range_of (num 17 2) (num 22 5))) (identifier 28 (codes "VEC")) }) ≡ Some (OfType (Arrays (subtype_of 0 2 5) 4 vec) (subtype_of next 0 0))
+declares_an_array_of_integer_index = refl
+
+-- `type Z is record A : Small; end record;`
+declares_a_record : declared_type (record { name = (identifier 5 (codes "Z")); definition = Record (record { name = (identifier 17 (codes "A")); subtype = (identifier 21 (codes "SMALL")) } ∷ []) }) ≡ Some (OfType (Records (record { name = codes "A"; subtype = small } ∷ [])) (subtype_of next 0 0))
+declares_a_record = refl
+
+-- `subtype Z is Small range 1 .. 3;`
+declares_a_subtype : declared_type (record { name = (identifier 8 (codes "Z")); definition = SubtypeOf (identifier 13 (codes "SMALL")) (Some (range_of (num 25 1) (num 30 3))) }) ≡ Some (OfSubtype (subtype_of 17 1 3))
+declares_a_subtype = refl
+
+-- `type Z is array (0 .. 1024) of Integer;`
+a_long_array_is_doubtful : declared_type (record { name = (identifier 5 (codes "Z")); definition = Array (OfRange (range_of (num 17 0) (num 22 1024))) (identifier 31 (codes "INTEGER")) }) ≡ Some Doubtful
+a_long_array_is_doubtful = refl
+
+-- `type Z is range 2 .. 1;`
+a_null_range_is_doubtful : declared_type (record { name = (identifier 5 (codes "Z")); definition = Integer (range_of (num 16 2) (num 21 1)) }) ≡ Some Doubtful
+a_null_range_is_doubtful = refl
+
+-- ---- declarations in order
+
+-- `Z : Integer := 1; Y : Integer := Z; Z : Small;`
+later_sees_the_first : least (locals_faults package_scope (LocalObject (object_of (identifier 0 (codes "Z")) false (identifier 4 (codes "INTEGER")) (Some (num 15 1))) ∷ LocalObject (object_of (identifier 0 (codes "Y")) false (identifier 4 (codes "INTEGER")) (Some (name 15 (codes "Z") []))) ∷ [])) ≡ None
+later_sees_the_first = refl
+
+second_is_told : least (locals_faults package_scope (LocalObject (object_of (identifier 0 (codes "Z")) false (identifier 4 (codes "INTEGER")) (Some (num 15 1))) ∷ LocalObject (object_of (identifier 30 (codes "Z")) false (identifier 34 (codes "SMALL")) None) ∷ [])) ≡ broken 11 30
+second_is_told = refl
+
+first_keeps_the_name : named_entity (locals_scope package_scope (LocalObject (object_of (identifier 0 (codes "Z")) false (identifier 4 (codes "INTEGER")) (Some (num 15 1))) ∷ LocalObject (object_of (identifier 30 (codes "Z")) true (identifier 34 (codes "SMALL")) None) ∷ [])) (identifier 60 (codes "Z")) ≡ Some (Object role.Variable integer)
+first_keeps_the_name = refl

@@ -1,0 +1,47 @@
+-- Turns of the loops over declarations and components.
+use Rattle.std.proofs.Common.{◌≡◌, ℕ, suc, ◌+◌, ◌<◌, List, [], ◌∷◌, ◌++◌, length, drop, take, map, Option, Some, None, refl, sym, ap, ◌∙◌, arith}
+use Rattle.std.specs.Prelude.{get_or}
+use Rattle.std.proofs.lemmas.List.{at_drop_more}
+use Rattle.std.proofs.Math.Seq.{take-suc}
+use Rattle.lexer.specs.declared.fault.Fault.{Fault}
+use Rattle.ada_tree.specs.declared.declaration.Component.{Component}
+use Rattle.ada_tree.specs.declared.declaration.Declaration.{Declaration}
+use Rattle.ada_tree.specs.StatementTree.{declaration_tree}
+use Rattle.types.specs.declared.entity.RecordComponent.{RecordComponent}
+use Rattle.types.specs.Scopes.{Scope}
+use Rattle.expr_rules.specs.Faults.{Faults, least, sooner}
+use Rattle.declaring.specs.ObjectRules.{fixed_local_faults, fixed_locals_faults, local_faults, local_scope, locals_faults, locals_scope}
+use Rattle.declaring.specs.TypeRules.{component_faults, components_faults}
+use Rattle.declaring.proofs.Joined.{turn}
+
+-- components behind those that were read
+abbrev pub behind : List RecordComponent → Option (List RecordComponent) → Option (List RecordComponent)
+behind all (Some rest) = Some (all ++ rest)
+behind all None = None
+
+pub locals_turn : (s : Scope) (all : List Declaration) (n : ℕ) (x : Declaration) (f one : Option Fault) (whole : Option Fault)
+    → n < length all → x ≡ get_or all n x → sooner f (least (locals_faults s (map declaration_tree (drop n all)))) ≡ whole → one ≡ least (local_faults s (declaration_tree x))
+    → sooner (sooner f one) (least (locals_faults (local_scope s (declaration_tree x)) (map declaration_tree (drop (n + 1) all)))) ≡ whole
+locals_turn s all n x f one whole less is h here =
+    turn (λ l. locals_faults s (map declaration_tree l)) all n x f one (local_faults s (declaration_tree x)) (locals_faults (local_scope s (declaration_tree x)) (map declaration_tree (drop (n + 1) all))) whole less is refl h here
+
+pub fixed_locals_turn : (s : Scope) (all : List Declaration) (n : ℕ) (x : Declaration) (f one : Option Fault) (whole : Option Fault)
+    → n < length all → x ≡ get_or all n x → sooner f (least (fixed_locals_faults s (map declaration_tree (drop n all)))) ≡ whole → one ≡ least (fixed_local_faults s (declaration_tree x))
+    → sooner (sooner f one) (least (fixed_locals_faults (local_scope s (declaration_tree x)) (map declaration_tree (drop (n + 1) all)))) ≡ whole
+fixed_locals_turn s all n x f one whole less is h here =
+    turn (λ l. fixed_locals_faults s (map declaration_tree l)) all n x f one (fixed_local_faults s (declaration_tree x)) (fixed_locals_faults (local_scope s (declaration_tree x)) (map declaration_tree (drop (n + 1) all))) whole less is refl h here
+
+pub scope_turn : (s after : Scope) (all : List Declaration) (n : ℕ) (x : Declaration) → n < length all → x ≡ get_or all n x → locals_scope s (map declaration_tree (drop n all)) ≡ after
+    → locals_scope (local_scope s (declaration_tree x)) (map declaration_tree (drop (n + 1) all)) ≡ after
+scope_turn s after all n x less is h =
+    let left : List Declaration → Scope = λ l. locals_scope s (map declaration_tree l) in
+    ap (λ y. left (y ∷ drop (n + 1) all)) is ∙ sym (at_drop_more left all n x less) ∙ h
+
+pub components_turn : (s : Scope) (all : List Component) (n : ℕ) (x : Component) (f one : Option Fault) (whole : Option Fault) → n < length all → x ≡ get_or all n x
+    → sooner f (least (components_faults s (take n all) (drop n all))) ≡ whole → one ≡ least (component_faults s (take n all) x)
+    → sooner (sooner f one) (least (components_faults s (take (n + 1) all) (drop (n + 1) all))) ≡ whole
+components_turn s all n x f one whole less is h here =
+    let next : suc n ≡ n + 1 = omega arith in
+    let more = sym (ap (λ k. take k all) next) ∙ take-suc all n x less ∙ ap (λ y. take n all ++ y ∷ []) (sym is) in
+    turn (λ l. components_faults s (take n all) l) all n x f one (component_faults s (take n all) x) (components_faults s (take (n + 1) all) (drop (n + 1) all)) whole less is
+    (ap (λ b. component_faults s (take n all) x ++ components_faults s b (drop (n + 1) all)) (sym more)) h here

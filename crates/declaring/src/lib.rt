@@ -1,0 +1,16 @@
+//! What declarations break, and what they make visible (docs/LANGUAGE.md, "Rules of declarations").
+#![tactic(auto)]
+
+mod definitions;
+mod initial;
+mod names;
+mod objects;
+mod ranges;
+
+pub use definitions::{declare_type, type_fault};
+pub use initial::{fixed_fault, fixed_scalar};
+pub use names::{declare, declared_twice, named_entity, subtype_fault, subtype_of, wanted_by};
+pub use objects::{
+    declare_local_object, declare_locals, declare_package_object, declare_task_locals,
+    fixed_object_fault, local_object_fault,
+};
