@@ -1,5 +1,5 @@
 //! Sleeping tasks in a heap.
-ghost use Rattle.std.specs.Prelude.{◌≡◌, ◌<◌, ◌≤◌, ◌-◌, ◌^◌, [], filter, length, map, not};
+ghost use Rattle.std.specs.Prelude.{◌≡◌, ◌<◌, ◌≤◌, ◌-◌, ◌^◌, [], filter, length, not};
 ghost use Rattle.clock.specs.Heaps.{AreDistinct, AreNumbered, IsWithin, by_number, is_due_entry, sleepers_of};
 ghost use Rattle.base.specs.declared.limits.TheConstants.{TASKS};
 

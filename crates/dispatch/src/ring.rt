@@ -1,5 +1,5 @@
 //! Tasks in a ring of places.
-ghost use Rattle.std.specs.Prelude.{◌≡◌, ◌<◌, ◌++◌, ◌∷◌, [], drop, length, not};
+ghost use Rattle.std.specs.Prelude.{◌≡◌, ◌<◌, ◌++◌, ◌∷◌, [], drop, length};
 ghost use Rattle.dispatch.specs.Queues.{head_of, is_occupied};
 ghost use Rattle.base.specs.declared.limits.TheConstants.{TASKS};
 

@@ -1,7 +1,6 @@
 //! Ready tasks in rings, and a mask of those that hold somebody.
-ghost use Rattle.std.specs.Prelude.{◌≡◌, ◌<◌, ◌++◌, ◌∷◌, [], drop, get_or};
-ghost use Rattle.dispatch.specs.Queues.{put};
-ghost use Rattle.base.specs.declared.limits.TheConstants.{PRIORITIES, TASKS};
+ghost use Rattle.std.specs.Prelude.{◌≡◌, ◌<◌, [], get_or};
+ghost use Rattle.base.specs.declared.limits.TheConstants.{PRIORITIES};
 
 use crate::ready::Ready;
 use crate::ring::Ring;

@@ -1,6 +1,6 @@
 //! The protected actions that tasks have open, and the calls that wait.
 ghost use Rattle.std.specs.Prelude.{◌≡◌, ◌<◌, ◌≤◌, ◌++◌, ◌∷◌, [], length, replicate, None, Some, Ok, OnOk, OnErr, if◌then◌else◌};
-ghost use Rattle.protected.specs.Actions.{Actions, IsInnermost, active_of, calling, ceiling_of, has_any, is_among, opened_by, opening, queued_at, raised, served, with_opened, with_queued, without_last};
+ghost use Rattle.protected.specs.Actions.{Actions, IsInnermost, active_of, calling, ceiling_of, has_any, is_among, opened_by, opening, queued_at, served, with_opened, with_queued, without_last};
 ghost use Rattle.protected.specs.Kept.{AreKnown};
 ghost use Rattle.base.specs.declared.limits.TheConstants.{OBJECTS, TASKS};
 
@@ -20,7 +20,7 @@ pub struct Objects {
 }
 
 impl Model for Objects {
-    ghost use Rattle.std.specs.Prelude.{ℕ, List, map};
+    ghost use Rattle.std.specs.Prelude.{map};
     ghost use Rattle.protected.specs.Actions.{Actions};
     ghost use Rattle.protected.specs.Kept.{IsKept};
 
