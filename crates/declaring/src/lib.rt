@@ -5,6 +5,7 @@ mod definitions;
 mod initial;
 mod names;
 mod objects;
+mod profiles;
 mod ranges;
 
 pub use definitions::{declare_type, type_fault};
@@ -14,3 +15,4 @@ pub use objects::{
     declare_local_object, declare_locals, declare_package_object, declare_task_locals,
     fixed_object_fault, local_object_fault,
 };
+pub use profiles::{declare_subprogram, formals_fault, subprogram_fault};
