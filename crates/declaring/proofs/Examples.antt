@@ -9,7 +9,7 @@ use Rattle.ada_tree.specs.declared.expression.BinaryOperator.{BinaryOperator}
 use Rattle.ada_tree.specs.declared.expression.BinaryOperator.TheVariants as binary
 use Rattle.ada_tree.specs.declared.declaration.Mode.TheVariants as mode
 use Rattle.ada_tree.specs.ExpressionTree.{ExprTree, Number, Named, Parenthesized, Conditional, Unary, Binary, NoElsifValues, MoreElsifValues, SelectorTree, selectors_of, Component, Arguments, Attribute, ArgumentTree, Value, arguments_of}
-use Rattle.ada_tree.specs.StatementTree.{ObjectTree, RangeTree, SubprogramTree, LocalObject}
+use Rattle.ada_tree.specs.StatementTree.{ObjectTree, RangeTree, SubprogramTree, TaskTree, LocalObject}
 use Rattle.ada_tree.specs.ProgramTree.{TypeTree, Integer, Array, Record, Subtype as SubtypeOf, OfRange, OfSubtype as OfName}
 use Rattle.types.specs.declared.entity.Subtype.{Subtype}
 use Rattle.types.specs.declared.entity.Role.TheVariants as role
@@ -20,6 +20,7 @@ use Rattle.expr_rules.specs.Faults.{least}
 use Rattle.declaring.specs.SubtypeNames.{named_entity}
 use Rattle.declaring.specs.ObjectRules.{local_object_faults, fixed_object_faults, package_object_entity, locals_faults, locals_scope}
 use Rattle.declaring.specs.ProfileRules.{subprogram_faults, subprogram_scope}
+use Rattle.declaring.specs.TaskRules.{exception_scope, task_faults, task_scope}
 use Rattle.declaring.specs.TypeRules.{type_faults, type_scope}
 
 -- ---- trees
@@ -538,6 +539,59 @@ doubtful_formal = refl
 -- `function Z return X;`
 doubtful_result : declared_subprogram (record { place = 0; name = (identifier 9 (codes "Z")); formals = []; result = Some (identifier 18 (codes "X")) }) ≡ Some Doubtful
 doubtful_result = refl
+
+-- ---- tasks and exceptions
+
+abbrev declared_task : TaskTree → Option Entity
+declared_task d = entity_at (task_scope package_scope d) next
+
+-- `task Z with Priority => 3 * 2 + 1;`
+a_task_with_priority : least (task_faults package_scope (record { place = 0; name = (identifier 5 (codes "Z")); aspect = Some (record { place = 7; name = (identifier 12 (codes "PRIORITY")); value = two binary.Add (two binary.Multiply (num 24 3) (num 28 2)) (num 32 1) }); definition = None })) ≡ None
+a_task_with_priority = refl
+
+-- `task T;`
+task_declared_before : least (task_faults package_scope (record { place = 0; name = (identifier 5 (codes "T")); aspect = None; definition = None })) ≡ broken 11 5
+task_declared_before = refl
+
+-- `task Z with Priority => Seven;`
+priority_of_another_type : least (task_faults package_scope (record { place = 0; name = (identifier 5 (codes "Z")); aspect = Some (record { place = 7; name = (identifier 12 (codes "PRIORITY")); value = name 24 (codes "SEVEN") [] }); definition = None })) ≡ broken 12 24
+priority_of_another_type = refl
+
+-- `task Z with Priority => Nobody;`
+priority_of_hidden : least (task_faults package_scope (record { place = 0; name = (identifier 5 (codes "Z")); aspect = Some (record { place = 7; name = (identifier 12 (codes "PRIORITY")); value = name 24 (codes "NOBODY") [] }); definition = None })) ≡ broken 10 24
+priority_of_hidden = refl
+
+-- `task Z with Size => Seven;`
+another_aspect_of_any_type : least (task_faults package_scope (record { place = 0; name = (identifier 5 (codes "Z")); aspect = Some (record { place = 7; name = (identifier 12 (codes "SIZE")); value = name 20 (codes "SEVEN") [] }); definition = None })) ≡ None
+another_aspect_of_any_type = refl
+
+-- `task Z with Size => Nobody;`
+hidden_in_another_aspect : least (task_faults package_scope (record { place = 0; name = (identifier 5 (codes "Z")); aspect = Some (record { place = 7; name = (identifier 12 (codes "SIZE")); value = name 20 (codes "NOBODY") [] }); definition = None })) ≡ broken 10 20
+hidden_in_another_aspect = refl
+
+-- `task X with Priority => True;`
+name_before_its_aspect : least (task_faults package_scope (record { place = 0; name = (identifier 5 (codes "X")); aspect = Some (record { place = 7; name = (identifier 12 (codes "PRIORITY")); value = name 24 (codes "TRUE") [] }); definition = None })) ≡ broken 11 5
+name_before_its_aspect = refl
+
+-- `task Z with Priority => 3 * 2 + 1;`
+declares_a_task : declared_task (record { place = 0; name = (identifier 5 (codes "Z")); aspect = Some (record { place = 7; name = (identifier 12 (codes "PRIORITY")); value = two binary.Add (two binary.Multiply (num 24 3) (num 28 2)) (num 32 1) }); definition = None }) ≡ Some (Task 7)
+declares_a_task = refl
+
+-- `task Z;`
+without_an_aspect : declared_task (record { place = 0; name = (identifier 5 (codes "Z")); aspect = None; definition = None }) ≡ Some (Task 15)
+without_an_aspect = refl
+
+-- `task Z with Priority => 31;`
+above_the_highest : declared_task (record { place = 0; name = (identifier 5 (codes "Z")); aspect = Some (record { place = 7; name = (identifier 12 (codes "PRIORITY")); value = num 24 31 }); definition = None }) ≡ Some (Task 15)
+above_the_highest = refl
+
+-- `task Z with Priority => -1;`
+below_the_least : declared_task (record { place = 0; name = (identifier 5 (codes "Z")); aspect = Some (record { place = 7; name = (identifier 12 (codes "PRIORITY")); value = one unary.Minus 24 (num 25 1) }); definition = None }) ≡ Some (Task 15)
+below_the_least = refl
+
+-- `Z : exception;`
+declares_an_exception : entity_at (exception_scope package_scope (identifier 0 (codes "Z"))) next ≡ Some Exception
+declares_an_exception = refl
 
 -- ---- declarations in order
 

@@ -4,3 +4,4 @@ pub mod SubtypeNames
 pub mod ObjectRules
 pub mod TypeRules
 pub mod ProfileRules
+pub mod TaskRules

@@ -7,6 +7,7 @@ mod names;
 mod objects;
 mod profiles;
 mod ranges;
+mod tasks;
 
 pub use definitions::{declare_type, type_fault};
 pub use initial::{fixed_fault, fixed_scalar};
@@ -16,3 +17,6 @@ pub use objects::{
     fixed_object_fault, local_object_fault,
 };
 pub use profiles::{declare_subprogram, formals_fault, subprogram_fault};
+pub use tasks::{
+    DEFAULT_PRIORITY, aspect_fault, declare_exception, declare_task, priority_of, task_fault,
+};
