@@ -34,11 +34,7 @@ fn scope(alloc: Global) -> Result<Scope, AllocError> {
         first: 0,
         last: 0,
     };
-    declare(
-        &mut scope,
-        b"INDEX",
-        Entity::Type(TypeForm::Integer, index),
-    )?;
+    declare(&mut scope, b"INDEX", Entity::Type(TypeForm::Integer, index))?;
     declare(
         &mut scope,
         b"ROW",
@@ -119,7 +115,10 @@ fn expressions_break_rules(rt: HostRuntime) -> Result<(), Fail> {
         (b"A (Nobody) + Twice", None, 10, 3),
     ];
     for (expression, expected, number, place) in table {
-        assert_eq!(rt; fault(rt.alloc(), &scope, expression, expected)?, (number, place));
+        assert_eq!(rt;
+            fault(rt.alloc(), &scope, expression, expected)?,
+            (number, place)
+        );
     }
     Ok(())
 }
