@@ -8,9 +8,8 @@ use Rattle.ada_tree.specs.declared.expression.UnaryOperator.TheVariants as unary
 use Rattle.ada_tree.specs.declared.expression.BinaryOperator.{BinaryOperator}
 use Rattle.ada_tree.specs.declared.expression.BinaryOperator.TheVariants as binary
 use Rattle.ada_tree.specs.declared.declaration.Mode.TheVariants as mode
-use Rattle.ada_tree.specs.declared.declaration.Component.{Component as RecordPart}
-use Rattle.ada_tree.specs.ExpressionTree.{ExprTree, Number, Named, Parenthesized, Conditional, Unary, Binary, NoElsifValues, MoreElsifValues, SelectorTree, selectors_of, Component, Arguments, Attribute, ArgumentTree, Value, Text, arguments_of}
-use Rattle.ada_tree.specs.StatementTree.{ObjectTree, RangeTree, LocalObject}
+use Rattle.ada_tree.specs.ExpressionTree.{ExprTree, Number, Named, Parenthesized, Conditional, Unary, Binary, NoElsifValues, MoreElsifValues, SelectorTree, selectors_of, Component, Arguments, Attribute, ArgumentTree, Value, arguments_of}
+use Rattle.ada_tree.specs.StatementTree.{ObjectTree, RangeTree, SubprogramTree, TaskTree, LocalObject}
 use Rattle.ada_tree.specs.ProgramTree.{TypeTree, Integer, Array, Record, Subtype as SubtypeOf, OfRange, OfSubtype as OfName}
 use Rattle.types.specs.declared.entity.Subtype.{Subtype}
 use Rattle.types.specs.declared.entity.Role.TheVariants as role
@@ -19,8 +18,10 @@ use Rattle.types.specs.Entities.{Operation, Profile, Integers, Arrays, Records, 
 use Rattle.types.specs.Scopes.{Scope, Named as Declaration, standard, with_name, with_real_time, with_control_io, number_of, integer, boolean, base_range_of, entity_at}
 use Rattle.expr_rules.specs.Faults.{least}
 use Rattle.declaring.specs.SubtypeNames.{named_entity}
-use Rattle.declaring.specs.ObjectRules.{local_object_faults, fixed_object_faults, package_object_entity, local_object_scope, locals_faults, locals_scope}
-use Rattle.declaring.specs.TypeRules.{type_faults, definition_entity, type_scope}
+use Rattle.declaring.specs.ObjectRules.{local_object_faults, fixed_object_faults, package_object_entity, locals_faults, locals_scope}
+use Rattle.declaring.specs.ProfileRules.{subprogram_faults, subprogram_scope}
+use Rattle.declaring.specs.TaskRules.{exception_scope, task_faults, task_scope}
+use Rattle.declaring.specs.TypeRules.{type_faults, type_scope}
 
 -- ---- trees
 
@@ -461,6 +462,136 @@ a_long_array_is_doubtful = refl
 -- `type Z is range 2 .. 1;`
 a_null_range_is_doubtful : declared_type (record { name = (identifier 5 (codes "Z")); definition = Integer (range_of (num 16 2) (num 21 1)) }) ≡ Some Doubtful
 a_null_range_is_doubtful = refl
+
+-- ---- procedures and functions
+
+abbrev declared_subprogram : SubprogramTree → Option Entity
+declared_subprogram d = entity_at (subprogram_scope package_scope d) next
+
+-- `procedure Z (A : Small; C : out Vec; H : in out Pair);`
+a_procedure : least (subprogram_faults package_scope (record { place = 0; name = (identifier 10 (codes "Z")); formals = record { name = (identifier 13 (codes "A")); mode = mode.In; subtype = (identifier 17 (codes "SMALL")) } ∷ record { name = (identifier 24 (codes "C")); mode = mode.Out; subtype = (identifier 32 (codes "VEC")) } ∷ record { name = (identifier 37 (codes "H")); mode = mode.InOut; subtype = (identifier 48 (codes "PAIR")) } ∷ []; result = None })) ≡ None
+a_procedure = refl
+
+-- `function Z (A : Small; C : in Time) return Time_Span;`
+a_function : least (subprogram_faults package_scope (record { place = 0; name = (identifier 9 (codes "Z")); formals = record { name = (identifier 12 (codes "A")); mode = mode.In; subtype = (identifier 16 (codes "SMALL")) } ∷ record { name = (identifier 23 (codes "C")); mode = mode.In; subtype = (identifier 30 (codes "TIME")) } ∷ []; result = Some (identifier 43 (codes "TIME_SPAN")) })) ≡ None
+a_function = refl
+
+-- `procedure Z (X : Small);`
+formal_like_a_visible_name : least (subprogram_faults package_scope (record { place = 0; name = (identifier 10 (codes "Z")); formals = record { name = (identifier 13 (codes "X")); mode = mode.In; subtype = (identifier 17 (codes "SMALL")) } ∷ []; result = None })) ≡ broken 11 13
+formal_like_a_visible_name = refl
+
+-- `procedure Z (A : Small; A : Vec);`
+formals_of_one_name : least (subprogram_faults package_scope (record { place = 0; name = (identifier 10 (codes "Z")); formals = record { name = (identifier 13 (codes "A")); mode = mode.In; subtype = (identifier 17 (codes "SMALL")) } ∷ record { name = (identifier 24 (codes "A")); mode = mode.In; subtype = (identifier 28 (codes "VEC")) } ∷ []; result = None })) ≡ broken 11 24
+formals_of_one_name = refl
+
+-- `procedure Z (Z : Small);`
+formal_like_the_procedure : least (subprogram_faults package_scope (record { place = 0; name = (identifier 10 (codes "Z")); formals = record { name = (identifier 13 (codes "Z")); mode = mode.In; subtype = (identifier 17 (codes "SMALL")) } ∷ []; result = None })) ≡ None
+formal_like_the_procedure = refl
+
+-- `procedure Z (A : Nobody);`
+formal_of_hidden : least (subprogram_faults package_scope (record { place = 0; name = (identifier 10 (codes "Z")); formals = record { name = (identifier 13 (codes "A")); mode = mode.In; subtype = (identifier 17 (codes "NOBODY")) } ∷ []; result = None })) ≡ broken 10 17
+formal_of_hidden = refl
+
+-- `procedure Z (A : X);`
+formal_of_a_variable : least (subprogram_faults package_scope (record { place = 0; name = (identifier 10 (codes "Z")); formals = record { name = (identifier 13 (codes "A")); mode = mode.In; subtype = (identifier 17 (codes "X")) } ∷ []; result = None })) ≡ broken 12 17
+formal_of_a_variable = refl
+
+-- `procedure Z (A1 : Small; A2 : Small; A3 : Small; A4 : Small; A5 : Small; A6 : Small; A7 : Small; A8 : Small; A9 : Small);`
+nine_formals : least (subprogram_faults package_scope (record { place = 0; name = (identifier 10 (codes "Z")); formals = record { name = (identifier 13 (codes "A1")); mode = mode.In; subtype = (identifier 18 (codes "SMALL")) } ∷ record { name = (identifier 25 (codes "A2")); mode = mode.In; subtype = (identifier 30 (codes "SMALL")) } ∷ record { name = (identifier 37 (codes "A3")); mode = mode.In; subtype = (identifier 42 (codes "SMALL")) } ∷ record { name = (identifier 49 (codes "A4")); mode = mode.In; subtype = (identifier 54 (codes "SMALL")) } ∷ record { name = (identifier 61 (codes "A5")); mode = mode.In; subtype = (identifier 66 (codes "SMALL")) } ∷ record { name = (identifier 73 (codes "A6")); mode = mode.In; subtype = (identifier 78 (codes "SMALL")) } ∷ record { name = (identifier 85 (codes "A7")); mode = mode.In; subtype = (identifier 90 (codes "SMALL")) } ∷ record { name = (identifier 97 (codes "A8")); mode = mode.In; subtype = (identifier 102 (codes "SMALL")) } ∷ record { name = (identifier 109 (codes "A9")); mode = mode.In; subtype = (identifier 114 (codes "SMALL")) } ∷ []; result = None })) ≡ broken 23 109
+nine_formals = refl
+
+-- `function Z (A : out Small) return Integer;`
+out_formal_of_a_function : least (subprogram_faults package_scope (record { place = 0; name = (identifier 9 (codes "Z")); formals = record { name = (identifier 12 (codes "A")); mode = mode.Out; subtype = (identifier 20 (codes "SMALL")) } ∷ []; result = Some (identifier 34 (codes "INTEGER")) })) ≡ broken 21 9
+out_formal_of_a_function = refl
+
+-- `function Z (A : Vec) return Integer;`
+composite_formal_of_a_function : least (subprogram_faults package_scope (record { place = 0; name = (identifier 9 (codes "Z")); formals = record { name = (identifier 12 (codes "A")); mode = mode.In; subtype = (identifier 16 (codes "VEC")) } ∷ []; result = Some (identifier 28 (codes "INTEGER")) })) ≡ broken 21 9
+composite_formal_of_a_function = refl
+
+-- `function Z return Pair;`
+composite_result : least (subprogram_faults package_scope (record { place = 0; name = (identifier 9 (codes "Z")); formals = []; result = Some (identifier 18 (codes "PAIR")) })) ≡ broken 21 9
+composite_result = refl
+
+-- `function Z return Nobody;`
+result_of_hidden : least (subprogram_faults package_scope (record { place = 0; name = (identifier 9 (codes "Z")); formals = []; result = Some (identifier 18 (codes "NOBODY")) })) ≡ broken 10 18
+result_of_hidden = refl
+
+-- `procedure Proc;`
+procedure_declared_before : least (subprogram_faults package_scope (record { place = 0; name = (identifier 10 (codes "PROC")); formals = []; result = None })) ≡ broken 11 10
+procedure_declared_before = refl
+
+-- `function F (A : out Nobody) return Vec;`
+name_before_its_formals : least (subprogram_faults package_scope (record { place = 0; name = (identifier 9 (codes "F")); formals = record { name = (identifier 12 (codes "A")); mode = mode.Out; subtype = (identifier 20 (codes "NOBODY")) } ∷ []; result = Some (identifier 35 (codes "VEC")) })) ≡ broken 11 9
+name_before_its_formals = refl
+
+-- `function Z (A : Small) return Time;`
+declares_a_function : declared_subprogram (record { place = 0; name = (identifier 9 (codes "Z")); formals = record { name = (identifier 12 (codes "A")); mode = mode.In; subtype = (identifier 16 (codes "SMALL")) } ∷ []; result = Some (identifier 30 (codes "TIME")) }) ≡ Some (Subprogram (record { formals = record { mode = mode.In; subtype = small } ∷ []; result = Some (base_range_of 10) }))
+declares_a_function = refl
+
+-- `procedure Z (A : out Vec);`
+declares_a_procedure : declared_subprogram (record { place = 0; name = (identifier 10 (codes "Z")); formals = record { name = (identifier 13 (codes "A")); mode = mode.Out; subtype = (identifier 21 (codes "VEC")) } ∷ []; result = None }) ≡ Some (Subprogram (record { formals = record { mode = mode.Out; subtype = vec } ∷ []; result = None }))
+declares_a_procedure = refl
+
+-- `procedure Z (A : Nobody);`
+doubtful_formal : declared_subprogram (record { place = 0; name = (identifier 10 (codes "Z")); formals = record { name = (identifier 13 (codes "A")); mode = mode.In; subtype = (identifier 17 (codes "NOBODY")) } ∷ []; result = None }) ≡ Some Doubtful
+doubtful_formal = refl
+
+-- `function Z return X;`
+doubtful_result : declared_subprogram (record { place = 0; name = (identifier 9 (codes "Z")); formals = []; result = Some (identifier 18 (codes "X")) }) ≡ Some Doubtful
+doubtful_result = refl
+
+-- ---- tasks and exceptions
+
+abbrev declared_task : TaskTree → Option Entity
+declared_task d = entity_at (task_scope package_scope d) next
+
+-- `task Z with Priority => 3 * 2 + 1;`
+a_task_with_priority : least (task_faults package_scope (record { place = 0; name = (identifier 5 (codes "Z")); aspect = Some (record { place = 7; name = (identifier 12 (codes "PRIORITY")); value = two binary.Add (two binary.Multiply (num 24 3) (num 28 2)) (num 32 1) }); definition = None })) ≡ None
+a_task_with_priority = refl
+
+-- `task T;`
+task_declared_before : least (task_faults package_scope (record { place = 0; name = (identifier 5 (codes "T")); aspect = None; definition = None })) ≡ broken 11 5
+task_declared_before = refl
+
+-- `task Z with Priority => Seven;`
+priority_of_another_type : least (task_faults package_scope (record { place = 0; name = (identifier 5 (codes "Z")); aspect = Some (record { place = 7; name = (identifier 12 (codes "PRIORITY")); value = name 24 (codes "SEVEN") [] }); definition = None })) ≡ broken 12 24
+priority_of_another_type = refl
+
+-- `task Z with Priority => Nobody;`
+priority_of_hidden : least (task_faults package_scope (record { place = 0; name = (identifier 5 (codes "Z")); aspect = Some (record { place = 7; name = (identifier 12 (codes "PRIORITY")); value = name 24 (codes "NOBODY") [] }); definition = None })) ≡ broken 10 24
+priority_of_hidden = refl
+
+-- `task Z with Size => Seven;`
+another_aspect_of_any_type : least (task_faults package_scope (record { place = 0; name = (identifier 5 (codes "Z")); aspect = Some (record { place = 7; name = (identifier 12 (codes "SIZE")); value = name 20 (codes "SEVEN") [] }); definition = None })) ≡ None
+another_aspect_of_any_type = refl
+
+-- `task Z with Size => Nobody;`
+hidden_in_another_aspect : least (task_faults package_scope (record { place = 0; name = (identifier 5 (codes "Z")); aspect = Some (record { place = 7; name = (identifier 12 (codes "SIZE")); value = name 20 (codes "NOBODY") [] }); definition = None })) ≡ broken 10 20
+hidden_in_another_aspect = refl
+
+-- `task X with Priority => True;`
+name_before_its_aspect : least (task_faults package_scope (record { place = 0; name = (identifier 5 (codes "X")); aspect = Some (record { place = 7; name = (identifier 12 (codes "PRIORITY")); value = name 24 (codes "TRUE") [] }); definition = None })) ≡ broken 11 5
+name_before_its_aspect = refl
+
+-- `task Z with Priority => 3 * 2 + 1;`
+declares_a_task : declared_task (record { place = 0; name = (identifier 5 (codes "Z")); aspect = Some (record { place = 7; name = (identifier 12 (codes "PRIORITY")); value = two binary.Add (two binary.Multiply (num 24 3) (num 28 2)) (num 32 1) }); definition = None }) ≡ Some (Task 7)
+declares_a_task = refl
+
+-- `task Z;`
+without_an_aspect : declared_task (record { place = 0; name = (identifier 5 (codes "Z")); aspect = None; definition = None }) ≡ Some (Task 15)
+without_an_aspect = refl
+
+-- `task Z with Priority => 31;`
+above_the_highest : declared_task (record { place = 0; name = (identifier 5 (codes "Z")); aspect = Some (record { place = 7; name = (identifier 12 (codes "PRIORITY")); value = num 24 31 }); definition = None }) ≡ Some (Task 15)
+above_the_highest = refl
+
+-- `task Z with Priority => -1;`
+below_the_least : declared_task (record { place = 0; name = (identifier 5 (codes "Z")); aspect = Some (record { place = 7; name = (identifier 12 (codes "PRIORITY")); value = one unary.Minus 24 (num 25 1) }); definition = None }) ≡ Some (Task 15)
+below_the_least = refl
+
+-- `Z : exception;`
+declares_an_exception : entity_at (exception_scope package_scope (identifier 0 (codes "Z"))) next ≡ Some Exception
+declares_an_exception = refl
 
 -- ---- declarations in order
 

@@ -1,5 +1,5 @@
 -- The least fault of joined lists, as crate expr_rules has it: copied, since its law is a contract and no term.
-use Rattle.std.proofs.Common.{◌≡◌, suc, ◌+◌, length, drop, ◌<◌, ℕ, List, [], ◌∷◌, ◌++◌, Option, Some, None, Bool, true, false, refl, sym, ap, ◌∙◌, arith}
+use Rattle.std.proofs.Common.{◌≡◌, ◌+◌, length, drop, ◌<◌, ℕ, List, [], ◌∷◌, ◌++◌, Option, Some, None, Bool, true, false, refl, sym, ap, ◌∙◌, arith}
 use Rattle.std.specs.Prelude.{nat_lt, cond, get_or}
 use Rattle.std.proofs.lemmas.List.{at_drop_more}
 use Rattle.lexer.specs.declared.fault.Fault.{Fault}

@@ -6,16 +6,17 @@ use Rattle.std.proofs.Math.Seq.{take-suc}
 use Rattle.lexer.specs.declared.fault.Fault.{Fault}
 use Rattle.ada_tree.specs.declared.declaration.Component.{Component}
 use Rattle.ada_tree.specs.declared.declaration.Declaration.{Declaration}
+use Rattle.ada_tree.specs.declared.declaration.Formal.{Formal}
 use Rattle.ada_tree.specs.StatementTree.{declaration_tree}
-use Rattle.types.specs.declared.entity.RecordComponent.{RecordComponent}
 use Rattle.types.specs.Scopes.{Scope}
-use Rattle.expr_rules.specs.Faults.{Faults, least, sooner}
+use Rattle.expr_rules.specs.Faults.{least, sooner}
 use Rattle.declaring.specs.ObjectRules.{fixed_local_faults, fixed_locals_faults, local_faults, local_scope, locals_faults, locals_scope}
+use Rattle.declaring.specs.ProfileRules.{formal_faults, formals_faults}
 use Rattle.declaring.specs.TypeRules.{component_faults, components_faults}
 use Rattle.declaring.proofs.Joined.{turn}
 
--- components behind those that were read
-abbrev pub behind : List RecordComponent → Option (List RecordComponent) → Option (List RecordComponent)
+-- elements behind those that were read
+abbrev pub behind : {X : Type 0} → List X → Option (List X) → Option (List X)
 behind all (Some rest) = Some (all ++ rest)
 behind all None = None
 
@@ -45,3 +46,12 @@ components_turn s all n x f one whole less is h here =
     let more = sym (ap (λ k. take k all) next) ∙ take-suc all n x less ∙ ap (λ y. take n all ++ y ∷ []) (sym is) in
     turn (λ l. components_faults s (take n all) l) all n x f one (component_faults s (take n all) x) (components_faults s (take (n + 1) all) (drop (n + 1) all)) whole less is
     (ap (λ b. component_faults s (take n all) x ++ components_faults s b (drop (n + 1) all)) (sym more)) h here
+
+pub formals_turn : (s : Scope) (all : List Formal) (n : ℕ) (x : Formal) (f one : Option Fault) (whole : Option Fault) → n < length all → x ≡ get_or all n x
+    → sooner f (least (formals_faults s (take n all) (drop n all))) ≡ whole → one ≡ least (formal_faults s (take n all) x)
+    → sooner (sooner f one) (least (formals_faults s (take (n + 1) all) (drop (n + 1) all))) ≡ whole
+formals_turn s all n x f one whole less is h here =
+    let next : suc n ≡ n + 1 = omega arith in
+    let more = sym (ap (λ k. take k all) next) ∙ take-suc all n x less ∙ ap (λ y. take n all ++ y ∷ []) (sym is) in
+    turn (λ l. formals_faults s (take n all) l) all n x f one (formal_faults s (take n all) x) (formals_faults s (take (n + 1) all) (drop (n + 1) all)) whole less is
+    (ap (λ b. formal_faults s (take n all) x ++ formals_faults s b (drop (n + 1) all)) (sym more)) h here

@@ -3,3 +3,5 @@ pub use Rattle.expr_rules.specs.Typing
 pub mod SubtypeNames
 pub mod ObjectRules
 pub mod TypeRules
+pub mod ProfileRules
+pub mod TaskRules

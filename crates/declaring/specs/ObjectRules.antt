@@ -4,7 +4,7 @@ use Rattle.base.specs.declared.faults.TheConstants.{NOT_STATIC, WRONG_STATIC_VAL
 use Rattle.ada_tree.specs.declared.expression.Identifier.{Identifier}
 use Rattle.ada_tree.specs.ExpressionTree.{ExprTree, Named, SelectorTrees, NoSelectors, MoreSelectors, Arguments, ArgumentTrees, MoreArguments, NoArguments, bare_name}
 use Rattle.ada_tree.specs.ExpressionTree as tree
-use Rattle.ada_tree.specs.StatementTree.{ObjectTree, DeclarationTree, LocalObject, LocalTask, LocalProtected}
+use Rattle.ada_tree.specs.StatementTree.{ObjectTree, DeclarationTree, LocalObject}
 use Rattle.types.specs.declared.entity.Subtype.{Subtype}
 use Rattle.types.specs.declared.entity.Value.{Value as Scalar}
 use Rattle.types.specs.declared.entity.Value.TheVariants as scalar
@@ -12,8 +12,6 @@ use Rattle.types.specs.declared.entity.Role.{Role}
 use Rattle.types.specs.declared.entity.Role.TheVariants as role
 use Rattle.types.specs.declared.entity.PredefinedOperation.{PredefinedOperation}
 use Rattle.types.specs.declared.entity.PredefinedOperation.TheVariants as predefined
-use Rattle.types.specs.declared.statics.StaticForm.{StaticForm}
-use Rattle.types.specs.declared.statics.StaticForm.TheVariants.{Static}
 use Rattle.types.specs.Entities.{Entity, Object, Constant, Predefined, Doubtful}
 use Rattle.types.specs.Scopes.{Scope, integer_type, with_name}
 use Rattle.types.specs.Values.{Value, Number, Truth}
@@ -21,7 +19,6 @@ use Rattle.types.specs.Evaluations.{Val, Gives, Raises, Meaningless, computed}
 use Rattle.base.specs.Arithmetic.{Checked}
 use Rattle.types.specs.Operators.{milliseconds_value, microseconds_value}
 use Rattle.types.specs.Statics.{static_form, start_of}
-use Rattle.expr_rules.specs.declared.own.Wanted.{Wanted}
 use Rattle.expr_rules.specs.declared.own.Wanted.TheVariants as wanted
 use Rattle.expr_rules.specs.Faults.{Faults, rule}
 use Rattle.expr_rules.specs.ExpressionRules.{faults_of}

@@ -15,7 +15,6 @@ use Rattle.types.specs.declared.entity.Value.TheVariants as scalar
 use Rattle.types.specs.Entities.{Operation, Profile, Integers, Arrays, Records, OfType, OfSubtype, Object, Constant, Subprogram, Protected, Task, Exception, LibraryUnit, Doubtful, Entity}
 use Rattle.types.specs.Scopes.{Scope, Named as Declaration, standard, with_name, with_real_time, with_control_io, number_of, integer, integer_type, boolean, base_range_of}
 use Rattle.types.specs.Values as value
-use Rattle.expr_rules.specs.declared.own.Wanted.{Wanted}
 use Rattle.expr_rules.specs.declared.own.Wanted.TheVariants.{Anything, AnyInteger, OfType}
 use Rattle.expr_rules.specs.Faults.{least}
 use Rattle.expr_rules.specs.Typing.{boolean_wanted}

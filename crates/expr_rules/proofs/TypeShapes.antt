@@ -1,11 +1,10 @@
 -- Numbers and truth values by their types.
-use Rattle.std.proofs.Common.{◌≡◌, ◌++◌, ℕ, zero, suc, ◌+◌, length, List, [], ◌∷◌, Bool, true, false, ◌&&◌, ◌||◌, Option, Some, None, refl, sym, ap, ◌∙◌, subst, arith}
-use Rattle.std.specs.Prelude.{slice_get, nat_eq, cond}
-use Rattle.std.proofs.lemmas.Grind.{common_steps}
+use Rattle.std.proofs.Common.{◌≡◌, ◌++◌, ℕ, zero, suc, ◌+◌, length, List, [], ◌∷◌, Bool, true, false, ◌||◌, Option, Some, None, refl, sym, ap, ◌∙◌, subst, arith}
+use Rattle.std.specs.Prelude.{slice_get}
 use Rattle.types.specs.declared.entity.Subtype.{Subtype}
 use Rattle.types.specs.Entities.{TypeForm, Integers, Booleans, Times, Spans, Arrays, Records, Entity, OfType}
 use Rattle.types.specs.Entities as entity
-use Rattle.types.specs.Scopes.{Scope, Named, entity_of, entity_at, form_of, form_at, boolean_type, base_range_of}
+use Rattle.types.specs.Scopes.{Scope, Named, entity_of, entity_at, form_of, form_at, base_range_of}
 use Rattle.types.specs.Values.{Value, Number, Truth, Array, Record}
 use Rattle.types.specs.Shapes.{Shape, Ranged, Logical, Timed, has_shape, entity_shape, form_shape, narrowed, shape_or_none, shapes, shapes_after}
 use Rattle.expr_rules.specs.declared.own.Own.{Own}

@@ -10,7 +10,7 @@ use Rattle.types.specs.Evaluations.{Val, Gives, Raises, Meaningless}
 use Rattle.types.specs.Places.{Place}
 use Rattle.types.specs.Evaluating.{Calls, value_with}
 use Rattle.expr_rules.specs.declared.own.Own.{Own}
-use Rattle.expr_rules.specs.declared.own.Own.TheVariants.{Unknown, Universal, Typed}
+use Rattle.expr_rules.specs.declared.own.Own.TheVariants.{Universal, Typed}
 use Rattle.expr_rules.specs.declared.own.Wanted.{Wanted}
 use Rattle.expr_rules.specs.Typing.{own_of, is_known, is_times, is_spans}
 use Rattle.expr_rules.specs.ExpressionRules.{faults_in}

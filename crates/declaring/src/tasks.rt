@@ -1,0 +1,103 @@
+//! Exceptions, tasks and priorities (RM 11.1, 9.1, D.1).
+ghost use Rattle.std.specs.Prelude.{◌≡◌, ◌≤◌, ◌++◌, OnErr, OnOk, codes, option_map};
+ghost use Rattle.ada_tree.specs.StatementTree.{aspect_tree, task_tree};
+ghost use Rattle.types.specs.Values.{value_of};
+ghost use Rattle.expr_rules.specs.Faults.{least};
+ghost use Rattle.declaring.specs.TaskRules.{aspect_faults, aspect_wanted, exception_scope, is_priority, priority_of, priority_within, task_faults, task_scope};
+
+use crate::names::{declare, declared_twice};
+use ada_tree::{Aspect, Identifier, TaskDeclaration};
+use base::limits::TASK_PRIORITY;
+use expr_rules::{Wanted, expression_fault, sooner, static_scalar};
+use lexer::Fault;
+use std::alloc::AllocError;
+use types::{Entity, Scope, Subtype, Value};
+
+/// The base priority of a task without an aspect, and of main (RM D.1).
+pub const DEFAULT_PRIORITY: u8 = 15;
+
+/// Makes an exception visible. Memory is the only refusal, and leaves the scope as it was.
+pub fn declare_exception(scope: &mut Scope, name: &Identifier) -> Result<(), AllocError>
+    ensures ok { OnOk result (scope.new ≡ exception_scope scope.old name.now) }
+    ensures err { OnErr result (scope.new ≡ scope.old) }
+{
+    declare(scope, name, Entity::Exception)
+}
+
+fn is_priority(aspect: &Aspect) -> bool
+    ensures { result ≡ is_priority (aspect_tree aspect.now) }
+{
+    aspect.name.name.as_bytes() == "PRIORITY".as_bytes()
+}
+
+fn aspect_wanted(is_priority: bool) -> Wanted
+    ensures { result ≡ aspect_wanted is_priority }
+{
+    if is_priority {
+        Wanted::OfType(Subtype::INTEGER.type_number)
+    } else {
+        Wanted::Anything
+    }
+}
+
+/// The least fault of an aspect's expression: that of a Priority is an Integer (RM D.1).
+pub fn aspect_fault(scope: &Scope, aspect: Option<&Aspect>) -> Option<Fault>
+    ensures { result ≡ least (aspect_faults scope.now (option_map (λ a. aspect_tree a.now) aspect.entry)) }
+{
+    match aspect {
+        Some(aspect) => {
+            let wanted = aspect_wanted(is_priority(aspect));
+            expression_fault(scope, wanted, &aspect.value)
+        }
+        None => None,
+    }
+}
+
+fn priority_within(highest: u8, other: u8, value: Option<Value>) -> u8
+    ensures { result ≡ priority_within highest other (option_map (λ v. value_of v) value) }
+{
+    match value {
+        Some(Value::Number(number)) => {
+            if 0 <= number && number <= highest as i64 {
+                number as u8
+            } else {
+                other
+            }
+        }
+        _ => other,
+    }
+}
+
+/// The priority that an aspect gives, or the other one where there is none that is static and at most the highest.
+pub fn priority_of(scope: &Scope, highest: u8, other: u8, aspect: Option<&Aspect>) -> u8
+    ensures { result ≡ priority_of scope.now highest other (option_map (λ a. aspect_tree a.now) aspect.entry) }
+{
+    match aspect {
+        Some(aspect) => {
+            let wanted = Wanted::OfType(Subtype::INTEGER.type_number);
+            let value = static_scalar(scope, wanted, None, &aspect.value);
+            priority_within(highest, other, value)
+        }
+        None => other,
+    }
+}
+
+/// The least fault of the declaration of a task; its entries declare no names.
+#[tactic(auto, using(crate::proofs::Joined::least_append))]
+pub fn task_fault(scope: &Scope, task: &TaskDeclaration) -> Option<Fault>
+    ensures { result ≡ least (task_faults scope.now (task_tree task.now)) }
+{
+    sooner(
+        aspect_fault(scope, task.aspect.as_ref()),
+        declared_twice(scope, &task.name),
+    )
+}
+
+/// Makes a task visible, with its priority. Memory is the only refusal, and leaves the scope as it was.
+pub fn declare_task(scope: &mut Scope, task: &TaskDeclaration) -> Result<(), AllocError>
+    ensures ok { OnOk result (scope.new ≡ task_scope scope.old (task_tree task.now)) }
+    ensures err { OnErr result (scope.new ≡ scope.old) }
+{
+    let priority = priority_of(scope, TASK_PRIORITY, DEFAULT_PRIORITY, task.aspect.as_ref());
+    declare(scope, &task.name, Entity::Task(priority))
+}
