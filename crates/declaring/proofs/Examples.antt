@@ -18,7 +18,8 @@ use Rattle.types.specs.Entities.{Operation, Profile, Integers, Arrays, Records, 
 use Rattle.types.specs.Scopes.{Scope, Named as Declaration, standard, with_name, with_real_time, with_control_io, number_of, integer, boolean, base_range_of, entity_at}
 use Rattle.expr_rules.specs.Faults.{least}
 use Rattle.declaring.specs.SubtypeNames.{named_entity}
-use Rattle.declaring.specs.ObjectRules.{local_object_faults, fixed_object_faults, package_object_entity, locals_faults, locals_scope}
+use Rattle.declaring.specs.ObjectRules.{local_object_faults, fixed_object_faults, package_object_entity}
+use Rattle.declaring.specs.LocalRules.{locals_faults, locals_scope}
 use Rattle.declaring.specs.ProfileRules.{subprogram_faults, subprogram_scope}
 use Rattle.declaring.specs.TaskRules.{exception_scope, task_faults, task_scope}
 use Rattle.declaring.specs.TypeRules.{type_faults, type_scope}

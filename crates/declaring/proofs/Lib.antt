@@ -2,3 +2,5 @@ mod Joined
 mod Turns
 mod Calls
 mod Examples
+mod Trees
+mod Counted
