@@ -1,6 +1,7 @@
 //! What declarations break, and what they make visible (docs/LANGUAGE.md, "Rules of declarations").
 #![tactic(auto)]
 
+mod bodies;
 mod definitions;
 mod initial;
 mod items;
@@ -12,6 +13,9 @@ mod protected;
 mod ranges;
 mod tasks;
 
+pub use bodies::{
+    declare_components, declare_formals, declare_loop_parameter, enter_object, leave_object, loop_fault,
+};
 pub use definitions::{declare_type, type_fault};
 pub use initial::{fixed_fault, fixed_scalar};
 pub use items::{declare_item, declare_items, item_fault};

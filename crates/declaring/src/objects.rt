@@ -25,7 +25,8 @@ fn role_of(constant: bool) -> Role
     }
 }
 
-fn object_entity(role: Role, subtype: Option<Subtype>) -> Entity
+/// An object of this subtype, where that is known.
+pub(crate) fn object_entity(role: Role, subtype: Option<Subtype>) -> Entity
     ensures { entity_value result ≡ object_entity role subtype }
 {
     match subtype {
