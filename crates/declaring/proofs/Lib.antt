@@ -4,3 +4,4 @@ mod Calls
 mod Examples
 mod Trees
 mod Counted
+mod Growing

@@ -9,3 +9,4 @@ pub mod ProtectedRules
 pub mod LocalRules
 pub mod ItemRules
 pub mod BodyNames
+pub mod Laws

@@ -5,6 +5,7 @@ mod bodies;
 mod definitions;
 mod initial;
 mod items;
+pub mod laws;
 mod locals;
 mod names;
 mod objects;
@@ -14,7 +15,8 @@ mod ranges;
 mod tasks;
 
 pub use bodies::{
-    declare_components, declare_formals, declare_loop_parameter, enter_object, leave_object, loop_fault,
+    declare_components, declare_formals, declare_loop_parameter, enter_object, leave_object,
+    loop_fault,
 };
 pub use definitions::{declare_type, type_fault};
 pub use initial::{fixed_fault, fixed_scalar};
