@@ -9,6 +9,8 @@ pub mod laws;
 mod locals;
 mod names;
 mod objects;
+#[cfg(test)]
+mod package_test;
 mod profiles;
 mod protected;
 mod ranges;
