@@ -1,6 +1,6 @@
 -- Declarations with their least broken rule, and what they declare, worked by computation. Places are those in the text above each.
 use Rattle.std.proofs.Common.{◌≡◌, ℕ, List, [], ◌∷◌, Option, Some, None, true, false, Bool, refl}
-use Rattle.std.specs.Prelude.{pos, negsuc, codes}
+use Rattle.std.specs.Prelude.{pos, negsuc, codes, take}
 use Rattle.lexer.specs.declared.fault.Fault.{Fault}
 use Rattle.ada_tree.specs.declared.expression.Identifier.{Identifier}
 use Rattle.ada_tree.specs.declared.expression.UnaryOperator.{UnaryOperator}
@@ -9,16 +9,22 @@ use Rattle.ada_tree.specs.declared.expression.BinaryOperator.{BinaryOperator}
 use Rattle.ada_tree.specs.declared.expression.BinaryOperator.TheVariants as binary
 use Rattle.ada_tree.specs.declared.declaration.Mode.TheVariants as mode
 use Rattle.ada_tree.specs.ExpressionTree.{ExprTree, Number, Named, Parenthesized, Conditional, Unary, Binary, NoElsifValues, MoreElsifValues, SelectorTree, selectors_of, Component, Arguments, Attribute, ArgumentTree, Value, arguments_of}
-use Rattle.ada_tree.specs.StatementTree.{ObjectTree, RangeTree, SubprogramTree, TaskTree, LocalObject}
-use Rattle.ada_tree.specs.ProgramTree.{TypeTree, Integer, Array, Record, Subtype as SubtypeOf, OfRange, OfSubtype as OfName}
+use Rattle.ada_tree.specs.StatementTree.{ObjectTree, RangeTree, SubprogramTree, TaskTree, ProtectedTree, OfSubprogram, OfEntry, LocalObject, LocalTask, LocalProtected}
+use Rattle.ada_tree.specs.ProgramTree.{TypeTree, Integer, Array, Record, Subtype as SubtypeOf, OfRange, OfSubtype as OfName, OfType as TypeItem, OfObject, OfException, OfSubprogram as OfDeclared, OfTask, OfProtected}
 use Rattle.types.specs.declared.entity.Subtype.{Subtype}
 use Rattle.types.specs.declared.entity.Role.TheVariants as role
 use Rattle.types.specs.declared.entity.Value.TheVariants as scalar
-use Rattle.types.specs.Entities.{Operation, Profile, Integers, Arrays, Records, OfType, OfSubtype, Object, Constant, Subprogram, Protected, Task, Exception, LibraryUnit, Doubtful, Entity}
-use Rattle.types.specs.Scopes.{Scope, Named as Declaration, standard, with_name, with_real_time, with_control_io, number_of, integer, boolean, base_range_of, entity_at}
+use Rattle.types.specs.Entities.{Operation, Profile, Integers, Arrays, Records, OfType, OfSubtype, Object, Constant, Subprogram, Entry, Protected, Task, Exception, LibraryUnit, Doubtful, Entity}
+use Rattle.types.specs.Scopes.{Scope, Named as Declaration, standard, with_name, with_real_time, with_control_io, number_of, integer, boolean, base_range_of, entity_at, with_operations}
+use Rattle.expr_rules.specs.declared.own.Wanted.TheVariants.{Anything}
 use Rattle.expr_rules.specs.Faults.{least}
+use Rattle.expr_rules.specs.ExpressionRules.{faults_of}
 use Rattle.declaring.specs.SubtypeNames.{named_entity}
-use Rattle.declaring.specs.ObjectRules.{local_object_faults, fixed_object_faults, package_object_entity, locals_faults, locals_scope}
+use Rattle.declaring.specs.ObjectRules.{local_object_faults, fixed_object_faults, package_object_entity}
+use Rattle.declaring.specs.LocalRules.{fixed_locals_faults, locals_faults, locals_scope}
+use Rattle.declaring.specs.BodyNames.{components_scope, formals_scope, loop_faults, loop_scope, object_body_scope}
+use Rattle.declaring.specs.ItemRules.{items_faults, items_scope}
+use Rattle.declaring.specs.ProtectedRules.{protected_faults, protected_scope}
 use Rattle.declaring.specs.ProfileRules.{subprogram_faults, subprogram_scope}
 use Rattle.declaring.specs.TaskRules.{exception_scope, task_faults, task_scope}
 use Rattle.declaring.specs.TypeRules.{type_faults, type_scope}
@@ -604,3 +610,313 @@ second_is_told = refl
 
 first_keeps_the_name : named_entity (locals_scope package_scope (LocalObject (object_of (identifier 0 (codes "Z")) false (identifier 4 (codes "INTEGER")) (Some (num 15 1))) ∷ LocalObject (object_of (identifier 30 (codes "Z")) true (identifier 34 (codes "SMALL")) None) ∷ [])) (identifier 60 (codes "Z")) ≡ Some (Object role.Variable integer)
 first_keeps_the_name = refl
+
+-- ---- protected objects
+
+abbrev declared_object : ProtectedTree → Option Entity
+declared_object d = entity_at (protected_scope package_scope d) next
+
+-- `protected Z with Priority => 3 + 4 is procedure A1 (C : Small); function A2 return Small; entry A3 (C : out Vec); private A4 : Small := Seven; A5 : Boolean; A6 : Vec; end Z;`
+a_protected_object : least (protected_faults package_scope (record { place = 0; name = (identifier 10 (codes "Z")); aspect = Some (record { place = 12; name = (identifier 17 (codes "PRIORITY")); value = two binary.Add (num 29 3) (num 33 4) }); operations = OfSubprogram (record { place = 38; name = (identifier 48 (codes "A1")); formals = record { name = (identifier 52 (codes "C")); mode = mode.In; subtype = (identifier 56 (codes "SMALL")) } ∷ []; result = None }) ∷ OfSubprogram (record { place = 64; name = (identifier 73 (codes "A2")); formals = []; result = Some (identifier 83 (codes "SMALL")) }) ∷ OfEntry (record { place = 90; name = (identifier 96 (codes "A3")); formals = record { name = (identifier 100 (codes "C")); mode = mode.Out; subtype = (identifier 108 (codes "VEC")) } ∷ [] }) ∷ []; components = record { name = (identifier 122 (codes "A4")); subtype = (identifier 127 (codes "SMALL")); value = Some (name 136 (codes "SEVEN") []) } ∷ record { name = (identifier 143 (codes "A5")); subtype = (identifier 148 (codes "BOOLEAN")); value = None } ∷ record { name = (identifier 157 (codes "A6")); subtype = (identifier 162 (codes "VEC")); value = None } ∷ []; end_name = (identifier 171 (codes "Z")) })) ≡ None
+a_protected_object = refl
+
+-- `protected Z is procedure X; end Z;`
+operation_like_a_visible_name : least (protected_faults package_scope (record { place = 0; name = (identifier 10 (codes "Z")); aspect = None; operations = OfSubprogram (record { place = 15; name = (identifier 25 (codes "X")); formals = []; result = None }) ∷ []; components = []; end_name = (identifier 32 (codes "Z")) })) ≡ broken 11 25
+operation_like_a_visible_name = refl
+
+-- `protected Z is procedure Z; end Z;`
+operation_like_its_object : least (protected_faults package_scope (record { place = 0; name = (identifier 10 (codes "Z")); aspect = None; operations = OfSubprogram (record { place = 15; name = (identifier 25 (codes "Z")); formals = []; result = None }) ∷ []; components = []; end_name = (identifier 32 (codes "Z")) })) ≡ broken 11 25
+operation_like_its_object = refl
+
+-- `protected Z is function A1 return Small; entry A1; end Z;`
+operations_of_one_name : least (protected_faults package_scope (record { place = 0; name = (identifier 10 (codes "Z")); aspect = None; operations = OfSubprogram (record { place = 15; name = (identifier 24 (codes "A1")); formals = []; result = Some (identifier 34 (codes "SMALL")) }) ∷ OfEntry (record { place = 41; name = (identifier 47 (codes "A1")); formals = [] }) ∷ []; components = []; end_name = (identifier 55 (codes "Z")) })) ≡ broken 11 47
+operations_of_one_name = refl
+
+-- `protected Z is procedure A1; private X : Small; end Z;`
+component_like_a_visible_name : least (protected_faults package_scope (record { place = 0; name = (identifier 10 (codes "Z")); aspect = None; operations = OfSubprogram (record { place = 15; name = (identifier 25 (codes "A1")); formals = []; result = None }) ∷ []; components = record { name = (identifier 37 (codes "X")); subtype = (identifier 41 (codes "SMALL")); value = None } ∷ []; end_name = (identifier 52 (codes "Z")) })) ≡ broken 11 37
+component_like_a_visible_name = refl
+
+-- `protected Z is procedure A1; private Z : Small; end Z;`
+component_like_its_object : least (protected_faults package_scope (record { place = 0; name = (identifier 10 (codes "Z")); aspect = None; operations = OfSubprogram (record { place = 15; name = (identifier 25 (codes "A1")); formals = []; result = None }) ∷ []; components = record { name = (identifier 37 (codes "Z")); subtype = (identifier 41 (codes "SMALL")); value = None } ∷ []; end_name = (identifier 52 (codes "Z")) })) ≡ broken 11 37
+component_like_its_object = refl
+
+-- `protected Z is procedure A1; private A1 : Small; end Z;`
+component_like_an_operation : least (protected_faults package_scope (record { place = 0; name = (identifier 10 (codes "Z")); aspect = None; operations = OfSubprogram (record { place = 15; name = (identifier 25 (codes "A1")); formals = []; result = None }) ∷ []; components = record { name = (identifier 37 (codes "A1")); subtype = (identifier 42 (codes "SMALL")); value = None } ∷ []; end_name = (identifier 53 (codes "Z")) })) ≡ broken 11 37
+component_like_an_operation = refl
+
+-- `protected Z is private A4 : Small; A4 : Vec; end Z;`
+protected_components_of_one_name : least (protected_faults package_scope (record { place = 0; name = (identifier 10 (codes "Z")); aspect = None; operations = []; components = record { name = (identifier 23 (codes "A4")); subtype = (identifier 28 (codes "SMALL")); value = None } ∷ record { name = (identifier 35 (codes "A4")); subtype = (identifier 40 (codes "VEC")); value = None } ∷ []; end_name = (identifier 49 (codes "Z")) })) ≡ broken 11 35
+protected_components_of_one_name = refl
+
+-- `protected X with Priority => Nobody is end X;`
+object_of_a_visible_name : least (protected_faults package_scope (record { place = 0; name = (identifier 10 (codes "X")); aspect = Some (record { place = 12; name = (identifier 17 (codes "PRIORITY")); value = name 29 (codes "NOBODY") [] }); operations = []; components = []; end_name = (identifier 43 (codes "X")) })) ≡ broken 11 10
+object_of_a_visible_name = refl
+
+-- `protected Z is function Get return Small; procedure Give; private Level : Small; end Z;`
+names_of_another_object : least (protected_faults package_scope (record { place = 0; name = (identifier 10 (codes "Z")); aspect = None; operations = OfSubprogram (record { place = 15; name = (identifier 24 (codes "GET")); formals = []; result = Some (identifier 35 (codes "SMALL")) }) ∷ OfSubprogram (record { place = 42; name = (identifier 52 (codes "GIVE")); formals = []; result = None }) ∷ []; components = record { name = (identifier 66 (codes "LEVEL")); subtype = (identifier 74 (codes "SMALL")); value = None } ∷ []; end_name = (identifier 85 (codes "Z")) })) ≡ None
+names_of_another_object = refl
+
+-- `protected Z is procedure A1 (A1 : Small); procedure A2 (A1 : Small); end Z;`
+formal_like_an_operation : least (protected_faults package_scope (record { place = 0; name = (identifier 10 (codes "Z")); aspect = None; operations = OfSubprogram (record { place = 15; name = (identifier 25 (codes "A1")); formals = record { name = (identifier 29 (codes "A1")); mode = mode.In; subtype = (identifier 34 (codes "SMALL")) } ∷ []; result = None }) ∷ OfSubprogram (record { place = 42; name = (identifier 52 (codes "A2")); formals = record { name = (identifier 56 (codes "A1")); mode = mode.In; subtype = (identifier 61 (codes "SMALL")) } ∷ []; result = None }) ∷ []; components = []; end_name = (identifier 73 (codes "Z")) })) ≡ None
+formal_like_an_operation = refl
+
+-- `protected Z is procedure A1 (X : Small); end Z;`
+formal_of_an_operation_like_a_visible_name : least (protected_faults package_scope (record { place = 0; name = (identifier 10 (codes "Z")); aspect = None; operations = OfSubprogram (record { place = 15; name = (identifier 25 (codes "A1")); formals = record { name = (identifier 29 (codes "X")); mode = mode.In; subtype = (identifier 33 (codes "SMALL")) } ∷ []; result = None }) ∷ []; components = []; end_name = (identifier 45 (codes "Z")) })) ≡ broken 11 29
+formal_of_an_operation_like_a_visible_name = refl
+
+-- `protected Z is entry A1 (C : Nobody); end Z;`
+entry_formal_of_hidden : least (protected_faults package_scope (record { place = 0; name = (identifier 10 (codes "Z")); aspect = None; operations = OfEntry (record { place = 15; name = (identifier 21 (codes "A1")); formals = record { name = (identifier 25 (codes "C")); mode = mode.In; subtype = (identifier 29 (codes "NOBODY")) } ∷ [] }) ∷ []; components = []; end_name = (identifier 42 (codes "Z")) })) ≡ broken 10 29
+entry_formal_of_hidden = refl
+
+-- `protected Z is entry A1 (C : Small; C : Small); end Z;`
+entry_formals_of_one_name : least (protected_faults package_scope (record { place = 0; name = (identifier 10 (codes "Z")); aspect = None; operations = OfEntry (record { place = 15; name = (identifier 21 (codes "A1")); formals = record { name = (identifier 25 (codes "C")); mode = mode.In; subtype = (identifier 29 (codes "SMALL")) } ∷ record { name = (identifier 36 (codes "C")); mode = mode.In; subtype = (identifier 40 (codes "SMALL")) } ∷ [] }) ∷ []; components = []; end_name = (identifier 52 (codes "Z")) })) ≡ broken 11 36
+entry_formals_of_one_name = refl
+
+-- `protected Z is function A1 (C : out Small) return Small; end Z;`
+out_formal_of_a_protected_function : least (protected_faults package_scope (record { place = 0; name = (identifier 10 (codes "Z")); aspect = None; operations = OfSubprogram (record { place = 15; name = (identifier 24 (codes "A1")); formals = record { name = (identifier 28 (codes "C")); mode = mode.Out; subtype = (identifier 36 (codes "SMALL")) } ∷ []; result = Some (identifier 50 (codes "SMALL")) }) ∷ []; components = []; end_name = (identifier 61 (codes "Z")) })) ≡ broken 21 24
+out_formal_of_a_protected_function = refl
+
+-- `protected Z is function A1 return Nobody; end Z;`
+result_of_hidden_in_an_object : least (protected_faults package_scope (record { place = 0; name = (identifier 10 (codes "Z")); aspect = None; operations = OfSubprogram (record { place = 15; name = (identifier 24 (codes "A1")); formals = []; result = Some (identifier 34 (codes "NOBODY")) }) ∷ []; components = []; end_name = (identifier 46 (codes "Z")) })) ≡ broken 10 34
+result_of_hidden_in_an_object = refl
+
+-- `protected Z is private A4 : Nobody; end Z;`
+protected_component_of_hidden : least (protected_faults package_scope (record { place = 0; name = (identifier 10 (codes "Z")); aspect = None; operations = []; components = record { name = (identifier 23 (codes "A4")); subtype = (identifier 28 (codes "NOBODY")); value = None } ∷ []; end_name = (identifier 40 (codes "Z")) })) ≡ broken 10 28
+protected_component_of_hidden = refl
+
+-- `protected Z is private A4 : X; end Z;`
+protected_component_of_a_variable : least (protected_faults package_scope (record { place = 0; name = (identifier 10 (codes "Z")); aspect = None; operations = []; components = record { name = (identifier 23 (codes "A4")); subtype = (identifier 28 (codes "X")); value = None } ∷ []; end_name = (identifier 35 (codes "Z")) })) ≡ broken 12 28
+protected_component_of_a_variable = refl
+
+-- `protected Z is private A4 : Small := 10; end Z;`
+component_outside_its_subtype : least (protected_faults package_scope (record { place = 0; name = (identifier 10 (codes "Z")); aspect = None; operations = []; components = record { name = (identifier 23 (codes "A4")); subtype = (identifier 28 (codes "SMALL")); value = Some (num 37 10) } ∷ []; end_name = (identifier 45 (codes "Z")) })) ≡ broken 15 37
+component_outside_its_subtype = refl
+
+-- `protected Z is private A4 : Integer := X; end Z;`
+component_of_a_variable_value : least (protected_faults package_scope (record { place = 0; name = (identifier 10 (codes "Z")); aspect = None; operations = []; components = record { name = (identifier 23 (codes "A4")); subtype = (identifier 28 (codes "INTEGER")); value = Some (name 39 (codes "X") []) } ∷ []; end_name = (identifier 46 (codes "Z")) })) ≡ broken 14 39
+component_of_a_variable_value = refl
+
+-- `protected Z is private A4 : Small := True; end Z;`
+component_of_another_type : least (protected_faults package_scope (record { place = 0; name = (identifier 10 (codes "Z")); aspect = None; operations = []; components = record { name = (identifier 23 (codes "A4")); subtype = (identifier 28 (codes "SMALL")); value = Some (name 37 (codes "TRUE") []) } ∷ []; end_name = (identifier 47 (codes "Z")) })) ≡ broken 12 37
+component_of_another_type = refl
+
+-- `protected Z is private A4 : Integer := 1; A5 : Integer := A4; end Z;`
+component_from_a_component : least (protected_faults package_scope (record { place = 0; name = (identifier 10 (codes "Z")); aspect = None; operations = []; components = record { name = (identifier 23 (codes "A4")); subtype = (identifier 28 (codes "INTEGER")); value = Some (num 39 1) } ∷ record { name = (identifier 42 (codes "A5")); subtype = (identifier 47 (codes "INTEGER")); value = Some (name 58 (codes "A4") []) } ∷ []; end_name = (identifier 66 (codes "Z")) })) ≡ broken 10 58
+component_from_a_component = refl
+
+-- `protected Z is private A4 : Time := Clock; A5 : Time_Span := Milliseconds (5); end Z;`
+component_of_the_clock : least (protected_faults package_scope (record { place = 0; name = (identifier 10 (codes "Z")); aspect = None; operations = []; components = record { name = (identifier 23 (codes "A4")); subtype = (identifier 28 (codes "TIME")); value = Some (name 36 (codes "CLOCK") []) } ∷ record { name = (identifier 43 (codes "A5")); subtype = (identifier 48 (codes "TIME_SPAN")); value = Some (name 61 (codes "MILLISECONDS") (at (of (num 75 5) ∷ []) ∷ [])) } ∷ []; end_name = (identifier 83 (codes "Z")) })) ≡ None
+component_of_the_clock = refl
+
+-- `protected Z with Priority => Seven is end Z;`
+ceiling_of_another_type : least (protected_faults package_scope (record { place = 0; name = (identifier 10 (codes "Z")); aspect = Some (record { place = 12; name = (identifier 17 (codes "PRIORITY")); value = name 29 (codes "SEVEN") [] }); operations = []; components = []; end_name = (identifier 42 (codes "Z")) })) ≡ broken 12 29
+ceiling_of_another_type = refl
+
+-- `protected Z with Priority => Nobody is end Z;`
+ceiling_of_hidden : least (protected_faults package_scope (record { place = 0; name = (identifier 10 (codes "Z")); aspect = Some (record { place = 12; name = (identifier 17 (codes "PRIORITY")); value = name 29 (codes "NOBODY") [] }); operations = []; components = []; end_name = (identifier 43 (codes "Z")) })) ≡ broken 10 29
+ceiling_of_hidden = refl
+
+-- `protected Z is procedure A1 (C : Nobody); private A4 : Small := 10; end Z;`
+operation_before_component : least (protected_faults package_scope (record { place = 0; name = (identifier 10 (codes "Z")); aspect = None; operations = OfSubprogram (record { place = 15; name = (identifier 25 (codes "A1")); formals = record { name = (identifier 29 (codes "C")); mode = mode.In; subtype = (identifier 33 (codes "NOBODY")) } ∷ []; result = None }) ∷ []; components = record { name = (identifier 50 (codes "A4")); subtype = (identifier 55 (codes "SMALL")); value = Some (num 64 10) } ∷ []; end_name = (identifier 72 (codes "Z")) })) ≡ broken 10 33
+operation_before_component = refl
+
+-- `protected Z is private A4 : Small := 10; A5 : Nobody; end Z;`
+value_before_subtype : least (protected_faults package_scope (record { place = 0; name = (identifier 10 (codes "Z")); aspect = None; operations = []; components = record { name = (identifier 23 (codes "A4")); subtype = (identifier 28 (codes "SMALL")); value = Some (num 37 10) } ∷ record { name = (identifier 41 (codes "A5")); subtype = (identifier 46 (codes "NOBODY")); value = None } ∷ []; end_name = (identifier 58 (codes "Z")) })) ≡ broken 15 37
+value_before_subtype = refl
+
+-- `protected Z is private A5 : Nobody; A4 : Small := 10; end Z;`
+subtype_before_value_in_an_object : least (protected_faults package_scope (record { place = 0; name = (identifier 10 (codes "Z")); aspect = None; operations = []; components = record { name = (identifier 23 (codes "A5")); subtype = (identifier 28 (codes "NOBODY")); value = None } ∷ record { name = (identifier 36 (codes "A4")); subtype = (identifier 41 (codes "SMALL")); value = Some (num 50 10) } ∷ []; end_name = (identifier 58 (codes "Z")) })) ≡ broken 10 28
+subtype_before_value_in_an_object = refl
+
+-- `protected Z with Priority => 3 + 4 is procedure A1 (C : Small); function A2 return Small; entry A3 (C : out Vec); private A4 : Small := Seven; end Z;`
+declares_an_object : declared_object (record { place = 0; name = (identifier 10 (codes "Z")); aspect = Some (record { place = 12; name = (identifier 17 (codes "PRIORITY")); value = two binary.Add (num 29 3) (num 33 4) }); operations = OfSubprogram (record { place = 38; name = (identifier 48 (codes "A1")); formals = record { name = (identifier 52 (codes "C")); mode = mode.In; subtype = (identifier 56 (codes "SMALL")) } ∷ []; result = None }) ∷ OfSubprogram (record { place = 64; name = (identifier 73 (codes "A2")); formals = []; result = Some (identifier 83 (codes "SMALL")) }) ∷ OfEntry (record { place = 90; name = (identifier 96 (codes "A3")); formals = record { name = (identifier 100 (codes "C")); mode = mode.Out; subtype = (identifier 108 (codes "VEC")) } ∷ [] }) ∷ []; components = record { name = (identifier 122 (codes "A4")); subtype = (identifier 127 (codes "SMALL")); value = Some (name 136 (codes "SEVEN") []) } ∷ []; end_name = (identifier 147 (codes "Z")) }) ≡ Some (Protected (record { number = 1; ceiling = 7; operations = record { name = codes "A1"; is_entry = false; profile = record { formals = record { mode = mode.In; subtype = small } ∷ []; result = None } } ∷ record { name = codes "A2"; is_entry = false; profile = record { formals = []; result = Some small } } ∷ record { name = codes "A3"; is_entry = true; profile = record { formals = record { mode = mode.Out; subtype = vec } ∷ []; result = None } } ∷ []; components = record { name = codes "A4"; subtype = small } ∷ []; barrier = None }))
+declares_an_object = refl
+
+-- `protected Z is end Z;`
+object_without_an_aspect : declared_object (record { place = 0; name = (identifier 10 (codes "Z")); aspect = None; operations = []; components = []; end_name = (identifier 19 (codes "Z")) }) ≡ Some (Protected (record { number = 1; ceiling = 30; operations = []; components = []; barrier = None }))
+object_without_an_aspect = refl
+
+-- `protected Z with Priority => 31 is end Z;`
+ceiling_above_the_highest : declared_object (record { place = 0; name = (identifier 10 (codes "Z")); aspect = Some (record { place = 12; name = (identifier 17 (codes "PRIORITY")); value = num 29 31 }); operations = []; components = []; end_name = (identifier 39 (codes "Z")) }) ≡ Some (Protected (record { number = 1; ceiling = 30; operations = []; components = []; barrier = None }))
+ceiling_above_the_highest = refl
+
+-- `protected Z with Priority => 0 is end Z;`
+lowest_ceiling : declared_object (record { place = 0; name = (identifier 10 (codes "Z")); aspect = Some (record { place = 12; name = (identifier 17 (codes "PRIORITY")); value = num 29 0 }); operations = []; components = []; end_name = (identifier 38 (codes "Z")) }) ≡ Some (Protected (record { number = 1; ceiling = 0; operations = []; components = []; barrier = None }))
+lowest_ceiling = refl
+
+-- `protected Z is entry A1 (C : Nobody); end Z;`
+object_of_a_doubtful_operation : declared_object (record { place = 0; name = (identifier 10 (codes "Z")); aspect = None; operations = OfEntry (record { place = 15; name = (identifier 21 (codes "A1")); formals = record { name = (identifier 25 (codes "C")); mode = mode.In; subtype = (identifier 29 (codes "NOBODY")) } ∷ [] }) ∷ []; components = []; end_name = (identifier 42 (codes "Z")) }) ≡ Some Doubtful
+object_of_a_doubtful_operation = refl
+
+-- `protected Z is private A4 : Nobody; end Z;`
+object_of_a_doubtful_component : declared_object (record { place = 0; name = (identifier 10 (codes "Z")); aspect = None; operations = []; components = record { name = (identifier 23 (codes "A4")); subtype = (identifier 28 (codes "NOBODY")); value = None } ∷ []; end_name = (identifier 40 (codes "Z")) }) ≡ Some Doubtful
+object_of_a_doubtful_component = refl
+
+-- ---- declarations of a package, and of a body, in order; places are those in the declaration that is told
+
+-- `type Z is range 1 .. 3; Y : constant Z := 3;`
+constant_of_a_new_type : least (items_faults package_scope (TypeItem (record { name = (identifier 5 (codes "Z")); definition = Integer (range_of (num 16 1) (num 21 3)) }) ∷ OfObject (object_of (identifier 0 (codes "Y")) true (identifier 13 (codes "Z")) (Some (num 18 3))) ∷ [])) ≡ None
+constant_of_a_new_type = refl
+
+-- `type Z is range 1 .. 3; Y : constant Z := 4;`
+outside_a_new_type : least (items_faults package_scope (TypeItem (record { name = (identifier 5 (codes "Z")); definition = Integer (range_of (num 16 1) (num 21 3)) }) ∷ OfObject (object_of (identifier 0 (codes "Y")) true (identifier 13 (codes "Z")) (Some (num 18 4))) ∷ [])) ≡ broken 15 18
+outside_a_new_type = refl
+
+-- `Y : Integer := F (1);`
+function_of_a_package_object : least (items_faults package_scope (OfObject (object_of (identifier 0 (codes "Y")) false (identifier 4 (codes "INTEGER")) (Some (name 15 (codes "F") (at (of (num 18 1) ∷ []) ∷ [])))) ∷ [])) ≡ broken 14 15
+function_of_a_package_object = refl
+
+-- `Bad : exception;`
+exception_declared_before : least (items_faults package_scope (OfException (identifier 0 (codes "BAD")) ∷ [])) ≡ broken 11 0
+exception_declared_before = refl
+
+-- `type Z is range 1 .. 3; procedure Y (A : Z);`
+procedure_behind_its_type : least (items_faults package_scope (TypeItem (record { name = (identifier 5 (codes "Z")); definition = Integer (range_of (num 16 1) (num 21 3)) }) ∷ OfDeclared (record { place = 0; name = (identifier 10 (codes "Y")); formals = record { name = (identifier 13 (codes "A")); mode = mode.In; subtype = (identifier 17 (codes "Z")) } ∷ []; result = None }) ∷ [])) ≡ None
+procedure_behind_its_type = refl
+
+-- `procedure Y (A : Z); type Z is range 1 .. 3;`
+procedure_in_front_of_its_type : least (items_faults package_scope (OfDeclared (record { place = 0; name = (identifier 10 (codes "Y")); formals = record { name = (identifier 13 (codes "A")); mode = mode.In; subtype = (identifier 17 (codes "Z")) } ∷ []; result = None }) ∷ TypeItem (record { name = (identifier 5 (codes "Z")); definition = Integer (range_of (num 16 1) (num 21 3)) }) ∷ [])) ≡ broken 10 17
+procedure_in_front_of_its_type = refl
+
+-- `task Z; protected Z is end Z;`
+task_and_object_of_one_name : least (items_faults package_scope (OfTask (record { place = 0; name = (identifier 5 (codes "Z")); aspect = None; definition = None }) ∷ OfProtected (record { place = 0; name = (identifier 10 (codes "Z")); aspect = None; operations = []; components = []; end_name = (identifier 19 (codes "Z")) }) ∷ [])) ≡ broken 11 10
+task_and_object_of_one_name = refl
+
+-- `protected Z is end Z; protected Y is end Y;`
+objects_are_numbered : entity_at (items_scope package_scope (OfProtected (record { place = 0; name = (identifier 10 (codes "Z")); aspect = None; operations = []; components = []; end_name = (identifier 19 (codes "Z")) }) ∷ OfProtected (record { place = 0; name = (identifier 10 (codes "Y")); aspect = None; operations = []; components = []; end_name = (identifier 19 (codes "Y")) }) ∷ [])) 46 ≡ Some (Protected (record { number = 2; ceiling = 30; operations = []; components = []; barrier = None }))
+objects_are_numbered = refl
+
+-- `task Z with Priority => Nobody;` in a body
+local_task_is_judged : least (locals_faults package_scope (LocalTask (record { place = 0; name = (identifier 5 (codes "Z")); aspect = Some (record { place = 7; name = (identifier 12 (codes "PRIORITY")); value = name 24 (codes "NOBODY") [] }); definition = None }) ∷ [])) ≡ broken 10 24
+local_task_is_judged = refl
+
+-- `protected Z is function A1 return Integer; end Z;` and behind it `Y : Integer := Z.A1;` in a body, then in a task body
+local_object_is_visible : least (locals_faults package_scope (LocalProtected (record { place = 0; name = (identifier 10 (codes "Z")); aspect = None; operations = OfSubprogram (record { place = 15; name = (identifier 24 (codes "A1")); formals = []; result = Some (identifier 34 (codes "INTEGER")) }) ∷ []; components = []; end_name = (identifier 47 (codes "Z")) }) ∷ LocalObject (object_of (identifier 0 (codes "Y")) false (identifier 4 (codes "INTEGER")) (Some (name 15 (codes "Z") (dot 17 (codes "A1") ∷ [])))) ∷ [])) ≡ None
+local_object_is_visible = refl
+
+local_object_is_not_static : least (fixed_locals_faults package_scope (LocalProtected (record { place = 0; name = (identifier 10 (codes "Z")); aspect = None; operations = OfSubprogram (record { place = 15; name = (identifier 24 (codes "A1")); formals = []; result = Some (identifier 34 (codes "INTEGER")) }) ∷ []; components = []; end_name = (identifier 47 (codes "Z")) }) ∷ LocalObject (object_of (identifier 0 (codes "Y")) false (identifier 4 (codes "INTEGER")) (Some (name 15 (codes "Z") (dot 17 (codes "A1") ∷ [])))) ∷ [])) ≡ broken 14 15
+local_object_is_not_static = refl
+
+-- ---- formals in their body
+
+-- `procedure Z (A : Small; C : out Vec; H : in out Time; I : W; X : Small)`
+abbrev inside_procedure : Scope
+inside_procedure = formals_scope package_scope (record { name = (identifier 13 (codes "A")); mode = mode.In; subtype = (identifier 17 (codes "SMALL")) } ∷ record { name = (identifier 24 (codes "C")); mode = mode.Out; subtype = (identifier 32 (codes "VEC")) } ∷ record { name = (identifier 37 (codes "H")); mode = mode.InOut; subtype = (identifier 48 (codes "TIME")) } ∷ record { name = (identifier 54 (codes "I")); mode = mode.In; subtype = (identifier 58 (codes "W")) } ∷ record { name = (identifier 61 (codes "X")); mode = mode.In; subtype = (identifier 65 (codes "SMALL")) } ∷ [])
+
+in_formal : named_entity inside_procedure (identifier 0 (codes "A")) ≡ Some (Object role.In small)
+in_formal = refl
+
+out_formal : named_entity inside_procedure (identifier 0 (codes "C")) ≡ Some (Object role.Out vec)
+out_formal = refl
+
+in_out_formal : named_entity inside_procedure (identifier 0 (codes "H")) ≡ Some (Object role.InOut (base_range_of 10))
+in_out_formal = refl
+
+formal_of_doubtful : named_entity inside_procedure (identifier 0 (codes "I")) ≡ Some Doubtful
+formal_of_doubtful = refl
+
+visible_name_is_kept : named_entity inside_procedure (identifier 0 (codes "X")) ≡ Some (Object role.Variable integer)
+visible_name_is_kept = refl
+
+-- ---- loop parameters
+
+-- `for I in 1 .. X`
+a_loop : least (loop_faults package_scope (identifier 4 (codes "I")) (range_of (num 9 1) (name 14 (codes "X") []))) ≡ None
+a_loop = refl
+
+-- `for I in 2 .. 1`
+null_loop : least (loop_faults package_scope (identifier 4 (codes "I")) (range_of (num 9 2) (num 14 1))) ≡ None
+null_loop = refl
+
+-- `for I in S .. 9`
+typed_first_bound : least (loop_faults package_scope (identifier 4 (codes "I")) (range_of (name 9 (codes "S") []) (num 14 9))) ≡ None
+typed_first_bound = refl
+
+-- `for I in 1 .. S`
+typed_second_bound : least (loop_faults package_scope (identifier 4 (codes "I")) (range_of (num 9 1) (name 14 (codes "S") []))) ≡ None
+typed_second_bound = refl
+
+-- `for I in S .. X`
+bounds_of_two_types : least (loop_faults package_scope (identifier 4 (codes "I")) (range_of (name 9 (codes "S") []) (name 14 (codes "X") []))) ≡ broken 12 14
+bounds_of_two_types = refl
+
+-- `for I in B .. 2`
+bound_of_truth : least (loop_faults package_scope (identifier 4 (codes "I")) (range_of (name 9 (codes "B") []) (num 14 2))) ≡ broken 12 9
+bound_of_truth = refl
+
+-- `for I in 1 .. B`
+second_bound_of_truth : least (loop_faults package_scope (identifier 4 (codes "I")) (range_of (num 9 1) (name 14 (codes "B") []))) ≡ broken 12 14
+second_bound_of_truth = refl
+
+-- `for I in X .. D`
+second_bound_of_time : least (loop_faults package_scope (identifier 4 (codes "I")) (range_of (name 9 (codes "X") []) (name 14 (codes "D") []))) ≡ broken 12 14
+second_bound_of_time = refl
+
+-- `for I in 1 .. I`
+parameter_in_its_range : least (loop_faults package_scope (identifier 4 (codes "I")) (range_of (num 9 1) (name 14 (codes "I") []))) ≡ broken 10 14
+parameter_in_its_range = refl
+
+-- `for X in Nobody .. 1`
+parameter_declared_before : least (loop_faults package_scope (identifier 4 (codes "X")) (range_of (name 9 (codes "NOBODY") []) (num 19 1))) ≡ broken 11 4
+parameter_declared_before = refl
+
+-- `for I in Nobody .. True`
+hidden_bound : least (loop_faults package_scope (identifier 4 (codes "I")) (range_of (name 9 (codes "NOBODY") []) (name 19 (codes "TRUE") []))) ≡ broken 10 9
+hidden_bound = refl
+
+-- `for I in 1 .. 2`
+parameter_of_integer : entity_at (loop_scope package_scope (identifier 4 (codes "I")) (range_of (num 9 1) (num 14 2))) next ≡ Some (Object role.LoopParameter integer)
+parameter_of_integer = refl
+
+-- `for I in S .. 9`
+parameter_of_the_first_type : entity_at (loop_scope package_scope (identifier 4 (codes "I")) (range_of (name 9 (codes "S") []) (num 14 9))) next ≡ Some (Object role.LoopParameter (base_range_of 17))
+parameter_of_the_first_type = refl
+
+-- `for I in 1 .. S`
+parameter_of_the_second_type : entity_at (loop_scope package_scope (identifier 4 (codes "I")) (range_of (num 9 1) (name 14 (codes "S") []))) next ≡ Some (Object role.LoopParameter (base_range_of 17))
+parameter_of_the_second_type = refl
+
+-- `for I in B .. B`
+parameter_of_truth : entity_at (loop_scope package_scope (identifier 4 (codes "I")) (range_of (name 9 (codes "B") []) (name 14 (codes "B") []))) next ≡ Some Doubtful
+parameter_of_truth = refl
+
+-- `for I in 1 .. Nobody`
+parameter_of_hidden : entity_at (loop_scope package_scope (identifier 4 (codes "I")) (range_of (num 9 1) (name 14 (codes "NOBODY") []))) next ≡ Some Doubtful
+parameter_of_hidden = refl
+
+-- ---- the body of P, which is the name with number 31
+
+abbrev inside_object : Scope
+inside_object = object_body_scope package_scope 31
+
+-- `P.Get (1)` outside and inside, then `Get (1)`
+behind_its_name_outside : least (faults_of package_scope Anything (name 0 (codes "P") (dot 2 (codes "GET") ∷ at (of (num 7 1) ∷ []) ∷ []))) ≡ None
+behind_its_name_outside = refl
+
+not_behind_its_name_inside : least (faults_of inside_object Anything (name 0 (codes "P") (dot 2 (codes "GET") ∷ at (of (num 7 1) ∷ []) ∷ []))) ≡ broken 10 2
+not_behind_its_name_inside = refl
+
+alone_outside : least (faults_of package_scope Anything (name 0 (codes "GET") (at (of (num 5 1) ∷ []) ∷ []))) ≡ broken 10 0
+alone_outside = refl
+
+alone_inside : least (faults_of inside_object Anything (name 0 (codes "GET") (at (of (num 5 1) ∷ []) ∷ []))) ≡ None
+alone_inside = refl
+
+function_inside : named_entity inside_object (identifier 0 (codes "GET")) ≡ Some (Subprogram small_to_small)
+function_inside = refl
+
+entry_inside : named_entity inside_object (identifier 0 (codes "TAKE")) ≡ Some (Entry (record { formals = record { mode = mode.Out; subtype = integer } ∷ []; result = None }))
+entry_inside = refl
+
+object_inside : named_entity inside_object (identifier 0 (codes "P")) ≡ Some (object [])
+object_inside = refl
+
+-- its component in the body of a function, and of a procedure or entry
+component_in_a_function : named_entity (components_scope inside_object true (record { name = codes "LEVEL"; subtype = small } ∷ [])) (identifier 0 (codes "LEVEL")) ≡ Some (Object role.ReadOnlyComponent small)
+component_in_a_function = refl
+
+component_in_a_procedure : named_entity (components_scope inside_object false (record { name = codes "LEVEL"; subtype = small } ∷ [])) (identifier 0 (codes "LEVEL")) ≡ Some (Object role.Component small)
+component_in_a_procedure = refl
+
+nothing_is_left : with_operations (take next inside_object) 31 operations ≡ package_scope
+nothing_is_left = refl

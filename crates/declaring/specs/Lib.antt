@@ -5,3 +5,8 @@ pub mod ObjectRules
 pub mod TypeRules
 pub mod ProfileRules
 pub mod TaskRules
+pub mod ProtectedRules
+pub mod LocalRules
+pub mod ItemRules
+pub mod BodyNames
+pub mod Laws

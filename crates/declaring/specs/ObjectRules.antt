@@ -1,10 +1,10 @@
 -- Objects (RM 3.3.1; docs/LANGUAGE.md, "Rules of declarations"): local ones, those of task bodies, those of the package.
-use Rattle.std.specs.Prelude.{ℕ, ℤ, pos, Bool, true, false, List, [], ◌∷◌, ◌++◌, Option, Some, None}
+use Rattle.std.specs.Prelude.{ℕ, ℤ, pos, Bool, true, false, [], ◌++◌, Option, Some, None}
 use Rattle.base.specs.declared.faults.TheConstants.{NOT_STATIC, WRONG_STATIC_VALUE}
 use Rattle.ada_tree.specs.declared.expression.Identifier.{Identifier}
 use Rattle.ada_tree.specs.ExpressionTree.{ExprTree, Named, SelectorTrees, NoSelectors, MoreSelectors, Arguments, ArgumentTrees, MoreArguments, NoArguments, bare_name}
 use Rattle.ada_tree.specs.ExpressionTree as tree
-use Rattle.ada_tree.specs.StatementTree.{ObjectTree, DeclarationTree, LocalObject}
+use Rattle.ada_tree.specs.StatementTree.{ObjectTree}
 use Rattle.types.specs.declared.entity.Subtype.{Subtype}
 use Rattle.types.specs.declared.entity.Value.{Value as Scalar}
 use Rattle.types.specs.declared.entity.Value.TheVariants as scalar
@@ -162,30 +162,3 @@ package_object_entity s d =
 
 abbrev pub package_object_scope : Scope → ObjectTree → Scope
 package_object_scope s d = with_name s d.name.name (package_object_entity s d)
-
--- ---- the declarations of a body or block, in order; tasks and protected objects among them are refused for themselves (30)
-
-abbrev pub local_faults : Scope → DeclarationTree → Faults
-local_faults s (LocalObject d) = local_object_faults s d
-local_faults s d = []
-
-abbrev pub fixed_local_faults : Scope → DeclarationTree → Faults
-fixed_local_faults s (LocalObject d) = fixed_object_faults s d
-fixed_local_faults s d = []
-
-abbrev pub local_scope : Scope → DeclarationTree → Scope
-local_scope s (LocalObject d) = local_object_scope s d
-local_scope s d = s
-
-abbrev pub locals_faults : Scope → List DeclarationTree → Faults
-locals_faults s [] = []
-locals_faults s (d ∷ ds) = local_faults s d ++ locals_faults (local_scope s d) ds
-
--- those of a task body
-abbrev pub fixed_locals_faults : Scope → List DeclarationTree → Faults
-fixed_locals_faults s [] = []
-fixed_locals_faults s (d ∷ ds) = fixed_local_faults s d ++ fixed_locals_faults (local_scope s d) ds
-
-abbrev pub locals_scope : Scope → List DeclarationTree → Scope
-locals_scope s [] = s
-locals_scope s (d ∷ ds) = locals_scope (local_scope s d) ds

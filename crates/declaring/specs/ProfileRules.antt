@@ -48,8 +48,12 @@ abbrev pub function_faults : Scope → (name : Identifier) → List Formal → O
 function_faults s name formals (Some given) = rule WRONG_FUNCTION name.place (is_composite s (subtype_of s given) || has_wrong_formal s formals)
 function_faults s name formals None = []
 
+-- its formals and its result
+abbrev pub profile_faults : Scope → SubprogramTree → Faults
+profile_faults s d = formals_faults s [] d.formals ++ result_faults s d.result ++ function_faults s d.name d.formals d.result
+
 abbrev pub subprogram_faults : Scope → SubprogramTree → Faults
-subprogram_faults s d = formals_faults s [] d.formals ++ result_faults s d.result ++ function_faults s d.name d.formals d.result ++ declared_twice s d.name
+subprogram_faults s d = profile_faults s d ++ declared_twice s d.name
 
 -- ---- what a call sees of it
 

@@ -1,15 +1,14 @@
 //! Objects and their initial values (RM 3.3.1).
-ghost use Rattle.std.specs.Prelude.{◌≡◌, ◌++◌, IfOk, OnErr, OnOk, map, option_map};
-ghost use Rattle.ada_tree.specs.ExpressionTree.{expr_tree};
-ghost use Rattle.ada_tree.specs.StatementTree.{declaration_tree, object_tree};
+ghost use Rattle.std.specs.Prelude.{◌≡◌, ◌++◌, OnErr, OnOk};
+ghost use Rattle.ada_tree.specs.StatementTree.{object_tree};
 ghost use Rattle.types.specs.Entities.{entity_value};
 ghost use Rattle.expr_rules.specs.Faults.{least};
 ghost use Rattle.declaring.specs.SubtypeNames.{subtype_of};
-ghost use Rattle.declaring.specs.ObjectRules.{constant_entity, fixed_initial_faults, fixed_local_faults, fixed_locals_faults, fixed_object_faults, initial_scalar, package_object_entity, package_object_scope, local_faults, local_initial_faults, local_object_faults, local_object_scope, local_scope, locals_faults, locals_scope, object_entity, role_of};
+ghost use Rattle.declaring.specs.ObjectRules.{constant_entity, fixed_initial_faults, fixed_object_faults, initial_scalar, package_object_entity, package_object_scope, local_initial_faults, local_object_faults, local_object_scope, object_entity, role_of};
 
 use crate::initial::{fixed_fault, fixed_scalar};
 use crate::names::{declare, declared_twice, subtype_fault, subtype_of, wanted_by};
-use ada_tree::{Declaration, ObjectDeclaration};
+use ada_tree::ObjectDeclaration;
 use base::faults::NOT_STATIC;
 use expr_rules::{expression_fault, rule, sooner};
 use lexer::Fault;
@@ -26,7 +25,8 @@ fn role_of(constant: bool) -> Role
     }
 }
 
-fn object_entity(role: Role, subtype: Option<Subtype>) -> Entity
+/// An object of this subtype, where that is known.
+pub(crate) fn object_entity(role: Role, subtype: Option<Subtype>) -> Entity
     ensures { entity_value result ≡ object_entity role subtype }
 {
     match subtype {
@@ -131,69 +131,4 @@ pub fn declare_package_object(
 {
     let entity = package_object_entity(scope, object);
     declare(scope, &object.name, entity)
-}
-
-// Checks a declaration of a body or block, and makes its name visible.
-fn local(scope: &mut Scope, declaration: &Declaration) -> Result<Option<Fault>, AllocError>
-    ensures fault { IfOk result (λ f. f ≡ least (local_faults scope.old (declaration_tree declaration.now))) }
-    ensures scope { OnOk result (scope.new ≡ local_scope scope.old (declaration_tree declaration.now)) }
-{
-    match declaration {
-        Declaration::Object(object) => {
-            let fault = local_object_fault(scope, object);
-            declare_local_object(scope, object)?;
-            Ok(fault)
-        }
-        Declaration::Task(_) => Ok(None),
-        Declaration::Protected(_) => Ok(None),
-    }
-}
-
-/// Checks the declarations of a subprogram, an entry or a block in order, and makes their names visible: each from its end on. Gives the least fault in
-/// them. Memory is the only refusal, and may leave some of the names visible.
-pub fn declare_locals(
-    scope: &mut Scope,
-    declarations: &[Declaration],
-) -> Result<Option<Fault>, AllocError>
-    ensures fault { IfOk result (λ f. f ≡ least (locals_faults scope.old (map declaration_tree declarations.now))) }
-    ensures scope { OnOk result (scope.new ≡ locals_scope scope.old (map declaration_tree declarations.now)) }
-{
-    let mut fault = None;
-    for declaration in declarations {
-        let found = local(scope, declaration)?;
-        fault = sooner(fault, found);
-    }
-    Ok(fault)
-}
-
-// Checks a declaration of a task body, and makes its name visible.
-fn fixed_local(scope: &mut Scope, declaration: &Declaration) -> Result<Option<Fault>, AllocError>
-    ensures fault { IfOk result (λ f. f ≡ least (fixed_local_faults scope.old (declaration_tree declaration.now))) }
-    ensures scope { OnOk result (scope.new ≡ local_scope scope.old (declaration_tree declaration.now)) }
-{
-    match declaration {
-        Declaration::Object(object) => {
-            let fault = fixed_object_fault(scope, object);
-            declare_local_object(scope, object)?;
-            Ok(fault)
-        }
-        Declaration::Task(_) => Ok(None),
-        Declaration::Protected(_) => Ok(None),
-    }
-}
-
-/// The same for the declarations of a task body, whose initial values are static.
-pub fn declare_task_locals(
-    scope: &mut Scope,
-    declarations: &[Declaration],
-) -> Result<Option<Fault>, AllocError>
-    ensures fault { IfOk result (λ f. f ≡ least (fixed_locals_faults scope.old (map declaration_tree declarations.now))) }
-    ensures scope { OnOk result (scope.new ≡ locals_scope scope.old (map declaration_tree declarations.now)) }
-{
-    let mut fault = None;
-    for declaration in declarations {
-        let found = fixed_local(scope, declaration)?;
-        fault = sooner(fault, found);
-    }
-    Ok(fault)
 }

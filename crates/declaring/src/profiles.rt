@@ -4,7 +4,7 @@ ghost use Rattle.ada_tree.specs.StatementTree.{subprogram_tree};
 ghost use Rattle.types.specs.Entities.{entity_value, form_value, profile_value};
 ghost use Rattle.expr_rules.specs.Faults.{least};
 ghost use Rattle.declaring.specs.SubtypeNames.{is_composite, is_composite_form};
-ghost use Rattle.declaring.specs.ProfileRules.{formal_faults, formal_parameters, formals_faults, function_faults, given_profile, has_wrong_formal, is_formal_in, is_in, is_wrong_formal, profile_entity, profile_with, result_faults, subprogram_faults, subprogram_scope};
+ghost use Rattle.declaring.specs.ProfileRules.{formal_faults, formal_parameters, formals_faults, function_faults, given_profile, has_wrong_formal, is_formal_in, is_in, is_wrong_formal, profile_entity, profile_faults, profile_with, result_faults, subprogram_faults, subprogram_scope};
 
 use crate::names::{declare, declared_twice, subtype_fault, subtype_of};
 use ada_tree::{Formal, Identifier, Mode, Subprogram};
@@ -119,23 +119,31 @@ fn function_fault(
     }
 }
 
-/// The least fault of the declaration of a procedure or function, its body aside.
+/// The least fault of the formals and the result of a procedure or function.
 #[tactic(auto, using(crate::proofs::Joined::least_append))]
-pub fn subprogram_fault(scope: &Scope, subprogram: &Subprogram) -> Option<Fault>
-    ensures { result ≡ least (subprogram_faults scope.now (subprogram_tree subprogram.now)) }
+pub fn profile_fault(scope: &Scope, subprogram: &Subprogram) -> Option<Fault>
+    ensures { result ≡ least (profile_faults scope.now (subprogram_tree subprogram.now)) }
 {
     let given = subprogram.result.as_ref();
     let formals = formals_fault(scope, &subprogram.formals);
     let named = sooner(formals, result_fault(scope, given));
     let function = function_fault(scope, &subprogram.name, &subprogram.formals, given);
+    sooner(named, function)
+}
+
+/// The least fault of the declaration of a procedure or function, its body aside.
+#[tactic(auto, using(crate::proofs::Joined::least_append))]
+pub fn subprogram_fault(scope: &Scope, subprogram: &Subprogram) -> Option<Fault>
+    ensures { result ≡ least (subprogram_faults scope.now (subprogram_tree subprogram.now)) }
+{
     sooner(
-        sooner(named, function),
+        profile_fault(scope, subprogram),
         declared_twice(scope, &subprogram.name),
     )
 }
 
-// The formal parameters, where the subtype of each is known.
-fn formal_parameters(
+/// The formal parameters, where the subtype of each is known.
+pub(crate) fn formal_parameters(
     alloc: Global,
     scope: &Scope,
     formals: &[Formal],
@@ -155,7 +163,8 @@ fn formal_parameters(
     Ok(Some(all))
 }
 
-fn profile_with(
+/// The profile with these formals and this result, where both are known.
+pub(crate) fn profile_with(
     scope: &Scope,
     formals: Option<Vec<FormalParameter>>,
     given: Option<&Identifier>,

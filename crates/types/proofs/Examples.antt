@@ -12,8 +12,8 @@ use Rattle.types.specs.declared.entity.Value.TheVariants as scalar
 use Rattle.types.specs.declared.standing.Standing.TheVariants as standing
 use Rattle.types.specs.declared.statics.StaticForm.TheVariants as form
 use Rattle.types.specs.declared.standing.Standing.{Standing}
-use Rattle.types.specs.Entities.{Profile, Integers, Arrays, Records, OfType, OfSubtype, Object, Constant, Subprogram, Protected}
-use Rattle.types.specs.Scopes.{Scope, Named, standard, with_name, with_real_time, with_control_io, number_of, integer, boolean, base_range_of, least_number, protected_at, with_barrier}
+use Rattle.types.specs.Entities.{Profile, Operation, Integers, Arrays, Records, OfType, OfSubtype, Object, Constant, Subprogram, Protected}
+use Rattle.types.specs.Scopes.{Scope, Named, standard, with_name, with_real_time, with_control_io, number_of, integer, boolean, base_range_of, least_number, operations_or, protected_at, with_barrier, with_operations}
 use Rattle.types.specs.Standings.{standing_of}
 use Rattle.types.specs.Values.{Value, Number, Truth, Array, Record, NoValues, MoreValues, NoFields, MoreFields, fits}
 use Rattle.types.specs.Shapes.{shape_of, initial, value_words, value_back, has_shape}
@@ -476,3 +476,20 @@ barrier_known = refl
 
 no_barrier_of_a_type : with_barrier package_scope 17 (barriers.Always true) ≡ package_scope
 no_barrier_of_a_type = refl
+
+-- ---- in its own body P has no operations behind its name, and outside all of them
+
+abbrev operations_in : Scope → List Operation
+operations_in s = operations_or (protected_at s 27) []
+
+none_inside : operations_in (with_operations package_scope 27 []) ≡ []
+none_inside = refl
+
+not_found_inside : standing_of (with_operations package_scope 27 []) (identifier (codes "P")) (selectors_of (dot (codes "GET") ∷ [])) ≡ standing.Doubtful
+not_found_inside = refl
+
+all_of_them_outside : with_operations (with_operations package_scope 27 []) 27 (operations_in package_scope) ≡ package_scope
+all_of_them_outside = refl
+
+no_operations_of_a_type : with_operations package_scope 17 (operations_in package_scope) ≡ package_scope
+no_operations_of_a_type = refl

@@ -6,7 +6,7 @@ use Rattle.types.specs.declared.entity.Subtype.{Subtype}
 use Rattle.types.specs.declared.entity.PredefinedOperation.{PredefinedOperation}
 use Rattle.types.specs.declared.entity.PredefinedOperation.TheVariants as predefined
 use Rattle.types.specs.declared.scope.Declared.{Declared}
-use Rattle.types.specs.Entities.{entity_value, TypeForm, Integers, Booleans, Times, Spans, Profile, ProtectedObject, Entity, OfType, OfSubtype, Literal, Exception, Subprogram, Entry, Predefined, Put, Protected}
+use Rattle.types.specs.Entities.{entity_value, TypeForm, Integers, Booleans, Times, Spans, Profile, Operation, ProtectedObject, Entity, OfType, OfSubtype, Literal, Exception, Subprogram, Entry, Predefined, Put, Protected}
 
 pub record Named : Type 0 where
   pub name : List ℕ
@@ -34,16 +34,29 @@ is_visible s name = is_some (number_of s name)
 abbrev pub with_name : Scope → List ℕ → Entity → Scope
 with_name s name e = if is_visible s name then s else s ++ record { name = name; entity = e } ∷ []
 
+-- the scope with what the name with this number stands for changed
+abbrev pub changed_at : Scope → ℕ → (Entity → Entity) → Scope
+changed_at [] number change = []
+changed_at (n ∷ rest) zero change = record { name = n.name; entity = change n.entity } ∷ rest
+changed_at (n ∷ rest) (suc number) change = n ∷ changed_at rest number change
+
 -- a protected object whose entry has this barrier; nothing else has one (RM 9.5.2)
-abbrev pub barred : Entity → Barrier → Entity
-barred (Protected p) barrier = Protected (record p { barrier = Some barrier })
-barred e barrier = e
+abbrev pub barred : Barrier → Entity → Entity
+barred barrier (Protected p) = Protected (record p { barrier = Some barrier })
+barred barrier e = e
 
 -- the scope once the body of an entry, and so its barrier, is known
 abbrev pub with_barrier : Scope → ℕ → Barrier → Scope
-with_barrier [] number barrier = []
-with_barrier (n ∷ rest) zero barrier = record { name = n.name; entity = barred n.entity barrier } ∷ rest
-with_barrier (n ∷ rest) (suc number) barrier = n ∷ with_barrier rest number barrier
+with_barrier s number barrier = changed_at s number (barred barrier)
+
+-- a protected object with these operations behind its name; nothing else has any (RM 9.4)
+abbrev pub offering : List Operation → Entity → Entity
+offering operations (Protected p) = Protected (record p { operations = operations })
+offering operations e = e
+
+-- in its own body a protected object has no operations behind its name
+abbrev pub with_operations : Scope → ℕ → List Operation → Scope
+with_operations s number operations = changed_at s number (offering operations)
 
 -- the form of the type with this number, if it is one
 abbrev pub form_of : Option Entity → Option TypeForm
@@ -70,6 +83,11 @@ protected_of e = None
 
 abbrev pub protected_at : Scope → ℕ → Option ProtectedObject
 protected_at s n = protected_of (entity_at s n)
+
+-- the operations of this protected object; of anything else the others
+abbrev pub operations_or : Option ProtectedObject → List Operation → List Operation
+operations_or (Some p) others = p.operations
+operations_or None others = others
 
 -- ---- what is visible before any declaration
 

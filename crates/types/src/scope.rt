@@ -1,18 +1,19 @@
 //! Scopes: the visible names and what they stand for (RM 8.3).
-ghost use Rattle.std.specs.Prelude.{◌≡◌, ◌+◌, ◌*◌, ◌<◌, ◌^◌, [], length, take, option_map, OnOk, OnErr, IfOk};
-ghost use Rattle.types.specs.Entities.{entity_value, form_value, profile_value, protected_value};
+ghost use Rattle.std.specs.Prelude.{◌≡◌, ◌+◌, ◌*◌, ◌<◌, ◌^◌, [], length, map, take, option_map, Some, OnOk, OnErr, IfOk};
+ghost use Rattle.types.specs.Entities.{entity_value, form_value, operation_value, profile_value, protected_value};
 ghost use Rattle.types.specs.Layouts.{capped, component_offset, words_of};
 ghost use Rattle.types.specs.Kept.{components_words, entity_words};
-ghost use Rattle.types.specs.Scopes.{barred, entity_at, form_at, is_visible, number_of, profile_at, protected_at, with_barrier, with_name};
+ghost use Rattle.types.specs.Scopes.{barred, entity_at, form_at, is_visible, number_of, offering, operations_or, profile_at, protected_at, protected_of, with_barrier, with_name, with_operations};
 
 use crate::entity::{
-    Barrier, Entity, Profile, ProtectedObject, RecordComponent, Subtype, TypeForm,
+    Barrier, Entity, Operation, Profile, ProtectedObject, RecordComponent, Subtype, TypeForm,
 };
 use base::limits::WORDS;
 use indexmap::IndexMap;
 use lexer::Text;
 use std::alloc::{AllocError, Global};
 use std::marker::Model;
+use std::mem;
 
 /// One more word than a program may have.
 pub const MORE_WORDS: u16 = WORDS as u16 + 1;
@@ -26,11 +27,22 @@ struct Declared {
 
 impl Declared {
     fn set_barrier(&mut self, barrier: Barrier)
-        ensures entity { entity_value self.new.entity ≡ barred (entity_value self.old.entity) barrier }
+        ensures entity { entity_value self.new.entity ≡ barred barrier (entity_value self.old.entity) }
         ensures words { self.new.words ≡ self.old.words }
     {
         if let Entity::Protected(object) = &mut self.entity {
             object.barrier = Some(barrier);
+        }
+    }
+
+    fn replace_operations(&mut self, operations: Vec<Operation>) -> Vec<Operation>
+        ensures entity { entity_value self.new.entity ≡ offering (map operation_value operations.items) (entity_value self.old.entity) }
+        ensures words { self.new.words ≡ self.old.words }
+        ensures back { map operation_value result.items ≡ operations_or (protected_of (Some (entity_value self.old.entity))) (map operation_value operations.items) }
+    {
+        match &mut self.entity {
+            Entity::Protected(object) => mem::replace(&mut object.operations, operations),
+            _ => operations,
         }
     }
 }
@@ -213,6 +225,18 @@ impl Scope {
     {
         if let Some(declared) = self.names.get_index_mut(number) {
             declared.set_barrier(barrier);
+        }
+    }
+
+    /// Gives the protected object with this number these operations, and gives its own back: in its own body it has none behind its name (RM 9.4).
+    /// Where the number is none of a protected object, nothing changes and the given ones come back.
+    pub fn replace_operations(&mut self, number: usize, operations: Vec<Operation>) -> Vec<Operation>
+        ensures scope { self.new ≡ with_operations self.old number (map operation_value operations.items) }
+        ensures back { map operation_value result.items ≡ operations_or (protected_at self.old number) (map operation_value operations.items) }
+    {
+        match self.names.get_index_mut(number) {
+            Some(declared) => declared.replace_operations(operations),
+            None => operations,
         }
     }
 

@@ -1,8 +1,8 @@
 use Rattle.std.proofs.Common.{◌≡◌, drop, map}
 use Rattle.ada_tree.specs.StatementTree.{declaration_tree}
 use Rattle.expr_rules.specs.Faults.{least, sooner}
-use Rattle.declaring.specs.ObjectRules.{locals_faults, locals_scope}
-use Rattle.declaring.proofs.objects.declare_locals.Given as goal
+use Rattle.declaring.specs.LocalRules.{locals_faults, locals_scope}
+use Rattle.declaring.proofs.locals.declare_locals.Given as goal
 
 abbrev pub invariant-loop-declaration : goal.invariant-loop-declaration
 invariant-loop-declaration l =

@@ -1,5 +1,5 @@
 use Rattle.declaring.proofs.Turns.{locals_turn, scope_turn}
-use Rattle.declaring.proofs.objects.declare_locals.Goals as goal
+use Rattle.declaring.proofs.locals.declare_locals.Goals as goal
 
 pub loop-declaration-preserved : goal.loop-declaration-preserved
 loop-declaration-preserved c =
