@@ -230,7 +230,11 @@ impl Scope {
 
     /// Gives the protected object with this number these operations, and gives its own back: in its own body it has none behind its name (RM 9.4).
     /// Where the number is none of a protected object, nothing changes and the given ones come back.
-    pub fn replace_operations(&mut self, number: usize, operations: Vec<Operation>) -> Vec<Operation>
+    pub fn replace_operations(
+        &mut self,
+        number: usize,
+        operations: Vec<Operation>,
+    ) -> Vec<Operation>
         ensures scope { self.new ≡ with_operations self.old number (map operation_value operations.items) }
         ensures back { map operation_value result.items ≡ operations_or (protected_at self.old number) (map operation_value operations.items) }
     {
