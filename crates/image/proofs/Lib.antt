@@ -3,6 +3,7 @@ mod Broken
 mod Examples
 mod Exclusion
 mod Holder
+mod LeadingOn
 mod Links
 mod ObjectExamples
 mod Placed

@@ -225,7 +225,7 @@ effect_known i s (ProtectedCall a) e = ap (λ o. some_and o (λ c. true)) (some_
 effect_known i s (EntryCall o) e = e
 effect_known i s _ e = refl
 
-last_end-next : (x y : Subprogram) (subprograms : List Subprogram) → last_end (x ∷ y ∷ subprograms) ≡ last_end (y ∷ subprograms)
+pub last_end-next : (x y : Subprogram) (subprograms : List Subprogram) → last_end (x ∷ y ∷ subprograms) ≡ last_end (y ∷ subprograms)
 last_end-next x y subprograms =
     let e : length (x ∷ y ∷ subprograms) - 1 ≡ suc (length (y ∷ subprograms) - 1) = omega arith in
     ap (λ k. end_of (slice_get (x ∷ y ∷ subprograms) k)) e
@@ -252,10 +252,10 @@ module _ (i : Sections) (w : IsWellFormed i) where
   ends : has_ends i ≡ true
   ends = (both (has_ends i) _ (both (has_counts i) _ w.tables).1).0
 
-  rising : all_begun rises 0 i.subprograms ≡ true
+  pub rising : all_begun rises 0 i.subprograms ≡ true
   rising = (both (all_begun rises 0 i.subprograms) _ ends).0
 
-  last_is : last_end i.subprograms ≡ length i.instructions
+  pub last_is : last_end i.subprograms ≡ length i.instructions
   last_is = eqb-same _ _ (both (all_begun rises 0 i.subprograms) _ ends).1
 
   pub jumps : (all_placed (jumps_within i) 0 i.instructions && (list_all (is_closed i) i.subprograms && list_all (is_row_within i) i.rows)) ≡ true

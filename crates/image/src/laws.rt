@@ -1,5 +1,5 @@
 //! The laws of images and their runs: each is what a function without work ensures.
-ghost use Rattle.image.specs.Laws.{BeginsSound, FitsAlways, FourInEveryWorld, FramesHaveRoom, KernelKept, LinesGrowOn, LinkedInEveryWorld, OutcomeStays, SoundToday, StepsSound};
+ghost use Rattle.image.specs.Laws.{BeginsSound, CodeLeadsOn, EachIsHeld, FitsAlways, FoundByEnds, FourInEveryWorld, FramesHaveRoom, ImagesHaveSize, KernelKept, LinesGrowOn, LinkedInEveryWorld, OutcomeStays, SoundToday, StepsSound};
 
 use crate::Image;
 use kernel::laws::{
@@ -22,6 +22,15 @@ pub fn steps_sound()
 /// Where a frame stands at an instruction, its operands are there, no depth passes what its subprogram declares, and its words fit a frame.
 pub fn frames_have_room()
     ensures { FramesHaveRoom }
+{}
+
+/// In a well-formed image what an instruction names is there, what may follow it is there, and its words are within a frame; each
+/// instruction is of a subprogram, which is found by its ends; and the counts of instructions, objects and words are within their limits.
+pub fn code_leads_on()
+    ensures leads_on { CodeLeadsOn }
+    ensures held { EachIsHeld }
+    ensures found { FoundByEnds }
+    ensures size { ImagesHaveSize }
 {}
 
 /// In every world that a run of an image reaches which the machine runs today, the frames of each task have their shape.

@@ -1,0 +1,11 @@
+pub mod DecodedSoFar
+pub mod Lawful
+pub mod Meets
+pub mod PartPlaces
+pub mod Parts
+pub mod Reaching
+pub mod Rows
+pub mod SafeCode
+pub mod Stopping
+pub mod TurnMeets
+pub mod Turns
