@@ -14,6 +14,7 @@ mod LoadedImage
 mod LoadingExamples
 mod NoFaults
 mod Opcodes
+mod OrderExamples
 mod ReadBack
 mod ReadLoop
 mod Rules
