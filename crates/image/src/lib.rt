@@ -6,7 +6,6 @@ mod draft;
 mod fault;
 mod instruction;
 mod instruction_rules;
-pub mod laws;
 mod objects;
 mod operation_rules;
 mod sections;

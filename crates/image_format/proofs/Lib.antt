@@ -17,7 +17,6 @@ mod Opcodes
 mod OrderExamples
 mod ReadBack
 mod ReadLoop
-mod Rules
 mod Spelled
 mod SpelledImage
 mod SpelledRows
