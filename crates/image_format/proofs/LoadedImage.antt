@@ -6,7 +6,7 @@ use Rattle.std.proofs.lemmas.Bool.{cases_lt, true≢false}
 use Rattle.std.proofs.lemmas.List.{get_or_past}
 use Rattle.std.proofs.lemmas.List.Elements.{All-get_or}
 use Rattle.image_format.specs.Decoding.{sections_of}
-use Rattle.image_format.specs.FaultOrder.{Faults, first_of}
+use Rattle.image_format.specs.FaultOrder.{Faults, first_of, order_of}
 use Rattle.image_format.specs.Loaded.{BytesComeBack, IsLoaded, IsRead, IsRefused}
 use Rattle.image_format.specs.Loading.{all_crossing_faults, faults_as, header_faults, read_faults, sections_faults, unless_faulty}
 use Rattle.image_format.specs.Reading.{Raw, read_image}
@@ -16,12 +16,12 @@ use Rattle.image.specs.Sections.{Sections}
 use Rattle.image.specs.declared.fault.ImageFault.{ImageFault}
 use Rattle.image_format.specs.Bytes.{bytes_of}
 use Rattle.image_format.proofs.AcceptedCode.{accepted}
-use Rattle.image_format.proofs.FirstFault.{none_first}
+use Rattle.base.specs.FirstLaws.{none_first}
 use Rattle.image_format.proofs.Spelled.{IsBytes}
 use Rattle.image_format.proofs.SpelledWhole.{spelled}
 
 pub faultless : (raw : Raw) (parts : Sections) (fault : Option ImageFault) → parts ≡ sections_of raw → fault ≡ first_of (faults_as raw parts ++ all_crossing_faults raw) → fault ≡ None → sections_faults raw ≡ []
-faultless raw parts fault same is none = none_first (sections_faults raw) (sym none ∙ (is ∙ ap (λ i. first_of (faults_as raw i ++ all_crossing_faults raw)) same))
+faultless raw parts fault same is none = none_first order_of (sections_faults raw) (sym none ∙ (is ∙ ap (λ i. first_of (faults_as raw i ++ all_crossing_faults raw)) same))
 
 pub loaded : {E : Type 0} (bytes : List ℕ) (raw : Raw) (parts : Sections) (r : Result Sections E) → IsRead bytes raw → parts ≡ sections_of raw → sections_faults raw ≡ [] → IfOk r (λ image. image ≡ parts) → IfOk r (λ image. IsLoaded bytes image)
 loaded bytes raw parts (Err e) is same none h = tt
