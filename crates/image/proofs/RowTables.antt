@@ -1,5 +1,5 @@
 -- The handler rows of a well-formed image are those of a sound table.
-use Rattle.std.proofs.Common.{◌≡◌, ℕ, suc, ◌+◌, ◌-◌, List, [], ◌∷◌, length, Bool, true, cond, not, ◌&&◌, Option, Some, None, nat_le, nat_lt, refl, sym, ap, ◌∙◌}
+use Rattle.std.proofs.Common.{◌≡◌, ℕ, suc, ◌+◌, ◌-◌, List, [], ◌∷◌, length, Bool, true, cond, not, ◌&&◌, Option, Some, None, nat_lt, refl, sym, ap, ◌∙◌}
 use Rattle.std.proofs.lemmas.Bool.{and_parts}
 use Rattle.std.specs.List.{list_all, position_or_len}
 use Rattle.handlers.specs.declared.rows.Row.{Row}
@@ -7,9 +7,8 @@ use Rattle.handlers.specs.Handlers.{are_same, are_within_one, is_within_one, sub
 use Rattle.handlers.specs.Nesting as nesting
 use Rattle.handlers.specs.Nesting.{are_sound}
 use Rattle.image.specs.Sections.{Sections, ends_of, holder_number}
-use Rattle.image.specs.Rules.{IsWellFormed, all_nested, all_placed, begins_with, covers_places, has_counts, has_ends, is_closed, is_object, is_row_within, is_subprogram, is_task, jumps_within, same_number}
-use Rattle.base.specs.Names.{is_label, is_name, predefined}
-use Rattle.image.specs.RuleLaws.{either}
+use Rattle.image.specs.Rules.{IsWellFormed, all_nested, covers_places, is_row_within, same_number}
+use Rattle.image.specs.RuleFacts.{facts}
 use Rattle.image.specs.Faults.{memory_fault}
 use Rattle.image.specs.declared.fault.ImageFault.{ImageFault}
 use Rattle.handlers.specs.declared.rows.TableFault.{TableFault}
@@ -49,26 +48,10 @@ all_by_both p q test is (x ∷ xs) all more =
     ap (λ v. v && list_all test xs) here ∙ all_by_both p q test is xs a.1 b.1
 
 pub rows_within_one : (i : Sections) → IsWellFormed i → are_within_one (ends_of i.subprograms) i.rows ≡ true
-rows_within_one i w =
-    let covered = and_parts (list_all covers_places i.rows) _ w.jumps in
-    let ends = and_parts (has_ends i) _ (and_parts (has_counts i) _ w.tables).1 in
-    let jumps = and_parts (all_placed (jumps_within i) 0 i.instructions) _ (either (has_ends i) _ covered.1 ends.0) in
-    all_by_both covers_places (is_row_within i) (is_within_one (ends_of i.subprograms)) (within_one i) i.rows covered.0 (and_parts (list_all (is_closed i) i.subprograms) _ jumps.1).1
-
-nested : (i : Sections) → IsWellFormed i → all_nested i.rows ≡ true
-nested i w =
-    let a = and_parts (has_counts i) _ w.tables in
-    let b = and_parts (has_ends i) _ a.1 in
-    let c = and_parts (all_placed (is_subprogram i) 0 i.subprograms) _ b.1 in
-    let d = and_parts (all_placed (is_object i) 0 i.objects) _ c.1 in
-    let e = and_parts (list_all (is_task i) i.tasks) _ d.1 in
-    let f = and_parts (begins_with predefined i.exceptions) _ e.1 in
-    let g = and_parts (list_all is_name i.exceptions) _ f.1 in
-    let h = and_parts (list_all is_label i.labels) _ g.1 in
-    (and_parts (list_all (λ r. nat_le r.exception (length i.exceptions)) i.rows) _ h.1).1
+rows_within_one i w = let f = facts i w in all_by_both covers_places (is_row_within i) (is_within_one (ends_of i.subprograms)) (within_one i) i.rows f.covers f.rows
 
 pub rows_sound : (i : Sections) → IsWellFormed i → are_sound (ends_of i.subprograms) i.rows ≡ true
-rows_sound i w = ap (λ b. b && all_nested i.rows) (rows_within_one i w) ∙ nested i w
+rows_sound i w = ap (λ b. b && all_nested i.rows) (rows_within_one i w) ∙ (facts i w).nested
 
 -- so no table of its rows is refused but for want of memory
 pub refused_for_memory : (f : ImageFault) (t : TableFault) → f ≡ record { number = t.number; byte = 0 } → t ≡ nesting.memory_fault → f ≡ memory_fault

@@ -4,6 +4,7 @@ pub mod Frames
 pub mod ObjectTable
 pub mod Operations
 pub mod Refusals
+pub mod RuleFacts
 pub mod RuleLaws
 pub mod Rules
 pub mod Scalars

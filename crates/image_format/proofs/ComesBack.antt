@@ -25,7 +25,8 @@ use Rattle.image_format.specs.declared.raw_sections.RawSubprogram.{RawSubprogram
 use Rattle.image_format.specs.declared.reading.Counts.{Counts}
 use Rattle.image_format.proofs.AcceptedSections.{label_short, name_short, same_text}
 use Rattle.image_format.proofs.DecodedBack as decoded
-use Rattle.image_format.proofs.NoFaults.{Facts, counted, crossings_none, exceptions_none, facts, labels_none, none_in, none_of, none_three, none_two, objects_none, operands_none, places_none, rows_none, small_entry, subprograms_none, tasks_none, unbroken, unbroken_where}
+use Rattle.image.specs.RuleFacts.{Facts, facts}
+use Rattle.image_format.proofs.NoFaults.{counted, crossings_none, exceptions_none, labels_none, none_in, none_of, none_three, none_two, objects_none, operands_none, places_none, rows_none, small_entry, subprograms_none, tasks_none, unbroken, unbroken_where}
 use Rattle.image_format.proofs.ReadBack.{ObjectFitsWhole, bytes_back, half_is, instruction_back, many_back, map_itself, object_back, raw_instruction, raw_object, raw_subprogram, raw_task, row_back, subprogram_back, task_back, text_back, word_back}
 use Rattle.std.proofs.lemmas.Bool.{and_parts}
 use Rattle.image.specs.RuleLaws.{list_all-at}

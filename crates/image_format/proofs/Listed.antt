@@ -5,8 +5,9 @@ use Rattle.std.proofs.lemmas.Str.Ascii.{IsAscii-cons, IsAscii-nil}
 use Rattle.std.specs.List.{list_all}
 use Rattle.std.specs.Prelude.{nat_eq, nat_le}
 use Rattle.std.specs.Str.{IsAscii}
-use Rattle.base.specs.Names.{is_digit, is_identifier, is_label, is_letter, is_name, is_rest, predefined}
-use Rattle.image.specs.Rules.{IsWellFormed, all_placed, begins_with, has_counts, has_ends, is_object, is_subprogram, is_task}
+use Rattle.base.specs.Names.{is_digit, is_identifier, is_label, is_letter, is_name, is_rest}
+use Rattle.image.specs.RuleFacts.{facts}
+use Rattle.image.specs.Rules.{IsWellFormed, is_task}
 use Rattle.image.specs.Sections.{Sections}
 use Rattle.image.specs.declared.tasks.Task.{Task}
 use Rattle.std.proofs.lemmas.Bool.{and_parts}
@@ -59,12 +60,4 @@ named_tasks i (t ∷ tasks) all =
     ap (λ b. b && list_all (λ t. is_name t.name) tasks) (and_parts (is_name t.name) _ a.0).0 ∙ named_tasks i tasks a.1
 
 pub texts_right : (i : Sections) → IsWellFormed i → HasTexts i
-texts_right i w =
-    let a = and_parts (has_counts i) _ w.tables in
-    let b = and_parts (has_ends i) _ a.1 in
-    let c = and_parts (all_placed (is_subprogram i) 0 i.subprograms) _ b.1 in
-    let d = and_parts (all_placed (is_object i) 0 i.objects) _ c.1 in
-    let e = and_parts (list_all (is_task i) i.tasks) _ d.1 in
-    let f = and_parts (begins_with predefined i.exceptions) _ e.1 in
-    let g = and_parts (list_all is_name i.exceptions) _ f.1 in
-    record { exceptions = g.0; labels = (and_parts (list_all is_label i.labels) _ g.1).0; tasks = named_tasks i i.tasks e.0 }
+texts_right i w = let f = facts i w in record { exceptions = f.names; labels = f.labels; tasks = named_tasks i i.tasks f.tasks }

@@ -5,7 +5,8 @@ use Rattle.std.proofs.lemmas.List.{at_drop_more, append_assoc}
 use Rattle.std.proofs.lemmas.Bool.{leb-true}
 use Rattle.std.specs.Prelude.{nat_le, sum_by}
 use Rattle.image.specs.Sections.{Sections}
-use Rattle.image.specs.Rules.{IsWellFormed, has_counts, is_within}
+use Rattle.image.specs.RuleFacts.{facts}
+use Rattle.image.specs.Rules.{IsWellFormed, is_within}
 use Rattle.base.specs.declared.limits.TheConstants.{EXCEPTIONS, INSTRUCTIONS, LABELS, OBJECTS, ROWS, SUBPROGRAMS, TASKS, WORDS}
 use Rattle.std.proofs.lemmas.Bool.{and_parts}
 
@@ -32,7 +33,7 @@ upper least n most e = leb-true n most (and_parts (nat_le least n) _ e).1
 
 pub counts_fit : (i : Sections) → IsWellFormed i → Fits i
 counts_fit i w =
-    let a = and_parts (is_within 1 (length i.instructions) INSTRUCTIONS) _ (and_parts (has_counts i) _ w.tables).0 in
+    let a = and_parts (is_within 1 (length i.instructions) INSTRUCTIONS) _ (facts i w).counts in
     let b = and_parts (is_within 1 (length i.subprograms) SUBPROGRAMS) _ a.1 in
     let c = and_parts (is_within 1 (length i.tasks) TASKS) _ b.1 in
     let d = and_parts (is_within 4 (length i.exceptions) EXCEPTIONS) _ c.1 in

@@ -1,5 +1,5 @@
 -- What the rules of well-formed images say at a place, at a number, at a row.
-use Rattle.std.proofs.Common.{◌≡◌, ℕ, zero, suc, ◌+◌, ◌-◌, ◌<◌, ◌≤◌, List, [], ◌∷◌, length, Bool, true, false, cond, not, ◌&&◌, ◌||◌, Option, Some, None, refl, sym, ap, ◌∙◌, subst, arith, ⊎_elim}
+use Rattle.std.proofs.Common.{◌≡◌, ℕ, zero, suc, ◌+◌, ◌-◌, ◌<◌, ◌≤◌, List, [], ◌∷◌, length, Bool, true, false, cond, not, ◌&&◌, Option, Some, None, refl, sym, ap, ◌∙◌, subst, arith, ⊎_elim}
 use Rattle.std.proofs.lemmas.Bool.{and_parts, eqb-true, true≢false, ltb-true, leb-true}
 use Rattle.std.proofs.lemmas.Bool.Decides.{leb_tells, eqb_tells}
 use Rattle.std.proofs.lemmas.Option.{none-some, same_Some, cond_some}
@@ -9,10 +9,11 @@ use Rattle.std.specs.List.{list_all, position_or_len}
 use Rattle.handlers.specs.declared.rows.Row.{Row}
 use Rattle.handlers.specs.Innermost.{covers, handles, inner_of, width, innermost, target_of, handler_of}
 use Rattle.image.specs.Sections.{Sections, holder, holder_number, end_of, first_place}
-use Rattle.base.specs.Names.{is_label, is_name, predefined}
+use Rattle.base.specs.Names.{is_name}
 use Rattle.image.specs.ObjectTable.{ObjectRow}
 use Rattle.image.specs.Operations.{called, entry_of, given_by, goes_on, jump_target, taken_by}
-use Rattle.image.specs.Rules.{IsWellFormed, all_begun, all_nested, all_placed, begins_with, covers_places, has_effect, has_ends, where_ends, some_and, none_or, same_number, is_closed, keeps_depth, has_depth, is_return, jumps_within, is_row_within, is_subprogram, is_task, is_object, has_body, has_counts, has_entry, has_object, in_holder, is_entry_body_of, is_within, is_task_body, last_end, names_things}
+use Rattle.image.specs.Rules.{IsWellFormed, all_begun, all_placed, covers_places, has_effect, has_ends, some_and, none_or, same_number, is_closed, keeps_depth, has_depth, is_return, jumps_within, is_row_within, is_subprogram, is_task, is_object, has_body, in_holder, is_entry_body_of, is_within, is_task_body, last_end, names_things}
+use Rattle.image.specs.RuleFacts.{facts}
 use Rattle.image.specs.RuleLaws.{all_begun-at, begin_of, begin_of-next, either, holder_here, holder_later, list_all-at, none_or-at, placed-at, rises, slice_get_inside, some_and-at, some_and-true}
 use Rattle.image.specs.declared.instruction.Instr.{Instr}
 use Rattle.image.specs.declared.instruction.Operation.{Operation}
@@ -183,7 +184,7 @@ ends_within (x ∷ y ∷ subprograms) first (suc n) s all is =
 module _ (i : Sections) (w : IsWellFormed i) where
   -- the ends are in order, so that every test of places is asked
   ends : has_ends i ≡ true
-  ends = (and_parts (has_ends i) _ (and_parts (has_counts i) _ w.tables).1).0
+  ends = (facts i w).ends
 
   rising : all_begun rises 0 i.subprograms ≡ true
   rising = (and_parts (all_begun rises 0 i.subprograms) _ ends).0
@@ -195,8 +196,7 @@ module _ (i : Sections) (w : IsWellFormed i) where
   jumps = either (has_ends i) _ (and_parts (list_all covers_places i.rows) _ w.jumps).1 ends
 
   pub all_named : all_placed (λ place x. in_holder i place (λ s. names_things i s x.operation)) 0 i.instructions ≡ true
-  all_named =
-      either (has_ends i) _ (and_parts (where_ends i (all_placed (λ place x. in_holder i place (λ s. names_things i s x.operation)) 0 i.instructions)) _ w.named).0 ends
+  all_named = (facts i w).named
 
   pub all_depths : (all_placed (λ place x. in_holder i place (keeps_depth i place x)) 0 i.instructions && (all_begun (λ first s. has_depth i first 0) 0 i.subprograms && list_all (λ r. has_depth i r.target 1) i.rows)) ≡ true
   all_depths = either (has_ends i) _ w.depths ends
@@ -250,28 +250,21 @@ module _ (i : Sections) (w : IsWellFormed i) where
   first_place-is zero = refl
   first_place-is (suc n) = refl
 
-  tables : (all_placed (is_subprogram i) 0 i.subprograms && (all_placed (is_object i) 0 i.objects && (list_all (is_task i) i.tasks && (begins_with predefined i.exceptions && (list_all is_name i.exceptions && (list_all is_label i.labels && (list_all (λ r. nat_le r.exception (length i.exceptions)) i.rows && all_nested i.rows))))))) ≡ true
-  tables = (and_parts (has_ends i) _ (and_parts (has_counts i) _ w.tables).1).1
-
   pub subprogram_is : (n : ℕ) (s : Subprogram) → slice_get i.subprograms n ≡ Some s → is_subprogram i n s ≡ true
-  subprogram_is n s is = placed-at (is_subprogram i) i.subprograms n s (and_parts (all_placed (is_subprogram i) 0 i.subprograms) _ tables).0 is
+  subprogram_is n s is = placed-at (is_subprogram i) i.subprograms n s (facts i w).subprograms is
 
   objects : all_placed (is_object i) 0 i.objects ≡ true
-  objects = (and_parts (all_placed (is_object i) 0 i.objects) _ (and_parts (all_placed (is_subprogram i) 0 i.subprograms) _ tables).1).0
+  objects = (facts i w).objects
 
   pub tasks : list_all (is_task i) i.tasks ≡ true
-  tasks =
-      let d = (and_parts (all_placed (is_subprogram i) 0 i.subprograms) _ tables).1 in
-      (and_parts (list_all (is_task i) i.tasks) _ (and_parts (all_placed (is_object i) 0 i.objects) _ d).1).0
+  tasks = (facts i w).tasks
 
   pub bodies : list_all (has_body i) i.tasks ≡ true
-  bodies =
-      let a = (and_parts (where_ends i (all_placed (λ place x. in_holder i place (λ s. names_things i s x.operation)) 0 i.instructions)) _ w.named).1 in
-      (and_parts (list_all (has_entry i) i.objects) _ (and_parts (list_all (has_object i) i.subprograms) _ a).1).1
+  bodies = (facts i w).have_bodies
 
   pub some_subprogram : 0 < length i.subprograms
   some_subprogram =
-      let a = (and_parts (has_counts i) _ w.tables).0 in
+      let a = (facts i w).counts in
       let b = (and_parts (is_within 1 (length i.instructions) INSTRUCTIONS) _ a).1 in
       leb-true _ _ (and_parts (nat_le 1 (length i.subprograms)) _ (and_parts (is_within 1 (length i.subprograms) SUBPROGRAMS) _ b).0).0
 
