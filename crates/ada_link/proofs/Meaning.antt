@@ -17,7 +17,7 @@ use Rattle.image.specs.Steps.{behaviour, is_open}
 use Rattle.image.specs.Steps as steps
 use Rattle.image.specs.Code as image
 use Rattle.image.specs.Code.{CodeWorld, code, start, initial_state, body_frame, body_of, priority_of, ceiling_of}
-use Rattle.image.specs.Laws.{KernelKept}
+use Rattle.image_laws.specs.Laws.{KernelKept}
 use Rattle.ada_tree.specs.ProgramTree.{ProgramTree}
 use Rattle.meaning.specs.Laws.{CountGivesMeaning}
 use Rattle.meaning.specs.Meeting.{Runner, Met, Owed, Meets}

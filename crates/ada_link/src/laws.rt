@@ -1,7 +1,7 @@
 //! Laws of linked images: what functions without work ensure.
 ghost use Rattle.ada_link.specs.Laws.{LinkedKeepsCount, LinkedMeansTheSame};
 
-use image::laws::kernel_kept;
+use image_laws::kernel_kept;
 use kernel::laws::{lines_grow, quiet_stays, reaches_callers, runner_is_calm};
 use meaning::laws::count_gives_meaning;
 

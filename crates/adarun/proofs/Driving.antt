@@ -1,5 +1,5 @@
 -- What the work over files leaves.
-use Rattle.std.proofs.Common.{◌≡◌, ℕ, List, Option, Bool, true, false, cond, inr, refl, sym, ap, subst}
+use Rattle.std.proofs.Common.{◌≡◌, ◌<◌, ℕ, List, Option, Bool, true, false, cond, inr, refl, sym, ap, subst}
 use Rattle.std.specs.Prelude.{nat_eq}
 use Rattle.base.specs.declared.faults.TheConstants.{MEMORY_REFUSED}
 use Rattle.lexer.specs.declared.fault.Fault.{Fault}
@@ -10,11 +10,11 @@ use Rattle.clock.specs.declared.schedule.ScheduleFault.{ScheduleFault}
 use Rattle.adarun.specs.Accepted.{RefusesText}
 use Rattle.adarun.specs.Headline.{Runs}
 use Rattle.adarun.specs.Stopping.{Refuses}
-use Rattle.adarun.specs.Driving.{Contents, HasRun, HasRunImage, IsRead, LeavesGo, LeavesRun, status_of}
+use Rattle.adarun.specs.Driving.{Contents, HasRun, HasRunImage, IsRead, KeepsSink, LeavesGo, LeavesRun, status_of}
 use Rattle.adarun.specs.declared.execution.GoFault.{GoFault}
 use Rattle.adarun.specs.declared.execution.GoFault.TheVariants as faults
 use Rattle.adarun.specs.declared.program.Status.{Status}
-use Rattle.adarun.specs.declared.program.Status.TheVariants.{SourceRefused, ScheduleRefused, NoMemory}
+use Rattle.adarun.specs.declared.program.Status.TheVariants.{Failed, SourceRefused, ScheduleRefused, NoMemory}
 
 module _ (contents : Contents) (source schedule : List ℕ) (limit : ℕ) (old new : Option (List ℕ)) where
   has_run : (outcome : Outcome) → HasRun contents source schedule limit (status_of outcome) old new → LeavesGo contents source schedule limit (status_of outcome) old new
@@ -92,3 +92,7 @@ module _ (contents : Contents) (name schedule : List ℕ) (limit : ℕ) (old new
   pub image_run_leaves : (status : Status) (outcome : Outcome) → status ≡ status_of outcome → HasRunImage contents name schedule limit (status_of outcome) old new
       → LeavesRun contents name schedule limit status old new
   image_run_leaves status outcome e h = subst (λ s. LeavesRun contents name schedule limit s old new) (sym e) (has_run_image outcome h)
+
+-- the status of a sink's failure
+pub failed_keeps : (status : Status) (Same : Type 0) (before after : ℕ) → status ≡ Failed → before < after → KeepsSink status Same before after
+failed_keeps status Same before after is less = subst (λ s. KeepsSink s Same before after) (sym is) (λ e. cc, (λ e. cc, (λ e. cc, (λ e. inr less, λ e. cc))))

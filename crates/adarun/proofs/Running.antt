@@ -9,7 +9,7 @@ use Rattle.kernel.specs.Text.{Names, line_text, lines_text, last_line, text}
 use Rattle.image.specs.Sections.{Sections}
 use Rattle.image.specs.Texts.{names_of}
 use Rattle.image.specs.Code.{code, code_text}
-use Rattle.image.specs.Laws.{OutcomeStays}
+use Rattle.image_laws.specs.Laws.{OutcomeStays}
 use Rattle.ada_tree.specs.ProgramTree.{ProgramTree}
 use Rattle.meaning.specs.Same.{Ends}
 use Rattle.meaning.specs.SameMeaning.{SameMeaning}

@@ -1,5 +1,5 @@
 -- What the program's work over files leaves, by what is asked for and by its exit status.
-use Rattle.std.specs.Prelude.{◌≡◌, ◌≢◌, ◌⊎◌, ℕ, List, Option, Some, None, false, ⊤}
+use Rattle.std.specs.Prelude.{◌≡◌, ◌≢◌, ◌<◌, ◌⊎◌, ℕ, List, Option, Some, None, false, ⊤}
 use Rattle.std.specs.Io.KnownBytes.{Appends}
 use Rattle.base.specs.declared.faults.TheConstants.{MEMORY_REFUSED}
 use Rattle.base.specs.declared.schedule.ScheduleLine.{ScheduleLine}
@@ -47,6 +47,14 @@ status_of (outcomes.ImageFault time) = ImageFault
 abbrev pub unread : ReadError → Status
 unread errors.Memory = NoMemory
 unread errors.Unreadable = Failed
+
+-- what becomes of a sink, by the exit status: it was given nothing where a text or a schedule was refused or memory was; where the work
+-- failed it was given nothing, or a write failed; where it is done none failed
+abbrev pub KeepsSink : Status → Type 0 → ℕ → ℕ → Type 0
+KeepsSink status Same before after =
+    (status ≡ SourceRefused → Same)
+    × ((status ≡ ScheduleRefused → Same)
+    × ((status ≡ NoMemory → Same) × ((status ≡ Failed → Same ⊎ (before < after)) × (status ≡ Done → after ≡ before))))
 
 -- both files were read, and the run of the source under the schedule had an outcome of this status
 pub record HasRun (contents : Contents) (source schedule : List ℕ) (limit : ℕ) (status : Status) (old new : Option (List ℕ)) : Type 0 where

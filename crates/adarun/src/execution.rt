@@ -7,7 +7,7 @@ ghost use Rattle.adarun.specs.Stopping.{Refuses};
 
 use crate::compilation::compile;
 use clock::{Schedule, ScheduleFault};
-use image::laws::outcome_stays;
+use image_laws::outcome_stays;
 use lexer::Fault;
 use machine::{Outcome, RunFault, Sink, run};
 use std::alloc::Global;

@@ -2,8 +2,8 @@
 ghost use Rattle.adarun.specs.Joined.{RunsAsItsSource};
 
 use image::Image;
-use image::laws::outcome_stays;
 use image_format::laws::comes_back;
+use image_laws::outcome_stays;
 
 /// What is loaded from the bytes of an image that a source compiles to runs as the source does: what `run` writes of it under a schedule
 /// within a limit is what `go` writes of the source.

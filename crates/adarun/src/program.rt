@@ -2,7 +2,7 @@
 ghost use Rattle.std.specs.Prelude.{◌≡◌, ◌<◌, ◌⊎◌, ℕ, List, Option, nat_eq, if◌then◌else◌};
 ghost use Rattle.base.specs.declared.faults.TheConstants.{MEMORY_REFUSED};
 ghost use Rattle.adarun.specs.Driving as driving;
-ghost use Rattle.adarun.specs.Driving.{Answers, LeavesCompile, LeavesGo, LeavesList, LeavesRun};
+ghost use Rattle.adarun.specs.Driving.{Answers, KeepsSink, LeavesCompile, LeavesGo, LeavesList, LeavesRun};
 
 use crate::compilation::compile;
 use crate::execution::{GoFault, go};
@@ -109,9 +109,7 @@ fn drive_list<F: FileStore, O: Sink, E: Sink>(
     err: &mut E,
 ) -> Status
     ensures leaves { LeavesList (F.contents files.now) name.now result (O.bytes out.old) (O.bytes out.new) }
-    ensures memory { result ≡ Status.NoMemory → out.new ≡ out.old }
-    ensures failed { result ≡ Status.Failed → (out.new ≡ out.old) ⊎ (O.failures out.old < O.failures out.new) }
-    ensures done { result ≡ Status.Done → O.failures out.new ≡ O.failures out.old }
+    ensures sink { KeepsSink result (out.new ≡ out.old) (O.failures out.old) (O.failures out.new) }
 {
     let bytes = match files.read(alloc, name) {
         Ok(bytes) => bytes,
@@ -141,10 +139,7 @@ fn drive_run<F: FileStore, O: Sink, E: Sink>(
     err: &mut E,
 ) -> Status
     ensures leaves { LeavesRun (F.contents files.now) name.now schedule.now limit result (O.bytes out.old) (O.bytes out.new) }
-    ensures schedule { result ≡ Status.ScheduleRefused → out.new ≡ out.old }
-    ensures memory { result ≡ Status.NoMemory → out.new ≡ out.old }
-    ensures failed { result ≡ Status.Failed → (out.new ≡ out.old) ⊎ (O.failures out.old < O.failures out.new) }
-    ensures done { result ≡ Status.Done → O.failures out.new ≡ O.failures out.old }
+    ensures sink { KeepsSink result (out.new ≡ out.old) (O.failures out.old) (O.failures out.new) }
 {
     let bytes = match files.read(alloc, name) {
         Ok(bytes) => bytes,
@@ -186,11 +181,7 @@ fn drive_go<F: FileStore, O: Sink, E: Sink>(
     err: &mut E,
 ) -> Status
     ensures leaves { LeavesGo (F.contents files.now) source.now schedule.now limit result (O.bytes out.old) (O.bytes out.new) }
-    ensures source { result ≡ Status.SourceRefused → out.new ≡ out.old }
-    ensures schedule { result ≡ Status.ScheduleRefused → out.new ≡ out.old }
-    ensures memory { result ≡ Status.NoMemory → out.new ≡ out.old }
-    ensures failed { result ≡ Status.Failed → (out.new ≡ out.old) ⊎ (O.failures out.old < O.failures out.new) }
-    ensures done { result ≡ Status.Done → O.failures out.new ≡ O.failures out.old }
+    ensures sink { KeepsSink result (out.new ≡ out.old) (O.failures out.old) (O.failures out.new) }
 {
     let text = match files.read(alloc, source) {
         Ok(text) => text,

@@ -3,3 +3,5 @@ pub mod Arithmetic
 pub mod Schedule
 pub mod Laws
 pub mod Names
+pub mod First
+pub mod FirstLaws

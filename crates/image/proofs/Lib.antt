@@ -1,17 +1,3 @@
-mod Bounds
-mod Broken
-mod Examples
-mod Exclusion
 mod Holder
-mod LeadingOn
-mod Links
-mod ObjectExamples
 mod Placed
-mod Plain
 mod RowTables
-mod Runs
-mod Shapes
-mod StepLinks
-mod Today
-mod WellFormed
-mod Widths

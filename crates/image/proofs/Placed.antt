@@ -1,12 +1,10 @@
 -- Tests of a list from a place on, a step at a time.
-use Rattle.std.proofs.Common.{◌≡◌, ℕ, ◌+◌, ◌<◌, ◌≤◌, List, [], ◌∷◌, length, drop, get_or, Bool, true, false, ◌&&◌, sym, ◌∙◌, add-one, drop-cons, subst}
+use Rattle.std.proofs.Common.{◌≡◌, ℕ, ◌+◌, ◌<◌, ◌≤◌, List, [], ◌∷◌, length, drop, get_or, Bool, true, false, ◌&&◌, sym, ◌∙◌, subst}
 use Rattle.std.proofs.Math.ListN.{drop_of_length-le}
+use Rattle.image.specs.RuleLaws.{drop-next}
 use Rattle.image.specs.Rules.{all_begun, all_placed}
 use Rattle.image.specs.declared.subprograms.Subprogram.{Subprogram}
 use Rattle.image.specs.declared.subprograms.Kind.TheVariants.{Plain}
-
-pub drop-next : {X : Type 0} → (xs : List X) (p : ℕ) (d : X) → p < length xs → drop p xs ≡ get_or xs p d ∷ drop (p + 1) xs
-drop-next xs p d h = rw add-one (drop-cons xs p d h)
 
 module _ {X : Type 0} (test : ℕ → X → Bool) (xs : List X) (whole : Bool) (p : ℕ) (left : all_placed test p (drop p xs) ≡ whole) (ys : List X) (same : ys ≡ xs) (d : X) (within : p < length ys) where
   first_apart : (test p (get_or ys p d) && all_placed test (p + 1) (drop (p + 1) xs)) ≡ whole

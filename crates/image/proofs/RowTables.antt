@@ -1,18 +1,18 @@
 -- The handler rows of a well-formed image are those of a sound table.
-use Rattle.std.proofs.Common.{◌≡◌, ℕ, suc, ◌+◌, ◌-◌, List, [], ◌∷◌, length, Bool, true, cond, not, ◌&&◌, Option, Some, None, nat_le, nat_lt, refl, sym, ap, ◌∙◌}
+use Rattle.std.proofs.Common.{◌≡◌, ℕ, suc, ◌+◌, ◌-◌, List, [], ◌∷◌, length, Bool, true, cond, not, ◌&&◌, Option, Some, None, nat_lt, refl, sym, ap, ◌∙◌}
+use Rattle.std.proofs.lemmas.Bool.{and_parts}
 use Rattle.std.specs.List.{list_all, position_or_len}
 use Rattle.handlers.specs.declared.rows.Row.{Row}
 use Rattle.handlers.specs.Handlers.{are_same, are_within_one, is_within_one, subprogram_at}
 use Rattle.handlers.specs.Nesting as nesting
 use Rattle.handlers.specs.Nesting.{are_sound}
 use Rattle.image.specs.Sections.{Sections, ends_of, holder_number}
-use Rattle.image.specs.Rules.{IsWellFormed, all_nested, all_placed, begins_with, covers_places, has_counts, has_ends, is_object, is_row_within, is_subprogram, is_task, same_number}
-use Rattle.base.specs.Names.{is_label, is_name, predefined}
+use Rattle.image.specs.Rules.{IsWellFormed, all_nested, covers_places, is_row_within, same_number}
+use Rattle.image.specs.RuleFacts.{facts}
 use Rattle.image.specs.Faults.{memory_fault}
 use Rattle.image.specs.declared.fault.ImageFault.{ImageFault}
 use Rattle.handlers.specs.declared.rows.TableFault.{TableFault}
 use Rattle.image.specs.declared.subprograms.Subprogram.{Subprogram}
-use Rattle.image.proofs.WellFormed.{both, jumps}
 
 holder_place : (subprograms : List Subprogram) (p : ℕ) → position_or_len (λ s. nat_lt p s.end_) subprograms ≡ position_or_len (λ e. nat_lt p e) (ends_of subprograms)
 holder_place [] p = refl
@@ -42,30 +42,16 @@ within_one i r = λ j. nat_lt r.start r.end_ && (share_by_ends i.subprograms r.s
 all_by_both : {X : Type 0} (p q test : X → Bool) → ((x : X) → (p x && q x) ≡ test x) → (xs : List X) → list_all p xs ≡ true → list_all q xs ≡ true → list_all test xs ≡ true
 all_by_both p q test is [] all more = refl
 all_by_both p q test is (x ∷ xs) all more =
-    let a = both (p x) _ all in
-    let b = both (q x) _ more in
+    let a = and_parts (p x) _ all in
+    let b = and_parts (q x) _ more in
     let here : test x ≡ true = sym (is x) ∙ (ap (λ v. v && q x) a.0 ∙ b.0) in
     ap (λ v. v && list_all test xs) here ∙ all_by_both p q test is xs a.1 b.1
 
 pub rows_within_one : (i : Sections) → IsWellFormed i → are_within_one (ends_of i.subprograms) i.rows ≡ true
-rows_within_one i w =
-    let covered = both (list_all covers_places i.rows) _ w.jumps in
-    all_by_both covers_places (is_row_within i) (is_within_one (ends_of i.subprograms)) (within_one i) i.rows covered.0 (both _ _ (both _ _ (jumps i w)).1).1
-
-nested : (i : Sections) → IsWellFormed i → all_nested i.rows ≡ true
-nested i w =
-    let a = both (has_counts i) _ w.tables in
-    let b = both (has_ends i) _ a.1 in
-    let c = both (all_placed (is_subprogram i) 0 i.subprograms) _ b.1 in
-    let d = both (all_placed (is_object i) 0 i.objects) _ c.1 in
-    let e = both (list_all (is_task i) i.tasks) _ d.1 in
-    let f = both (begins_with predefined i.exceptions) _ e.1 in
-    let g = both (list_all is_name i.exceptions) _ f.1 in
-    let h = both (list_all is_label i.labels) _ g.1 in
-    (both (list_all (λ r. nat_le r.exception (length i.exceptions)) i.rows) _ h.1).1
+rows_within_one i w = let f = facts i w in all_by_both covers_places (is_row_within i) (is_within_one (ends_of i.subprograms)) (within_one i) i.rows f.covers f.rows
 
 pub rows_sound : (i : Sections) → IsWellFormed i → are_sound (ends_of i.subprograms) i.rows ≡ true
-rows_sound i w = ap (λ b. b && all_nested i.rows) (rows_within_one i w) ∙ nested i w
+rows_sound i w = ap (λ b. b && all_nested i.rows) (rows_within_one i w) ∙ (facts i w).nested
 
 -- so no table of its rows is refused but for want of memory
 pub refused_for_memory : (f : ImageFault) (t : TableFault) → f ≡ record { number = t.number; byte = 0 } → t ≡ nesting.memory_fault → f ≡ memory_fault

@@ -4,7 +4,7 @@ ghost use Rattle.image.specs.Faults.{memory_fault};
 ghost use Rattle.image.specs.Refusals.{Refuses};
 ghost use Rattle.image.specs.Rules.{IsWellFormed};
 ghost use Rattle.image.specs.Sections.{ends_of};
-ghost use Rattle.image.specs.Width.{ImageFits};
+ghost use Rattle.image.specs.WordRanges.{ImageFits};
 
 use crate::{Draft, ImageFault, Instr, Object, Parts, Subprogram, Task, Text};
 use handlers::{Row, Table};
@@ -114,8 +114,8 @@ impl Image {
         &self.parts.instructions
     }
 
-    // Reads its constants and initial words: they are `i64`.
-    pub(crate) fn words_fit(&self)
+    /// Constants and initial words are in 64 bits. It reads them and does nothing else: they are `i64`.
+    pub fn words_fit(&self)
         ensures { ImageFits self.now }
     {
         self.parts.words_fit();

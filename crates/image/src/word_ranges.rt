@@ -1,5 +1,5 @@
 //! The words that an image holds are `i64`, read one by one.
-ghost use Rattle.image.specs.Width.{AllFit, ConstantFits, ConstantsFit, ImageFits, ObjectsFit};
+ghost use Rattle.image.specs.WordRanges.{AllFit, ConstantFits, ConstantsFit, ImageFits, ObjectsFit};
 
 use crate::{Instr, Operation, Parts};
 

@@ -11,7 +11,8 @@ use Rattle.image_format.specs.FaultOrder.{Faults, rule}
 use Rattle.image_format.specs.Loading.{each}
 use Rattle.image.specs.Rules.{all_begun, all_nested, all_placed, are_nested, begins_with, none_or}
 use Rattle.image.specs.Sections.{Sections, end_of, first_place, holder}
-use Rattle.image_format.proofs.Rules.{begin_of, begin_of-next, both, holder_here, holder_later}
+use Rattle.std.proofs.lemmas.Bool.{and_parts}
+use Rattle.image.specs.RuleLaws.{begin_of, begin_of-next, holder_here, holder_later}
 
 pub join : (a b : Bool) → a ≡ true → b ≡ true → (a && b) ≡ true
 join true b p q = q
@@ -101,5 +102,5 @@ pub nested_from : (rows : List Row) → ((k : ℕ) (row : Row) → slice_get row
 nested_from [] h = refl
 nested_from (r ∷ rows) h =
     join (list_all (are_nested r) rows) _
-    (all_from (are_nested r) rows (λ k q is. nested_either_way r q ∙ (both (are_nested q r) _ (h (suc k) q is)).0))
-    (nested_from rows (λ k q is. (both (are_nested q r) _ (h (suc k) q is)).1))
+    (all_from (are_nested r) rows (λ k q is. nested_either_way r q ∙ (and_parts (are_nested q r) _ (h (suc k) q is)).0))
+    (nested_from rows (λ k q is. (and_parts (are_nested q r) _ (h (suc k) q is)).1))

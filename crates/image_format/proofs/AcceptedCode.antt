@@ -20,7 +20,7 @@ use Rattle.image.specs.Sections.{Sections, holder}
 use Rattle.image_format.proofs.Accepted.{all_from, append_none, begun_from, first_begin, held_before, join, kept, map_at, nested_from, placed_from}
 use Rattle.image_format.proofs.AcceptedSections.{Clear, apart, clear, counts_kept, exceptions_kept, labels_kept, none_at, predefined_kept}
 use Rattle.image_format.proofs.AcceptedTables.{ends_kept, object_kept, row_kept, subprogram_kept, task_kept, where_body}
-use Rattle.image_format.proofs.Rules.{both, eqb-same}
+use Rattle.std.proofs.lemmas.Bool.{and_parts, eqb-true}
 
 -- Operands
 
@@ -35,7 +35,7 @@ operand_rules : (byte : ℕ) (x : RawInstruction) (o : Option Operation) → ope
 operand_rules byte x None is e = absurd cc
 operand_rules byte x (Some op) is e =
     let p = append_none (rule OPERAND_OUT_OF_RANGE (after byte 3) (not (nat_eq (address_of op) x.address))) (rule OPERAND_OUT_OF_RANGE (after byte 5) (not (are_equal (constant_of op) x.constant && has_operands op))) e in
-    let k = both (are_equal (constant_of op) x.constant) (has_operands op) (kept OPERAND_OUT_OF_RANGE (after byte 5) (are_equal (constant_of op) x.constant && has_operands op) p.1) in
+    let k = and_parts (are_equal (constant_of op) x.constant) (has_operands op) (kept OPERAND_OUT_OF_RANGE (after byte 5) (are_equal (constant_of op) x.constant && has_operands op) p.1) in
     record { operation = op; is = is; address = kept OPERAND_OUT_OF_RANGE (after byte 3) (nat_eq (address_of op) x.address) p.0; constant = k.0; operands = k.1 }
 
 pub operands_kept : (r : Raw) → Clear r → (k : ℕ) (x : RawInstruction) → slice_get r.instructions k ≡ Some x → OperandsKept x
@@ -103,7 +103,7 @@ place_kept r c k x is =
     let ends = ends_kept r c in
     let all : each (behind_row 13) (place_faults i code) 0 code r.instructions ≡ [] = subst (λ b. (if b then each (behind_row 13) (place_faults i code) 0 code r.instructions else []) ≡ []) ends c.places in
     let w = none_at (behind_row 13) (place_faults i code) r.instructions code k m.0 all m.1 in
-    let last : last_end i.subprograms ≡ length i.instructions = eqb-same (last_end i.subprograms) (length i.instructions) (both _ _ ends).1 in
+    let last : last_end i.subprograms ≡ length i.instructions = eqb-true (last_end i.subprograms) (length i.instructions) (and_parts _ _ ends).1 in
     let inside = slice_get_within i.instructions k x is in
     let h = held_before i.subprograms (length i.subprograms - 1) k (subst (λ v. k < v) (sym last) inside) in
     let e : held_faults i code k w.0 m.0 h.0 ≡ [] = subst (λ v. code_faults i code k w.0 m.0 v ≡ []) h.1 w.1 in

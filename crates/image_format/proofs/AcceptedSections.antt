@@ -12,7 +12,7 @@ use Rattle.image_format.specs.Loading.{all_crossing_faults, behind_object, behin
 use Rattle.image_format.specs.Reading.{Raw}
 use Rattle.image.specs.Rules.{begins_with, has_counts, has_ends, is_within}
 use Rattle.image_format.proofs.Accepted.{all_from, append_none, begins_from, each_at, join, kept, map_at}
-use Rattle.image_format.proofs.Rules.{both}
+use Rattle.std.proofs.lemmas.Bool.{and_parts}
 
 -- no part has a fault
 pub record Clear (r : Raw) : Type 0 where
@@ -71,7 +71,7 @@ counted : (byte least count most : ℕ) → count_rule byte least count most ≡
 counted byte least count most e = kept TABLES_DISAGREE byte (is_within least count most) e
 
 at_most : (byte count most : ℕ) → count_rule byte 0 count most ≡ [] → nat_le count most ≡ true
-at_most byte count most e = (both (nat_le 0 count) (nat_le count most) (counted byte 0 count most e)).1
+at_most byte count most e = (and_parts (nat_le 0 count) (nat_le count most) (counted byte 0 count most e)).1
 
 pub counts_kept : (r : Raw) → Clear r → has_counts (sections_of r) ≡ true
 counts_kept r c =
@@ -92,10 +92,10 @@ pub same_text : (t : List ℕ) → nat_le (length t) NAME_LIMIT ≡ true → tex
 same_text t e = ap (λ b. if b then t else []) e
 
 pub name_short : (t : List ℕ) → is_name t ≡ true → nat_le (length t) NAME_LIMIT ≡ true
-name_short t e = (both (nat_le (length t) NAME_LIMIT) _ (both (is_identifier t) _ e).1).0
+name_short t e = (and_parts (nat_le (length t) NAME_LIMIT) _ (and_parts (is_identifier t) _ e).1).0
 
 pub label_short : (t : List ℕ) → is_label t ≡ true → nat_le (length t) NAME_LIMIT ≡ true
-label_short t e = (both (nat_le (length t) LABEL_LIMIT) _ (both (nat_le 1 (length t)) _ e).1).0
+label_short t e = (and_parts (nat_le (length t) LABEL_LIMIT) _ (and_parts (nat_le 1 (length t)) _ e).1).0
 
 pub exception_at : (r : Raw) → Clear r → (k : ℕ) (t : List ℕ) → slice_get r.exceptions k ≡ Some t → is_exception k t ≡ true
 exception_at r c k t is =
@@ -107,18 +107,18 @@ exception_is : (r : Raw) → Clear r → (k : ℕ) (t : List ℕ) → slice_get 
 exception_is r c k t is =
     let m = map_at text_from r.exceptions k t is in
     let e = exception_at r c k m.0 m.1 in
-    let same = same_text m.0 (name_short m.0 (both (is_name m.0) _ e).0) in
+    let same = same_text m.0 (name_short m.0 (and_parts (is_name m.0) _ e).0) in
     subst (λ v. is_exception k v ≡ true) (sym same ∙ m.2) e
 
 pub exceptions_kept : (r : Raw) → Clear r → list_all is_name (sections_of r).exceptions ≡ true
-exceptions_kept r c = all_from is_name (sections_of r).exceptions (λ k t is. (both (is_name t) _ (exception_is r c k t is)).0)
+exceptions_kept r c = all_from is_name (sections_of r).exceptions (λ k t is. (and_parts (is_name t) _ (exception_is r c k t is)).0)
 
 pub predefined_kept : (r : Raw) → Clear r → begins_with predefined (sections_of r).exceptions ≡ true
 predefined_kept r c =
     let i = sections_of r in
     let t = apart (count_rule 14 4 (length i.exceptions) EXCEPTIONS) (count_rule 16 0 (length i.rows) ROWS) (count_rule 18 0 (length i.labels) LABELS) c.text_counts in
-    let four : 4 ≤ length i.exceptions = leb-true 4 (length i.exceptions) (both (nat_le 4 (length i.exceptions)) _ (counted 14 4 (length i.exceptions) EXCEPTIONS t.0)).0 in
-    begins_from predefined i.exceptions four (λ k t is. (both (is_name t) _ (exception_is r c k t is)).1)
+    let four : 4 ≤ length i.exceptions = leb-true 4 (length i.exceptions) (and_parts (nat_le 4 (length i.exceptions)) _ (counted 14 4 (length i.exceptions) EXCEPTIONS t.0)).0 in
+    begins_from predefined i.exceptions four (λ k t is. (and_parts (is_name t) _ (exception_is r c k t is)).1)
 
 pub labels_kept : (r : Raw) → Clear r → list_all is_label (sections_of r).labels ≡ true
 labels_kept r c =

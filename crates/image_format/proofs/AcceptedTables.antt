@@ -24,7 +24,8 @@ use Rattle.image.specs.Rules.{are_nested, covers_places, has_body, has_depth, ha
 use Rattle.image.specs.Sections.{Sections, end_of, first_place, object_of}
 use Rattle.image_format.proofs.Accepted.{append_none, begun_from, first_begin, join, kept, kept_where, map_at}
 use Rattle.image_format.proofs.AcceptedSections.{Clear, apart, counts_kept, name_short, none_at, same_text}
-use Rattle.image_format.proofs.Rules.{both, either, rises, slice_get_inside}
+use Rattle.std.proofs.lemmas.Bool.{and_parts}
+use Rattle.image.specs.RuleLaws.{either, rises, slice_get_inside}
 
 -- Subprograms
 
@@ -43,9 +44,9 @@ either_other false b n e = e
 object_there : (kind : Kind) (object : ℕ) (test : ℕ → Bool) → names_object kind object ≡ true → (nat_eq object 65535 || none_or (object_of kind) test) ≡ true → none_or (object_of kind) test ≡ true
 object_there Plain object test named e = refl
 object_there TaskBody object test named e = refl
-object_there (ProtectedProcedure o) object test named e = either_other (nat_eq object 65535) (test o) (both (nat_eq o object) _ named).1 e
-object_there (ProtectedFunction o) object test named e = either_other (nat_eq object 65535) (test o) (both (nat_eq o object) _ named).1 e
-object_there (EntryBody o) object test named e = either_other (nat_eq object 65535) (test o) (both (nat_eq o object) _ named).1 e
+object_there (ProtectedProcedure o) object test named e = either_other (nat_eq object 65535) (test o) (and_parts (nat_eq o object) _ named).1 e
+object_there (ProtectedFunction o) object test named e = either_other (nat_eq object 65535) (test o) (and_parts (nat_eq o object) _ named).1 e
+object_there (EntryBody o) object test named e = either_other (nat_eq object 65535) (test o) (and_parts (nat_eq o object) _ named).1 e
 
 -- a test that is asked of task bodies
 pub where_body : (n p : ℕ) (body test : Bool) → rule n p (body && not test) ≡ [] → (not body || test) ≡ true
@@ -73,7 +74,7 @@ subprogram_kept r c k s is =
         let ordered = has_ends i in
         let p = apart (kind_faults i k byte raw s) (size_faults byte s) (body_faults i ordered code k byte s) e in
         let q = apart (rule TABLES_DISAGREE byte (not (nat_eq (kind_number s.kind) raw.kind))) (rule NAMED_THING_MISSING (after byte 1) (not (nat_eq raw.object 65535 || has_object i s))) (rule TABLES_DISAGREE (after byte 1) (not (names_object s.kind raw.object && is_entry_of_object i k s.kind))) p.0 in
-        let own = both (names_object s.kind raw.object) (is_entry_of_object i k s.kind) (kept TABLES_DISAGREE (after byte 1) (names_object s.kind raw.object && is_entry_of_object i k s.kind) q.2) in
+        let own = and_parts (names_object s.kind raw.object) (is_entry_of_object i k s.kind) (kept TABLES_DISAGREE (after byte 1) (names_object s.kind raw.object && is_entry_of_object i k s.kind) q.2) in
         let there = kept NAMED_THING_MISSING (after byte 1) (nat_eq raw.object 65535 || has_object i s) q.1 in
         let z = append_none (rule TABLES_DISAGREE (after byte 5) (is_task_body s.kind && not (nat_eq s.parameters 0)) ++ rule TABLES_DISAGREE (after byte 7) (is_task_body s.kind && not (nat_eq s.results 0)) ++ rule TABLES_DISAGREE (after byte 9) (not (nat_le s.parameters s.locals))) (rule TABLES_DISAGREE (after byte 11) (not (nat_le (s.locals + s.stack) FRAME_WORDS))) p.1 in
         let y = apart (rule TABLES_DISAGREE (after byte 5) (is_task_body s.kind && not (nat_eq s.parameters 0))) (rule TABLES_DISAGREE (after byte 7) (is_task_body s.kind && not (nat_eq s.results 0))) (rule TABLES_DISAGREE (after byte 9) (not (nat_le s.parameters s.locals))) z.0 in
@@ -94,15 +95,15 @@ same_eq a = ⊎_elim (λ h. h.0) (λ h. absurd (h.1 refl)) (eqb_tells a a)
 pub ends_kept : (r : Raw) → Clear r → has_ends (sections_of r) ≡ true
 ends_kept r c =
     let i = sections_of r in
-    let counts = both (is_within 1 (length i.instructions) INSTRUCTIONS) _ (counts_kept r c) in
-    let many = both (is_within 1 (length i.subprograms) SUBPROGRAMS) _ counts.1 in
-    let some : 1 ≤ length i.subprograms = leb-true 1 (length i.subprograms) (both (nat_le 1 (length i.subprograms)) (nat_le (length i.subprograms) SUBPROGRAMS) many.0).0 in
+    let counts = and_parts (is_within 1 (length i.instructions) INSTRUCTIONS) _ (counts_kept r c) in
+    let many = and_parts (is_within 1 (length i.subprograms) SUBPROGRAMS) _ counts.1 in
+    let some : 1 ≤ length i.subprograms = leb-true 1 (length i.subprograms) (and_parts (nat_le 1 (length i.subprograms)) (nat_le (length i.subprograms) SUBPROGRAMS) many.0).0 in
     let n = length i.subprograms - 1 in
     let l = slice_get_inside i.subprograms n (omega arith) in
     let e = subprogram_kept r c n l.0 l.1 in
     let next : n + 1 ≡ length i.subprograms = omega arith in
-    let at_end : nat_eq l.0.end_ (length i.instructions) ≡ true = last_one (n + 1) (length i.subprograms) next (nat_eq l.0.end_ (length i.instructions)) (both _ _ e.ends).1 in
-    join _ _ (begun_from rises i.subprograms 0 (λ k s is. subst (λ v. nat_lt v s.end_ ≡ true) (first_begin i k) (both (nat_lt (first_place i k) s.end_) _ (subprogram_kept r c k s is).ends).0))
+    let at_end : nat_eq l.0.end_ (length i.instructions) ≡ true = last_one (n + 1) (length i.subprograms) next (nat_eq l.0.end_ (length i.instructions)) (and_parts _ _ e.ends).1 in
+    join _ _ (begun_from rises i.subprograms 0 (λ k s is. subst (λ v. nat_lt v s.end_ ≡ true) (first_begin i k) (and_parts (nat_lt (first_place i k) s.end_) _ (subprogram_kept r c k s is).ends).0))
     (subst (λ o. nat_eq (end_of o) (length i.instructions) ≡ true) (sym l.1) at_end)
   where
     last_one : (a b : ℕ) → a ≡ b → (t : Bool) → (not (nat_eq a b) || t) ≡ true → t ≡ true
@@ -141,7 +142,7 @@ object_rules r k byte raw e =
     let p = apart (ceiling_faults i byte raw) (entry_faults i start k o.entry) (barrier_faults byte raw o) e in
     let a = append_none (rule TABLES_DISAGREE byte (not (nat_le raw.ceiling CEILING))) (rule NAMED_THING_MISSING (after byte 1) (not (has_entry i o))) p.0 in
     let b = apart (rule TABLES_DISAGREE (after byte 3) (not (has_barrier o raw.barrier))) (rule TABLES_DISAGREE (after byte 4) (not (nat_eq (word_of_barrier o.barrier) raw.barrier_word))) (rule TABLES_DISAGREE (after byte 6) (not (is_barrier o o.barrier))) p.2 in
-    let opening = (both _ _ (kept TABLES_DISAGREE (after byte 3) (has_barrier o raw.barrier) b.0)).1 in
+    let opening = (and_parts _ _ (kept TABLES_DISAGREE (after byte 3) (has_barrier o raw.barrier) b.0)).1 in
     record {
       entry = kept NAMED_THING_MISSING (after byte 1) (has_entry i o) a.1;
       rules = join _ _ (kept TABLES_DISAGREE byte (nat_le raw.ceiling CEILING) a.0) (join _ _ (named_kept i start k o.entry p.1) (join _ _ (kept TABLES_DISAGREE (after byte 6) (is_barrier o o.barrier) b.2) (some_there o.entry (is_closed_barrier o.barrier) opening)));

@@ -25,9 +25,11 @@ use Rattle.image_format.specs.declared.raw_sections.RawSubprogram.{RawSubprogram
 use Rattle.image_format.specs.declared.reading.Counts.{Counts}
 use Rattle.image_format.proofs.AcceptedSections.{label_short, name_short, same_text}
 use Rattle.image_format.proofs.DecodedBack as decoded
-use Rattle.image_format.proofs.NoFaults.{Facts, counted, crossings_none, exceptions_none, facts, labels_none, none_in, none_of, none_three, none_two, objects_none, operands_none, places_none, rows_none, small_entry, subprograms_none, tasks_none, unbroken, unbroken_where}
+use Rattle.image.specs.RuleFacts.{Facts, facts}
+use Rattle.image_format.proofs.NoFaults.{counted, crossings_none, exceptions_none, labels_none, none_in, none_of, none_three, none_two, objects_none, operands_none, places_none, rows_none, small_entry, subprograms_none, tasks_none, unbroken, unbroken_where}
 use Rattle.image_format.proofs.ReadBack.{ObjectFitsWhole, bytes_back, half_is, instruction_back, many_back, map_itself, object_back, raw_instruction, raw_object, raw_subprogram, raw_task, row_back, subprogram_back, task_back, text_back, word_back}
-use Rattle.image_format.proofs.Rules.{both, list_all-at}
+use Rattle.std.proofs.lemmas.Bool.{and_parts}
+use Rattle.image.specs.RuleLaws.{list_all-at}
 use Rattle.image_format.proofs.Spelled.{some_pair}
 use Rattle.image_format.proofs.Written.{counts_fit}
 
@@ -52,7 +54,7 @@ same_sections i f = λ j. record {
   plain_words = i.plain_words;
   objects = decoded.map_back raw_object object_from i.objects (λ k o is. decoded.object_back o (small_entry i f k o is)) j;
   subprograms = decoded.map_back raw_subprogram subprogram_from i.subprograms (λ k s is. decoded.subprogram_back s) j;
-  tasks = decoded.map_back raw_task task_from i.tasks (λ k t is. decoded.task_back t (both (is_name t.name) _ (list_all-at (is_task i) i.tasks k t f.tasks is)).0) j;
+  tasks = decoded.map_back raw_task task_from i.tasks (λ k t is. decoded.task_back t (and_parts (is_name t.name) _ (list_all-at (is_task i) i.tasks k t f.tasks is)).0) j;
   rows = i.rows;
   instructions = decoded.map_back raw_instruction instruction_of i.instructions (λ k x is. decoded.instruction_back x (list_all-at (λ x. has_operands x.operation) i.instructions k x f.operands is)) j;
 }

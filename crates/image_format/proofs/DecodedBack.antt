@@ -23,7 +23,7 @@ use Rattle.image_format.specs.Decoding.{barrier_from, block_from, entry_from, in
 use Rattle.image_format.specs.Loading.{barrier_number, object_of_kind, word_of_barrier}
 use Rattle.image_format.proofs.AcceptedSections.{name_short, same_text}
 use Rattle.image_format.proofs.ReadBack.{raw_instruction, raw_object, raw_subprogram, raw_task}
-use Rattle.image_format.proofs.Rules.{both}
+use Rattle.std.proofs.lemmas.Bool.{and_parts}
 
 pub map_back : {X Y : Type 0} (of : X → Y) (from : Y → X) (xs : List X) → ((k : ℕ) (x : X) → slice_get xs k ≡ Some x → from (of x) ≡ x) → map from (map of xs) ≡ xs
 map_back of from [] h = refl
@@ -40,7 +40,7 @@ region_back regions.Object = refl
 
 pub block_back : (n : ℕ) → is_block n ≡ true → block_from (pos n) ≡ n
 block_back n e =
-    let few : n ≤ WORDS = leb-true n WORDS (both (nat_le 1 n) (nat_le n WORDS) e).1 in
+    let few : n ≤ WORDS = leb-true n WORDS (and_parts (nat_le 1 n) (nat_le n WORDS) e).1 in
     ⊎_elim (λ h. ap (λ b. cond b n 65535) h.0) (λ h. absurd (omega (arith, few, h.1))) (leb_tells n 65535)
 
 copy_regions : (t s : Region) (n : ℕ) → operation_from 14 (3 * region_number t + region_number s) (pos n) ≡ Some (Copy t s (block_from (pos n)))

@@ -14,9 +14,9 @@ mod LoadedImage
 mod LoadingExamples
 mod NoFaults
 mod Opcodes
+mod OrderExamples
 mod ReadBack
 mod ReadLoop
-mod Rules
 mod Spelled
 mod SpelledImage
 mod SpelledRows

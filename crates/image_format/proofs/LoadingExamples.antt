@@ -21,7 +21,7 @@ return_alone =
     ++ 4 ∷ 255 ∷ 255 ∷ 0 ∷ 1 ∷ 0 ∷ 0 ∷ 0 ∷ 0 ∷ 0 ∷ 0 ∷ 0 ∷ 0 ∷ 4 ∷ codes "MAIN" ++ 15 ∷ 0 ∷ 0 ∷ 40 ∷ replicate 12 0
 
 -- the bytes with others in the place of as many
-abbrev put : ℕ → List ℕ → List ℕ → List ℕ
+abbrev pub put : ℕ → List ℕ → List ℕ → List ℕ
 put place others bytes = take place bytes ++ others ++ drop (place + length others) bytes
 
 abbrev faulty : ℕ → ℕ → Option ImageFault
@@ -66,7 +66,7 @@ one_more_byte = refl
 
 -- An image with a bit of everything, and with one or more fields changed
 
-abbrev kept_bytes : List ℕ
+abbrev pub kept_bytes : List ℕ
 kept_bytes = bytes_of kept
 
 kept_length : length kept_bytes ≡ 798
@@ -420,15 +420,10 @@ unknown_exception : image_fault (put 222 (0 ∷ 6 ∷ []) kept_bytes) ≡ faulty
 unfolding read_image read_counts read_raw read_many read_bytes read_text read_word read_object read_subprogram read_task read_row read_instruction byte_at half_at word_at operation_from half word opcode_of address_of constant_of header_bytes name_bytes data_bytes table_bytes code_bytes
 unknown_exception = refl
 
--- the least byte, and there the least number
+-- the least byte; proofs/OrderExamples has each pair of rules
 least_byte : image_fault (put 220 (0 ∷ 21 ∷ []) (put 103 (32 ∷ []) (put 184 (0 ∷ 1 ∷ []) kept_bytes))) ≡ faulty 47 103
 unfolding read_image read_counts read_raw read_many read_bytes read_text read_word read_object read_subprogram read_task read_row read_instruction byte_at half_at word_at operation_from half word opcode_of address_of constant_of header_bytes name_bytes data_bytes table_bytes code_bytes
 least_byte = refl
-
--- an object that is not there, of a subprogram that has none
-least_number : image_fault (put 167 (0 ∷ 1 ∷ []) (put 208 (0 ∷ 6 ∷ []) kept_bytes)) ≡ faulty 47 167
-unfolding read_image read_counts read_raw read_many read_bytes read_text read_word read_object read_subprogram read_task read_row read_instruction byte_at half_at word_at operation_from half word opcode_of address_of constant_of header_bytes name_bytes data_bytes table_bytes code_bytes
-least_number = refl
 
 -- no operation, and the last one of a subprogram
 opcode_of_the_last : image_fault (put 603 (0 ∷ []) kept_bytes) ≡ faulty 43 603

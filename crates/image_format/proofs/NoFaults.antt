@@ -12,7 +12,7 @@ use Rattle.handlers.specs.Nesting.{all_nested, are_nested}
 use Rattle.handlers.specs.declared.rows.Row.{Row}
 use Rattle.image.specs.ObjectTable.{ObjectRow}
 use Rattle.image.specs.Operations.{goes_on, jump_target, taken_by}
-use Rattle.image.specs.Rules.{IsWellFormed, all_begun, all_placed, begins_with, covers_places, depth_after, has_body, has_counts, has_depth, has_effect, has_ends, has_entry, has_object, has_operands, in_holder, is_barrier, is_closed, is_closed_barrier, is_entry_body_of, is_entry_of_object, is_object, is_return, is_row_within, is_subprogram, is_task, is_task_body, is_within, jumps_within, keeps_depth, last_end, leaves_depth, names_things, none_or, some_and, where_ends}
+use Rattle.image.specs.Rules.{all_begun, begins_with, covers_places, depth_after, has_body, has_depth, has_effect, has_ends, has_entry, has_object, has_operands, in_holder, is_barrier, is_closed, is_closed_barrier, is_entry_body_of, is_entry_of_object, is_object, is_return, is_row_within, is_subprogram, is_task, is_task_body, is_within, jumps_within, keeps_depth, last_end, leaves_depth, names_things, none_or, some_and}
 use Rattle.image.specs.Scalars.{are_equal}
 use Rattle.image.specs.Sections.{Sections, end_of, first_place, holder, object_of}
 use Rattle.image.specs.declared.instruction.Instr.{Instr}
@@ -27,77 +27,9 @@ use Rattle.image_format.specs.Loading.{barrier_faults, barrier_number, body_faul
 use Rattle.image_format.proofs.Accepted.{first_begin, join, nested_either_way}
 use Rattle.image_format.proofs.DecodedBack.{instruction_back, object_back, operation_back, subprogram_back}
 use Rattle.image_format.proofs.ReadBack.{raw_instruction, raw_object, raw_subprogram, raw_task}
-use Rattle.image_format.proofs.Rules.{all_begun-at, both, either, eqb-same, list_all-at, none_or-at, placed-at, rises, some_and-true}
-
--- The tests of a well-formed image, one by one
-
-pub record Facts (i : Sections) : Type 0 where
-  pub counts : has_counts i ≡ true
-  pub ends : has_ends i ≡ true
-  pub subprograms : all_placed (is_subprogram i) 0 i.subprograms ≡ true
-  pub objects : all_placed (is_object i) 0 i.objects ≡ true
-  pub tasks : list_all (is_task i) i.tasks ≡ true
-  pub begins : begins_with predefined i.exceptions ≡ true
-  pub names : list_all is_name i.exceptions ≡ true
-  pub labels : list_all is_label i.labels ≡ true
-  pub row_exceptions : list_all (λ r. nat_le r.exception (length i.exceptions)) i.rows ≡ true
-  pub nested : all_nested i.rows ≡ true
-  pub operands : list_all (λ x. has_operands x.operation) i.instructions ≡ true
-  pub covers : list_all covers_places i.rows ≡ true
-  pub jumps : all_placed (jumps_within i) 0 i.instructions ≡ true
-  pub closed : list_all (is_closed i) i.subprograms ≡ true
-  pub rows : list_all (is_row_within i) i.rows ≡ true
-  pub named : all_placed (λ place x. in_holder i place (λ s. names_things i s x.operation)) 0 i.instructions ≡ true
-  pub have_objects : list_all (has_object i) i.subprograms ≡ true
-  pub have_entries : list_all (has_entry i) i.objects ≡ true
-  pub have_bodies : list_all (has_body i) i.tasks ≡ true
-  pub depths : all_placed (λ place x. in_holder i place (keeps_depth i place x)) 0 i.instructions ≡ true
-  pub empty : all_begun (λ first s. has_depth i first 0) 0 i.subprograms ≡ true
-  pub targets : list_all (λ r. has_depth i r.target 1) i.rows ≡ true
-
-pub facts : (i : Sections) → IsWellFormed i → Facts i
-facts i w =
-    let a = both (has_counts i) _ w.tables in
-    let b = both (has_ends i) _ a.1 in
-    let c = both (all_placed (is_subprogram i) 0 i.subprograms) _ b.1 in
-    let d = both (all_placed (is_object i) 0 i.objects) _ c.1 in
-    let e = both (list_all (is_task i) i.tasks) _ d.1 in
-    let f = both (begins_with predefined i.exceptions) _ e.1 in
-    let g = both (list_all is_name i.exceptions) _ f.1 in
-    let h = both (list_all is_label i.labels) _ g.1 in
-    let k = both (list_all (λ r. nat_le r.exception (length i.exceptions)) i.rows) _ h.1 in
-    let l = both (list_all covers_places i.rows) _ w.jumps in
-    let m = both (all_placed (jumps_within i) 0 i.instructions) _ (either (has_ends i) _ l.1 b.0) in
-    let n = both (list_all (is_closed i) i.subprograms) _ m.1 in
-    let o = both (where_ends i (all_placed (λ place x. in_holder i place (λ s. names_things i s x.operation)) 0 i.instructions)) _ w.named in
-    let p = both (list_all (has_object i) i.subprograms) _ o.1 in
-    let q = both (list_all (has_entry i) i.objects) _ p.1 in
-    let r = both (all_placed (λ place x. in_holder i place (keeps_depth i place x)) 0 i.instructions) _ (either (has_ends i) _ w.depths b.0) in
-    let s = both (all_begun (λ first s. has_depth i first 0) 0 i.subprograms) _ r.1 in
-    record {
-      counts = a.0;
-      ends = b.0;
-      subprograms = c.0;
-      objects = d.0;
-      tasks = e.0;
-      begins = f.0;
-      names = g.0;
-      labels = h.0;
-      row_exceptions = k.0;
-      nested = k.1;
-      operands = w.operands;
-      covers = l.0;
-      jumps = m.0;
-      closed = n.0;
-      rows = n.1;
-      named = either (has_ends i) _ o.0 b.0;
-      have_objects = p.0;
-      have_entries = q.0;
-      have_bodies = q.1;
-      depths = r.0;
-      empty = s.0;
-      targets = s.1;
-    }
+use Rattle.std.proofs.lemmas.Bool.{and_parts, eqb-true}
+use Rattle.image.specs.RuleFacts.{Facts}
+use Rattle.image.specs.RuleLaws.{all_begun-at, list_all-at, none_or-at, placed-at, rises, some_and-true}
 
 -- Rules that are kept
 
@@ -167,13 +99,13 @@ up_to byte count most e = unbroken TABLES_DISAGREE byte (is_within 0 count most)
 
 pub counted : (i : Sections) → Facts i → Counted i
 counted i f =
-    let a = both (is_within 1 (length i.instructions) INSTRUCTIONS) _ f.counts in
-    let b = both (is_within 1 (length i.subprograms) SUBPROGRAMS) _ a.1 in
-    let c = both (is_within 1 (length i.tasks) TASKS) _ b.1 in
-    let d = both (is_within 4 (length i.exceptions) EXCEPTIONS) _ c.1 in
-    let e = both (nat_le (length i.objects) OBJECTS) _ d.1 in
-    let g = both (nat_le (length i.rows) ROWS) _ e.1 in
-    let h = both (nat_le (length i.labels) LABELS) _ g.1 in
+    let a = and_parts (is_within 1 (length i.instructions) INSTRUCTIONS) _ f.counts in
+    let b = and_parts (is_within 1 (length i.subprograms) SUBPROGRAMS) _ a.1 in
+    let c = and_parts (is_within 1 (length i.tasks) TASKS) _ b.1 in
+    let d = and_parts (is_within 4 (length i.exceptions) EXCEPTIONS) _ c.1 in
+    let e = and_parts (nat_le (length i.objects) OBJECTS) _ d.1 in
+    let g = and_parts (nat_le (length i.rows) ROWS) _ e.1 in
+    let h = and_parts (nat_le (length i.labels) LABELS) _ g.1 in
     record {
       first = none_four (count_rule 6 1 (length i.instructions) INSTRUCTIONS) (count_rule 8 1 (length i.subprograms) SUBPROGRAMS) (count_rule 10 0 (length i.objects) OBJECTS) (count_rule 12 1 (length i.tasks) TASKS)
           (unbroken TABLES_DISAGREE 6 (is_within 1 (length i.instructions) INSTRUCTIONS) a.0)
@@ -185,7 +117,7 @@ counted i f =
           (up_to 16 (length i.rows) ROWS g.0)
           (up_to 18 (length i.labels) LABELS h.0);
       words = h.1;
-      subprograms = leb-true (length i.subprograms) SUBPROGRAMS (both (nat_le 1 (length i.subprograms)) _ b.0).1;
+      subprograms = leb-true (length i.subprograms) SUBPROGRAMS (and_parts (nat_le 1 (length i.subprograms)) _ b.0).1;
       objects = leb-true (length i.objects) OBJECTS e.0;
     }
 
@@ -194,8 +126,8 @@ counted i f =
 front_at : (front names : List (List ℕ)) → begins_with front names ≡ true → (k : ℕ) (t : List ℕ) → slice_get names k ≡ Some t → none_or (slice_get front k) (λ p. bytes_eq p t) ≡ true
 front_at [] names e k t is = refl
 front_at (p ∷ front) [] e k t is = absurd (none-some t is)
-front_at (p ∷ front) (n ∷ names) e zero t is = subst (λ v. bytes_eq p v ≡ true) (same_Some n t is) (both (bytes_eq p n) _ e).0
-front_at (p ∷ front) (n ∷ names) e (suc k) t is = front_at front names (both (bytes_eq p n) _ e).1 k t is
+front_at (p ∷ front) (n ∷ names) e zero t is = subst (λ v. bytes_eq p v ≡ true) (same_Some n t is) (and_parts (bytes_eq p n) _ e).0
+front_at (p ∷ front) (n ∷ names) e (suc k) t is = front_at front names (and_parts (bytes_eq p n) _ e).1 k t is
 
 pub exceptions_none : (i : Sections) → Facts i → (k : ℕ) (t : List ℕ) → slice_get i.exceptions k ≡ Some t → (c : ℕ) → exception_faults k c t ≡ []
 exceptions_none i f k t is c =
@@ -234,9 +166,9 @@ small_entry i f k o is n e =
 pub objects_none : (i : Sections) → Facts i → (start k : ℕ) (o : ObjectRow) → slice_get i.objects k ≡ Some o → (c : ℕ) → object_faults i start k c (raw_object o) ≡ []
 objects_none i f start k o is c =
     let raw = raw_object o in
-    let a = both (nat_le o.ceiling CEILING) _ (placed-at (is_object i) i.objects k o f.objects is) in
-    let b = both (none_or o.entry (λ n. none_or (slice_get i.subprograms n) (λ s. is_entry_body_of k s.kind))) _ a.1 in
-    let d = both (is_barrier o o.barrier) _ b.1 in
+    let a = and_parts (nat_le o.ceiling CEILING) _ (placed-at (is_object i) i.objects k o f.objects is) in
+    let b = and_parts (none_or o.entry (λ n. none_or (slice_get i.subprograms n) (λ s. is_entry_body_of k s.kind))) _ a.1 in
+    let d = and_parts (is_barrier o o.barrier) _ b.1 in
     let ceiling = rule TABLES_DISAGREE c (not (nat_le o.ceiling CEILING)) in
     ap (λ v. (ceiling ++ rule NAMED_THING_MISSING (after c 1) (not (has_entry i v))) ++ entry_faults i start k v.entry ++ barrier_faults c raw v) (object_back o (small_entry i f k o is))
     ∙ none_three (ceiling ++ rule NAMED_THING_MISSING (after c 1) (not (has_entry i o))) (entry_faults i start k o.entry) (barrier_faults c raw o)
@@ -260,16 +192,16 @@ or_right true b e = refl
 or_right false b e = e
 
 left_under : (a b c : Bool) → (not a || (b && c)) ≡ true → (not a || b) ≡ true
-left_under true b c e = (both b c e).0
+left_under true b c e = (and_parts b c e).0
 left_under false b c e = refl
 
 right_under : (a b c : Bool) → (not a || (b && c)) ≡ true → (not a || c) ≡ true
-right_under true b c e = (both b c e).1
+right_under true b c e = (and_parts b c e).1
 right_under false b c e = refl
 
 last_at : (i : Sections) (k : ℕ) (s : Subprogram) → slice_get i.subprograms k ≡ Some s → nat_eq (last_end i.subprograms) (length i.instructions) ≡ true → (b : Bool) → nat_eq (k + 1) (length i.subprograms) ≡ b → (not b || nat_eq s.end_ (length i.instructions)) ≡ true
 last_at i k s is e true same =
-    let count = eqb-same (k + 1) (length i.subprograms) same in
+    let count = eqb-true (k + 1) (length i.subprograms) same in
     let last : length i.subprograms - 1 ≡ k = omega (arith, count) in
     subst (λ o. nat_eq (end_of o) (length i.instructions) ≡ true) is (subst (λ m. nat_eq (end_of (slice_get i.subprograms m)) (length i.instructions) ≡ true) last e)
 last_at i k s is e false same = refl
@@ -287,7 +219,7 @@ kind_none i f k s is own c =
 
 body_place_none : (i : Sections) → Facts i → (code k : ℕ) (s : Subprogram) → slice_get i.subprograms k ≡ Some s → (c : ℕ) → body_faults i (has_ends i) code k c s ≡ []
 body_place_none i f code k s is c =
-    let e = both (all_begun rises 0 i.subprograms) _ f.ends in
+    let e = and_parts (all_begun rises 0 i.subprograms) _ f.ends in
     let rising : nat_lt (first_place i k) s.end_ ≡ true = subst (λ p. nat_lt p s.end_ ≡ true) (sym (first_begin i k)) (all_begun-at rises i.subprograms 0 k s e.0 is) in
     let begins : has_depth i (first_place i k) 0 ≡ true = subst (λ p. has_depth i p 0 ≡ true) (sym (first_begin i k)) (all_begun-at (λ first s. has_depth i first 0) i.subprograms 0 k s f.empty is) in
     none_three (rule TABLES_DISAGREE (after c 3) (not (is_end i k s))) (rule JUMP_OUTSIDE (after code (13 * (s.end_ - 1))) (has_ends i && not (is_closed i s))) (rule DEPTHS_DISAGREE (after code (13 * first_place i k + 1)) (has_ends i && not (has_depth i (first_place i k) 0)))
@@ -298,9 +230,9 @@ body_place_none i f code k s is c =
 pub subprograms_none : (i : Sections) → Facts i → (code k : ℕ) (s : Subprogram) → slice_get i.subprograms k ≡ Some s → (c : ℕ) → subprogram_faults i (has_ends i) code k c (raw_subprogram s) ≡ []
 subprograms_none i f code k s is c =
     let raw = raw_subprogram s in
-    let a = both (nat_le s.parameters s.locals) _ (placed-at (is_subprogram i) i.subprograms k s f.subprograms is) in
-    let b = both (nat_le (s.locals + s.stack) FRAME_WORDS) _ a.1 in
-    let d = both (not (is_task_body s.kind) || (nat_eq s.parameters 0 && nat_eq s.results 0)) _ b.1 in
+    let a = and_parts (nat_le s.parameters s.locals) _ (placed-at (is_subprogram i) i.subprograms k s f.subprograms is) in
+    let b = and_parts (nat_le (s.locals + s.stack) FRAME_WORDS) _ a.1 in
+    let d = and_parts (not (is_task_body s.kind) || (nat_eq s.parameters 0 && nat_eq s.results 0)) _ b.1 in
     let sizes : size_faults c s ≡ [] =
     none_four (rule TABLES_DISAGREE (after c 5) (is_task_body s.kind && not (nat_eq s.parameters 0))) (rule TABLES_DISAGREE (after c 7) (is_task_body s.kind && not (nat_eq s.results 0))) (rule TABLES_DISAGREE (after c 9) (not (nat_le s.parameters s.locals))) (rule TABLES_DISAGREE (after c 11) (not (nat_le (s.locals + s.stack) FRAME_WORDS)))
     (unbroken_if TABLES_DISAGREE (after c 5) (is_task_body s.kind) (nat_eq s.parameters 0) (left_under (is_task_body s.kind) (nat_eq s.parameters 0) (nat_eq s.results 0) d.0))
@@ -315,8 +247,8 @@ subprograms_none i f code k s is c =
 pub tasks_none : (i : Sections) → Facts i → (k : ℕ) (t : Task) → slice_get i.tasks k ≡ Some t → (c : ℕ) → task_faults i k c (raw_task t) ≡ []
 tasks_none i f k t is c =
     let behind = after c (length t.name + 2) in
-    let a = both (is_name t.name) _ (list_all-at (is_task i) i.tasks k t f.tasks is) in
-    let b = both (nat_le t.priority TASK_PRIORITY) _ a.1 in
+    let a = and_parts (is_name t.name) _ (list_all-at (is_task i) i.tasks k t f.tasks is) in
+    let b = and_parts (nat_le t.priority TASK_PRIORITY) _ a.1 in
     let there = nat_lt t.subprogram (length i.subprograms) in
     let body = none_or (slice_get i.subprograms t.subprogram) (λ s. is_task_body s.kind) in
     none_three (rule TABLES_DISAGREE (text_byte c t.name) (not (is_name t.name))) (rule TABLES_DISAGREE (after c (length t.name + 1)) (not (nat_le t.priority TASK_PRIORITY))) (rule NAMED_THING_MISSING behind (not there) ++ rule TABLES_DISAGREE behind (not body))
@@ -340,7 +272,7 @@ nested_before : (rows : List Row) → all_nested rows ≡ true → (k : ℕ) (r 
 nested_before [] all k r is = absurd (none-some r is)
 nested_before (q ∷ rows) all zero r is = refl
 nested_before (q ∷ rows) all (suc k) r is =
-    let a = both (list_all (are_nested q) rows) _ all in
+    let a = and_parts (list_all (are_nested q) rows) _ all in
     join (are_nested r q) _ (nested_either_way r q ∙ list_all-at (are_nested q) rows k r a.0 is) (nested_before rows a.1 k r is)
 
 pub crossings_none : (i : Sections) → Facts i → (k : ℕ) (r : Row) → slice_get i.rows k ≡ Some r → (c : ℕ) → crossing_faults i.rows k c r ≡ []
@@ -364,9 +296,9 @@ jump_none i code place byte depth (Some a) e = unbroken DEPTHS_DISAGREE (if nat_
 effect_none : (i : Sections) (code place byte : ℕ) (x : Instr) (s : Subprogram) → leaves_depth i place x s ≡ true → effect_faults i code place byte x s ≡ []
 effect_none i code place byte x s e =
     let left = depth_after i s x in
-    let a = both (nat_le (taken_by i s.results x.operation) x.depth) _ e in
-    let b = both (nat_le left s.stack) _ a.1 in
-    let d = both (not (goes_on x.operation) || has_depth i (place + 1) left) _ b.1 in
+    let a = and_parts (nat_le (taken_by i s.results x.operation) x.depth) _ e in
+    let b = and_parts (nat_le left s.stack) _ a.1 in
+    let d = and_parts (not (goes_on x.operation) || has_depth i (place + 1) left) _ b.1 in
     let fits = rule DEPTHS_DISAGREE (after byte 1) (not (nat_le left s.stack)) in
     let next = rule DEPTHS_DISAGREE (after byte 14) (goes_on x.operation && not (has_depth i (place + 1) left)) in
     let jump = jump_faults i code place byte left (jump_target x.operation) in
@@ -393,8 +325,8 @@ places_none i f code k x is c =
     let n = some_and-true (holder i.subprograms k) (λ s. names_things i s x.operation) (placed-at (λ place x. in_holder i place (λ s. names_things i s x.operation)) i.instructions k x f.named is) in
     let s = n.0 in
     let keeps : keeps_depth i k x s ≡ true = subst (λ o. some_and o (keeps_depth i k x) ≡ true) n.1 (placed-at (λ place x. in_holder i place (keeps_depth i place x)) i.instructions k x f.depths is) in
-    let a = both (nat_le x.depth s.stack) _ keeps in
-    let b = both (not (is_return x.operation) || nat_eq x.depth s.results) _ a.1 in
+    let a = and_parts (nat_le x.depth s.stack) _ keeps in
+    let b = and_parts (not (is_return x.operation) || nat_eq x.depth s.results) _ a.1 in
     let deep = rule DEPTHS_DISAGREE (after c 1) (not (nat_le x.depth s.stack)) in
     let operation = operation_none i code k c x s (placed-at (jumps_within i) i.instructions k x f.jumps is) n.2 b.0 b.1 in
     ap (code_faults i code k c raw) n.1

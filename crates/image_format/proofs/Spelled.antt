@@ -9,7 +9,7 @@ use Rattle.std.proofs.lemmas.List.Concat.{flat_map-cons}
 use Rattle.std.proofs.lemmas.Nat.{be_bytes_2, be_bytes_8}
 use Rattle.image_format.specs.Bytes.{half, word}
 use Rattle.image_format.specs.Reading.{Reading, and_then, byte_at, half_at, made, read_bytes, read_many, word_at}
-use Rattle.image_format.proofs.Rules.{drop-next}
+use Rattle.image.specs.RuleLaws.{drop-next}
 
 abbrev pub IsBytes : List ℕ → Type 0
 IsBytes bytes = (i : ℕ) → get_or bytes i 0 < 256
@@ -129,5 +129,5 @@ many_read {X = X} read spell reads (suc n) bytes x fits e =
     let b = made_of (read_many read n a.0.1) (λ ys. a.0.0 ∷ ys) x a.2 in
     let first = reads bytes a.0 fits a.1 in
     let rest = many_read read spell reads n a.0.1 b.0 first.fits b.1 in
-    let both = spells_then bytes (spell a.0.0) a.0.1 (flat_map spell b.0.0) b.0.1 first rest.0 in
-    subst (λ p. Spells bytes (flat_map spell p.0) p.1 × (length p.0 ≡ suc n)) b.2 (rw flat_map-cons both, ap suc rest.1)
+    let and_parts = spells_then bytes (spell a.0.0) a.0.1 (flat_map spell b.0.0) b.0.1 first rest.0 in
+    subst (λ p. Spells bytes (flat_map spell p.0) p.1 × (length p.0 ≡ suc n)) b.2 (rw flat_map-cons and_parts, ap suc rest.1)

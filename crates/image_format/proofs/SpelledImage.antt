@@ -22,7 +22,7 @@ use Rattle.image_format.proofs.Accepted.{kept}
 use Rattle.image_format.proofs.AcceptedSections.{Clear, apart, exception_at, label_short, name_short, none_at, same_text}
 use Rattle.image_format.proofs.AcceptedCode.{operands_kept}
 use Rattle.image_format.proofs.SpelledRows.{raw_instruction_bytes, raw_object_bytes, raw_subprogram_bytes, raw_task_bytes}
-use Rattle.image_format.proofs.Rules.{both, eqb-same}
+use Rattle.std.proofs.lemmas.Bool.{and_parts, eqb-true}
 
 -- element by element
 flat_map_same : {X Y : Type 0} (f : X → List ℕ) (g : Y → List ℕ) (d : X → Y) (xs : List X) → ((k : ℕ) (x : X) → slice_get xs k ≡ Some x → f x ≡ g (d x)) → flat_map f xs ≡ flat_map g (map d xs)
@@ -33,7 +33,7 @@ flat_map_same f g d (x ∷ xs) h =
 -- Texts
 
 pub exceptions_same : (r : Raw) → Clear r → flat_map text r.exceptions ≡ flat_map text (map text_from r.exceptions)
-exceptions_same r c = flat_map_same text text text_from r.exceptions (λ k t is. ap text (sym (same_text t (name_short t (both (is_name t) _ (exception_at r c k t is)).0))))
+exceptions_same r c = flat_map_same text text text_from r.exceptions (λ k t is. ap text (sym (same_text t (name_short t (and_parts (is_name t) _ (exception_at r c k t is)).0))))
 
 pub labels_same : (r : Raw) → Clear r → flat_map text r.labels ≡ flat_map text (map text_from r.labels)
 labels_same r c =
@@ -48,7 +48,7 @@ entry_same : (n : ℕ) → n ≡ unwrap_or (entry_from n) 65535
 entry_same n = by_test (nat_eq n 65535) refl
   where
     by_test : (b : Bool) → nat_eq n 65535 ≡ b → n ≡ unwrap_or (cond b None (Some n)) 65535
-    by_test true e = eqb-same n 65535 e
+    by_test true e = eqb-true n 65535 e
     by_test false e = refl
 
 barrier_same : (b : Barrier) → barrier_bytes b ≡ barrier_number b ∷ half (word_of_barrier b)
@@ -66,8 +66,8 @@ objects_same r c =
     let byte = w.0 in
     let p = apart (ceiling_faults i byte raw) (entry_faults i (subprograms_start r) k o.entry) (barrier_faults byte raw o) w.1 in
     let b = apart (rule TABLES_DISAGREE (after byte 3) (not (has_barrier o raw.barrier))) (rule TABLES_DISAGREE (after byte 4) (not (nat_eq (word_of_barrier o.barrier) raw.barrier_word))) (rule TABLES_DISAGREE (after byte 6) (not (is_barrier o o.barrier))) p.2 in
-    let number = eqb-same (barrier_number o.barrier) raw.barrier (both (nat_eq (barrier_number o.barrier) raw.barrier) _ (kept TABLES_DISAGREE (after byte 3) (has_barrier o raw.barrier) b.0)).0 in
-    let opening = eqb-same (word_of_barrier o.barrier) raw.barrier_word (kept TABLES_DISAGREE (after byte 4) (nat_eq (word_of_barrier o.barrier) raw.barrier_word) b.1) in
+    let number = eqb-true (barrier_number o.barrier) raw.barrier (and_parts (nat_eq (barrier_number o.barrier) raw.barrier) _ (kept TABLES_DISAGREE (after byte 3) (has_barrier o raw.barrier) b.0)).0 in
+    let opening = eqb-true (word_of_barrier o.barrier) raw.barrier_word (kept TABLES_DISAGREE (after byte 4) (nat_eq (word_of_barrier o.barrier) raw.barrier_word) b.1) in
     let bar : raw.barrier ∷ half raw.barrier_word ≡ barrier_bytes o.barrier = ap (λ n. n ∷ half raw.barrier_word) (sym number) ∙ (ap (λ n. barrier_number o.barrier ∷ half n) (sym opening) ∙ sym (barrier_same o.barrier)) in
     ap (λ n. raw.ceiling ∷ half n ++ (raw.barrier ∷ half raw.barrier_word) ++ half (length raw.words) ++ flat_map word raw.words) (entry_same raw.entry)
     ∙ ap (λ t. raw.ceiling ∷ half (unwrap_or o.entry 65535) ++ t ++ half (length raw.words) ++ flat_map word raw.words) bar)
@@ -84,9 +84,9 @@ subprograms_same r c =
     let byte = w.0 in
     let p = apart (kind_faults i k byte raw s) (size_faults byte s) (body_faults i (has_ends i) (code_start r) k byte s) w.1 in
     let q = apart (rule TABLES_DISAGREE byte (not (nat_eq (kind_number s.kind) raw.kind))) (rule NAMED_THING_MISSING (after byte 1) (not (nat_eq raw.object 65535 || has_object i s))) (rule TABLES_DISAGREE (after byte 1) (not (names_object s.kind raw.object && is_entry_of_object i k s.kind))) p.0 in
-    let kind = eqb-same (kind_number s.kind) raw.kind (kept TABLES_DISAGREE byte (nat_eq (kind_number s.kind) raw.kind) q.0) in
-    let named = (both (names_object s.kind raw.object) _ (kept TABLES_DISAGREE (after byte 1) (names_object s.kind raw.object && is_entry_of_object i k s.kind) q.2)).0 in
-    let object = eqb-same (unwrap_or (object_of s.kind) 65535) raw.object (both (nat_eq (unwrap_or (object_of s.kind) 65535) raw.object) _ named).0 in
+    let kind = eqb-true (kind_number s.kind) raw.kind (kept TABLES_DISAGREE byte (nat_eq (kind_number s.kind) raw.kind) q.0) in
+    let named = (and_parts (names_object s.kind raw.object) _ (kept TABLES_DISAGREE (after byte 1) (names_object s.kind raw.object && is_entry_of_object i k s.kind) q.2)).0 in
+    let object = eqb-true (unwrap_or (object_of s.kind) 65535) raw.object (and_parts (nat_eq (unwrap_or (object_of s.kind) 65535) raw.object) _ named).0 in
     ap (λ n. n ∷ flat_map half (raw.object ∷ raw.end_ ∷ raw.parameters ∷ raw.results ∷ raw.locals ∷ raw.stack ∷ [])) (sym kind)
     ∙ ap (λ n. kind_number s.kind ∷ flat_map half (n ∷ raw.end_ ∷ raw.parameters ∷ raw.results ∷ raw.locals ∷ raw.stack ∷ [])) (sym object))
 
@@ -105,10 +105,10 @@ tasks_same r c =
 -- Instructions
 
 pub same_integer : (x y : ℤ) → are_equal x y ≡ true → x ≡ y
-same_integer (pos a) (pos b) e = let p = both (int_le (pos a) (pos b)) (int_le (pos b) (pos a)) e in let l = leb-true a b p.0 in let m = leb-true b a p.1 in let s : a ≡ b = omega (arith, l, m) in ap pos s
-same_integer (pos a) (negsuc b) e = absurd (true≢false (sym (both (int_le (pos a) (negsuc b)) (int_le (negsuc b) (pos a)) e).0))
-same_integer (negsuc a) (pos b) e = absurd (true≢false (sym (both (int_le (negsuc a) (pos b)) (int_le (pos b) (negsuc a)) e).1))
-same_integer (negsuc a) (negsuc b) e = let p = both (int_le (negsuc a) (negsuc b)) (int_le (negsuc b) (negsuc a)) e in let l = leb-true b a p.0 in let m = leb-true a b p.1 in let s : a ≡ b = omega (arith, l, m) in ap negsuc s
+same_integer (pos a) (pos b) e = let p = and_parts (int_le (pos a) (pos b)) (int_le (pos b) (pos a)) e in let l = leb-true a b p.0 in let m = leb-true b a p.1 in let s : a ≡ b = omega (arith, l, m) in ap pos s
+same_integer (pos a) (negsuc b) e = absurd (true≢false (sym (and_parts (int_le (pos a) (negsuc b)) (int_le (negsuc b) (pos a)) e).0))
+same_integer (negsuc a) (pos b) e = absurd (true≢false (sym (and_parts (int_le (negsuc a) (pos b)) (int_le (pos b) (negsuc a)) e).1))
+same_integer (negsuc a) (negsuc b) e = let p = and_parts (int_le (negsuc a) (negsuc b)) (int_le (negsuc b) (negsuc a)) e in let l = leb-true b a p.0 in let m = leb-true a b p.1 in let s : a ≡ b = omega (arith, l, m) in ap negsuc s
 
 -- numbers that count up
 abbrev ups : ℕ → ℕ → List ℕ
@@ -140,7 +140,7 @@ instructions_same r c =
     let op = o.operation in
     let decoded : op ≡ unwrap_or (operation_of x) Raise = ap (λ v. unwrap_or v Raise) (sym o.is) in
     let opcode = opcode_read x.opcode x.address x.constant op o.is in
-    let address = eqb-same (address_of op) x.address o.address in
+    let address = eqb-true (address_of op) x.address o.address in
     let constant = same_integer (constant_of op) x.constant o.constant in
     ap (λ n. n ∷ half x.depth ++ half x.address ++ word x.constant) (sym opcode)
     ∙ (ap (λ n. opcode_of op ∷ half x.depth ++ half n ++ word x.constant) (sym address)

@@ -5,9 +5,10 @@ use Rattle.std.proofs.lemmas.List.{at_drop_more, append_assoc}
 use Rattle.std.proofs.lemmas.Bool.{leb-true}
 use Rattle.std.specs.Prelude.{nat_le, sum_by}
 use Rattle.image.specs.Sections.{Sections}
-use Rattle.image.specs.Rules.{IsWellFormed, has_counts, is_within}
+use Rattle.image.specs.RuleFacts.{facts}
+use Rattle.image.specs.Rules.{IsWellFormed, is_within}
 use Rattle.base.specs.declared.limits.TheConstants.{EXCEPTIONS, INSTRUCTIONS, LABELS, OBJECTS, ROWS, SUBPROGRAMS, TASKS, WORDS}
-use Rattle.image_format.proofs.Rules.{both}
+use Rattle.std.proofs.lemmas.Bool.{and_parts}
 
 -- one more part has been written: what is left, behind what stands, is still the whole
 pub written_on : {X : Type 0} (f : X → List ℕ) (xs : List X) (i : ℕ) (d : X) (old new whole : List ℕ) → i < length xs → new ≡ old ++ f (get_or xs i d) → old ++ flat_map f (drop i xs) ≡ whole → new ++ flat_map f (drop (i + 1) xs) ≡ whole
@@ -28,17 +29,17 @@ pub record Fits (i : Sections) : Type 0 where
   pub words : length i.plain_words + sum_by (λ o. length o.words) i.objects ≤ 8192
 
 upper : (least n most : ℕ) → is_within least n most ≡ true → n ≤ most
-upper least n most e = leb-true n most (both (nat_le least n) _ e).1
+upper least n most e = leb-true n most (and_parts (nat_le least n) _ e).1
 
 pub counts_fit : (i : Sections) → IsWellFormed i → Fits i
 counts_fit i w =
-    let a = both (is_within 1 (length i.instructions) INSTRUCTIONS) _ (both (has_counts i) _ w.tables).0 in
-    let b = both (is_within 1 (length i.subprograms) SUBPROGRAMS) _ a.1 in
-    let c = both (is_within 1 (length i.tasks) TASKS) _ b.1 in
-    let d = both (is_within 4 (length i.exceptions) EXCEPTIONS) _ c.1 in
-    let e = both (nat_le (length i.objects) OBJECTS) _ d.1 in
-    let f = both (nat_le (length i.rows) ROWS) _ e.1 in
-    let g = both (nat_le (length i.labels) LABELS) _ f.1 in
+    let a = and_parts (is_within 1 (length i.instructions) INSTRUCTIONS) _ (facts i w).counts in
+    let b = and_parts (is_within 1 (length i.subprograms) SUBPROGRAMS) _ a.1 in
+    let c = and_parts (is_within 1 (length i.tasks) TASKS) _ b.1 in
+    let d = and_parts (is_within 4 (length i.exceptions) EXCEPTIONS) _ c.1 in
+    let e = and_parts (nat_le (length i.objects) OBJECTS) _ d.1 in
+    let f = and_parts (nat_le (length i.rows) ROWS) _ e.1 in
+    let g = and_parts (nat_le (length i.labels) LABELS) _ f.1 in
     record {
       instructions = upper 1 (length i.instructions) INSTRUCTIONS a.0;
       subprograms = upper 1 (length i.subprograms) SUBPROGRAMS b.0;

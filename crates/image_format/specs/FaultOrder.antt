@@ -1,5 +1,6 @@
 -- Broken rules of an image by number and byte, and the first of them: at the least byte, and there of the least number.
-use Rattle.std.specs.Prelude.{ℕ, ◌+◌, ◌*◌, Bool, false, List, [], ◌∷◌, Option, Some, None, nat_le, nat_lt, min, if◌then◌else◌}
+use Rattle.std.specs.Prelude.{ℕ, ◌+◌, ◌*◌, Bool, false, List, [], ◌∷◌, Option, Some, None, nat_le, min, if◌then◌else◌}
+use Rattle.base.specs.First.{first_by, sooner_by}
 use Rattle.image.specs.declared.fault.ImageFault.{ImageFault}
 
 -- each entry: this rule is broken at this byte
@@ -25,14 +26,12 @@ rule number byte broken = if broken then fault_at number byte ∷ [] else []
 abbrev pub order_of : ImageFault → ℕ
 order_of f = f.byte * 256 + f.number
 
+-- of two of them the one that is named, and of all
 abbrev pub sooner : Option ImageFault → Option ImageFault → Option ImageFault
-sooner None b = b
-sooner (Some a) None = Some a
-sooner (Some a) (Some b) = if nat_lt (order_of b) (order_of a) then Some b else Some a
+sooner a b = sooner_by order_of a b
 
 abbrev pub first_of : Faults → Option ImageFault
-first_of [] = None
-first_of (f ∷ fs) = sooner (Some f) (first_of fs)
+first_of faults = first_by order_of faults
 
 -- there is a fault, and it comes no later than the other
 abbrev pub is_no_later : Option ImageFault → ImageFault → Bool

@@ -1,6 +1,7 @@
 -- What loading an image from bytes promises.
-use Rattle.std.specs.Prelude.{◌≡◌, ◌≤◌, ◌⊎◌, ℕ, List, [], Some}
-use Rattle.std.specs.List.{Contains}
+use Rattle.std.specs.Prelude.{◌≡◌, ◌<◌, ◌≤◌, ◌⊎◌, ℕ, List, [], Some}
+use Rattle.std.specs.List.{All, Contains}
+use Rattle.image_format.specs.Bytes.{bytes_of}
 use Rattle.image_format.specs.Decoding.{sections_of}
 use Rattle.image.specs.Faults.{memory_fault}
 use Rattle.image_format.specs.FaultOrder.{order_of}
@@ -38,3 +39,7 @@ pub record ComesFrom (bytes : List ℕ) (i : Sections) : Type 0 where
   pub loaded : IsLoaded bytes i
   pub only : (other : Sections) → IsLoaded bytes other → other ≡ i
   pub refused : (fault : ImageFault) → IsRefused bytes fault → fault ≡ memory_fault
+
+-- an image that bytes give has these bytes
+abbrev pub BytesComeBack : Type 0
+BytesComeBack = (bytes : List ℕ) (i : Sections) → All (λ b. b < 256) bytes → IsLoaded bytes i → bytes_of i ≡ bytes

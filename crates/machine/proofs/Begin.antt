@@ -14,12 +14,12 @@ use Rattle.image.specs.Sections.{Sections}
 use Rattle.image.specs.Operations.{called}
 use Rattle.image.specs.Code.{body_frame, body_of, initial_state, partition_of, priority_of, start}
 use Rattle.image.specs.Frames.{Inner}
-use Rattle.image.specs.Laws.{BeginsSound, FramesHaveRoom, HasRoom}
+use Rattle.image_laws.specs.Laws.{BeginsSound, FramesHaveRoom, HasRoom}
 use Rattle.image.specs.Rules.{IsWellFormed, all_placed, has_counts, has_ends, is_object, is_subprogram, is_task}
 use Rattle.base.specs.Names.{is_name}
 use Rattle.base.specs.declared.limits.TheConstants.{TASK_PRIORITY}
 use Rattle.std.specs.List.{list_all}
-use Rattle.image.specs.Shape.{IsGoing, IsSound}
+use Rattle.image_laws.specs.Shape.{IsGoing, IsSound}
 use Rattle.image.specs.Taken.{IsTaken}
 use Rattle.image.specs.declared.subprograms.Subprogram.{Subprogram}
 use Rattle.image.specs.declared.tasks.Task.{Task}

@@ -8,8 +8,8 @@ use Rattle.image.specs.Sections.{Sections}
 use Rattle.image.specs.Frames.{TaskState, Words}
 use Rattle.image.specs.Code.{initial_words, partition_of}
 use Rattle.image.specs.Steps.{act, does_instruction, does_operation, does_or_raises}
-use Rattle.image.specs.Shape.{IsSound}
-use Rattle.image.specs.Laws.{StepsSound}
+use Rattle.image_laws.specs.Shape.{IsSound}
+use Rattle.image_laws.specs.Laws.{StepsSound}
 use Rattle.image.specs.Rules.{IsWellFormed}
 use Rattle.image.specs.Taken.{is_taken_operation}
 use Rattle.image.specs.declared.instruction.Instr.{Instr}

@@ -5,8 +5,8 @@ use Rattle.image.specs.Sections.{Sections, holder}
 use Rattle.image.specs.Operations.{called, given_by, parameters_of, results_of, taken_by}
 use Rattle.image.specs.Rules.{IsWellFormed, all_placed, has_counts, has_ends, in_holder, is_subprogram, names_things, some_and}
 use Rattle.image.specs.Frames.{Frame, Inner, TaskState}
-use Rattle.image.specs.Shape.{AreBelow, IsGoing, IsGoingOrPlaced, IsSound, IsWaiting, callee}
-use Rattle.image.specs.Laws.{FramesHaveRoom, HasRoom}
+use Rattle.image_laws.specs.Shape.{AreBelow, IsGoing, IsGoingOrPlaced, IsSound, IsWaiting, callee}
+use Rattle.image_laws.specs.Laws.{FramesHaveRoom, HasRoom}
 use Rattle.image.specs.declared.instruction.Instr.{Instr}
 use Rattle.image.specs.declared.instruction.Operation.{Operation}
 use Rattle.image.specs.declared.instruction.Operation.TheVariants.{Call, ProtectedCall, EntryCall, Return}

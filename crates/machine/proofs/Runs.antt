@@ -8,7 +8,7 @@ use Rattle.kernel.specs.State as kernel
 use Rattle.kernel.specs.Text.{Names, last_line, line_text, lines_text}
 use Rattle.image.specs.Sections.{Sections}
 use Rattle.image.specs.Code.{CodeWorld, code, code_text}
-use Rattle.image.specs.Laws.{LinesGrowOn, OutcomeStays}
+use Rattle.image_laws.specs.Laws.{LinesGrowOn, OutcomeStays}
 use Rattle.image.specs.Texts.{names_of}
 use Rattle.machine.specs.Held.{Held}
 use Rattle.machine.specs.Outcomes.{ending_of, line_of, time_of}

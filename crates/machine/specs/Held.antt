@@ -5,7 +5,7 @@ use Rattle.kernel.specs.State.{Kernel}
 use Rattle.image.specs.Sections.{Sections}
 use Rattle.image.specs.Operations.{called, given_by, goes_on, results_of, taken_by}
 use Rattle.image.specs.Frames.{Frame, Inner, TaskState, Words, arguments}
-use Rattle.image.specs.Shape.{IsSound}
+use Rattle.image_laws.specs.Shape.{IsSound}
 use Rattle.image.specs.Steps.{Stepped, does_operation}
 use Rattle.base.specs.declared.limits.TheConstants.{FRAME_WORDS, FRAMES, INSTRUCTIONS}
 use Rattle.base.specs.declared.schedule.ScheduleLine.{ScheduleLine}

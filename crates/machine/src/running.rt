@@ -16,7 +16,7 @@ use crate::text::{last_line, line_text};
 use crate::writing::{Sink, write_all};
 use clock::Schedule;
 use image::Image;
-use image::laws::{frames_have_room, lines_grow_on, outcome_stays, steps_sound};
+use image_laws::{frames_have_room, lines_grow_on, outcome_stays, steps_sound};
 use kernel::laws::{left_unmoved, quiet_stays, says_on};
 use std::alloc::Global;
 use std::marker::Model;

@@ -2,7 +2,7 @@ use Rattle.std.proofs.Common.{Err, ap, inr, subst, sym, ◌∙◌}
 use Rattle.adarun.specs.Driving.{IsRead}
 use Rattle.adarun.specs.Stopping.{Refuses}
 use Rattle.adarun.specs.declared.execution.GoFault.TheVariants as faults
-use Rattle.adarun.proofs.Driving.{refused_leaves, run_leaves, schedule_leaves}
+use Rattle.adarun.proofs.Driving.{failed_keeps, refused_leaves, run_leaves, schedule_leaves}
 use Rattle.adarun.proofs.program.drive_go.Goals as goal
 
 pub returns-in-Ok-go-clause-leaves : goal.returns-in-Ok-go-clause-leaves
@@ -17,9 +17,9 @@ pub returns-in-Err-Schedule-clause-leaves : goal.returns-in-Err-Schedule-clause-
 returns-in-Err-Schedule-clause-leaves g c =
     schedule_leaves _ _ _ _ _ _ _ _ _ _ _ _ _ c.refuse_schedule.ensures c.in-Ok.ensures c.deref.ensures.value c.in-Ok-read.ensures c.deref-2.ensures.value c.in-Err-Schedule.field-0-is c.in-Err-Schedule.ensures.refused (ap g.O.Sink.bytes (c.in-Err-Schedule.ensures.schedule c.in-Err-Schedule.fault (ap Err c.in-Err-Schedule.field-0-is)))
 
-pub returns-clause-failed : goal.returns-clause-failed
-returns-clause-failed g c = λ _.
-    inr (c.in-Err-Run-Write.ensures.failed (ap Err (c.in-Err-Run-Write.field-0-is ∙ ap faults.Run c.in-Err-Run-Write.field-0-0-is)))
+pub returns-clause-sink : goal.returns-clause-sink
+returns-clause-sink g c =
+    failed_keeps _ _ _ _ c.cannot_write.ensures (c.in-Err-Run-Write.ensures.failed (ap Err (c.in-Err-Run-Write.field-0-is ∙ ap faults.Run c.in-Err-Run-Write.field-0-0-is)))
 
 pub returns-clause-leaves : goal.returns-clause-leaves
 returns-clause-leaves g c =

@@ -1,7 +1,7 @@
-use Rattle.std.proofs.Common.{inr, refl, subst}
+use Rattle.std.proofs.Common.{Err, ap, inr, refl, subst}
 use Rattle.clock.specs.Schedules.{IsScheduleText}
 use Rattle.image_format.specs.Loaded.{IsLoaded}
-use Rattle.adarun.proofs.Driving.{image_run_leaves}
+use Rattle.adarun.proofs.Driving.{failed_keeps, image_run_leaves}
 use Rattle.adarun.proofs.program.drive_run.Goals as goal
 
 pub returns-in-Ok-run-clause-leaves : goal.returns-in-Ok-run-clause-leaves
@@ -26,3 +26,6 @@ returns-clause-leaves g c =
       given = record { input = c.in-Ok-read.lines.items; read = c.in-Ok-read.ensures; lines = c.in-Ok-read-2.schedule; is_schedule = subst (λ input. IsScheduleText input c.in-Ok-read-2.schedule) c.deref-2.ensures.value c.in-Ok-read-2.ensures.read };
       begins = c.in-Err-Write.ensures.beginning;
     }))
+
+pub returns-clause-sink : goal.returns-clause-sink
+returns-clause-sink g c = failed_keeps _ _ _ _ c.cannot_write.ensures (c.in-Err-Write.ensures.failed (ap Err c.in-Err-Write.field-0-is))

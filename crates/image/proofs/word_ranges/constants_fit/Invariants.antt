@@ -1,5 +1,5 @@
 use Rattle.std.proofs.Common.{drop}
-use Rattle.image.specs.Width.{ConstantsFit}
+use Rattle.image.specs.WordRanges.{ConstantsFit}
 use Rattle.image.proofs.word_ranges.constants_fit.Given as goal
 
 abbrev pub invariant-loop-instruction : goal.invariant-loop-instruction

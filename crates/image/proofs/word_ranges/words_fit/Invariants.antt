@@ -1,5 +1,5 @@
 use Rattle.std.proofs.Common.{drop}
-use Rattle.image.specs.Width.{AllFit}
+use Rattle.image.specs.WordRanges.{AllFit}
 use Rattle.image.proofs.word_ranges.words_fit.Given as goal
 
 abbrev pub invariant-loop-word : goal.invariant-loop-word

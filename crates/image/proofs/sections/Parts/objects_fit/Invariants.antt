@@ -1,5 +1,5 @@
 use Rattle.std.proofs.Common.{drop}
-use Rattle.image.specs.Width.{ObjectsFit}
+use Rattle.image.specs.WordRanges.{ObjectsFit}
 use Rattle.image.proofs.sections.Parts.objects_fit.Given as goal
 
 abbrev pub invariant-loop-o : goal.invariant-loop-o

@@ -1,5 +1,0 @@
-use Rattle.image.proofs.Exclusion.{kernel_kept}
-use Rattle.image.proofs.laws.kernel_kept.Goals as goal
-
-pub returns : goal.returns
-returns c = kernel_kept c.begins_kept.ensures c.kept_by_every_effect.ensures c.left_unmoved.ensures c.entry_opens.ensures c.reaches_callers.ensures c.four_statements_hold.ensures

@@ -1,5 +1,0 @@
-use Rattle.image.proofs.Exclusion.{linked_in_every_world}
-use Rattle.image.proofs.laws.linked_in_every_world.Goals as goal
-
-pub returns : goal.returns
-returns c = linked_in_every_world c.begins_kept.ensures c.kept_by_every_effect.ensures c.left_unmoved.ensures c.entry_opens.ensures c.reaches_callers.ensures c.four_statements_hold.ensures

@@ -1,0 +1,14 @@
+mod Bounds
+mod Broken
+mod Examples
+mod Exclusion
+mod LeadingOn
+mod Links
+mod ObjectExamples
+mod Plain
+mod Runs
+mod Shapes
+mod StepLinks
+mod Today
+mod WellFormed
+mod Widths

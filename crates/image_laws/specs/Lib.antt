@@ -1,0 +1,4 @@
+pub mod Laws
+pub mod Linked
+pub mod Shape
+pub mod Width
