@@ -1,0 +1,10 @@
+mod Actions
+mod Dispatching
+mod Ends
+mod Moved
+mod Moves
+mod Objects
+mod Places
+mod Standing
+mod Starting
+mod Waking
