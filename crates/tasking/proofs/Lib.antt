@@ -1,6 +1,7 @@
 mod Actions
 mod Dispatching
 mod Ends
+mod Lines
 mod Moved
 mod Moves
 mod Objects

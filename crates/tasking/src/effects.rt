@@ -83,10 +83,10 @@ impl<R: Ready, D: Delays> Tasking<R, D> {
     }
 
     /// An exception leaves the body of a task: the run is over (RM 11.4.1).
-    pub fn die(&mut self, task: u8, exception: u8)
+    pub fn die(&mut self, task: u8, exception: u16)
         ensures { kernel_of self.new ≡ after task (Dies exception) (kernel_of self.old) }
     {
-        self.breaks_off(Outcome::Unhandled(exception, task));
+        self.breaks_off(Outcome::Unhandled { exception, task });
     }
 
     /// The code of a task did what no compiled code does: the run is over.

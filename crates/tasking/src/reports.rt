@@ -45,10 +45,10 @@ impl Default for Kind {
 pub enum Ending {
     /// The action is closed.
     Closes,
-    /// The action goes on with the entry body of the object, for the queued call of a task, the caller (RM 9.5.3).
-    TakesOver(u8, u8),
-    /// The action is closed, and this caller, which it has served, is ready.
-    HandsBack(u8),
+    /// The action goes on with the entry body of the object, for the queued call of a task (RM 9.5.3).
+    TakesOver { object: u8, caller: u8 },
+    /// The action is closed, and the task that it has served is ready.
+    HandsBack { caller: u8 },
 }
 
 /// How a run has come to its end.
@@ -60,6 +60,6 @@ pub enum Outcome {
     WaitsForever,
     /// The code did what no compiled code does.
     ImageFault,
-    /// This exception left the body of this task (RM 11.4.1), both by their numbers.
-    Unhandled(u8, u8),
+    /// An exception left the body of a task (RM 11.4.1), both by their numbers.
+    Unhandled { exception: u16, task: u8 },
 }

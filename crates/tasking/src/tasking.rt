@@ -393,10 +393,10 @@ impl<R: Ready, D: Delays> Tasking<R, D> {
     {
         match self.innermost(task) {
             Some((object, Kind::Writes)) if is_open => match self.objects.queued(object) {
-                Some(caller) => Ending::TakesOver(object, caller),
+                Some(caller) => Ending::TakesOver { object, caller },
                 None => Ending::Closes,
             },
-            Some((_, Kind::Serves(caller))) => Ending::HandsBack(caller),
+            Some((_, Kind::Serves(caller))) => Ending::HandsBack { caller },
             _ => Ending::Closes,
         }
     }
@@ -424,8 +424,8 @@ impl<R: Ready, D: Delays> Tasking<R, D> {
     {
         match ending {
             Ending::Closes => self.closes(task),
-            Ending::TakesOver(object, caller) => self.takes_over(task, object, caller),
-            Ending::HandsBack(caller) => {
+            Ending::TakesOver { object, caller } => self.takes_over(task, object, caller),
+            Ending::HandsBack { caller } => {
                 self.closes(task);
                 self.becomes_ready(caller);
             }
