@@ -1,5 +1,5 @@
 -- Open protected actions, active priorities and queued calls (RM 9.5.1, 9.5.3, D.3).
-use Rattle.std.specs.Prelude.{◌≡◌, ℕ, max, List, [], ◌∷◌, ◌++◌, length, set, take, get_or, ◌-◌, Bool, true, false, nat_eq, nat_lt, Option, Some, None, Result, Ok, Err, if◌then◌else◌}
+use Rattle.std.specs.Prelude.{◌≡◌, ℕ, max, List, [], ◌∷◌, ◌++◌, length, set, take, get_or, slice_get, ◌-◌, Bool, true, false, nat_eq, nat_lt, Option, Some, None, Result, Ok, Err, if◌then◌else◌}
 use Rattle.std.specs.List.{list_any}
 use Rattle.protected.specs.declared.refusal.Refusal.{Refusal}
 use Rattle.protected.specs.declared.refusal.Refusal.TheVariants.{AboveCeiling, QueueFull, SameObject}
@@ -60,6 +60,10 @@ with_opened task objects a = record a { opened = set a.opened task objects }
 
 abbrev pub with_queued : ℕ → Option ℕ → Actions → Actions
 with_queued object call a = record a { queued = set a.queued object call }
+
+-- the innermost of open actions
+abbrev pub innermost_of : List ℕ → Option ℕ
+innermost_of objects = slice_get objects (length objects - 1)
 
 abbrev pub IsInnermost : ℕ → List ℕ → Type 0
 IsInnermost object objects = (outer : List ℕ) × (objects ≡ outer ++ object ∷ [])

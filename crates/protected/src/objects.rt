@@ -1,6 +1,6 @@
 //! The protected actions that tasks have open, and the calls that wait.
-ghost use Rattle.std.specs.Prelude.{◌≡◌, ◌<◌, ◌≤◌, ◌++◌, ◌∷◌, [], length, replicate, None, Some, Ok, OnOk, OnErr, if◌then◌else◌};
-ghost use Rattle.protected.specs.Actions.{Actions, IsInnermost, active_of, calling, ceiling_of, has_any, is_among, opened_by, opening, queued_at, served, with_opened, with_queued, without_last};
+ghost use Rattle.std.specs.Prelude.{◌≡◌, ◌<◌, ◌≤◌, ◌++◌, ◌∷◌, [], IfSome, length, replicate, None, Some, Ok, OnOk, OnErr, if◌then◌else◌};
+ghost use Rattle.protected.specs.Actions.{Actions, IsInnermost, active_of, calling, ceiling_of, has_any, innermost_of, is_among, opened_by, opening, queued_at, served, with_opened, with_queued, without_last};
 ghost use Rattle.protected.specs.Kept.{AreKnown};
 ghost use Rattle.base.specs.declared.limits.TheConstants.{OBJECTS, TASKS};
 
@@ -46,6 +46,28 @@ impl Objects {
         }
     }
 
+    /// The number of tasks.
+    pub fn task_count(&self) -> u8
+        ensures { result ≡ length self.now.bases }
+    {
+        self.bases.len() as u8
+    }
+
+    /// The number of objects.
+    pub fn object_count(&self) -> u8
+        ensures { result ≡ length self.now.ceilings }
+    {
+        self.ceilings.len() as u8
+    }
+
+    /// The ceiling priority of an object.
+    pub fn ceiling(&self, object: u8) -> u8
+        requires { object < length self.now.ceilings }
+        ensures { result ≡ ceiling_of self.now.ceilings object }
+    {
+        self.ceilings[usize::from(object)]
+    }
+
     /// The active priority of a task: the greatest of its base priority and the ceilings of its open actions (RM D.3).
     pub fn active(&self, task: u8) -> u8
         requires { task < length self.now.bases }
@@ -64,6 +86,31 @@ impl Objects {
         ensures { result ≡ has_any (opened_by self.now task) }
     {
         !self.open_actions(task).is_empty()
+    }
+
+    /// Whether a task has an action of an object open.
+    pub fn is_open(&self, task: u8, object: u8) -> bool
+        requires { task < length self.now.bases }
+        ensures { result ≡ is_among object (opened_by self.now task) }
+    {
+        self.open_actions(task).contains(&object)
+    }
+
+    /// The object of the innermost action that a task has open, if it has one.
+    pub fn innermost(&self, task: u8) -> Option<u8>
+        requires { task < length self.now.bases }
+        ensures same { result ≡ innermost_of (opened_by self.now task) }
+        ensures known { IfSome result (λ object. object < length self.now.ceilings) }
+    {
+        self.open_actions(task).last().copied()
+    }
+
+    /// The task whose call waits in the queue of an object, if there is one.
+    pub fn queued(&self, object: u8) -> Option<u8>
+        requires { object < length self.now.ceilings }
+        ensures { result ≡ queued_at self.now object }
+    {
+        self.queued[usize::from(object)]
     }
 
     /// Asks whether a task may open an action of an object. Refuses with `SameObject` where it has one of that object open, else with
@@ -87,7 +134,8 @@ impl Objects {
         requires task { task < length self.old.bases }
         requires object { object < length self.old.ceilings }
         requires allowed { opening self.old task object ≡ Ok tt }
-        ensures { self.new ≡ with_opened task (opened_by self.old task ++ object ∷ []) self.old }
+        ensures opened { self.new ≡ with_opened task (opened_by self.old task ++ object ∷ []) self.old }
+        ensures room { length (opened_by self.old task) < OBJECTS }
     {
         self.opened[usize::from(task)].push(object);
     }
@@ -130,14 +178,6 @@ impl Objects {
         self.opened[usize::from(task)].pop();
     }
 
-    // Whether a task has an action of an object open.
-    fn is_open(&self, task: u8, object: u8) -> bool
-        requires { task < length self.now.bases }
-        ensures { result ≡ is_among object (opened_by self.now task) }
-    {
-        self.open_actions(task).contains(&object)
-    }
-
     // The objects of a task's open actions, the innermost last.
     fn open_actions(&self, task: u8) -> &[u8]
         requires { task < length self.now.bases }
@@ -145,14 +185,6 @@ impl Objects {
         ensures known { AreKnown (length self.now.ceilings) result.now }
     {
         self.opened[usize::from(task)].as_slice()
-    }
-
-    // The ceiling priority of an object.
-    fn ceiling(&self, object: u8) -> u8
-        requires { object < length self.now.ceilings }
-        ensures { result ≡ ceiling_of self.now.ceilings object }
-    {
-        self.ceilings[usize::from(object)]
     }
 }
 

@@ -27,11 +27,20 @@ invariant_of-self c =
     (none_open a c.args.task c.args.object c.requires.allowed))
     (ap (λ v. length v.ceilings) c.self.view_is) (c.push.ensures.items ∙ ap (λ l. l ++ c.args.object ∷ []) both.0))
 
-pub returns : goal.returns
-returns c =
+pub returns-clause-opened : goal.returns-clause-opened
+returns-clause-opened c =
     let o = c.self.inside in
     let a = c.args.self.now in
     let both = opened_kept (λ l. l.items) o.bases.items o.ceilings.items o.opened o.queued a c.from.result c.args.task c.index-self-from.result c.self.view_is c.self.invariant
     c.from.ensures c.requires.task in
     put_view (λ l. l.items) o.bases.items o.ceilings.items o.opened o.queued c.from.result c.args.task _ _ a c.self.view_is c.from.ensures
     (c.push.ensures.items ∙ ap (λ l. l ++ c.args.object ∷ []) both.0)
+
+pub returns-clause-room : goal.returns-clause-room
+returns-clause-room c =
+    let o = c.self.inside in
+    let a = c.args.self.now in
+    let both = opened_kept (λ l. l.items) o.bases.items o.ceilings.items o.opened o.queued a c.from.result c.args.task c.index-self-from.result c.self.view_is c.self.invariant
+    c.from.ensures c.requires.task in
+    room (length a.ceilings) c.args.object (opened_by a c.args.task) (both.1.opened_are c.args.task) both.1.objects c.requires.object
+    (none_open a c.args.task c.args.object c.requires.allowed)

@@ -1,0 +1,11 @@
+mod Actions
+mod Dispatching
+mod Ends
+mod Lines
+mod Moved
+mod Moves
+mod Objects
+mod Places
+mod Standing
+mod Starting
+mod Waking
