@@ -117,7 +117,7 @@ unfolding read_image read_counts read_raw read_many read_bytes read_text read_wo
 first_of_two = refl
 
 -- Of 43 to 47 the one at the least byte, and there the one with the least number: images that break two of them and no other.
--- Which can't both be broken:
+-- Which can't both be broken, before byte 4,294,967,295, which stands for all behind it:
 -- 43 or 46 before 47: both stand in instructions alone, and 47 in front of these
 -- 43 and 44 at a byte: what isn't an operation is no last instruction that goes on, and a jump's operand may be any
 -- 44 and 47 at a byte: this could be the end of a region alone, and an empty one crosses none
