@@ -1,6 +1,5 @@
 mod Begin
 mod Calls
-mod FrameWords
 mod Good
 mod Operands
 mod Pieces

@@ -9,7 +9,7 @@ use Rattle.machine.specs.Held.{AreInner, Follows, Held, Tells}
 use Rattle.machine.specs.declared.reports.Outcome.TheVariants as outcomes
 use Rattle.machine.specs.declared.reports.Signal.{Signal}
 use Rattle.machine.specs.declared.reports.Signal.TheVariants as signals
-use Rattle.machine.specs.Layout.{abandoned}
+use Rattle.processor.specs.Layout.{abandoned}
 
 -- one frame fewer, where it doesn't handle the exception
 pub unwound : (i : Sections) (m : Words) (x : ℕ) (f : Frame) (s : TaskState) (fs : List Frame) → 0 < length fs → handler_of i.rows f.place x ≡ None → f.role ≡ Inner → unwind i m x f fs ≡ unwind i m x (abandoned s fs).frame (abandoned s fs).callers

@@ -12,7 +12,7 @@ use Rattle.base.specs.declared.schedule.ScheduleLine.{ScheduleLine}
 use Rattle.image.specs.declared.instruction.Operation.{Operation}
 use Rattle.image.specs.declared.instruction.Operation.TheVariants.{Call, Return}
 use Rattle.image.specs.declared.subprograms.Subprogram.{Subprogram}
-use Rattle.machine.specs.Layout.{CanReturn}
+use Rattle.processor.specs.Layout.{CanReturn}
 use Rattle.machine.specs.Outcomes.{line_of}
 use Rattle.machine.specs.declared.reports.Outcome.{Outcome}
 use Rattle.machine.specs.declared.reports.Outcome.TheVariants as outcomes

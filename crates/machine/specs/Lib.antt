@@ -1,5 +1,4 @@
 pub mod Held
-pub mod Layout
 pub mod Memory
 pub mod Outcomes
 pub mod Stands

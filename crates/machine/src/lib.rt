@@ -2,13 +2,11 @@
 #![tactic(auto)]
 
 mod fault;
-mod frame;
 mod memory_sink;
-mod processor;
 mod reports;
 mod running;
+mod stepping;
 mod taken;
-mod task_state;
 mod text;
 mod writer_sink;
 mod writing;

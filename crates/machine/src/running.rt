@@ -9,8 +9,8 @@ ghost use Rattle.machine.specs.Stands.{EndsBy};
 ghost use Rattle.machine.specs.Written.{AppendsBeginning};
 
 use crate::fault::RunFault;
-use crate::processor::Processor;
 use crate::reports::{Event, Line, LineText, Outcome, Signal};
+use crate::stepping::Processor;
 use crate::taken::is_taken;
 use crate::text::{last_line, line_text};
 use crate::writing::{Sink, write_all};

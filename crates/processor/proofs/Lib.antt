@@ -1,4 +1,5 @@
 pub mod DecodedSoFar
+pub mod FrameWords
 pub mod Lawful
 pub mod Meets
 pub mod PartPlaces

@@ -2,12 +2,19 @@
 #![tactic(auto)]
 
 mod decoding;
+mod frame;
 pub mod laws;
 mod operation;
+mod role;
+mod row;
 mod running;
+mod task_state;
 mod turning;
 
 pub use decoding::decode;
+pub use frame::Frame;
 pub use operation::Operation;
+pub use role::Role;
 pub use running::{Within, run_within};
+pub use task_state::{CALLERS, TaskState};
 pub use turning::Stop;
