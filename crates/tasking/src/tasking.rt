@@ -4,7 +4,8 @@ ghost use Rattle.base.specs.declared.limits.TheConstants.{OBJECTS, PRIORITIES, T
 ghost use Rattle.kernel.specs.State.{IsFinished, Writes, active, inside, is_object_open};
 ghost use Rattle.kernel.specs.Dispatching.{becomes_ready, dispatch, highest, leaves, preempted, runs_from};
 ghost use Rattle.kernel.specs.Clock.{clock, falls_asleep, last_outcome, some_queued, wakes_due};
-ghost use Rattle.kernel.specs.Effects.{Delays as DelaysUntil, begin, blank, call_refusal, effect, ending_of, ends, is_above_ceiling, is_full, is_inside_any, outer_of, queues, takes_over, with_actions};
+ghost use Rattle.kernel.specs.Effects.{begin, blank, call_refusal, is_above_ceiling, is_full, is_inside_any};
+ghost use Rattle.kernel.specs.Effects.{Delays as DelaysUntil, effect, ending_of, ends, outer_of, queues, takes_over, with_actions};
 ghost use Rattle.kernel.specs.Invariant.{Fits};
 ghost use Rattle.tasking.specs.Held.{action_of, ending_as, innermost, kernel_of, outcome_of, partition_of, place_of, refused_as, some_action, some_outcome};
 ghost use Rattle.tasking.specs.Orderly.{AreAwoken, IsNowhere, IsOfObject, IsOrderly, IsTask, MayEnd, due, is_above, least_of, waiting};
@@ -33,15 +34,14 @@ pub struct Tasking<R: Ready, D: Delays> {
 
 impl<R: Ready, D: Delays> Model for Tasking<R, D> {
     ghost use Rattle.std.specs.Prelude.{map};
-    ghost use Rattle.base.specs.declared.limits.TheConstants.{PRIORITIES};
-    ghost use Rattle.tasking.specs.Held.{Held, lists_below};
-    ghost use Rattle.tasking.specs.Orderly.{IsKept};
+    ghost use Rattle.tasking.specs.Held.{Held, held_of as held};
+    ghost use Rattle.tasking.specs.Orderly.{IsKept as Kept};
 
     ghost Value = { Held };
 
-    ghost view = { λ s. record { running = s.running; ready = lists_below PRIORITIES (R.queues s.ready); sleepers = D.sleepers s.delays; objects = s.objects; kinds = map (λ l. l.items) s.kinds; places = s.places; time = s.time; outcome = s.outcome } };
+    ghost view = { λ s. held s.running (R.queues s.ready) (D.sleepers s.delays) s.objects (map (λ l. l.items) s.kinds) s.places s.time s.outcome };
 
-    ghost invariant = { λ s. IsKept (record { running = s.running; ready = lists_below PRIORITIES (R.queues s.ready); sleepers = D.sleepers s.delays; objects = s.objects; kinds = map (λ l. l.items) s.kinds; places = s.places; time = s.time; outcome = s.outcome }) };
+    ghost invariant = { λ s. Kept (held s.running (R.queues s.ready) (D.sleepers s.delays) s.objects (map (λ l. l.items) s.kinds) s.places s.time s.outcome) };
 }
 
 impl<R: Ready, D: Delays> Tasking<R, D> {
@@ -174,8 +174,15 @@ impl<R: Ready, D: Delays> Tasking<R, D> {
         tasks
     }
 
-    // The number of tasks.
-    fn task_count(&self) -> u8
+    /// The number of objects.
+    pub fn object_count(&self) -> u8
+        ensures { result ≡ (kernel_of self.now).partition.objects }
+    {
+        self.objects.object_count()
+    }
+
+    /// The number of tasks.
+    pub fn task_count(&self) -> u8
         ensures same { result ≡ (kernel_of self.now).partition.tasks }
         ensures few { result ≤ TASKS }
     {
