@@ -217,7 +217,7 @@ impl<R: Ready, D: Delays> Tasking<R, D> {
     }
 
     // A task that is nowhere becomes ready: the tail of the list of its active priority (RM D.2.3).
-    pub(crate) fn becomes_ready(&mut self, task: u8)
+    fn becomes_ready(&mut self, task: u8)
         requires task { IsTask (kernel_of self.old) task }
         requires nowhere { IsNowhere (kernel_of self.old) task }
         ensures { kernel_of self.new ≡ becomes_ready task (kernel_of self.old) }
@@ -240,7 +240,7 @@ impl<R: Ready, D: Delays> Tasking<R, D> {
     }
 
     // A task that is nowhere waits for a time (RM 9.6).
-    pub(crate) fn falls_asleep(&mut self, task: u8, wake: i64)
+    fn falls_asleep(&mut self, task: u8, wake: i64)
         requires task { IsTask (kernel_of self.old) task }
         requires nowhere { IsNowhere (kernel_of self.old) task }
         ensures { kernel_of self.new ≡ falls_asleep task wake (kernel_of self.old) }
@@ -272,7 +272,7 @@ impl<R: Ready, D: Delays> Tasking<R, D> {
     }
 
     // The head of the highest list that is not empty runs; a running task runs on, unless a list above it is not empty (RM D.2.1, D.2.3).
-    pub(crate) fn dispatch(&mut self)
+    fn dispatch(&mut self)
         ensures { kernel_of self.new ≡ dispatch (kernel_of self.old) }
     {
         match self.running() {
@@ -336,7 +336,7 @@ impl<R: Ready, D: Delays> Tasking<R, D> {
     }
 
     // Where nobody runs, time moves on to the least wake time and those due are dispatched; without sleepers the run is over (RM D.8).
-    pub(crate) fn clock(&mut self)
+    fn clock(&mut self)
         ensures { kernel_of self.new ≡ clock (kernel_of self.old) }
     {
         if self.running().is_none() {
@@ -381,7 +381,7 @@ impl<R: Ready, D: Delays> Tasking<R, D> {
     }
 
     // A task's innermost action is closed, if it has one open.
-    pub(crate) fn closes(&mut self, task: u8)
+    fn closes(&mut self, task: u8)
         requires { IsTask (kernel_of self.old) task }
         ensures { kernel_of self.new ≡ with_actions task (outer_of ((kernel_of self.old).actions task)) (kernel_of self.old) }
     {
@@ -409,7 +409,7 @@ impl<R: Ready, D: Delays> Tasking<R, D> {
     }
 
     // A task's innermost action, of an object, serves the call that is queued there.
-    pub(crate) fn takes_over(&mut self, task: u8, object: u8, caller: u8)
+    fn takes_over(&mut self, task: u8, object: u8, caller: u8)
         requires task { IsTask (kernel_of self.old) task }
         requires caller { IsTask (kernel_of self.old) caller }
         requires object { object < (kernel_of self.old).partition.objects }
