@@ -1,5 +1,6 @@
 -- Open actions, innermost first, against their objects and kinds, innermost last.
-use Rattle.std.proofs.Common.{◌≡◌, ℕ, zero, suc, max, ◌-◌, List, [], ◌∷◌, ◌++◌, Some, Bool, true, false, get_or, length, take, nat_eq, slice_get, refl, sym, ap, ◌∙◌, arith}
+use Rattle.std.proofs.Common.{◌≡◌, ℕ, zero, suc, max, ◌-◌, List, [], ◌∷◌, ◌++◌, Some, Bool, true, false, get_or, length, take, nat_eq, slice_get, refl}
+use Rattle.std.proofs.Common.{sym, ap, ◌∙◌, arith}
 use Rattle.std.specs.Prelude.{◌||◌}
 use Rattle.protected.specs.Actions.{has_any, innermost_of, is_among, raised as raised_by, without_last}
 use Rattle.kernel.specs.State.{Action, is_object_open, object_of, raised}
@@ -17,7 +18,8 @@ raised_end : (c : ℕ → ℕ) (b : ℕ) (l : List Action) (a : Action) → rais
 raised_end c b [] a = refl
 raised_end c b (x ∷ l) a = let i = raised_end c b l a in omega (arith, i)
 
-pub raised_is : (c : List ℕ) (b : ℕ) (os : List ℕ) (ks : List Kind) → length ks ≡ length os → raised (λ o. get_or c o 0) b (actions_of os ks) ≡ raised_by c b os
+pub raised_is : (c : List ℕ) (b : ℕ) (os : List ℕ) (ks : List Kind) → length ks ≡ length os → raised (λ o. get_or c o 0) b (actions_of os ks)
+    ≡ raised_by c b os
 raised_is c b [] ks e = refl
 raised_is c b (o ∷ os) [] e = absurd (omega arith)
 raised_is c b (o ∷ os) (k ∷ ks) e =
@@ -51,7 +53,8 @@ any_is [] ks e = refl
 any_is (o ∷ os) [] e = absurd (omega arith)
 any_is (o ∷ os) (k ∷ ks) e = some_end (actions_of os ks) (action_of k o) false true
 
-pub opened_is : (os : List ℕ) (ks : List Kind) (o : ℕ) (k : Kind) → length ks ≡ length os → actions_of (os ++ o ∷ []) (ks ++ k ∷ []) ≡ action_of k o ∷ actions_of os ks
+pub opened_is : (os : List ℕ) (ks : List Kind) (o : ℕ) (k : Kind) → length ks ≡ length os → actions_of (os ++ o ∷ []) (ks ++ k ∷ [])
+    ≡ action_of k o ∷ actions_of os ks
 opened_is [] [] o k e = refl
 opened_is [] (j ∷ ks) o k e = absurd (omega arith)
 opened_is (p ∷ os) [] o k e = absurd (omega arith)
@@ -73,14 +76,16 @@ closed_at (suc n) (o ∷ p ∷ os) (k ∷ j ∷ ks) e f =
     ap (λ l. l ++ action_of k o ∷ []) (closed_at n (p ∷ os) (j ∷ ks) (omega arith) (omega arith))
     ∙ sym (outer_end (actions_of os ks) (action_of j p) (action_of k o))
 
-pub closed_is : (n : ℕ) (os : List ℕ) (ks : List Kind) → length os ≡ suc n → length ks ≡ length os → actions_of (without_last os) (take (length ks - 1) ks) ≡ outer_of (actions_of os ks)
+pub closed_is : (n : ℕ) (os : List ℕ) (ks : List Kind) → length os ≡ suc n → length ks ≡ length os
+    → actions_of (without_last os) (take (length ks - 1) ks) ≡ outer_of (actions_of os ks)
 closed_is n os ks e f =
     let a : length os - 1 ≡ n = omega arith in
     let b : length ks - 1 ≡ n = omega arith in
     ap (λ m. actions_of (take m os) (take (length ks - 1) ks)) a ∙ (ap (λ m. actions_of (take n os) (take m ks)) b ∙ closed_at n os ks e (f ∙ e))
 
 -- the innermost action begins to serve
-retaken_at : (n u : ℕ) (os : List ℕ) (ks : List Kind) (o : ℕ) → length os ≡ suc n → length ks ≡ suc n → slice_get os n ≡ Some o → actions_of os (take n ks ++ kinds.Serves u ∷ []) ≡ action_of (kinds.Serves u) o ∷ outer_of (actions_of os ks)
+retaken_at : (n u : ℕ) (os : List ℕ) (ks : List Kind) (o : ℕ) → length os ≡ suc n → length ks ≡ suc n → slice_get os n ≡ Some o
+    → actions_of os (take n ks ++ kinds.Serves u ∷ []) ≡ action_of (kinds.Serves u) o ∷ outer_of (actions_of os ks)
 retaken_at n u [] ks o e f g = absurd (omega arith)
 retaken_at n u (p ∷ os) [] o e f g = absurd (omega arith)
 retaken_at zero u (p ∷ []) (k ∷ []) o e f g = let same : p ≡ o = cc in ap (λ m. action_of (kinds.Serves u) m ∷ []) same
@@ -103,7 +108,8 @@ innermost_end : (l : List Action) (b a : Action) → innermost ((l ++ b ∷ []) 
 innermost_end [] b a = refl
 innermost_end (x ∷ l) b a = refl
 
-pub innermost_at : (n : ℕ) (os : List ℕ) (ks : List Kind) (o : ℕ) (k : Kind) → length os ≡ suc n → length ks ≡ suc n → slice_get os n ≡ Some o → slice_get ks n ≡ Some k
+pub innermost_at : (n : ℕ) (os : List ℕ) (ks : List Kind) (o : ℕ) (k : Kind) → length os ≡ suc n → length ks ≡ suc n → slice_get os n ≡ Some o
+    → slice_get ks n ≡ Some k
     → innermost (actions_of os ks) ≡ Some (action_of k o)
 innermost_at n [] ks o k e f g h = absurd (omega arith)
 innermost_at n (p ∷ os) [] o k e f g h = absurd (omega arith)
@@ -112,9 +118,11 @@ innermost_at zero (p ∷ []) (j ∷ i ∷ ks) o k e f g h = absurd (omega arith)
 innermost_at zero (p ∷ r ∷ os) (j ∷ ks) o k e f g h = absurd (omega arith)
 innermost_at (suc n) (p ∷ []) (j ∷ ks) o k e f g h = absurd (omega arith)
 innermost_at (suc n) (p ∷ r ∷ os) (j ∷ []) o k e f g h = absurd (omega arith)
-innermost_at (suc n) (p ∷ r ∷ os) (j ∷ i ∷ ks) o k e f g h = innermost_end (actions_of os ks) (action_of i r) (action_of j p) ∙ innermost_at n (r ∷ os) (i ∷ ks) o k (omega arith) (omega arith) g h
+innermost_at (suc n) (p ∷ r ∷ os) (j ∷ i ∷ ks) o k e f g h = innermost_end (actions_of os ks) (action_of i r) (action_of j p)
+    ∙ innermost_at n (r ∷ os) (i ∷ ks) o k (omega arith) (omega arith) g h
 
-pub innermost_is : (n : ℕ) (os : List ℕ) (ks : List Kind) (o : ℕ) (k : Kind) → length os ≡ suc n → length ks ≡ length os → innermost_of os ≡ Some o → slice_get ks (length ks - 1) ≡ Some k
+pub innermost_is : (n : ℕ) (os : List ℕ) (ks : List Kind) (o : ℕ) (k : Kind) → length os ≡ suc n → length ks ≡ length os → innermost_of os ≡ Some o
+    → slice_get ks (length ks - 1) ≡ Some k
     → innermost (actions_of os ks) ≡ Some (action_of k o)
 innermost_is n os ks o k e f g h =
     let a : length os - 1 ≡ n = omega arith in

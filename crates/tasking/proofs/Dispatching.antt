@@ -12,7 +12,8 @@ use Rattle.tasking.proofs.Places.{highest_same}
 
 pub above_is : (g : Held) (q : Queues) (old : Held) → record g { ready = lists_below PRIORITIES q } ≡ old → (t : ℕ) (o : Option ℕ) → o ≡ highest q
     → is_above (active (kernel_of old) t) o ≡ is_above (active (kernel_of old) t) (kernel_highest (kernel_of old).ready PRIORITIES)
-above_is g q old same t o e = ap (is_above (active (kernel_of old) t)) (e ∙ (sym (highest_same q) ∙ ap (λ v. kernel_highest (kernel_of v).ready PRIORITIES) same))
+above_is g q old same t o e = ap (is_above (active (kernel_of old) t))
+    (e ∙ (sym (highest_same q) ∙ ap (λ v. kernel_highest (kernel_of v).ready PRIORITIES) same))
 
 below_of : (n h : ℕ) (r : ℕ → List ℕ) → kernel_highest r n ≡ Some h → h < n
 below_of zero h r e = absurd (cc)
@@ -29,7 +30,8 @@ highest_put (suc n) a h x r lt e =
     (λ same. let b = below_of (suc n) h r e in absurd (omega arith))
     (λ ne. ap (λ l. unless_empty l n (kernel_highest (put a x r) n)) (put_other a n x r ne) ∙ go (r n) (kernel_highest r n) (highest_put n a h x r lt) e)
     (same_or_not n a) where
-      go : (l : List ℕ) (o : Option ℕ) → (o ≡ Some h → kernel_highest (put a x r) n ≡ Some h) → unless_empty l n o ≡ Some h → unless_empty l n (kernel_highest (put a x r) n) ≡ Some h
+      go : (l : List ℕ) (o : Option ℕ) → (o ≡ Some h → kernel_highest (put a x r) n ≡ Some h) → unless_empty l n o ≡ Some h
+          → unless_empty l n (kernel_highest (put a x r) n) ≡ Some h
       go [] o more e = more e
       go (t ∷ ts) o more e = e
 
@@ -49,7 +51,8 @@ module _ (k : Kernel) (t : ℕ) (run : k.running ≡ Some t) where
       ap (λ o. runs_from o (preempted t k)) (highest_put PRIORITIES (active k t) h (t ∷ k.ready (active k t)) k.ready (ltb-true (active k t) h e) is)
       ∙ sym (ap (λ b. cond b (runs_from (Some h) (preempted t k)) k) e)
 
-  pub over_is : is_above (active k t) (kernel_highest k.ready PRIORITIES) ≡ true → runs_from (kernel_highest (preempted t k).ready PRIORITIES) (preempted t k) ≡ dispatch k
+  pub over_is : is_above (active k t) (kernel_highest k.ready PRIORITIES) ≡ true
+      → runs_from (kernel_highest (preempted t k).ready PRIORITIES) (preempted t k) ≡ dispatch k
   over_is e = over_at (kernel_highest k.ready PRIORITIES) refl e ∙ sym some_is
 
   stays_at : (o : Option ℕ) → is_above (active k t) o ≡ false → k ≡ preempts t o k

@@ -34,7 +34,8 @@ served_nowhere b k t u o kept run here other =
     let r : runs_as u k.running ≡ 0 = ap (runs_as u) run ∙ ap (λ v. cond v 1 0) (eqb_other u t other) in
     omega (arith, l, n, r)
 
-pub may_end : (b : ℕ → Bool) (k : Kernel) (t : ℕ) (is_open : Bool) (e : Left) → ending_as e ≡ ending_of is_open (k.actions t) k.queued → k.running ≡ Some t → Kept b k → Reaches k t (Ends is_open)
+pub may_end : (b : ℕ → Bool) (k : Kernel) (t : ℕ) (is_open : Bool) (e : Left) → ending_as e ≡ ending_of is_open (k.actions t) k.queued → k.running
+    ≡ Some t → Kept b k → Reaches k t (Ends is_open)
     → IsOfObject k e → ((u : ℕ) → k.place u ≢ IsFinished → IsTask k u) → MayEnd k t e
 may_end b k t is_open endings.Closes is run kept reaches object tasks = tt
 may_end b k t is_open (endings.TakesOver o u) is run kept reaches object tasks =

@@ -6,6 +6,7 @@ mod Moved
 mod Moves
 mod Objects
 mod Places
+mod Scripts
 mod Standing
 mod Starting
 mod Waking

@@ -28,7 +28,8 @@ module _ (l : List Line) where
   preempts_apart : (t : ℕ) (o : Option ℕ) (k : Kernel) → preempts t o (with l k) ≡ with l (preempts t o k)
   preempts_apart t None k = refl
   preempts_apart t (Some h) k =
-      by_cond l (nat_lt (active k t) h) (runs_from (Some h) (preempted t (with l k))) (with l k) (runs_from (Some h) (preempted t k)) k (from_apart (Some h) (preempted t k)) refl
+      by_cond l (nat_lt (active k t) h) (runs_from (Some h) (preempted t (with l k))) (with l k) (runs_from (Some h) (preempted t k)) k
+      (from_apart (Some h) (preempted t k)) refl
 
   dispatch_at : (r o : Option ℕ) (k : Kernel) → highest k.ready PRIORITIES ≡ o → dispatch_from r (with l k) ≡ with l (dispatch_from r k)
   dispatch_at None o k e = from_apart (highest k.ready PRIORITIES) k
@@ -61,7 +62,8 @@ module _ (l : List Line) where
   settled : (j k : Kernel) → j ≡ with l k → clock (dispatch j) ≡ with l (clock (dispatch k))
   settled j k e = ap (λ v. clock (dispatch v)) e ∙ (ap clock (dispatch_apart k) ∙ clock_apart (dispatch k))
 
-  service_apart : (t o : ℕ) (is_open : Bool) (q : Option ℕ) (outer : List Action) (k : Kernel) → ends t (service is_open o q) outer (with l k) ≡ with l (ends t (service is_open o q) outer k)
+  service_apart : (t o : ℕ) (is_open : Bool) (q : Option ℕ) (outer : List Action) (k : Kernel) → ends t (service is_open o q) outer (with l k)
+      ≡ with l (ends t (service is_open o q) outer k)
   service_apart t o false q outer k = refl
   service_apart t o true None outer k = refl
   service_apart t o true (Some u) outer k = refl
@@ -84,11 +86,13 @@ lines_apart t (Says label value) k l =
     settled all (with all k) (with (k.lines ++ more ∷ []) k) refl
 lines_apart t (Delays until) k l =
     none_more l _ (clock (dispatch (effect t (Delays until) k))) (settled l _ (effect t (Delays until) k)
-    (by_cond l (int_lt k.now until) (falls_asleep t until (leaves t (with l k))) (becomes_ready t (leaves t (with l k))) (falls_asleep t until (leaves t k)) (becomes_ready t (leaves t k)) refl refl))
+    (by_cond l (int_lt k.now until) (falls_asleep t until (leaves t (with l k))) (becomes_ready t (leaves t (with l k)))
+    (falls_asleep t until (leaves t k)) (becomes_ready t (leaves t k)) refl refl))
 lines_apart t (Opens o) k l = none_more l _ (clock (dispatch (effect t (Opens o) k))) (settled l _ (effect t (Opens o) k) refl)
 lines_apart t (Views o) k l = none_more l _ (clock (dispatch (effect t (Views o) k))) (settled l _ (effect t (Views o) k) refl)
 lines_apart t (Queues o) k l = none_more l _ (clock (dispatch (effect t (Queues o) k))) (settled l _ (effect t (Queues o) k) refl)
-lines_apart t (Ends is_open) k l = none_more l _ (clock (dispatch (effect t (Ends is_open) k))) (settled l _ (effect t (Ends is_open) k) (ends_apart l t is_open (k.actions t) k))
+lines_apart t (Ends is_open) k l = none_more l _ (clock (dispatch (effect t (Ends is_open) k)))
+    (settled l _ (effect t (Ends is_open) k) (ends_apart l t is_open (k.actions t) k))
 lines_apart t Finishes k l = none_more l _ (clock (dispatch (effect t Finishes k))) (settled l _ (effect t Finishes k) refl)
 lines_apart t (Dies x) k l = none_more l _ (effect t (Dies x) k) refl
 lines_apart t Breaks k l = none_more l _ (effect t Breaks k) refl

@@ -1,5 +1,6 @@
 -- What a write to the fields makes of the kernel that they are seen as.
-use Rattle.std.proofs.Common.{◌≡◌, ℕ, zero, suc, ◌<◌, List, [], ◌∷◌, ◌++◌, Option, Some, None, drop, get_or, length, length-set, set, refl, sym, ap, ◌∙◌, arith}
+use Rattle.std.proofs.Common.{◌≡◌, ℕ, zero, suc, ◌<◌, List, [], ◌∷◌, ◌++◌, Option, Some, None, drop, get_or, length, length-set, set, refl, sym, ap, ◌∙◌}
+use Rattle.std.proofs.Common.{arith}
 use Rattle.base.specs.declared.limits.TheConstants.{PRIORITIES}
 use Rattle.dispatch.specs.Queues.{Queues, head_at, head_of, highest, highest_below, unless_empty, without_head}
 use Rattle.kernel.specs.State.{Kernel, active, put}
@@ -16,7 +17,8 @@ pub carried : (h old : Held) (new : Kernel) (f : Kernel → Kernel) → h ≡ ol
 carried h old new f same e = e ∙ ap (λ x. f (kernel_of x)) same
 
 -- the place of a task, in the row
-pub placed : (g : Held) (k t : ℕ) (x : Stand) → k ≡ t → t < length g.places → (u : ℕ) → place_at (set g.places k x) u ≡ put t (place_of x) (kernel_of g).place u
+pub placed : (g : Held) (k t : ℕ) (x : Stand) → k ≡ t → t < length g.places → (u : ℕ) → place_at (set g.places k x) u
+    ≡ put t (place_of x) (kernel_of g).place u
 placed g k t x is h = set_is place_of g.places k t x places.Finished is h
 
 -- only a task's place is written
@@ -29,13 +31,26 @@ rows_placed g h k t x is lt r = record {
   opened = r.opened;
   kinds = r.kinds;
   places = length-set g.places k x ∙ r.places;
-  beyond = λ u le. placed g k t x is (let e = r.places in let f = r.few_tasks in omega arith) u ∙ (put_other t u (place_of x) (kernel_of g).place (λ e. omega arith) ∙ r.beyond u le);
+  beyond = λ u le. placed g k t x is (let e = r.places in let f = r.few_tasks in omega arith) u
+      ∙ (put_other t u (place_of x) (kernel_of g).place (λ e. omega arith) ∙ r.beyond u le);
   short = r.short;
   paired = r.paired;
 }
 
-pub rows_same : (g h : Held) → AreRows g → AreRows (record g { running = h.running; ready = h.ready; sleepers = h.sleepers; time = h.time; outcome = h.outcome })
-rows_same g h r = record { few_tasks = r.few_tasks; few_objects = r.few_objects; queues = r.queues; opened = r.opened; kinds = r.kinds; places = r.places; beyond = r.beyond; short = r.short; paired = r.paired }
+pub rows_same : (g h : Held) → AreRows g
+    → AreRows (record g { running = h.running; ready = h.ready; sleepers = h.sleepers; time = h.time; outcome = h.outcome })
+rows_same g h r = record {
+  few_tasks = r.few_tasks;
+  few_objects = r.few_objects;
+  queues = r.queues;
+  opened = r.opened;
+  kinds = r.kinds;
+  places =
+      r.places;
+  beyond = r.beyond;
+  short = r.short;
+  paired = r.paired;
+}
 
 -- a list of ready tasks is written
 listed : (q r : Queues) (a b : ℕ) (f : List ℕ → List ℕ) → a ≡ b → a < PRIORITIES → ((p : ℕ) → r p ≡ put a (f (q a)) q p)
@@ -50,7 +65,8 @@ module _ (g : Held) (q r : Queues) where
   before = record g { ready = lists_below PRIORITIES q }
 
   pub ready_is : (k t a : ℕ) → k ≡ t → t < length g.places → a ≡ active (kernel_of g) t → a < PRIORITIES → ((p : ℕ) → r p ≡ put a (q a ++ t ∷ []) q p)
-      → kernel_of (record g { ready = lists_below PRIORITIES r; places = set g.places k places.Ready }) ≡ becomes_ready t (kernel_of (record g { ready = lists_below PRIORITIES q }))
+      → kernel_of (record g { ready = lists_below PRIORITIES r; places = set g.places k places.Ready })
+      ≡ becomes_ready t (kernel_of (record g { ready = lists_below PRIORITIES q }))
   ready_is k t a is h same low e = λ i.
       record (kernel_of g) {
         ready = λ p. listed q r a (active (kernel_of g) t) (λ l. l ++ t ∷ []) same low e p i;
@@ -58,7 +74,8 @@ module _ (g : Held) (q r : Queues) where
       }
 
   pub preempted_is : (k t a : ℕ) → k ≡ t → t < length g.places → a ≡ active (kernel_of g) t → a < PRIORITIES → ((p : ℕ) → r p ≡ put a (t ∷ q a) q p)
-      → kernel_of (record g { running = None; ready = lists_below PRIORITIES r; places = set g.places k places.Ready }) ≡ preempted t (kernel_of (record g { ready = lists_below PRIORITIES q }))
+      → kernel_of (record g { running = None; ready = lists_below PRIORITIES r; places = set g.places k places.Ready })
+      ≡ preempted t (kernel_of (record g { ready = lists_below PRIORITIES q }))
   preempted_is k t a is h same low e = λ i.
       record (kernel_of g) {
         running = None;
@@ -72,7 +89,8 @@ module _ (g : Held) (q r : Queues) where
 
   -- the head of the list h runs
   head_is : (h k t : ℕ) → h < PRIORITIES → head_of (q h) ≡ Some t → ((p : ℕ) → r p ≡ put h (drop 1 (q h)) q p) → k ≡ t → t < length g.places
-      → kernel_of (record g { running = Some t; ready = lists_below PRIORITIES r; places = set g.places k places.Running }) ≡ runs_from (Some h) (kernel_of (record g { ready = lists_below PRIORITIES q }))
+      → kernel_of (record g { running = Some t; ready = lists_below PRIORITIES r; places = set g.places k places.Running })
+      ≡ runs_from (Some h) (kernel_of (record g { ready = lists_below PRIORITIES q }))
   head_is h k t low e left is lt =
       let kern = kernel_of (record g { ready = lists_below PRIORITIES q }) in
       let here : kern.ready h ≡ t ∷ drop 1 (q h) = list_at PRIORITIES q h low ∙ head_split (q h) t e in
@@ -84,8 +102,10 @@ module _ (g : Held) (q r : Queues) where
       })
       ∙ sym (ap (λ l. runs_head l h kern) here)
 
-  pub head_runs_is : (o : Option ℕ) (k t : ℕ) → ((h : ℕ) → o ≡ Some h → h < PRIORITIES) → head_at o q ≡ Some t → ((p : ℕ) → r p ≡ without_head o q p) → k ≡ t → t < length g.places
-      → kernel_of (record g { running = Some t; ready = lists_below PRIORITIES r; places = set g.places k places.Running }) ≡ runs_from o (kernel_of (record g { ready = lists_below PRIORITIES q }))
+  pub head_runs_is : (o : Option ℕ) (k t : ℕ) → ((h : ℕ) → o ≡ Some h → h < PRIORITIES) → head_at o q ≡ Some t → ((p : ℕ) → r p ≡ without_head o q p)
+      → k ≡ t → t < length g.places
+      → kernel_of (record g { running = Some t; ready = lists_below PRIORITIES r; places = set g.places k places.Running })
+      ≡ runs_from o (kernel_of (record g { ready = lists_below PRIORITIES q }))
   head_runs_is None k t low e left is lt = absurd (cc)
   head_runs_is (Some h) k t low e left is lt = head_is h k t (low h refl) e left is lt
 

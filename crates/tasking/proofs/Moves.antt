@@ -11,7 +11,8 @@ use Rattle.tasking.specs.declared.reports.Place.TheVariants as places
 use Rattle.tasking.specs.Held.{Held, kernel_of, lists_below, sleeper_of, sleepers_of}
 use Rattle.tasking.specs.Orderly.{IsKept, IsNowhere, IsOrderly, IsTask, standing}
 use Rattle.tasking.proofs.Places.{highest_same, list_at}
-use Rattle.tasking.proofs.Standing.{asleep_orderly, sleeping_room, head_task, once_low, preempted_orderly, ready_orderly, ready_room, runs_one, runs_orderly, runs_task}
+use Rattle.tasking.proofs.Standing.{asleep_orderly, sleeping_room, head_task, once_low, preempted_orderly, ready_orderly, ready_room, runs_one}
+use Rattle.tasking.proofs.Standing.{runs_orderly, runs_task}
 use Rattle.tasking.proofs.Moved.{head_runs_is, highest_low, none_runs_is, preempted_is, ready_is, rows_placed, rows_same}
 
 -- the value before, as the fields are seen
@@ -37,7 +38,8 @@ module _ (h old : Held) (same : h ≡ old) (kept : IsKept h) where
   pub runner_before : (t : ℕ) → old.running ≡ Some t → IsTask (kernel_of old) t
   runner_before t run = subst (λ v. IsTask (kernel_of v) t) same (runner_here t run)
 
-module _ (g : Held) (q r : Queues) (old : Held) (same : record g { ready = lists_below PRIORITIES q } ≡ old) (kept : IsKept (record g { ready = lists_below PRIORITIES q })) where
+module _ (g : Held) (q r : Queues) (old : Held) (same : record g { ready = lists_below PRIORITIES q } ≡ old)
+    (kept : IsKept (record g { ready = lists_below PRIORITIES q })) where
   abbrev h : Held
   h = record g { ready = lists_below PRIORITIES q }
 
@@ -58,25 +60,32 @@ module _ (g : Held) (q r : Queues) (old : Held) (same : record g { ready = lists
     in_them : t < length g.places
     in_them = in_places h old same kept t (task_here h old same kept t task)
 
-    becomes_path : ((p : ℕ) → r p ≡ put a (q a ++ t ∷ []) q p) → kernel_of (record g { ready = lists_below PRIORITIES r; places = set g.places k places.Ready }) ≡ becomes_ready t (kernel_of h)
+    becomes_path : ((p : ℕ) → r p ≡ put a (q a ++ t ∷ []) q p)
+        → kernel_of (record g { ready = lists_below PRIORITIES r; places = set g.places k places.Ready }) ≡ becomes_ready t (kernel_of h)
     becomes_path e = ready_is g q r k t a is in_them a_here low e
 
-    pub becomes_is : ((p : ℕ) → r p ≡ put a (q a ++ t ∷ []) q p) → kernel_of (record g { ready = lists_below PRIORITIES r; places = set g.places k places.Ready }) ≡ becomes_ready t (kernel_of old)
+    pub becomes_is : ((p : ℕ) → r p ≡ put a (q a ++ t ∷ []) q p)
+        → kernel_of (record g { ready = lists_below PRIORITIES r; places = set g.places k places.Ready }) ≡ becomes_ready t (kernel_of old)
     becomes_is e = becomes_path e ∙ ap (λ v. becomes_ready t (kernel_of v)) same
 
-    pub becomes_kept : IsNowhere (kernel_of old) t → ((p : ℕ) → r p ≡ put a (q a ++ t ∷ []) q p) → IsKept (record g { ready = lists_below PRIORITIES r; places = set g.places k places.Ready })
+    pub becomes_kept : IsNowhere (kernel_of old) t → ((p : ℕ) → r p ≡ put a (q a ++ t ∷ []) q p)
+        → IsKept (record g { ready = lists_below PRIORITIES r; places = set g.places k places.Ready })
     becomes_kept none e = record {
-      orderly = subst IsOrderly (sym (becomes_path e)) (ready_orderly (kernel_of h) t (task_here h old same kept t task) (ap (λ v. standing (kernel_of v) t) same ∙ none) kept.orderly);
+      orderly = subst IsOrderly (sym (becomes_path e))
+          (ready_orderly (kernel_of h) t (task_here h old same kept t task) (ap (λ v. standing (kernel_of v) t) same ∙ none) kept.orderly);
       rows = rows_placed h (record g { ready = lists_below PRIORITIES r }) k t places.Ready is (task_here h old same kept t task) kept.rows;
     }
 
-    preempted_path : ((p : ℕ) → r p ≡ put a (t ∷ q a) q p) → kernel_of (record g { running = None; ready = lists_below PRIORITIES r; places = set g.places k places.Ready }) ≡ preempted t (kernel_of h)
+    preempted_path : ((p : ℕ) → r p ≡ put a (t ∷ q a) q p) → kernel_of
+        (record g { running = None; ready = lists_below PRIORITIES r; places = set g.places k places.Ready }) ≡ preempted t (kernel_of h)
     preempted_path e = preempted_is g q r k t a is in_them a_here low e
 
-    pub outranked_is : ((p : ℕ) → r p ≡ put a (t ∷ q a) q p) → kernel_of (record g { running = None; ready = lists_below PRIORITIES r; places = set g.places k places.Ready }) ≡ preempted t (kernel_of old)
+    pub outranked_is : ((p : ℕ) → r p ≡ put a (t ∷ q a) q p) → kernel_of
+        (record g { running = None; ready = lists_below PRIORITIES r; places = set g.places k places.Ready }) ≡ preempted t (kernel_of old)
     outranked_is e = preempted_path e ∙ ap (λ v. preempted t (kernel_of v)) same
 
-    pub outranked_kept : old.running ≡ Some t → ((p : ℕ) → r p ≡ put a (t ∷ q a) q p) → IsKept (record g { running = None; ready = lists_below PRIORITIES r; places = set g.places k places.Ready })
+    pub outranked_kept : old.running ≡ Some t → ((p : ℕ) → r p ≡ put a (t ∷ q a) q p)
+        → IsKept (record g { running = None; ready = lists_below PRIORITIES r; places = set g.places k places.Ready })
     outranked_kept run e = record {
       orderly = subst IsOrderly (sym (preempted_path e)) (preempted_orderly (kernel_of h) t (runs_here h old same kept t run) kept.orderly);
       rows = rows_placed h (record g { running = None; ready = lists_below PRIORITIES r }) k t places.Ready is (task_here h old same kept t task) kept.rows;
@@ -101,7 +110,8 @@ module _ (g : Held) (q r : Queues) (old : Held) (same : record g { ready = lists
     from_highest f = ap f (sym (highest_same q))
 
     old_is : runs_from (highest q) (kernel_of h) ≡ runs_from (kernel_highest (kernel_of old).ready PRIORITIES) (kernel_of old)
-    old_is = ap (λ o. runs_from o (kernel_of h)) (sym (highest_same q)) ∙ ap (λ v. runs_from (kernel_highest (kernel_of v).ready PRIORITIES) (kernel_of v)) same
+    old_is = ap (λ o. runs_from o (kernel_of h)) (sym (highest_same q))
+        ∙ ap (λ v. runs_from (kernel_highest (kernel_of v).ready PRIORITIES) (kernel_of v)) same
 
     module _ (t : ℕ) (e : head_at (highest q) q ≡ Some t) where
       pub head_is_task : IsTask (kernel_of h) t
@@ -114,10 +124,12 @@ module _ (g : Held) (q r : Queues) (old : Held) (same : record g { ready = lists
           at (u ∷ us) here f = let e : u ≡ t = cc in head_task (kernel_of h) p t us (highest_low q p is) (here ∙ ap (λ v. v ∷ us) e) kept.orderly
 
       module _ (k : ℕ) (is : k ≡ t) where
-        head_path : kernel_of (record g { running = Some t; ready = lists_below PRIORITIES r; places = set g.places k places.Running }) ≡ runs_from (highest q) (kernel_of h)
+        head_path : kernel_of (record g { running = Some t; ready = lists_below PRIORITIES r; places = set g.places k places.Running })
+            ≡ runs_from (highest q) (kernel_of h)
         head_path = head_runs_is g q r (highest q) k t (λ p i. highest_low q p i) e left is (in_places h old same kept t head_is_task)
 
-        pub run_is : kernel_of (record g { running = Some t; ready = lists_below PRIORITIES r; places = set g.places k places.Running }) ≡ runs_from (kernel_highest (kernel_of old).ready PRIORITIES) (kernel_of old)
+        pub run_is : kernel_of (record g { running = Some t; ready = lists_below PRIORITIES r; places = set g.places k places.Running })
+            ≡ runs_from (kernel_highest (kernel_of old).ready PRIORITIES) (kernel_of old)
         run_is = head_path ∙ old_is
 
         pub run_kept : IsKept (record g { running = Some t; ready = lists_below PRIORITIES r; places = set g.places k places.Running })
@@ -143,14 +155,17 @@ module _ (g : Held) (q r : Queues) (old : Held) (same : record g { ready = lists
 module _ (h old : Held) (same : h ≡ old) (kept : IsKept h) (t : ℕ) where
   pub asleep_room : IsTask (kernel_of old) t → IsNowhere (kernel_of old) t → length h.sleepers < TASKS
   asleep_room task none =
-      let l = sleeping_room (kernel_of h) TASKS t kept.rows.few_tasks (task_here h old same kept t task) (ap (λ v. standing (kernel_of v) t) same ∙ none) kept.orderly in
+      let l = sleeping_room (kernel_of h) TASKS t kept.rows.few_tasks (task_here h old same kept t task)
+      (ap (λ v. standing (kernel_of v) t) same ∙ none) kept.orderly in
       let e : length (sleepers_of h.sleepers) ≡ length h.sleepers = length-map h.sleepers sleeper_of in
       omega arith
 
-  pub asleep_kept : (k : ℕ) (w : ℤ) (rows : List Row) → k ≡ t → IsTask (kernel_of old) t → IsNowhere (kernel_of old) t → rows ≡ h.sleepers ++ record { task = t; wake = w } ∷ []
+  pub asleep_kept : (k : ℕ) (w : ℤ) (rows : List Row) → k ≡ t → IsTask (kernel_of old) t → IsNowhere (kernel_of old) t → rows
+      ≡ h.sleepers ++ record { task = t; wake = w } ∷ []
       → IsKept (record h { sleepers = rows; places = set h.places k places.Asleep })
   asleep_kept k w rows is task none e = record {
-    orderly = subst (λ ss. IsOrderly (record (falls_asleep t w (kernel_of h)) { sleepers = ss })) (sym (ap sleepers_of e ∙ map-append sleeper_of h.sleepers (record { task = t; wake = w } ∷ [])))
+    orderly = subst (λ ss. IsOrderly (record (falls_asleep t w (kernel_of h)) { sleepers = ss }))
+        (sym (ap sleepers_of e ∙ map-append sleeper_of h.sleepers (record { task = t; wake = w } ∷ [])))
         (asleep_orderly (kernel_of h) t w (task_here h old same kept t task) (ap (λ v. standing (kernel_of v) t) same ∙ none) kept.orderly);
     rows = rows_placed h (record h { sleepers = rows }) k t places.Asleep is (task_here h old same kept t task) kept.rows;
   }

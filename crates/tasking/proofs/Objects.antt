@@ -1,9 +1,12 @@
 -- Open actions and queued calls: what a write to them makes of the kernel that they are seen as.
-use Rattle.std.proofs.Common.{◌≡◌, ℕ, zero, suc, ◌+◌, ◌-◌, ◌<◌, ◌≤◌, List, [], ◌∷◌, ◌++◌, Option, Some, None, Bool, true, false, cond, get_or, length, length-set, length-append, map, set, take, nat_lt, slice_get, Result, Ok, Err, refl, sym, ap, ◌∙◌, subst, ⊎_elim, arith, get_or-set_same, get_or-set_other, length-take, min}
+use Rattle.std.proofs.Common.{◌≡◌, ℕ, zero, suc, ◌+◌, ◌-◌, ◌<◌, ◌≤◌, List, [], ◌∷◌, ◌++◌, Option, Some, None, Bool, true, false, cond, get_or, length}
+use Rattle.std.proofs.Common.{length-set, length-append, map, set, take, nat_lt, slice_get, Result, Ok, Err, refl, sym, ap, ◌∙◌, subst, ⊎_elim, arith}
+use Rattle.std.proofs.Common.{get_or-set_same, get_or-set_other, length-take, min}
 use Rattle.std.specs.Result.{result_err}
 use Rattle.std.proofs.lemmas.List.{get_or-map, length-map, map-set}
 use Rattle.base.specs.declared.limits.TheConstants.{OBJECTS}
-use Rattle.protected.specs.Actions.{Actions, active_of, ceiling_of, innermost_of as innermost_object, is_among, opened_by, opening, with_opened, with_queued, without_last}
+use Rattle.protected.specs.Actions.{Actions, active_of, ceiling_of, innermost_of as innermost_object, is_among, opened_by, opening, with_opened}
+use Rattle.protected.specs.Actions.{with_queued, without_last}
 use Rattle.protected.specs.declared.refusal.Refusal.{Refusal as Refused}
 use Rattle.protected.specs.declared.refusal.Refusal.TheVariants as refused
 use Rattle.kernel.specs.State.{Action, Writes, active, is_object_open, put}
@@ -31,7 +34,8 @@ module _ {A : Type 0} (f : A → List Kind) (lists : List A) (k t : ℕ) (is : k
   kinds_put l ks e = map-set f lists k l ∙ (ap (λ n. set (map f lists) n (f l)) is ∙ ap (set (map f lists) t) e)
 
 rows_put : (objects : List (List ℕ)) (rows : List (List Kind)) (t : ℕ) (os : List ℕ) (ks : List Kind) → t < length objects → t < length rows → (u : ℕ)
-    → actions_of (get_or (set objects t os) u []) (get_or (set rows t ks) u []) ≡ put t (actions_of os ks) (λ v. actions_of (get_or objects v []) (get_or rows v [])) u
+    → actions_of (get_or (set objects t os) u []) (get_or (set rows t ks) u [])
+    ≡ put t (actions_of os ks) (λ v. actions_of (get_or objects v []) (get_or rows v [])) u
 rows_put objects rows t os ks lo lk u =
     ⊎_elim
     (λ e.
@@ -46,7 +50,8 @@ rows_put objects rows t os ks lo lk u =
     (same_or_not u t)
 
 kind_put : (objects : List (List ℕ)) (rows : List (List Kind)) (t : ℕ) (ks : List Kind) → t < length rows → (u : ℕ)
-    → actions_of (get_or objects u []) (get_or (set rows t ks) u []) ≡ put t (actions_of (get_or objects t []) ks) (λ v. actions_of (get_or objects v []) (get_or rows v [])) u
+    → actions_of (get_or objects u []) (get_or (set rows t ks) u [])
+    ≡ put t (actions_of (get_or objects t []) ks) (λ v. actions_of (get_or objects v []) (get_or rows v [])) u
 kind_put objects rows t ks lk u =
     ⊎_elim
     (λ e.
@@ -58,13 +63,16 @@ kind_put objects rows t ks lk u =
     ∙ sym (put_other t u (actions_of (get_or objects t []) ks) (λ v. actions_of (get_or objects v []) (get_or rows v [])) ne))
     (same_or_not u t)
 
-paired_put : (objects : List (List ℕ)) (rows : List (List Kind)) (t : ℕ) (os : List ℕ) (ks : List Kind) → t < length objects → t < length rows → length ks ≡ length os
-    → ((u : ℕ) → length (get_or rows u []) ≡ length (get_or objects u [])) → (u : ℕ) → length (get_or (set rows t ks) u []) ≡ length (get_or (set objects t os) u [])
+paired_put : (objects : List (List ℕ)) (rows : List (List Kind)) (t : ℕ) (os : List ℕ) (ks : List Kind) → t < length objects → t < length rows
+    → length ks ≡ length os
+    → ((u : ℕ) → length (get_or rows u []) ≡ length (get_or objects u [])) → (u : ℕ) → length (get_or (set rows t ks) u [])
+    ≡ length (get_or (set objects t os) u [])
 paired_put objects rows t os ks lo lk e all u =
     ⊎_elim
     (λ same.
     ap (λ v. length (get_or (set rows t ks) v [])) same
-    ∙ (ap length (get_or-set_same rows t ks [] lk) ∙ (e ∙ (sym (ap length (get_or-set_same objects t os [] lo)) ∙ sym (ap (λ v. length (get_or (set objects t os) v [])) same)))))
+    ∙ (ap length (get_or-set_same rows t ks [] lk)
+    ∙ (e ∙ (sym (ap length (get_or-set_same objects t os [] lo)) ∙ sym (ap (λ v. length (get_or (set objects t os) v [])) same)))))
     (λ ne. ap length (get_or-set_other rows t u ks [] ne) ∙ (all u ∙ sym (ap length (get_or-set_other objects t u os [] ne))))
     (same_or_not u t)
 
@@ -72,11 +80,13 @@ kind_paired : (objects : List (List ℕ)) (rows : List (List Kind)) (t : ℕ) (k
     → ((u : ℕ) → length (get_or rows u []) ≡ length (get_or objects u [])) → (u : ℕ) → length (get_or (set rows t ks) u []) ≡ length (get_or objects u [])
 kind_paired objects rows t ks lk e all u =
     ⊎_elim
-    (λ same. ap (λ v. length (get_or (set rows t ks) v [])) same ∙ (ap length (get_or-set_same rows t ks [] lk) ∙ (e ∙ ap (λ v. length (get_or objects v [])) (sym same))))
+    (λ same. ap (λ v. length (get_or (set rows t ks) v [])) same
+    ∙ (ap length (get_or-set_same rows t ks [] lk) ∙ (e ∙ ap (λ v. length (get_or objects v [])) (sym same))))
     (λ ne. ap length (get_or-set_other rows t u ks [] ne) ∙ all u)
     (same_or_not u t)
 
-short_put : (rows : List (List Kind)) (t : ℕ) (ks : List Kind) → t < length rows → length ks ≤ OBJECTS → ((u : ℕ) → length (get_or rows u []) ≤ OBJECTS) → (u : ℕ) → length (get_or (set rows t ks) u []) ≤ OBJECTS
+short_put : (rows : List (List Kind)) (t : ℕ) (ks : List Kind) → t < length rows → length ks ≤ OBJECTS
+    → ((u : ℕ) → length (get_or rows u []) ≤ OBJECTS) → (u : ℕ) → length (get_or (set rows t ks) u []) ≤ OBJECTS
 short_put rows t ks lk few all u =
     ⊎_elim
     (λ e. subst (λ l. length l ≤ OBJECTS) (sym (ap (λ v. get_or (set rows t ks) v []) e ∙ get_or-set_same rows t ks [] lk)) few)
@@ -91,7 +101,8 @@ module _ (h : Held) (kept : IsKept h) (t : ℕ) (task : IsTask (kernel_of h) t) 
   in_opened : t < length h.objects.opened
   in_opened = let r = kept.rows in let f = r.few_tasks in let e = r.opened in omega arith
 
-  module _ (os : List ℕ) (ks : List Kind) (objects : Actions) (rows : List (List Kind)) (oe : objects ≡ with_opened t os h.objects) (ke : rows ≡ set h.kinds t ks) where
+  module _ (os : List ℕ) (ks : List Kind) (objects : Actions) (rows : List (List Kind)) (oe : objects ≡ with_opened t os h.objects)
+      (ke : rows ≡ set h.kinds t ks) where
     pub actions_path : kernel_of (record h { objects = objects; kinds = rows }) ≡ with_actions t (actions_of os ks) (kernel_of h)
     actions_path =
         (λ i. kernel_of (record h { objects = oe i; kinds = ke i }))
@@ -117,12 +128,14 @@ module _ (h : Held) (kept : IsKept h) (t : ℕ) (task : IsTask (kernel_of h) t) 
     })
 
 -- an action is opened
-allowed_at : (b c : Bool) → ◌≡◌ {A = Option Refusal} (cond b (Some SameObject) (cond c (Some AboveCeiling) None)) None → ◌≡◌ {A = Result (Unit {0}) Refused} (cond b (Err refused.SameObject) (cond c (Err refused.AboveCeiling) (Ok (tt {0})))) (Ok (tt {0}))
+allowed_at : (b c : Bool) → ◌≡◌ {A = Option Refusal} (cond b (Some SameObject) (cond c (Some AboveCeiling) None)) None
+    → ◌≡◌ {A = Result (Unit {0}) Refused} (cond b (Err refused.SameObject) (cond c (Err refused.AboveCeiling) (Ok (tt {0})))) (Ok (tt {0}))
 allowed_at true c e = absurd (cc)
 allowed_at false true e = absurd (cc)
 allowed_at false false e = refl
 
-refused_go : (b c : Bool) → result_err (cond b (Err refused.SameObject) (cond c (Err refused.AboveCeiling) (Ok (tt {0})))) ≡ refused_as (cond b (Some SameObject) (cond c (Some AboveCeiling) None))
+refused_go : (b c : Bool) → result_err (cond b (Err refused.SameObject) (cond c (Err refused.AboveCeiling) (Ok (tt {0}))))
+    ≡ refused_as (cond b (Some SameObject) (cond c (Some AboveCeiling) None))
 refused_go true c = refl
 refused_go false true = refl
 refused_go false false = refl
@@ -140,7 +153,8 @@ module _ (h old : Held) (same : h ≡ old) (kept : IsKept h) (t o : ℕ) where
   pub inside_is : is_among o (opened_by h.objects t) ≡ is_object_open o ((kernel_of old).actions t)
   inside_is = sym open_here ∙ ap (λ v. is_object_open o ((kernel_of v).actions t)) same
 
-  refusal_here : call_refusal (kernel_of h) t o ≡ cond (is_among o (opened_by h.objects t)) (Some SameObject) (cond (nat_lt (ceiling_of h.objects.ceilings o) (active_of h.objects t)) (Some AboveCeiling) None)
+  refusal_here : call_refusal (kernel_of h) t o ≡ cond (is_among o (opened_by h.objects t)) (Some SameObject)
+      (cond (nat_lt (ceiling_of h.objects.ceilings o) (active_of h.objects t)) (Some AboveCeiling) None)
   refusal_here = λ i. cond (open_here i) (Some SameObject) (cond (above_here i) (Some AboveCeiling) None)
 
   pub allowed : call_refusal (kernel_of old) t o ≡ None → opening h.objects t o ≡ Ok tt
@@ -153,14 +167,16 @@ module _ (h old : Held) (same : h ≡ old) (kept : IsKept h) (t o : ℕ) where
       refused_go (is_among o (opened_by h.objects t)) (nat_lt (ceiling_of h.objects.ceilings o) (active_of h.objects t))
       ∙ ap refused_as (sym refusal_here ∙ ap (λ v. call_refusal (kernel_of v) t o) same)
 
-  pub opens_is : (kind : Kind) (objects : Actions) (rows : List (List Kind)) → IsTask (kernel_of old) t → objects ≡ with_opened t (opened_by h.objects t ++ o ∷ []) h.objects → rows ≡ set h.kinds t (kinds_at h.kinds t ++ kind ∷ [])
+  pub opens_is : (kind : Kind) (objects : Actions) (rows : List (List Kind)) → IsTask (kernel_of old) t → objects
+      ≡ with_opened t (opened_by h.objects t ++ o ∷ []) h.objects → rows ≡ set h.kinds t (kinds_at h.kinds t ++ kind ∷ [])
       → kernel_of (record h { objects = objects; kinds = rows }) ≡ with_actions t (action_of kind o ∷ (kernel_of old).actions t) (kernel_of old)
   opens_is kind objects rows task oe ke =
       actions_path h kept t (task_here h old same kept t task) _ _ objects rows oe ke
       ∙ (ap (λ l. with_actions t l (kernel_of h)) (opened_is (opened_by h.objects t) (kinds_at h.kinds t) o kind (kept.rows.paired t))
       ∙ ap (λ v. with_actions t (action_of kind o ∷ (kernel_of v).actions t) (kernel_of v)) same)
 
-  pub opens_kept : (kind : Kind) (objects : Actions) (rows : List (List Kind)) → length (opened_by h.objects t) < OBJECTS → IsTask (kernel_of old) t → objects ≡ with_opened t (opened_by h.objects t ++ o ∷ []) h.objects → rows ≡ set h.kinds t (kinds_at h.kinds t ++ kind ∷ [])
+  pub opens_kept : (kind : Kind) (objects : Actions) (rows : List (List Kind)) → length (opened_by h.objects t) < OBJECTS → IsTask (kernel_of old) t
+      → objects ≡ with_opened t (opened_by h.objects t ++ o ∷ []) h.objects → rows ≡ set h.kinds t (kinds_at h.kinds t ++ kind ∷ [])
       → IsKept (record h { objects = objects; kinds = rows })
   opens_kept kind objects rows room task oe ke =
       actions_kept h kept t (task_here h old same kept t task) _ _ objects rows oe ke
@@ -235,7 +251,8 @@ module _ (h old : Held) (same : h ≡ old) (kept : IsKept h) (t : ℕ) (task : I
   here = task_here h old same kept t task
 
   pub closes_is : (o : ℕ) (objects : Actions) (rows : List (List Kind)) → Some o ≡ innermost_object (opened_by h.objects t)
-      → objects ≡ with_opened t (without_last (opened_by h.objects t)) h.objects → rows ≡ set h.kinds t (take (length (kinds_at h.kinds t) - 1) (kinds_at h.kinds t))
+      → objects ≡ with_opened t (without_last (opened_by h.objects t)) h.objects → rows
+      ≡ set h.kinds t (take (length (kinds_at h.kinds t) - 1) (kinds_at h.kinds t))
       → kernel_of (record h { objects = objects; kinds = rows }) ≡ with_actions t (outer_of ((kernel_of old).actions t)) (kernel_of old)
   closes_is o objects rows some oe ke =
       let n = long_of (opened_by h.objects t) o (sym some) in
@@ -244,26 +261,32 @@ module _ (h old : Held) (same : h ≡ old) (kept : IsKept h) (t : ℕ) (task : I
       ∙ ap (λ v. with_actions t (outer_of ((kernel_of v).actions t)) (kernel_of v)) same)
 
   pub closes_kept : (objects : Actions) (rows : List (List Kind))
-      → objects ≡ with_opened t (without_last (opened_by h.objects t)) h.objects → rows ≡ set h.kinds t (take (length (kinds_at h.kinds t) - 1) (kinds_at h.kinds t))
+      → objects ≡ with_opened t (without_last (opened_by h.objects t)) h.objects → rows
+      ≡ set h.kinds t (take (length (kinds_at h.kinds t) - 1) (kinds_at h.kinds t))
       → IsKept (record h { objects = objects; kinds = rows })
-  closes_kept objects rows oe ke = actions_kept h kept t here _ _ objects rows oe ke (let s = kept.rows.short t in let a = length-take (length (kinds_at h.kinds t) - 1) (kinds_at h.kinds t) in omega (arith, s, a)) (fewer_long (kinds_at h.kinds t) (opened_by h.objects t) (kept.rows.paired t))
+  closes_kept objects rows oe ke = actions_kept h kept t here _ _ objects rows oe ke
+      (let s = kept.rows.short t in let a = length-take (length (kinds_at h.kinds t) - 1) (kinds_at h.kinds t) in omega (arith, s, a))
+      (fewer_long (kinds_at h.kinds t) (opened_by h.objects t) (kept.rows.paired t))
 
   pub closes_none : None ≡ innermost_object (opened_by h.objects t) → kernel_of old ≡ with_actions t (outer_of ((kernel_of old).actions t)) (kernel_of old)
   closes_none e =
-      let none : (kernel_of old).actions t ≡ [] = ap (λ v. (kernel_of v).actions t) (sym same) ∙ none_at (opened_by h.objects t) (kinds_at h.kinds t) (nothing_open (opened_by h.objects t) e) in
+      let none : (kernel_of old).actions t ≡ [] = ap (λ v. (kernel_of v).actions t) (sym same)
+      ∙ none_at (opened_by h.objects t) (kinds_at h.kinds t) (nothing_open (opened_by h.objects t) e) in
       let k = kernel_of old in
       (λ i. record k { actions = λ u. sym (by_put (λ l. l ≡ k.actions u) t u [] k.actions (λ s. sym (ap k.actions s ∙ none)) (λ ne. refl)) i })
       ∙ ap (λ l. with_actions t (outer_of l) k) (sym none)
 
   -- a task's innermost action, with its kind
-  pub innermost_seen : (o : ℕ) (k : Kind) → Some o ≡ innermost_object (opened_by h.objects t) → Some k ≡ slice_get (kinds_at h.kinds t) (length (kinds_at h.kinds t) - 1)
+  pub innermost_seen : (o : ℕ) (k : Kind) → Some o ≡ innermost_object (opened_by h.objects t) → Some k
+      ≡ slice_get (kinds_at h.kinds t) (length (kinds_at h.kinds t) - 1)
       → Some (action_of k o) ≡ innermost ((kernel_of old).actions t)
   innermost_seen o k some kind =
       let n = long_of (opened_by h.objects t) o (sym some) in
       sym (innermost_is n.0 (opened_by h.objects t) (kinds_at h.kinds t) o k n.1 (kept.rows.paired t) (sym some) (sym kind))
       ∙ ap (λ v. innermost ((kernel_of v).actions t)) same
 
-  module _ (o u : ℕ) (is_writing : innermost ((kernel_of old).actions t) ≡ Some (Writes o)) (caller : IsTask (kernel_of old) u) (object : o < (kernel_of old).partition.objects) where
+  module _ (o u : ℕ) (is_writing : innermost ((kernel_of old).actions t) ≡ Some (Writes o)) (caller : IsTask (kernel_of old) u)
+      (object : o < (kernel_of old).partition.objects) where
     writing_here : innermost ((kernel_of h).actions t) ≡ Some (Writes o)
     writing_here = ap (λ v. innermost ((kernel_of v).actions t)) same ∙ is_writing
 
@@ -293,7 +316,8 @@ module _ (h old : Held) (same : h ≡ old) (kept : IsKept h) (t : ℕ) (task : I
       abbrev ks : List Kind
       ks = take (length (kinds_at h.kinds t) - 1) (kinds_at h.kinds t) ++ kinds.Serves u ∷ []
 
-      pub takes_is : kernel_of (record h { objects = objects; kinds = rows; places = set h.places k (places.Served o) }) ≡ takes_over t o u (outer_of ((kernel_of old).actions t)) (kernel_of old)
+      pub takes_is : kernel_of (record h { objects = objects; kinds = rows; places = set h.places k (places.Served o) })
+          ≡ takes_over t o u (outer_of ((kernel_of old).actions t)) (kernel_of old)
       takes_is =
           let x = its_objects in
           let acts = retaken_is x.0 u (opened_by h.objects t) (kinds_at h.kinds t) o x.1.0 (kept.rows.paired t) x.1.1 in
@@ -319,7 +343,10 @@ module _ (h old : Held) (same : h ≡ old) (kept : IsKept h) (t : ℕ) (task : I
               kinds = length-set h.kinds t ks ∙ r.kinds;
               places = r.places;
               beyond = r.beyond;
-              short = short_put h.kinds t ks (in_kinds h kept t here) (let a = again_long (kinds_at h.kinds t) (opened_by h.objects t) (kinds.Serves u) some_kind (kept.rows.paired t) in let p = kept.rows.paired t in let s = kept.rows.short t in omega (arith, a, p, s)) kept.rows.short;
-              paired = kind_paired h.objects.opened h.kinds t ks (in_kinds h kept t here) (again_long (kinds_at h.kinds t) (opened_by h.objects t) (kinds.Serves u) some_kind (kept.rows.paired t)) kept.rows.paired;
+              short = short_put h.kinds t ks (in_kinds h kept t here)
+                  (let a = again_long (kinds_at h.kinds t) (opened_by h.objects t) (kinds.Serves u) some_kind
+                  (kept.rows.paired t) in let p = kept.rows.paired t in let s = kept.rows.short t in omega (arith, a, p, s)) kept.rows.short;
+              paired = kind_paired h.objects.opened h.kinds t ks (in_kinds h kept t here)
+                  (again_long (kinds_at h.kinds t) (opened_by h.objects t) (kinds.Serves u) some_kind (kept.rows.paired t)) kept.rows.paired;
             };
           })

@@ -1,5 +1,6 @@
 -- A write at one place of a row, seen as a function changed at that place; lists of priorities.
-use Rattle.std.proofs.Common.{◌≡◌, ◌⊎◌, inl, inr, ℕ, zero, suc, ◌<◌, ◌≤◌, List, [], ◌∷◌, ◌++◌, Option, get_or, set, length, refl, sym, ap, ◌∙◌, ⊎_elim, arith, get_or-set_same, get_or-set_other}
+use Rattle.std.proofs.Common.{◌≡◌, ◌⊎◌, inl, inr, ℕ, zero, suc, ◌<◌, ◌≤◌, List, [], ◌∷◌, ◌++◌, Option, get_or, set, length, refl, sym, ap, ◌∙◌, ⊎_elim}
+use Rattle.std.proofs.Common.{arith, get_or-set_same, get_or-set_other}
 use Rattle.kernel.specs.State.{put}
 use Rattle.kernel.specs.PutLaws.{same_or_not, put_same, put_other}
 use Rattle.kernel.specs.Dispatching.{highest as kernel_highest, unless_empty}
@@ -9,7 +10,8 @@ use Rattle.std.proofs.lemmas.List.{get_or_past}
 use Rattle.dispatch.specs.Queues.{Queues, highest, highest_below, unless_empty as either_empty}
 use Rattle.tasking.specs.Held.{lists_below}
 
-pub set_is : {A B : Type 0} (f : A → B) (xs : List A) (k t : ℕ) (x d : A) → k ≡ t → t < length xs → (u : ℕ) → f (get_or (set xs k x) u d) ≡ put t (f x) (λ v. f (get_or xs v d)) u
+pub set_is : {A B : Type 0} (f : A → B) (xs : List A) (k t : ℕ) (x d : A) → k ≡ t → t < length xs → (u : ℕ) → f (get_or (set xs k x) u d)
+    ≡ put t (f x) (λ v. f (get_or xs v d)) u
 set_is f xs k t x d is h u =
     ap (λ n. f (get_or (set xs n x) u d)) is
     ∙ ⊎_elim
@@ -69,7 +71,8 @@ lists_put q r a x low e h =
     (λ same. put_same a h x q same ∙ sym (put_same a h x (λ p. get_or (lists_below PRIORITIES q) p []) same))
     (λ ne. put_other a h x q ne ∙ (sym (list_at PRIORITIES q h lt) ∙ sym (put_other a h x (λ p. get_or (lists_below PRIORITIES q) p []) ne)))
     (same_or_not h a)))
-    (λ ge. list_past PRIORITIES r h ge ∙ (sym (list_past PRIORITIES q h ge) ∙ sym (put_other a h x (λ p. get_or (lists_below PRIORITIES q) p []) (λ same. omega arith))))
+    (λ ge. list_past PRIORITIES r h ge
+    ∙ (sym (list_past PRIORITIES q h ge) ∙ sym (put_other a h x (λ p. get_or (lists_below PRIORITIES q) p []) (λ same. omega arith))))
     (cases_lt h PRIORITIES)
 
 unless_same : (l : List ℕ) (n : ℕ) (r s : Option ℕ) → r ≡ s → unless_empty l n r ≡ either_empty l n s

@@ -1,5 +1,6 @@
 -- Each task stands once at most: what moves make of that, and the room that it gives.
-use Rattle.std.proofs.Common.{◌≡◌, ◌≢◌, ℕ, zero, suc, ◌+◌, ◌<◌, ◌≤◌, ℤ, List, [], ◌∷◌, ◌++◌, Option, Some, None, IfSome, Bool, true, false, cond, eqb, ltb, length, map, refl, sym, ap, ◌∙◌, subst, ⊎_elim, arith}
+use Rattle.std.proofs.Common.{◌≡◌, ◌≢◌, ℕ, zero, suc, ◌+◌, ◌<◌, ◌≤◌, ℤ, List, [], ◌∷◌, ◌++◌, Option, Some, None, IfSome, Bool, true, false, cond, eqb, ltb}
+use Rattle.std.proofs.Common.{length, map, refl, sym, ap, ◌∙◌, subst, ⊎_elim, arith}
 use Rattle.std.specs.Prelude.{◌||◌}
 use Rattle.std.specs.List.{AllByRecursion, IsDistinct, list_any}
 use Rattle.std.proofs.lemmas.Bool.{cases_lt, le-ltb, lt-ltb}
@@ -38,7 +39,8 @@ once_low k t = low (ltb t k.partition.tasks) where
   low false = omega arith
 
 pub task_of : (k : Kernel) (t : ℕ) → 1 ≤ once k t → IsTask k t
-task_of k t h = ⊎_elim (λ lt. lt) (λ ge. let e : once k t ≡ 0 = ap (λ b. cond b 1 0) (le-ltb t k.partition.tasks ge) in absurd (omega arith)) (cases_lt t k.partition.tasks)
+task_of k t h = ⊎_elim (λ lt. lt) (λ ge. let e : once k t ≡ 0 = ap (λ b. cond b 1 0) (le-ltb t k.partition.tasks ge) in absurd (omega arith))
+    (cases_lt t k.partition.tasks)
 
 pub runs_one : (k : Kernel) (t : ℕ) → k.running ≡ Some t → runs_as t k.running ≡ 1
 runs_one k t e = ap (runs_as t) e ∙ ap (λ v. cond v 1 0) (eqb_same t t refl)
@@ -77,7 +79,8 @@ bit_low true c le = le
 bit_low false c le = omega arith
 
 bit_task : (q n : ℕ) → 1 ≤ cond (ltb q n) 1 0 → q < n
-bit_task q n le = ⊎_elim (λ lt. lt) (λ ge. let e : ◌≡◌ {A = ℕ} (cond (ltb q n) 1 0) 0 = ap (λ b. cond b 1 0) (le-ltb q n ge) in absurd (omega (arith, le, e))) (cases_lt q n)
+bit_task q n le = ⊎_elim (λ lt. lt)
+    (λ ge. let e : ◌≡◌ {A = ℕ} (cond (ltb q n) 1 0) 0 = ap (λ b. cond b 1 0) (le-ltb q n ge) in absurd (omega (arith, le, e))) (cases_lt q n)
 
 distinct_first : (t : ℕ) (xs : List ℕ) → count t xs ≡ 0 → ((u : ℕ) → count u xs ≤ 1) → IsDistinct eqb (t ∷ xs)
 unfolding IsDistinct
@@ -158,7 +161,8 @@ ready_orderly k t task none o = (
       let s = ready_standing k t u (active_low k t o) in
       let i = o.2 u in
       ⊎_elim
-      (λ e. let one = one_of u t e in let m = once_one k u (subst (λ v. v < k.partition.tasks) (sym e) task) in let z : standing k u ≡ 0 = ap (standing k) e ∙ none in omega arith)
+      (λ e. let one = one_of u t e in let m = once_one k u (subst (λ v. v < k.partition.tasks) (sym e) task) in let z : standing k u
+      ≡ 0 = ap (standing k) e ∙ none in omega arith)
       (λ ne. let zero = none_of u t ne in omega arith)
       (same_or_not u t),
 )
@@ -184,7 +188,8 @@ asleep_orderly k t w task none o = (
       let c = napping u k.sleepers (me ∷ []) in
       let i = o.2 u in
       ⊎_elim
-      (λ e. let one : naps u (me ∷ []) ≡ 1 = one_of u t e in let m = once_one k u (subst (λ v. v < k.partition.tasks) (sym e) task) in let z : standing k u ≡ 0 = ap (standing k) e ∙ none in omega arith)
+      (λ e. let one : naps u (me ∷ []) ≡ 1 = one_of u t e in let m = once_one k u
+      (subst (λ v. v < k.partition.tasks) (sym e) task) in let z : standing k u ≡ 0 = ap (standing k) e ∙ none in omega arith)
       (λ ne. let zero : naps u (me ∷ []) ≡ 0 = none_of u t ne in omega arith)
       (same_or_not u t),
 )
@@ -207,9 +212,11 @@ runs_orderly k None low none o = o
 runs_orderly k (Some h) low none o = head_orderly k h (k.ready h) refl (low h refl) none o
 
 -- the room in a list of ready tasks
-pub ready_room : (k : Kernel) (n t a : ℕ) → k.partition.tasks ≤ n → IsTask k t → listings PRIORITIES t k.ready ≡ 0 → a < PRIORITIES → IsOrderly k → length (k.ready a) < n
+pub ready_room : (k : Kernel) (n t a : ℕ) → k.partition.tasks ≤ n → IsTask k t → listings PRIORITIES t k.ready ≡ 0 → a < PRIORITIES → IsOrderly k
+    → length (k.ready a) < n
 ready_room k n t a few task none low o =
-    let r = room (k.ready a) k.partition.tasks t (λ u. let i = o.2 u in let j = listed_in PRIORITIES a u k.ready low in omega arith) (let j = listed_in PRIORITIES a t k.ready low in omega arith) task in omega arith
+    let r = room (k.ready a) k.partition.tasks t (λ u. let i = o.2 u in let j = listed_in PRIORITIES a u k.ready low in omega arith)
+    (let j = listed_in PRIORITIES a t k.ready low in omega arith) task in omega arith
 
 naps_count : (t : ℕ) (ss : List Sleeper) → naps t ss ≡ count t (map (λ s. s.task) ss)
 naps_count t [] = refl
@@ -221,13 +228,15 @@ map_long (s ∷ ss) = ap suc (map_long ss)
 
 pub sleeping_room : (k : Kernel) (n t : ℕ) → k.partition.tasks ≤ n → IsTask k t → IsNowhere k t → IsOrderly k → length k.sleepers < n
 sleeping_room k n t few task none o =
-    let r = room (map (λ s. s.task) k.sleepers) k.partition.tasks t (λ u. let i = o.2 u in let j = naps_count u k.sleepers in omega arith) (let j = naps_count t k.sleepers in omega arith) task in
+    let r = room (map (λ s. s.task) k.sleepers) k.partition.tasks t (λ u. let i = o.2 u in let j = naps_count u k.sleepers in omega arith)
+    (let j = naps_count t k.sleepers in omega arith) task in
     let e = map_long k.sleepers in omega arith
 
 -- where a ready task stands in a list, it is a task
 pub head_task : (k : Kernel) (h t : ℕ) (ts : List ℕ) → h < PRIORITIES → k.ready h ≡ t ∷ ts → IsOrderly k → IsTask k t
 head_task k h t ts low e o =
-    task_of k t (let i = o.2 t in let j = listed_in PRIORITIES h t k.ready low in let c = ap (count t) e in let one : count t (t ∷ ts) ≡ 1 + count t ts = ap (λ v. cond v 1 0 + count t ts) (eqb_same t t refl) in omega arith)
+    task_of k t (let i = o.2 t in let j = listed_in PRIORITIES h t k.ready low in let c = ap (count t) e in let one : count t (t ∷ ts)
+    ≡ 1 + count t ts = ap (λ v. cond v 1 0 + count t ts) (eqb_same t t refl) in omega arith)
 
 pub some_task : (k : Kernel) → IsOrderly k → IfSome k.running (λ t. IsTask k t)
 some_task k o = go k.running refl where

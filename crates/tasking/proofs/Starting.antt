@@ -1,5 +1,6 @@
 -- The fields before any task is ready, and the tasks becoming ready one after the other.
-use Rattle.std.proofs.Common.{◌≡◌, ℕ, zero, suc, ◌<◌, ◌≤◌, pos, List, [], ◌∷◌, Option, None, rules, get_or, length, map, replicate, refl, sym, ap, ◌∙◌, subst, ⊎_elim, arith}
+use Rattle.std.proofs.Common.{◌≡◌, ℕ, zero, suc, ◌<◌, ◌≤◌, pos, List, [], ◌∷◌, Option, None, rules, get_or, length, map, replicate, refl, sym, ap, ◌∙◌}
+use Rattle.std.proofs.Common.{subst, ⊎_elim, arith}
 use Rattle.std.proofs.lemmas.Bool.{cases_lt}
 use Rattle.std.proofs.lemmas.List.{length-replicate}
 use Rattle.base.specs.declared.limits.TheConstants.{OBJECTS, PRIORITIES, TASKS}
@@ -22,7 +23,8 @@ all_same zero t x = refl
 all_same (suc n) zero x = refl
 all_same (suc n) (suc t) x = all_same n t x
 
-pub no_kinds : {A : Type 0} (f : A → List Kind) (lists : List A) → ((i : ℕ) (d : A) → i < length lists → f (get_or lists i d) ≡ []) → (t : ℕ) → get_or (map f lists) t [] ≡ []
+pub no_kinds : {A : Type 0} (f : A → List Kind) (lists : List A) → ((i : ℕ) (d : A) → i < length lists → f (get_or lists i d) ≡ []) → (t : ℕ)
+    → get_or (map f lists) t [] ≡ []
 no_kinds f [] all t = refl
 no_kinds f (l ∷ lists) all zero = all 0 l (search rules)
 no_kinds f (l ∷ lists) all (suc t) = no_kinds f lists (λ i d h. all (suc i) d (search (rules, h))) t
@@ -39,10 +41,21 @@ blank_orderly : (p : Partition) → Fits p → IsOrderly (blank p)
 blank_orderly p fits = (fits.base_low, fits.ceiling_low, λ t. let z = no_listings PRIORITIES t in omega arith)
 
 module _ (bases ceilings : List ℕ) (q : Queues) (rows : List Row) (objects : Actions) (ks : List (List Kind)) (fits : Fits (partition_of bases ceilings))
-    (no_ready : (p : ℕ) → q p ≡ []) (no_rows : rows ≡ []) (objects_are : objects ≡ record { bases = bases; ceilings = ceilings; opened = replicate TASKS []; queued = replicate OBJECTS None })
+    (no_ready : (p : ℕ) → q p ≡ []) (no_rows : rows ≡ []) (objects_are : objects
+    ≡ record { bases = bases; ceilings = ceilings; opened = replicate TASKS []; queued = replicate OBJECTS None })
     (no_ks : (t : ℕ) → get_or ks t [] ≡ []) (long : length ks ≡ TASKS) (few_tasks : length bases ≤ TASKS) (few_objects : length ceilings ≤ OBJECTS) where
   abbrev start_with : Actions → Held
-  start_with a = record { running = None; ready = lists_below PRIORITIES q; sleepers = rows; objects = a; kinds = ks; places = replicate TASKS places.Finished; time = pos 0; outcome = None }
+  start_with a = record {
+    running = None;
+    ready = lists_below PRIORITIES q;
+    sleepers = rows;
+    objects = a;
+    kinds = ks;
+    places = replicate TASKS
+        places.Finished;
+    time = pos 0;
+    outcome = None;
+  }
 
   abbrev plain : Actions
   plain = record { bases = bases; ceilings = ceilings; opened = replicate TASKS []; queued = replicate OBJECTS None }
@@ -56,10 +69,32 @@ module _ (bases ceilings : List ℕ) (q : Queues) (rows : List Row) (objects : A
     place = λ t. place_of (all_same TASKS t places.Finished i);
   }
 
-  pub blank_is : kernel_of (record { running = None; ready = lists_below PRIORITIES q; sleepers = rows; objects = objects; kinds = ks; places = replicate TASKS places.Finished; time = pos 0; outcome = None }) ≡ blank (partition_of bases ceilings)
+  pub blank_is : kernel_of
+      (record {
+        running = None;
+        ready = lists_below PRIORITIES q;
+        sleepers = rows;
+        objects = objects;
+        kinds = ks;
+        places = replicate TASKS
+            places.Finished;
+        time = pos 0;
+        outcome = None;
+      }) ≡ blank (partition_of bases ceilings)
   blank_is = ap (λ a. kernel_of (start_with a)) objects_are ∙ plain_is
 
-  pub blank_kept : IsKept (record { running = None; ready = lists_below PRIORITIES q; sleepers = rows; objects = objects; kinds = ks; places = replicate TASKS places.Finished; time = pos 0; outcome = None })
+  pub blank_kept : IsKept
+      (record {
+        running = None;
+        ready = lists_below PRIORITIES q;
+        sleepers = rows;
+        objects = objects;
+        kinds = ks;
+        places = replicate TASKS
+            places.Finished;
+        time = pos 0;
+        outcome = None;
+      })
   blank_kept = subst (λ a. IsKept (start_with a)) (sym objects_are) (record {
     orderly = subst IsOrderly (sym plain_is) (blank_orderly (partition_of bases ceilings) fits);
     rows = record {
@@ -77,7 +112,8 @@ module _ (bases ceilings : List ℕ) (q : Queues) (rows : List Row) (objects : A
 
 -- one task after the other becomes ready
 module _ (p : Partition) (fits : Fits p) where
-  pub started : (n : ℕ) → n ≤ p.tasks → IsOrderly (activated n (blank p)) × (((u : ℕ) → n ≤ u → IsNowhere (activated n (blank p)) u) × ((activated n (blank p)).partition ≡ p))
+  pub started : (n : ℕ) → n ≤ p.tasks → IsOrderly (activated n (blank p)) ×
+      (((u : ℕ) → n ≤ u → IsNowhere (activated n (blank p)) u) × ((activated n (blank p)).partition ≡ p))
   started zero le = (blank_orderly p fits, ((λ u ge. let z = no_listings PRIORITIES u in omega arith), refl))
   started (suc n) le =
       let x = started n (omega arith) in
@@ -85,7 +121,8 @@ module _ (p : Partition) (fits : Fits p) where
       let task : IsTask k n = subst (λ v. n < v.tasks) (sym x.1.1) (omega arith) in (
         ready_orderly k n task (x.1.0 n (omega arith)) x.0,
         (
-          (λ u ge. let s = ready_standing k n u (active_low k n x.0) in let z : standing k u ≡ 0 = x.1.0 u (omega arith) in let o = none_of u n (λ e. omega arith) in omega arith),
+          (λ u ge. let s = ready_standing k n u (active_low k n x.0) in let z : standing k u
+              ≡ 0 = x.1.0 u (omega arith) in let o = none_of u n (λ e. omega arith) in omega arith),
           x.1.1,
         ),
       )

@@ -1,5 +1,6 @@
 -- The tasks due: the walk over all sleepers, against those that wake and those that sleep on.
-use Rattle.std.proofs.Common.{◌≡◌, ℕ, ◌+◌, ◌<◌, ◌≤◌, ℤ, List, [], ◌∷◌, ◌++◌, Some, None, Bool, true, false, not, cond, drop, filter, get_or, length, map, refl, sym, ap, ◌∙◌, subst, arith, append-nil, append_assoc, drop-cons, add-one}
+use Rattle.std.proofs.Common.{◌≡◌, ℕ, ◌+◌, ◌<◌, ◌≤◌, ℤ, List, [], ◌∷◌, ◌++◌, Some, None, Bool, true, false, not, cond, drop, filter, get_or, length, map}
+use Rattle.std.proofs.Common.{refl, sym, ap, ◌∙◌, subst, arith, append-nil, append_assoc, drop-cons, add-one}
 use Rattle.std.specs.Prelude.{int_le, int_lt}
 use Rattle.std.proofs.lemmas.Int.{ints}
 use Rattle.base.specs.declared.limits.TheConstants.{PRIORITIES}
@@ -32,9 +33,11 @@ due_go false false r d f e i = absurd (cc)
 
 pub due_same : (now : ℤ) (rows : List Row) → due now (sleepers_of rows) ≡ due_rows now rows
 due_same now [] = refl
-due_same now (r ∷ rows) = due_go (int_lt now r.wake) (int_le r.wake now) r (due now (sleepers_of rows)) (filter (is_due now) rows) (due_or_not r.wake now) (due_same now rows)
+due_same now (r ∷ rows) = due_go (int_lt now r.wake) (int_le r.wake now) r (due now (sleepers_of rows)) (filter (is_due now) rows)
+    (due_or_not r.wake now) (due_same now rows)
 
-waiting_go : (b c : Bool) (r : Row) (w : List Sleeper) (f : List Row) → c ≡ not b → w ≡ sleepers_of f → cond b (sleeper_of r ∷ w) w ≡ sleepers_of (cond (not c) (r ∷ f) f)
+waiting_go : (b c : Bool) (r : Row) (w : List Sleeper) (f : List Row) → c ≡ not b → w ≡ sleepers_of f → cond b (sleeper_of r ∷ w) w
+    ≡ sleepers_of (cond (not c) (r ∷ f) f)
 waiting_go true true r w f e i = absurd (cc)
 waiting_go true false r w f e i = ap (λ l. sleeper_of r ∷ l) i
 waiting_go false true r w f e i = i
@@ -43,17 +46,20 @@ waiting_go false false r w f e i = absurd (cc)
 pub waiting_same : (now : ℤ) (rows : List Row) → waiting now (sleepers_of rows) ≡ sleepers_of (waiting_rows now rows)
 waiting_same now [] = refl
 waiting_same now (r ∷ rows) =
-    waiting_go (int_lt now r.wake) (int_le r.wake now) r (waiting now (sleepers_of rows)) (waiting_rows now rows) (due_or_not r.wake now) (waiting_same now rows)
+    waiting_go (int_lt now r.wake) (int_le r.wake now) r (waiting now (sleepers_of rows)) (waiting_rows now rows) (due_or_not r.wake now)
+    (waiting_same now rows)
 
 least_same : (time : ℤ) (rows : List Row) → least time (sleepers_of rows) ≡ least_of_rows time rows
 least_same time [] = refl
-least_same time (r ∷ rows) = by_test (λ b. cond b (least r.wake (sleepers_of rows)) (least time (sleepers_of rows)) ≡ cond b (least_of_rows r.wake rows) (least_of_rows time rows)) (int_lt r.wake time) (λ e. least_same r.wake rows) (λ e. least_same time rows)
+least_same time (r ∷ rows) = by_test (λ b. cond b (least r.wake (sleepers_of rows)) (least time (sleepers_of rows))
+    ≡ cond b (least_of_rows r.wake rows) (least_of_rows time rows)) (int_lt r.wake time) (λ e. least_same r.wake rows) (λ e. least_same time rows)
 
 pub next_same : (rows : List Row) → least_of (sleepers_of rows) ≡ least_wake rows
 next_same [] = refl
 next_same (r ∷ rows) = ap Some (least_same r.wake rows)
 
-split_go : (b : Bool) (t : ℕ) (s : Sleeper) (w : List Sleeper) (d : List ℕ) (n : ℕ) → naps t w + count t d ≡ n → naps t (cond b (s ∷ w) w) + count t (cond b d (s.task ∷ d)) ≡ naps t (s ∷ []) + n
+split_go : (b : Bool) (t : ℕ) (s : Sleeper) (w : List Sleeper) (d : List ℕ) (n : ℕ) → naps t w + count t d ≡ n
+    → naps t (cond b (s ∷ w) w) + count t (cond b d (s.task ∷ d)) ≡ naps t (s ∷ []) + n
 split_go true t s w d n e = omega arith
 split_go false t s w d n e = omega arith
 
@@ -69,7 +75,8 @@ pub expired_orderly : (k : Kernel) (now : ℤ) → IsOrderly k → IsOrderly (re
 expired_orderly k now o = (o.0, o.1, λ t. let i = o.2 t in let s = naps_split t now k.sleepers in omega arith)
 
 -- the walk over all sleepers
-walked_ready : (t : ℕ) (k : Kernel) (ss : List Sleeper) → record (becomes_ready t (released t k)) { sleepers = ss } ≡ becomes_ready t (record k { sleepers = ss })
+walked_ready : (t : ℕ) (k : Kernel) (ss : List Sleeper) → record (becomes_ready t (released t k)) { sleepers = ss }
+    ≡ becomes_ready t (record k { sleepers = ss })
 walked_ready t k ss = λ i. record (becomes_ready t k) { sleepers = ss; place = λ u. put_put t IsReady IsFinished k.place u i }
 
 pub walked : (ss : List Sleeper) (k : Kernel) → wakes_due ss k ≡ all_ready (due k.now ss) (record k { sleepers = k.sleepers ++ waiting k.now ss })
@@ -79,7 +86,8 @@ walked (s ∷ ss) k =
     (λ b. wakes_due ss (cond b (record k { sleepers = k.sleepers ++ s ∷ [] }) (becomes_ready s.task (released s.task k)))
     ≡ all_ready (cond b (due k.now ss) (s.task ∷ due k.now ss)) (record k { sleepers = k.sleepers ++ cond b (s ∷ waiting k.now ss) (waiting k.now ss) }))
     (int_lt k.now s.wake)
-    (λ e. walked ss (record k { sleepers = k.sleepers ++ s ∷ [] }) ∙ ap (λ l. all_ready (due k.now ss) (record k { sleepers = l })) (append_assoc k.sleepers (s ∷ []) (waiting k.now ss)))
+    (λ e. walked ss (record k { sleepers = k.sleepers ++ s ∷ [] })
+    ∙ ap (λ l. all_ready (due k.now ss) (record k { sleepers = l })) (append_assoc k.sleepers (s ∷ []) (waiting k.now ss)))
     (λ e. walked ss (becomes_ready s.task (released s.task k)) ∙ ap (all_ready (due k.now ss)) (walked_ready s.task k (k.sleepers ++ waiting k.now ss)))
 
 -- one more of them is ready
@@ -94,7 +102,8 @@ pub next_awoken : (k : Kernel) (t : ℕ) (ts : List ℕ) → active k t < PRIORI
 next_awoken k t ts low a u = let i = a u in let s = ready_standing k t u low in omega arith
 
 -- where nobody runs, time moves
-pub time_is : (k : Kernel) (l : List Sleeper) (time : ℤ) → least_of l ≡ Some time → dispatch (wakes_due l (record k { now = time; sleepers = [] })) ≡ time_moves l k
+pub time_is : (k : Kernel) (l : List Sleeper) (time : ℤ) → least_of l ≡ Some time → dispatch (wakes_due l (record k { now = time; sleepers = [] }))
+    ≡ time_moves l k
 time_is k [] time e = absurd (cc)
 time_is k (s ∷ ss) time e = let same : least s.wake ss ≡ time = cc in ap (λ n. dispatch (wakes_due (s ∷ ss) (record k { now = n; sleepers = [] }))) (sym same)
 
@@ -114,8 +123,10 @@ module _ (h old : Held) (same : h ≡ old) (kept : IsKept h) (time held : ℤ) (
       rows = rows_same h (record h { sleepers = rows; time = held }) kept.rows;
     }
 
-    pub expired_is : kernel_of (record h { sleepers = rows; time = held }) ≡ record (kernel_of old) { now = time; sleepers = waiting time (kernel_of old).sleepers }
-    expired_is = (λ i. record (kernel_of h) { now = time_same i; sleepers = rows_are i }) ∙ ap (λ v. record (kernel_of v) { now = time; sleepers = waiting time (kernel_of v).sleepers }) same
+    pub expired_is : kernel_of (record h { sleepers = rows; time = held })
+        ≡ record (kernel_of old) { now = time; sleepers = waiting time (kernel_of old).sleepers }
+    expired_is = (λ i. record (kernel_of h) { now = time_same i; sleepers = rows_are i })
+        ∙ ap (λ v. record (kernel_of v) { now = time; sleepers = waiting time (kernel_of v).sleepers }) same
 
   module _ (tasks : List ℕ) (due_are : tasks ≡ due_rows held h.sleepers) where
     tasks_here : tasks ≡ due time (sleepers_of h.sleepers)
@@ -124,10 +135,12 @@ module _ (h old : Held) (same : h ≡ old) (kept : IsKept h) (time held : ℤ) (
     pub expired_tasks : tasks ≡ due time (kernel_of old).sleepers
     expired_tasks = tasks_here ∙ ap (λ v. due time (sleepers_of v.sleepers)) same
 
-  pub expired_awoken : (rows : List Row) → rows ≡ waiting_rows held h.sleepers → (tasks : List ℕ) → tasks ≡ due_rows held h.sleepers → AreAwoken (kernel_of (record h { sleepers = rows; time = held })) tasks
+  pub expired_awoken : (rows : List Row) → rows ≡ waiting_rows held h.sleepers → (tasks : List ℕ) → tasks ≡ due_rows held h.sleepers
+      → AreAwoken (kernel_of (record h { sleepers = rows; time = held })) tasks
   expired_awoken rows left tasks due_are =
       subst (λ ss. AreAwoken (record (kernel_of h) { sleepers = ss }) tasks) (sym (rows_are rows left))
-      (subst (λ ts. AreAwoken (record (kernel_of h) { sleepers = waiting time (kernel_of h).sleepers }) ts) (sym (tasks_here tasks due_are)) (awoken (kernel_of h) time kept.orderly))
+      (subst (λ ts. AreAwoken (record (kernel_of h) { sleepers = waiting time (kernel_of h).sleepers }) ts) (sym (tasks_here tasks due_are))
+      (awoken (kernel_of h) time kept.orderly))
 
 -- a turn of the loop over those due
 rest_is : (xs : List ℕ) (i d : ℕ) → i < length xs → get_or xs i d ∷ drop (i + 1) xs ≡ drop i xs
@@ -149,11 +162,13 @@ turn_awoken xs i d k new h e a o =
       ),
     )
 
-pub all_woken : (old : Kernel) (time : ℤ) (xs : List ℕ) (i : ℕ) (k begun : Kernel) → length xs ≤ i → all_ready (drop i xs) k ≡ all_ready xs begun → xs ≡ due time old.sleepers
+pub all_woken : (old : Kernel) (time : ℤ) (xs : List ℕ) (i : ℕ) (k begun : Kernel) → length xs ≤ i → all_ready (drop i xs) k ≡ all_ready xs begun → xs
+    ≡ due time old.sleepers
     → begun ≡ record old { now = time; sleepers = waiting time old.sleepers } → k ≡ wakes_due old.sleepers (record old { now = time; sleepers = [] })
 all_woken old time xs i k begun past e tasks left =
     ap (λ l. all_ready l k) (sym (drop_all i xs past))
-    ∙ (e ∙ (ap (λ l. all_ready l begun) tasks ∙ (ap (all_ready (due time old.sleepers)) left ∙ sym (walked old.sleepers (record old { now = time; sleepers = [] })))))
+    ∙ (e ∙ (ap (λ l. all_ready l begun) tasks
+    ∙ (ap (all_ready (due time old.sleepers)) left ∙ sym (walked old.sleepers (record old { now = time; sleepers = [] })))))
 
 -- whoever is ready again was nowhere in between
 pub again_ready : (t : ℕ) (k : Kernel) → becomes_ready t k ≡ becomes_ready t (released t k)

@@ -1,10 +1,12 @@
 -- What the kernel's code holds, seen as the kernel. Beyond the tasks and objects that there are, nobody is anywhere and priorities are 0.
 use Rattle.std.specs.Prelude.{ℕ, zero, suc, ℤ, List, [], ◌∷◌, ◌++◌, length, map, get_or, Option, Some, None}
+use Rattle.base.specs.declared.limits.TheConstants.{PRIORITIES}
 use Rattle.clock.specs.declared.delays.Sleeper.{Sleeper as Row}
 use Rattle.protected.specs.Actions.{Actions, opened_by, queued_at}
 use Rattle.protected.specs.declared.refusal.Refusal.{Refusal as Refused}
 use Rattle.protected.specs.declared.refusal.Refusal.TheVariants as refused
-use Rattle.kernel.specs.State.{Partition, Kernel, Place, IsRunning, IsReady, IsAsleep, IsQueued, IsServed, IsFinished, Action, Reads, Writes, Serves, Sleeper, Outcome, Ended, WaitsForever, ImageFault, Unhandled}
+use Rattle.kernel.specs.State.{Partition, Kernel, Place, IsRunning, IsReady, IsAsleep, IsQueued, IsServed, IsFinished, Action, Reads, Writes, Serves}
+use Rattle.kernel.specs.State.{Sleeper, Outcome, Ended, WaitsForever, ImageFault, Unhandled}
 use Rattle.kernel.specs.Effects.{Ending, Closes, TakesOver, HandsBack, Refusal, SameObject, AboveCeiling}
 use Rattle.tasking.specs.declared.reports.Place.{Place as Stand}
 use Rattle.tasking.specs.declared.reports.Place.TheVariants as places
@@ -94,6 +96,18 @@ pub record Held : Type 0 where
   pub places : List Stand
   pub time : ℤ
   pub outcome : Option End
+
+abbrev pub held_of : Option ℕ → (ℕ → List ℕ) → List Row → Actions → List (List Kind) → List Stand → ℤ → Option End → Held
+held_of running queues sleepers objects kinds places time outcome = record {
+  running = running;
+  ready = lists_below PRIORITIES queues;
+  sleepers = sleepers;
+  objects = objects;
+  kinds = kinds;
+  places = places;
+  time = time;
+  outcome = outcome;
+}
 
 -- the kernel without its lines, which are the caller's
 abbrev pub kernel_of : Held → Kernel

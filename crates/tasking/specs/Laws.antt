@@ -11,7 +11,8 @@ said t now e = []
 
 -- an effect does the same whatever the lines are, and adds its own
 abbrev pub LinesApart : Type 0
-LinesApart = (t : ℕ) (e : Effect) (k : Kernel) (lines : List Line) → after t e (record k { lines = lines }) ≡ record (after t e k) { lines = lines ++ said t k.now e }
+LinesApart = (t : ℕ) (e : Effect) (k : Kernel) (lines : List Line) → after t e (record k { lines = lines })
+    ≡ record (after t e k) { lines = lines ++ said t k.now e }
 
 -- the invariant holds whatever the lines are
 abbrev pub KeptWithLines : Type 0

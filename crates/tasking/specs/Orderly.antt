@@ -1,5 +1,6 @@
 -- What the kernel's code keeps at all times: priorities are in range, and each task runs, is ready or sleeps once at most.
-use Rattle.std.specs.Prelude.{◌≡◌, ℕ, zero, suc, ◌+◌, ◌<◌, ◌≤◌, ℤ, int_lt, List, [], ◌∷◌, length, Bool, false, nat_eq, nat_lt, Option, Some, None, if◌then◌else◌}
+use Rattle.std.specs.Prelude.{◌≡◌, ℕ, zero, suc, ◌+◌, ◌<◌, ◌≤◌, ℤ, int_lt, List, [], ◌∷◌, length, Bool, false, nat_eq, nat_lt, Option, Some, None}
+use Rattle.std.specs.Prelude.{if◌then◌else◌}
 use Rattle.base.specs.declared.limits.TheConstants.{OBJECTS, PRIORITIES, TASKS}
 use Rattle.protected.specs.Actions.{opened_by}
 use Rattle.kernel.specs.State.{Kernel, IsFinished, Sleeper, Writes}

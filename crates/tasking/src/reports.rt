@@ -17,12 +17,6 @@ pub enum Place {
     Finished,
 }
 
-impl Default for Place {
-    fn default() -> Self {
-        Place::Finished
-    }
-}
-
 /// What an open protected action is for (RM 9.5.1).
 #[derive(Clone, Copy, PartialEq, Eq, Debug)]
 pub(crate) enum Kind {

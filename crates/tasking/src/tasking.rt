@@ -4,7 +4,8 @@ ghost use Rattle.base.specs.declared.limits.TheConstants.{OBJECTS, PRIORITIES, T
 ghost use Rattle.kernel.specs.State.{IsFinished, Writes, active, inside, is_object_open};
 ghost use Rattle.kernel.specs.Dispatching.{becomes_ready, dispatch, highest, leaves, preempted, runs_from};
 ghost use Rattle.kernel.specs.Clock.{clock, falls_asleep, last_outcome, some_queued, wakes_due};
-ghost use Rattle.kernel.specs.Effects.{Delays as DelaysUntil, begin, blank, call_refusal, effect, ending_of, ends, is_above_ceiling, is_full, is_inside_any, outer_of, queues, takes_over, with_actions};
+ghost use Rattle.kernel.specs.Effects.{begin, blank, call_refusal, is_above_ceiling, is_full, is_inside_any};
+ghost use Rattle.kernel.specs.Effects.{Delays as DelaysUntil, effect, ending_of, ends, outer_of, queues, takes_over, with_actions};
 ghost use Rattle.kernel.specs.Invariant.{Fits};
 ghost use Rattle.tasking.specs.Held.{action_of, ending_as, innermost, kernel_of, outcome_of, partition_of, place_of, refused_as, some_action, some_outcome};
 ghost use Rattle.tasking.specs.Orderly.{AreAwoken, IsNowhere, IsOfObject, IsOrderly, IsTask, MayEnd, due, is_above, least_of, waiting};
@@ -33,15 +34,14 @@ pub struct Tasking<R: Ready, D: Delays> {
 
 impl<R: Ready, D: Delays> Model for Tasking<R, D> {
     ghost use Rattle.std.specs.Prelude.{map};
-    ghost use Rattle.base.specs.declared.limits.TheConstants.{PRIORITIES};
-    ghost use Rattle.tasking.specs.Held.{Held, lists_below};
-    ghost use Rattle.tasking.specs.Orderly.{IsKept};
+    ghost use Rattle.tasking.specs.Held.{Held, held_of as held};
+    ghost use Rattle.tasking.specs.Orderly.{IsKept as Kept};
 
     ghost Value = { Held };
 
-    ghost view = { λ s. record { running = s.running; ready = lists_below PRIORITIES (R.queues s.ready); sleepers = D.sleepers s.delays; objects = s.objects; kinds = map (λ l. l.items) s.kinds; places = s.places; time = s.time; outcome = s.outcome } };
+    ghost view = { λ s. held s.running (R.queues s.ready) (D.sleepers s.delays) s.objects (map (λ l. l.items) s.kinds) s.places s.time s.outcome };
 
-    ghost invariant = { λ s. IsKept (record { running = s.running; ready = lists_below PRIORITIES (R.queues s.ready); sleepers = D.sleepers s.delays; objects = s.objects; kinds = map (λ l. l.items) s.kinds; places = s.places; time = s.time; outcome = s.outcome }) };
+    ghost invariant = { λ s. Kept (held s.running (R.queues s.ready) (D.sleepers s.delays) s.objects (map (λ l. l.items) s.kinds) s.places s.time s.outcome) };
 }
 
 impl<R: Ready, D: Delays> Tasking<R, D> {
@@ -174,8 +174,15 @@ impl<R: Ready, D: Delays> Tasking<R, D> {
         tasks
     }
 
-    // The number of tasks.
-    fn task_count(&self) -> u8
+    /// The number of objects.
+    pub fn object_count(&self) -> u8
+        ensures { result ≡ (kernel_of self.now).partition.objects }
+    {
+        self.objects.object_count()
+    }
+
+    /// The number of tasks.
+    pub fn task_count(&self) -> u8
         ensures same { result ≡ (kernel_of self.now).partition.tasks }
         ensures few { result ≤ TASKS }
     {
@@ -210,7 +217,7 @@ impl<R: Ready, D: Delays> Tasking<R, D> {
     }
 
     // A task that is nowhere becomes ready: the tail of the list of its active priority (RM D.2.3).
-    pub(crate) fn becomes_ready(&mut self, task: u8)
+    fn becomes_ready(&mut self, task: u8)
         requires task { IsTask (kernel_of self.old) task }
         requires nowhere { IsNowhere (kernel_of self.old) task }
         ensures { kernel_of self.new ≡ becomes_ready task (kernel_of self.old) }
@@ -233,7 +240,7 @@ impl<R: Ready, D: Delays> Tasking<R, D> {
     }
 
     // A task that is nowhere waits for a time (RM 9.6).
-    pub(crate) fn falls_asleep(&mut self, task: u8, wake: i64)
+    fn falls_asleep(&mut self, task: u8, wake: i64)
         requires task { IsTask (kernel_of self.old) task }
         requires nowhere { IsNowhere (kernel_of self.old) task }
         ensures { kernel_of self.new ≡ falls_asleep task wake (kernel_of self.old) }
@@ -265,7 +272,7 @@ impl<R: Ready, D: Delays> Tasking<R, D> {
     }
 
     // The head of the highest list that is not empty runs; a running task runs on, unless a list above it is not empty (RM D.2.1, D.2.3).
-    pub(crate) fn dispatch(&mut self)
+    fn dispatch(&mut self)
         ensures { kernel_of self.new ≡ dispatch (kernel_of self.old) }
     {
         match self.running() {
@@ -329,7 +336,7 @@ impl<R: Ready, D: Delays> Tasking<R, D> {
     }
 
     // Where nobody runs, time moves on to the least wake time and those due are dispatched; without sleepers the run is over (RM D.8).
-    pub(crate) fn clock(&mut self)
+    fn clock(&mut self)
         ensures { kernel_of self.new ≡ clock (kernel_of self.old) }
     {
         if self.running().is_none() {
@@ -374,7 +381,7 @@ impl<R: Ready, D: Delays> Tasking<R, D> {
     }
 
     // A task's innermost action is closed, if it has one open.
-    pub(crate) fn closes(&mut self, task: u8)
+    fn closes(&mut self, task: u8)
         requires { IsTask (kernel_of self.old) task }
         ensures { kernel_of self.new ≡ with_actions task (outer_of ((kernel_of self.old).actions task)) (kernel_of self.old) }
     {
@@ -402,7 +409,7 @@ impl<R: Ready, D: Delays> Tasking<R, D> {
     }
 
     // A task's innermost action, of an object, serves the call that is queued there.
-    pub(crate) fn takes_over(&mut self, task: u8, object: u8, caller: u8)
+    fn takes_over(&mut self, task: u8, object: u8, caller: u8)
         requires task { IsTask (kernel_of self.old) task }
         requires caller { IsTask (kernel_of self.old) caller }
         requires object { object < (kernel_of self.old).partition.objects }

@@ -23,4 +23,5 @@ pub returns-clause-low : goal.returns-clause-low
 returns-clause-low g c =
     let h = seen c.self.view_is in
     let t = c.args.task in
-    subst (λ n. n < PRIORITIES) (sym (same g c)) (subst (λ v. active (kernel_of v) t < PRIORITIES) c.self.view_is (active_low (kernel_of h) t c.self.invariant.orderly))
+    subst (λ n. n < PRIORITIES) (sym (same g c))
+    (subst (λ v. active (kernel_of v) t < PRIORITIES) c.self.view_is (active_low (kernel_of h) t c.self.invariant.orderly))

@@ -5,4 +5,5 @@ use Rattle.tasking.proofs.Objects.{refusal_is}
 use Rattle.tasking.proofs.tasking.Tasking.call_refusal.Goals as goal
 
 pub returns : goal.returns
-returns g c = c.err.ensures.value ∙ (ap result_err c.may_open.ensures ∙ refusal_is (seen c.self.view_is) c.args.self.now c.self.view_is c.self.invariant c.args.task c.args.object)
+returns g c = c.err.ensures.value
+    ∙ (ap result_err c.may_open.ensures ∙ refusal_is (seen c.self.view_is) c.args.self.now c.self.view_is c.self.invariant c.args.task c.args.object)

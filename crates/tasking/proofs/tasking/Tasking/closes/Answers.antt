@@ -14,7 +14,8 @@ invariant_of-self g c =
     let lt = in_kinds h c.self.invariant t (task_here h c.args.self.now c.self.view_is c.self.invariant t c.requires) in
     closes_kept h c.args.self.now c.self.view_is c.self.invariant t c.requires c.close.new.self _ c.close.ensures
     (kinds_put (λ l. l.items) c.self.inside.kinds c.from.result t c.from.ensures lt _ _
-    (c.pop.ensures.rest ∙ ap (λ l. take (length l - 1) l) (kinds_here (λ l. l.items) c.self.inside.kinds c.from.result t c.from.ensures lt c.index-self-from.result)))
+    (c.pop.ensures.rest ∙ ap (λ l. take (length l - 1) l)
+    (kinds_here (λ l. l.items) c.self.inside.kinds c.from.result t c.from.ensures lt c.index-self-from.result)))
 
 pub returns-in-Some : goal.returns-in-Some
 returns-in-Some g c =
@@ -23,7 +24,8 @@ returns-in-Some g c =
     let lt = in_kinds h c.self.invariant t (task_here h c.args.self.now c.self.view_is c.self.invariant t c.requires) in
     closes_is h c.args.self.now c.self.view_is c.self.invariant t c.requires c.in-Some.object c.close.new.self _ c.in-Some.ensures.same c.close.ensures
     (kinds_put (λ l. l.items) c.self.inside.kinds c.from.result t c.from.ensures lt _ _
-    (c.pop.ensures.rest ∙ ap (λ l. take (length l - 1) l) (kinds_here (λ l. l.items) c.self.inside.kinds c.from.result t c.from.ensures lt c.index-self-from.result)))
+    (c.pop.ensures.rest ∙ ap (λ l. take (length l - 1) l)
+    (kinds_here (λ l. l.items) c.self.inside.kinds c.from.result t c.from.ensures lt c.index-self-from.result)))
 
 pub returns-in_default : goal.returns-in_default
 returns-in_default g c = closes_none (seen c.self.view_is) c.args.self.now c.self.view_is c.self.invariant c.args.task c.requires c.in_default.ensures.same

@@ -11,7 +11,8 @@ ends_by-requires-clause-ready g c =
     let k = kernel_of c.args.self.now in
     let t = c.args.task in
     may_end c.requires.kept.0 k t c.args.is_open c.ending-ending.result c.ending-ending.ensures.ending c.requires.running c.requires.kept.1
-    (c.reaches_callers.ensures c.requires.kept.0 k t (Ends c.args.is_open) c.requires.running c.requires.kept.1) c.ending-ending.ensures.object c.ending-ending.ensures.tasks
+    (c.reaches_callers.ensures c.requires.kept.0 k t
+    (Ends c.args.is_open) c.requires.running c.requires.kept.1) c.ending-ending.ensures.object c.ending-ending.ensures.tasks
 
 pub returns-clause-kernel : goal.returns-clause-kernel
 returns-clause-kernel g c =

@@ -6,7 +6,8 @@ use Rattle.tasking.proofs.tasking.Tasking.expire.Goals as goal
 pub invariant_of-self : goal.invariant_of-self
 invariant_of-self g c =
     let same : to_z w64 (of_z w64 c.args.time) ≡ c.args.time = search rules in
-    expired_kept (seen c.self.view_is) c.args.self.now c.self.view_is c.self.invariant c.args.time _ same (g.D.Delays.sleepers c.expire.new.self) c.expire.ensures.left
+    expired_kept (seen c.self.view_is) c.args.self.now c.self.view_is c.self.invariant c.args.time _ same
+    (g.D.Delays.sleepers c.expire.new.self) c.expire.ensures.left
 
 pub returns-clause-tasks : goal.returns-clause-tasks
 returns-clause-tasks g c =
@@ -16,15 +17,18 @@ returns-clause-tasks g c =
 pub returns-clause-left : goal.returns-clause-left
 returns-clause-left g c =
     let same : to_z w64 (of_z w64 c.args.time) ≡ c.args.time = search rules in
-    expired_is (seen c.self.view_is) c.args.self.now c.self.view_is c.self.invariant c.args.time _ same (g.D.Delays.sleepers c.expire.new.self) c.expire.ensures.left
+    expired_is (seen c.self.view_is) c.args.self.now c.self.view_is c.self.invariant c.args.time _ same
+    (g.D.Delays.sleepers c.expire.new.self) c.expire.ensures.left
 
 pub returns-clause-awoken : goal.returns-clause-awoken
 returns-clause-awoken g c =
     let same : to_z w64 (of_z w64 c.args.time) ≡ c.args.time = search rules in
-    expired_awoken (seen c.self.view_is) c.args.self.now c.self.view_is c.self.invariant c.args.time _ same (g.D.Delays.sleepers c.expire.new.self) c.expire.ensures.left c.expire.result.items c.expire.ensures.tasks
+    expired_awoken (seen c.self.view_is) c.args.self.now c.self.view_is c.self.invariant c.args.time _ same
+    (g.D.Delays.sleepers c.expire.new.self) c.expire.ensures.left c.expire.result.items c.expire.ensures.tasks
 
 pub returns-clause-orderly : goal.returns-clause-orderly
 returns-clause-orderly g c =
     let same : to_z w64 (of_z w64 c.args.time) ≡ c.args.time = search rules in
-    let kept = expired_kept (seen c.self.view_is) c.args.self.now c.self.view_is c.self.invariant c.args.time _ same (g.D.Delays.sleepers c.expire.new.self) c.expire.ensures.left in
+    let kept = expired_kept (seen c.self.view_is) c.args.self.now c.self.view_is c.self.invariant c.args.time _ same
+    (g.D.Delays.sleepers c.expire.new.self) c.expire.ensures.left in
     kept.orderly

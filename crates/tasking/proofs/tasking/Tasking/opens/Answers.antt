@@ -11,9 +11,11 @@ invariant_of-self g c =
     let h = seen c.self.view_is in
     let t = c.args.task in
     let lt = in_kinds h c.self.invariant t (task_here h c.args.self.now c.self.view_is c.self.invariant t c.requires.task) in
-    opens_kept h c.args.self.now c.self.view_is c.self.invariant t c.args.object c.args.kind c.enter.new.self _ c.enter.ensures.room c.requires.task c.enter.ensures.opened
+    opens_kept h c.args.self.now c.self.view_is c.self.invariant t c.args.object c.args.kind c.enter.new.self _ c.enter.ensures.room c.requires.task
+    c.enter.ensures.opened
     (kinds_put (λ l. l.items) c.self.inside.kinds c.from.result t c.from.ensures lt _ _
-    (c.push.ensures.items ∙ ap (λ l. l ++ c.args.kind ∷ []) (kinds_here (λ l. l.items) c.self.inside.kinds c.from.result t c.from.ensures lt c.index-self-from.result)))
+    (c.push.ensures.items
+    ∙ ap (λ l. l ++ c.args.kind ∷ []) (kinds_here (λ l. l.items) c.self.inside.kinds c.from.result t c.from.ensures lt c.index-self-from.result)))
 
 pub returns : goal.returns
 returns g c =
@@ -22,4 +24,5 @@ returns g c =
     let lt = in_kinds h c.self.invariant t (task_here h c.args.self.now c.self.view_is c.self.invariant t c.requires.task) in
     opens_is h c.args.self.now c.self.view_is c.self.invariant t c.args.object c.args.kind c.enter.new.self _ c.requires.task c.enter.ensures.opened
     (kinds_put (λ l. l.items) c.self.inside.kinds c.from.result t c.from.ensures lt _ _
-    (c.push.ensures.items ∙ ap (λ l. l ++ c.args.kind ∷ []) (kinds_here (λ l. l.items) c.self.inside.kinds c.from.result t c.from.ensures lt c.index-self-from.result)))
+    (c.push.ensures.items
+    ∙ ap (λ l. l ++ c.args.kind ∷ []) (kinds_here (λ l. l.items) c.self.inside.kinds c.from.result t c.from.ensures lt c.index-self-from.result)))

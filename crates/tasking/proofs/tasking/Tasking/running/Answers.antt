@@ -6,4 +6,5 @@ use Rattle.tasking.proofs.Standing.{some_task}
 use Rattle.tasking.proofs.tasking.Tasking.running.Goals as goal
 
 pub returns-clause-task : goal.returns-clause-task
-returns-clause-task g c = subst (λ v. IfSome c.self.inside.running (λ t. IsTask (kernel_of v) t)) c.self.view_is (some_task (kernel_of (seen c.self.view_is)) c.self.invariant.orderly)
+returns-clause-task g c = subst (λ v. IfSome c.self.inside.running (λ t. IsTask (kernel_of v) t)) c.self.view_is
+    (some_task (kernel_of (seen c.self.view_is)) c.self.invariant.orderly)

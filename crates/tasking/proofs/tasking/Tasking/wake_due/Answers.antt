@@ -17,7 +17,8 @@ becomes_ready-requires-clause-nowhere g c =
 pub loop-task-preserved : goal.loop-task-preserved
 loop-task-preserved g c =
     let l = c.loop-task in
-    let t = turn_awoken c.as_slice-task-items.result.now l.task-index 0 (kernel_of l.self) (kernel_of c.becomes_ready.new.self) c.loop-task-test.true c.becomes_ready.ensures l.invariant.1.0 l.invariant.1.1 in
+    let t = turn_awoken c.as_slice-task-items.result.now l.task-index 0 (kernel_of l.self)
+    (kernel_of c.becomes_ready.new.self) c.loop-task-test.true c.becomes_ready.ensures l.invariant.1.0 l.invariant.1.1 in
     (t.0 ∙ l.invariant.0, t.1)
 
 pub returns : goal.returns
@@ -25,5 +26,7 @@ returns g c =
     let l = c.loop-task in
     let old = kernel_of c.args.self.now in
     let same : to_z w64 (of_z w64 c.args.time) ≡ c.args.time = search rules in
-    all_woken old c.args.time c.as_slice-task-items.result.now l.task-index (kernel_of l.self) (kernel_of c.expire-tasks.new.self) c.loop-task-test.false l.invariant.0
-    (c.as_slice-task-items.ensures.value ∙ (c.expire-tasks.ensures.tasks ∙ ap (λ n. due n old.sleepers) same)) (c.expire-tasks.ensures.left ∙ ap (λ n. record old { now = n; sleepers = waiting n old.sleepers }) same)
+    all_woken old c.args.time c.as_slice-task-items.result.now l.task-index (kernel_of l.self)
+    (kernel_of c.expire-tasks.new.self) c.loop-task-test.false l.invariant.0
+    (c.as_slice-task-items.ensures.value ∙ (c.expire-tasks.ensures.tasks ∙ ap (λ n. due n old.sleepers) same))
+    (c.expire-tasks.ensures.left ∙ ap (λ n. record old { now = n; sleepers = waiting n old.sleepers }) same)
