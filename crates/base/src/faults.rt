@@ -36,6 +36,8 @@ pub const MISPLACED_STATEMENT: u8 = 19;
 pub const WRONG_HANDLER: u8 = 20;
 /// A function has a formal parameter that is not `in`, or a composite formal or result.
 pub const WRONG_FUNCTION: u8 = 21;
+/// The name after an `end` is another one than that of what ends there (RM 6.3, 7.1).
+pub const WRONG_END_NAME: u8 = 22;
 /// A program passes a limit of the language, or its code a limit of images.
 pub const LIMIT_PASSED: u8 = 23;
 /// An image: the magic or the version is another one.

@@ -483,6 +483,16 @@ local_task : found procedure (MoreStmts (Block 0 (LocalTask (record {
     44) NoStmts) NoHandlers) NoStmts) ≡ broken 12 32
 local_task = refl
 
+-- `declare task Z is end X; begin null; end;`
+local_task_ended_by_another_name : found procedure (MoreStmts (Block 0 (LocalTask (record {
+  place = 8;
+  name = (identifier 13 (codes "Z"));
+  aspect = None;
+  definition = (Some (record { entries = []; end_name = (identifier 22 (codes "X")) }));
+}) ∷ []) (MoreStmts (Null 31) NoStmts) NoHandlers) NoStmts) ≡
+    broken 22 22
+local_task_ended_by_another_name = refl
+
 -- `declare task Z; begin null; end;`
 local_task_is_legal : found procedure (MoreStmts (Block 0 (LocalTask (record {
   place = 8;
