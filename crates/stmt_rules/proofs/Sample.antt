@@ -20,7 +20,7 @@ use Rattle.declaring.specs.LocalRules.{locals_scope}
 use Rattle.stmt_rules.specs.declared.around.Around.{Around}
 use Rattle.stmt_rules.specs.declared.around.BodyKind.{BodyKind}
 use Rattle.stmt_rules.specs.declared.around.BodyKind.TheVariants as kind
-use Rattle.stmt_rules.specs.StatementRules.{stmts_faults}
+use Rattle.stmt_rules.specs.StatementRules.{in_body, stmts_faults}
 
 -- ---- trees
 
@@ -126,9 +126,6 @@ locals = LocalObject (object_of (identifier 0 (codes "M")) true (identifier 13 (
 
 abbrev pub visible : Scope
 visible = locals_scope (formals_scope (items_scope (items_scope units items) broken_items) formals) locals
-
-abbrev pub in_body : BodyKind → Around
-in_body k = record { kind = k; in_loop = false; in_handler = false }
 
 abbrev pub procedure : Around
 procedure = in_body kind.Procedure

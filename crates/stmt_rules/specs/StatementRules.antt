@@ -1,5 +1,5 @@
 -- What statements break (RM 5, 11; docs/LANGUAGE.md, "Rules of statements"): where each rule is asked, in the order of the text.
-use Rattle.std.specs.Prelude.{ℕ, Bool, true, ◌&&◌, List, [], ◌++◌}
+use Rattle.std.specs.Prelude.{ℕ, Bool, true, false, ◌&&◌, List, [], ◌++◌}
 use Rattle.ada_tree.specs.declared.statement.ExceptionChoice.{ExceptionChoice}
 use Rattle.ada_tree.specs.ExpressionTree.{ExprTree}
 use Rattle.ada_tree.specs.StatementTree.{IterationTree, Forever, While, For, ChoicesTree, StmtTree, If, Case, Loop, Block, StmtTrees, NoStmts, MoreStmts, ElsifTrees, NoElsifs, MoreElsifs, AlternativeTrees, NoAlternatives, MoreAlternatives, HandlerTrees, NoHandlers, MoreHandlers}
@@ -11,6 +11,7 @@ use Rattle.expr_rules.specs.Typing.{own_of}
 use Rattle.declaring.specs.BodyNames.{loop_faults, loop_scope}
 use Rattle.declaring.specs.LocalRules.{locals_faults, locals_scope}
 use Rattle.stmt_rules.specs.declared.around.Around.{Around}
+use Rattle.stmt_rules.specs.declared.around.BodyKind.{BodyKind}
 use Rattle.stmt_rules.specs.SimpleRules.{condition_faults, simple_faults}
 use Rattle.stmt_rules.specs.CaseRules.{choices_faults, choices_wanted, chosen_by, others_rule, selecting_faults}
 use Rattle.stmt_rules.specs.CaseRules as alternatives
@@ -27,6 +28,10 @@ iteration_faults s (For parameter reversed range) = loop_faults s parameter rang
 abbrev pub iteration_scope : Scope → IterationTree → Scope
 iteration_scope s (For parameter reversed range) = loop_scope s parameter range
 iteration_scope s iteration = s
+
+-- what stands around the statements of a body
+abbrev pub in_body : BodyKind → Around
+in_body k = record { kind = k; in_loop = false; in_handler = false }
 
 abbrev pub in_loop : Around → Around
 in_loop a = record a { in_loop = true }

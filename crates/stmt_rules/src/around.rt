@@ -1,6 +1,6 @@
 //! What stands around a statement.
-ghost use Rattle.std.specs.Prelude.{◌≡◌, false};
-ghost use Rattle.stmt_rules.specs.StatementRules.{in_handler, in_loop};
+ghost use Rattle.std.specs.Prelude.{◌≡◌};
+ghost use Rattle.stmt_rules.specs.StatementRules.{in_body, in_handler, in_loop};
 
 /// The kind of body that a statement stands in (RM 6.3, 9.1, 9.5.2).
 #[derive(Clone, Copy, Debug, PartialEq, Eq)]
@@ -23,11 +23,9 @@ pub struct Around {
 }
 
 impl Around {
-    /// A body of this kind.
+    /// What stands around the statements of a body of this kind.
     pub fn body(kind: BodyKind) -> Around
-        ensures kind { result.kind ≡ kind }
-        ensures in_loop { result.in_loop ≡ false }
-        ensures in_handler { result.in_handler ≡ false }
+        ensures { result ≡ in_body kind }
     {
         Around {
             kind,
