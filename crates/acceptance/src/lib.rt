@@ -22,6 +22,8 @@ mod rows;
 #[cfg(test)]
 mod spelling;
 #[cfg(test)]
+mod statements;
+#[cfg(test)]
 mod tables;
 #[cfg(test)]
 mod virtual_time;

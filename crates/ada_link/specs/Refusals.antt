@@ -1,6 +1,6 @@
 -- Which fault the tree of a program may be refused with.
 use Rattle.std.specs.Prelude.{◌≡◌, ◌⊎◌, false, true}
-use Rattle.base.specs.declared.faults.TheConstants.{CODE_TOO_LARGE, OUTSIDE_LANGUAGE}
+use Rattle.base.specs.declared.faults.TheConstants.{LIMIT_PASSED, OUTSIDE_LANGUAGE}
 use Rattle.lexer.specs.Fault.{memory_fault}
 use Rattle.lexer.specs.declared.fault.Fault.{Fault}
 use Rattle.ada_tree.specs.ProgramTree.{ProgramTree}
@@ -13,7 +13,7 @@ outside = record { number = OUTSIDE_LANGUAGE; place = 0 }
 
 -- the code passes a limit of images
 abbrev pub too_large : ProgramTree → Fault
-too_large p = record { number = CODE_TOO_LARGE; place = p.main.place }
+too_large p = record { number = LIMIT_PASSED; place = p.main.place }
 
 -- memory was refused, the program is outside the first language, or its code is too large
 abbrev pub RefusesTree : ProgramTree → Fault → Type 0

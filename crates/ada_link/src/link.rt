@@ -21,7 +21,7 @@ use crate::first_language::is_first_program;
 use crate::laws::{linked_keeps_count, linked_means_the_same};
 use crate::refusal::Refusal;
 use ada_tree::{Package, Program};
-use base::faults::{CODE_TOO_LARGE, MEMORY_REFUSED, OUTSIDE_LANGUAGE};
+use base::faults::{LIMIT_PASSED, MEMORY_REFUSED, OUTSIDE_LANGUAGE};
 use handlers::Row;
 use image::{Image, Object, Parts, Task, Text};
 use lexer::Fault;
@@ -163,7 +163,7 @@ fn too_large(program: &Program) -> Fault
     ensures { result ≡ too_large (program_tree program.now) }
 {
     Fault {
-        number: CODE_TOO_LARGE,
+        number: LIMIT_PASSED,
         place: program.main.place,
     }
 }

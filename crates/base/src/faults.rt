@@ -28,12 +28,18 @@ pub const NOT_STATIC: u8 = 14;
 pub const WRONG_STATIC_VALUE: u8 = 15;
 /// A call has not as many actual parameters as there are formal ones (RM 6.4).
 pub const WRONG_ARGUMENT_COUNT: u8 = 16;
+/// A case statement chooses a value twice, has no `others`, or has alternatives behind it (RM 5.4).
+pub const WRONG_CHOICES: u8 = 17;
+/// An `exit`, a `return` or a `raise` without a name stands where it may not, or a `return` has a value outside a function (RM 5.7, 6.5, 11.3).
+pub const MISPLACED_STATEMENT: u8 = 19;
+/// A choice of a handler is no exception, or one that was named before, or an `others` that is not alone and last (RM 11.2).
+pub const WRONG_HANDLER: u8 = 20;
 /// A function has a formal parameter that is not `in`, or a composite formal or result.
 pub const WRONG_FUNCTION: u8 = 21;
-/// A program passes a limit of the language.
+/// The name after an `end` is another one than that of what ends there (RM 6.3, 7.1).
+pub const WRONG_END_NAME: u8 = 22;
+/// A program passes a limit of the language, or its code a limit of images.
 pub const LIMIT_PASSED: u8 = 23;
-/// The code of a program passes a limit of images.
-pub const CODE_TOO_LARGE: u8 = 23;
 /// An image: the magic or the version is another one.
 pub const WRONG_HEADER: u8 = 40;
 /// An image: a section ends early.

@@ -12,8 +12,7 @@ use Rattle.types.specs.declared.entity.Value.{Value as Scalar}
 use Rattle.types.specs.declared.entity.Value.TheVariants as scalar
 use Rattle.types.specs.Scopes.{Scope}
 use Rattle.types.specs.Values.{value_of}
-use Rattle.expr_rules.specs.Faults.{Faults, least}
-use Rattle.declaring.proofs.Joined.{none_least}
+use Rattle.expr_rules.specs.Faults.{Faults, LeastIsLeast, least}
 use Rattle.declaring.specs.ObjectRules.{known_scalar, scalar_if_unbroken, single_argument, single_expression, span_call}
 
 two_arguments : (a b : ArgumentTree) (rest : ArgumentTrees) → None ≡ single_expression (MoreArguments a (MoreArguments b rest))
@@ -44,12 +43,12 @@ known_back None = refl
 known_back (Some (scalar.Number z)) = refl
 known_back (Some (scalar.Truth b)) = refl
 
-pub value_unbroken : (fs : Faults) (v w : Option Scalar) → None ≡ least fs → v ≡ w → v ≡ scalar_if_unbroken fs w
-value_unbroken [] v w none h = h
-value_unbroken (f ∷ fs) v w none h = absurd (cons_is_some f fs none)
+pub value_unbroken : LeastIsLeast → (fs : Faults) (v w : Option Scalar) → None ≡ least fs → v ≡ w → v ≡ scalar_if_unbroken fs w
+value_unbroken is_least [] v w none h = h
+value_unbroken is_least (f ∷ fs) v w none h = absurd (cons_is_some f fs none)
   where
     cons_is_some : (f : Fault) (fs : Faults) → None ≡ least (f ∷ fs) → ⊥
-    cons_is_some f fs e = let empty : (f ∷ fs) ≡ [] = none_least (f ∷ fs) e in cc
+    cons_is_some f fs e = let empty : (f ∷ fs) ≡ [] = is_least.none (f ∷ fs) e in cc
 
 pub value_broken : (fs : Faults) (f : Fault) (w : Option Scalar) → Some f ≡ least fs → None ≡ scalar_if_unbroken fs w
 value_broken [] f w h = cc

@@ -579,6 +579,18 @@ hidden_in_another_aspect = refl
 name_before_its_aspect : least (task_faults package_scope (record { place = 0; name = (identifier 5 (codes "X")); aspect = Some (record { place = 7; name = (identifier 12 (codes "PRIORITY")); value = name 24 (codes "TRUE") [] }); definition = None })) ≡ broken 11 5
 name_before_its_aspect = refl
 
+-- `task Z is entry Go; end Z;`
+task_ended_by_its_name : least (task_faults package_scope (record { place = 0; name = (identifier 5 (codes "Z")); aspect = None; definition = Some (record { entries = record { place = 10; name = (identifier 16 (codes "GO")) } ∷ []; end_name = (identifier 24 (codes "Z")) }) })) ≡ None
+task_ended_by_its_name = refl
+
+-- `task Z is end X;`
+task_ended_by_another_name : least (task_faults package_scope (record { place = 0; name = (identifier 5 (codes "Z")); aspect = None; definition = Some (record { entries = []; end_name = (identifier 14 (codes "X")) }) })) ≡ broken 22 14
+task_ended_by_another_name = refl
+
+-- `task X is end Z;`
+name_before_its_end : least (task_faults package_scope (record { place = 0; name = (identifier 5 (codes "X")); aspect = None; definition = Some (record { entries = []; end_name = (identifier 14 (codes "Z")) }) })) ≡ broken 11 5
+name_before_its_end = refl
+
 -- `task Z with Priority => 3 * 2 + 1;`
 declares_a_task : declared_task (record { place = 0; name = (identifier 5 (codes "Z")); aspect = Some (record { place = 7; name = (identifier 12 (codes "PRIORITY")); value = two binary.Add (two binary.Multiply (num 24 3) (num 28 2)) (num 32 1) }); definition = None }) ≡ Some (Task 7)
 declares_a_task = refl
@@ -619,6 +631,10 @@ declared_object d = entity_at (protected_scope package_scope d) next
 -- `protected Z with Priority => 3 + 4 is procedure A1 (C : Small); function A2 return Small; entry A3 (C : out Vec); private A4 : Small := Seven; A5 : Boolean; A6 : Vec; end Z;`
 a_protected_object : least (protected_faults package_scope (record { place = 0; name = (identifier 10 (codes "Z")); aspect = Some (record { place = 12; name = (identifier 17 (codes "PRIORITY")); value = two binary.Add (num 29 3) (num 33 4) }); operations = OfSubprogram (record { place = 38; name = (identifier 48 (codes "A1")); formals = record { name = (identifier 52 (codes "C")); mode = mode.In; subtype = (identifier 56 (codes "SMALL")) } ∷ []; result = None }) ∷ OfSubprogram (record { place = 64; name = (identifier 73 (codes "A2")); formals = []; result = Some (identifier 83 (codes "SMALL")) }) ∷ OfEntry (record { place = 90; name = (identifier 96 (codes "A3")); formals = record { name = (identifier 100 (codes "C")); mode = mode.Out; subtype = (identifier 108 (codes "VEC")) } ∷ [] }) ∷ []; components = record { name = (identifier 122 (codes "A4")); subtype = (identifier 127 (codes "SMALL")); value = Some (name 136 (codes "SEVEN") []) } ∷ record { name = (identifier 143 (codes "A5")); subtype = (identifier 148 (codes "BOOLEAN")); value = None } ∷ record { name = (identifier 157 (codes "A6")); subtype = (identifier 162 (codes "VEC")); value = None } ∷ []; end_name = (identifier 171 (codes "Z")) })) ≡ None
 a_protected_object = refl
+
+-- `protected Z is end X;`
+object_ended_by_another_name : least (protected_faults package_scope (record { place = 0; name = (identifier 10 (codes "Z")); aspect = None; operations = []; components = []; end_name = (identifier 19 (codes "X")) })) ≡ broken 22 19
+object_ended_by_another_name = refl
 
 -- `protected Z is procedure X; end Z;`
 operation_like_a_visible_name : least (protected_faults package_scope (record { place = 0; name = (identifier 10 (codes "Z")); aspect = None; operations = OfSubprogram (record { place = 15; name = (identifier 25 (codes "X")); formals = []; result = None }) ∷ []; components = []; end_name = (identifier 32 (codes "Z")) })) ≡ broken 11 25

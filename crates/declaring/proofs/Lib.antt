@@ -1,5 +1,4 @@
 mod Joined
-mod Turns
 mod Calls
 mod Examples
 mod Trees

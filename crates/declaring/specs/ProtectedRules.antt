@@ -12,7 +12,7 @@ use Rattle.types.specs.Scopes.{Scope, is_visible, with_name}
 use Rattle.expr_rules.specs.Faults.{Faults, rule}
 use Rattle.declaring.specs.ObjectRules.{fixed_faults}
 use Rattle.declaring.specs.ProfileRules.{formal_parameters, formals_faults, profile_faults, profile_with}
-use Rattle.declaring.specs.SubtypeNames.{declared_twice, subtype_of, subtype_faults}
+use Rattle.declaring.specs.SubtypeNames.{declared_twice, end_rule, subtype_of, subtype_faults}
 use Rattle.declaring.specs.TaskRules.{aspect_faults, priority_of}
 
 -- ---- operations
@@ -64,7 +64,12 @@ parts_faults s own operations before (c ∷ cs) = part_faults s own operations b
 -- ---- objects
 
 abbrev pub protected_faults : Scope → ProtectedTree → Faults
-protected_faults s d = aspect_faults s d.aspect ++ operations_faults s d.name [] d.operations ++ parts_faults s d.name d.operations [] d.components ++ declared_twice s d.name
+protected_faults s d =
+    aspect_faults s d.aspect
+    ++ operations_faults s d.name [] d.operations
+    ++ parts_faults s d.name d.operations [] d.components
+    ++ end_rule d.name d.end_name
+    ++ declared_twice s d.name
 
 -- ---- what calls and bodies see of it
 

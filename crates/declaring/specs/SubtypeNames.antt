@@ -1,6 +1,6 @@
--- New names, and names of subtypes (RM 8.3, 3.2; docs/LANGUAGE.md, "Rules of declarations").
-use Rattle.std.specs.Prelude.{ℕ, Bool, true, false, not, [], Option, Some, None}
-use Rattle.base.specs.declared.faults.TheConstants.{NAME_NOT_VISIBLE, DECLARED_TWICE, NO_MEANING}
+-- New names, names after `end`, and names of subtypes (RM 8.3, 7.1, 3.2; docs/LANGUAGE.md, "Rules of declarations").
+use Rattle.std.specs.Prelude.{ℕ, Bool, true, false, not, [], Option, Some, None, bytes_eq}
+use Rattle.base.specs.declared.faults.TheConstants.{NAME_NOT_VISIBLE, DECLARED_TWICE, NO_MEANING, WRONG_END_NAME}
 use Rattle.ada_tree.specs.declared.expression.Identifier.{Identifier}
 use Rattle.types.specs.declared.entity.Subtype.{Subtype}
 use Rattle.types.specs.Entities.{TypeForm, Arrays, Records, Entity, OfType, OfSubtype, Doubtful}
@@ -13,6 +13,10 @@ use Rattle.expr_rules.specs.Typing.{is_integers}
 -- 11, at the second: declared twice, or hides a visible name
 abbrev pub declared_twice : Scope → Identifier → Faults
 declared_twice s name = rule DECLARED_TWICE name.place (is_visible s name.name)
+
+-- 22, at the name after `end`: it is not that of what ends there
+abbrev pub end_rule : (name end_name : Identifier) → Faults
+end_rule name end_name = rule WRONG_END_NAME end_name.place (not (bytes_eq name.name end_name.name))
 
 -- what a name stands for
 abbrev pub entity_at_or_none : Scope → Option ℕ → Option Entity

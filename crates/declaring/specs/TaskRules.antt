@@ -2,7 +2,7 @@
 use Rattle.std.specs.Prelude.{ℕ, pos, Bool, true, false, Option, Some, None, ◌++◌, [], bytes_eq, codes, nat_le}
 use Rattle.base.specs.declared.limits.TheConstants.{TASK_PRIORITY}
 use Rattle.ada_tree.specs.declared.expression.Identifier.{Identifier}
-use Rattle.ada_tree.specs.StatementTree.{AspectTree, TaskTree}
+use Rattle.ada_tree.specs.StatementTree.{AspectTree, TaskDefinitionTree, TaskTree}
 use Rattle.types.specs.Entities.{Exception, Task}
 use Rattle.types.specs.Scopes.{Scope, integer_type, with_name}
 use Rattle.types.specs.Values.{Value, Number}
@@ -11,7 +11,7 @@ use Rattle.expr_rules.specs.declared.own.Wanted.TheVariants as wanted
 use Rattle.expr_rules.specs.Faults.{Faults}
 use Rattle.expr_rules.specs.ExpressionRules.{faults_of}
 use Rattle.expr_rules.specs.StaticRules.{static_scalar}
-use Rattle.declaring.specs.SubtypeNames.{declared_twice}
+use Rattle.declaring.specs.SubtypeNames.{declared_twice, end_rule}
 
 -- ---- exceptions
 
@@ -45,8 +45,12 @@ priority_of s highest other None = other
 abbrev pub default_priority : ℕ
 default_priority = 15
 
+abbrev pub task_end_faults : (name : Identifier) → Option TaskDefinitionTree → Faults
+task_end_faults name (Some d) = end_rule name d.end_name
+task_end_faults name None = []
+
 abbrev pub task_faults : Scope → TaskTree → Faults
-task_faults s d = aspect_faults s d.aspect ++ declared_twice s d.name
+task_faults s d = aspect_faults s d.aspect ++ task_end_faults d.name d.definition ++ declared_twice s d.name
 
 abbrev pub task_scope : Scope → TaskTree → Scope
 task_scope s d = with_name s d.name.name (Task (priority_of s TASK_PRIORITY default_priority d.aspect))

@@ -9,6 +9,7 @@ ghost use Rattle.declaring.specs.BodyNames.{bounds_type, component_role, compone
 use crate::names::{declare, declared_twice, subtype_of};
 use crate::objects::object_entity;
 use ada_tree::{Expr, Formal, Identifier, Mode, Range};
+use expr_rules::laws::least_by_parts;
 use expr_rules::{Own, Wanted, expression_fault, is_integral, mismatch, own_of, sooner};
 use lexer::Fault;
 use std::alloc::{AllocError, Global};
@@ -88,10 +89,10 @@ fn last_rule(scope: &Scope, number: Option<usize>, own: Own, place: u32) -> Opti
 }
 
 /// The least fault of a loop parameter and its range, which need not be static (RM 5.5).
-#[tactic(auto, using(crate::proofs::Joined::least_append))]
 pub fn loop_fault(scope: &Scope, parameter: &Identifier, range: &Range) -> Option<Fault>
     ensures { result ≡ least (loop_faults scope.now parameter.now (range_tree range.now)) }
 {
+    least_by_parts();
     let bounds = sooner(
         expression_fault(scope, Wanted::AnyInteger, &range.first),
         expression_fault(scope, Wanted::AnyInteger, &range.last),

@@ -11,6 +11,7 @@ use crate::ranges::{range_fault, range_subtype};
 use ada_tree::{ArrayIndex, Component, Identifier, Range, TypeDeclaration, TypeDefinition};
 use base::faults::{DECLARED_TWICE, LIMIT_PASSED, NO_MEANING};
 use base::limits::COMPONENTS;
+use expr_rules::laws::{least_by_parts, sooner_associates};
 use expr_rules::{Wanted, rule, sooner};
 use lexer::Fault;
 use std::alloc::{AllocError, Global};
@@ -50,10 +51,10 @@ fn index_subtype(scope: &Scope, index: &ArrayIndex) -> Option<Subtype>
     }
 }
 
-#[tactic(auto, using(crate::proofs::Joined::least_append))]
 fn index_fault(scope: &Scope, index: &ArrayIndex) -> Option<Fault>
     ensures { result ≡ least (index_faults scope.now (index_tree index.now)) }
 {
+    least_by_parts();
     match index {
         ArrayIndex::Range(range) => {
             let integer = Subtype::INTEGER;
@@ -87,10 +88,10 @@ fn is_long(index: Option<Subtype>) -> bool
 }
 
 // A component behind these.
-#[tactic(auto, using(crate::proofs::Joined::least_append))]
 fn component_fault(scope: &Scope, before: &[Component], component: &Component) -> Option<Fault>
     ensures { result ≡ least (component_faults scope.now before.now component.now) }
 {
+    least_by_parts();
     sooner(
         rule(
             DECLARED_TWICE,
@@ -104,6 +105,8 @@ fn component_fault(scope: &Scope, before: &[Component], component: &Component) -
 fn components_fault(scope: &Scope, components: &[Component]) -> Option<Fault>
     ensures { result ≡ least (components_faults scope.now [] components.now) }
 {
+    least_by_parts();
+    sooner_associates();
     let mut fault = None;
     for (index, component) in components.iter().enumerate() {
         let (before, _) = components.split_at(index);
@@ -145,10 +148,10 @@ fn narrowed_fault(scope: &Scope, range: &Range, subtype: Option<Subtype>) -> Opt
     }
 }
 
-#[tactic(auto, using(crate::proofs::Joined::least_append))]
 fn array_fault(scope: &Scope, index: &ArrayIndex, component: &Identifier) -> Option<Fault>
     ensures { result ≡ least (array_faults scope.now (index_tree index.now) component.now) }
 {
+    least_by_parts();
     let long = rule(
         LIMIT_PASSED,
         index_place(index),
@@ -161,10 +164,10 @@ fn array_fault(scope: &Scope, index: &ArrayIndex, component: &Identifier) -> Opt
 }
 
 // A subtype with a range of its own.
-#[tactic(auto, using(crate::proofs::Joined::least_append))]
 fn subtype_range_fault(scope: &Scope, name: &Identifier, range: &Range) -> Option<Fault>
     ensures { result ≡ least (subtype_range_faults scope.now name.now (range_tree range.now)) }
 {
+    least_by_parts();
     let subtype = subtype_of(scope, name);
     let named = sooner(
         subtype_fault(scope, name),
@@ -189,10 +192,10 @@ fn definition_fault(scope: &Scope, definition: &TypeDefinition) -> Option<Fault>
 }
 
 /// The least fault of the declaration of a type or subtype.
-#[tactic(auto, using(crate::proofs::Joined::least_append))]
 pub fn type_fault(scope: &Scope, declaration: &TypeDeclaration) -> Option<Fault>
     ensures { result ≡ least (type_faults scope.now (type_tree declaration.now)) }
 {
+    least_by_parts();
     sooner(
         definition_fault(scope, &declaration.definition),
         declared_twice(scope, &declaration.name),

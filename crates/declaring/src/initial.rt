@@ -14,6 +14,7 @@ use ada_tree::{Argument, Expr, Selector};
 use base::Checked;
 use base::arithmetic::multiply;
 use base::faults::{NOT_STATIC, WRONG_STATIC_VALUE};
+use expr_rules::laws::{least_by_parts, least_is_least};
 use expr_rules::{Wanted, expression_fault, rule, sooner, static_fault, static_scalar};
 use lexer::Fault;
 use types::{Entity, PredefinedOperation, Scope, StaticForm, Subtype, Value, start_of};
@@ -134,6 +135,8 @@ fn span_fault(
 ) -> Option<Fault>
     ensures { result ≡ least (span_faults scope.now subtype (expr_tree e.now) operation (expr_tree argument.now)) }
 {
+    least_by_parts();
+    least_is_least();
     let form = form_rule(start_of(e), scope.static_form(argument));
     let span = span_rule(start_of(e), span_value(scope, operation, argument));
     match expression_fault(scope, wanted_by(subtype), e) {
@@ -183,6 +186,7 @@ fn fixed_value(scope: &Scope, subtype: Option<Subtype>, e: &Expr) -> Option<Valu
 pub fn fixed_scalar(scope: &Scope, subtype: Option<Subtype>, e: &Expr) -> Option<Value>
     ensures { result ≡ fixed_scalar scope.now subtype (expr_tree e.now) }
 {
+    least_is_least();
     match fixed_fault(scope, subtype, e) {
         None => fixed_value(scope, subtype, e),
         Some(_) => None,

@@ -11,6 +11,7 @@ use crate::profiles::{declare_subprogram, subprogram_fault};
 use crate::protected::{declare_protected, protected_fault};
 use crate::tasks::{declare_exception, declare_task, task_fault};
 use ada_tree::Item;
+use expr_rules::laws::{least_by_parts, sooner_associates};
 use expr_rules::sooner;
 use lexer::Fault;
 use std::alloc::{AllocError, Global};
@@ -55,6 +56,8 @@ pub fn declare_items(
     ensures fault { IfOk result (λ f. f ≡ least (items_faults scope.old (map item_tree items.now))) }
     ensures scope { OnOk result (scope.new ≡ items_scope scope.old (map item_tree items.now)) }
 {
+    least_by_parts();
+    sooner_associates();
     let mut fault = None;
     for item in items {
         let found = item_fault(scope, item);

@@ -24,7 +24,9 @@ pub use definitions::{declare_type, type_fault};
 pub use initial::{fixed_fault, fixed_scalar};
 pub use items::{declare_item, declare_items, item_fault};
 pub use locals::{declare_locals, declare_task_locals};
-pub use names::{declare, declared_twice, named_entity, subtype_fault, subtype_of, wanted_by};
+pub use names::{
+    declare, declared_twice, end_rule, named_entity, subtype_fault, subtype_of, wanted_by,
+};
 pub use objects::{
     declare_local_object, declare_package_object, fixed_object_fault, local_object_fault,
 };

@@ -8,6 +8,7 @@ use crate::objects::{declare_local_object, fixed_object_fault, local_object_faul
 use crate::protected::{declare_protected, protected_fault};
 use crate::tasks::{declare_task, task_fault};
 use ada_tree::Declaration;
+use expr_rules::laws::{least_by_parts, sooner_associates};
 use expr_rules::sooner;
 use lexer::Fault;
 use std::alloc::{AllocError, Global};
@@ -51,6 +52,8 @@ pub fn declare_locals(
     ensures fault { IfOk result (λ f. f ≡ least (locals_faults scope.old (map declaration_tree declarations.now))) }
     ensures scope { OnOk result (scope.new ≡ locals_scope scope.old (map declaration_tree declarations.now)) }
 {
+    least_by_parts();
+    sooner_associates();
     let mut fault = None;
     for declaration in declarations {
         let found = local(alloc, scope, declaration)?;
@@ -96,6 +99,8 @@ pub fn declare_task_locals(
     ensures fault { IfOk result (λ f. f ≡ least (fixed_locals_faults scope.old (map declaration_tree declarations.now))) }
     ensures scope { OnOk result (scope.new ≡ locals_scope scope.old (map declaration_tree declarations.now)) }
 {
+    least_by_parts();
+    sooner_associates();
     let mut fault = None;
     for declaration in declarations {
         let found = fixed_local(alloc, scope, declaration)?;

@@ -1,12 +1,12 @@
-//! New names, and names of subtypes (RM 8.3, 3.2).
+//! New names, names after `end`, and names of subtypes (RM 8.3, 7.1, 3.2).
 ghost use Rattle.std.specs.Prelude.{◌≡◌, option_map, OnErr, OnOk};
 ghost use Rattle.types.specs.Entities.{entity_value, form_value};
 ghost use Rattle.types.specs.Scopes.{with_name};
 ghost use Rattle.expr_rules.specs.Faults.{least};
-ghost use Rattle.declaring.specs.SubtypeNames.{declared_twice, entity_at_or_none, if_integer, is_composite, is_composite_form, is_other, named_entity, subtype_faults, subtype_in, subtype_of, subtype_rule, wanted_by};
+ghost use Rattle.declaring.specs.SubtypeNames.{declared_twice, end_rule, entity_at_or_none, if_integer, is_composite, is_composite_form, is_other, named_entity, subtype_faults, subtype_in, subtype_of, subtype_rule, wanted_by};
 
 use ada_tree::Identifier;
-use base::faults::{DECLARED_TWICE, NAME_NOT_VISIBLE, NO_MEANING};
+use base::faults::{DECLARED_TWICE, NAME_NOT_VISIBLE, NO_MEANING, WRONG_END_NAME};
 use expr_rules::{Own, Wanted, is_integral, rule};
 use lexer::Fault;
 use std::alloc::AllocError;
@@ -30,6 +30,17 @@ pub fn declared_twice(scope: &Scope, name: &Identifier) -> Option<Fault>
         DECLARED_TWICE,
         name.place,
         scope.number_of(&name.name).is_some(),
+    )
+}
+
+/// Fault 22 where the name after an `end` is not that of what ends there (RM 7.1).
+pub fn end_rule(name: &Identifier, end_name: &Identifier) -> Option<Fault>
+    ensures { result ≡ least (end_rule name.now end_name.now) }
+{
+    rule(
+        WRONG_END_NAME,
+        end_name.place,
+        !(name.name.as_bytes() == end_name.name.as_bytes()),
     )
 }
 

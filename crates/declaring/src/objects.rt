@@ -10,6 +10,7 @@ use crate::initial::{fixed_fault, fixed_scalar};
 use crate::names::{declare, declared_twice, subtype_fault, subtype_of, wanted_by};
 use ada_tree::ObjectDeclaration;
 use base::faults::NOT_STATIC;
+use expr_rules::laws::least_by_parts;
 use expr_rules::{expression_fault, rule, sooner};
 use lexer::Fault;
 use std::alloc::AllocError;
@@ -48,10 +49,10 @@ fn local_initial_fault(scope: &Scope, object: &ObjectDeclaration) -> Option<Faul
 }
 
 /// The least fault of an object of a subprogram, an entry or a block.
-#[tactic(auto, using(crate::proofs::Joined::least_append))]
 pub fn local_object_fault(scope: &Scope, object: &ObjectDeclaration) -> Option<Fault>
     ensures { result ≡ least (local_object_faults scope.now (object_tree object.now)) }
 {
+    least_by_parts();
     let subtype = subtype_fault(scope, &object.subtype);
     let initial = local_initial_fault(scope, object);
     sooner(
@@ -80,10 +81,10 @@ fn fixed_initial_fault(scope: &Scope, object: &ObjectDeclaration) -> Option<Faul
 }
 
 /// The least fault of an object of the package or of a task body, whose initial value is static.
-#[tactic(auto, using(crate::proofs::Joined::least_append))]
 pub fn fixed_object_fault(scope: &Scope, object: &ObjectDeclaration) -> Option<Fault>
     ensures { result ≡ least (fixed_object_faults scope.now (object_tree object.now)) }
 {
+    least_by_parts();
     let subtype = subtype_fault(scope, &object.subtype);
     let initial = fixed_initial_fault(scope, object);
     sooner(

@@ -10,6 +10,7 @@ use crate::names::{declare, declared_twice, subtype_fault, subtype_of};
 use ada_tree::{Formal, Identifier, Mode, Subprogram};
 use base::faults::{DECLARED_TWICE, LIMIT_PASSED, WRONG_FUNCTION};
 use base::limits::FORMALS;
+use expr_rules::laws::{least_by_parts, sooner_associates};
 use expr_rules::{rule, sooner};
 use lexer::Fault;
 use std::alloc::{AllocError, Global};
@@ -22,10 +23,10 @@ fn is_formal_in(formals: &[Formal], name: &Identifier) -> bool
 }
 
 // A formal parameter behind these.
-#[tactic(auto, using(crate::proofs::Joined::least_append))]
 fn formal_fault(scope: &Scope, before: &[Formal], formal: &Formal) -> Option<Fault>
     ensures { result ≡ least (formal_faults scope.now before.now formal.now) }
 {
+    least_by_parts();
     let place = formal.name.place;
     let hides = scope.number_of(&formal.name.name).is_some() || is_formal_in(before, &formal.name);
     sooner(
@@ -41,6 +42,8 @@ fn formal_fault(scope: &Scope, before: &[Formal], formal: &Formal) -> Option<Fau
 pub fn formals_fault(scope: &Scope, formals: &[Formal]) -> Option<Fault>
     ensures { result ≡ least (formals_faults scope.now [] formals.now) }
 {
+    least_by_parts();
+    sooner_associates();
     let mut fault = None;
     for (index, formal) in formals.iter().enumerate() {
         let (before, _) = formals.split_at(index);
@@ -120,10 +123,10 @@ fn function_fault(
 }
 
 /// The least fault of the formals and the result of a procedure or function.
-#[tactic(auto, using(crate::proofs::Joined::least_append))]
 pub fn profile_fault(scope: &Scope, subprogram: &Subprogram) -> Option<Fault>
     ensures { result ≡ least (profile_faults scope.now (subprogram_tree subprogram.now)) }
 {
+    least_by_parts();
     let given = subprogram.result.as_ref();
     let formals = formals_fault(scope, &subprogram.formals);
     let named = sooner(formals, result_fault(scope, given));
@@ -132,10 +135,10 @@ pub fn profile_fault(scope: &Scope, subprogram: &Subprogram) -> Option<Fault>
 }
 
 /// The least fault of the declaration of a procedure or function, its body aside.
-#[tactic(auto, using(crate::proofs::Joined::least_append))]
 pub fn subprogram_fault(scope: &Scope, subprogram: &Subprogram) -> Option<Fault>
     ensures { result ≡ least (subprogram_faults scope.now (subprogram_tree subprogram.now)) }
 {
+    least_by_parts();
     sooner(
         profile_fault(scope, subprogram),
         declared_twice(scope, &subprogram.name),

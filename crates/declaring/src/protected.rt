@@ -7,7 +7,7 @@ ghost use Rattle.expr_rules.specs.Faults.{least};
 ghost use Rattle.declaring.specs.ProtectedRules.{component_initial_faults, is_component_like, is_entry, is_operation_like, object_components, object_operations, object_with, operation_faults, operation_name, operation_profile, operation_profile_faults, operations_faults, part_faults, parts_faults, protected_count, protected_entity, protected_faults, protected_scope};
 
 use crate::initial::fixed_fault;
-use crate::names::{declare, declared_twice, subtype_fault, subtype_of};
+use crate::names::{declare, declared_twice, end_rule, subtype_fault, subtype_of};
 use crate::profiles::{formal_parameters, formals_fault, profile_fault, profile_with};
 use crate::tasks::{aspect_fault, priority_of};
 use ada_tree::{
@@ -15,6 +15,7 @@ use ada_tree::{
 };
 use base::faults::DECLARED_TWICE;
 use base::limits::TASK_PRIORITY;
+use expr_rules::laws::{least_by_parts, sooner_associates};
 use expr_rules::{rule, sooner};
 use lexer::Fault;
 use std::alloc::{AllocError, Global};
@@ -64,7 +65,6 @@ fn operation_profile_fault(scope: &Scope, operation: &OperationDeclaration) -> O
 }
 
 // An operation behind these.
-#[tactic(auto, using(crate::proofs::Joined::least_append))]
 fn operation_fault(
     scope: &Scope,
     own: &Identifier,
@@ -73,6 +73,7 @@ fn operation_fault(
 ) -> Option<Fault>
     ensures { result ≡ least (operation_faults scope.now own.now (map operation_tree before.now) (operation_tree operation.now)) }
 {
+    least_by_parts();
     let name = operation_name(operation);
     sooner(
         rule(
@@ -91,6 +92,8 @@ fn operations_fault(
 ) -> Option<Fault>
     ensures { result ≡ least (operations_faults scope.now own.now [] (map operation_tree operations.now)) }
 {
+    least_by_parts();
+    sooner_associates();
     let mut fault = None;
     for (index, operation) in operations.iter().enumerate() {
         let (before, _) = operations.split_at(index);
@@ -129,7 +132,6 @@ fn component_initial_fault(scope: &Scope, component: &ProtectedComponent) -> Opt
 }
 
 // A component behind these.
-#[tactic(auto, using(crate::proofs::Joined::least_append))]
 fn part_fault(
     scope: &Scope,
     own: &Identifier,
@@ -139,6 +141,7 @@ fn part_fault(
 ) -> Option<Fault>
     ensures { result ≡ least (part_faults scope.now own.now (map operation_tree operations.now) (map protected_component_tree before.now) (protected_component_tree component.now)) }
 {
+    least_by_parts();
     let name = &component.name;
     let like = is_component_like(scope, own, operations, before, name);
     sooner(
@@ -158,6 +161,8 @@ fn parts_fault(
 ) -> Option<Fault>
     ensures { result ≡ least (parts_faults scope.now own.now (map operation_tree operations.now) [] (map protected_component_tree components.now)) }
 {
+    least_by_parts();
+    sooner_associates();
     let mut fault = None;
     for (index, component) in components.iter().enumerate() {
         let (before, _) = components.split_at(index);
@@ -167,17 +172,18 @@ fn parts_fault(
 }
 
 /// The least fault of the declaration of a protected object.
-#[tactic(auto, using(crate::proofs::Joined::least_append))]
 pub fn protected_fault(scope: &Scope, object: &ProtectedDeclaration) -> Option<Fault>
     ensures { result ≡ least (protected_faults scope.now (protected_tree object.now)) }
 {
+    least_by_parts();
     let own = &object.name;
     let named = sooner(
         aspect_fault(scope, object.aspect.as_ref()),
         operations_fault(scope, own, &object.operations),
     );
     let parts = parts_fault(scope, own, &object.operations, &object.components);
-    sooner(sooner(named, parts), declared_twice(scope, own))
+    let inside = sooner(sooner(named, parts), end_rule(own, &object.end_name));
+    sooner(inside, declared_twice(scope, own))
 }
 
 fn operation_profile(

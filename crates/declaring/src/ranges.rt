@@ -8,6 +8,7 @@ ghost use Rattle.declaring.specs.TypeRules.{bounded, null_rule, range_faults, ra
 
 use ada_tree::{Expr, Range};
 use base::faults::WRONG_STATIC_VALUE;
+use expr_rules::laws::least_by_parts;
 use expr_rules::{Wanted, rule, sooner, static_fault, static_scalar};
 use lexer::Fault;
 use types::{Scope, Subtype, Value, start_of};
@@ -38,7 +39,6 @@ fn null_rule(place: u32, first: Option<i64>, last: Option<i64>) -> Option<Fault>
 }
 
 /// The least fault of a range whose bounds are of what is expected, and lie in the subtype, if there is one.
-#[tactic(auto, using(crate::proofs::Joined::least_append))]
 pub(crate) fn range_fault(
     scope: &Scope,
     wanted: Wanted,
@@ -47,6 +47,7 @@ pub(crate) fn range_fault(
 ) -> Option<Fault>
     ensures { result ≡ least (range_faults scope.now wanted within (range_tree range.now)) }
 {
+    least_by_parts();
     let bounds = sooner(
         static_fault(scope, wanted, within, &range.first),
         static_fault(scope, wanted, within, &range.last),

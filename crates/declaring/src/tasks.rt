@@ -1,13 +1,14 @@
 //! Exceptions, tasks and priorities (RM 11.1, 9.1, D.1).
 ghost use Rattle.std.specs.Prelude.{◌≡◌, ◌≤◌, ◌++◌, OnErr, OnOk, codes, option_map};
-ghost use Rattle.ada_tree.specs.StatementTree.{aspect_tree, task_tree};
+ghost use Rattle.ada_tree.specs.StatementTree.{aspect_tree, optional_tree, task_definition_tree, task_tree};
 ghost use Rattle.types.specs.Values.{value_of};
 ghost use Rattle.expr_rules.specs.Faults.{least};
-ghost use Rattle.declaring.specs.TaskRules.{aspect_faults, aspect_wanted, exception_scope, is_priority, priority_of, priority_within, task_faults, task_scope};
+ghost use Rattle.declaring.specs.TaskRules.{aspect_faults, aspect_wanted, exception_scope, is_priority, priority_of, priority_within, task_end_faults, task_faults, task_scope};
 
-use crate::names::{declare, declared_twice};
-use ada_tree::{Aspect, Identifier, TaskDeclaration};
+use crate::names::{declare, declared_twice, end_rule};
+use ada_tree::{Aspect, Identifier, TaskDeclaration, TaskDefinition};
 use base::limits::TASK_PRIORITY;
+use expr_rules::laws::least_by_parts;
 use expr_rules::{Wanted, expression_fault, sooner, static_scalar};
 use lexer::Fault;
 use std::alloc::AllocError;
@@ -82,15 +83,25 @@ pub fn priority_of(scope: &Scope, highest: u8, other: u8, aspect: Option<&Aspect
     }
 }
 
+fn task_end_fault(name: &Identifier, definition: &Option<TaskDefinition>) -> Option<Fault>
+    ensures { result ≡ least (task_end_faults name.now (optional_tree task_definition_tree definition.now)) }
+{
+    match definition {
+        Some(definition) => end_rule(name, &definition.end_name),
+        None => None,
+    }
+}
+
 /// The least fault of the declaration of a task; its entries declare no names.
-#[tactic(auto, using(crate::proofs::Joined::least_append))]
 pub fn task_fault(scope: &Scope, task: &TaskDeclaration) -> Option<Fault>
     ensures { result ≡ least (task_faults scope.now (task_tree task.now)) }
 {
-    sooner(
+    least_by_parts();
+    let inside = sooner(
         aspect_fault(scope, task.aspect.as_ref()),
-        declared_twice(scope, &task.name),
-    )
+        task_end_fault(&task.name, &task.definition),
+    );
+    sooner(inside, declared_twice(scope, &task.name))
 }
 
 /// Makes a task visible, with its priority. Memory is the only refusal, and leaves the scope as it was.

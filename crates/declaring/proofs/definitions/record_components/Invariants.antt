@@ -1,6 +1,6 @@
 use Rattle.std.proofs.Common.{◌≡◌, drop}
 use Rattle.declaring.specs.TypeRules.{record_components}
-use Rattle.declaring.proofs.Turns.{behind}
+use Rattle.declaring.proofs.Trees.{behind}
 use Rattle.declaring.proofs.definitions.record_components.Given as goal
 
 abbrev pub invariant-loop-component : goal.invariant-loop-component

@@ -8,7 +8,7 @@ pub returns-in-None : goal.returns-in-None
 returns-in-None c =
     let s = c.args.scope.now in
     let t = expr_tree c.args.e.now in
-    value_unbroken (fixed_faults s c.args.subtype t) c.fixed_value.result (fixed_value s c.args.subtype t) (sym c.in-None.is ∙ c.fixed_fault.ensures) c.fixed_value.ensures
+    value_unbroken c.least_is_least.ensures (fixed_faults s c.args.subtype t) c.fixed_value.result (fixed_value s c.args.subtype t) (sym c.in-None.is ∙ c.fixed_fault.ensures) c.fixed_value.ensures
 
 pub returns-in-Some : goal.returns-in-Some
 returns-in-Some c =

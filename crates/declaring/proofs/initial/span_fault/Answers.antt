@@ -18,7 +18,7 @@ returns-in-None c =
     let formed = c.form_rule-form.ensures ∙ (λ j. least (form_rule (c.start_of.ensures j) (c.static_form.ensures j))) in
     let span = c.span_rule-span.ensures ∙ (λ j. least (span_rule (c.start_of-2.ensures j) (c.span_value.ensures j))) in
     c.sooner.ensures
-    ∙ nothing_else (faults_of s (wanted_by c.args.subtype) t) (form_rule (start_of t) (static_form s a)) (span_rule (start_of t) (span_value s c.args.operation a)) c.form_rule-form.result c.span_rule-span.result
+    ∙ nothing_else c.least_by_parts.ensures c.least_is_least.ensures (faults_of s (wanted_by c.args.subtype) t) (form_rule (start_of t) (static_form s a)) (span_rule (start_of t) (span_value s c.args.operation a)) c.form_rule-form.result c.span_rule-span.result
     (sym c.in-None.is ∙ all) formed span
 
 pub returns-in-Some : goal.returns-in-Some
@@ -29,5 +29,5 @@ returns-in-Some c =
     let all = c.expression_fault.ensures ∙ ap (λ w. least (faults_of s w t)) c.wanted_by.ensures in
     let formed = c.form_rule-form.ensures ∙ (λ j. least (form_rule (c.start_of.ensures j) (c.static_form.ensures j))) in
     c.sooner-in-Some.ensures
-    ∙ something_else (faults_of s (wanted_by c.args.subtype) t) (form_rule (start_of t) (static_form s a)) (span_rule (start_of t) (span_value s c.args.operation a)) c.form_rule-form.result c.in-Some.fault
+    ∙ something_else c.least_by_parts.ensures (faults_of s (wanted_by c.args.subtype) t) (form_rule (start_of t) (static_form s a)) (span_rule (start_of t) (span_value s c.args.operation a)) c.form_rule-form.result c.in-Some.fault
     (sym c.in-Some.is ∙ all) formed

@@ -1,6 +1,6 @@
 use Rattle.std.proofs.Common.{◌≡◌, drop}
 use Rattle.declaring.specs.ProfileRules.{formal_parameters}
-use Rattle.declaring.proofs.Turns.{behind}
+use Rattle.declaring.proofs.Trees.{behind}
 use Rattle.declaring.proofs.profiles.formal_parameters.Given as goal
 
 abbrev pub invariant-loop-formal : goal.invariant-loop-formal

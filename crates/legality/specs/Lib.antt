@@ -1,0 +1,2 @@
+pub use Rattle.stmt_rules.specs.StatementRules
+pub mod BodyRules

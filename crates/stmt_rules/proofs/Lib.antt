@@ -1,0 +1,6 @@
+mod Choices
+mod Compound
+mod CompoundExamples
+mod Sample
+mod SimpleExamples
+mod Turns

@@ -1,0 +1,83 @@
+-- Turns of the loops over alternatives and handlers, of which the last one is another.
+use Rattle.std.proofs.Common.{◌≡◌, ◌++◌, ◌∷◌, length-drop, ℕ, ◌+◌, ◌<◌, List, [], length, drop, Option, refl, sym, ap, ◌∙◌, arith}
+use Rattle.std.specs.Prelude.{get_or, nat_eq}
+use Rattle.std.proofs.lemmas.List.{at_drop_more}
+use Rattle.lexer.specs.declared.fault.Fault.{Fault}
+use Rattle.ada_tree.specs.declared.statement.Alternative.{Alternative}
+use Rattle.ada_tree.specs.declared.statement.Handler.{Handler}
+use Rattle.ada_tree.specs.StatementTree.{alternative_tree, alternative_trees, handler_tree, handler_trees}
+use Rattle.types.specs.declared.entity.Value.{Value as Scalar}
+use Rattle.types.specs.Scopes.{Scope}
+use Rattle.expr_rules.specs.declared.own.Wanted.{Wanted}
+use Rattle.expr_rules.specs.Faults.{Faults, LeastByParts, SoonerAssociates, least, sooner}
+use Rattle.stmt_rules.specs.declared.around.Around.{Around}
+use Rattle.stmt_rules.specs.CaseRules.{chosen_by}
+use Rattle.stmt_rules.specs.CaseRules as alternatives
+use Rattle.stmt_rules.specs.HandlerRules.{named_after}
+use Rattle.stmt_rules.specs.HandlerRules as handlers
+use Rattle.stmt_rules.specs.StatementRules.{alternative_faults, alternatives_faults, handler_faults, more_handlers_faults}
+
+-- a turn of a loop over what is left, by the laws of lists of faults
+turn : LeastByParts
+    → SoonerAssociates
+    → {X : Type 0} (left : List X → Faults) (all : List X) (n : ℕ) (x : X) (f one : Option Fault) (first rest : Faults) (whole : Option Fault)
+    → n < length all
+    → x ≡ get_or all n x
+    → left (x ∷ drop (n + 1) all) ≡ first ++ rest
+    → sooner f (least (left (drop n all))) ≡ whole
+    → one ≡ least first
+    → sooner (sooner f one) (least rest) ≡ whole
+turn parts associates left all n x f one first rest whole less is split h here =
+    associates f one (least rest)
+    ∙ ap (λ o. sooner f (sooner o (least rest))) here
+    ∙ ap (sooner f) (sym (parts first rest))
+    ∙ ap (λ l. sooner f (least l)) (sym (at_drop_more left all n x less ∙ ap (λ y. left (y ∷ drop (n + 1) all)) (sym is) ∙ split))
+    ∙ h
+
+-- ---- the last one is the one with the last index
+
+no_alternative : (xs : List Alternative) (n m : ℕ) → length xs + n ≡ m → alternatives.no_more (alternative_trees xs) ≡ nat_eq n m
+no_alternative [] n m h = grind (arith, h)
+no_alternative (x ∷ xs) n m h = grind (arith, h)
+
+last_alternative : (all : List Alternative) (n : ℕ) → n < length all → alternatives.no_more (alternative_trees (drop (n + 1) all)) ≡ nat_eq (n + 1) (length all)
+last_alternative all n less = no_alternative (drop (n + 1) all) (n + 1) (length all) (let e = length-drop (n + 1) all in omega (arith, e, less))
+
+no_handler : (xs : List Handler) (n m : ℕ) → length xs + n ≡ m → handlers.no_more (handler_trees xs) ≡ nat_eq n m
+no_handler [] n m h = grind (arith, h)
+no_handler (x ∷ xs) n m h = grind (arith, h)
+
+last_handler : (all : List Handler) (n : ℕ) → n < length all → handlers.no_more (handler_trees (drop (n + 1) all)) ≡ nat_eq (n + 1) (length all)
+last_handler all n less = no_handler (drop (n + 1) all) (n + 1) (length all) (let e = length-drop (n + 1) all in omega (arith, e, less))
+
+-- ---- the turns
+
+pub alternatives_turn : LeastByParts
+    → SoonerAssociates
+    → (s : Scope) (a : Around) (w : Wanted) (before : List Scalar) (all : List Alternative) (n : ℕ) (x : Alternative) (f one whole : Option Fault)
+    → n < length all
+    → x ≡ get_or all n x
+    → sooner f (least (alternatives_faults s a w before (alternative_trees (drop n all)))) ≡ whole
+    → one ≡ least (alternative_faults s a w before (nat_eq (n + 1) (length all)) (alternative_tree x))
+    → sooner (sooner f one) (least (alternatives_faults s a w (chosen_by s w before (alternative_tree x).1.0) (alternative_trees (drop (n + 1) all)))) ≡ whole
+alternatives_turn parts associates s a w before all n x f one whole less is h here =
+    let rest = drop (n + 1) all in
+    turn parts associates (λ l. alternatives_faults s a w before (alternative_trees l)) all n x f one
+    (alternative_faults s a w before (alternatives.no_more (alternative_trees rest)) (alternative_tree x))
+    (alternatives_faults s a w (chosen_by s w before (alternative_tree x).1.0) (alternative_trees rest)) whole less is refl h
+    (here ∙ ap (λ b. least (alternative_faults s a w before b (alternative_tree x))) (sym (last_alternative all n less)))
+
+pub handlers_turn : LeastByParts
+    → SoonerAssociates
+    → (s : Scope) (a : Around) (before : List (List ℕ)) (all : List Handler) (n : ℕ) (x : Handler) (f one whole : Option Fault)
+    → n < length all
+    → x ≡ get_or all n x
+    → sooner f (least (more_handlers_faults s a before (handler_trees (drop n all)))) ≡ whole
+    → one ≡ least (handler_faults s a before (nat_eq (n + 1) (length all)) (handler_tree x))
+    → sooner (sooner f one) (least (more_handlers_faults s a (named_after before (handler_tree x).0) (handler_trees (drop (n + 1) all)))) ≡ whole
+handlers_turn parts associates s a before all n x f one whole less is h here =
+    let rest = drop (n + 1) all in
+    turn parts associates (λ l. more_handlers_faults s a before (handler_trees l)) all n x f one
+    (handler_faults s a before (handlers.no_more (handler_trees rest)) (handler_tree x))
+    (more_handlers_faults s a (named_after before (handler_tree x).0) (handler_trees rest)) whole less is refl h
+    (here ∙ ap (λ b. least (handler_faults s a before b (handler_tree x))) (sym (last_handler all n less)))
