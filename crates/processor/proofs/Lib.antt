@@ -1,12 +1,16 @@
 pub mod DecodedSoFar
 pub mod FrameWords
+pub mod Going
 pub mod Lawful
+pub mod Leaving
 pub mod Meets
 pub mod PartPlaces
 pub mod Parts
 pub mod Reaching
+pub mod RowFrames
 pub mod Rows
 pub mod SafeCode
 pub mod Stopping
+pub mod TaskGoing
 pub mod TurnMeets
 pub mod Turns
