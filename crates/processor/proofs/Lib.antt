@@ -1,6 +1,8 @@
+pub mod Blocks
 pub mod DecodedSoFar
 pub mod FrameWords
 pub mod Going
+pub mod InitialRow
 pub mod Lawful
 pub mod Leaving
 pub mod Meets

@@ -9,6 +9,7 @@ mod program;
 mod role;
 mod row;
 mod running;
+mod shared;
 mod task_state;
 mod turning;
 
