@@ -33,7 +33,7 @@ class Writer:
     def index(self, depth):
         """Nearly always inside, so that runs go on."""
         choice = self.random.random()
-        if choice < 0.97:
+        if choice < (0.999 if self.meets else 0.97):
             return f"PUSH {self.random.randrange(OBJECT_WORDS)}"
         return f"PUSH {self.random.choice((-1, LOCALS, WORDS, OBJECT_WORDS))}" if choice < 0.99 else self.value(depth)
 
@@ -80,6 +80,20 @@ class Writer:
         calls = [call for call in self.calls(results) if not call[0].startswith("CALL")]
         return self.one_of(calls, 1) + self.random.choice((" DROP", " PUT 0")) * results if calls else ""
 
+    def meeting(self):
+        """Most often an entry or a protected procedure: entries close their barriers, and procedures open them."""
+        choice = self.random.randrange(10)
+        if choice < 7:
+            kind = ENTRY if choice < 4 else PROCEDURE
+            operations = [(number, head) for number, head in enumerate(self.heads) if head[0] == kind]
+            if operations:
+                number, (_, owner, parameters, results) = self.random.choice(operations)
+                call = f"ECALL {owner}" if kind == ENTRY else f"PCALL {number}"
+                return " ".join(["LDL 4"] * parameters + [call] + ["PUT 0"] * results)
+        if choice < 9:
+            return f"LDL 4 PUSH {self.random.randint(1, 3)} ADD STL 4 LDL 4 PUT 0"
+        return f"CLK PUSH {self.random.randint(-1, 3)} ADD DLY"
+
     def calls(self, results):
         """The calls that are allowed here and give so many words, each with its number of parameters."""
         calls = []
@@ -121,8 +135,8 @@ class Writer:
         return f"{start}: {inner} PUSH 0 DROP {middle}: {behind} JMP {after} {other} {target}: {end} {after}:"
 
     def statement(self, nesting):
-        if self.meets and self.kind == TASK and self.random.random() < 0.7:
-            return self.external_call()
+        if self.meets and self.kind == TASK and self.random.random() < 0.9:
+            return self.meeting()
         choice = self.random.randrange(16)
         if choice < 4:
             return self.store()
@@ -158,6 +172,8 @@ class Writer:
             text = f"all: {text} PUSH 0 DROP gone: JMP after caught: PUT 1 after:"
         if self.kind == TASK and (self.meets or self.random.random() < 0.7):
             text = f"top: {text} CLK PUSH 3 ADD DLY CLK PUSH 40 LT JNZ top"
+        if self.meets and self.kind in (PROCEDURE, ENTRY) and self.random.random() < 0.4:
+            text += f" CLK PUSH {self.random.randint(2, 5)} MOD JNZ quiet PUSH {self.random.choice((2, 5))} RAISE quiet:"
         if self.kind in (PROCEDURE, ENTRY) and self.random.random() < 0.8:
             text = f"PUSH {1 if self.kind == PROCEDURE else 0} STP {self.objects[self.owner][3]} {text}"
         if self.kind in (PROCEDURE, ENTRY):
@@ -167,10 +183,11 @@ class Writer:
 
 
 def random_image(seed):
-    """Up to five tasks and three objects; the same image for the same seed."""
+    """Up to eight tasks and three objects; the same image for the same seed."""
     source = random.Random(seed)
     meets = source.random() < 0.5
-    tasks, objects = source.randint(1, 5), source.randint(1 if meets else 0, 3)
+    tasks = source.randint(3, 8) if meets else source.randint(1, 5)
+    objects = source.randint(1, 2) if meets else source.randint(0, 3)
     heads = [(TASK, None, 0, 0)] * tasks
     heads += [(PLAIN, None, source.randint(0, 2), results) for results in (0, 1, 1)]
     table = []
