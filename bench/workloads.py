@@ -90,14 +90,16 @@ def arrays(region, length, turns):
     return image, [f"0 MAIN x {words[0]}", f"0 MAIN x {words[-1]}"], turns * (2 + 29 * length + 8) + 7
 
 
-def straight_sums(terms=500, times=32_000):
-    """A function that adds `terms` numbers, called again and again, without loops and tests."""
+def straight_sums(terms=500, times=180):
+    """A function that adds `terms` numbers, called again and again on two levels, without loops and tests."""
+    summed = "PUSH 0; " + "CALL {}; ADD; " * times
     bodies = [
-        Body(TASK, "PUSH 0; " + "CALL 1; ADD; " * times + "PUT 0; RET"),
+        Body(TASK, summed.replace("{}", "1") + "PUT 0; RET"),
+        Body(PLAIN, summed.replace("{}", "2") + "RET", results=1),
         Body(PLAIN, "PUSH 0; " + " ".join(f"PUSH {term}; ADD;" for term in range(terms)) + " RET", results=1),
     ]
-    value = times * sum(range(terms))
-    return assembled(bodies, MAIN), [f"0 MAIN x {value}"], 1 + times * (2 + 2 + 2 * terms) + 2
+    value = times * times * sum(range(terms))
+    return assembled(bodies, MAIN), [f"0 MAIN x {value}"], 1 + times * (2 + 2 + 2 * times + times * (2 + 2 * terms)) + 2
 
 
 def turns(rounds=50_000):
