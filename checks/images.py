@@ -35,6 +35,7 @@ class Image:
         self.words = []
         self.objects = []
         self.tasks = []
+        self.exceptions = list(NAMES)
 
     def subprogram(self, kind, operations, owner=NONE, results=0, local=0):
         """Each operation is a name with a and k where they aren't 0, and the words that a call gives where it gives some."""
@@ -50,9 +51,9 @@ class Image:
         self.subprograms.append((kind, owner, len(self.code), 0, results, local, most))
 
     def bytes(self):
-        counts = (self.code, self.subprograms, self.objects, self.tasks, NAMES, self.rows, self.labels, self.words)
+        counts = (self.code, self.subprograms, self.objects, self.tasks, self.exceptions, self.rows, self.labels, self.words)
         parts = [struct.pack(">4sH8H", b"ARVN", 1, *map(len, counts))]
-        parts += [bytes([len(text)]) + text.encode() for text in (*NAMES, *self.labels)]
+        parts += [bytes([len(text)]) + text.encode() for text in (*self.exceptions, *self.labels)]
         parts.append(struct.pack(f">{len(self.words)}q", *self.words))
         for ceiling, entry, barrier, word, words in self.objects:
             parts.append(struct.pack(f">BHBHH{len(words)}q", ceiling, entry, barrier, word, len(words), *words))
@@ -112,6 +113,7 @@ def large(count):
     return image
 
 
-image = every_operation() if sys.argv[1] == "every" else large(int(sys.argv[3]))
-with open(sys.argv[2], "wb") as file:
-    file.write(image.bytes())
+if __name__ == "__main__":
+    image = every_operation() if sys.argv[1] == "every" else large(int(sys.argv[3]))
+    with open(sys.argv[2], "wb") as file:
+        file.write(image.bytes())
