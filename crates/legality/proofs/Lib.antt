@@ -1,2 +1,5 @@
-mod Examples
+mod BodyExamples
+mod Objects
+mod PackageBodyExamples
 mod Parts
+mod Sample
