@@ -1,5 +1,5 @@
 -- Bodies with their least broken rule, worked by computation. Places are those in the text above each.
-use Rattle.std.proofs.Common.{◌≡◌, [], ◌∷◌, ◌++◌, Some, None, false, refl}
+use Rattle.std.proofs.Common.{◌≡◌, [], ◌∷◌, Some, None, false, refl}
 use Rattle.std.specs.Prelude.{codes}
 use Rattle.ada_tree.specs.declared.expression.BinaryOperator.TheVariants as binary
 use Rattle.ada_tree.specs.declared.declaration.Mode.TheVariants as mode
@@ -7,7 +7,6 @@ use Rattle.ada_tree.specs.declared.statement.ExceptionChoice.TheVariants.{Except
 use Rattle.ada_tree.specs.ExpressionTree.{Named, Conditional, NoElsifValues, NoSelectors, selectors_of, Arguments, Value, arguments_of}
 use Rattle.ada_tree.specs.StatementTree.{LocalObject, Forever, NoStmts, MoreStmts, Null, Assignment, Call, Exit, Return, Raise, DelayUntil, Loop, Block, NoHandlers, MoreHandlers}
 use Rattle.expr_rules.specs.Faults.{least}
-use Rattle.declaring.specs.SubtypeNames.{end_rule}
 use Rattle.legality.specs.BodyRules.{subprogram_body_faults, task_body_faults}
 use Rattle.legality.proofs.Sample.{identifier, num, two, name_of, broken, object_of, formal_of, subprogram_of, body_of, visible}
 
@@ -201,38 +200,38 @@ ended_by_another_function = refl
 -- ---- tasks
 
 -- `task body Clerk is M : Integer := Ten; begin loop N := M; exit when N = 3; end loop; delay until Clock; end Clerk;`
-a_task : least (task_body_faults visible (body_of (LocalObject (object_of (identifier 19 (codes "M")) false (identifier 23 (codes "INTEGER")) (Some
-    (Named (identifier 34 (codes "TEN")) NoSelectors))) ∷ []) (MoreStmts (Loop 45 Forever (MoreStmts (Assignment (name_of (identifier 50 (codes "N"))
-    NoSelectors) (Named (identifier 55 (codes "M")) NoSelectors)) (MoreStmts (Exit 58 (Some (two binary.Equal (Named (identifier 68 (codes "N"))
-    NoSelectors) (num 72 3)))) NoStmts))) (MoreStmts (DelayUntil 85 (Named (identifier 97 (codes "CLOCK")) NoSelectors)) NoStmts)) NoHandlers
-    (identifier 108 (codes "CLERK"))) ++ end_rule (identifier 10 (codes "CLERK")) (identifier 108 (codes "CLERK"))) ≡ None
+a_task : least (task_body_faults visible (identifier 10 (codes "CLERK")) (body_of (LocalObject (object_of (identifier 19 (codes "M")) false
+    (identifier 23 (codes "INTEGER")) (Some (Named (identifier 34 (codes "TEN")) NoSelectors))) ∷ []) (MoreStmts (Loop 45 Forever (MoreStmts
+    (Assignment (name_of (identifier 50 (codes "N")) NoSelectors) (Named (identifier 55 (codes "M")) NoSelectors)) (MoreStmts (Exit 58 (Some (two
+    binary.Equal (Named (identifier 68 (codes "N")) NoSelectors) (num 72 3)))) NoStmts))) (MoreStmts (DelayUntil 85 (Named (identifier 97 (codes
+    "CLOCK")) NoSelectors)) NoStmts)) NoHandlers (identifier 108 (codes "CLERK")))) ≡ None
 a_task = refl
 
 -- `task body Clerk is M : Integer := N; begin null; end Clerk;`
-local_not_static : least (task_body_faults visible (body_of (LocalObject (object_of (identifier 19 (codes "M")) false (identifier 23 (codes
-    "INTEGER")) (Some (Named (identifier 34 (codes "N")) NoSelectors))) ∷ []) (MoreStmts (Null 43) NoStmts) NoHandlers (identifier 53 (codes
-    "CLERK"))) ++ end_rule (identifier 10 (codes "CLERK")) (identifier 53 (codes "CLERK"))) ≡ broken 14 34
+local_not_static : least (task_body_faults visible (identifier 10 (codes "CLERK")) (body_of (LocalObject (object_of (identifier 19 (codes "M")) false
+    (identifier 23 (codes "INTEGER")) (Some (Named (identifier 34 (codes "N")) NoSelectors))) ∷ []) (MoreStmts (Null 43) NoStmts) NoHandlers
+    (identifier 53 (codes "CLERK")))) ≡ broken 14 34
 local_not_static = refl
 
 -- `task body Clerk is M : Small := Ten + 1; begin null; end Clerk;`
-local_outside_its_subtype : least (task_body_faults visible (body_of (LocalObject (object_of (identifier 19 (codes "M")) false (identifier 23 (codes
-    "SMALL")) (Some (two binary.Add (Named (identifier 32 (codes "TEN")) NoSelectors) (num 38 1)))) ∷ []) (MoreStmts (Null 47) NoStmts) NoHandlers
-    (identifier 57 (codes "CLERK"))) ++ end_rule (identifier 10 (codes "CLERK")) (identifier 57 (codes "CLERK"))) ≡ broken 12 32
+local_outside_its_subtype : least (task_body_faults visible (identifier 10 (codes "CLERK")) (body_of (LocalObject (object_of (identifier 19 (codes
+    "M")) false (identifier 23 (codes "SMALL")) (Some (two binary.Add (Named (identifier 32 (codes "TEN")) NoSelectors) (num 38 1)))) ∷ []) (MoreStmts
+    (Null 47) NoStmts) NoHandlers (identifier 57 (codes "CLERK")))) ≡ broken 12 32
 local_outside_its_subtype = refl
 
 -- `task body Clerk is begin declare M : Integer := N; begin N := M; end; end Clerk;`
-block_in_a_task : least (task_body_faults visible (body_of ([]) (MoreStmts (Block 25 (LocalObject (object_of (identifier 33 (codes "M")) false
-    (identifier 37 (codes "INTEGER")) (Some (Named (identifier 48 (codes "N")) NoSelectors))) ∷ []) (MoreStmts (Assignment (name_of (identifier 57
-    (codes "N")) NoSelectors) (Named (identifier 62 (codes "M")) NoSelectors)) NoStmts) NoHandlers) NoStmts) NoHandlers (identifier 74 (codes
-    "CLERK"))) ++ end_rule (identifier 10 (codes "CLERK")) (identifier 74 (codes "CLERK"))) ≡ None
+block_in_a_task : least (task_body_faults visible (identifier 10 (codes "CLERK")) (body_of ([]) (MoreStmts (Block 25 (LocalObject (object_of
+    (identifier 33 (codes "M")) false (identifier 37 (codes "INTEGER")) (Some (Named (identifier 48 (codes "N")) NoSelectors))) ∷ []) (MoreStmts
+    (Assignment (name_of (identifier 57 (codes "N")) NoSelectors) (Named (identifier 62 (codes "M")) NoSelectors)) NoStmts) NoHandlers) NoStmts)
+    NoHandlers (identifier 74 (codes "CLERK")))) ≡ None
 block_in_a_task = refl
 
 -- `task body Clerk is begin return; end Clerk;`
-return_in_a_task : least (task_body_faults visible (body_of ([]) (MoreStmts (Return 25 None) NoStmts) NoHandlers (identifier 37 (codes "CLERK"))) ++
-    end_rule (identifier 10 (codes "CLERK")) (identifier 37 (codes "CLERK"))) ≡ broken 19 25
+return_in_a_task : least (task_body_faults visible (identifier 10 (codes "CLERK")) (body_of ([]) (MoreStmts (Return 25 None) NoStmts) NoHandlers
+    (identifier 37 (codes "CLERK")))) ≡ broken 19 25
 return_in_a_task = refl
 
 -- `task body Clerk is begin null; end Go;`
-task_ended_by_another_name : least (task_body_faults visible (body_of ([]) (MoreStmts (Null 25) NoStmts) NoHandlers (identifier 35 (codes "GO"))) ++
-    end_rule (identifier 10 (codes "CLERK")) (identifier 35 (codes "GO"))) ≡ broken 22 35
+task_ended_by_another_name : least (task_body_faults visible (identifier 10 (codes "CLERK")) (body_of ([]) (MoreStmts (Null 25) NoStmts) NoHandlers
+    (identifier 35 (codes "GO")))) ≡ broken 22 35
 task_ended_by_another_name = refl

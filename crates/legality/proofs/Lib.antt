@@ -1,5 +1,7 @@
 mod BodyExamples
+mod MatchingExamples
 mod Objects
 mod PackageBodyExamples
 mod Parts
 mod Sample
+mod Tests

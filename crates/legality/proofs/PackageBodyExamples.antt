@@ -258,8 +258,34 @@ value_returned_in_an_entry = refl
 body_of_no_object : least (body_items_faults visible (ProtectedBody (identifier 15 (codes "Q")) (OperationBody (subprogram_of 20 (identifier 30 (codes
     "GIVE")) (formal_of (identifier 36 (codes "X")) mode.In (identifier 40 (codes "INTEGER")) ∷ []) None) (body_of ([]) (MoreStmts (Assignment
     (name_of (identifier 58 (codes "V")) NoSelectors) (Named (identifier 63 (codes "X")) NoSelectors)) NoStmts) NoHandlers (identifier 70 (codes
-    "GIVE"))) ∷ []) (identifier 80 (codes "Q")) ∷ [])) ≡ None
+    "GIVE"))) ∷ []) (identifier 80 (codes "Q")) ∷ [])) ≡ broken 18 15
 body_of_no_object = refl
+
+-- `protected body N is end N;`
+body_of_a_variable : least (body_items_faults visible (ProtectedBody (identifier 15 (codes "N")) ([]) (identifier 24 (codes "N")) ∷ [])) ≡ broken 18
+    15
+body_of_a_variable = refl
+
+-- `protected body P is entry More when True is begin null; end More; end P;`
+entry_body_without_declaration : least (body_items_faults visible (ProtectedBody (identifier 15 (codes "P")) (EntryBody (record {
+  place = 20;
+  name =
+      (identifier 26 (codes "MORE"));
+  formals = [];
+}) (Named (identifier 36 (codes "TRUE")) NoSelectors) (body_of ([]) (MoreStmts (Null 50) NoStmts)
+    NoHandlers (identifier 60 (codes "MORE"))) ∷ []) (identifier 70 (codes "P")) ∷ [])) ≡ broken 18 26
+entry_body_without_declaration = refl
+
+-- `protected body P is entry Give (X : Integer) when True is begin null; end Give; end P;`
+entry_body_for_a_procedure : least (body_items_faults visible (ProtectedBody (identifier 15 (codes "P")) (EntryBody (record {
+  place = 20;
+  name =
+      (identifier 26 (codes "GIVE"));
+  formals = formal_of (identifier 32 (codes "X")) mode.In (identifier 36 (codes "INTEGER")) ∷ [];
+}) (Named
+    (identifier 50 (codes "TRUE")) NoSelectors) (body_of ([]) (MoreStmts (Null 64) NoStmts) NoHandlers (identifier 74 (codes "GIVE"))) ∷ [])
+    (identifier 84 (codes "P")) ∷ [])) ≡ broken 18 26
+entry_body_for_a_procedure = refl
 
 -- ---- declarations and bodies in order
 
@@ -346,6 +372,16 @@ operations_back_behind_their_body = refl
 second_variable : least (body_items_faults visible (OfItem (OfObject (object_of (identifier 0 (codes "M")) false (identifier 4 (codes "INTEGER"))
     None)) ∷ OfItem (OfObject (object_of (identifier 13 (codes "M")) false (identifier 17 (codes "BOOLEAN")) None)) ∷ [])) ≡ broken 11 13
 second_variable = refl
+
+-- `task body Sweep is begin null; end Sweep;`
+task_body_without_declaration : least (body_items_faults visible (TaskBody (identifier 10 (codes "SWEEP")) (body_of ([]) (MoreStmts (Null 25) NoStmts)
+    NoHandlers (identifier 35 (codes "SWEEP"))) ∷ [])) ≡ broken 18 10
+task_body_without_declaration = refl
+
+-- `task body Go is begin null; end Go;`
+task_body_for_a_procedure : least (body_items_faults visible (TaskBody (identifier 10 (codes "GO")) (body_of ([]) (MoreStmts (Null 22) NoStmts)
+    NoHandlers (identifier 32 (codes "GO"))) ∷ [])) ≡ broken 18 10
+task_body_for_a_procedure = refl
 
 -- `task body Clerk is begin null; end Go; procedure Run is begin exit; end Run;`
 task_in_its_place : least (body_items_faults visible (TaskBody (identifier 10 (codes "CLERK")) (body_of ([]) (MoreStmts (Null 25) NoStmts) NoHandlers

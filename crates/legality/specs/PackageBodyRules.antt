@@ -3,7 +3,6 @@ use Rattle.std.specs.Prelude.{List, [], ◌∷◌, ◌++◌}
 use Rattle.ada_tree.specs.ProgramTree.{BodyItemTree, OfItem, SubprogramBody, TaskBody, ProtectedBody}
 use Rattle.types.specs.Scopes.{Scope}
 use Rattle.expr_rules.specs.Faults.{Faults}
-use Rattle.declaring.specs.SubtypeNames.{end_rule}
 use Rattle.declaring.specs.ProfileRules.{subprogram_scope}
 use Rattle.declaring.specs.ItemRules.{item_faults, item_scope}
 use Rattle.legality.specs.BodyRules.{subprogram_body_faults, task_body_faults}
@@ -12,7 +11,7 @@ use Rattle.legality.specs.ProtectedBodyRules.{protected_body_faults}
 abbrev pub body_item_faults : Scope → BodyItemTree → Faults
 body_item_faults s (OfItem d) = item_faults s d
 body_item_faults s (SubprogramBody d b) = subprogram_body_faults s d b
-body_item_faults s (TaskBody name b) = task_body_faults s b ++ end_rule name b.end_name
+body_item_faults s (TaskBody name b) = task_body_faults s name b
 body_item_faults s (ProtectedBody name items end_name) = protected_body_faults s name items end_name
 
 abbrev pub body_item_scope : Scope → BodyItemTree → Scope

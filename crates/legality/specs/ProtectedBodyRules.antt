@@ -1,13 +1,15 @@
 -- The bodies of protected objects (RM 9.4, 9.5.1, 9.5.2; docs/LANGUAGE.md, "Rules of bodies"): what stands in each, and what it sees.
-use Rattle.std.specs.Prelude.{ℕ, false, List, [], ◌∷◌, ◌++◌, Option, Some, None, is_some, option_map}
+use Rattle.std.specs.Prelude.{ℕ, Bool, true, false, not, List, [], ◌∷◌, ◌++◌, Option, Some, None, is_some, option_map}
+use Rattle.base.specs.declared.faults.TheConstants.{UNMATCHED_BODY}
 use Rattle.ada_tree.specs.declared.expression.Identifier.{Identifier}
 use Rattle.ada_tree.specs.ExpressionTree.{ExprTree}
 use Rattle.ada_tree.specs.StatementTree.{SubprogramTree, EntryTree}
 use Rattle.ada_tree.specs.ProgramTree.{BodyTree, ProtectedItemTree, OperationBody, EntryBody}
 use Rattle.types.specs.declared.entity.RecordComponent.{RecordComponent}
+use Rattle.types.specs.Entities.{Entity, Entry, Protected, Doubtful}
 use Rattle.types.specs.Scopes.{Scope, number_of, protected_at}
-use Rattle.expr_rules.specs.Faults.{Faults}
-use Rattle.declaring.specs.SubtypeNames.{end_rule}
+use Rattle.expr_rules.specs.Faults.{Faults, rule}
+use Rattle.declaring.specs.SubtypeNames.{end_rule, named_entity}
 use Rattle.declaring.specs.ProfileRules.{formals_faults, subprogram_scope}
 use Rattle.declaring.specs.BodyNames.{components_scope, formals_scope, object_body_scope}
 use Rattle.stmt_rules.specs.declared.around.BodyKind.TheVariants as kind
@@ -19,10 +21,19 @@ use Rattle.legality.specs.BodyRules.{body_faults, subprogram_body_faults}
 abbrev pub operation_sees : Scope → List RecordComponent → SubprogramTree → Scope
 operation_sees s components d = components_scope s (is_some d.result) components
 
+abbrev pub is_entry : Option Entity → Bool
+is_entry (Some (Entry p)) = true
+is_entry e = false
+
+-- 18: the object has no entry of this name
+abbrev pub entry_rule : Scope → Identifier → Faults
+entry_rule s name = rule UNMATCHED_BODY name.place (not (is_entry (named_entity s name)))
+
 -- the formals and the components are visible in the barrier (RM 9.5.2)
 abbrev pub entry_body_faults : Scope → EntryTree → (barrier : ExprTree) → BodyTree → Faults
 entry_body_faults s d barrier b =
-    formals_faults s [] d.formals
+    entry_rule s d.name
+    ++ formals_faults s [] d.formals
     ++ condition_faults (formals_scope s d.formals) barrier
     ++ body_faults (formals_scope s d.formals) kind.Entry b
     ++ end_rule d.name b.end_name
@@ -59,5 +70,14 @@ abbrev pub known_body_faults : Scope → Option ℕ → List ProtectedItemTree �
 known_body_faults s (Some n) items = object_items_faults s n (components_at s n) items
 known_body_faults s None items = []
 
+abbrev pub is_object : Option Entity → Bool
+is_object (Some (Protected p)) = true
+is_object (Some Doubtful) = true
+is_object e = false
+
+-- 18: no protected object of this name is declared
+abbrev pub object_rule : Scope → Identifier → Faults
+object_rule s name = rule UNMATCHED_BODY name.place (not (is_object (named_entity s name)))
+
 abbrev pub protected_body_faults : Scope → Identifier → List ProtectedItemTree → (end_name : Identifier) → Faults
-protected_body_faults s name items end_name = known_body_faults s (number_of s name.name) items ++ end_rule name end_name
+protected_body_faults s name items end_name = object_rule s name ++ known_body_faults s (number_of s name.name) items ++ end_rule name end_name

@@ -5,22 +5,24 @@ ghost use Rattle.ada_tree.specs.StatementTree.{entry_tree, subprogram_tree};
 ghost use Rattle.ada_tree.specs.ProgramTree.{body_tree, protected_item_tree};
 ghost use Rattle.expr_rules.specs.Faults.{least};
 ghost use Rattle.declaring.specs.BodyNames.{components_scope, formals_scope, object_body_scope};
+ghost use Rattle.declaring.specs.SubtypeNames.{named_entity};
 ghost use Rattle.legality.specs.BodyRules.{subprogram_body_faults};
-ghost use Rattle.legality.specs.ProtectedBodyRules.{components_at, entry_body_faults, known_body_faults, object_items_faults, operation_sees, protected_body_faults, protected_item_faults, protected_item_scope, protected_items_faults, protected_items_scope};
+ghost use Rattle.legality.specs.ProtectedBodyRules.{components_at, entry_body_faults, entry_rule, is_entry, is_object, known_body_faults, object_items_faults, object_rule, operation_sees, protected_body_faults, protected_item_faults, protected_item_scope, protected_items_faults, protected_items_scope};
 
 use crate::bodies::{body_fault, subprogram_body_fault};
 use ada_tree::{Body, EntryDeclaration, Expr, Identifier, ProtectedBodyItem, Subprogram};
+use base::faults::UNMATCHED_BODY;
 use declaring::laws::{names_are_added, object_bodies_end};
 use declaring::{
     declare_components, declare_formals, declare_subprogram, end_rule, enter_object, formals_fault,
-    leave_object,
+    leave_object, named_entity,
 };
 use expr_rules::laws::{least_by_parts, sooner_associates};
-use expr_rules::{Wanted, expression_fault, sooner};
+use expr_rules::{Wanted, expression_fault, rule, sooner};
 use lexer::Fault;
 use std::alloc::{AllocError, Global};
 use stmt_rules::BodyKind;
-use types::{RecordComponent, Scope};
+use types::{Entity, RecordComponent, Scope};
 
 // The body of a procedure or function, which sees the components; of its names none is visible behind it, its own neither.
 fn operation_body_fault(
@@ -41,6 +43,21 @@ fn operation_body_fault(
     Ok(fault)
 }
 
+fn is_entry(scope: &Scope, name: &Identifier) -> bool
+    ensures { result ≡ is_entry (named_entity scope.now name.now) }
+{
+    match named_entity(scope, name) {
+        Some(Entity::Entry(_)) => true,
+        _ => false,
+    }
+}
+
+fn entry_rule(scope: &Scope, name: &Identifier) -> Option<Fault>
+    ensures { result ≡ least (entry_rule scope.now name.now) }
+{
+    rule(UNMATCHED_BODY, name.place, !is_entry(scope, name))
+}
+
 // The body of an entry in a scope that has the components. Its formals stay visible.
 fn entry_inside_fault(
     alloc: Global,
@@ -53,7 +70,10 @@ fn entry_inside_fault(
     ensures scope { OnOk result (scope.new ≡ formals_scope scope.old (entry_tree entry.now).formals) }
 {
     least_by_parts();
-    let formals = formals_fault(scope, &entry.formals);
+    let formals = sooner(
+        entry_rule(scope, &entry.name),
+        formals_fault(scope, &entry.formals),
+    );
     declare_formals(scope, &entry.formals)?;
     let head = sooner(formals, expression_fault(scope, Wanted::BOOLEAN, barrier));
     let inside = body_fault(alloc, scope, BodyKind::Entry, body)?;
@@ -200,6 +220,22 @@ fn known_body_fault(
     }
 }
 
+fn is_object(scope: &Scope, name: &Identifier) -> bool
+    ensures { result ≡ is_object (named_entity scope.now name.now) }
+{
+    match named_entity(scope, name) {
+        Some(Entity::Protected(_)) => true,
+        Some(Entity::Doubtful) => true,
+        _ => false,
+    }
+}
+
+fn object_rule(scope: &Scope, name: &Identifier) -> Option<Fault>
+    ensures { result ≡ least (object_rule scope.now name.now) }
+{
+    rule(UNMATCHED_BODY, name.place, !is_object(scope, name))
+}
+
 /// The least fault in the body of the protected object of this name, with the name after its `end`. The scope stays as it was. Memory is the only refusal, and
 /// may leave some of its names visible, and the object without operations behind its own.
 pub fn protected_body_fault(
@@ -213,7 +249,8 @@ pub fn protected_body_fault(
     ensures scope { OnOk result (scope.new ≡ scope.old) }
 {
     least_by_parts();
+    let missing = object_rule(scope, name);
     let number = scope.number_of(&name.name);
     let inside = known_body_fault(alloc, scope, number, items)?;
-    Ok(sooner(inside, end_rule(name, end_name)))
+    Ok(sooner(sooner(missing, inside), end_rule(name, end_name)))
 }
