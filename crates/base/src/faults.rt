@@ -30,6 +30,8 @@ pub const WRONG_STATIC_VALUE: u8 = 15;
 pub const WRONG_ARGUMENT_COUNT: u8 = 16;
 /// A case statement chooses a value twice, has no `others`, or has alternatives behind it (RM 5.4).
 pub const WRONG_CHOICES: u8 = 17;
+/// A declaration has no body, or a body is a second one, matches no declaration or not the one before it (RM 3.11.1, 6.3.1, 7.2).
+pub const UNMATCHED_BODY: u8 = 18;
 /// An `exit`, a `return` or a `raise` without a name stands where it may not, or a `return` has a value outside a function (RM 5.7, 6.5, 11.3).
 pub const MISPLACED_STATEMENT: u8 = 19;
 /// A choice of a handler is no exception, or one that was named before, or an `others` that is not alone and last (RM 11.2).

@@ -1,2 +1,7 @@
-mod Examples
+mod BodyExamples
+mod MatchingExamples
+mod Objects
+mod PackageBodyExamples
 mod Parts
+mod Sample
+mod Tests

@@ -1,12 +1,12 @@
 -- Bodies of subprograms and tasks (RM 6.3, 9.1; docs/LANGUAGE.md, "Rules of bodies"): what stands in each, and what it sees.
 use Rattle.std.specs.Prelude.{ℕ, Bool, true, false, not, ◌&&◌, List, [], ◌∷◌, ◌++◌, Option, Some, None, is_some, bytes_eq}
-use Rattle.base.specs.declared.faults.TheConstants.{DECLARED_TWICE, WRONG_FUNCTION}
+use Rattle.base.specs.declared.faults.TheConstants.{DECLARED_TWICE, UNMATCHED_BODY, WRONG_FUNCTION}
 use Rattle.ada_tree.specs.declared.expression.Identifier.{Identifier}
 use Rattle.ada_tree.specs.declared.declaration.Formal.{Formal}
 use Rattle.ada_tree.specs.StatementTree.{DeclarationTree, SubprogramTree, StmtTree, StmtTrees, NoStmts, MoreStmts, Return, HandlerTrees, NoHandlers}
 use Rattle.ada_tree.specs.ProgramTree.{BodyTree}
 use Rattle.types.specs.declared.entity.Subtype.{Subtype}
-use Rattle.types.specs.Entities.{Entity, Subprogram, Doubtful}
+use Rattle.types.specs.Entities.{Entity, Subprogram, Task, Doubtful}
 use Rattle.types.specs.Scopes.{Scope}
 use Rattle.expr_rules.specs.Faults.{Faults, rule}
 use Rattle.declaring.specs.SubtypeNames.{declared_twice, end_rule, named_entity, subtype_of}
@@ -22,9 +22,22 @@ use Rattle.stmt_rules.specs.StatementRules.{in_body, sequence_faults}
 abbrev pub body_faults : Scope → BodyKind → BodyTree → Faults
 body_faults s k b = locals_faults s b.declarations ++ sequence_faults (locals_scope s b.declarations) (in_body k) b.statements b.handlers
 
+abbrev pub is_task : Option Entity → Bool
+is_task (Some (Task priority)) = true
+is_task (Some Doubtful) = true
+is_task e = false
+
+-- 18: no task of this name is declared
+abbrev pub task_rule : Scope → Identifier → Faults
+task_rule s name = rule UNMATCHED_BODY name.place (not (is_task (named_entity s name)))
+
 -- the declarations of a task body have static initial values
-abbrev pub task_body_faults : Scope → BodyTree → Faults
-task_body_faults s b = fixed_locals_faults s b.declarations ++ sequence_faults (locals_scope s b.declarations) (in_body kind.Task) b.statements b.handlers
+abbrev pub task_body_faults : Scope → Identifier → BodyTree → Faults
+task_body_faults s name b =
+    task_rule s name
+    ++ fixed_locals_faults s b.declarations
+    ++ sequence_faults (locals_scope s b.declarations) (in_body kind.Task) b.statements b.handlers
+    ++ end_rule name b.end_name
 
 -- ---- functions: the body is one `return` with a value, without declarations and handlers
 

@@ -6,12 +6,12 @@ ghost use Rattle.types.specs.Entities.{entity_value};
 ghost use Rattle.expr_rules.specs.Faults.{least};
 ghost use Rattle.declaring.specs.BodyNames.{formals_scope};
 ghost use Rattle.declaring.specs.ProfileRules.{subprogram_scope};
-ghost use Rattle.declaring.specs.SubtypeNames.{end_rule, named_entity};
-ghost use Rattle.legality.specs.BodyRules.{body_faults, body_name_faults, function_body_faults, has_no_declarations, has_no_handlers, head_faults, is_function_body, is_return_of_value, is_single_return, is_subprogram, kind_of, own_name_faults, subprogram_body_faults, task_body_faults, type_number};
+ghost use Rattle.declaring.specs.SubtypeNames.{named_entity};
+ghost use Rattle.legality.specs.BodyRules.{body_faults, body_name_faults, function_body_faults, has_no_declarations, has_no_handlers, head_faults, is_function_body, is_return_of_value, is_single_return, is_subprogram, is_task, kind_of, own_name_faults, subprogram_body_faults, task_body_faults, task_rule, type_number};
 
 use ada_tree::laws::statements_by_parts;
 use ada_tree::{Body, Declaration, Formal, Handler, Identifier, Stmt, Subprogram};
-use base::faults::{DECLARED_TWICE, WRONG_FUNCTION};
+use base::faults::{DECLARED_TWICE, UNMATCHED_BODY, WRONG_FUNCTION};
 use declaring::laws::names_are_added;
 use declaring::{
     declare_formals, declare_locals, declare_subprogram, declare_task_locals, declared_twice,
@@ -45,24 +45,43 @@ pub fn body_fault(
     Ok(sooner(declared, inside))
 }
 
-/// The same of the body of a task, whose initial values are static, with the name after its `end`.
+fn is_task(scope: &Scope, name: &Identifier) -> bool
+    ensures { result ≡ is_task (named_entity scope.now name.now) }
+{
+    match named_entity(scope, name) {
+        Some(Entity::Task(_)) => true,
+        Some(Entity::Doubtful) => true,
+        _ => false,
+    }
+}
+
+fn task_rule(scope: &Scope, name: &Identifier) -> Option<Fault>
+    ensures { result ≡ least (task_rule scope.now name.now) }
+{
+    rule(UNMATCHED_BODY, name.place, !is_task(scope, name))
+}
+
+/// The least fault of the body of a task, whose initial values are static. The scope stays as it was. Memory is the only refusal, and may leave names of the
+/// body visible.
 pub fn task_body_fault(
     alloc: Global,
     scope: &mut Scope,
     name: &Identifier,
     body: &Body,
 ) -> Result<Option<Fault>, AllocError>
-    ensures fault { IfOk result (λ f. f ≡ least (task_body_faults scope.old (body_tree body.now) ++ end_rule name.now (body_tree body.now).end_name)) }
+    ensures fault { IfOk result (λ f. f ≡ least (task_body_faults scope.old name.now (body_tree body.now))) }
     ensures scope { OnOk result (scope.new ≡ scope.old) }
 {
     least_by_parts();
     names_are_added();
     let len = scope.len();
+    let missing = task_rule(scope, name);
     let declared = declare_task_locals(alloc, scope, &body.declarations)?;
     let around = Around::body(BodyKind::Task);
     let inside = sequence_fault(alloc, scope, around, &body.statements, &body.handlers)?;
     scope.truncate(len);
-    Ok(sooner(sooner(declared, inside), end_rule(name, &body.end_name)))
+    let head = sooner(missing, declared);
+    Ok(sooner(sooner(head, inside), end_rule(name, &body.end_name)))
 }
 
 fn is_return_of_value(statement: &Stmt) -> bool

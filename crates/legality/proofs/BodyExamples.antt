@@ -1,84 +1,14 @@
 -- Bodies with their least broken rule, worked by computation. Places are those in the text above each.
-use Rattle.std.proofs.Common.{◌≡◌, ℕ, List, [], ◌∷◌, ◌++◌, Option, Some, None, true, false, Bool, refl}
-use Rattle.std.specs.Prelude.{pos, codes}
-use Rattle.lexer.specs.declared.fault.Fault.{Fault}
-use Rattle.ada_tree.specs.declared.expression.Identifier.{Identifier}
-use Rattle.ada_tree.specs.declared.expression.UnaryOperator.{UnaryOperator}
-use Rattle.ada_tree.specs.declared.expression.BinaryOperator.{BinaryOperator}
+use Rattle.std.proofs.Common.{◌≡◌, [], ◌∷◌, Some, None, false, refl}
+use Rattle.std.specs.Prelude.{codes}
 use Rattle.ada_tree.specs.declared.expression.BinaryOperator.TheVariants as binary
-use Rattle.ada_tree.specs.declared.declaration.Component.{Component}
-use Rattle.ada_tree.specs.declared.declaration.Formal.{Formal}
-use Rattle.ada_tree.specs.declared.declaration.Mode.{Mode}
 use Rattle.ada_tree.specs.declared.declaration.Mode.TheVariants as mode
 use Rattle.ada_tree.specs.declared.statement.ExceptionChoice.TheVariants.{Exception as Chosen, Others}
-use Rattle.ada_tree.specs.ExpressionTree.{ExprTree, NameTree, Number, Named, Conditional, Unary, Binary, NoElsifValues, SelectorTrees, NoSelectors, selectors_of, Arguments, Value, arguments_of}
-use Rattle.ada_tree.specs.StatementTree.{ObjectTree, RangeTree, SubprogramTree, DeclarationTree, LocalObject, Forever, StmtTrees, NoStmts, MoreStmts, Null, Assignment, Call, Exit, Return, Raise, DelayUntil, Loop, Block, HandlerTrees, NoHandlers, MoreHandlers}
-use Rattle.ada_tree.specs.ProgramTree.{ItemTree, BodyTree, Integer, Array, OfRange, OfType as TypeItem, OfObject, OfException, OfSubprogram as OfDeclared, OfTask}
+use Rattle.ada_tree.specs.ExpressionTree.{Named, Conditional, NoElsifValues, NoSelectors, selectors_of, Arguments, Value, arguments_of}
+use Rattle.ada_tree.specs.StatementTree.{LocalObject, Forever, NoStmts, MoreStmts, Null, Assignment, Call, Exit, Return, Raise, DelayUntil, Loop, Block, NoHandlers, MoreHandlers}
 use Rattle.expr_rules.specs.Faults.{least}
-use Rattle.types.specs.Scopes.{Scope, standard, with_real_time, with_control_io}
-use Rattle.declaring.specs.ItemRules.{items_faults, items_scope}
-use Rattle.declaring.specs.SubtypeNames.{end_rule}
 use Rattle.legality.specs.BodyRules.{subprogram_body_faults, task_body_faults}
-
--- ---- trees
-
-abbrev identifier : ℕ → List ℕ → Identifier
-identifier place text = record { name = text; place = place }
-
-abbrev num : ℕ → ℕ → ExprTree
-num place n = Number (pos n) place
-
-abbrev one : UnaryOperator → ℕ → ExprTree → ExprTree
-one operator place e = Unary operator place e
-
-abbrev two : BinaryOperator → ExprTree → ExprTree → ExprTree
-two operator a b = Binary operator a b
-
-abbrev name_of : Identifier → SelectorTrees → NameTree
-name_of first selectors = record { first = first; selectors = selectors }
-
-abbrev broken : ℕ → ℕ → Option Fault
-broken number place = Some (record { number = number; place = place })
-
-abbrev object_of : Identifier → Bool → Identifier → Option ExprTree → ObjectTree
-object_of name constant subtype value = record { name = name; constant = constant; subtype = subtype; value = value }
-
-abbrev range_of : ExprTree → ExprTree → RangeTree
-range_of first last = record { first = first; last = last }
-
-abbrev formal_of : Identifier → Mode → Identifier → Formal
-formal_of name mode subtype = record { name = name; mode = mode; subtype = subtype }
-
-abbrev component_of : Identifier → Identifier → Component
-component_of name subtype = record { name = name; subtype = subtype }
-
-abbrev subprogram_of : ℕ → Identifier → List Formal → Option Identifier → SubprogramTree
-subprogram_of place name formals result = record { place = place; name = name; formals = formals; result = result }
-
-abbrev body_of : List DeclarationTree → StmtTrees → HandlerTrees → Identifier → BodyTree
-body_of declarations statements handlers end_name = record { declarations = declarations; statements = statements; handlers = handlers; end_name = end_name }
-
--- ---- what is visible
-
--- type Small is range 0 .. 9; type Row is array (1 .. 3) of Integer; N : Integer; Ten : constant Integer := 10; procedure Go (K : Integer);
--- function Twice (K : Integer) return Integer; task Clerk; Bad : exception;
-abbrev items : List ItemTree
-items =
-    TypeItem (record { name = (identifier 5 (codes "SMALL")); definition = (Integer (range_of (num 20 0) (num 25 9))) })
-    ∷ TypeItem (record { name = (identifier 33 (codes "ROW")); definition = (Array (OfRange (range_of (num 47 1) (num 52 3))) (identifier 58 (codes "INTEGER"))) })
-    ∷ OfObject (object_of (identifier 67 (codes "N")) false (identifier 71 (codes "INTEGER")) None)
-    ∷ OfObject (object_of (identifier 80 (codes "TEN")) true (identifier 95 (codes "INTEGER")) (Some (num 106 10)))
-    ∷ OfDeclared (subprogram_of 110 (identifier 120 (codes "GO")) (formal_of (identifier 124 (codes "K")) mode.In (identifier 128 (codes "INTEGER")) ∷ []) None)
-    ∷ OfDeclared (subprogram_of 138 (identifier 147 (codes "TWICE")) (formal_of (identifier 154 (codes "K")) mode.In (identifier 158 (codes "INTEGER")) ∷ []) (Some (identifier 174 (codes "INTEGER"))))
-    ∷ OfTask (record { place = 183; name = (identifier 188 (codes "CLERK")); aspect = None; definition = None })
-    ∷ OfException (identifier 195 (codes "BAD"))
-    ∷ []
-
-abbrev visible : Scope
-visible = items_scope (with_control_io (with_real_time standard)) items
-
-items_are_legal : least (items_faults (with_control_io (with_real_time standard)) items) ≡ None
-items_are_legal = refl
+use Rattle.legality.proofs.Sample.{identifier, num, two, name_of, broken, object_of, formal_of, subprogram_of, body_of, visible}
 
 -- ---- procedures
 
@@ -270,38 +200,38 @@ ended_by_another_function = refl
 -- ---- tasks
 
 -- `task body Clerk is M : Integer := Ten; begin loop N := M; exit when N = 3; end loop; delay until Clock; end Clerk;`
-a_task : least (task_body_faults visible (body_of (LocalObject (object_of (identifier 19 (codes "M")) false (identifier 23 (codes "INTEGER")) (Some
-    (Named (identifier 34 (codes "TEN")) NoSelectors))) ∷ []) (MoreStmts (Loop 45 Forever (MoreStmts (Assignment (name_of (identifier 50 (codes "N"))
-    NoSelectors) (Named (identifier 55 (codes "M")) NoSelectors)) (MoreStmts (Exit 58 (Some (two binary.Equal (Named (identifier 68 (codes "N"))
-    NoSelectors) (num 72 3)))) NoStmts))) (MoreStmts (DelayUntil 85 (Named (identifier 97 (codes "CLOCK")) NoSelectors)) NoStmts)) NoHandlers
-    (identifier 108 (codes "CLERK"))) ++ end_rule (identifier 10 (codes "CLERK")) (identifier 108 (codes "CLERK"))) ≡ None
+a_task : least (task_body_faults visible (identifier 10 (codes "CLERK")) (body_of (LocalObject (object_of (identifier 19 (codes "M")) false
+    (identifier 23 (codes "INTEGER")) (Some (Named (identifier 34 (codes "TEN")) NoSelectors))) ∷ []) (MoreStmts (Loop 45 Forever (MoreStmts
+    (Assignment (name_of (identifier 50 (codes "N")) NoSelectors) (Named (identifier 55 (codes "M")) NoSelectors)) (MoreStmts (Exit 58 (Some (two
+    binary.Equal (Named (identifier 68 (codes "N")) NoSelectors) (num 72 3)))) NoStmts))) (MoreStmts (DelayUntil 85 (Named (identifier 97 (codes
+    "CLOCK")) NoSelectors)) NoStmts)) NoHandlers (identifier 108 (codes "CLERK")))) ≡ None
 a_task = refl
 
 -- `task body Clerk is M : Integer := N; begin null; end Clerk;`
-local_not_static : least (task_body_faults visible (body_of (LocalObject (object_of (identifier 19 (codes "M")) false (identifier 23 (codes
-    "INTEGER")) (Some (Named (identifier 34 (codes "N")) NoSelectors))) ∷ []) (MoreStmts (Null 43) NoStmts) NoHandlers (identifier 53 (codes
-    "CLERK"))) ++ end_rule (identifier 10 (codes "CLERK")) (identifier 53 (codes "CLERK"))) ≡ broken 14 34
+local_not_static : least (task_body_faults visible (identifier 10 (codes "CLERK")) (body_of (LocalObject (object_of (identifier 19 (codes "M")) false
+    (identifier 23 (codes "INTEGER")) (Some (Named (identifier 34 (codes "N")) NoSelectors))) ∷ []) (MoreStmts (Null 43) NoStmts) NoHandlers
+    (identifier 53 (codes "CLERK")))) ≡ broken 14 34
 local_not_static = refl
 
 -- `task body Clerk is M : Small := Ten + 1; begin null; end Clerk;`
-local_outside_its_subtype : least (task_body_faults visible (body_of (LocalObject (object_of (identifier 19 (codes "M")) false (identifier 23 (codes
-    "SMALL")) (Some (two binary.Add (Named (identifier 32 (codes "TEN")) NoSelectors) (num 38 1)))) ∷ []) (MoreStmts (Null 47) NoStmts) NoHandlers
-    (identifier 57 (codes "CLERK"))) ++ end_rule (identifier 10 (codes "CLERK")) (identifier 57 (codes "CLERK"))) ≡ broken 12 32
+local_outside_its_subtype : least (task_body_faults visible (identifier 10 (codes "CLERK")) (body_of (LocalObject (object_of (identifier 19 (codes
+    "M")) false (identifier 23 (codes "SMALL")) (Some (two binary.Add (Named (identifier 32 (codes "TEN")) NoSelectors) (num 38 1)))) ∷ []) (MoreStmts
+    (Null 47) NoStmts) NoHandlers (identifier 57 (codes "CLERK")))) ≡ broken 12 32
 local_outside_its_subtype = refl
 
 -- `task body Clerk is begin declare M : Integer := N; begin N := M; end; end Clerk;`
-block_in_a_task : least (task_body_faults visible (body_of ([]) (MoreStmts (Block 25 (LocalObject (object_of (identifier 33 (codes "M")) false
-    (identifier 37 (codes "INTEGER")) (Some (Named (identifier 48 (codes "N")) NoSelectors))) ∷ []) (MoreStmts (Assignment (name_of (identifier 57
-    (codes "N")) NoSelectors) (Named (identifier 62 (codes "M")) NoSelectors)) NoStmts) NoHandlers) NoStmts) NoHandlers (identifier 74 (codes
-    "CLERK"))) ++ end_rule (identifier 10 (codes "CLERK")) (identifier 74 (codes "CLERK"))) ≡ None
+block_in_a_task : least (task_body_faults visible (identifier 10 (codes "CLERK")) (body_of ([]) (MoreStmts (Block 25 (LocalObject (object_of
+    (identifier 33 (codes "M")) false (identifier 37 (codes "INTEGER")) (Some (Named (identifier 48 (codes "N")) NoSelectors))) ∷ []) (MoreStmts
+    (Assignment (name_of (identifier 57 (codes "N")) NoSelectors) (Named (identifier 62 (codes "M")) NoSelectors)) NoStmts) NoHandlers) NoStmts)
+    NoHandlers (identifier 74 (codes "CLERK")))) ≡ None
 block_in_a_task = refl
 
 -- `task body Clerk is begin return; end Clerk;`
-return_in_a_task : least (task_body_faults visible (body_of ([]) (MoreStmts (Return 25 None) NoStmts) NoHandlers (identifier 37 (codes "CLERK"))) ++
-    end_rule (identifier 10 (codes "CLERK")) (identifier 37 (codes "CLERK"))) ≡ broken 19 25
+return_in_a_task : least (task_body_faults visible (identifier 10 (codes "CLERK")) (body_of ([]) (MoreStmts (Return 25 None) NoStmts) NoHandlers
+    (identifier 37 (codes "CLERK")))) ≡ broken 19 25
 return_in_a_task = refl
 
 -- `task body Clerk is begin null; end Go;`
-task_ended_by_another_name : least (task_body_faults visible (body_of ([]) (MoreStmts (Null 25) NoStmts) NoHandlers (identifier 35 (codes "GO"))) ++
-    end_rule (identifier 10 (codes "CLERK")) (identifier 35 (codes "GO"))) ≡ broken 22 35
+task_ended_by_another_name : least (task_body_faults visible (identifier 10 (codes "CLERK")) (body_of ([]) (MoreStmts (Null 25) NoStmts) NoHandlers
+    (identifier 35 (codes "GO")))) ≡ broken 22 35
 task_ended_by_another_name = refl
