@@ -1,4 +1,5 @@
--- Declarations and their bodies (RM 3.11.1, 6.3.1, 7.2, 9.1, 9.4; docs/LANGUAGE.md, "Rules of bodies"): 18, where a body is missing, a second one, or not like its declaration.
+-- Declarations and their bodies (RM 3.11.1, 6.3.1, 7.2, 9.1, 9.4; docs/LANGUAGE.md, "Rules of bodies"): 18,
+-- where a body is missing, a second one, or not like its declaration.
 use Rattle.std.specs.Prelude.{Bool, true, false, not, ◌&&◌, ◌||◌, List, [], ◌∷◌, ◌++◌, Option, Some, None, bytes_eq}
 use Rattle.std.specs.List.{list_any}
 use Rattle.base.specs.declared.faults.TheConstants.{UNMATCHED_BODY}
@@ -125,11 +126,13 @@ operation_name (EntryBody d barrier b) = d.name
 abbrev pub is_second_operation : (before : List ProtectedItemTree) → ProtectedItemTree → Bool
 is_second_operation before i = list_any (is_operation_body (operation_is_entry i) (operation_name i)) before
 
-abbrev pub operation_body_rule : (specified : List ItemTree) → (before : List BodyItemTree) → (object : Identifier) → (earlier : List ProtectedItemTree) → ProtectedItemTree → Faults
+abbrev pub operation_body_rule : (specified : List ItemTree) → (before : List BodyItemTree) → (object : Identifier) → (earlier : List ProtectedItemTree)
+    → ProtectedItemTree → Faults
 operation_body_rule specified before object earlier i =
     rule UNMATCHED_BODY (operation_name i).place (is_second_operation earlier i || any_declared (has_unlike_operation object i) specified before)
 
-abbrev pub operation_bodies_faults : (specified : List ItemTree) → (before : List BodyItemTree) → (object : Identifier) → (earlier : List ProtectedItemTree) → List ProtectedItemTree → Faults
+abbrev pub operation_bodies_faults : (specified : List ItemTree) → (before : List BodyItemTree) → (object : Identifier) → (earlier : List ProtectedItemTree)
+    → List ProtectedItemTree → Faults
 operation_bodies_faults specified before object earlier [] = []
 operation_bodies_faults specified before object earlier (i ∷ is) =
     operation_body_rule specified before object earlier i ++ operation_bodies_faults specified before object (earlier ++ i ∷ []) is

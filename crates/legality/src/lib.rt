@@ -1,13 +1,19 @@
-//! What bodies break (docs/LANGUAGE.md, "Rules of bodies").
+//! What bodies, packages and main break (docs/LANGUAGE.md, "Rules of bodies" and "Rules of programs").
 #![tactic(auto)]
 
 mod bodies;
+mod main_procedure;
 mod matching;
 mod operations;
+mod package;
 mod package_body;
 mod protected;
+mod units;
 
 pub use bodies::{body_fault, subprogram_body_fault, task_body_fault};
+pub use main_procedure::main_fault;
 pub use operations::matching_fault;
+pub use package::package_fault;
 pub use package_body::body_items_fault;
 pub use protected::protected_body_fault;
+pub use units::{clauses_fault, see_units};

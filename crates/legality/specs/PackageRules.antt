@@ -1,0 +1,58 @@
+-- The package (RM 7.1, 7.2; docs/LANGUAGE.md, "Rules of programs"), the limits aside.
+use Rattle.std.specs.Prelude.{Bool, true, false, not, ◌++◌}
+use Rattle.std.specs.List.{list_any}
+use Rattle.base.specs.declared.faults.TheConstants.{NAME_NOT_VISIBLE, UNMATCHED_BODY}
+use Rattle.ada_tree.specs.ProgramTree.{ItemTree, OfTask, OfProtected, PackageTree}
+use Rattle.ada_tree.specs.ProgramTree.{OfSubprogram as OfDeclared}
+use Rattle.types.specs.Entities.{LibraryUnit}
+use Rattle.types.specs.Scopes.{Scope, standard, with_name}
+use Rattle.expr_rules.specs.Faults.{Faults, rule}
+use Rattle.declaring.specs.SubtypeNames.{declared_twice, end_rule}
+use Rattle.declaring.specs.ItemRules.{items_faults, items_scope}
+use Rattle.legality.specs.MatchingRules.{matching_faults, same_name}
+use Rattle.legality.specs.PackageBodyRules.{body_items_faults}
+use Rattle.legality.specs.UnitRules.{clauses_faults, clauses_scope}
+
+-- ---- what is visible: in the package its own name, behind the specification what it declares; in front of it these names
+
+abbrev pub units_scope : Scope → PackageTree → Scope
+units_scope s p = clauses_scope s p.clauses
+
+abbrev pub inside_scope : Scope → PackageTree → Scope
+inside_scope s p = with_name (units_scope s p) p.declaration.name.name LibraryUnit
+
+abbrev pub specified_scope : Scope → PackageTree → Scope
+specified_scope s p = items_scope (inside_scope s p) p.declaration.items
+
+-- ---- the specification
+
+abbrev pub has_body : ItemTree → Bool
+has_body (OfDeclared d) = true
+has_body (OfTask d) = true
+has_body (OfProtected d) = true
+has_body d = false
+
+-- 18, at the package's name: nothing in its specification has a body
+abbrev pub bodiless_rule : PackageTree → Faults
+bodiless_rule p = rule UNMATCHED_BODY p.declaration.name.place (not (list_any has_body p.declaration.items))
+
+abbrev pub specification_faults : Scope → PackageTree → Faults
+specification_faults s p =
+    clauses_faults p.clauses
+    ++ declared_twice (units_scope s p) p.declaration.name
+    ++ items_faults (inside_scope s p) p.declaration.items
+    ++ bodiless_rule p
+    ++ end_rule p.declaration.name p.declaration.end_name
+
+-- ---- the body and main's `with`; at the name of the body 18: it is that of another package; in the `with` 10: it names another one
+
+abbrev pub behind_faults : Scope → PackageTree → Faults
+behind_faults s p =
+    rule UNMATCHED_BODY p.body.name.place (not (same_name p.declaration.name p.body.name))
+    ++ matching_faults p.declaration.items p.body.items
+    ++ body_items_faults s p.body.items
+    ++ end_rule p.body.name p.body.end_name
+    ++ rule NAME_NOT_VISIBLE p.with_name.place (not (same_name p.declaration.name p.with_name))
+
+abbrev pub package_faults : PackageTree → Faults
+package_faults p = specification_faults standard p ++ behind_faults (specified_scope standard p) p

@@ -1,0 +1,244 @@
+//! The main procedure (RM 10.2).
+ghost use Rattle.std.specs.Prelude.{◌≡◌, IfOk, map, option_map};
+ghost use Rattle.std.specs.List.{list_any};
+ghost use Rattle.ada_tree.specs.ProgramTree.{body_item_tree, item_tree, main_tree, package_tree};
+ghost use Rattle.types.specs.Scopes.{is_visible};
+ghost use Rattle.expr_rules.specs.Faults.{least};
+ghost use Rattle.legality.specs.MatchingRules.{passes_declared};
+ghost use Rattle.legality.specs.MainRules.{called_rule, declared_meaning, has_no_formals, is_task_named, is_task_of, item_meaning, item_name, main_call_faults, main_faults, main_name_faults, main_scope, main_statement_faults, main_statements_faults, meaning_of, no_package_rule, package_call_faults};
+
+use crate::matching::same_name;
+use ada_tree::{BodyItem, Formal, Identifier, Item, Main, MainStatement, Package};
+use base::faults::{DECLARED_TWICE, NAME_NOT_VISIBLE, NO_MEANING, WRONG_ARGUMENT_COUNT};
+use declaring::{aspect_fault, declare, end_rule};
+use expr_rules::laws::{least_by_parts, sooner_associates};
+use expr_rules::{rule, sooner};
+use lexer::Fault;
+use std::alloc::{AllocError, Global};
+use types::{Entity, Scope};
+
+/// What the specification of a package declares by a name.
+#[derive(Clone, Copy, Debug, PartialEq, Eq)]
+pub(crate) enum Meaning {
+    Procedure,
+    /// A procedure with formal parameters.
+    WithFormals,
+    /// No procedure.
+    Other,
+    Nothing,
+}
+
+fn is_task_named(name: &Identifier, item: &Item) -> bool
+    ensures { result ≡ is_task_named name.now (item_tree item.now) }
+{
+    match item {
+        Item::Task(task) => same_name(&task.name, name),
+        _ => false,
+    }
+}
+
+fn is_task_in_body(name: &Identifier, item: &BodyItem) -> bool
+    ensures { result ≡ passes_declared (is_task_named name.now) (body_item_tree item.now) }
+{
+    match item {
+        BodyItem::Item(item) => is_task_named(name, item),
+        _ => false,
+    }
+}
+
+fn any_task(items: &[Item], name: &Identifier) -> bool
+    ensures { result ≡ list_any (λ d. is_task_named name.now (item_tree d)) items.now }
+{
+    items.iter().any(|item| is_task_named(name, item))
+}
+
+fn any_task_in_body(items: &[BodyItem], name: &Identifier) -> bool
+    ensures { result ≡ list_any (λ i. passes_declared (is_task_named name.now) (body_item_tree i)) items.now }
+{
+    items.iter().any(|item| is_task_in_body(name, item))
+}
+
+#[tactic(auto, using(crate::proofs::Tests::any_of_trees))]
+fn is_task_of(package_: Option<&Package>, name: &Identifier) -> bool
+    ensures { result ≡ is_task_of (option_map (λ p. package_tree p.now) package_.entry) name.now }
+{
+    match package_ {
+        Some(package_) => {
+            any_task(&package_.declaration.items, name)
+                || any_task_in_body(&package_.body.items, name)
+        }
+        None => false,
+    }
+}
+
+fn main_scope(alloc: Global, package_: Option<&Package>) -> Result<Scope, AllocError>
+    ensures { IfOk result (λ s. s ≡ main_scope (option_map (λ p. package_tree p.now) package_.entry)) }
+{
+    let mut scope = Scope::standard(alloc)?;
+    match package_ {
+        Some(package_) => {
+            declare(&mut scope, &package_.declaration.name, Entity::Unit)?;
+            Ok(scope)
+        }
+        None => Ok(scope),
+    }
+}
+
+fn main_name_fault(scope: &Scope, package_: Option<&Package>, name: &Identifier) -> Option<Fault>
+    ensures { result ≡ least (main_name_faults scope.now (option_map (λ p. package_tree p.now) package_.entry) name.now) }
+{
+    let is_taken = scope.number_of(&name.name).is_some() || is_task_of(package_, name);
+    rule(DECLARED_TWICE, name.place, is_taken)
+}
+
+fn meaning_of(is_function: bool, has_no_formals: bool) -> Meaning
+    ensures { result ≡ meaning_of is_function has_no_formals }
+{
+    if is_function {
+        Meaning::Other
+    } else if has_no_formals {
+        Meaning::Procedure
+    } else {
+        Meaning::WithFormals
+    }
+}
+
+fn has_no_formals(formals: &[Formal]) -> bool
+    ensures { result ≡ has_no_formals formals.now }
+{
+    formals.is_empty()
+}
+
+fn item_name(item: &Item) -> &Identifier
+    ensures { result.now ≡ item_name (item_tree item.now) }
+{
+    match item {
+        Item::Type(declaration) => &declaration.name,
+        Item::Object(object) => &object.name,
+        Item::Exception(name) => name,
+        Item::Subprogram(subprogram) => &subprogram.name,
+        Item::Task(task) => &task.name,
+        Item::Protected(object) => &object.name,
+    }
+}
+
+fn item_meaning(item: &Item) -> Meaning
+    ensures { result ≡ item_meaning (item_tree item.now) }
+{
+    match item {
+        Item::Subprogram(subprogram) => meaning_of(
+            subprogram.result.is_some(),
+            has_no_formals(&subprogram.formals),
+        ),
+        _ => Meaning::Other,
+    }
+}
+
+fn declared_meaning(items: &[Item], name: &Identifier) -> Meaning
+    ensures { result ≡ declared_meaning (map item_tree items.now) name.now }
+{
+    for item in items {
+        if same_name(item_name(item), name) {
+            return item_meaning(item);
+        }
+    }
+    Meaning::Nothing
+}
+
+fn called_rule(first: &Identifier, second: &Identifier, meaning: Meaning) -> Option<Fault>
+    ensures { result ≡ least (called_rule first.now second.now meaning) }
+{
+    match meaning {
+        Meaning::Procedure => None,
+        Meaning::WithFormals => rule(WRONG_ARGUMENT_COUNT, first.place, true),
+        Meaning::Other => rule(NO_MEANING, first.place, true),
+        Meaning::Nothing => rule(NAME_NOT_VISIBLE, second.place, true),
+    }
+}
+
+fn no_package_rule(is_visible: bool, first: &Identifier) -> Option<Fault>
+    ensures { result ≡ least (no_package_rule is_visible first.now) }
+{
+    if is_visible {
+        rule(NO_MEANING, first.place, true)
+    } else {
+        rule(NAME_NOT_VISIBLE, first.place, true)
+    }
+}
+
+fn package_call_fault(
+    scope: &Scope,
+    package_: &Package,
+    first: &Identifier,
+    second: &Identifier,
+) -> Option<Fault>
+    ensures { result ≡ least (package_call_faults scope.now (package_tree package_.now) first.now second.now) }
+{
+    if same_name(&package_.declaration.name, first) {
+        let meaning = declared_meaning(&package_.declaration.items, second);
+        called_rule(first, second, meaning)
+    } else {
+        no_package_rule(scope.number_of(&first.name).is_some(), first)
+    }
+}
+
+fn main_call_fault(
+    scope: &Scope,
+    package_: Option<&Package>,
+    first: &Identifier,
+    second: &Identifier,
+) -> Option<Fault>
+    ensures { result ≡ least (main_call_faults scope.now (option_map (λ p. package_tree p.now) package_.entry) first.now second.now) }
+{
+    match package_ {
+        Some(package_) => package_call_fault(scope, package_, first, second),
+        None => no_package_rule(scope.number_of(&first.name).is_some(), first),
+    }
+}
+
+fn main_statement_fault(
+    scope: &Scope,
+    package_: Option<&Package>,
+    statement: &MainStatement,
+) -> Option<Fault>
+    ensures { result ≡ least (main_statement_faults scope.now (option_map (λ p. package_tree p.now) package_.entry) statement.now) }
+{
+    match statement {
+        MainStatement::Null(_) => None,
+        MainStatement::Call(first, second) => main_call_fault(scope, package_, first, second),
+    }
+}
+
+fn main_statements_fault(
+    scope: &Scope,
+    package_: Option<&Package>,
+    statements: &[MainStatement],
+) -> Option<Fault>
+    ensures { result ≡ least (main_statements_faults scope.now (option_map (λ p. package_tree p.now) package_.entry) statements.now) }
+{
+    least_by_parts();
+    sooner_associates();
+    let mut fault = None;
+    for statement in statements {
+        fault = sooner(fault, main_statement_fault(scope, package_, statement));
+    }
+    fault
+}
+
+/// The least fault of the main procedure behind this package: its name, its aspect, what it calls, and the name after its `end`. Memory is the only refusal.
+pub fn main_fault(
+    alloc: Global,
+    package_: Option<&Package>,
+    main: &Main,
+) -> Result<Option<Fault>, AllocError>
+    ensures { IfOk result (λ f. f ≡ least (main_faults (option_map (λ p. package_tree p.now) package_.entry) (main_tree main.now))) }
+{
+    least_by_parts();
+    let mut scope = main_scope(alloc, package_)?;
+    let named = main_name_fault(&scope, package_, &main.name);
+    let head = sooner(named, aspect_fault(&scope, main.aspect.as_ref()));
+    declare(&mut scope, &main.name, Entity::Unit)?;
+    let inside = main_statements_fault(&scope, package_, &main.statements);
+    let end = end_rule(&main.name, &main.end_name);
+    Ok(sooner(sooner(head, inside), end))
+}

@@ -1,0 +1,95 @@
+//! The units that a package names (RM 10.1.2).
+ghost use Rattle.std.specs.Prelude.{◌≡◌, bytes_eq, IfOk, OnOk, option_map};
+ghost use Rattle.expr_rules.specs.Faults.{least};
+ghost use Rattle.legality.specs.UnitRules.{clause_faults, clause_scope, clauses_faults, clauses_scope, is_bare, is_control_io, is_named, is_real_time, is_same_unit, is_second};
+
+use ada_tree::{Identifier, UnitClause, UnitName};
+use base::faults::NAME_NOT_VISIBLE;
+use expr_rules::laws::{least_by_parts, sooner_associates};
+use expr_rules::{rule, sooner};
+use lexer::Fault;
+use std::alloc::{AllocError, Global};
+use types::Scope;
+
+fn is_named(identifier: &Identifier, name: &str) -> bool
+    ensures { result ≡ is_named identifier.now name.now }
+{
+    identifier.name.as_bytes() == name.as_bytes()
+}
+
+fn is_second(identifier: Option<&Identifier>, name: &str) -> bool
+    ensures { result ≡ is_second (option_map (λ i. i.now) identifier.entry) name.now }
+{
+    match identifier {
+        Some(identifier) => is_named(identifier, name),
+        None => false,
+    }
+}
+
+fn is_real_time(unit: &UnitName) -> bool
+    ensures { result ≡ is_real_time unit.now }
+{
+    is_named(&unit.first, "ADA") && is_second(unit.second.as_ref(), "REAL_TIME")
+}
+
+fn is_control_io(unit: &UnitName) -> bool
+    ensures { result ≡ is_control_io unit.now }
+{
+    is_named(&unit.first, "CONTROL_IO") && unit.second.is_none()
+}
+
+fn is_same_unit(left: &UnitName, right: &UnitName) -> bool
+    ensures { result ≡ is_same_unit left.now right.now }
+{
+    (is_real_time(left) && is_real_time(right)) || (is_control_io(left) && is_control_io(right))
+}
+
+fn clause_fault(clause: &UnitClause) -> Option<Fault>
+    ensures { result ≡ least (clause_faults clause.now) }
+{
+    least_by_parts();
+    let is_known = is_real_time(&clause.unit) || is_control_io(&clause.unit);
+    sooner(
+        rule(NAME_NOT_VISIBLE, clause.unit.first.place, !is_known),
+        rule(
+            NAME_NOT_VISIBLE,
+            clause.used.first.place,
+            !is_same_unit(&clause.unit, &clause.used),
+        ),
+    )
+}
+
+fn see_unit(alloc: Global, scope: &mut Scope, clause: &UnitClause) -> Result<(), AllocError>
+    ensures { OnOk result (scope.new ≡ clause_scope scope.old clause.now) }
+{
+    if is_real_time(&clause.unit) {
+        scope.see_real_time(alloc)
+    } else if is_control_io(&clause.unit) {
+        scope.see_control_io(alloc)
+    } else {
+        Ok(())
+    }
+}
+
+/// The least fault of the clauses in front of a package: a unit that is none of the two, or a `use` of another unit than its `with`.
+pub fn clauses_fault(clauses: &[UnitClause]) -> Option<Fault>
+    ensures { result ≡ least (clauses_faults clauses.now) }
+{
+    least_by_parts();
+    sooner_associates();
+    let mut fault = None;
+    for clause in clauses {
+        fault = sooner(fault, clause_fault(clause));
+    }
+    fault
+}
+
+/// Makes visible what the units in these clauses have. Memory is the only refusal, and may leave some of the names visible.
+pub fn see_units(alloc: Global, scope: &mut Scope, clauses: &[UnitClause]) -> Result<(), AllocError>
+    ensures { OnOk result (scope.new ≡ clauses_scope scope.old clauses.now) }
+{
+    for clause in clauses {
+        see_unit(alloc, scope, clause)?;
+    }
+    Ok(())
+}
