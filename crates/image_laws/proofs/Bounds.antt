@@ -8,29 +8,21 @@ use Rattle.kernel.specs.Dispatching.{becomes_ready, dispatch, dispatch_from, hig
 use Rattle.kernel.specs.Clock.{clock, clock_from, falls_asleep, least, released, time_moves, wakes_due, wakes_if_due}
 use Rattle.kernel.specs.Effects.{Effect, Quiet, Finishes, Breaks, Says, Delays, Opens, Views, Queues, Ends, Dies, Ending, Closes, TakesOver, HandsBack, activated, after, begin, blank, effect, ending_of, ends, outer_of, service}
 use Rattle.kernel.specs.PutLaws.{by_put, of_put}
+use Rattle.image_laws.specs.Within as within
+use Rattle.image_laws.specs.Within.{Anytime}
 
 module _ (R : ℕ → Type 0) (W : ℤ → Type 0) where
   abbrev Each : List ℕ → Type 0
-  Each [] = Unit {0}
-  Each (t ∷ ts) = R t × Each ts
+  Each = within.Each R W
 
   abbrev pub Sleeps : List Sleeper → Type 0
-  Sleeps [] = Unit {0}
-  Sleeps (s ∷ ss) = R s.task × W s.wake × Sleeps ss
+  Sleeps = within.Sleeps R W
 
   abbrev Callers : List Action → Type 0
-  Callers [] = Unit {0}
-  Callers (Reads o ∷ outer) = Callers outer
-  Callers (Writes o ∷ outer) = Callers outer
-  Callers (Serves o u ∷ outer) = R u × Callers outer
+  Callers = within.Callers R W
 
-  pub record Bounded (k : Kernel) : Type 0 where
-    pub running : (t : ℕ) → k.running ≡ Some t → R t
-    pub ready : (h : ℕ) → Each (k.ready h)
-    pub sleepers : Sleeps k.sleepers
-    pub queued : (o u : ℕ) → k.queued o ≡ Some u → R u
-    pub callers : (t : ℕ) → Callers (k.actions t)
-    pub now : W k.now
+  abbrev pub Bounded : Kernel → Type 0
+  Bounded = within.Bounded R W
 
   each_more : (ts : List ℕ) (t : ℕ) → Each ts → R t → Each (ts ++ t ∷ [])
   each_more [] t all r = (r, tt)
@@ -233,9 +225,6 @@ module _ (R : ℕ → Type 0) (W : ℤ → Type 0) where
   pub bounded_begin : (p : Partition) → ((t : ℕ) → t < p.tasks → R t) → W (pos 0) → Bounded (begin p)
   bounded_begin p all x =
       settles _ (bounded_activated p.tasks (blank p) all (record { running = λ t e. absurd (none-some t e); ready = λ h. tt; sleepers = tt; queued = λ o u e. absurd (none-some u e); callers = λ t. tt; now = x }))
-
-abbrev pub Anytime : ℤ → Type 0
-Anytime z = Unit {0}
 
 pub timely_anytime : (R : ℕ → Type 0) (e : Effect) → Timely R Anytime e
 timely_anytime R (Delays z) = tt

@@ -24,7 +24,8 @@ use Rattle.image.specs.declared.subprograms.Kind.TheVariants.{TaskBody}
 use Rattle.image.specs.declared.subprograms.Subprogram.{Subprogram}
 use Rattle.image.specs.declared.tasks.Task.{Task}
 use Rattle.image.specs.Sections as sections
-use Rattle.image_laws.proofs.Bounds.{Anytime, Bounded, bounded_after, bounded_begin, timely_anytime}
+use Rattle.image_laws.specs.Within.{Anytime}
+use Rattle.image_laws.proofs.Bounds.{Bounded, bounded_after, bounded_begin, timely_anytime}
 use Rattle.image_laws.proofs.Links.{own_links, step_linked}
 use Rattle.image_laws.proofs.Shapes.{body_there, start_sound}
 use Rattle.image.specs.RuleLaws.{slice_get_inside}
@@ -37,7 +38,7 @@ activated_actions zero k = (refl, refl)
 activated_actions (suc n) k = activated_actions n k
 
 module _ (i : Sections) (w : IsWellFormed i) where
-  fits : Fits (partition_of i)
+  pub fits : Fits (partition_of i)
   fits = record { base_low = λ t. low (slice_get i.tasks t) t refl; ceiling_low = λ o. under (slice_get i.objects o) o refl }
     where
       low : (x : Option Task) (t : ℕ) → slice_get i.tasks t ≡ x → priority_of x < PRIORITIES
@@ -63,7 +64,7 @@ module _ (i : Sections) (w : IsWellFormed i) where
       let e : n ≡ x.subprogram = ap body_of is in
       body_may n b.0 (called i n) (ap (called i) e ∙ b.1) b.2
 
-  start_linked : LeftUnmoved → IsLinked i (start i).kernel.actions (start i).kernel.queued (start i).rest.tasks
+  pub start_linked : LeftUnmoved → IsLinked i (start i).kernel.actions (start i).kernel.queued (start i).rest.tasks
   start_linked unmoved =
       let p = partition_of i in
       let u = unmoved (activated p.tasks (blank p)) in
@@ -90,7 +91,7 @@ module _ (i : Sections) (w : IsWellFormed i) where
     abbrev Own : CodeWorld → Type 0
     Own v = IsLinked i v.kernel.actions v.kernel.queued v.rest.tasks × Bounded IsTask Anytime v.kernel
 
-    behaves : (k : Kernel) (t : ℕ) (d : Tasks Words TaskState) → Own (record { kernel = k; rest = d }) → Kept (barriers d) k → IsRunner k t → Behaves (among (behaviour i schedule)) barriers Own k t d
+    pub behaves : (k : Kernel) (t : ℕ) (d : Tasks Words TaskState) → Own (record { kernel = k; rest = d }) → Kept (barriers d) k → IsRunner k t → Behaves (among (behaviour i schedule)) barriers Own k t d
     behaves k t d own kept runs =
         let low = own.1.running t runs.running in
         let x = own_links i w unmoved free reaches four schedule (barriers d) k t d kept runs.running low own.0 in

@@ -10,5 +10,7 @@ mod Runs
 mod Shapes
 mod StepLinks
 mod Today
+mod Unread
 mod WellFormed
+mod Wholeness
 mod Widths

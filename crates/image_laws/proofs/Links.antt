@@ -21,12 +21,12 @@ use Rattle.image.specs.Rules.{IsWellFormed}
 use Rattle.image.specs.Frames.{Words, Serving, TaskState, arguments, kind_of, new_frame}
 use Rattle.image.specs.Steps.{Given, Raised, Results, Stepped, act, behaviour, receives, resumed, serving, serving_with, taken}
 use Rattle.image_laws.specs.Shape.{Stands, IsGoingOrPlaced, IsSound, callee}
-use Rattle.image_laws.specs.Linked.{Fitting, FitsEntry, IsAwaiting, IsCalling, IsLinked, MayWrite, actions_of, frames_of, next_actions}
+use Rattle.image_laws.specs.Linked.{Fitting, FitsEntry, IsAwaiting, IsCalling, IsLinked, MayWrite, OwesFor, actions_of, frames_of, next_actions}
 use Rattle.image.specs.declared.instruction.Operation.TheVariants.{EntryCall}
 use Rattle.image.specs.declared.subprograms.Kind.TheVariants.{EntryBody}
 use Rattle.image.specs.declared.subprograms.Subprogram.{Subprogram}
 use Rattle.image_laws.proofs.Shapes.{begins, instr, resumed_going, steps_sound, waiting_placed}
-use Rattle.image_laws.proofs.StepLinks.{Links, OwesFor, act_links}
+use Rattle.image_laws.proofs.StepLinks.{Links, act_links}
 use Rattle.image.specs.RuleLaws.{some_and-true}
 use Rattle.image_laws.proofs.WellFormed.{depths, entry_kind, names}
 

@@ -23,7 +23,7 @@ use Rattle.image.specs.Frames.{Words, Role, Inner, Opened, Serving, Frame, TaskS
 use Rattle.image.specs.Steps as steps
 use Rattle.image.specs.Steps.{Given, Stepped, Results, Raised, caught, does, is_open, removed, resumed, unwind}
 use Rattle.image_laws.specs.Shape.{Stands, AreBelow, IsGoing, IsSound}
-use Rattle.image_laws.specs.Linked.{Fitting, IsCalling, MayWrite, actions_of, frames_of, kind_at, next_actions, opened_by, with_action}
+use Rattle.image_laws.specs.Linked.{Fitting, IsCalling, MayWrite, OwesFor, actions_of, frames_of, kind_at, next_actions, opened_by, with_action}
 use Rattle.image.specs.declared.instruction.Instr.{Instr}
 use Rattle.image.specs.declared.instruction.Operation.{Operation}
 use Rattle.image.specs.declared.instruction.Operation.TheVariants as op
@@ -36,11 +36,6 @@ use Rattle.image_laws.proofs.Shapes.{instr}
 use Rattle.std.proofs.lemmas.Bool.{and_parts, eqb-true}
 use Rattle.image.specs.RuleLaws.{some_and-at}
 use Rattle.image_laws.proofs.WellFormed.{entry_kind, names}
-
-abbrev pub OwesFor : Sections → List Action → Effect → Option Given → TaskState → Type 0
-OwesFor i actions (Queues o) g s = IsCalling i o s
-OwesFor i actions (Ends b) g s = (length s.callers + 2 ≤ FRAMES) × Fitting i actions g
-OwesFor i actions _ g s = Unit {0}
 
 -- what the step of the running task t is to the kernel
 pub record Links (i : Sections) (k : Kernel) (t : ℕ) (m : Words) (r : Stepped) : Type 0 where

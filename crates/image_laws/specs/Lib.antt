@@ -1,4 +1,6 @@
 pub mod Laws
 pub mod Linked
 pub mod Shape
+pub mod Whole
 pub mod Width
+pub mod Within

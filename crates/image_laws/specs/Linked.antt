@@ -2,7 +2,7 @@
 use Rattle.std.specs.Prelude.{◌≡◌, ℕ, ◌+◌, ◌<◌, ◌≤◌, List, [], ◌∷◌, length, Option, Some, None, true, slice_get}
 use Rattle.base.specs.declared.limits.TheConstants.{FRAMES}
 use Rattle.kernel.specs.State.{Action, Reads, Writes, Serves}
-use Rattle.kernel.specs.Effects.{Effect, Opens, Views, Ends, outer_of}
+use Rattle.kernel.specs.Effects.{Effect, Opens, Views, Queues, Ends, outer_of}
 use Rattle.kernel.specs.Invariant.{CanWrite, Has, ServesCall}
 use Rattle.image.specs.Sections.{Sections, object_of, writes_object}
 use Rattle.image.specs.Operations.{called, entry_called, entry_of, results_of}
@@ -79,6 +79,12 @@ Fitting i (Serves o u ∷ outer) None = ⊥
 Fitting i (Reads o ∷ outer) g = Unit {0}
 Fitting i (Writes o ∷ outer) g = Unit {0}
 Fitting i [] g = Unit {0}
+
+-- a queued caller stands at its call; who ends an action has room for one more frame, and gives what the end of a service owes
+abbrev pub OwesFor : Sections → List Action → Effect → Option Given → TaskState → Type 0
+OwesFor i actions (Queues o) g s = IsCalling i o s
+OwesFor i actions (Ends b) g s = (length s.callers + 2 ≤ FRAMES) × Fitting i actions g
+OwesFor i actions _ g s = Unit {0}
 
 -- who is served by somebody, by the actions of all
 abbrev pub IsServedIn : (ℕ → List Action) → ℕ → Type 0

@@ -2,6 +2,7 @@
 #![tactic(auto)]
 
 ghost use Rattle.image_laws.specs.Laws.{BeginsSound, CodeLeadsOn, EachIsHeld, FitsAlways, FourInEveryWorld, FramesHaveRoom, ImagesHaveSize, KernelKept, LinesGrowOn, LinkedInEveryWorld, OutcomeStays, SoundToday, StepsSound};
+ghost use Rattle.image_laws.specs.Whole.{LinesUnread, RunnerOwes, RunnerSound, StartsWhole, StepsWhole, UnseenWhole};
 
 use image::Image;
 use kernel::laws::{
@@ -27,7 +28,7 @@ pub fn frames_have_room()
 {}
 
 /// In a well-formed image what an instruction names is there, what may follow it is there, and its words are within a frame; each
-/// instruction is of a subprogram; and the counts of instructions, objects and words are within their limits.
+/// instruction is of a subprogram; and the counts of instructions, tasks, objects and words are within their limits.
 pub fn code_leads_on()
     ensures leads_on { CodeLeadsOn }
     ensures held { EachIsHeld }
@@ -90,6 +91,29 @@ pub fn linked_in_every_world()
     reaches_callers();
     four_statements_hold();
 }
+
+/// The start of every well-formed image is whole, each step keeps a world whole, and so do steps that no other task notices: the kernel's
+/// invariant holds, frames and open actions are linked, and whoever runs, is ready, sleeps or is queued is a task of the image. So the
+/// running task's frames have their shape, and who ends an action has room for one more frame and gives what a service owes.
+pub fn steps_whole()
+    ensures starts { StartsWhole }
+    ensures steps { StepsWhole }
+    ensures unseen { UnseenWhole }
+    ensures runner { RunnerSound }
+    ensures owes { RunnerOwes }
+{
+    begins_kept();
+    kept_by_every_effect();
+    left_unmoved();
+    entry_opens();
+    reaches_callers();
+    four_statements_hold();
+}
+
+/// What a step does depends on no line that was written.
+pub fn lines_unread()
+    ensures { LinesUnread }
+{}
 
 /// Words, now and wake times are in 64 bits in every world of an image, under every schedule whose values are, since an image's
 /// constants and initial words are `i64`. It reads them and does nothing else.

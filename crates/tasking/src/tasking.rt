@@ -102,12 +102,14 @@ impl<R: Ready, D: Delays> Tasking<R, D> {
         self.outcome
     }
 
-    /// Where a task is.
+    /// Where a task is; a number that no task has has finished.
     pub fn place(&self, task: u8) -> Place
-        requires { IsTask (kernel_of self.now) task }
         ensures { place_of result ≡ (kernel_of self.now).place task }
     {
-        self.places[usize::from(task)]
+        match self.places.get(usize::from(task)) {
+            None => Place::Finished,
+            Some(place) => *place,
+        }
     }
 
     /// The active priority of a task: the greatest of its base priority and the ceilings of its open actions (RM D.3).
