@@ -4,6 +4,7 @@ mod Examples
 mod Exclusion
 mod LeadingOn
 mod Links
+mod Named
 mod ObjectExamples
 mod Plain
 mod Runs

@@ -15,7 +15,7 @@ use Rattle.image.specs.Rules.{IsWellFormed}
 use Rattle.image.specs.Sections.{Sections}
 use Rattle.image.specs.Steps.{behaviour, is_open}
 use Rattle.image_laws.specs.Linked.{IsLinked}
-use Rattle.image_laws.specs.Whole.{IsTask, IsWhole, RunnerOwes, RunnerSound, StartsWhole, StepsWhole, UnseenWhole}
+use Rattle.image_laws.specs.Whole.{IsTask, IsWhole, RunnerOwes, RunnerPasses, RunnerSound, StartsWhole, StepsWhole, UnseenWhole}
 use Rattle.image_laws.specs.Within.{Anytime}
 use Rattle.image_laws.proofs.Bounds.{bounded_begin}
 use Rattle.image_laws.proofs.Exclusion.{behaves, fits, start_linked}
@@ -105,3 +105,8 @@ module _ (begins : BeginsKept) (every : KeptByEvery) (unmoved : LeftUnmoved) (fr
   runner_owes i w schedule v t h is =
       let low = h.bounded.running t is in
       (own_links i w unmoved free reaches four schedule (is_open i v.rest.memory) v.kernel t v.rest h.kept is low h.linked).owes
+
+  pub runner_passes : RunnerPasses
+  runner_passes i w schedule v t h is =
+      let low = h.bounded.running t is in
+      (own_links i w unmoved free reaches four schedule (is_open i v.rest.memory) v.kernel t v.rest h.kept is low h.linked).passed

@@ -2,7 +2,8 @@
 use Rattle.std.specs.Prelude.{◌≡◌, ℕ, ◌<◌, List, length, Some}
 use Rattle.base.specs.declared.schedule.ScheduleLine.{ScheduleLine}
 use Rattle.kernel.specs.Counting.{Unseen}
-use Rattle.kernel.specs.Invariant.{Kept}
+use Rattle.kernel.specs.Effects.{Effect, Opens, Queues, Views}
+use Rattle.kernel.specs.Invariant.{Kept, Passed}
 use Rattle.kernel.specs.State.{Kernel, Line}
 use Rattle.kernel.specs.Worlds.{Solo, Tasks, among, put_back, run, solo_of, step}
 use Rattle.image.specs.Code.{CodeWorld, partition_of, start}
@@ -46,6 +47,23 @@ abbrev pub RunnerOwes : Type 0
 RunnerOwes =
     (i : Sections) → IsWellFormed i → (schedule : List ScheduleLine) (w : CodeWorld) (t : ℕ) → IsWhole i w → w.kernel.running ≡ Some t →
     (let r = act i schedule w.kernel t (solo_of t w.rest) in OwesFor i (w.kernel.actions t) r.effect r.given r.solo.task)
+
+-- the refusals that the effect of its step has passed
+abbrev pub RunnerPasses : Type 0
+RunnerPasses =
+    (i : Sections) → IsWellFormed i → (schedule : List ScheduleLine) (w : CodeWorld) (t : ℕ) → IsWhole i w → w.kernel.running ≡ Some t →
+    (let r = act i schedule w.kernel t (solo_of t w.rest) in Passed (is_open i r.solo.memory) w.kernel t r.effect)
+
+-- the object that an effect speaks of is one of so many
+abbrev pub IsNamed : ℕ → Effect → Type 0
+IsNamed n (Opens o) = o < n
+IsNamed n (Views o) = o < n
+IsNamed n (Queues o) = o < n
+IsNamed n _ = Unit {0}
+
+-- a step asks the kernel for objects of the image alone
+abbrev pub EffectsNamed : Type 0
+EffectsNamed = (i : Sections) → IsWellFormed i → (schedule : List ScheduleLine) (k : Kernel) (t : ℕ) (s : Solo Words TaskState) → IsNamed (length i.objects) (act i schedule k t s).effect
 
 -- a step does not depend on the lines that were written
 abbrev pub LinesUnread : Type 0

@@ -2,7 +2,7 @@
 #![tactic(auto)]
 
 ghost use Rattle.image_laws.specs.Laws.{BeginsSound, CodeLeadsOn, EachIsHeld, FitsAlways, FourInEveryWorld, FramesHaveRoom, ImagesHaveSize, KernelKept, LinesGrowOn, LinkedInEveryWorld, OutcomeStays, SoundToday, StepsSound};
-ghost use Rattle.image_laws.specs.Whole.{LinesUnread, RunnerOwes, RunnerSound, StartsWhole, StepsWhole, UnseenWhole};
+ghost use Rattle.image_laws.specs.Whole.{EffectsNamed, LinesUnread, RunnerOwes, RunnerPasses, RunnerSound, StartsWhole, StepsWhole, UnseenWhole};
 
 use image::Image;
 use kernel::laws::{
@@ -94,13 +94,15 @@ pub fn linked_in_every_world()
 
 /// The start of every well-formed image is whole, each step keeps a world whole, and so do steps that no other task notices: the kernel's
 /// invariant holds, frames and open actions are linked, and whoever runs, is ready, sleeps or is queued is a task of the image. So the
-/// running task's frames have their shape, and who ends an action has room for one more frame and gives what a service owes.
+/// running task's frames have their shape, nothing refuses what they
+/// ask of the kernel, and who ends an action has room for one more frame and gives what a service owes.
 pub fn steps_whole()
     ensures starts { StartsWhole }
     ensures steps { StepsWhole }
     ensures unseen { UnseenWhole }
     ensures runner { RunnerSound }
     ensures owes { RunnerOwes }
+    ensures passes { RunnerPasses }
 {
     begins_kept();
     kept_by_every_effect();
@@ -109,6 +111,11 @@ pub fn steps_whole()
     reaches_callers();
     four_statements_hold();
 }
+
+/// What a step asks of the kernel speaks of objects of the image alone.
+pub fn effects_named()
+    ensures { EffectsNamed }
+{}
 
 /// What a step does depends on no line that was written.
 pub fn lines_unread()

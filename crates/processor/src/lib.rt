@@ -19,5 +19,6 @@ pub use operation::Operation;
 pub use program::Program;
 pub use role::Role;
 pub use running::{Within, run_within};
+pub use shared::{initial_row, object_words, plain_words, store_object_words, store_plain_words};
 pub use task_state::{CALLERS, TaskState};
 pub use turning::Stop;

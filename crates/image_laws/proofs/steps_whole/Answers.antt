@@ -1,4 +1,4 @@
-use Rattle.image_laws.proofs.Wholeness.{runner_owes, runner_sound, starts_whole, steps_whole, unseen_whole}
+use Rattle.image_laws.proofs.Wholeness.{runner_owes, runner_passes, runner_sound, starts_whole, steps_whole, unseen_whole}
 use Rattle.image_laws.proofs.steps_whole.Goals as goal
 
 pub returns-clause-starts : goal.returns-clause-starts
@@ -15,3 +15,6 @@ returns-clause-runner c = runner_sound c.begins_kept.ensures c.kept_by_every_eff
 
 pub returns-clause-owes : goal.returns-clause-owes
 returns-clause-owes c = runner_owes c.begins_kept.ensures c.kept_by_every_effect.ensures c.left_unmoved.ensures c.entry_opens.ensures c.reaches_callers.ensures c.four_statements_hold.ensures
+
+pub returns-clause-passes : goal.returns-clause-passes
+returns-clause-passes c = runner_passes c.begins_kept.ensures c.kept_by_every_effect.ensures c.left_unmoved.ensures c.entry_opens.ensures c.reaches_callers.ensures c.four_statements_hold.ensures

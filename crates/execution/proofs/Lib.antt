@@ -1,0 +1,12 @@
+mod Advancing
+mod Apart
+mod Ending
+mod Entries
+mod Going
+mod Leading
+mod Pushing
+mod ServedFrame
+mod Settle
+mod Settled
+mod Starting
+mod Tasks

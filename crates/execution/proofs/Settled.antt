@@ -1,0 +1,46 @@
+-- What the kernel has settled is the step of the world.
+use Rattle.std.proofs.Common.{◌≡◌, ℕ, List, refl, sym, ap, ◌∙◌}
+use Rattle.kernel.specs.Effects.{after}
+use Rattle.kernel.specs.RunLaws.{step_running}
+use Rattle.kernel.specs.State.{Line}
+use Rattle.kernel.specs.Worlds.{Did, Tasks, among, ending, put_back, reached, solo_of, step}
+use Rattle.image.specs.Code.{CodeWorld}
+use Rattle.image.specs.Frames.{TaskState, Words}
+use Rattle.image.specs.Steps as code
+use Rattle.image.specs.Steps.{Stepped, behaviour}
+use Rattle.processor.specs.Decoding.{words_in}
+use Rattle.task_steps.specs.Acting.{effect_of, given_of, stepped_of}
+use Rattle.task_steps.specs.declared.acts.Act.{Act}
+use Rattle.tasking.specs.Held.{kernel_of}
+use Rattle.execution.specs.Held.{Held, rest_of, task_at, world_with}
+use Rattle.execution.specs.Settling.{Owes, Settles}
+
+module _ (h : Held) (t : ℕ) where
+  -- what a step comes to among all tasks
+  abbrev among_by : Tasks Words TaskState → Stepped → Did (Tasks Words TaskState)
+  among_by d a =
+      record {
+        effect = a.effect;
+        rest = record { memory = a.solo.memory; tasks = reached (behaviour h.image h.schedule) t (ending (kernel_of h.tasking) t a.effect) a.given (put_back t d a.solo).tasks };
+      }
+
+  abbrev owed_world : Tasks Words TaskState → CodeWorld
+  owed_world d = record { kernel = kernel_of h.tasking; rest = d }
+
+  abbrev world_by : Did (Tasks Words TaskState) → CodeWorld
+  world_by d = record { kernel = after t d.effect (kernel_of h.tasking); rest = d.rest }
+
+  pub settled : (a : Act) (later : Held) (told : List Line) (o : Owes h t a) → Settles h later t a told → step (among (behaviour h.image h.schedule)) (owed_world o.before) ≡ world_with told later
+  settled a later told o s =
+      let e = effect_of h.image a.effect in
+      let given = given_of h.memory.passed a.given in
+      let end_ = ending (kernel_of h.tasking) t e in
+      step_running (among (behaviour h.image h.schedule)) (kernel_of h.tasking) t o.before o.runs
+      ∙ (ap (λ x. world_by (among_by o.before x)) o.did
+      ∙ (λ j. record {
+        kernel = sym s.kernel j;
+        rest = record {
+          memory = words_in (sym s.image j) (sym s.shared j);
+          tasks = (ap (λ f. reached (behaviour h.image h.schedule) t end_ given f) (sym o.others) ∙ sym s.tasks) j;
+        };
+      }))

@@ -1,0 +1,50 @@
+use Rattle.std.proofs.Common.{◌≡◌, ◌++◌, ◌-◌, [], Some, get_or, pos, replicate, rules, sym, ap, ◌∙◌}
+use Rattle.std.specs.Prelude.{slice_get, slice_set}
+use Rattle.image.specs.Code.{initial_state}
+use Rattle.image.specs.Frames.{Serving, arguments}
+use Rattle.image.specs.Operations.{called, entry_of}
+use Rattle.image.specs.Sections.{first_place}
+use Rattle.execution.specs.Held.{Held, task_at}
+use Rattle.execution.specs.Settling.{served_tasks, without}
+use Rattle.execution.proofs.ServedFrame.{served_is, served_tasks_are}
+use Rattle.execution.proofs.Tasks.{task_elsewhere}
+use Rattle.execution.proofs.state.State.serves.Goals as goal
+
+pub returns : goal.returns
+returns g c =
+    let now = c.args.self.now in
+    let task = c.args.task in
+    let caller = c.args.caller in
+    let number = c.in-Some.number in
+    let s = c.in-Some-called.subprogram in
+    let found : entry_of (slice_get c.self.inside.program.objects c.from.result) ≡ Some number = search rules in
+    let found_called : called c.self.inside.program number ≡ Some s = search rules in
+    let entry : entry_of (slice_get now.image.objects c.args.object) ≡ Some number =
+    ap (λ h. entry_of (slice_get h.image.objects c.args.object)) (sym c.self.view_is)
+    ∙ (ap (λ o. entry_of (slice_get c.self.inside.program.objects o)) (sym c.from.ensures) ∙ found) in
+    let is_called : called now.image number ≡ Some s = ap (λ h. called h.image number) (sym c.self.view_is) ∙ found_called in
+    let place = c.first_place-place.ensures ∙ ap (λ h. first_place h.image number) c.self.view_is in
+    let words = c.deref.ensures.0 ∙ c.take_parameters-parameters.ensures.words in
+    let before : Held = record now { tasks = slice_set now.tasks caller (without s.parameters (task_at now.image now.tasks caller)) } in
+    let taken : c.take_parameters-parameters.new.self ≡ before = c.take_parameters-parameters.ensures.state in
+    let both = c.self-2.view_is ∙ taken in
+    let server : c.in-Some-get_mut.server.now ≡ task_at now.image now.tasks task =
+    c.in-Some-get_mut.ensures.item.3.1 (initial_state now.image task)
+    ∙ (ap (λ n. get_or c.self-2.inside.tasks.items n (initial_state now.image task)) c.from-2.ensures
+    ∙ (ap (λ h. get_or h.tasks task (initial_state now.image task)) both
+    ∙ task_elsewhere now.image now.tasks caller (without s.parameters (task_at now.image now.tasks caller)) task (λ e. c.requires.other (sym e)))) in
+    let frame =
+    c.serve.ensures.frame
+    ∙ (λ k. record {
+      subprogram = number;
+      place = c.first_place-place.result;
+      locals = c.deref.result.now ++ replicate (s.locals - s.parameters) (pos 0);
+      stack = [];
+      role = Serving (c.from-3.ensures k) caller (c.raising.ensures k);
+    }) in
+    let served =
+    served_is now.image c.args.object number s entry is_called caller c.first_place-place.result (task_at now.image now.tasks caller) (task_at now.image now.tasks task) c.in-Some-get_mut.server.now c.serve.new.self c.deref.result.now server place
+    words frame c.serve.ensures.callers c.serve.ensures.raising in
+    let tasks : slice_set c.self-2.inside.tasks.items c.from-2.result c.serve.new.self ≡ served_tasks now.image now.tasks task c.args.object caller =
+    (λ k. slice_set (both k).tasks (c.from-2.ensures k) c.serve.new.self) ∙ served_tasks_are now.image c.args.object number s entry is_called now.tasks task caller c.serve.new.self served in
+    λ j. record { image = (both j).image; schedule = (both j).schedule; memory = (both j).memory; tasks = tasks j; tasking = (both j).tasking }

@@ -1,0 +1,83 @@
+-- What the kernel owes to the step of a task, and when it has settled that; nobody has to believe this.
+use Rattle.std.specs.Prelude.{◌≡◌, ◌≢◌, ℕ, ◌+◌, ◌<◌, ◌≤◌, List, length, Option, Some, None, false, drop, slice_get, slice_set}
+use Rattle.base.specs.declared.limits.TheConstants.{FRAME_WORDS, FRAMES, INSTRUCTIONS}
+use Rattle.kernel.specs.Calm.{IsRunner}
+use Rattle.kernel.specs.Effects.{after, call_refusal, is_full}
+use Rattle.kernel.specs.State as kernel
+use Rattle.kernel.specs.State.{Kernel, put}
+use Rattle.kernel.specs.Worlds.{Tasks, ending, reached, solo_of}
+use Rattle.image.specs.Frames.{TaskState, Words}
+use Rattle.image.specs.Operations.{called, entry_of}
+use Rattle.image.specs.Sections.{Sections}
+use Rattle.image.specs.Steps as steps
+use Rattle.image.specs.Steps.{act, behaviour}
+use Rattle.image.specs.declared.subprograms.Subprogram.{Subprogram}
+use Rattle.image_laws.specs.Whole.{IsWhole}
+use Rattle.task_steps.specs.Acting.{effect_of, given_of, stepped_of}
+use Rattle.task_steps.specs.declared.acts.Act.{Act}
+use Rattle.task_steps.specs.declared.acts.Effect.{Effect}
+use Rattle.task_steps.specs.declared.acts.Effect.TheVariants as acts
+use Rattle.tasking.specs.Held.{kernel_of}
+use Rattle.execution.specs.Held.{Held, rest_of, task_at}
+
+-- the running task t has taken a step from a whole world, and this is what it asks of the kernel
+pub record Owes (h : Held) (t : ℕ) (a : Act) : Type 0 where
+  pub before : Tasks Words TaskState
+  pub whole : IsWhole h.image (record { kernel = kernel_of h.tasking; rest = before })
+  pub runs : IsRunner (kernel_of h.tasking) t
+  pub did : act h.image h.schedule (kernel_of h.tasking) t (solo_of t before) ≡ stepped_of h.image a h.memory (task_at h.image h.tasks t)
+  pub others : task_at h.image h.tasks ≡ put t (task_at h.image h.tasks t) before.tasks
+
+-- the kernel, and the tasks that the end of an action reaches, are as the step has them
+pub record Settles (before after_it : Held) (t : ℕ) (a : Act) (told : List kernel.Line) : Type 0 where
+  pub image : after_it.image ≡ before.image
+  pub schedule : after_it.schedule ≡ before.schedule
+  pub shared : after_it.memory.shared ≡ before.memory.shared
+  pub kernel : record (kernel_of after_it.tasking) { lines = told } ≡ after t (effect_of before.image a.effect) (kernel_of before.tasking)
+  pub tasks : task_at after_it.image after_it.tasks
+      ≡ reached (behaviour before.image before.schedule) t (ending (kernel_of before.tasking) t (effect_of before.image a.effect)) (given_of before.memory.passed a.given) (task_at before.image before.tasks)
+
+-- task t can run the entry body of object o for the queued call of u
+pub record CanServe (i : Sections) (tasks : List TaskState) (t o u : ℕ) : Type 0 where
+  pub n : ℕ
+  pub s : Subprogram
+  pub entry : entry_of (slice_get i.objects o) ≡ Some n
+  pub is_called : called i n ≡ Some s
+  pub task : t < length tasks
+  pub caller : u < length tasks
+  pub other : u ≢ t
+  pub there : s.parameters ≤ length (task_at i tasks u).frame.stack
+  pub fits : s.parameters ≤ s.locals
+  pub room : s.locals ≤ FRAME_WORDS
+  pub left : length (task_at i tasks t).callers + 2 ≤ FRAMES
+
+-- the words that a caller is given
+abbrev pub words_given : steps.Given → ℕ
+words_given (steps.Results words) = length words
+words_given (steps.Raised x) = 0
+
+-- task u can go on behind its entry call with what it is given
+pub record CanReceive (i : Sections) (tasks : List TaskState) (u : ℕ) (g : Option steps.Given) : Type 0 where
+  pub given : steps.Given
+  pub is : g ≡ Some given
+  pub caller : u < length tasks
+  pub next : (task_at i tasks u).frame.place < INSTRUCTIONS
+  pub room : length (task_at i tasks u).frame.locals + length (task_at i tasks u).frame.stack + words_given given ≤ FRAME_WORDS
+
+-- a task without so many words of its operand stack
+abbrev pub without : ℕ → TaskState → TaskState
+without count u = record u { frame = record u.frame { stack = drop count u.frame.stack } }
+
+abbrev pub served_tasks : Sections → List TaskState → (t o u : ℕ) → List TaskState
+served_tasks i tasks t o u = slice_set (slice_set tasks u (steps.taken i o (task_at i tasks u))) t (steps.serving i o u (task_at i tasks u) (task_at i tasks t))
+
+abbrev pub given_tasks : Sections → List TaskState → ℕ → Option steps.Given → List TaskState
+given_tasks i tasks u None = tasks
+given_tasks i tasks u (Some g) = slice_set tasks u (steps.receives g (task_at i tasks u))
+
+-- the object that an effect speaks of is one of so many, and nothing refuses the effect
+abbrev pub HasPassed : ℕ → Kernel → ℕ → Effect → Type 0
+HasPassed n k t (acts.Opens o) = (o < n) × (call_refusal k t o ≡ None)
+HasPassed n k t (acts.Views o) = (o < n) × (call_refusal k t o ≡ None)
+HasPassed n k t (acts.Queues o) = (o < n) × (is_full k o ≡ false)
+HasPassed n k t _ = Unit {0}

@@ -1,0 +1,161 @@
+//! Runs of images, up to what their steps tell.
+ghost use Rattle.std.specs.Prelude.{◌≡◌, ◌⊎◌, ◌<◌, ◌≤◌, ◌-◌, [], IfOk, IfSome, None, Some};
+ghost use Rattle.image.specs.Code.{start};
+ghost use Rattle.image_laws.specs.Whole.{IsWhole};
+ghost use Rattle.kernel.specs.Calm.{IsRunner};
+ghost use Rattle.kernel.specs.State.{Outcome as KernelOutcome};
+ghost use Rattle.tasking.specs.Held.{kernel_of};
+ghost use Rattle.execution.specs.Held.{Leads, lines_of, world_of};
+
+use crate::line::Line;
+use crate::state::State;
+use clock::{Delays, Schedule};
+use dispatch::Ready;
+use image::Image;
+use image_laws::{effects_named, lines_unread, steps_whole};
+use kernel::laws::somebody_runs;
+use std::alloc::{AllocError, Global};
+use std::marker::Model;
+use task_steps::Memory;
+use tasking::Tasking;
+use tasking::laws::{kept_with_lines, lines_apart};
+
+/// A run of an image, between two steps. Memory is taken by `start` alone.
+#[derive(Drop)]
+pub struct Execution<'a, R: Ready, D: Delays> {
+    state: State<'a, R, D>,
+}
+
+impl<'a, R: Ready, D: Delays> Model for Execution<'a, R, D> {
+    ghost use Rattle.image_laws.specs.Whole.{IsWhole};
+    ghost use Rattle.execution.specs.Held.{Held, world_of};
+
+    ghost Value = { Held };
+
+    ghost view = { λ e. e.state };
+
+    ghost invariant = { λ e. IsWhole e.state.image (world_of e.state) };
+}
+
+/// How far steps have led.
+#[derive(Clone, Copy, PartialEq, Eq, Debug)]
+pub struct Advance {
+    /// How many steps of the limit are left.
+    pub left: u64,
+    /// The line that the last step wrote.
+    pub line: Option<Line>,
+}
+
+impl<'a, R: Ready, D: Delays> Execution<'a, R, D> {
+    /// The start of a run: the world of code after 0 steps.
+    ///
+    /// # Errors
+    /// Where memory was refused.
+    pub fn start(
+        alloc: Global,
+        image: &'a Image,
+        schedule: &'a Schedule,
+    ) -> Result<Self, AllocError>
+        ensures image { IfOk result (λ e. e.image ≡ image.now) }
+        ensures schedule { IfOk result (λ e. e.schedule ≡ schedule.now) }
+        ensures world { IfOk result (λ e. world_of e ≡ start image.now) }
+    {
+        steps_whole();
+        let _instructions = image.instructions();
+        let state = State::new(alloc, image, schedule)?;
+        Ok(Execution { state })
+    }
+
+    /// Goes on up to a line or an outcome, `limit` steps at most. Nothing is done once there is an outcome.
+    pub fn advance(&mut self, limit: u64) -> Advance
+        ensures leads { Leads (limit - result.left) self.old self.new (lines_of self.old.image result.line) }
+        ensures left { result.left ≤ limit }
+        ensures going { IfSome result.line (λ line. (kernel_of self.new.tasking).outcome ≡ None) }
+        ensures fewer { IfSome result.line (λ line. result.left < limit) }
+        ensures stops { result.line ≡ None → (result.left ≡ 0) ⊎ ((o : KernelOutcome) × ((kernel_of self.new.tasking).outcome ≡ Some o)) }
+    {
+        let mut left = limit;
+        while 0 < left {
+            let Some(task) = self.runner() else {
+                return Advance { left, line: None };
+            };
+            let advance = self.advance_task(task, left);
+            left = advance.left;
+            if advance.line.is_some() {
+                return advance;
+            }
+        }
+        Advance { left, line: None }
+    }
+
+    /// Does one step, and tells the line that it wrote, if any. Nothing is done once there is an outcome.
+    pub fn step(&mut self) -> Option<Line>
+        ensures leads { (kernel_of self.old.tasking).outcome ≡ None → Leads 1 self.old self.new (lines_of self.old.image result) }
+        ensures going { IfSome result (λ line. (kernel_of self.new.tasking).outcome ≡ None) }
+        ensures over { (o : KernelOutcome) → (kernel_of self.old.tasking).outcome ≡ Some o → (result ≡ None) × (self.new ≡ self.old) }
+    {
+        match self.runner() {
+            None => None,
+            Some(task) => self.advance_task(task, 1).line,
+        }
+    }
+
+    // Steps of the running task, up to the first that asks something of the kernel, and what comes of that.
+    fn advance_task(&mut self, task: u8, limit: u64) -> Advance
+        requires runs { IsRunner (kernel_of self.old.tasking) task }
+        requires some { 0 < limit }
+        ensures leads { Leads (limit - result.left) self.old self.new (lines_of self.old.image result.line) }
+        ensures left { result.left < limit }
+        ensures going { IfSome result.line (λ line. (kernel_of self.new.tasking).outcome ≡ None) }
+    {
+        steps_whole();
+        effects_named();
+        lines_unread();
+        lines_apart();
+        kept_with_lines();
+        let went = self.state.go(task, limit);
+        let line = match went.act {
+            None => None,
+            Some(act) => self.state.settle(task, act),
+        };
+        Advance {
+            left: went.left,
+            line,
+        }
+    }
+
+    // The running task, unless there is an outcome.
+    fn runner(&self) -> Option<u8>
+        ensures runs { IfSome result (λ t. IsRunner (kernel_of self.now.tasking) t) }
+        ensures over { result ≡ None → (o : KernelOutcome) × ((kernel_of self.now.tasking).outcome ≡ Some o) }
+    {
+        somebody_runs();
+        let tasking = self.tasking();
+        match tasking.outcome() {
+            None => tasking.running(),
+            Some(_) => None,
+        }
+    }
+
+    /// The image that runs.
+    pub fn image(&self) -> &'a Image
+        ensures { result.now ≡ self.now.image }
+    {
+        self.state.program.image()
+    }
+
+    /// Its tasks and protected objects, and virtual time.
+    pub fn tasking(&self) -> &Tasking<R, D>
+        ensures same { result.now ≡ self.now.tasking }
+        ensures whole { IsWhole self.now.image (world_of self.now) }
+    {
+        &self.state.tasking
+    }
+
+    /// The words that its tasks share.
+    pub fn memory(&self) -> &Memory
+        ensures { result.now ≡ self.now.memory }
+    {
+        &self.state.memory
+    }
+}

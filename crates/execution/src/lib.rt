@@ -1,0 +1,11 @@
+//! Runs of images: the tasks' frames, the words that they share and the kernel, step by step as code's world goes on.
+#![tactic(auto)]
+
+mod execution_of;
+mod line;
+mod serving;
+mod settling;
+mod state;
+
+pub use execution_of::{Advance, Execution};
+pub use line::Line;

@@ -1,0 +1,95 @@
+//! What the end of an action makes of two tasks: the body of an entry is run for a queued caller, or the caller goes on (RM 9.5.3).
+ghost use Rattle.std.specs.Prelude.{◌≡◌, ◌<◌, ◌≤◌, ◌+◌, ◌++◌, length, slice_set};
+ghost use Rattle.base.specs.declared.limits.TheConstants.{FRAME_WORDS};
+ghost use Rattle.image.specs.Frames.{arguments};
+ghost use Rattle.task_steps.specs.Acting.{given_of};
+ghost use Rattle.execution.specs.Held.{task_at};
+ghost use Rattle.execution.specs.Settling.{CanReceive, CanServe, given_tasks, served_tasks, without};
+
+use crate::state::State;
+use arrayvec::ArrayVec;
+use base::limits::FRAME_WORDS;
+use clock::Delays;
+use dispatch::Ready;
+use processor::{Role, TaskState};
+use task_steps::{Given, called, entry, first_place};
+
+impl<'a, R: Ready, D: Delays> State<'a, R, D> {
+    /// The task runs the entry body of an object for a caller, whose parameters leave its operand stack.
+    pub(crate) fn serves(&mut self, task: u8, object: u8, caller: u8)
+        requires { CanServe self.old.image self.old.tasks task object caller }
+        ensures { self.new ≡ record self.old { tasks = served_tasks self.old.image self.old.tasks task object caller } }
+    {
+        let Some(number) = entry(&self.program, u16::from(object)) else {
+            unreachable!()
+        };
+        let Some(subprogram) = called(&self.program, number) else {
+            unreachable!()
+        };
+        let place = first_place(&self.program, number);
+        let parameters = self.take_parameters(caller, subprogram.parameters);
+        let Some(server) = self.tasks.get_mut(usize::from(task)) else {
+            unreachable!()
+        };
+        let role = Role::Serving {
+            object: u16::from(object),
+            caller,
+            pending: server.raising(),
+        };
+        server.serve(number, place, &subprogram, role, &parameters);
+    }
+
+    // Takes so many words off the operand stack of a task.
+    fn take_parameters(&mut self, caller: u8, count: u16) -> ArrayVec<i64, FRAME_WORDS>
+        requires caller { caller < length self.old.tasks }
+        requires there { count ≤ length (task_at self.old.image self.old.tasks caller).frame.stack }
+        requires few { count ≤ FRAME_WORDS }
+        ensures words { result.items ≡ arguments count (task_at self.old.image self.old.tasks caller).frame.stack }
+        ensures state { self.new ≡ record self.old { tasks = slice_set self.old.tasks caller (without count (task_at self.old.image self.old.tasks caller)) } }
+    {
+        let Some(state) = self.tasks.get_mut(usize::from(caller)) else {
+            unreachable!()
+        };
+        let parameters = copied(state.frame().top(count));
+        state.drop_top(count);
+        parameters
+    }
+
+    /// The caller that was served goes on behind its entry call with the results, or raises the exception there in its next step.
+    pub(crate) fn hands_back(&mut self, caller: u8, given: Option<Given>)
+        requires { CanReceive self.old.image self.old.tasks caller (given_of self.old.memory.passed given) }
+        ensures { self.new ≡ record self.old { tasks = given_tasks self.old.image self.old.tasks caller (given_of self.old.memory.passed given) } }
+    {
+        let Some(state) = self.tasks.get_mut(usize::from(caller)) else {
+            unreachable!()
+        };
+        match given {
+            Some(Given::Results) => {
+                push_results(state, self.memory.passed());
+                state.advance();
+            }
+            Some(Given::Raised(exception)) => state.set_raising(Some(exception)),
+            None => unreachable!(),
+        }
+    }
+}
+
+// A copy of these words.
+fn copied(words: &[i64]) -> ArrayVec<i64, FRAME_WORDS>
+    requires { length words.now ≤ FRAME_WORDS }
+    ensures { result.items ≡ words.now }
+{
+    let mut copy = ArrayVec::new();
+    let _ = copy.try_extend_from_slice(words);
+    copy
+}
+
+// Puts these words on the operand stack of a task, the first one on top.
+fn push_results(state: &mut TaskState, words: &[i64])
+    requires { length state.old.frame.locals + length state.old.frame.stack + length words.now ≤ FRAME_WORDS }
+    ensures { state.new ≡ record state.old { frame = record state.old.frame { stack = words.now ++ state.old.frame.stack } } }
+{
+    for index in 0..words.len() {
+        state.push(words[words.len() - 1 - index]);
+    }
+}

@@ -1,0 +1,69 @@
+//! What the kernel makes of the step of a task: its effect, and what that comes to in other tasks.
+ghost use Rattle.std.specs.Prelude.{◌≡◌, [], IfSome, None, length};
+ghost use Rattle.tasking.specs.Held.{kernel_of};
+ghost use Rattle.execution.specs.Held.{lines_of};
+ghost use Rattle.execution.specs.Settling.{HasPassed, Owes, Settles};
+ghost use Rattle.task_steps.specs.declared.acts.Effect.TheVariants as effects;
+
+use crate::line::Line;
+use crate::state::State;
+use clock::Delays;
+use dispatch::Ready;
+use image_laws::{code_leads_on, steps_whole};
+use kernel::laws::{quiet_stays, reaches_callers, runner_is_calm, says_on};
+use task_steps::{Act, Effect, Given};
+use tasking::Ending;
+
+impl<'a, R: Ready, D: Delays> State<'a, R, D> {
+    /// Does what the step of the running task asks of the kernel, and tells the line that it writes, if any.
+    pub(crate) fn settle(&mut self, task: u8, act: Act) -> Option<Line>
+        requires owes { Owes self.old task act }
+        requires passed { HasPassed (length self.old.image.objects) (kernel_of self.old.tasking) task act.effect }
+        ensures settles { Settles self.old self.new task act (lines_of self.old.image result) }
+        ensures going { IfSome result (λ line. (kernel_of self.new.tasking).outcome ≡ None) }
+    {
+        runner_is_calm();
+        quiet_stays();
+        says_on();
+        match act.effect {
+            Effect::Quiet => {}
+            Effect::Finishes => self.tasking.finish(task),
+            Effect::Breaks => self.tasking.break_off(),
+            Effect::Says { label, value } => return Some(self.line(task, label, value)),
+            Effect::Delays { until } => self.tasking.delay_until(task, until),
+            Effect::Opens { object } => self.tasking.open_to_write(task, object),
+            Effect::Views { object } => self.tasking.open_to_read(task, object),
+            Effect::Queues { object } => self.tasking.queue(task, object),
+            Effect::Ends { is_open } => self.ends(task, is_open, act.given),
+            Effect::Dies { exception } => self.tasking.die(task, exception),
+        }
+        None
+    }
+
+    // The line of a task, now.
+    fn line(&self, task: u8, label: u16, value: i64) -> Line
+        ensures { result ≡ record { time = (kernel_of self.now.tasking).now; task = task; label = label; value = value } }
+    {
+        Line {
+            time: self.tasking.now(),
+            task,
+            label,
+            value,
+        }
+    }
+
+    // The body that the innermost action of the running task runs is left.
+    fn ends(&mut self, task: u8, is_open: bool, given: Option<Given>)
+        requires { Owes self.old task (record { effect = effects.Ends is_open; given = given }) }
+        ensures { Settles self.old self.new task (record { effect = effects.Ends is_open; given = given }) [] }
+    {
+        steps_whole();
+        reaches_callers();
+        code_leads_on();
+        match self.tasking.end_action(task, is_open) {
+            Ending::Closes => {}
+            Ending::TakesOver { object, caller } => self.serves(task, object, caller),
+            Ending::HandsBack { caller } => self.hands_back(caller, given),
+        }
+    }
+}

@@ -1,0 +1,6 @@
+mod CallSteps
+mod Going
+mod Operands
+mod Plainly
+mod Ready
+mod Unwinding

@@ -1,0 +1,13 @@
+use Rattle.std.proofs.Common.{◌≡◌, length}
+use Rattle.image.specs.Steps.{unwind}
+use Rattle.processor.specs.Decoding.{words_in}
+use Rattle.task_steps.specs.Stepping.{MayRaise}
+use Rattle.task_steps.proofs.raising.raise.Given as goal
+
+abbrev pub invariant-loop-act : goal.invariant-loop-act
+invariant-loop-act l =
+    MayRaise l.program l.state
+    × (unwind l.fn.program (words_in l.fn.program l.fn.memory.shared) l.fn.exception l.fn.state.frame l.fn.state.callers ≡ unwind l.fn.program (words_in l.fn.program l.fn.memory.shared) l.fn.exception l.state.frame l.state.callers)
+
+abbrev pub decreases-loop-act : goal.decreases-loop-act
+decreases-loop-act l = length l.state.callers

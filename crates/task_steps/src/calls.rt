@@ -1,0 +1,181 @@
+//! Calls (RM 6.4, 9.5.1, 9.5.3): the refusals of the kernel, each an exception at the call, and the frame of the call.
+ghost use Rattle.std.specs.Prelude.{◌≡◌, ◌<◌, ◌≤◌, ℕ, List, None, Some, length};
+ghost use Rattle.base.specs.declared.limits.TheConstants.{FRAME_WORDS};
+ghost use Rattle.base.specs.declared.schedule.ScheduleLine.{ScheduleLine};
+ghost use Rattle.image.specs.Sections.{object_of};
+ghost use Rattle.image.specs.Steps.{enters, queues, with_frame_left};
+ghost use Rattle.image.specs.declared.instruction.Operation.TheVariants as operations;
+ghost use Rattle.kernel.specs.State.{Kernel};
+ghost use Rattle.processor.specs.Decoding.{words_in};
+ghost use Rattle.processor.specs.Layout.{role_of};
+ghost use Rattle.task_steps.specs.Acting.{effect_of, stepped_of};
+ghost use Rattle.task_steps.specs.Stepping.{Does, DoesIn, IsOfObject, IsReady, MayRaise, opening};
+ghost use Rattle.tasking.specs.Held.{kernel_of};
+ghost use Rattle.tasking.specs.Orderly.{IsTask};
+
+use crate::acts::{Act, Effect};
+use crate::lookups::{called, entry, first_place, object_number};
+use crate::memory::Memory;
+use crate::raising::raise_predefined;
+use base::PredefinedException;
+use clock::Delays;
+use dispatch::Ready;
+use image::{Kind, Subprogram};
+use processor::{CALLERS, Program, Role, TaskState};
+use tasking::Tasking;
+
+/// CALL.
+pub(crate) fn call(program: &Program, state: &mut TaskState, memory: &Memory, number: u16) -> Act
+    requires { IsReady program.now state.old (operations.Call number) }
+    ensures { Does program.now (operations.Call number) state.old memory.now result memory.now state.new }
+{
+    let Some(subprogram) = called(program, number) else {
+        unreachable!()
+    };
+    enter(
+        program,
+        state,
+        memory,
+        number,
+        &subprogram,
+        Role::Inner,
+        Effect::Quiet,
+    )
+}
+
+/// PCALL.
+pub(crate) fn protected_call<R: Ready, D: Delays>(
+    program: &Program,
+    tasking: &Tasking<R, D>,
+    task: u8,
+    state: &mut TaskState,
+    memory: &Memory,
+    number: u16,
+) -> Act
+    requires task { IsTask (kernel_of tasking.now) task }
+    requires objects { (kernel_of tasking.now).partition.objects ≡ length program.now.objects }
+    requires here { IsReady program.now state.old (operations.ProtectedCall number) }
+    ensures { (schedule : List ScheduleLine) → DoesIn program.now (operations.ProtectedCall number) state.old memory.now result memory.now state.new schedule (kernel_of tasking.now) task }
+{
+    let Some(subprogram) = called(program, number) else {
+        unreachable!()
+    };
+    let object = external_object(program, subprogram.kind);
+    if tasking.call_refusal(task, object).is_some() {
+        return raise_predefined(program, state, memory, PredefinedException::ProgramError);
+    }
+    let role = Role::Opened {
+        object: u16::from(object),
+    };
+    let effect = opening(subprogram.kind, object);
+    enter(program, state, memory, number, &subprogram, role, effect)
+}
+
+// The object of an external call.
+fn external_object(program: &Program, kind: Kind) -> u8
+    requires { IsOfObject program.now kind }
+    ensures { object_of kind ≡ Some result }
+{
+    match kind {
+        Kind::ProtectedProcedure(object) => object_number(program, object),
+        Kind::ProtectedFunction(object) => object_number(program, object),
+        _ => unreachable!(),
+    }
+}
+
+// What an external call opens: an action of a function, or else of a procedure.
+fn opening(kind: Kind, object: u8) -> Effect
+    ensures { result ≡ opening kind object }
+{
+    match kind {
+        Kind::ProtectedFunction(_) => Effect::Views { object },
+        _ => Effect::Opens { object },
+    }
+}
+
+/// ECALL.
+pub(crate) fn entry_call<R: Ready, D: Delays>(
+    program: &Program,
+    tasking: &Tasking<R, D>,
+    task: u8,
+    state: &mut TaskState,
+    memory: &Memory,
+    object: u16,
+) -> Act
+    requires task { IsTask (kernel_of tasking.now) task }
+    requires objects { (kernel_of tasking.now).partition.objects ≡ length program.now.objects }
+    requires here { IsReady program.now state.old (operations.EntryCall object) }
+    ensures { (schedule : List ScheduleLine) → DoesIn program.now (operations.EntryCall object) state.old memory.now result memory.now state.new schedule (kernel_of tasking.now) task }
+{
+    let Some(number) = entry(program, object) else {
+        unreachable!()
+    };
+    let Some(subprogram) = called(program, number) else {
+        unreachable!()
+    };
+    let object = object_number(program, object);
+    if tasking.is_inside_any(task) || tasking.is_above_ceiling(task, object) {
+        return raise_predefined(program, state, memory, PredefinedException::ProgramError);
+    }
+    if !memory.is_open(program.image(), object) {
+        return queue(program, tasking, state, memory, object);
+    }
+    let role = Role::Opened {
+        object: u16::from(object),
+    };
+    enter(
+        program,
+        state,
+        memory,
+        number,
+        &subprogram,
+        role,
+        Effect::Opens { object },
+    )
+}
+
+// An entry call with a closed barrier waits, where no other does (RM D.7).
+fn queue<R: Ready, D: Delays>(
+    program: &Program,
+    tasking: &Tasking<R, D>,
+    state: &mut TaskState,
+    memory: &Memory,
+    object: u8,
+) -> Act
+    requires object { object < (kernel_of tasking.now).partition.objects }
+    requires quiet { state.old.raising ≡ None }
+    requires raises { MayRaise program.now state.old }
+    ensures { (schedule : List ScheduleLine) (t : ℕ) → with_frame_left program.now schedule (kernel_of tasking.now) t (words_in program.now memory.now.shared) state.old.frame state.old.callers (queues program.now schedule (kernel_of tasking.now) t (words_in program.now memory.now.shared) state.old.frame state.old.callers object) ≡ stepped_of program.now result memory.now state.new }
+{
+    if CALLERS <= state.callers() {
+        return raise_predefined(program, state, memory, PredefinedException::StorageError);
+    }
+    if tasking.is_full(object) {
+        return raise_predefined(program, state, memory, PredefinedException::ProgramError);
+    }
+    Act::of(Effect::Queues { object })
+}
+
+// The frame of a call, where one is left.
+fn enter(
+    program: &Program,
+    state: &mut TaskState,
+    memory: &Memory,
+    number: u16,
+    subprogram: &Subprogram,
+    role: Role,
+    effect: Effect,
+) -> Act
+    requires there { subprogram.now.parameters ≤ length state.old.frame.stack }
+    requires fits { subprogram.now.parameters ≤ subprogram.now.locals }
+    requires room { subprogram.now.locals ≤ FRAME_WORDS }
+    requires quiet { state.old.raising ≡ None }
+    requires raises { MayRaise program.now state.old }
+    ensures { (schedule : List ScheduleLine) (k : Kernel) (t : ℕ) → with_frame_left program.now schedule k t (words_in program.now memory.now.shared) state.old.frame state.old.callers (enters program.now schedule k t (words_in program.now memory.now.shared) state.old.frame state.old.callers (effect_of program.now effect) (role_of role) number subprogram.now) ≡ stepped_of program.now result memory.now state.new }
+{
+    if CALLERS <= state.callers() {
+        return raise_predefined(program, state, memory, PredefinedException::StorageError);
+    }
+    state.call(number, first_place(program, number), subprogram, role);
+    Act::of(effect)
+}

@@ -1,0 +1,140 @@
+//! Steps that ask the kernel, or tell it something: what may block, `delay until`, lines, input and the clock.
+ghost use Rattle.std.specs.Prelude.{◌≡◌, ◌<◌, ◌≤◌, ◌+◌, ◌∷◌, ℕ, List, drop, length};
+ghost use Rattle.base.specs.declared.limits.TheConstants.{FRAME_WORDS};
+ghost use Rattle.base.specs.declared.schedule.ScheduleLine.{ScheduleLine};
+ghost use Rattle.image.specs.Scalars.{input_of};
+ghost use Rattle.image.specs.declared.instruction.Operation.TheVariants as operations;
+ghost use Rattle.kernel.specs.State.{Kernel};
+ghost use Rattle.task_steps.specs.Stepping.{Does, DoesIn, IsReady};
+ghost use Rattle.tasking.specs.Held.{kernel_of};
+ghost use Rattle.tasking.specs.Orderly.{IsTask};
+
+use crate::acts::{Act, Effect};
+use crate::lookups;
+use crate::memory::Memory;
+use crate::raising::{raise, raise_predefined};
+use base::PredefinedException;
+use base::arithmetic::Checked;
+use base::limits::CHANNELS;
+use clock::{Delays, Schedule};
+use dispatch::Ready;
+use processor::{Program, TaskState};
+use tasking::Tasking;
+
+/// BLK: what may block raises inside an action (RM 9.5.1, H.5).
+pub(crate) fn check_blocking<R: Ready, D: Delays>(
+    program: &Program,
+    tasking: &Tasking<R, D>,
+    task: u8,
+    state: &mut TaskState,
+    memory: &Memory,
+) -> Act
+    requires task { IsTask (kernel_of tasking.now) task }
+    requires here { IsReady program.now state.old operations.CheckBlocking }
+    ensures { (schedule : List ScheduleLine) → DoesIn program.now operations.CheckBlocking state.old memory.now result memory.now state.new schedule (kernel_of tasking.now) task }
+{
+    if tasking.is_inside_any(task) {
+        return raise_predefined(program, state, memory, PredefinedException::ProgramError);
+    }
+    state.advance();
+    Act::of(Effect::Quiet)
+}
+
+/// DLY.
+pub(crate) fn delay_until<R: Ready, D: Delays>(
+    program: &Program,
+    tasking: &Tasking<R, D>,
+    task: u8,
+    state: &mut TaskState,
+    memory: &Memory,
+) -> Act
+    requires task { IsTask (kernel_of tasking.now) task }
+    requires here { IsReady program.now state.old operations.DelayUntil }
+    ensures { (schedule : List ScheduleLine) → DoesIn program.now operations.DelayUntil state.old memory.now result memory.now state.new schedule (kernel_of tasking.now) task }
+{
+    if tasking.is_inside_any(task) {
+        return raise_predefined(program, state, memory, PredefinedException::ProgramError);
+    }
+    let until = state.pop();
+    state.advance();
+    Act::of(Effect::Delays { until })
+}
+
+/// PUT.
+pub(crate) fn put_line(program: &Program, state: &mut TaskState, memory: &Memory, label: u16) -> Act
+    requires { IsReady program.now state.old (operations.PutLine label) }
+    ensures { Does program.now (operations.PutLine label) state.old memory.now result memory.now state.new }
+{
+    let value = state.pop();
+    state.advance();
+    Act::of(Effect::Says { label, value })
+}
+
+/// READ.
+pub(crate) fn read_input<R: Ready, D: Delays>(
+    program: &Program,
+    schedule: &Schedule,
+    tasking: &Tasking<R, D>,
+    state: &mut TaskState,
+    memory: &Memory,
+) -> Act
+    requires { IsReady program.now state.old operations.ReadInput }
+    ensures { (t : ℕ) → DoesIn program.now operations.ReadInput state.old memory.now result memory.now state.new schedule.now (kernel_of tasking.now) t }
+{
+    let channel = operand(state, 0);
+    match input(schedule, tasking.now(), channel) {
+        Ok(value) => {
+            state.drop_top(1);
+            state.push(value);
+            state.advance();
+            Act::of(Effect::Quiet)
+        }
+        Err(exception) => raise_predefined(program, state, memory, exception),
+    }
+}
+
+// The input of a channel at a time, where there is a channel of this number.
+fn input(schedule: &Schedule, now: i64, channel: i64) -> Checked
+    ensures { result ≡ input_of schedule.now now channel }
+{
+    match u8::try_from(channel) {
+        Ok(number) if 1 <= number && number <= CHANNELS => Ok(schedule.value(number, now)),
+        _ => Err(PredefinedException::ConstraintError),
+    }
+}
+
+/// CLK.
+pub(crate) fn clock<R: Ready, D: Delays>(
+    program: &Program,
+    tasking: &Tasking<R, D>,
+    state: &mut TaskState,
+    memory: &Memory,
+) -> Act
+    requires { IsReady program.now state.old operations.Clock }
+    ensures { (schedule : List ScheduleLine) (t : ℕ) → DoesIn program.now operations.Clock state.old memory.now result memory.now state.new schedule (kernel_of tasking.now) t }
+{
+    state.push(tasking.now());
+    state.advance();
+    Act::of(Effect::Quiet)
+}
+
+/// RAISE: the exception that the top word names.
+pub(crate) fn raise_named(program: &Program, state: &mut TaskState, memory: &Memory) -> Act
+    requires { IsReady program.now state.old operations.Raise }
+    ensures { Does program.now operations.Raise state.old memory.now result memory.now state.new }
+{
+    let number = operand(state, 0);
+    match lookups::exception(program, number) {
+        Some(exception) => raise(program, state, memory, exception),
+        None => Act::of(Effect::Breaks),
+    }
+}
+
+/// The word of the operand stack with so many above it.
+pub(crate) fn operand(state: &TaskState, above: u16) -> i64
+    requires there { above < length state.now.frame.stack }
+    requires few { length state.now.frame.stack ≤ FRAME_WORDS }
+    ensures { drop above state.now.frame.stack ≡ result ∷ drop (above + 1) state.now.frame.stack }
+{
+    state.frame().top(above + 1)[0]
+}

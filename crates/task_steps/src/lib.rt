@@ -1,0 +1,18 @@
+//! The steps of one task: quiet ones, and what the others ask of the kernel.
+#![tactic(auto)]
+
+mod acts;
+mod blocks;
+mod calls;
+mod kernel_steps;
+mod lookups;
+mod memory;
+mod operations;
+mod raising;
+mod returns;
+mod steps;
+
+pub use acts::{Act, Effect, Given};
+pub use lookups::{called, entry, first_place};
+pub use memory::Memory;
+pub use steps::{Went, go, step};

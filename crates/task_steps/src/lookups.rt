@@ -1,0 +1,101 @@
+//! Looking up what instructions name.
+ghost use Rattle.std.specs.Prelude.{◌≡◌, ◌<◌, length, option_map, slice_get};
+ghost use Rattle.image.specs.Frames.{own_object};
+ghost use Rattle.image.specs.Operations.{called, entry_of, results_of};
+ghost use Rattle.image.specs.Scalars.{exception_of};
+ghost use Rattle.image.specs.Sections.{first_place};
+
+use image::{Operation, Subprogram};
+use image_laws::code_leads_on;
+use processor::{Program, TaskState};
+
+/// The operation of the running frame's instruction, where there is one.
+pub(crate) fn operation(program: &Program, state: &TaskState) -> Option<Operation>
+    ensures { result ≡ option_map (λ x. x.operation) (slice_get program.now.instructions state.now.frame.place) }
+{
+    let place = usize::from(state.frame().place());
+    program
+        .image()
+        .instructions()
+        .get(place)
+        .map(|x| x.operation)
+}
+
+/// The subprogram of this number.
+pub fn called(program: &Program, number: u16) -> Option<Subprogram>
+    ensures { result ≡ called program.now number }
+{
+    program
+        .image()
+        .subprograms()
+        .get(usize::from(number))
+        .copied()
+}
+
+/// Where a subprogram begins: where the one before it ends.
+pub fn first_place(program: &Program, number: u16) -> u16
+    ensures { result ≡ first_place program.now number }
+{
+    match number.checked_sub(1) {
+        None => 0,
+        Some(before) => program
+            .image()
+            .subprograms()
+            .get(usize::from(before))
+            .map_or(0, |s| s.end_),
+    }
+}
+
+/// How many words the running frame's subprogram gives.
+pub(crate) fn results(program: &Program, state: &TaskState) -> u16
+    ensures { result ≡ results_of (called program.now state.now.frame.subprogram) }
+{
+    match called(program, state.frame().subprogram()) {
+        None => 0,
+        Some(subprogram) => subprogram.results,
+    }
+}
+
+/// The object that the running frame's subprogram belongs to.
+pub(crate) fn own_object(program: &Program, state: &TaskState) -> Option<u16>
+    ensures { result ≡ own_object program.now state.now.frame }
+{
+    match called(program, state.frame().subprogram()) {
+        None => None,
+        Some(subprogram) => subprogram.kind.object(),
+    }
+}
+
+/// The number of the subprogram of an object's entry.
+pub fn entry(program: &Program, object: u16) -> Option<u16>
+    ensures { result ≡ entry_of (slice_get program.now.objects object) }
+{
+    match program.image().objects().get(usize::from(object)) {
+        None => None,
+        Some(row) => row.entry(),
+    }
+}
+
+/// An object's number as tasks have it: there are at most 16.
+pub(crate) fn object_number(program: &Program, object: u16) -> u8
+    requires { object < length program.now.objects }
+    ensures { result ≡ object }
+{
+    code_leads_on();
+    let _objects = program.image().objects();
+    match u8::try_from(object) {
+        Ok(number) => number,
+        Err(_) => unreachable!(),
+    }
+}
+
+/// The exception that a word names, where there is one.
+pub(crate) fn exception(program: &Program, word: i64) -> Option<u16>
+    ensures { result ≡ exception_of (length program.now.exceptions) word }
+{
+    let count = program.image().exceptions().len();
+    match u16::try_from(word) {
+        Ok(number) if 1 <= number && usize::from(number) <= count => Some(number),
+        _ => None,
+    }
+}
