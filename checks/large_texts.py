@@ -60,9 +60,28 @@ def runs(name, frame, first, more, out):
     return name, text, 0, out(count), ""
 
 
+def place_of(text, at):
+    """The line and the column of a byte, both from 1."""
+    return f"{text.count(chr(10), 0, at) + 1}:{at - (text.rfind(chr(10), 0, at) + 1) + 1}"
+
+
 def outside(name, frame, first, more):
-    """A long text that is derived, but not compiled today."""
+    """A long legal text, which is not compiled today."""
     return name, filled(frame, first, more)[0], 2, "", "fault 90 at 1:1"
+
+
+def fault_at(text, number, part, times=1):
+    """The fault of this number where the part of the text stands for so many times."""
+    at = -1
+    for _ in range(times):
+        at = text.index(part, at + 1)
+    return f"fault {number} at {place_of(text, at)}"
+
+
+def broken(name, frame, first, more, number, part, times=1):
+    """A long text that is derived, and breaks this rule first."""
+    text = filled(frame, first, more)[0]
+    return name, text, 2, "", fault_at(text, number, part, times)
 
 
 CHAINS = [
@@ -71,12 +90,12 @@ CHAINS = [
     runs("chain of *", put(), "2", "*1", lambda n: lines(2)),
     runs("chain of + in 39 parentheses", put("(" * 39, ")" * 39), "1", "+1", lambda n: lines(n + 1)),
 ] + [
-    outside(f"chain of {name}", assigned(), "1", part)
+    broken(f"chain of {name}", assigned(), "1", part, 10, "X :=")
     for name, part in [("divided", "/1"), ("mod", " mod 1"), ("rem", " rem 1")]
 ] + [
-    outside(f"chain of {word}", assigned(), "X", f" {word} X") for word in ["and", "or", "xor", "and then", "or else"]
+    broken(f"chain of {word}", assigned(), "X", f" {word} X", 10, "X :=") for word in ["and", "or", "xor", "and then", "or else"]
 ] + [
-    outside(f"chain of relations by {name}", assigned(), f"1{sign}1", f" and 1{sign}1")
+    broken(f"chain of relations by {name}", assigned(), f"1{sign}1", f" and 1{sign}1", 10, "X :=")
     for name, sign in [("equal", "="), ("unequal", "/="), ("less", "<"), ("less or equal", "<="), ("greater", ">"), ("greater or equal", ">=")]
 ]
 
@@ -88,53 +107,50 @@ LISTS = [
     runs("calls of main", (PRAGMA + CALLED + "with App; procedure Main is begin ", "end Main;"), "", "App.P;", lambda n: LAST_LINE),
     runs("null statements of main", (PRAGMA + "procedure Main is begin ", "end Main;"), "null;", "null;", lambda n: LAST_LINE),
     outside("pragmas", (PRAGMA, "procedure Main is begin null; end Main;"), "", "pragma A(B);"),
-    outside("unit clauses", (PRAGMA, CALLED + MAIN), "", "with A;use A;"),
-    outside("declarations of procedures", items(), "", "procedure Q;"),
-    outside("bodies", app("procedure P is begin null; end P;", ""), "", "procedure Q is begin null;end Q;"),
-    outside("types", items(), "", "type T is range 1..2;"),
-    outside("subtypes", items(), "", "subtype T is S;"),
-    outside("exceptions", items(), "", "E:exception;"),
-    outside("objects", items(), "", "X:T;"),
-    outside("objects of a body", declarations(), "", "X:T;"),
-    outside("objects of a block", statements("declare ", "begin null; end;"), "", "X:T;"),
-    outside("components", items("type R is record ", "end record;"), "X:T;", "X:T;"),
-    outside("tasks", items(), "", "task T;"),
-    outside("entries of a task", items("task T is ", "end T;"), "", "entry E;"),
-    outside("protected objects", items(), "", "protected T is end T;"),
-    outside("entries of a protected object", items("protected T is ", "end T;"), "", "entry E;"),
-    outside("subprograms of a protected object", items("protected T is ", "end T;"), "", "function Q return T;"),
-    outside("bodies of a protected object", app("protected body T is ", "end T; procedure P is begin null; end P;"), "", "entry E when X is begin null;end E;"),
-    outside("components of a protected object", items("protected T is private ", "end T;"), "", "X:T;"),
-    outside("formals", items("procedure Q(", ");"), "A:T", ";A:T"),
-    outside("arguments", statements("X(", ");"), "1", ",1"),
-    outside("selectors", statements("X", ";"), "", ".X"),
-    outside("attributes", statements("X", ";"), "", "'X"),
-    outside("argument lists", statements("X", ";"), "", "(1)"),
-    outside("elsifs", statements("if X then null; ", "end if;"), "", "elsif X then null;"),
-    outside("elsifs of an if expression", statements("X:=(if X then 1 ", "else 1);"), "", "elsif X then 1 "),
-    outside("alternatives", statements("case X is ", "end case;"), "when 1=>null;", "when 1=>null;"),
-    outside("choices", statements("case X is when 1", "=>null; end case;"), "", "|1"),
-    outside("handlers", statements("null; exception ", ""), "when A=>null;", "when A=>null;"),
-    outside("choices of a handler", statements("null; exception when A", "=>null;"), "", "|A"),
+    broken("unit clauses", (PRAGMA, CALLED + MAIN), "", "with A;use A;", 10, "A;"),
+    broken("declarations of procedures", items(), "", "procedure Q;", 18, "Q;"),
+    broken("bodies", app("procedure P is begin null; end P;", ""), "", "procedure Q is begin null;end Q;", 18, "Q is", 2),
+    broken("types", items(), "", "type T is range 1..2;", 11, "T is", 2),
+    broken("subtypes", items(), "", "subtype T is S;", 10, "S;"),
+    broken("exceptions", items(), "", "E:exception;", 11, "E:", 2),
+    broken("objects", items(), "", "X:T;", 10, "T;"),
+    broken("objects of a body", declarations(), "", "X:T;", 10, "T;"),
+    broken("objects of a block", statements("declare ", "begin null; end;"), "", "X:T;", 10, "T;"),
+    broken("components", items("type R is record ", "end record;"), "X:T;", "X:T;", 10, "T;"),
+    broken("tasks", items(), "", "task T;", 18, "T;"),
+    broken("entries of a task", items("task T is ", "end T;"), "", "entry E;", 18, "T is"),
+    broken("protected objects", items(), "", "protected T is end T;", 18, "T is"),
+    broken("entries of a protected object", items("protected T is ", "end T;"), "", "entry E;", 18, "T is"),
+    broken("subprograms of a protected object", items("protected T is ", "end T;"), "", "function Q return T;", 18, "T is"),
+    broken("bodies of a protected object", app("protected body T is ", "end T; procedure P is begin null; end P;"), "", "entry E when X is begin null;end E;", 18, "T is"),
+    broken("components of a protected object", items("protected T is private ", "end T;"), "", "X:T;", 18, "T is"),
+    broken("formals", items("procedure Q(", ");"), "A:T", ";A:T", 18, "Q("),
+    broken("arguments", statements("X(", ");"), "1", ",1", 10, "X("),
+    broken("selectors", statements("X", ";"), "", ".X", 10, "X.X"),
+    broken("attributes", statements("X", ";"), "", "'X", 10, "X'X"),
+    broken("argument lists", statements("X", ";"), "", "(1)", 10, "X(1)"),
+    broken("elsifs", statements("if X then null; ", "end if;"), "", "elsif X then null;", 10, "X then"),
+    broken("elsifs of an if expression", statements("X:=(if X then 1 ", "else 1);"), "", "elsif X then 1 ", 10, "X:="),
+    broken("alternatives", statements("case X is ", "end case;"), "when 1=>null;", "when 1=>null;", 17, "case"),
+    broken("choices", statements("case X is when 1", "=>null; end case;"), "", "|1", 17, "case"),
+    broken("handlers", statements("null; exception ", ""), "when A=>null;", "when A=>null;", 10, "A=>"),
+    broken("choices of a handler", statements("null; exception when A", "=>null;"), "", "|A", 10, "A|"),
     outside("tokens of a select", statements("select ", "end select;"), "", "X "),
 ]
 
 
-def place_of(text, at):
-    """The line and the column of a byte, both from 1."""
-    return f"{text.count(chr(10), 0, at) + 1}:{at - (text.rfind(chr(10), 0, at) + 1) + 1}"
-
-
-def deep(name, frame, opening, inside, closing, opens_at=0, each=1):
+def deep(name, frame, opening, inside, closing, opens_at=0, each=1, breaks=None):
     """The texts with 40 levels, and with one opening more.
 
-    An opening opens `each` levels, the first of them by the token that stands `opens_at` bytes after the beginning of `opening`.
+    An opening opens `each` levels, the first of them by the token that stands `opens_at` bytes after the beginning of `opening`. The text with 40 levels is
+    legal, or breaks the rule with the number in `breaks` first, at the part of the text there.
     """
     head, tail = frame
     count = LEVELS // each
     texts = [head + opening * times + inside + closing * times + tail for times in (count, count + 1)]
     fault = "fault 7 at " + place_of(texts[1], len(head) + len(opening) * count + opens_at)
-    return [(f"40 levels of {name}", texts[0], 2, "", "fault 90 at 1:1"), (f"41 levels of {name}", texts[1], 2, "", fault)]
+    first = fault_at(texts[0], *breaks) if breaks else "fault 90 at 1:1"
+    return [(f"40 levels of {name}", texts[0], 2, "", first), (f"41 levels of {name}", texts[1], 2, "", fault)]
 
 
 def deep_parentheses():
@@ -155,22 +171,23 @@ def deep_formals():
         text = head + outer + opening + inside + closing + " end;" * (levels - 1) + tail
         found.append((text, len(head) + len(outer) + len(opening) + inside.index("(")))
     fault = "fault 7 at " + place_of(found[1][0], found[1][1])
-    return [("40 levels, the last of formals", found[0][0], 2, "", "fault 90 at 1:1"), ("41 levels, the last of formals", found[1][0], 2, "", fault)]
+    first = fault_at(found[0][0], 10, "T)")
+    return [("40 levels, the last of formals", found[0][0], 2, "", first), ("41 levels, the last of formals", found[1][0], 2, "", fault)]
 
 
 DEEP = [
     deep_parentheses(),
-    deep("parentheses", statements("X:=", ";"), "(", "7", ")"),
-    deep("if expressions", statements("X:=", ";"), "(if X then ", "7", " else 7)", each=2),
-    deep("arguments", statements("", ";"), "X(", "7", ")", 1),
-    deep("if statements", statements(), "if X then ", "null;", "end if;"),
-    deep("else parts", statements(), "if X then null; else ", "null;", "end if;"),
-    deep("case statements", statements(), "case X is when 1=>", "null;", "end case;"),
+    deep("parentheses", statements("X:=", ";"), "(", "7", ")", breaks=(10, "X:=")),
+    deep("if expressions", statements("X:=", ";"), "(if X then ", "7", " else 7)", each=2, breaks=(10, "X:=")),
+    deep("arguments", statements("", ";"), "X(", "7", ")", 1, breaks=(10, "X(")),
+    deep("if statements", statements(), "if X then ", "null;", "end if;", breaks=(10, "X then")),
+    deep("else parts", statements(), "if X then null; else ", "null;", "end if;", breaks=(10, "X then")),
+    deep("case statements", statements(), "case X is when 1=>", "null;", "end case;", breaks=(17, "case")),
     deep("loops", statements(), "loop ", "null;", "end loop;"),
-    deep("while loops", statements(), "while X loop ", "null;", "end loop;"),
-    deep("for loops", statements(), "for X in 1..2 loop ", "null;", "end loop;"),
+    deep("while loops", statements(), "while X loop ", "null;", "end loop;", breaks=(10, "X loop")),
+    deep("for loops", statements(), "for X in 1..2 loop ", "null;", "end loop;", breaks=(11, "X in", 2)),
     deep("blocks", statements(), "begin ", "null;", "end;"),
-    deep("blocks with declarations", statements(), "declare X:T; begin ", "null;", "end;"),
+    deep("blocks with declarations", statements(), "declare X:T; begin ", "null;", "end;", breaks=(10, "T;")),
     deep("blocks in handlers", statements(), "begin null; exception when others=>", "null;", "end;"),
     deep_formals(),
 ]

@@ -171,7 +171,7 @@ fn texts_without_a_program_are_refused(rt: HostRuntime) -> Result<(), Fail> {
         ),
         (
             "pragma Profile (Ravenscar); procedure Main is begin null; end Mane;",
-            "fault 90 at 1:1\n",
+            "fault 22 at 1:63\n",
         ),
         (
             "pragma Profile (Ravenscar); procedure Main is begin end Main;",
@@ -219,7 +219,7 @@ fn other_bodies_are_refused(rt: HostRuntime) -> Result<(), Fail> {
         ("procedure Run is begin Run; end Run;", "fault 90 at 1:1\n"),
         (
             "procedure Other is begin null; end Other;",
-            "fault 90 at 1:1\n",
+            "fault 18 at 6:14\n",
         ),
     ];
     for (body, err) in bodies {

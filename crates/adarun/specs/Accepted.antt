@@ -1,4 +1,4 @@
--- Which texts are programs, and which of them are compiled.
+-- Which texts are programs, which of these are legal, and which are compiled.
 use Rattle.std.specs.Prelude.{◌≡◌, ◌⊎◌, ℕ, List, true, Result, Ok, Err}
 use Rattle.lexer.specs.Fault.{memory_fault}
 use Rattle.lexer.specs.Spelling.{Spells, IsBroken}
@@ -9,6 +9,8 @@ use Rattle.image.specs.Sections.{Sections}
 use Rattle.image.specs.Rules.{IsWellFormed}
 use Rattle.image.specs.declared.building.Image.{Image}
 use Rattle.ada_tree.specs.ProgramTree.{ProgramTree}
+use Rattle.expr_rules.specs.Faults.{IsLeast}
+use Rattle.checking.specs.ProgramRules.{IsLegal, program_faults}
 use Rattle.meaning.specs.SameMeaning.{KeepsCount, SameMeaning}
 use Rattle.ada_link.specs.FirstLanguage.{is_first_program}
 use Rattle.ada_link.specs.Refusals.{RefusesTree, too_large}
@@ -20,9 +22,10 @@ pub record IsTreeOf (tree : ProgramTree) (text : List ℕ) : Type 0 where
   pub spells : Spells text tokens
   pub derives : Derives tree tokens
 
--- the tree of the text is a program of the first language
+-- the tree of the text is a legal program, and one of the first language
 pub record IsAccepted (tree : ProgramTree) (text : List ℕ) : Type 0 where
   pub is_tree : IsTreeOf tree text
+  pub legal : IsLegal tree
   pub is_first : is_first_program tree ≡ true
 
 -- a well-formed image that means the same as the text's tree, which is of the first language, and keeps the count of steps
@@ -39,15 +42,28 @@ pub record HasNoTree (text : List ℕ) (fault : Fault) : Type 0 where
   pub spells : Spells text tokens
   pub faulty : IsFaulty tokens fault
 
--- its tree is refused
+-- its tree breaks this rule from 10 to 23, and none before it
+pub record HasIllegalTree (text : List ℕ) (fault : Fault) : Type 0 where
+  pub tree : ProgramTree
+  pub is_tree : IsTreeOf tree text
+  pub least : IsLeast (program_faults tree) fault
+
+-- its tree is legal, and not compiled
 pub record HasRefusedTree (text : List ℕ) (fault : Fault) : Type 0 where
   pub tree : ProgramTree
   pub is_tree : IsTreeOf tree text
+  pub legal : IsLegal tree
   pub refused : RefusesTree tree fault
 
--- memory was refused; no tokens spell the text; they have no tree; or the tree is refused
+-- memory was refused; no tokens spell the text; they have no tree; the tree is illegal; or it is legal and not compiled
 abbrev pub RefusesText : List ℕ → Fault → Type 0
-RefusesText text fault = (fault ≡ memory_fault) ⊎ (IsBroken text fault ⊎ (HasNoTree text fault ⊎ HasRefusedTree text fault))
+RefusesText text fault =
+    (fault ≡ memory_fault) ⊎ (IsBroken text fault ⊎ (HasNoTree text fault ⊎ (HasIllegalTree text fault ⊎ HasRefusedTree text fault)))
+
+-- the tree is legal, or its text is refused by its least fault or for want of memory
+abbrev pub IsJudged : ProgramTree → Result Image Fault → Type 0
+IsJudged tree (Ok image) = IsLegal tree
+IsJudged tree (Err fault) = (fault ≡ memory_fault) ⊎ (IsLeast (program_faults tree) fault ⊎ IsLegal tree)
 
 -- memory was refused, or the program's code is too large
 abbrev pub IsRefusedOnlyBy : ProgramTree → Fault → Type 0

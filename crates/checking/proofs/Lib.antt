@@ -1,0 +1,3 @@
+mod LikeNameExamples
+mod ProgramExamples
+mod Turns

@@ -1,0 +1,12 @@
+use Rattle.std.proofs.Common.{◌≡◌, drop, map}
+use Rattle.ada_tree.specs.StatementTree.{protected_tree}
+use Rattle.ada_tree.specs.ProgramTree.{body_item_tree}
+use Rattle.expr_rules.specs.Faults.{least, sooner}
+use Rattle.checking.specs.LikeNames.{between_faults}
+use Rattle.checking.proofs.like_names.between_fault.Given as goal
+
+abbrev pub invariant-loop-item : goal.invariant-loop-item
+invariant-loop-item l =
+    let object = protected_tree l.object in
+    sooner l.fault (least (between_faults object (map body_item_tree (drop l.item-index l.items))))
+    ≡ least (between_faults object (map body_item_tree l.items))

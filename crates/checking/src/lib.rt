@@ -1,0 +1,8 @@
+//! All rules of programs in one check (docs/LANGUAGE.md, the faults from 10 to 23).
+#![tactic(auto)]
+
+mod checked;
+pub mod laws;
+mod like_names;
+
+pub use checked::{Checked, check};

@@ -1,0 +1,6 @@
+mod Capping
+mod Joined
+mod Labelling
+mod LimitExamples
+mod Sample
+mod ThingExamples
