@@ -11,8 +11,8 @@ use Rattle.adarun.specs.Accepted.{RefusesText}
 use Rattle.adarun.specs.Headline.{Runs}
 use Rattle.adarun.specs.Stopping.{Refuses}
 use Rattle.adarun.specs.Driving.{Contents, HasRun, HasRunImage, IsRead, KeepsSink, LeavesGo, LeavesRun, status_of}
-use Rattle.adarun.specs.declared.execution.GoFault.{GoFault}
-use Rattle.adarun.specs.declared.execution.GoFault.TheVariants as faults
+use Rattle.adarun.specs.declared.going.GoFault.{GoFault}
+use Rattle.adarun.specs.declared.going.GoFault.TheVariants as faults
 use Rattle.adarun.specs.declared.program.Status.{Status}
 use Rattle.adarun.specs.declared.program.Status.TheVariants.{Failed, SourceRefused, ScheduleRefused, NoMemory}
 
@@ -87,7 +87,7 @@ module _ (contents : Contents) (name schedule : List ℕ) (limit : ℕ) (old new
   has_run_image (outcomes.Unhandled exception task time) h = h
   has_run_image (outcomes.WaitsForever time) h = h
   has_run_image (outcomes.StepLimit time) h = h
-  has_run_image (outcomes.ImageFault time) h = inr (inr h)
+  has_run_image (outcomes.ImageFault time) h = inr h
 
   pub image_run_leaves : (status : Status) (outcome : Outcome) → status ≡ status_of outcome → HasRunImage contents name schedule limit (status_of outcome) old new
       → LeavesRun contents name schedule limit status old new

@@ -12,7 +12,6 @@ use Rattle.image_format.specs.Listing.{listing_of}
 use Rattle.image_format.specs.Loaded.{IsLoaded}
 use Rattle.image_format.specs.Loading.{image_fault}
 use Rattle.image.specs.Sections.{Sections}
-use Rattle.image.specs.Taken.{is_taken}
 use Rattle.image.specs.declared.fault.ImageFault as refused
 use Rattle.machine.specs.Stands.{EndsBy}
 use Rattle.machine.specs.Written.{AppendsBeginning}
@@ -158,13 +157,6 @@ pub record HasRunImage (contents : Contents) (name schedule : List ℕ) (limit :
   pub written : Appends old new (code_text image given.lines limit)
   pub ends : EndsBy outcome (code image given.lines limit)
 
--- the image was loaded, and it isn't one that runs today
-pub record HasUnsupportedImage (contents : Contents) (name : List ℕ) (old new : Option (List ℕ)) : Type 0 where
-  pub image : Sections
-  pub loaded : HasLoaded contents name image
-  pub unsupported : is_taken image ≡ false
-  pub unwritten : new ≡ old
-
 -- the image was loaded, and the schedule was refused for its own sake
 pub record HasRefusedScheduleOfImage (contents : Contents) (name schedule : List ℕ) (old new : Option (List ℕ)) : Type 0 where
   pub image : Sections
@@ -185,7 +177,7 @@ pub record HasBegunImage (contents : Contents) (name schedule : List ℕ) (limit
 
 abbrev pub LeavesRun : Contents → List ℕ → List ℕ → ℕ → Status → Option (List ℕ) → Option (List ℕ) → Type 0
 LeavesRun contents name schedule limit ImageFault old new =
-    HasRefusedImage contents name old new ⊎ (HasUnsupportedImage contents name old new ⊎ HasRunImage contents name schedule limit ImageFault old new)
+    HasRefusedImage contents name old new ⊎ HasRunImage contents name schedule limit ImageFault old new
 LeavesRun contents name schedule limit ScheduleRefused old new = HasRefusedScheduleOfImage contents name schedule old new
 LeavesRun contents name schedule limit NoMemory old new = new ≡ old
 LeavesRun contents name schedule limit Failed old new = (new ≡ old) ⊎ HasBegunImage contents name schedule limit old new

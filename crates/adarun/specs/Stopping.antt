@@ -4,8 +4,8 @@ use Rattle.base.specs.declared.schedule.ScheduleLine.{ScheduleLine}
 use Rattle.clock.specs.Schedules as schedules
 use Rattle.image.specs.Sections.{Sections}
 use Rattle.adarun.specs.Accepted.{Compiles, RefusesText}
-use Rattle.adarun.specs.declared.execution.GoFault.{GoFault}
-use Rattle.adarun.specs.declared.execution.GoFault.TheVariants as faults
+use Rattle.adarun.specs.declared.going.GoFault.{GoFault}
+use Rattle.adarun.specs.declared.going.GoFault.TheVariants as faults
 
 -- there is an image that the source compiles to
 pub record HasImage (source : List ℕ) : Type 0 where

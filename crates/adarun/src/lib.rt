@@ -2,12 +2,12 @@
 #![tactic(auto)]
 
 mod compilation;
-mod execution;
 mod files;
+mod going;
 pub mod laws;
 mod program;
 
 pub use compilation::compile;
-pub use execution::{GoFault, go};
 pub use files::{FileStore, ReadError, WriteError};
+pub use going::{GoFault, go};
 pub use program::{Status, drive};

@@ -5,9 +5,9 @@ ghost use Rattle.adarun.specs.Driving as driving;
 ghost use Rattle.adarun.specs.Driving.{Answers, KeepsSink, LeavesCompile, LeavesGo, LeavesList, LeavesRun};
 
 use crate::compilation::compile;
-use crate::execution::{GoFault, go};
 use crate::files::{FileStore, ReadError, WriteError};
-use base::faults::{MEMORY_REFUSED, OUTSIDE_LANGUAGE};
+use crate::going::{GoFault, go};
+use base::faults::MEMORY_REFUSED;
 use clock::{Schedule, ScheduleFault};
 use command_line::{Request, WordsError, request_of};
 use image::ImageFault;
@@ -159,13 +159,6 @@ fn drive_run<F: FileStore, O: Sink, E: Sink>(
     };
     match run(alloc, &image, &schedule, limit, out) {
         Ok(outcome) => status_of(&outcome),
-        Err(RunFault::Unsupported) => refuse_image(
-            err,
-            &ImageFault {
-                number: OUTSIDE_LANGUAGE,
-                byte: 0,
-            },
-        ),
         Err(RunFault::Memory) => no_memory(err),
         Err(RunFault::Write) => cannot_write(err),
     }
@@ -195,7 +188,6 @@ fn drive_go<F: FileStore, O: Sink, E: Sink>(
         Ok(outcome) => status_of(&outcome),
         Err(GoFault::Source(fault)) => refuse_source(err, &text, &fault),
         Err(GoFault::Schedule(fault)) => refuse_schedule(err, &fault),
-        Err(GoFault::Run(RunFault::Unsupported)) => unreachable!(),
         Err(GoFault::Run(RunFault::Memory)) => no_memory(err),
         Err(GoFault::Run(RunFault::Write)) => cannot_write(err),
     }

@@ -1,4 +1,4 @@
--- Which images the machine runs today; every well-formed one may be built. Lifting a restriction changes this file and the machine.
+-- Images as the first language is compiled to: few operations, one task, no handlers, no objects.
 use Rattle.std.specs.Prelude.{length, Bool, true, false, ◌&&◌, IsTrue, nat_eq}
 use Rattle.std.specs.List.{list_all}
 use Rattle.image.specs.Sections.{Sections}
@@ -34,7 +34,7 @@ takes_tables i =
     && (nat_eq (length i.tasks) 1
     && (nat_eq (length i.objects) 0 && list_all (λ s. is_taken_kind s.kind) i.subprograms))
 
--- the machine runs the image
+-- the image is one of these
 abbrev pub is_taken : Sections → Bool
 is_taken i = takes_operations i && takes_tables i
 

@@ -1,9 +1,4 @@
-mod Begin
-mod Calls
-mod Good
-mod Operands
+mod Inside
 mod Pieces
-mod Raising
-mod Ready
 mod Runs
-mod Worlds
+mod Steps

@@ -1,5 +1,5 @@
 -- Runs: what has been written, and what is still to come.
-use Rattle.std.proofs.Common.{◌≡◌, ℕ, ◌+◌, ◌-◌, ◌<◌, ℤ, List, [], ◌∷◌, ◌++◌, length, take, Option, Some, None, refl, sym, ap, subst, ◌∙◌, arith, append_assoc, append-nil, length-append}
+use Rattle.std.proofs.Common.{◌≡◌, ◌⊎◌, ℕ, zero, suc, ◌≤◌, ⊎_elim, ◌+◌, ◌-◌, ◌<◌, ℤ, List, [], ◌∷◌, ◌++◌, length, take, Option, Some, None, refl, sym, ap, subst, ◌∙◌, arith, append_assoc, append-nil, length-append}
 use Rattle.std.proofs.Math.Seq.{take-append-add, take-length}
 use Rattle.std.proofs.lemmas.List.{take-append-le}
 use Rattle.std.specs.Io.KnownBytes.{Appends}
@@ -7,19 +7,20 @@ use Rattle.base.specs.declared.schedule.ScheduleLine.{ScheduleLine}
 use Rattle.kernel.specs.State as kernel
 use Rattle.kernel.specs.Text.{Names, last_line, line_text, lines_text}
 use Rattle.image.specs.Sections.{Sections}
-use Rattle.image.specs.Code.{CodeWorld, code, code_text}
+use Rattle.image.specs.Code.{CodeWorld, code, code_text, partition_of, start}
 use Rattle.image_laws.specs.Laws.{LinesGrowOn, OutcomeStays}
 use Rattle.image.specs.Texts.{names_of}
-use Rattle.machine.specs.Held.{Held}
-use Rattle.machine.specs.Outcomes.{ending_of, line_of, time_of}
-use Rattle.machine.specs.Stands.{Advances, EndsBy, IsLast, StandsFor, kernel_outcome}
+use Rattle.kernel.specs.Effects.{activated, blank}
+use Rattle.kernel.specs.Laws.{LeftUnmoved}
+use Rattle.kernel.specs.RunLaws.{run_plus}
+use Rattle.kernel.specs.Worlds.{among, run}
+use Rattle.image.specs.Steps.{behaviour}
+use Rattle.execution.specs.Held.{Held, Leads, line_of, world_of, world_with}
+use Rattle.machine.specs.Outcomes.{ending_of, time_of}
+use Rattle.machine.specs.Stands.{EndsBy, StandsFor}
 use Rattle.machine.specs.Written.{AppendsBeginning}
-use Rattle.machine.specs.declared.reports.Line.{Line}
+use Rattle.execution.specs.declared.line.Line.{Line}
 use Rattle.machine.specs.declared.reports.Outcome.{Outcome}
-use Rattle.machine.specs.declared.reports.Outcome.TheVariants as outcomes
-use Rattle.machine.specs.declared.reports.Signal.{Signal}
-use Rattle.machine.specs.declared.reports.Signal.TheVariants as signals
-use Rattle.machine.proofs.Ready.{none_some}
 
 -- known bytes grow by one piece and then by another
 pub appends_two : (a b c : Option (List ℕ)) (xs ys : List ℕ) → Appends a b xs → Appends b c ys → Appends a c (xs ++ ys)
@@ -54,91 +55,118 @@ lines_text-append names [] ys = refl
 lines_text-append names (x ∷ xs) ys =
     ap (λ v. line_text names x ++ v) (lines_text-append names xs ys) ∙ sym (append_assoc (line_text names x) (lines_text names xs) (lines_text names ys))
 
--- the machine has no outcome where the world has none
-pub still_on : (h : Held) (w : CodeWorld) → StandsFor h w → w.kernel.outcome ≡ None → h.outcome ≡ None
-still_on h w stands none = on h.outcome stands.last (sym stands.outcome ∙ none)
-  where
-    on : (o : Option Outcome) → IsLast h.time o → kernel_outcome o ≡ None → o ≡ None
-    on None last e = refl
-    on (Some o) last e = absurd (none_some last.0 (sym e ∙ last.1))
+-- a run begins without lines
+activated_lines : (n : ℕ) (k : kernel.Kernel) → (activated n k).lines ≡ k.lines
+activated_lines zero k = refl
+activated_lines (suc n) k = activated_lines n k
 
--- after n steps: the machine stands for the world, which has no outcome, and its lines are written
+pub starts_without_lines : LeftUnmoved → (i : Sections) → (start i).kernel.lines ≡ []
+starts_without_lines unmoved i =
+    let p = partition_of i in
+    (unmoved (activated p.tasks (blank p))).lines ∙ activated_lines p.tasks (blank p)
+
+pub stands_start : LeftUnmoved → (i : Sections) (schedule : List ScheduleLine) (h : Held) → world_of h ≡ start i → StandsFor h (code i schedule 0)
+stands_start unmoved i schedule h is = sym is ∙ ap (λ l. world_with l h) (sym (starts_without_lines unmoved i))
+
+-- steps that lead on from a world that the machine stands for
+pub led_on : (h next : Held) (n k : ℕ) (told : List kernel.Line) → StandsFor h (code h.image h.schedule n) → Leads k h next told → code h.image h.schedule (n + k) ≡ world_with ((code h.image h.schedule n).kernel.lines ++ told) next
+led_on h next n k told stands l =
+    let f = among (behaviour h.image h.schedule) in
+    run_plus f n k (start h.image) ∙ (ap (run f k) stands ∙ l.world (code h.image h.schedule n).kernel.lines)
+
+-- a world that is so, and the lines of it
+pub stands_by : (h : Held) (w : CodeWorld) (lines : List kernel.Line) → w ≡ world_with lines h → StandsFor h w
+stands_by h w lines is = is ∙ ap (λ l. world_with l h) (sym (ap (λ v. v.kernel.lines) is))
+
+-- after n steps: the machine stands for the world, and its lines are written
 pub record Ran (i : Sections) (schedule : List ScheduleLine) (n : ℕ) (h : Held) (old new : Option (List ℕ)) (before after : ℕ) : Type 0 where
   pub image : h.image ≡ i
   pub schedule_is : h.schedule ≡ schedule
   pub stands : StandsFor h (code i schedule n)
-  pub on : h.outcome ≡ None
   pub written : Appends old new (lines_text (names_of i) (code i schedule n).kernel.lines)
   pub kept : after ≡ before
 
-pub ran_nothing : (h : Held) (old : Option (List ℕ)) (before : ℕ) → StandsFor h (code h.image h.schedule 0) → h.outcome ≡ None → (code h.image h.schedule 0).kernel.lines ≡ [] → Ran h.image h.schedule 0 h old old before before
-ran_nothing h old before stands on empty =
-    record { image = refl; schedule_is = refl; stands = stands; on = on; written = rw empty (appends_nothing old); kept = refl }
+pub ran_nothing : LeftUnmoved → (h : Held) (old : Option (List ℕ)) (before : ℕ) → StandsFor h (code h.image h.schedule 0) → Ran h.image h.schedule 0 h old old before before
+ran_nothing unmoved h old before stands =
+    record {
+      image = refl;
+      schedule_is = refl;
+      stands = stands;
+      written = subst (λ l. Appends old old (lines_text (names_of h.image) l)) (sym (starts_without_lines unmoved h.image)) (appends_nothing old);
+      kept = refl;
+    }
 
-module _ (i : Sections) (schedule : List ScheduleLine) (n : ℕ) (h next : Held) (old new : Option (List ℕ)) (before after : ℕ) (r : Ran i schedule n h old new before after) (image : next.image ≡ h.image) (schedule_is : next.schedule ≡ h.schedule) where
-  advances : (told : Signal) → ((m : ℕ) → StandsFor h (code h.image h.schedule m) → Advances h.image next (code h.image h.schedule m).kernel (code h.image h.schedule (m + 1)) told) → Advances i next (code i schedule n).kernel (code i schedule (n + 1)) told
-  advances told world =
-      subst (λ s. Advances i next (code i s n).kernel (code i s (n + 1)) told) r.schedule_is
-      (subst (λ j. Advances j next (code j h.schedule n).kernel (code j h.schedule (n + 1)) told) r.image
-      (world n (subst (λ j. StandsFor h (code j h.schedule n)) (sym r.image) (subst (λ s. StandsFor h (code i s n)) (sym r.schedule_is) r.stands))))
+module _ (i : Sections) (schedule : List ScheduleLine) (n : ℕ) (h next : Held) (old new : Option (List ℕ)) (before after : ℕ) (r : Ran i schedule n h old new before after) where
+  leads_to : (k : ℕ) (told : List kernel.Line) → Leads k h next told → code i schedule (n + k) ≡ world_with ((code i schedule n).kernel.lines ++ told) next
+  leads_to k told l =
+      subst (λ s. code i s (n + k) ≡ world_with ((code i s n).kernel.lines ++ told) next) r.schedule_is
+      (subst (λ j. code j h.schedule (n + k) ≡ world_with ((code j h.schedule n).kernel.lines ++ told) next) r.image
+      (led_on h next n k told (subst (λ j. StandsFor h (code j h.schedule n)) (sym r.image) (subst (λ s. StandsFor h (code i s n)) (sym r.schedule_is) r.stands)) l))
 
-  pub ran_quiet : ((m : ℕ) → StandsFor h (code h.image h.schedule m) → Advances h.image next (code h.image h.schedule m).kernel (code h.image h.schedule (m + 1)) signals.Quiet) → Ran i schedule (n + 1) next old new before after
-  ran_quiet world =
-      let a = advances signals.Quiet world in
+  pub ran_none : (k : ℕ) → Leads k h next [] → Ran i schedule (n + k) next old new before after
+  ran_none k l =
+      let e = leads_to k [] l in
+      let lines : (code i schedule (n + k)).kernel.lines ≡ (code i schedule n).kernel.lines = ap (λ w. w.kernel.lines) e ∙ append-nil (code i schedule n).kernel.lines in
       record {
-        image = image ∙ r.image;
-        schedule_is = schedule_is ∙ r.schedule_is;
-        stands = a.stands;
-        on = still_on next (code i schedule (n + 1)) a.stands a.shows.1;
-        written = rw a.shows.0 r.written;
+        image = l.image ∙ r.image;
+        schedule_is = l.schedule ∙ r.schedule_is;
+        stands = stands_by next (code i schedule (n + k)) _ e;
+        written = subst (λ x. Appends old new (lines_text (names_of i) x)) (sym lines) r.written;
         kept = r.kept;
       }
 
-  -- the lines after one more step, with the line that it wrote
-  line_more : (line : Line) (text : List ℕ) → text ≡ line_text (names_of next.image) (line_of next.image line) → Advances i next (code i schedule n).kernel (code i schedule (n + 1)) (signals.Line line) → lines_text (names_of i) (code i schedule (n + 1)).kernel.lines ≡ lines_text (names_of i) (code i schedule n).kernel.lines ++ text
-  line_more line text is a =
-      ap (lines_text (names_of i)) a.shows.0
-      ∙ lines_text-append (names_of i) (code i schedule n).kernel.lines (line_of i line ∷ [])
-      ∙ ap (λ v. lines_text (names_of i) (code i schedule n).kernel.lines ++ v) (append-nil (line_text (names_of i) (line_of i line)) ∙ sym (subst (λ j. text ≡ line_text (names_of j) (line_of j line)) (image ∙ r.image) is))
+  module _ (k : ℕ) (line : Line) (l : Leads k h next (line_of h.image line ∷ [])) (text : List ℕ) (is : text ≡ line_text (names_of next.image) (line_of next.image line)) where
+    line_more : lines_text (names_of i) (code i schedule (n + k)).kernel.lines ≡ lines_text (names_of i) (code i schedule n).kernel.lines ++ text
+    line_more =
+        ap (λ w. lines_text (names_of i) w.kernel.lines) (leads_to k (line_of h.image line ∷ []) l)
+        ∙ lines_text-append (names_of i) (code i schedule n).kernel.lines (line_of h.image line ∷ [])
+        ∙ ap (λ v. lines_text (names_of i) (code i schedule n).kernel.lines ++ v)
+        (append-nil (line_text (names_of i) (line_of h.image line))
+        ∙ (ap (λ j. line_text (names_of i) (line_of j line)) r.image ∙ sym (subst (λ j. text ≡ line_text (names_of j) (line_of j line)) (l.image ∙ r.image) is)))
 
-  pub ran_line : (line : Line) (text : List ℕ) (later : Option (List ℕ)) (count : ℕ) → text ≡ line_text (names_of next.image) (line_of next.image line) → ((m : ℕ) → StandsFor h (code h.image h.schedule m) → Advances h.image next (code h.image h.schedule m).kernel (code h.image h.schedule (m + 1)) (signals.Line line)) → Appends new later text → count ≡ after → Ran i schedule (n + 1) next old later before count
-  ran_line line text later count is world app same =
-      let a = advances (signals.Line line) world in
-      record {
-        image = image ∙ r.image;
-        schedule_is = schedule_is ∙ r.schedule_is;
-        stands = a.stands;
-        on = still_on next (code i schedule (n + 1)) a.stands a.shows.1;
-        written = rw (line_more line text is a) (appends_two old new later _ text r.written app);
-        kept = same ∙ r.kept;
-      }
+    pub ran_line : (later : Option (List ℕ)) (count : ℕ) → Appends new later text → count ≡ after → Ran i schedule (n + k) next old later before count
+    ran_line later count app same =
+        record {
+          image = l.image ∙ r.image;
+          schedule_is = l.schedule ∙ r.schedule_is;
+          stands = stands_by next (code i schedule (n + k)) _ (leads_to k (line_of h.image line ∷ []) l);
+          written = subst (Appends old later) (sym line_more) (appends_two old new later _ text r.written app);
+          kept = same ∙ r.kept;
+        }
 
-  -- a line whose write failed: what is written is a beginning of what the run writes
-  pub broken_line : (grow : LinesGrowOn) (limit : ℕ) → n < limit → (line : Line) (text : List ℕ) (later : Option (List ℕ)) → text ≡ line_text (names_of next.image) (line_of next.image line) → ((m : ℕ) → StandsFor h (code h.image h.schedule m) → Advances h.image next (code h.image h.schedule m).kernel (code h.image h.schedule (m + 1)) (signals.Line line)) → AppendsBeginning new later text → AppendsBeginning old later (lines_text (names_of i) (code i schedule limit).kernel.lines)
-  broken_line grow limit lt line text later is world part =
-      let a = advances (signals.Line line) world in
-      let rest = grow i schedule (n + 1) (limit - (n + 1)) in
-      let at : (n + 1) + (limit - (n + 1)) ≡ limit = omega (arith, lt) in
-      let more : (code i schedule limit).kernel.lines ≡ (code i schedule (n + 1)).kernel.lines ++ rest.0 = subst (λ k. (code i schedule k).kernel.lines ≡ (code i schedule (n + 1)).kernel.lines ++ rest.0) at rest.1 in
-      let whole : lines_text (names_of i) (code i schedule limit).kernel.lines ≡ (lines_text (names_of i) (code i schedule n).kernel.lines ++ text) ++ lines_text (names_of i) rest.0 =
-      ap (lines_text (names_of i)) more ∙ lines_text-append (names_of i) (code i schedule (n + 1)).kernel.lines rest.0 ∙ ap (λ v. v ++ lines_text (names_of i) rest.0) (line_more line text is a) in
-      subst (AppendsBeginning old later) (sym whole)
-      (beginning_of_more old later _ (lines_text (names_of i) rest.0) (beginning_after old new later _ text r.written part))
+    -- a line whose write failed: what is written is a beginning of what the run writes
+    pub broken_line : LinesGrowOn → (limit : ℕ) → n + k ≤ limit → (later : Option (List ℕ)) → AppendsBeginning new later text → AppendsBeginning old later (lines_text (names_of i) (code i schedule limit).kernel.lines)
+    broken_line grow limit le later part =
+        let rest = grow i schedule (n + k) (limit - (n + k)) in
+        let at : (n + k) + (limit - (n + k)) ≡ limit = omega (arith, le) in
+        let more : (code i schedule limit).kernel.lines ≡ (code i schedule (n + k)).kernel.lines ++ rest.0 = subst (λ x. (code i schedule x).kernel.lines ≡ (code i schedule (n + k)).kernel.lines ++ rest.0) at rest.1 in
+        let whole : lines_text (names_of i) (code i schedule limit).kernel.lines ≡ (lines_text (names_of i) (code i schedule n).kernel.lines ++ text) ++ lines_text (names_of i) rest.0 =
+        ap (lines_text (names_of i)) more ∙ lines_text-append (names_of i) (code i schedule (n + k)).kernel.lines rest.0 ∙ ap (λ v. v ++ lines_text (names_of i) rest.0) line_more in
+        subst (AppendsBeginning old later) (sym whole)
+        (beginning_of_more old later _ (lines_text (names_of i) rest.0) (beginning_after old new later _ text r.written part))
 
-  -- an outcome: the world at the limit is the one after this step
-  pub ran_done : (stay : OutcomeStays) (limit : ℕ) → n < limit → (o : Outcome) → ((m : ℕ) → StandsFor h (code h.image h.schedule m) → Advances h.image next (code h.image h.schedule m).kernel (code h.image h.schedule (m + 1)) (signals.Done o)) → Appends old new (lines_text (names_of i) (code i schedule limit).kernel.lines) × EndsBy o (code i schedule limit)
-  ran_done stay limit lt o world =
-      let a = advances (signals.Done o) world in
-      let at : (n + 1) + (limit - (n + 1)) ≡ limit = omega (arith, lt) in
-      let same : code i schedule limit ≡ code i schedule (n + 1) = subst (λ k. code i schedule k ≡ code i schedule (n + 1)) at (stay i schedule (n + 1) (limit - (n + 1)) a.shows.3.0 (a.shows.1 ∙ a.shows.3.1)) in (
-        subst (λ w. Appends old new (lines_text (names_of i) w.kernel.lines)) (sym same) (rw a.shows.0 r.written),
-        subst (EndsBy o) (sym same) (record { outcome = a.shows.1; time = a.shows.2 }),
-      )
+-- the world of the outcome, or at the limit, is the world at the limit
+pub record Over (i : Sections) (schedule : List ScheduleLine) (limit : ℕ) (o : Outcome) (old new : Option (List ℕ)) (before after : ℕ) : Type 0 where
+  pub written : Appends old new (lines_text (names_of i) (code i schedule limit).kernel.lines)
+  pub ends : EndsBy o (code i schedule limit)
+  pub kept : after ≡ before
 
--- no outcome up to the limit
-pub ran_out : (i : Sections) (schedule : List ScheduleLine) (limit : ℕ) (h : Held) (old new : Option (List ℕ)) (before after : ℕ) (time : ℤ) → Ran i schedule limit h old new before after → time ≡ h.time → EndsBy (outcomes.StepLimit time) (code i schedule limit)
-ran_out i schedule limit h old new before after time r is =
-    record { outcome = r.stands.outcome ∙ ap kernel_outcome r.on; time = r.stands.time ∙ sym is }
+pub ran_over : OutcomeStays → (i : Sections) (schedule : List ScheduleLine) (n limit : ℕ) (h : Held) (old new : Option (List ℕ)) (before after : ℕ) → Ran i schedule n h old new before after → n ≤ limit →
+    (n ≡ limit) ⊎ ((e : kernel.Outcome) × ((world_of h).kernel.outcome ≡ Some e)) → (o : Outcome) → EndsBy o (world_of h) → Over i schedule limit o old new before after
+ran_over stays i schedule n limit h old new before after r le why o ends =
+    let here : EndsBy o (code i schedule n) = record { outcome = ap (λ w. w.kernel.outcome) r.stands ∙ ends.outcome; time = ap (λ w. w.kernel.now) r.stands ∙ ends.time } in
+    let same : code i schedule limit ≡ code i schedule n =
+    ⊎_elim
+    (λ (e : n ≡ limit). ap (λ x. code i schedule x) (sym e))
+    (λ (q : (e : kernel.Outcome) × ((world_of h).kernel.outcome ≡ Some e)).
+    let at : n + (limit - n) ≡ limit = omega (arith, le) in
+    subst (λ x. code i schedule x ≡ code i schedule n) at (stays i schedule n (limit - n) q.0 (ap (λ w. w.kernel.outcome) r.stands ∙ q.1)))
+    why in
+    record {
+      written = subst (λ w. Appends old new (lines_text (names_of i) w.kernel.lines)) (sym same) r.written;
+      ends = subst (EndsBy o) (sym same) here;
+      kept = r.kept;
+    }
 
 -- the whole text: the lines, and then the last line
 module _ (j i : Sections) (given schedule : List ScheduleLine) (limit : ℕ) (old middle new : Option (List ℕ)) (same : j ≡ i) (same_schedule : given ≡ schedule) where

@@ -1,4 +1,3 @@
-pub mod Held
 pub mod Memory
 pub mod Outcomes
 pub mod Stands

@@ -1,15 +1,8 @@
--- What the machine's lines and outcomes say, as the kernel has them.
+-- What the machine's outcomes say, as the kernel has them.
 use Rattle.std.specs.Prelude.{ℤ, Option, Some, None}
-use Rattle.image.specs.Sections.{Sections}
-use Rattle.image.specs.Texts.{text_at}
 use Rattle.kernel.specs.State as kernel
-use Rattle.machine.specs.declared.reports.Line.{Line}
 use Rattle.machine.specs.declared.reports.Outcome.{Outcome}
 use Rattle.machine.specs.declared.reports.Outcome.TheVariants.{Ended, WaitsForever, Unhandled, ImageFault, StepLimit}
-
--- the line with its label's bytes in place of the number
-abbrev pub line_of : Sections → Line → kernel.Line
-line_of i l = record { time = l.time; task = l.task; label = text_at i.labels l.label; value = l.value }
 
 -- none where the run was cut at its limit
 abbrev pub ending_of : Outcome → Option kernel.Outcome

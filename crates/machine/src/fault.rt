@@ -5,9 +5,6 @@ use thiserror::Error;
 /// Why a run gave no outcome.
 #[derive(Clone, Copy, PartialEq, Eq, Debug, Error)]
 pub enum RunFault {
-    /// The image is well-formed, and holds what the machine doesn't run today (90; docs/FORMATS.md, "What runs today").
-    #[error("unsupported image")]
-    Unsupported,
     /// Memory was refused at the start (60).
     #[error("no memory")]
     Memory,

@@ -5,15 +5,14 @@ mod fault;
 mod memory_sink;
 mod reports;
 mod running;
-mod stepping;
-mod taken;
 mod text;
 mod writer_sink;
 mod writing;
 
 pub use fault::RunFault;
 pub use memory_sink::{MemorySink, Plan};
-pub use reports::{Event, LINE_BYTES, Line, LineText, Outcome};
-pub use running::{Machine, run};
+pub use reports::{Event, LINE_BYTES, LineText, Outcome};
+pub use running::{Machine, run, run_over};
+pub use tasking::Place;
 pub use writer_sink::WriterSink;
 pub use writing::{Sink, SinkError, write_all};

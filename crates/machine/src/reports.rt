@@ -22,26 +22,6 @@ pub enum Outcome {
     StepLimit { time: i64 },
 }
 
-/// A line of output before it is text: when, by which task, under which label, which value.
-#[derive(Clone, Copy, PartialEq, Eq, Debug)]
-pub struct Line {
-    /// In microseconds.
-    pub time: i64,
-    /// The task's number in the image.
-    pub task: u8,
-    /// The label's number in the image.
-    pub label: u16,
-    pub value: i64,
-}
-
-/// What a step tells, without text.
-#[derive(Clone, Copy, PartialEq, Eq, Debug)]
-pub(crate) enum Signal {
-    Quiet,
-    Line(Line),
-    Done(Outcome),
-}
-
 /// What a step tells.
 #[derive(Drop)]
 pub enum Event {

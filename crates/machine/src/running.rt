@@ -1,91 +1,64 @@
 //! The machine: one processor that runs the tasks of an image in virtual time.
-ghost use Rattle.std.specs.Prelude.{◌≡◌, [], None, Some, ◌<◌, ◌↔◌, false, if◌then◌else◌, Err, IfErr, IfOk, IfSome, OnErr, OnOk};
+ghost use Rattle.std.specs.Prelude.{◌≡◌, None, Some, ℕ, ◌+◌, ◌-◌, ◌<◌, ◌≤◌, Err, IfErr, IfOk, IfSome, OnErr, OnOk, length};
 ghost use Rattle.std.specs.Io.KnownBytes.{Appends};
-ghost use Rattle.kernel.specs.Text.{lines_text};
+ghost use Rattle.base.specs.declared.limits.TheConstants.{PRIORITIES};
+ghost use Rattle.kernel.specs.Exclusion.{FourStatements};
+ghost use Rattle.kernel.specs.State.{active, inside, Outcome as KernelOutcome};
+ghost use Rattle.kernel.specs.Text.{line_text as text_line, lines_text};
 ghost use Rattle.image.specs.Code.{code, code_text};
-ghost use Rattle.image.specs.Taken.{IsTaken, is_taken};
+ghost use Rattle.image.specs.Steps.{is_open};
 ghost use Rattle.image.specs.Texts.{names_of};
-ghost use Rattle.machine.specs.Stands.{EndsBy};
+ghost use Rattle.execution.specs.Held.{line_of, world_of};
+ghost use Rattle.machine.specs.Stands.{EndsBy, IsLast, ShowsText, StandsFor, kernel_outcome};
 ghost use Rattle.machine.specs.Written.{AppendsBeginning};
+ghost use Rattle.tasking.specs.Held.{kernel_of, place_of};
 
 use crate::fault::RunFault;
-use crate::reports::{Event, Line, LineText, Outcome, Signal};
-use crate::stepping::Processor;
-use crate::taken::is_taken;
+use crate::reports::{Event, LineText, Outcome};
 use crate::text::{last_line, line_text};
 use crate::writing::{Sink, write_all};
-use clock::Schedule;
+use arrayvec::ArrayVec;
+use base::limits::TASKS;
+use clock::{Delays, HeapDelays, Schedule};
+use dispatch::{Ready, RingReady};
+use execution::{Execution, Line};
 use image::Image;
-use image_laws::{frames_have_room, lines_grow_on, outcome_stays, steps_sound};
-use kernel::laws::{left_unmoved, quiet_stays, says_on};
+use image_laws::{lines_grow_on, outcome_stays};
+use kernel::laws::{four_statements_hold, left_unmoved};
 use std::alloc::Global;
 use std::marker::Model;
+use tasking::Place;
 
-/// A machine that runs an image. Memory is taken by `start` alone.
+/// A machine that runs an image, over keepers of ready and of sleeping tasks. Memory is taken by `start` alone.
 #[derive(Drop)]
-pub struct Machine<'a> {
-    processor: Processor<'a>,
+pub struct Machine<'a, R: Ready, D: Delays> {
+    execution: Execution<'a, R, D>,
 }
 
-impl<'a> Model for Machine<'a> {
-    ghost use Rattle.std.specs.Prelude.{◌≡◌, None};
-    ghost use Rattle.machine.specs.Held.{Held, IsGood};
+impl<'a, R: Ready, D: Delays> Model for Machine<'a, R, D> {
+    ghost use Rattle.execution.specs.Held.{Held};
 
     ghost Value = { Held };
 
-    ghost view = { λ m. m.processor };
+    ghost view = { λ m. m.execution };
 
-    ghost invariant = { λ m. m.processor.outcome ≡ None → IsGood m.processor };
+    ghost invariant = { λ m. Unit {0} };
 }
 
-impl<'a> Machine<'a> {
-    ghost use Rattle.std.specs.Prelude.{ℕ, ◌+◌};
-    ghost use Rattle.machine.specs.Stands.{Advances, ShowsText, StandsFor, running_of};
-    ghost use Rattle.kernel.specs.Text.{line_text as text_line};
-    ghost use Rattle.machine.specs.Outcomes.{line_of};
-    ghost use Rattle.machine.specs.declared.reports.Event.TheVariants as events;
-    ghost use Rattle.machine.specs.declared.reports.Signal.TheVariants as signals;
-
+impl<'a, R: Ready, D: Delays> Machine<'a, R, D> {
     /// The machine at time 0, before its first step: it stands for the world of code at its start.
     ///
     /// # Errors
-    /// `Unsupported` where the image isn't one that the machine runs today, and only there; else `Memory` where memory was refused.
-    pub fn start(
-        alloc: Global,
-        image: &'a Image,
-        schedule: &'a Schedule,
-    ) -> Result<Machine<'a>, RunFault>
+    /// `Memory` where memory was refused.
+    pub fn start(alloc: Global, image: &'a Image, schedule: &'a Schedule) -> Result<Self, RunFault>
         ensures stands { IfOk result (λ machine. StandsFor machine (code image.now schedule.now 0)) }
         ensures image { IfOk result (λ machine. machine.image ≡ image.now) }
         ensures schedule { IfOk result (λ machine. machine.schedule ≡ schedule.now) }
-        ensures runs { IfOk result (λ machine. machine.outcome ≡ None) }
-        ensures empty { (code image.now schedule.now 0).kernel.lines ≡ [] }
-        ensures taken { OnOk result (IsTaken image.now) }
-        ensures fault { IfErr result (λ fault. fault ≡ (if is_taken image.now then RunFault.Memory else RunFault.Unsupported)) }
+        ensures fault { IfErr result (λ fault. fault ≡ RunFault.Memory) }
     {
         left_unmoved();
-        if !is_taken(image) {
-            return Err(RunFault::Unsupported);
-        }
-        let processor = Processor::new(alloc, image, schedule)?;
-        Ok(Machine { processor })
-    }
-
-    /// Virtual time, in microseconds.
-    pub fn now(&self) -> i64
-        ensures { result ≡ self.now.time }
-    {
-        self.processor.time()
-    }
-
-    /// The number of the running task, if any.
-    pub fn running(&self) -> Option<u8>
-        ensures { result ≡ running_of self.now.outcome }
-    {
-        match self.processor.outcome() {
-            Some(Outcome::Ended { .. } | Outcome::WaitsForever { .. }) => None,
-            _ => Some(0),
-        }
+        let execution = Execution::start(alloc, image, schedule)?;
+        Ok(Machine { execution })
     }
 
     /// Does one step and tells what it has shown. It leads from the world of code after m steps to the one after m + 1. After the last
@@ -94,12 +67,104 @@ impl<'a> Machine<'a> {
         ensures world { (m : ℕ) → StandsFor self.old (code self.old.image self.old.schedule m) → StandsFor self.new (code self.old.image self.old.schedule (m + 1)) × ShowsText self.old.image (code self.old.image self.old.schedule m).kernel (code self.old.image self.old.schedule (m + 1)).kernel result }
         ensures image { self.new.image ≡ self.old.image }
         ensures schedule { self.new.schedule ≡ self.old.schedule }
-        ensures done { IfSome self.old.outcome (λ o. (result ≡ events.Done o) × (self.new ≡ self.old)) }
+        ensures done { (o : KernelOutcome) → (kernel_of self.old.tasking).outcome ≡ Some o → self.new ≡ self.old }
     {
-        match self.advance() {
-            Signal::Quiet => Event::Quiet,
-            Signal::Line(line) => Event::Line(self.text_of(&line)),
-            Signal::Done(outcome) => Event::Done(outcome),
+        outcome_stays();
+        if let Some(outcome) = self.outcome() {
+            return Event::Done(outcome);
+        }
+        match self.execution.step() {
+            Some(line) => Event::Line(self.text_of(&line)),
+            None => match self.outcome() {
+                Some(outcome) => Event::Done(outcome),
+                None => Event::Quiet,
+            },
+        }
+    }
+
+    /// Virtual time, in microseconds.
+    pub fn now(&self) -> i64
+        ensures { result ≡ (kernel_of self.now.tasking).now }
+    {
+        self.execution.tasking().now()
+    }
+
+    /// The number of the running task, if any.
+    pub fn running(&self) -> Option<u8>
+        ensures { result ≡ (kernel_of self.now.tasking).running }
+    {
+        self.execution.tasking().running()
+    }
+
+    /// The number of tasks.
+    pub fn tasks(&self) -> u8
+        ensures { result ≡ length self.now.image.tasks }
+    {
+        self.execution.tasking().task_count()
+    }
+
+    /// The number of protected objects.
+    pub fn objects(&self) -> u8
+        ensures { result ≡ length self.now.image.objects }
+    {
+        self.execution.tasking().object_count()
+    }
+
+    /// Where a task is (RM 9, D.2.1); a number that no task has has finished.
+    pub fn state(&self, task: u8) -> Place
+        ensures { place_of result ≡ (kernel_of self.now.tasking).place task }
+    {
+        self.execution.tasking().place(task)
+    }
+
+    /// The active priority of a task (RM D.3): the greatest of its base priority and the ceilings of its open actions; 0 for a number that
+    /// no task has.
+    pub fn active(&self, task: u8) -> u8
+        ensures task { task < length self.now.image.tasks → result ≡ active (kernel_of self.now.tasking) task }
+        ensures none { length self.now.image.tasks ≤ task → result ≡ 0 }
+    {
+        if task < self.tasks() {
+            self.execution.tasking().active(task)
+        } else {
+            0
+        }
+    }
+
+    /// Whether the barrier of an object is open (RM 9.5.2); not so for a number that no object has.
+    pub fn barrier(&self, object: u8) -> bool
+        ensures { result ≡ is_open self.now.image (world_of self.now).rest.memory object }
+    {
+        let image = self.execution.image();
+        self.execution.memory().is_open(image, object)
+    }
+
+    /// The tasks inside an object, by their numbers (RM 9.5.1). By ceilings alone there is one at most; no task within an action waits; the
+    /// highest runs; and a call is queued only while its barrier is closed or somebody is inside.
+    pub fn inside(&self, object: u8) -> ArrayVec<u8, TASKS>
+        ensures tasks { result.items ≡ inside (kernel_of self.now.tasking) object }
+        ensures one { length result.items ≤ 1 }
+        ensures exclusion { FourStatements (is_open self.now.image (world_of self.now).rest.memory) (kernel_of self.now.tasking) }
+    {
+        four_statements_hold();
+        self.execution.tasking().inside(object)
+    }
+
+    /// The outcome, once there is one.
+    pub fn outcome(&self) -> Option<Outcome>
+        ensures outcome { kernel_outcome result ≡ (kernel_of self.now.tasking).outcome }
+        ensures last { IsLast (kernel_of self.now.tasking).now result }
+    {
+        let time = self.now();
+        match self.execution.tasking().outcome() {
+            None => None,
+            Some(tasking::Outcome::Ended) => Some(Outcome::Ended { time }),
+            Some(tasking::Outcome::WaitsForever) => Some(Outcome::WaitsForever { time }),
+            Some(tasking::Outcome::ImageFault) => Some(Outcome::ImageFault { time }),
+            Some(tasking::Outcome::Unhandled { exception, task }) => Some(Outcome::Unhandled {
+                exception,
+                task,
+                time,
+            }),
         }
     }
 
@@ -107,34 +172,12 @@ impl<'a> Machine<'a> {
     fn text_of(&self, line: &Line) -> LineText
         ensures { result.items ≡ text_line (names_of self.now.image) (line_of self.now.image line.now) }
     {
-        line_text(self.processor.image(), line)
-    }
-
-    // One step, without text.
-    fn advance(&mut self) -> Signal
-        ensures world { (m : ℕ) → StandsFor self.old (code self.old.image self.old.schedule m) → Advances self.old.image self.new (code self.old.image self.old.schedule m).kernel (code self.old.image self.old.schedule (m + 1)) result }
-        ensures image { self.new.image ≡ self.old.image }
-        ensures schedule { self.new.schedule ≡ self.old.schedule }
-        ensures done { IfSome self.old.outcome (λ o. (result ≡ signals.Done o) × (self.new ≡ self.old)) }
-    {
-        steps_sound();
-        frames_have_room();
-        quiet_stays();
-        says_on();
-        if let Some(outcome) = self.processor.outcome() {
-            return Signal::Done(outcome);
-        }
-        match self.processor.operation() {
-            None => unreachable!(),
-            Some(operation) => self.processor.act(operation),
-        }
+        line_text(self.execution.image(), line)
     }
 
     // Does steps up to an outcome, `limit` of them at most, and writes their lines.
     fn run_on<S: Sink>(&mut self, limit: u64, sink: &mut S) -> Result<Outcome, RunFault>
         requires stands { StandsFor self.old (code self.old.image self.old.schedule 0) }
-        requires runs { self.old.outcome ≡ None }
-        requires empty { (code self.old.image self.old.schedule 0).kernel.lines ≡ [] }
         ensures lines { OnOk result (Appends (S.bytes sink.old) (S.bytes sink.new) (lines_text (names_of self.old.image) (code self.old.image self.old.schedule limit).kernel.lines)) }
         ensures ends { IfOk result (λ outcome. EndsBy outcome (code self.old.image self.old.schedule limit)) }
         ensures kept { OnOk result (S.failures sink.new ≡ S.failures sink.old) }
@@ -144,32 +187,69 @@ impl<'a> Machine<'a> {
     {
         outcome_stays();
         lines_grow_on();
-        for _ in 0..limit {
-            match self.advance() {
-                Signal::Quiet => {}
-                Signal::Line(line) => {
+        left_unmoved();
+        let mut left = limit;
+        while 0 < left {
+            let advance = self.execution.advance(left);
+            left = advance.left;
+            match advance.line {
+                Some(line) => {
                     let text = self.text_of(&line);
                     match write_all(sink, text.as_slice()) {
                         Ok(()) => {}
                         Err(_) => return Err(RunFault::Write),
                     }
                 }
-                Signal::Done(outcome) => return Ok(outcome),
+                None => return Ok(self.outcome_or_limit()),
             }
         }
-        Ok(Outcome::StepLimit {
-            time: self.processor.time(),
-        })
+        Ok(self.outcome_or_limit())
+    }
+
+    // The outcome, or that the limit on steps was reached.
+    fn outcome_or_limit(&self) -> Outcome
+        ensures { EndsBy result (world_of self.now) }
+    {
+        match self.outcome() {
+            Some(outcome) => outcome,
+            None => Outcome::StepLimit { time: self.now() },
+        }
     }
 }
 
-/// Runs an image for at most `limit` steps, and writes its lines and a last line that says how it ended: the text of the world of code
-/// after `limit` steps. The limit on steps is the outcome only where that world has none.
+/// Runs an image over these keepers of ready and of sleeping tasks, for at most `limit` steps, and writes its lines and a last line that
+/// says how it ended: the text of the world of code after `limit` steps. The limit on steps is the outcome only where that world has none.
 ///
 /// # Errors
-/// `Unsupported` where the image isn't one that the machine runs today, and only there; `Memory` where memory was refused, before
-/// anything is written; `Write` where a write failed, and what was written then is a
-/// beginning of the text.
+/// `Memory` where memory was refused, before anything is written; `Write` where a write failed, and what was written then is a beginning
+/// of the text.
+pub fn run_over<R: Ready + Drop, D: Delays + Drop, S: Sink>(
+    alloc: Global,
+    image: &Image,
+    schedule: &Schedule,
+    limit: u64,
+    sink: &mut S,
+) -> Result<Outcome, RunFault>
+    ensures text { OnOk result (Appends (S.bytes sink.old) (S.bytes sink.new) (code_text image.now schedule.now limit)) }
+    ensures ends { IfOk result (λ outcome. EndsBy outcome (code image.now schedule.now limit)) }
+    ensures kept { OnOk result (S.failures sink.new ≡ S.failures sink.old) }
+    ensures memory { result ≡ Err RunFault.Memory → sink.new ≡ sink.old }
+    ensures failed { result ≡ Err RunFault.Write → S.failures sink.old < S.failures sink.new }
+    ensures beginning { AppendsBeginning (S.bytes sink.old) (S.bytes sink.new) (code_text image.now schedule.now limit) }
+{
+    let mut machine: Machine<'_, R, D> = Machine::start(alloc, image, schedule)?;
+    let outcome = machine.run_on(limit, sink)?;
+    let text = last_line(image, &outcome);
+    match write_all(sink, text.as_slice()) {
+        Ok(()) => Ok(outcome),
+        Err(_) => Err(RunFault::Write),
+    }
+}
+
+/// The same over rings of ready tasks and a heap of sleeping ones.
+///
+/// # Errors
+/// Those of `run_over`.
 pub fn run<S: Sink>(
     alloc: Global,
     image: &Image,
@@ -180,17 +260,9 @@ pub fn run<S: Sink>(
     ensures text { OnOk result (Appends (S.bytes sink.old) (S.bytes sink.new) (code_text image.now schedule.now limit)) }
     ensures ends { IfOk result (λ outcome. EndsBy outcome (code image.now schedule.now limit)) }
     ensures kept { OnOk result (S.failures sink.new ≡ S.failures sink.old) }
-    ensures unsupported { (result ≡ Err RunFault.Unsupported) ↔ (is_taken image.now ≡ false) }
-    ensures unwritten { result ≡ Err RunFault.Unsupported → sink.new ≡ sink.old }
     ensures memory { result ≡ Err RunFault.Memory → sink.new ≡ sink.old }
     ensures failed { result ≡ Err RunFault.Write → S.failures sink.old < S.failures sink.new }
     ensures beginning { AppendsBeginning (S.bytes sink.old) (S.bytes sink.new) (code_text image.now schedule.now limit) }
 {
-    let mut machine = Machine::start(alloc, image, schedule)?;
-    let outcome = machine.run_on(limit, sink)?;
-    let text = last_line(image, &outcome);
-    match write_all(sink, text.as_slice()) {
-        Ok(()) => Ok(outcome),
-        Err(_) => Err(RunFault::Write),
-    }
+    run_over::<RingReady, HeapDelays, S>(alloc, image, schedule, limit, sink)
 }

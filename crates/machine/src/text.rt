@@ -5,11 +5,13 @@ ghost use Rattle.arrayvec.specs.ArrayVec.{array_vec_len};
 ghost use Rattle.base.specs.declared.limits.TheConstants.{NAME_LIMIT};
 ghost use Rattle.image.specs.Texts.{name_of, names_of, text_at, text_from_one};
 ghost use Rattle.kernel.specs.Text.{last_line, line_text, outcome_text};
-ghost use Rattle.machine.specs.Outcomes.{line_of, ending_of, time_of};
+ghost use Rattle.execution.specs.Held.{line_of};
+ghost use Rattle.machine.specs.Outcomes.{ending_of, time_of};
 ghost use Rattle.machine.specs.declared.reports.TheConstants.{LINE_BYTES};
 
-use crate::reports::{Line, LineText, Outcome};
+use crate::reports::{LineText, Outcome};
 use arrayvec::ArrayVec;
+use execution::Line;
 use image::{Image, Task, Text};
 use itoa::Buffer;
 

@@ -32,8 +32,7 @@ pub enum GoFault {
 /// source does, with the same lines; cut at the limit, it has written a beginning of them.
 ///
 /// # Errors
-/// As `compile`, `Schedule::read` and `run`, in this order, but never `RunFault::Unsupported`. Nothing was written then, but a beginning of the run's text where a
-/// write failed.
+/// As `compile`, `Schedule::read` and `run`, in this order. Nothing was written then, but a beginning of the run's text where a write failed.
 pub fn go<S: Sink>(
     alloc: Global,
     source: &[u8],
@@ -50,8 +49,6 @@ pub fn go<S: Sink>(
     ensures accepted { (tree : ProgramTree) (fault : Fault) → IsAccepted tree source.now → result ≡ Err (GoFault.Source fault) → IsRefusedOnlyBy tree fault }
     ensures source { (fault : Fault) → result ≡ Err (GoFault.Source fault) → sink.new ≡ sink.old }
     ensures schedule { (fault : ScheduleFault) → result ≡ Err (GoFault.Schedule fault) → sink.new ≡ sink.old }
-    // What is compiled is run.
-    ensures supported { result ≡ Err (GoFault.Run RunFault.Unsupported) → ⊥ }
     ensures memory { result ≡ Err (GoFault.Run RunFault.Memory) → sink.new ≡ sink.old }
     ensures failed { result ≡ Err (GoFault.Run RunFault.Write) → S.failures sink.old < S.failures sink.new }
     ensures beginning { result ≡ Err (GoFault.Run RunFault.Write) → WritesBeginning source.now schedule.now limit (S.bytes sink.old) (S.bytes sink.new) }
