@@ -42,6 +42,26 @@ pub const WRONG_FUNCTION: u8 = 21;
 pub const WRONG_END_NAME: u8 = 22;
 /// A program passes a limit of the language, or its code a limit of images.
 pub const LIMIT_PASSED: u8 = 23;
+/// A task or a protected object is declared in a body or a block (RM D.7, No_Task_Hierarchy and No_Local_Protected_Objects).
+pub const LOCAL_TASKING: u8 = 30;
+/// A protected object has more than one entry (RM D.7, Max_Protected_Entries).
+pub const SECOND_ENTRY: u8 = 31;
+/// A task has an entry, or there is an `accept` (RM D.7, Max_Task_Entries).
+pub const TASK_ENTRY: u8 = 32;
+/// A barrier is neither the bare name of a component of its object, nor True or False (RM D.7, Simple_Barriers).
+pub const WRONG_BARRIER: u8 = 33;
+/// A delay is relative (RM D.7, No_Relative_Delay).
+pub const RELATIVE_DELAY: u8 = 34;
+/// There is a `select` (RM D.7, No_Select_Statements).
+pub const SELECT_STATEMENT: u8 = 35;
+/// There is an `abort` (RM D.7, No_Abort_Statements).
+pub const ABORT_STATEMENT: u8 = 36;
+/// There is a `requeue` (RM D.7, No_Requeue_Statements).
+pub const REQUEUE_STATEMENT: u8 = 37;
+/// An aspect is another one than Priority, or its value is not static or no priority of a task (RM D.1, D.3).
+pub const WRONG_ASPECT: u8 = 38;
+/// The pragmas are not those of the profile (RM D.13, H.6).
+pub const WRONG_PRAGMAS: u8 = 39;
 /// An image: the magic or the version is another one.
 pub const WRONG_HEADER: u8 = 40;
 /// An image: a section ends early.

@@ -23,6 +23,8 @@ pub const CEILING: u8 = 31;
 pub const INSTRUCTIONS: usize = 65_535;
 /// Subprograms of an image: those of the source, the tasks' bodies and main's.
 pub const SUBPROGRAMS: usize = 145;
+/// The predefined exceptions (RM 11.1).
+pub const PREDEFINED_EXCEPTIONS: usize = 4;
 /// Exceptions of an image: the predefined ones and those of the source.
 pub const EXCEPTIONS: usize = 36;
 /// Labels of an image.

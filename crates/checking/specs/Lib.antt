@@ -1,3 +1,6 @@
 pub use Rattle.expr_rules.specs.Faults
+pub use Rattle.types.specs.Layouts
 pub mod LikeNames
+pub mod ProgramLayouts
 pub mod ProgramRules
+pub mod Placing

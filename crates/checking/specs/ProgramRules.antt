@@ -4,20 +4,21 @@ use Rattle.std.specs.List.{Contains}
 use Rattle.lexer.specs.Fault.{memory_fault}
 use Rattle.lexer.specs.declared.fault.Fault.{Fault}
 use Rattle.ada_tree.specs.ProgramTree.{PackageTree, ProgramTree}
+use Rattle.types.specs.Scopes.{Scope, standard}
 use Rattle.expr_rules.specs.Faults.{Faults, IsLeast, order_of}
 use Rattle.legality.specs.PackageRules.{package_faults}
 use Rattle.legality.specs.MainRules.{main_faults}
 use Rattle.size_rules.specs.ProgramSizes.{size_faults}
 use Rattle.checking.specs.LikeNames.{like_name_faults}
 
--- the limits aside
-abbrev pub package_part_faults : Option PackageTree → Faults
-package_part_faults (Some p) = package_faults p ++ like_name_faults p
-package_part_faults None = []
+-- in front of the package these names are visible; the limits aside
+abbrev pub package_part_faults : Scope → Option PackageTree → Faults
+package_part_faults s (Some p) = package_faults s p ++ like_name_faults p
+package_part_faults s None = []
 
 -- each rule that is broken, with its place
 abbrev pub program_faults : ProgramTree → Faults
-program_faults t = package_part_faults t.package_ ++ main_faults t.package_ t.main ++ size_faults t
+program_faults t = package_part_faults standard t.package_ ++ main_faults t.package_ t.main ++ size_faults t
 
 -- the rule with this number is broken at this place
 abbrev pub IsBroken : (number place : ℕ) → ProgramTree → Type 0

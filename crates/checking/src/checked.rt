@@ -1,9 +1,12 @@
 //! Programs that break no rule from 10 to 23.
-ghost use Rattle.std.specs.Prelude.{◌≡◌, IfErr, IfOk, OnOk, option_map};
+ghost use Rattle.std.specs.Prelude.{◌≡◌, IfErr, IfOk, OnOk, option_map, slice_get};
 ghost use Rattle.ada_tree.specs.ProgramTree.{package_tree, program_tree};
 ghost use Rattle.expr_rules.specs.Faults.{least};
+ghost use Rattle.checking.specs.ProgramLayouts.{HaveRoom, object_layouts, optional_scope, program_scope, variables_layout};
 ghost use Rattle.checking.specs.ProgramRules.{IsLegal, RefusesProgram, package_part_faults, program_faults};
 
+use crate::laws::words_have_room;
+use crate::layouts::{object_layouts, variables_layout};
 use crate::like_names::like_name_fault;
 use ada_tree::{Package, Program};
 use expr_rules::laws::{least_by_parts, least_is_least};
@@ -13,16 +16,23 @@ use lexer::Fault;
 use size_rules::size_fault;
 use std::alloc::{AllocError, Global};
 use std::marker::Model;
+use types::{Layout, Scope};
 
-/// A legal program. Contracts see the program itself.
+/// A legal program, with the names that are visible behind its package, and the layouts of its variables and protected objects. Contracts see the program
+/// itself, which tells the rest.
 #[derive(Drop)]
 pub struct Checked {
     program: Program,
+    scope: Scope,
+    variables: Layout,
+    objects: Vec<Layout>,
 }
 
 impl Model for Checked {
+    ghost use Rattle.std.specs.Prelude.{◌≡◌};
     ghost use Rattle.ada_tree.specs.declared.program.Program as declared;
     ghost use Rattle.ada_tree.specs.ProgramTree.{program_tree};
+    ghost use Rattle.checking.specs.ProgramLayouts.{object_layouts, program_scope, variables_layout};
     ghost use Rattle.checking.specs.ProgramRules.{IsLegal};
     ghost use Rattle.ada_tree.specs.contracts.program.Program as contract;
     ghost use Rattle.std.specs.Coded.{codes};
@@ -33,7 +43,7 @@ impl Model for Checked {
 
     ghost view = { λ c. c.program };
 
-    ghost invariant = { λ c. IsLegal (program_tree c.program) };
+    ghost invariant = { λ c. IsLegal (program_tree c.program) × (c.scope ≡ program_scope (program_tree c.program)) × (c.variables ≡ variables_layout (program_scope (program_tree c.program))) × (c.objects.items ≡ object_layouts (program_scope (program_tree c.program))) };
 }
 
 impl Checked {
@@ -44,35 +54,85 @@ impl Checked {
     {
         &self.program
     }
+
+    /// The names that are visible behind the package; without one, those of Standard (RM 8.3). A name of a body may stand for something else in the body.
+    pub fn scope(&self) -> &Scope
+        ensures { result.now ≡ program_scope (program_tree self.now) }
+    {
+        &self.scope
+    }
+
+    /// Where the variables of the package stand: one behind the other, in the order of the text. Constants take no words.
+    pub fn layout(&self) -> &Layout
+        ensures { result.now ≡ variables_layout (program_scope (program_tree self.now)) }
+    {
+        &self.variables
+    }
+
+    /// Where the components of the protected object with this number stand, in the order of the text; `None` where there is no such object. Objects are
+    /// numbered from 0 on, in the order of their declarations.
+    pub fn object_layout(&self, number: usize) -> Option<&Layout>
+        ensures { option_map (λ l. l.now) result ≡ slice_get (object_layouts (program_scope (program_tree self.now))) number }
+    {
+        self.objects.get(number)
+    }
 }
 
-// The least fault of a package, its sizes aside.
+// The least fault of a package, its sizes aside. What it declares becomes visible.
 fn package_part_fault(
     alloc: Global,
+    scope: &mut Scope,
     package_: Option<&Package>,
 ) -> Result<Option<Fault>, AllocError>
-    ensures { IfOk result (λ f. f ≡ least (package_part_faults (option_map (λ p. package_tree p.now) package_.entry))) }
+    ensures fault { IfOk result (λ f. f ≡ least (package_part_faults scope.old (option_map (λ p. package_tree p.now) package_.entry))) }
+    ensures scope { OnOk result (scope.new ≡ optional_scope scope.old (option_map (λ p. package_tree p.now) package_.entry)) }
 {
     least_by_parts();
     match package_ {
         Some(package_) => {
-            let fault = package_fault(alloc, package_)?;
+            let fault = package_fault(alloc, scope, package_)?;
             Ok(sooner(fault, like_name_fault(package_)))
         }
         None => Ok(None),
     }
 }
 
-// The least fault of a program, if it has one.
-fn program_fault(alloc: Global, program: &Program) -> Result<Option<Fault>, AllocError>
-    ensures { IfOk result (λ f. f ≡ least (program_faults (program_tree program.now))) }
+// What is found in a program: its least fault, if it has one, and the names that are visible behind its package.
+#[derive(Drop)]
+struct Found {
+    fault: Option<Fault>,
+    scope: Scope,
+}
+
+fn judge(alloc: Global, program: &Program) -> Result<Found, AllocError>
+    ensures fault { IfOk result (λ f. f.fault ≡ least (program_faults (program_tree program.now))) }
+    ensures scope { IfOk result (λ f. f.scope ≡ program_scope (program_tree program.now)) }
 {
     least_by_parts();
+    let mut scope = Scope::standard(alloc)?;
     let package_ = program.package_.as_ref();
-    let inside = package_part_fault(alloc, package_)?;
+    let inside = package_part_fault(alloc, &mut scope, package_)?;
     let main = main_fault(alloc, package_, &program.main)?;
     let size = size_fault(alloc, program)?;
-    Ok(sooner(sooner(inside, main), size))
+    let fault = sooner(sooner(inside, main), size);
+    Ok(Found { fault, scope })
+}
+
+// A legal program, of which these names are visible behind the package.
+fn laid_out(alloc: Global, program: Program, scope: Scope) -> Result<Checked, AllocError>
+    requires legal { IsLegal (program_tree program) }
+    requires scope { scope ≡ program_scope (program_tree program) }
+    requires room { HaveRoom scope }
+    ensures same { IfOk result (λ checked. checked ≡ program) }
+{
+    let variables = variables_layout(alloc, &scope)?;
+    let objects = object_layouts(alloc, &scope)?;
+    Ok(Checked {
+        program,
+        scope,
+        variables,
+        objects,
+    })
 }
 
 /// Checks a program by all rules from 10 to 23: names, types, static expressions, statements, bodies, the package, main, and the limits. What is legal is
@@ -86,8 +146,10 @@ pub fn check(alloc: Global, program: Program) -> Result<Checked, Fault>
     ensures refused { IfErr result (λ fault. RefusesProgram (program_tree program) fault) }
 {
     least_is_least();
-    match program_fault(alloc, &program)? {
+    words_have_room();
+    let Found { fault, scope } = judge(alloc, &program)?;
+    match fault {
         Some(fault) => Err(fault),
-        None => Ok(Checked { program }),
+        None => Ok(laid_out(alloc, program, scope)?),
     }
 }

@@ -3,6 +3,7 @@
 
 mod checked;
 pub mod laws;
+mod layouts;
 mod like_names;
 
 pub use checked::{Checked, check};

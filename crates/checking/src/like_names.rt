@@ -13,37 +13,11 @@ use ada_tree::{
     BodyItem, Identifier, Item, Operation, Package, ProtectedComponent, ProtectedDeclaration,
 };
 use base::faults::DECLARED_TWICE;
+use declaring::operation_name;
 use expr_rules::laws::{least_by_parts, sooner_associates};
 use expr_rules::{rule, sooner};
+use legality::{item_name, same_name};
 use lexer::Fault;
-
-fn same_name(left: &Identifier, right: &Identifier) -> bool
-    ensures { result ≡ same_name left.now right.now }
-{
-    left.name.as_bytes() == right.name.as_bytes()
-}
-
-fn item_name(item: &Item) -> &Identifier
-    ensures { result.now ≡ item_name (item_tree item.now) }
-{
-    match item {
-        Item::Type(declaration) => &declaration.name,
-        Item::Object(object) => &object.name,
-        Item::Exception(name) => name,
-        Item::Subprogram(subprogram) => &subprogram.name,
-        Item::Task(task) => &task.name,
-        Item::Protected(object) => &object.name,
-    }
-}
-
-fn operation_name(operation: &Operation) -> &Identifier
-    ensures { result.now ≡ operation_name (operation_tree operation.now) }
-{
-    match operation {
-        Operation::Subprogram(subprogram) => &subprogram.name,
-        Operation::Entry(entry) => &entry.name,
-    }
-}
 
 fn has_operation(operations: &[Operation], name: &Identifier) -> bool
     ensures { result ≡ list_any (λ o. same_name (operation_name (operation_tree o)) name.now) operations.now }

@@ -31,7 +31,8 @@ pub use objects::{
     declare_local_object, declare_package_object, fixed_object_fault, local_object_fault,
 };
 pub use profiles::{declare_subprogram, formals_fault, profile_fault, subprogram_fault};
-pub use protected::{DEFAULT_CEILING, declare_protected, protected_fault};
+pub use protected::{DEFAULT_CEILING, declare_protected, operation_name, protected_fault};
 pub use tasks::{
-    DEFAULT_PRIORITY, aspect_fault, declare_exception, declare_task, priority_of, task_fault,
+    DEFAULT_PRIORITY, aspect_fault, declare_exception, declare_task, is_priority, priority_of,
+    task_fault,
 };

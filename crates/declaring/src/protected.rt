@@ -24,7 +24,8 @@ use types::{Entity, Operation, Profile, ProtectedObject, RecordComponent, Scope}
 /// The ceiling of a protected object without an aspect (RM D.3).
 pub const DEFAULT_CEILING: u8 = 30;
 
-fn operation_name(operation: &OperationDeclaration) -> &Identifier
+/// The name of an operation or entry.
+pub fn operation_name(operation: &OperationDeclaration) -> &Identifier
     ensures { result.now ≡ operation_name (operation_tree operation.now) }
 {
     match operation {

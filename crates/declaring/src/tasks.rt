@@ -25,7 +25,8 @@ pub fn declare_exception(scope: &mut Scope, name: &Identifier) -> Result<(), All
     declare(scope, name, Entity::Exception)
 }
 
-fn is_priority(aspect: &Aspect) -> bool
+/// Whether the aspect is Priority (RM D.1).
+pub fn is_priority(aspect: &Aspect) -> bool
     ensures { result ≡ is_priority (aspect_tree aspect.now) }
 {
     aspect.name.name.as_bytes() == "PRIORITY".as_bytes()

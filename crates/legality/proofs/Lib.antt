@@ -6,4 +6,3 @@ mod PackageBodyExamples
 mod PackageExamples
 mod Parts
 mod Sample
-mod Tests

@@ -5,6 +5,7 @@ use Rattle.ada_tree.specs.declared.declaration.Mode.TheVariants as mode
 use Rattle.ada_tree.specs.ExpressionTree.{Named, NoSelectors, selectors_of, Component as Dot, Arguments, Value, Text, arguments_of}
 use Rattle.ada_tree.specs.StatementTree.{OfSubprogram, OfEntry, LocalObject, NoStmts, MoreStmts, Null, Assignment, Call, Exit, Return, DelayUntil, NoHandlers}
 use Rattle.ada_tree.specs.ProgramTree.{OperationBody, EntryBody, OfItem, SubprogramBody, TaskBody, ProtectedBody, OfObject, OfSubprogram as OfDeclared, OfTask, OfProtected}
+use Rattle.types.specs.Scopes.{standard}
 use Rattle.expr_rules.specs.Faults.{least}
 use Rattle.legality.specs.PackageRules.{package_faults}
 use Rattle.legality.proofs.Sample.{identifier, num, name_of, broken, object_of, formal_of, subprogram_of, body_of}
@@ -13,7 +14,7 @@ use Rattle.legality.proofs.Sample.{identifier, num, name_of, broken, object_of, 
 
 -- `with Ada.Real_Time; use Ada.Real_Time; with Control_IO; use Control_IO; package App is procedure Run; end App; package body App is procedure Run is
 -- begin delay until Clock; Put ("a", 1); end Run; end App; with App; procedure Main is begin App.Run; end Main;`
-a_program_with_units : least (package_faults (record {
+a_program_with_units : least (package_faults standard (record {
   clauses = record {
     place = 0;
     unit = (record {
@@ -58,7 +59,7 @@ a_program_with_units = refl
 
 -- `with Text_IO; use Control_IO; package App is procedure Run; end App; package body App is procedure Run is begin null; end Run; end App; with App;
 -- procedure Main is begin App.Run; end Main;`
-unknown_unit : least (package_faults (record {
+unknown_unit : least (package_faults standard (record {
   clauses = record {
     place = 0;
     unit = (record {
@@ -87,7 +88,7 @@ unknown_unit = refl
 
 -- `with Control_IO; use Ada.Real_Time; package App is procedure Run; end App; package body App is procedure Run is begin null; end Run; end App; with
 -- App; procedure Main is begin App.Run; end Main;`
-another_unit_used : least (package_faults (record {
+another_unit_used : least (package_faults standard (record {
   clauses = record {
     place = 0;
     unit = (record {
@@ -118,7 +119,7 @@ another_unit_used = refl
 
 -- `package App is procedure Run; end App; package body App is procedure Run is begin Put ("a", 1); end Run; end App; with App; procedure Main is begin
 -- App.Run; end Main;`
-unit_not_named : least (package_faults (record {
+unit_not_named : least (package_faults standard (record {
   clauses = [];
   declaration = (record {
     place = 0;
@@ -143,7 +144,7 @@ unit_not_named = refl
 
 -- `with Control_IO; use Control_IO; package Put is procedure Run; end Put; package body Put is procedure Run is begin null; end Run; end Put; with Put;
 -- procedure Main is begin Put.Run; end Main;`
-package_like_a_unit_name : least (package_faults (record {
+package_like_a_unit_name : least (package_faults standard (record {
   clauses = record {
     place = 0;
     unit = (record {
@@ -174,7 +175,7 @@ package_like_a_unit_name = refl
 
 -- `package App is procedure Run; end App; package body App is procedure Run is begin App.Run; end Run; end App; with App; procedure Main is begin
 -- App.Run; end Main;`
-package_in_itself : least (package_faults (record {
+package_in_itself : least (package_faults standard (record {
   clauses = [];
   declaration = (record {
     place = 0;
@@ -198,7 +199,7 @@ package_in_itself = refl
 
 -- `package App is procedure Run; end Ape; package body App is procedure Run is begin null; end Run; end App; with App; procedure Main is begin null; end
 -- Main;`
-specification_ended_by_another_name : least (package_faults (record {
+specification_ended_by_another_name : least (package_faults standard (record {
   clauses = [];
   declaration = (record {
     place = 0;
@@ -221,7 +222,7 @@ specification_ended_by_another_name = refl
 
 -- `package App is procedure Run; end App; package body App is procedure Run is begin null; end Run; end Ape; with App; procedure Main is begin null; end
 -- Main;`
-body_ended_by_another_name : least (package_faults (record {
+body_ended_by_another_name : least (package_faults standard (record {
   clauses = [];
   declaration = (record {
     place = 0;
@@ -243,7 +244,7 @@ body_ended_by_another_name = refl
 
 -- `package App is procedure Run; end App; package body Ape is procedure Run is begin null; end Run; end Ape; with App; procedure Main is begin null; end
 -- Main;`
-body_of_another_package : least (package_faults (record {
+body_of_another_package : least (package_faults standard (record {
   clauses = [];
   declaration = (record {
     place = 0;
@@ -267,7 +268,7 @@ body_of_another_package = refl
 
 -- `package App is procedure Run; end App; package body App is procedure Run is begin null; end Run; end App; with Ape; procedure Main is begin null; end
 -- Main;`
-another_package_with : least (package_faults (record {
+another_package_with : least (package_faults standard (record {
   clauses = [];
   declaration = (record {
     place = 0;
@@ -290,7 +291,7 @@ another_package_with : least (package_faults (record {
 another_package_with = refl
 
 -- `package App is N : Integer; end App; package body App is N1 : Integer; end App; with App; procedure Main is begin null; end Main;`
-empty_specification : least (package_faults (record {
+empty_specification : least (package_faults standard (record {
   clauses = [];
   declaration = (record {
     place = 0;
@@ -313,7 +314,7 @@ empty_specification = refl
 
 -- `package App is procedure Run; end App; package body App is procedure Run is begin Walk; end Run; procedure Walk is begin null; end Walk; end App;
 -- with App; procedure Main is begin App.Run; end Main;`
-a_later_body_is_hidden : least (package_faults (record {
+a_later_body_is_hidden : least (package_faults standard (record {
   clauses = [];
   declaration = (record {
     place = 0;
@@ -338,7 +339,7 @@ a_later_body_is_hidden = refl
 
 -- `package App is procedure Run; end App; package body App is procedure Walk; procedure Run is begin Walk; end Run; procedure Walk is begin null; end
 -- Walk; end App; with App; procedure Main is begin App.Run; end Main;`
-declared_before_its_body : least (package_faults (record {
+declared_before_its_body : least (package_faults standard (record {
   clauses = [];
   declaration = (record {
     place = 0;
@@ -363,7 +364,7 @@ declared_before_its_body = refl
 
 -- `package App is procedure Run (N : Integer); end App; package body App is N : Integer; procedure Run (N : Integer) is begin null; end Run; end App;
 -- with App; procedure Main is begin null; end Main;`
-formal_becomes_a_package_name : least (package_faults (record {
+formal_becomes_a_package_name : least (package_faults standard (record {
   clauses = [];
   declaration = (record {
     place = 0;
@@ -387,7 +388,7 @@ formal_becomes_a_package_name = refl
 
 -- `package App is procedure Run; task T; N : Integer; end App; package body App is procedure Run is begin null; end Run; task body T is M : Integer :=
 -- N; begin null; end T; end App; with App; procedure Main is begin App.Run; end Main;`
-task_local_not_static : least (package_faults (record {
+task_local_not_static : least (package_faults standard (record {
   clauses = [];
   declaration = (record {
     place = 0;
@@ -419,7 +420,7 @@ task_local_not_static = refl
 
 -- `package App is procedure Run; N : Integer; end App; package body App is procedure N is begin null; end N; procedure Run is begin null; end Run; end
 -- App; with App; procedure Main is begin App.Run; end Main;`
-variable_and_body_of_one_name : least (package_faults (record {
+variable_and_body_of_one_name : least (package_faults standard (record {
   clauses = [];
   declaration = (record {
     place = 0;
@@ -443,7 +444,7 @@ variable_and_body_of_one_name = refl
 
 -- `package App is procedure Run; procedure Walk; end App; package body App is procedure Run is begin null; end Run; end App; with App; procedure Main is
 -- begin App.Run; end Main;`
-no_body : least (package_faults (record {
+no_body : least (package_faults standard (record {
   clauses = [];
   declaration = (record {
     place = 0;
@@ -469,7 +470,7 @@ no_body = refl
 -- out Integer); private V : Integer; Full : Boolean; end P; protected body P is procedure Give (X : Integer) is begin V := X; Full := True; end
 -- Give;function Get return Integer is begin return V; end Get;entry Take (X : out Integer) when Full is begin X := V; Full := False; end Take; end P;
 -- procedure Run is begin null; end Run; end App; with App; procedure Main is begin App.Run; end Main;`
-an_object : least (package_faults (record {
+an_object : least (package_faults standard (record {
   clauses = [];
   declaration = (record {
     place = 0;
@@ -526,7 +527,7 @@ an_object = refl
 -- out Integer); private V : Integer; Full : Boolean; end P; protected body P is procedure Give (X : Integer) is begin V := X; Full := True; end
 -- Give;function Get return Integer is begin return V; end Get;entry Take (X : out Integer) when Full is begin X := V; Full := False; end Take; end P;
 -- procedure Run is begin Give (1); end Run; end App; with App; procedure Main is begin App.Run; end Main;`
-operations_gone_behind_the_body : least (package_faults (record {
+operations_gone_behind_the_body : least (package_faults standard (record {
   clauses = [];
   declaration = (record {
     place = 0;
@@ -585,7 +586,7 @@ operations_gone_behind_the_body = refl
 -- out Integer); private V : Integer; Full : Boolean; end P; protected body P is procedure Give (X : Integer) is begin V := X; Full := True; end
 -- Give;function Get return Integer is begin return V; end Get;entry Take (X : out Integer) when Full is begin X := V; Full := False; end Take; end P;
 -- procedure Run is begin P.Give (1); end Run; end App; with App; procedure Main is begin App.Run; end Main;`
-operations_back_behind_the_body : least (package_faults (record {
+operations_back_behind_the_body : least (package_faults standard (record {
   clauses = [];
   declaration = (record {
     place = 0;
@@ -642,7 +643,7 @@ operations_back_behind_the_body = refl
 
 -- `package App is procedure Run; procedure Walk; procedure Go; end App; package body App is procedure Run is begin null; end Ran; end App; with App;
 -- procedure Main is begin App.Run; end Main;`
-name_before_body : least (package_faults (record {
+name_before_body : least (package_faults standard (record {
   clauses = [];
   declaration = (record {
     place = 0;
@@ -667,7 +668,7 @@ name_before_body = refl
 
 -- `package App is procedure Run; end App; package body App is procedure Run is begin exit; end Ran; end App; with App; procedure Main is begin App.Run;
 -- end Main;`
-inner_before_end : least (package_faults (record {
+inner_before_end : least (package_faults standard (record {
   clauses = [];
   declaration = (record {
     place = 0;

@@ -6,3 +6,4 @@ pub mod MatchingRules
 pub mod UnitRules
 pub mod MainRules
 pub mod PackageRules
+pub mod Walks

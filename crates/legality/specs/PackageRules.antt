@@ -5,15 +5,16 @@ use Rattle.base.specs.declared.faults.TheConstants.{NAME_NOT_VISIBLE, UNMATCHED_
 use Rattle.ada_tree.specs.ProgramTree.{ItemTree, OfTask, OfProtected, PackageTree}
 use Rattle.ada_tree.specs.ProgramTree.{OfSubprogram as OfDeclared}
 use Rattle.types.specs.Entities.{LibraryUnit}
-use Rattle.types.specs.Scopes.{Scope, standard, with_name}
+use Rattle.types.specs.Scopes.{Scope, with_name}
 use Rattle.expr_rules.specs.Faults.{Faults, rule}
 use Rattle.declaring.specs.SubtypeNames.{declared_twice, end_rule}
 use Rattle.declaring.specs.ItemRules.{items_faults, items_scope}
 use Rattle.legality.specs.MatchingRules.{matching_faults, same_name}
-use Rattle.legality.specs.PackageBodyRules.{body_items_faults}
+use Rattle.legality.specs.PackageBodyRules.{body_items_faults, body_items_scope}
 use Rattle.legality.specs.UnitRules.{clauses_faults, clauses_scope}
 
--- ---- what is visible: in the package its own name, behind the specification what it declares; in front of it these names
+-- ---- what is visible: in the package its own name, behind the specification what it declares, behind the package all declarations of its body too; in front
+-- of it these names
 
 abbrev pub units_scope : Scope → PackageTree → Scope
 units_scope s p = clauses_scope s p.clauses
@@ -23,6 +24,9 @@ inside_scope s p = with_name (units_scope s p) p.declaration.name.name LibraryUn
 
 abbrev pub specified_scope : Scope → PackageTree → Scope
 specified_scope s p = items_scope (inside_scope s p) p.declaration.items
+
+abbrev pub package_scope : Scope → PackageTree → Scope
+package_scope s p = body_items_scope (specified_scope s p) p.body.items
 
 -- ---- the specification
 
@@ -54,5 +58,6 @@ behind_faults s p =
     ++ end_rule p.body.name p.body.end_name
     ++ rule NAME_NOT_VISIBLE p.with_name.place (not (same_name p.declaration.name p.with_name))
 
-abbrev pub package_faults : PackageTree → Faults
-package_faults p = specification_faults standard p ++ behind_faults (specified_scope standard p) p
+-- in front of the package these names are visible
+abbrev pub package_faults : Scope → PackageTree → Faults
+package_faults s p = specification_faults s p ++ behind_faults (specified_scope s p) p

@@ -58,7 +58,7 @@ fn any_task_in_body(items: &[BodyItem], name: &Identifier) -> bool
     items.iter().any(|item| is_task_in_body(name, item))
 }
 
-#[tactic(auto, using(crate::proofs::Tests::any_of_trees))]
+#[tactic(auto, using(crate::specs::Walks::any_of_trees))]
 fn is_task_of(package_: Option<&Package>, name: &Identifier) -> bool
     ensures { result ≡ is_task_of (option_map (λ p. package_tree p.now) package_.entry) name.now }
 {
@@ -71,7 +71,8 @@ fn is_task_of(package_: Option<&Package>, name: &Identifier) -> bool
     }
 }
 
-fn main_scope(alloc: Global, package_: Option<&Package>) -> Result<Scope, AllocError>
+/// What main's aspect sees: the names that are always visible, and the package's own. Memory is the only refusal.
+pub fn main_scope(alloc: Global, package_: Option<&Package>) -> Result<Scope, AllocError>
     ensures { IfOk result (λ s. s ≡ main_scope (option_map (λ p. package_tree p.now) package_.entry)) }
 {
     let mut scope = Scope::standard(alloc)?;
@@ -109,7 +110,8 @@ fn has_no_formals(formals: &[Formal]) -> bool
     formals.is_empty()
 }
 
-fn item_name(item: &Item) -> &Identifier
+/// The name that a declaration declares.
+pub fn item_name(item: &Item) -> &Identifier
     ensures { result.now ≡ item_name (item_tree item.now) }
 {
     match item {

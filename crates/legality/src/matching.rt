@@ -23,7 +23,8 @@ pub(crate) enum BodyOf {
     Object,
 }
 
-pub(crate) fn same_name(left: &Identifier, right: &Identifier) -> bool
+/// Whether two names are alike (RM 2.3).
+pub fn same_name(left: &Identifier, right: &Identifier) -> bool
     ensures { result ≡ same_name left.now right.now }
 {
     left.name.as_bytes() == right.name.as_bytes()
@@ -124,7 +125,7 @@ pub(crate) fn has_operation_body(
         .any(|item| is_operation_body(is_entry, name, item))
 }
 
-#[tactic(auto, using(crate::proofs::Tests::any_of_trees))]
+#[tactic(auto, using(crate::specs::Walks::any_of_trees))]
 fn has_operation(object: &Identifier, is_entry: bool, name: &Identifier, item: &BodyItem) -> bool
     ensures { result ≡ has_operation object.now is_entry name.now (body_item_tree item.now) }
 {
@@ -149,14 +150,14 @@ fn has_operation_in(
         .any(|item| has_operation(object, is_entry, name, item))
 }
 
-#[tactic(auto, using(crate::proofs::Tests::any_of_trees))]
+#[tactic(auto, using(crate::specs::Walks::any_of_trees))]
 fn missing_body_rule(behind: &[BodyItem], kind: BodyOf, name: &Identifier) -> Option<Fault>
     ensures { result ≡ least (missing_body_rule (map body_item_tree behind.now) kind name.now) }
 {
     rule(UNMATCHED_BODY, name.place, !has_body(behind, kind, name))
 }
 
-#[tactic(auto, using(crate::proofs::Tests::any_of_trees))]
+#[tactic(auto, using(crate::specs::Walks::any_of_trees))]
 fn missing_operation_rule(
     behind: &[BodyItem],
     object: &Identifier,
@@ -257,7 +258,7 @@ fn has_unlike_in_body(before: &[BodyItem], body: &Subprogram) -> bool
     before.iter().any(|item| is_unlike_in_body(body, item))
 }
 
-#[tactic(auto, using(crate::proofs::Tests::any_of_trees))]
+#[tactic(auto, using(crate::specs::Walks::any_of_trees))]
 pub(crate) fn body_rule(specified: &[Item], before: &[BodyItem], body: &Subprogram) -> Option<Fault>
     ensures { result ≡ least (body_rule (map item_tree specified.now) (map body_item_tree before.now) (subprogram_tree body.now)) }
 {
@@ -266,7 +267,7 @@ pub(crate) fn body_rule(specified: &[Item], before: &[BodyItem], body: &Subprogr
     rule(UNMATCHED_BODY, body.name.place, is_wrong)
 }
 
-#[tactic(auto, using(crate::proofs::Tests::any_of_trees))]
+#[tactic(auto, using(crate::specs::Walks::any_of_trees))]
 pub(crate) fn second_rule(before: &[BodyItem], kind: BodyOf, name: &Identifier) -> Option<Fault>
     ensures { result ≡ least (second_rule (map body_item_tree before.now) kind name.now) }
 {

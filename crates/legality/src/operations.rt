@@ -38,7 +38,7 @@ fn any_unlike(body: &ProtectedBodyItem, operations: &[Operation]) -> bool
         .any(|operation| is_unlike_operation(body, operation))
 }
 
-#[tactic(auto, using(crate::proofs::Tests::any_of_trees))]
+#[tactic(auto, using(crate::specs::Walks::any_of_trees))]
 fn has_unlike_operation(object: &Identifier, body: &ProtectedBodyItem, item: &Item) -> bool
     ensures { result ≡ has_unlike_operation object.now (protected_item_tree body.now) (item_tree item.now) }
 {
@@ -93,7 +93,7 @@ fn operation_name(body: &ProtectedBodyItem) -> &Identifier
     }
 }
 
-#[tactic(auto, using(crate::proofs::Tests::any_of_trees))]
+#[tactic(auto, using(crate::specs::Walks::any_of_trees))]
 fn is_second_operation(earlier: &[ProtectedBodyItem], body: &ProtectedBodyItem) -> bool
     ensures { result ≡ is_second_operation (map protected_item_tree earlier.now) (protected_item_tree body.now) }
 {
@@ -101,7 +101,7 @@ fn is_second_operation(earlier: &[ProtectedBodyItem], body: &ProtectedBodyItem) 
 }
 
 // A body of this object behind these items of the package's body and these of its own.
-#[tactic(auto, using(crate::proofs::Tests::any_of_trees))]
+#[tactic(auto, using(crate::specs::Walks::any_of_trees))]
 fn operation_body_rule(
     specified: &[Item],
     before: &[BodyItem],

@@ -1,9 +1,10 @@
 //! The package (RM 7.1, 7.2).
-ghost use Rattle.std.specs.Prelude.{◌≡◌, IfOk, OnOk};
+ghost use Rattle.std.specs.Prelude.{◌≡◌, IfOk, OnOk, map};
 ghost use Rattle.std.specs.List.{list_any};
-ghost use Rattle.ada_tree.specs.ProgramTree.{item_tree, package_tree};
+ghost use Rattle.ada_tree.specs.ProgramTree.{body_item_tree, item_tree, package_tree};
 ghost use Rattle.expr_rules.specs.Faults.{least};
-ghost use Rattle.legality.specs.PackageRules.{behind_faults, bodiless_rule, has_body, package_faults, specification_faults, specified_scope};
+ghost use Rattle.legality.specs.PackageBodyRules.{body_items_scope};
+ghost use Rattle.legality.specs.PackageRules.{behind_faults, bodiless_rule, has_body, package_faults, package_scope, specification_faults, specified_scope};
 
 use crate::matching::same_name;
 use crate::operations::matching_fault;
@@ -35,7 +36,7 @@ fn any_has_body(items: &[Item]) -> bool
     items.iter().any(has_body)
 }
 
-#[tactic(auto, using(crate::proofs::Tests::any_of_trees))]
+#[tactic(auto, using(crate::specs::Walks::any_of_trees))]
 fn bodiless_rule(package_: &Package) -> Option<Fault>
     ensures { result ≡ least (bodiless_rule (package_tree package_.now)) }
 {
@@ -67,13 +68,14 @@ fn specification_fault(
     Ok(sooner(bodiless, end_rule(name, &declaration.end_name)))
 }
 
-// What stands behind the specification, in its scope.
+// What stands behind the specification, in its scope. What the body declares becomes visible.
 fn behind_fault(
     alloc: Global,
     scope: &mut Scope,
     package_: &Package,
 ) -> Result<Option<Fault>, AllocError>
-    ensures { IfOk result (λ f. f ≡ least (behind_faults scope.old (package_tree package_.now))) }
+    ensures fault { IfOk result (λ f. f ≡ least (behind_faults scope.old (package_tree package_.now))) }
+    ensures scope { OnOk result (scope.new ≡ body_items_scope scope.old (map body_item_tree package_.now.body.items.items)) }
 {
     least_by_parts();
     let name = &package_.declaration.name;
@@ -88,13 +90,18 @@ fn behind_fault(
     Ok(sooner(sooner(sooner(sooner(head, matching), inside), end), named))
 }
 
-/// The least fault of a package with the clauses in front of it and the `with` behind it, its limits aside. Memory is the only refusal.
-pub fn package_fault(alloc: Global, package_: &Package) -> Result<Option<Fault>, AllocError>
-    ensures { IfOk result (λ f. f ≡ least (package_faults (package_tree package_.now))) }
+/// The least fault of a package with the clauses in front of it and the `with` behind it, its limits aside; and makes visible what is visible behind the
+/// package. Memory is the only refusal, and may leave some of the names visible.
+pub fn package_fault(
+    alloc: Global,
+    scope: &mut Scope,
+    package_: &Package,
+) -> Result<Option<Fault>, AllocError>
+    ensures fault { IfOk result (λ f. f ≡ least (package_faults scope.old (package_tree package_.now))) }
+    ensures scope { OnOk result (scope.new ≡ package_scope scope.old (package_tree package_.now)) }
 {
     least_by_parts();
-    let mut scope = Scope::standard(alloc)?;
-    let specification = specification_fault(alloc, &mut scope, package_)?;
-    let body = behind_fault(alloc, &mut scope, package_)?;
+    let specification = specification_fault(alloc, scope, package_)?;
+    let body = behind_fault(alloc, scope, package_)?;
     Ok(sooner(specification, body))
 }

@@ -1,10 +1,10 @@
 //! The units that a package names (RM 10.1.2).
 ghost use Rattle.std.specs.Prelude.{◌≡◌, bytes_eq, IfOk, OnOk, option_map};
 ghost use Rattle.expr_rules.specs.Faults.{least};
-ghost use Rattle.legality.specs.UnitRules.{clause_faults, clause_scope, clauses_faults, clauses_scope, is_bare, is_control_io, is_named, is_real_time, is_same_unit, is_second};
+ghost use Rattle.legality.specs.UnitRules.{again_rule, clause_faults, clause_scope, clauses_behind, clauses_faults, clauses_scope, is_bare, is_control_io, is_named, is_real_time, is_same_unit, is_second};
 
 use ada_tree::{Identifier, UnitClause, UnitName};
-use base::faults::NAME_NOT_VISIBLE;
+use base::faults::{DECLARED_TWICE, NAME_NOT_VISIBLE};
 use expr_rules::laws::{least_by_parts, sooner_associates};
 use expr_rules::{rule, sooner};
 use lexer::Fault;
@@ -44,18 +44,27 @@ fn is_same_unit(left: &UnitName, right: &UnitName) -> bool
     (is_real_time(left) && is_real_time(right)) || (is_control_io(left) && is_control_io(right))
 }
 
-fn clause_fault(clause: &UnitClause) -> Option<Fault>
-    ensures { result ≡ least (clause_faults clause.now) }
+// A unit behind clauses of which these say whether they name Ada.Real_Time, and Control_IO.
+fn again_rule(times_named: bool, io_named: bool, unit: &UnitName) -> Option<Fault>
+    ensures { result ≡ least (again_rule times_named io_named unit.now) }
+{
+    let is_again = (times_named && is_real_time(unit)) || (io_named && is_control_io(unit));
+    rule(DECLARED_TWICE, unit.first.place, is_again)
+}
+
+fn clause_fault(times_named: bool, io_named: bool, clause: &UnitClause) -> Option<Fault>
+    ensures { result ≡ least (clause_faults times_named io_named clause.now) }
 {
     least_by_parts();
     let is_known = is_real_time(&clause.unit) || is_control_io(&clause.unit);
-    sooner(
+    let unit = sooner(
         rule(NAME_NOT_VISIBLE, clause.unit.first.place, !is_known),
-        rule(
-            NAME_NOT_VISIBLE,
-            clause.used.first.place,
-            !is_same_unit(&clause.unit, &clause.used),
-        ),
+        again_rule(times_named, io_named, &clause.unit),
+    );
+    let is_same = is_same_unit(&clause.unit, &clause.used);
+    sooner(
+        unit,
+        rule(NAME_NOT_VISIBLE, clause.used.first.place, !is_same),
     )
 }
 
@@ -71,15 +80,20 @@ fn see_unit(alloc: Global, scope: &mut Scope, clause: &UnitClause) -> Result<(),
     }
 }
 
-/// The least fault of the clauses in front of a package: a unit that is none of the two, or a `use` of another unit than its `with`.
+/// The least fault of the clauses in front of a package: a unit that is none of the two, or is named for the second time, or a `use` of another unit than
+/// its `with`.
 pub fn clauses_fault(clauses: &[UnitClause]) -> Option<Fault>
     ensures { result ≡ least (clauses_faults clauses.now) }
 {
     least_by_parts();
     sooner_associates();
+    let mut times_named = false;
+    let mut io_named = false;
     let mut fault = None;
     for clause in clauses {
-        fault = sooner(fault, clause_fault(clause));
+        fault = sooner(fault, clause_fault(times_named, io_named, clause));
+        times_named = times_named || is_real_time(&clause.unit);
+        io_named = io_named || is_control_io(&clause.unit);
     }
     fault
 }

@@ -4,3 +4,4 @@ mod Labelling
 mod LimitExamples
 mod Sample
 mod ThingExamples
+mod Adding

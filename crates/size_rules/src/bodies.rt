@@ -2,7 +2,6 @@
 ghost use Rattle.std.specs.Prelude.{◌≡◌, ◌++◌, IfOk, OnErr, OnOk, map};
 ghost use Rattle.ada_tree.specs.ProgramTree.{body_item_tree, protected_item_tree};
 ghost use Rattle.expr_rules.specs.Faults.{least};
-ghost use Rattle.legality.specs.PackageBodyRules.{body_item_scope};
 ghost use Rattle.size_rules.specs.PackageSizes.{body_item_faults, body_item_inside, body_items_faults, body_items_inside, body_items_things};
 ghost use Rattle.size_rules.specs.PackageSizes.{operation_faults, operation_inside, operations_faults, operations_inside};
 
@@ -10,9 +9,9 @@ use crate::body::body_fault;
 use crate::declarations::push_body_item;
 use crate::thing::Thing;
 use ada_tree::{BodyItem, ProtectedBodyItem};
-use declaring::{declare_item, declare_subprogram};
 use expr_rules::laws::{least_by_parts, sooner_associates};
 use expr_rules::sooner;
+use legality::see_body_item;
 use lexer::Fault;
 use std::alloc::{AllocError, Global};
 use types::Scope;
@@ -68,18 +67,6 @@ fn body_item_fault(
         }
         BodyItem::Task(_, body) => body_fault(scope, &[], body, inside),
         BodyItem::Protected(_, items, _) => operations_fault(scope, items, inside),
-    }
-}
-
-// Makes visible what is visible behind a declaration or body.
-fn see_body_item(alloc: Global, scope: &mut Scope, item: &BodyItem) -> Result<(), AllocError>
-    ensures { OnOk result (scope.new ≡ body_item_scope scope.old (body_item_tree item.now)) }
-{
-    match item {
-        BodyItem::Item(item) => declare_item(alloc, scope, item),
-        BodyItem::Subprogram(subprogram, _) => declare_subprogram(alloc, scope, subprogram),
-        BodyItem::Task(_, _) => Ok(()),
-        BodyItem::Protected(_, _, _) => Ok(()),
     }
 }
 

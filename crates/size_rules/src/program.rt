@@ -2,8 +2,6 @@
 ghost use Rattle.std.specs.Prelude.{◌≡◌, IfOk};
 ghost use Rattle.ada_tree.specs.ProgramTree.{package_tree, program_tree};
 ghost use Rattle.expr_rules.specs.Faults.{least};
-ghost use Rattle.types.specs.Scopes.{standard};
-ghost use Rattle.legality.specs.PackageRules.{inside_scope};
 ghost use Rattle.size_rules.specs.ProgramSizes.{declared_faults, package_size_faults, size_faults};
 
 use crate::bodies::body_items_fault;
@@ -12,13 +10,11 @@ use crate::passing::{count_fault, label_fault, words_fault};
 use crate::thing::{DECLARED_EXCEPTIONS, DECLARED_TASKS, Kind, Thing};
 use ada_tree::{Package, Program};
 use base::limits::{LABELS, OBJECTS, PROCEDURES, WORDS};
-use declaring::declare;
 use expr_rules::laws::least_by_parts;
 use expr_rules::sooner;
-use legality::see_units;
+use legality::inside_scope;
 use lexer::Fault;
 use std::alloc::{AllocError, Global};
-use types::{Entity, Scope};
 
 fn declared_fault(alloc: Global, things: &[Thing]) -> Result<Option<Fault>, AllocError>
     ensures { IfOk result (λ f. f ≡ least (declared_faults things.now)) }
@@ -32,16 +28,6 @@ fn declared_fault(alloc: Global, things: &[Thing]) -> Result<Option<Fault>, Allo
     let two = sooner(subprograms, tasks);
     let four = sooner(sooner(two, objects), exceptions);
     Ok(sooner(four, words))
-}
-
-// Makes visible what is visible in front of a package's first declaration.
-fn inside_scope(alloc: Global, package_: &Package) -> Result<Scope, AllocError>
-    ensures { IfOk result (λ s. s ≡ inside_scope standard (package_tree package_.now)) }
-{
-    let mut scope = Scope::standard(alloc)?;
-    see_units(alloc, &mut scope, &package_.clauses)?;
-    declare(&mut scope, &package_.declaration.name, Entity::Unit)?;
-    Ok(scope)
 }
 
 fn package_fault(alloc: Global, package_: &Package) -> Result<Option<Fault>, AllocError>

@@ -1,12 +1,12 @@
 //! What limits are set on.
 
-use base::limits::{EXCEPTIONS, TASKS};
+use base::limits::{EXCEPTIONS, PREDEFINED_EXCEPTIONS, TASKS};
 use lexer::Text;
 
 /// Tasks of a source, main not among them.
 pub const DECLARED_TASKS: usize = TASKS - 1;
-/// Exceptions of a source, the four predefined ones not among them (RM 11.1).
-pub const DECLARED_EXCEPTIONS: usize = EXCEPTIONS - 4;
+/// Exceptions of a source, the predefined ones not among them (RM 11.1).
+pub const DECLARED_EXCEPTIONS: usize = EXCEPTIONS - PREDEFINED_EXCEPTIONS;
 
 /// What is counted, each kind by itself.
 #[derive(Clone, Copy, Debug, PartialEq, Eq)]

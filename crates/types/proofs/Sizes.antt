@@ -1,12 +1,14 @@
 -- The words of types, as scopes keep them.
-use Rattle.std.proofs.Common.{◌≡◌, ℕ, zero, suc, ◌+◌, List, [], ◌∷◌, ◌++◌, length, map, take, slice_get, option_map, Option, Some, None, refl, sym, ap, ◌∙◌, arith, unwrap_or}
+use Rattle.std.proofs.Common.{◌≡◌, ◌<◌, ℕ, zero, suc, ◌+◌, List, [], ◌∷◌, ◌++◌, length, map, take, slice_get, option_map, Option, Some, None, refl, sym, ap, ◌∙◌, arith, unwrap_or}
 use Rattle.std.proofs.lemmas.List.{length-append, map-append, take-map, take_all}
 use Rattle.std.proofs.lemmas.Option.{slice_get-map}
+use Rattle.std.proofs.Math.Seq.{take-append_seam}
 use Rattle.types.specs.declared.entity.Subtype.{Subtype}
 use Rattle.types.specs.declared.scope.Declared.{Declared}
 use Rattle.types.specs.Entities.{entity_value}
 use Rattle.types.specs.Scopes.{Scope, Named, entry_value}
 use Rattle.types.specs.Shapes.{Shape, Ranged, Logical, Timed, Repeated, Grouped, Shapeless, shapes, shapes_after, entity_shape, shape_or_none, narrowed, words}
+use Rattle.types.specs.Laws.{ShapesStay}
 use Rattle.types.specs.Layouts.{capped, words_of}
 use Rattle.types.specs.Kept.{capped_words, entry_words, entity_words}
 
@@ -44,6 +46,20 @@ shapes_take known (x ∷ s) (suc n) =
     let size = length-append known (entity_shape known x.entity ∷ []) in
     let e : length more + n ≡ length known + suc n = omega (arith, size) in
     shapes_take more s n ∙ ap (λ m. take m (shapes_after more s)) e
+
+within_take : {X : Type 0} (xs : List X) (m n : ℕ) → n < m → slice_get (take m xs) n ≡ slice_get xs n
+within_take [] zero n less = refl
+within_take [] (suc m) n less = refl
+within_take (x ∷ xs) zero n less = absurd (omega (arith, less))
+within_take (x ∷ xs) (suc m) zero less = refl
+within_take (x ∷ xs) (suc m) (suc n) less = within_take xs m n (omega (arith, less))
+
+pub shapes_stay : ShapesStay
+shapes_stay s more t less =
+    let all = shapes (s ++ more) in
+    let e : 0 + length s ≡ length s = omega arith in
+    let kept : shapes s ≡ take (length s) all = ap shapes (sym (take-append_seam s more)) ∙ shapes_take [] (s ++ more) (length s) ∙ ap (λ m. take m all) e in
+    ap (λ o. narrowed t (shape_or_none o)) (sym (within_take all (length s) t.type_number less) ∙ ap (λ l. slice_get l t.type_number) (sym kept))
 
 -- ---- what scopes keep
 

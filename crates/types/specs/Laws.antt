@@ -1,7 +1,9 @@
 -- The laws of layouts and words, as statements; each is the contract of a public function.
-use Rattle.std.specs.Prelude.{◌≡◌, ℕ, ◌+◌, ◌<◌, ◌≤◌, List, length, take, drop, slice_get, true, Some}
+use Rattle.std.specs.Prelude.{◌≡◌, ℕ, ◌+◌, ◌<◌, ◌≤◌, List, ◌++◌, length, take, drop, slice_get, true, Some}
+use Rattle.types.specs.declared.entity.Subtype.{Subtype}
+use Rattle.types.specs.Scopes.{Scope}
 use Rattle.types.specs.Values.{Value, Values, Fields, element_at, field_of}
-use Rattle.types.specs.Shapes.{Shape, Shapes, all_values, has_shape, have_shapes, initial_of, value_words, values_words, fields_words, value_back, words}
+use Rattle.types.specs.Shapes.{Shape, Shapes, all_values, has_shape, have_shapes, initial_of, shape_of, value_words, values_words, fields_words, value_back, words}
 use Rattle.types.specs.Layouts.{total, first_word, element_offset, field_offset}
 
 -- an object of w words ends before each later one begins, and within the words of all
@@ -22,6 +24,10 @@ ValuesHaveWords = (x : Shape) (v : Value) → has_shape x v ≡ true → HasWord
 
 abbrev pub InitialValuesHaveShape : Type 0
 InitialValuesHaveShape = (x : Shape) → has_shape x (initial_of x) ≡ true
+
+-- the shape of a subtype is told by the names up to that of its type: those behind it change nothing
+abbrev pub ShapesStay : Type 0
+ShapesStay = (s more : Scope) (t : Subtype) → t.type_number < length s → shape_of (s ++ more) t ≡ shape_of s t
 
 -- the words of a component stand at its place among those of the composite value
 pub record PartsHavePlaces : Type 0 where

@@ -1,5 +1,5 @@
 //! The laws of static values, layouts and words, each what a function without work ensures.
-ghost use Rattle.types.specs.Laws.{InitialValuesHaveShape, ObjectsLieApart, PartsHavePlaces, ValuesHaveWords};
+ghost use Rattle.types.specs.Laws.{InitialValuesHaveShape, ObjectsLieApart, PartsHavePlaces, ShapesStay, ValuesHaveWords};
 ghost use Rattle.types.specs.Statics.{StaticIsValue};
 
 /// A static expression has its value at every place where nothing hides the names of the scope, whatever can be called there.
@@ -20,6 +20,11 @@ pub fn values_have_words()
 /// The value of an object without initial value is of the shape of its subtype.
 pub fn initial_values_have_shape()
     ensures { InitialValuesHaveShape }
+{}
+
+/// The shape of a subtype, and so its words, stays as it is while further names become visible.
+pub fn shapes_stay()
+    ensures { ShapesStay }
 {}
 
 /// The words of a component stand at its place among those of the whole.

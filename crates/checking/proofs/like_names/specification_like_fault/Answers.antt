@@ -1,8 +1,8 @@
 use Rattle.std.proofs.Common.{map, ap, ◌∙◌, refl}
 use Rattle.ada_tree.specs.ProgramTree.{body_item_tree, item_tree}
 use Rattle.expr_rules.specs.Faults.{least}
+use Rattle.legality.specs.Walks.{walk_turn}
 use Rattle.checking.specs.LikeNames.{behind_specified_faults, specification_like_faults}
-use Rattle.checking.proofs.Turns.{walk_turn}
 use Rattle.checking.proofs.like_names.specification_like_fault.Goals as goal
 
 pub loop-index-preserved : goal.loop-index-preserved
@@ -11,6 +11,6 @@ loop-index-preserved c =
     let x = c.index-items-index.result in
     let l = c.loop-index in
     rw c.sooner-fault.ensures
-    (walk_turn c.least_by_parts.ensures c.sooner_associates.ensures item_tree (specification_like_faults body) (behind_specified_faults body) (λ y r. refl)
+    (walk_turn c.least_by_parts.ensures c.sooner_associates.ensures item_tree (λ b r. specification_like_faults body r) (λ b y r. behind_specified_faults body y r) (λ b y r. refl)
     c.args.items.now l.index x l.fault c.behind_specified_fault.result _ c.loop-index-test.true c.index-items-index.is l.invariant
     (c.behind_specified_fault.ensures ∙ ap (λ b. least (behind_specified_faults body (item_tree x) (map item_tree b))) c.split_at.ensures.back))

@@ -2,7 +2,7 @@ use Rattle.std.proofs.Common.{map, ◌∙◌, refl}
 use Rattle.ada_tree.specs.ProgramTree.{body_item_tree, item_tree}
 use Rattle.expr_rules.specs.Faults.{least}
 use Rattle.legality.specs.MatchingRules.{item_matching, items_matching}
-use Rattle.legality.proofs.Tests.{walk_turn}
+use Rattle.legality.specs.Walks.{walk_turn}
 use Rattle.legality.proofs.operations.items_matching_fault.Goals as goal
 
 pub loop-index-preserved : goal.loop-index-preserved

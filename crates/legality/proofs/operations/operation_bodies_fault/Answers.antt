@@ -2,7 +2,7 @@ use Rattle.std.proofs.Common.{map, ap, ◌∙◌, refl}
 use Rattle.ada_tree.specs.ProgramTree.{body_item_tree, item_tree, protected_item_tree}
 use Rattle.expr_rules.specs.Faults.{least}
 use Rattle.legality.specs.MatchingRules.{operation_bodies_faults, operation_body_rule}
-use Rattle.legality.proofs.Tests.{walk_turn}
+use Rattle.legality.specs.Walks.{walk_turn}
 use Rattle.legality.proofs.operations.operation_bodies_fault.Goals as goal
 
 pub loop-index-preserved : goal.loop-index-preserved

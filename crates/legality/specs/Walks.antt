@@ -1,12 +1,12 @@
--- Tests of the elements of lists of trees, and turns of loops that look back.
-use Rattle.std.proofs.Common.{◌≡◌, ◌<◌, ◌+◌, ◌++◌, ℕ, suc, List, [], ◌∷◌, length, take, drop, map, Bool, Option, refl, sym, ap, ◌∙◌, arith}
+-- Laws of walks over lists of trees, for proofs here and above: tests of their elements, and turns of loops that look back and ahead.
+use Rattle.std.proofs.Common.{◌≡◌, ◌<◌, ◌+◌, ◌++◌, ℕ, List, [], ◌∷◌, length, take, drop, map, Bool, Option, refl, sym, ap, ◌∙◌}
+use Rattle.std.proofs.Math.Numerals.{add-one}
 use Rattle.std.proofs.Math.Seq.{take-suc}
 use Rattle.std.proofs.lemmas.List.{at_drop_more, map-append}
-use Rattle.std.specs.Prelude.{get_or}
+use Rattle.std.specs.Prelude.{◌||◌, get_or}
+use Rattle.std.specs.List.{list_any}
 use Rattle.lexer.specs.declared.fault.Fault.{Fault}
 use Rattle.expr_rules.specs.Faults.{Faults, LeastByParts, SoonerAssociates, least, sooner}
-use Rattle.std.specs.Prelude.{◌||◌}
-use Rattle.std.specs.List.{list_any}
 
 pub any_of_trees : {A B : Type 0} (test : B → Bool) (tree : A → B) (xs : List A) → list_any test (map tree xs) ≡ list_any (λ x. test (tree x)) xs
 any_of_trees test tree [] = refl
@@ -24,11 +24,10 @@ pub walk_turn : LeastByParts
     → one ≡ least (first (map tree (take n all)) (tree x) (map tree (drop (n + 1) all)))
     → sooner (sooner f one) (least (walk (map tree (take (n + 1) all)) (map tree (drop (n + 1) all)))) ≡ whole
 walk_turn parts associates tree walk first split all n x f one whole less at h here =
-    let next : n + 1 ≡ suc n = omega (arith) in
     let before = map tree (take n all) in
     let rest = map tree (drop (n + 1) all) in
     let taken : map tree (take (n + 1) all) ≡ before ++ tree x ∷ [] =
-    ap (map tree) (ap (λ m. take m all) next ∙ take-suc all n x less ∙ ap (λ y. take n all ++ y ∷ []) (sym at)) ∙ map-append tree (take n all) (x ∷ []) in
+    ap (map tree) (ap (λ m. take m all) (add-one n) ∙ take-suc all n x less ∙ ap (λ y. take n all ++ y ∷ []) (sym at)) ∙ map-append tree (take n all) (x ∷ []) in
     let left = walk (map tree (take (n + 1) all)) rest in
     let step : walk before (map tree (drop n all)) ≡ first before (tree x) rest ++ left =
     at_drop_more (λ r. walk before (map tree r)) all n x less

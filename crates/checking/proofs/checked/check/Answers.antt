@@ -1,0 +1,22 @@
+use Rattle.std.proofs.Common.{◌≡◌, ◌++◌, [], None, Some, inr, sym, ap, subst, ◌∙◌}
+use Rattle.ada_tree.specs.ProgramTree.{program_tree}
+use Rattle.expr_rules.specs.Faults.{least}
+use Rattle.types.specs.Scopes.{standard}
+use Rattle.legality.specs.MainRules.{main_faults}
+use Rattle.size_rules.specs.ProgramSizes.{size_faults}
+use Rattle.checking.specs.ProgramLayouts.{HaveRoom}
+use Rattle.checking.specs.ProgramRules.{package_part_faults, program_faults}
+use Rattle.checking.proofs.Room.{both_empty}
+use Rattle.checking.proofs.checked.check.Goals as goal
+
+pub laid_out-requires-clause-room : goal.laid_out-requires-clause-room
+laid_out-requires-clause-room c =
+    let t = program_tree c.args.program in
+    let none : program_faults t ≡ [] = c.least_is_least.ensures.none (program_faults t) (sym c.in-None.is ∙ c.in_ok-fault.ensures.fault) in
+    let rest = package_part_faults standard t.package_ ++ main_faults t.package_ t.main in
+    subst HaveRoom (sym c.in_ok-fault.ensures.scope) (c.words_have_room.ensures t (both_empty rest (size_faults t) none).1)
+
+pub returns-in-Some-clause-refused : goal.returns-in-Some-clause-refused
+returns-in-Some-clause-refused c =
+    let faults = program_faults (program_tree c.args.program) in
+    inr (c.least_is_least.ensures.some faults c.in-Some.fault (sym c.in-Some.is ∙ c.in_ok-fault.ensures.fault))
