@@ -9,7 +9,7 @@ use Rattle.ada_tree.specs.declared.program.BodyItem.{BodyItem}
 use Rattle.ada_tree.specs.declared.program.Package.{Package}
 use Rattle.ada_tree.specs.StatementTree.{SubprogramTree, subprogram_tree}
 use Rattle.ada_tree.specs.ProgramTree.{BodyTree, SubprogramBody, PackageTree, body_item_tree, body_tree, package_tree}
-use Rattle.meaning.specs.Programs.{body_among}
+use Rattle.ada_link.specs.Bodies.{body_among}
 use Rattle.ada_link.specs.FirstLanguage.{are_distinct, is_control_io, is_for, most_procedures, writes_nothing, are_first_clauses, body_name, contains, has_first_bodies, has_first_items, has_first_names, is_declared, is_first_body, is_first_package, is_new, is_visible, item_name, procedure_name}
 use Rattle.image.specs.declared.instruction.Operation.TheVariants as op
 use Rattle.ada_tree.specs.declared.program.BodyItem.TheVariants as items
@@ -24,11 +24,11 @@ place_by : (b rest : Bool) (later n : ℕ) → (b || rest) ≡ true → (rest �
 place_by true rest later n h go = omega arith
 place_by false rest later n h go = let le = go h in omega (arith, le)
 
-any_place : {X : Type 0} (p : X → Bool) (xs : List X) → list_any p xs ≡ true → position_or_len p xs < length xs
+pub any_place : {X : Type 0} (p : X → Bool) (xs : List X) → list_any p xs ≡ true → position_or_len p xs < length xs
 any_place p [] h = absurd cc
 any_place p (x ∷ xs) h = place_by (p x) (list_any p xs) (position_or_len p xs) (length xs) h (any_place p xs)
 
-less_true : (a b : ℕ) → a < b → nat_lt a b ≡ true
+pub less_true : (a b : ℕ) → a < b → nat_lt a b ≡ true
 less_true a b h = search rules
 
 pub some_place : {X : Type 0} (p : X → Bool) (xs : List X) → list_any p xs ≡ true → position p xs ≡ None → ⊥

@@ -15,8 +15,8 @@ use Rattle.image.specs.Steps.{act, behaviour, unwind, does, does_operation, does
 use Rattle.image.specs.declared.instruction.Operation.{Operation}
 use Rattle.image.specs.declared.instruction.Operation.TheVariants as op
 use Rattle.types.specs.Values as values
-use Rattle.types.specs.Evaluations.{Gives, Raises, Meaningless, and_then, computed}
-use Rattle.meaning.specs.Values.{Evaluation}
+use Rattle.types.specs.Evaluations.{Gives, Raises, and_then, computed}
+use Rattle.ada_link.specs.Values.{Evaluation}
 use Rattle.meaning.specs.SameMeaning.{frames_of}
 use Rattle.meaning.specs.MeetingLaws.{quiet_spends}
 use Rattle.ada_link.specs.Computing.{At, in_frame, placed, Computes}

@@ -18,7 +18,7 @@ use Rattle.ada_tree.specs.ExpressionTree.{ExprTree, Number, Parenthesized, Unary
 use Rattle.ada_tree.specs.StatementTree.{StmtTree, Call, stmt_tree}
 use Rattle.ada_tree.specs.declared.statement.Stmt.{Stmt}
 use Rattle.types.specs.Operators.{unary_value, binary_value}
-use Rattle.meaning.specs.Values.{value}
+use Rattle.ada_link.specs.Values.{value}
 use Rattle.ada_link.specs.Computing.{At, Computes}
 use Rattle.ada_link.specs.FirstLanguage.{label_and_value, put_of, put_with}
 use Rattle.ada_link.specs.Linked.{IsPut, IsCall, IsStatement}

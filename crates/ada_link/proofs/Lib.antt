@@ -1,5 +1,7 @@
 pub mod Computing
 pub mod Single
+pub mod Anywhere
+pub mod Firsts
 pub mod Standing
 pub mod Matching
 pub mod Meaning

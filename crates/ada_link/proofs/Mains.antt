@@ -16,6 +16,7 @@ use Rattle.ada_link.specs.declared.code.Code.{Code}
 use Rattle.ada_link.proofs.Emitting.{get_last, added_here, added_extends, added_at, extends_trans, extends_self, holds_before, holds_later}
 use Rattle.ada_link.proofs.Bodies.{both_left, both_right, ends_extends, place}
 use Rattle.ada_link.specs.FirstLanguage.{are_first_pragmas, is_declared, is_first_body, is_first_main, is_first_main_statement, is_first_package, is_first_package_part, is_first_program, is_name_of, is_standard}
+use Rattle.ada_link.proofs.Firsts.{plain_program}
 use Rattle.ada_link.proofs.Tests.{first_bodies}
 use Rattle.ada_link.proofs.Calls.{bodies_plain}
 use Rattle.std.specs.List.{list_all}
@@ -99,14 +100,15 @@ holds_all i c name h = record {
   subprograms = λ k x le g. ap (λ l. slice_get l k) h.subprograms ∙ g;
 }
 
-pub program_linked : (p : ProgramTree) (i : Sections) (middle last : Code) → HasProcedures p.package_ middle → EmitsMainBody p.package_ middle p.main.statements last → HasCode last p.main.name.name i → Linked p i
-program_linked p i middle last bodies main_body h =
+pub program_linked : (p : ProgramTree) (i : Sections) (middle last : Code) → is_first_program p ≡ true → HasProcedures p.package_ middle → EmitsMainBody p.package_ middle p.main.statements last → HasCode last p.main.name.name i → Linked p i
+program_linked p i middle last first bodies main_body h =
     let all = holds_all i last p.main.name.name h in
     let from_main = holds_later i 0 (here middle) last (omega arith) all in
     let of_bodies = holds_before i 0 middle last main_body.extends all in
     let number : h.number ≡ length middle.subprograms.items = omega (arith, h.last, main_body.one) in
     let r = main_body.are_called i from_main (bodies.are_bodies i of_bodies) in
     record {
+      plain = plain_program p first;
       exceptions = h.exceptions;
       objects = h.objects;
       rows = h.rows;

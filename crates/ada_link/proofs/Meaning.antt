@@ -1,5 +1,5 @@
 -- A linked image has the meaning of its program.
-use Rattle.std.proofs.Common.{◌≡◌, ◌≢◌, ℕ, zero, suc, ◌+◌, List, [], ◌∷◌, None, Option, refl, sym, ap, ◌∙◌, subst}
+use Rattle.std.proofs.Common.{◌≡◌, ◌≢◌, ℕ, zero, suc, ◌+◌, List, [], ◌∷◌, map, None, Option, refl, sym, ap, ◌∙◌, subst}
 use Rattle.std.specs.Prelude.{pos, slice_get, replicate}
 use Rattle.base.specs.declared.schedule.ScheduleLine.{ScheduleLine}
 use Rattle.kernel.specs.State.{Kernel}
@@ -11,7 +11,7 @@ use Rattle.kernel.specs.RunLaws.{run_plus}
 use Rattle.image.specs.Sections.{Sections, first_place}
 use Rattle.image.specs.Operations.{called, results_of}
 use Rattle.image.specs.Rules.{IsWellFormed}
-use Rattle.image.specs.Texts.{text_from_one, name_of}
+use Rattle.image.specs.Texts.{text_at, text_from_one, name_of}
 use Rattle.image.specs.Frames.{Inner, Words, TaskState}
 use Rattle.image.specs.Steps.{behaviour, is_open}
 use Rattle.image.specs.Steps as steps
@@ -21,15 +21,16 @@ use Rattle.image_laws.specs.Laws.{KernelKept}
 use Rattle.ada_tree.specs.ProgramTree.{ProgramTree}
 use Rattle.meaning.specs.Laws.{CountGivesMeaning}
 use Rattle.meaning.specs.Meeting.{Runner, Met, Owed, Meets}
-use Rattle.meaning.specs.Works.{TaskWork, Store, Given}
-use Rattle.meaning.specs.Programs.{partition_of, source_names}
-use Rattle.meaning.specs.SourceSteps.{source_behaviour}
-use Rattle.meaning.specs.Source.{source_start, initial_work}
+use Rattle.meaning.specs.Works.{DoesMain, Goes, TaskWork, Store, Given}
+use Rattle.meaning.specs.Source.{partition_of}
+use Rattle.meaning.specs.Source.{source_behaviour, source_start, initial_work, task_items}
+use Rattle.meaning.specs.Programs.{program_of, task_name}
+use Rattle.ada_link.specs.Plain.{main_alone}
 use Rattle.meaning.specs.SameMeaning.{frames_of}
 use Rattle.meaning.specs.Compiling.{MeetsUnder, met_keeps_count}
 use Rattle.ada_link.specs.Linked.{main_task, Linked}
 use Rattle.ada_link.specs.Laws.{LinkedKeepsCount, LinkedMeansTheSame}
-use Rattle.ada_link.proofs.Single.{Single, single_after, begins_single}
+use Rattle.ada_link.proofs.Single.{Single, single_after, single_partition, partition_is, begins_single}
 use Rattle.ada_link.proofs.Standing.{most_steps, Main, Stands, Left, relation}
 use Rattle.ada_link.proofs.Matching.{met_by}
 
@@ -65,7 +66,7 @@ module _ (p : ProgramTree) (i : Sections) (linked : Linked p i) (schedule : List
     kept_at w h = subst (λ v. Kept (is_open i v.rest.memory) v.kernel) (sym h.1) (kernel_kept i well_formed schedule h.0)
 
     met_task : (k : Kernel) (t : ℕ) (a : Solo Store TaskWork) (b : Solo Words TaskState) → Runner k t → Stands p i k t a.task b.task → Met (source_behaviour p schedule) (behaviour i schedule) (relation p i) frames_of (most_steps i) k t a b
-    met_task k zero a b runner st = met_by p i linked.rows schedule quiet k st.single runner.calm a b.memory b.task st.task
+    met_task k zero a b runner st = met_by p linked.plain i linked.rows schedule quiet k st.single runner.calm a b.memory b.task st.task
     met_task k (suc t) a b runner st = absurd (st.single.others t runner.calm.runs.running)
 
     meets : Meets (source_behaviour p schedule) (behaviour i schedule) (relation p i) frames_of (most_steps i) Keeps
@@ -78,14 +79,18 @@ module _ (p : ProgramTree) (i : Sections) (linked : Linked p i) (schedule : List
 
     -- the starts
 
-    base_same : (t : ℕ) → (partition_of p).base t ≡ priority_of (slice_get (main_task p linked.number ∷ []) t)
+    base_same : (t : ℕ) → (single_partition p).base t ≡ priority_of (slice_get (main_task p linked.number ∷ []) t)
     base_same zero = refl
     base_same (suc t) = refl
 
     same_partition : partition_of p ≡ image.partition_of i
     same_partition =
-        (λ j. record { tasks = 1; objects = 0; base = λ t. base_same t j; ceiling = λ o. 0 })
+        partition_is p linked.plain
+        ∙ (λ j. record { tasks = 1; objects = 0; base = λ t. base_same t j; ceiling = λ o. 0 })
         ∙ sym (λ j. image.partition_of (record i { tasks = linked.tasks j; objects = linked.objects j }))
+
+    works_first : initial_work (program_of p) 0 ≡ record { work = Goes (map DoesMain p.main.statements); own = record { within = None; locals = [] }; callers = [] }
+    works_first = ap (λ ts. record { work = Goes (task_items (slice_get ts 0)); own = record { within = None; locals = [] }; callers = [] }) linked.plain.tasks
 
     first_state : initial_state i 0 ≡ record { frame = record { subprogram = linked.number; place = first_place i linked.number; locals = []; stack = []; role = Inner }; callers = []; raising = None }
     first_state =
@@ -93,11 +98,14 @@ module _ (p : ProgramTree) (i : Sections) (linked : Linked p i) (schedule : List
         ∙ ap (λ s. record { frame = body_frame i linked.number s; callers = []; raising = None }) linked.bare.there
         ∙ ap (λ n. record { frame = record { subprogram = linked.number; place = first_place i linked.number; locals = replicate n (pos 0); stack = []; role = Inner }; callers = []; raising = None }) linked.bare.locals
 
-    stands_first : (u : ℕ) → Stands p i (source_start p).kernel u (initial_work p u) (initial_state i u)
+    stands_first : (u : ℕ) → Stands p i (source_start p).kernel u (initial_work (program_of p) u) (initial_state i u)
     stands_first zero =
-        subst (λ s. Stands p i (source_start p).kernel 0 (initial_work p 0) s) (sym first_state)
-        (record { single = begins_single p; task = Main p.main.statements refl (record { code = linked.statements; stack = refl; callers = refl; going = refl; results = ap results_of linked.bare.there ∙ linked.bare.results }) })
-    stands_first (suc u) = record { single = begins_single p; task = tt }
+        subst (λ s. Stands p i (source_start p).kernel 0 (initial_work (program_of p) 0) s) (sym first_state)
+        (record {
+          single = begins_single p linked.plain;
+          task = Main p.main.statements (ap (λ w. w.work) works_first) (record { code = linked.statements; stack = refl; callers = refl; going = refl; results = ap results_of linked.bare.there ∙ linked.bare.results });
+        })
+    stands_first (suc u) = record { single = begins_single p linked.plain; task = tt }
 
     under : MeetsUnder p i (relation p i) (most_steps i) (λ s w. (m : ℕ) × (w ≡ code i s m)) schedule
     under = record {
@@ -105,7 +113,7 @@ module _ (p : ProgramTree) (i : Sections) (linked : Linked p i) (schedule : List
       starts = record { same = ap begin same_partition; keeps = (0, refl); shared = tt; stands = stands_first };
     }
 
-task_named : (p : ProgramTree) (n t : ℕ) → name_of (slice_get (main_task p n ∷ []) t) ≡ (source_names p).task t
+task_named : (p : ProgramTree) (n t : ℕ) → name_of (slice_get (main_task p n ∷ []) t) ≡ text_at (map task_name (main_alone p)) t
 task_named p n zero = refl
 task_named p n (suc t) = refl
 
@@ -116,5 +124,8 @@ linked_keeps_count kernel_kept grow quiet reaches calm p i well_formed linked =
 pub linked_means_the_same : CountGivesMeaning → LinkedKeepsCount → LinkedMeansTheSame
 linked_means_the_same count counted p i well_formed linked =
     count p i (most_steps i)
-    (record { tasks = λ t. ap (λ ts. name_of (slice_get ts t)) linked.tasks ∙ task_named p linked.number t; exceptions = λ x. ap (λ names. text_from_one names x) linked.exceptions })
+    (record {
+      tasks = λ t. ap (λ ts. name_of (slice_get ts t)) linked.tasks ∙ task_named p linked.number t ∙ sym (ap (λ ts. text_at (map task_name ts) t) linked.plain.tasks);
+      exceptions = λ x. ap (λ names. text_from_one names x) (linked.exceptions ∙ sym linked.plain.exceptions);
+    })
     (counted p i well_formed linked)

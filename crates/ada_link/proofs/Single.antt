@@ -1,13 +1,16 @@
 -- Kernels in which task 0 alone may run.
 use Rattle.std.proofs.Common.{◌≡◌, ℕ, zero, suc, List, [], ◌∷◌, Option, Some, None, refl, sym, ap, ◌∙◌, subst}
 use Rattle.base.specs.declared.limits.TheConstants.{PRIORITIES}
-use Rattle.kernel.specs.State.{Kernel, put}
+use Rattle.std.specs.Prelude.{length, slice_get}
+use Rattle.kernel.specs.State.{Kernel, Partition, put}
 use Rattle.kernel.specs.Dispatching.{leaves, highest, unless_empty, preempts, runs_from, dispatch, dispatch_from}
 use Rattle.kernel.specs.Clock.{clock, clock_from, time_moves}
 use Rattle.kernel.specs.Effects.{Effect, Quiet, Says, Delays, Opens, Views, Queues, Ends, Finishes, Dies, Breaks, effect, after, begin}
 use Rattle.kernel.specs.PutLaws.{by_put}
 use Rattle.ada_tree.specs.ProgramTree.{ProgramTree}
-use Rattle.meaning.specs.Programs.{partition_of}
+use Rattle.meaning.specs.Programs.{priority_or_zero}
+use Rattle.meaning.specs.Source.{partition_of}
+use Rattle.ada_link.specs.Plain.{IsPlain, main_alone}
 
 pub record Single (k : Kernel) : Type 0 where
   pub ready : (h : ℕ) → k.ready h ≡ []
@@ -54,9 +57,16 @@ single_after t (Views o) k simple s = absurd simple
 single_after t (Queues o) k simple s = absurd simple
 single_after t (Ends b) k simple s = absurd simple
 
-pub begins_single : (p : ProgramTree) → Single (begin (partition_of p))
-begins_single p = record {
+-- main alone, at its priority
+abbrev pub single_partition : ProgramTree → Partition
+single_partition p = record { tasks = 1; objects = 0; base = λ t. priority_or_zero (slice_get (main_alone p) t); ceiling = λ o. 0 }
+
+pub partition_is : (p : ProgramTree) → IsPlain p → partition_of p ≡ single_partition p
+partition_is p plain = λ j. record { tasks = length (plain.tasks j); objects = plain.objects j; base = λ t. priority_or_zero (slice_get (plain.tasks j) t); ceiling = λ o. plain.ceilings o j }
+
+pub begins_single : (p : ProgramTree) → IsPlain p → Single (begin (partition_of p))
+begins_single p plain = subst (λ q. Single (begin q)) (sym (partition_is p plain)) (record {
   ready = λ h. by_put (λ l. l ≡ []) 15 h [] (put 15 (0 ∷ []) (λ x. [])) (λ e. refl) (λ ne. by_put (λ l. l ≡ []) 15 h (0 ∷ []) (λ x. []) (λ e. absurd (ne e)) (λ other. refl));
   sleepers = refl;
   others = λ u h. cc;
-}
+})

@@ -1,5 +1,5 @@
 -- Which frames stand for which work of a linked program.
-use Rattle.std.proofs.Common.{◌≡◌, ℕ, zero, suc, ◌+◌, ◌≤◌, List, [], ◌∷◌, map, length, Some, None}
+use Rattle.std.proofs.Common.{◌≡◌, ◌⊎◌, true, ℕ, zero, suc, ◌+◌, ◌≤◌, List, [], ◌∷◌, map, length, Some, None}
 use Rattle.base.specs.declared.schedule.ScheduleLine.{ScheduleLine}
 use Rattle.kernel.specs.State.{Kernel, Outcome}
 use Rattle.kernel.specs.Effects.{Effect, Dies, after}
@@ -14,10 +14,12 @@ use Rattle.ada_tree.specs.declared.program.MainStatement.{MainStatement}
 use Rattle.ada_tree.specs.StatementTree.{StmtTrees, NoStmts, MoreStmts, NoHandlers}
 use Rattle.ada_tree.specs.ProgramTree.{ProgramTree}
 use Rattle.meaning.specs.Meeting.{Relation, Takes}
-use Rattle.meaning.specs.Works.{Item, Declares, Sequence, Does, DoesMain, Handles, EndsHandler, EndsCall, Work, Goes, Raising, TaskWork, Store, Given}
+use Rattle.meaning.specs.Works.{Item, Sequence, DoesMain, Handles, EndsCall, EndsServed, Work, Goes, Copies, Raising, TaskWork, Store, Given}
 use Rattle.meaning.specs.SourceSteps.{before}
 use Rattle.meaning.specs.SameMeaning.{frames_of}
+use Rattle.ada_link.specs.FirstLanguage.{are_null}
 use Rattle.ada_link.specs.Linked.{AreStatements, AreMain}
+use Rattle.ada_link.specs.Plain.{PutsAreVisible}
 use Rattle.ada_link.proofs.Single.{Single, Simple}
 
 -- a frame takes at most as many steps for one step of the source as the image has instructions
@@ -60,23 +62,33 @@ module _ (p : ProgramTree) (i : Sections) where
   abbrev pub Unhandled : List Item → Type 0
   Unhandled [] = Unit {0}
   Unhandled (Handles hs ∷ items) = (hs ≡ NoHandlers) × Unhandled items
+  Unhandled (EndsCall names opened xs ∷ items) = (opened ≡ None) × Unhandled items
+  Unhandled (EndsServed o names completion ∷ items) = ⊥
   Unhandled (item ∷ items) = Unhandled items
 
   -- what main has to do when the procedure has ended
   abbrev pub rest_of_main : List MainStatement → List Item
-  rest_of_main ms = EndsCall ∷ map DoesMain ms
+  rest_of_main ms = EndsCall [] None [] ∷ map DoesMain ms
 
-  pub data MainStands (k : Kernel) (w : Work) (s : TaskState) : Type 0 where
-    Main : (ms : List MainStatement) → w ≡ Goes (map DoesMain ms) → InMain ms s → MainStands k w s
-    Begins : (stmts : StmtTrees) (ms : List MainStatement) → w ≡ Goes (Sequence stmts NoHandlers ∷ rest_of_main ms) → InBody stmts ms s → MainStands k w s
-    Body : (stmts : StmtTrees) (ms : List MainStatement) → w ≡ Goes (before stmts (Handles NoHandlers ∷ rest_of_main ms)) → InBody stmts ms s → MainStands k w s
-    EndsBody : (ms : List MainStatement) → w ≡ Goes (rest_of_main ms) → InBody NoStmts ms s → MainStands k w s
-    Raised : (x : ℕ) (items : List Item) → w ≡ Raising x items → Unhandled items → Dying x s → MainStands k w s
+  -- a body of the package is run, in which Put is Control_IO's, or nothing is put
+  abbrev pub CanPut : StmtTrees → Type 0
+  CanPut stmts = PutsAreVisible p ⊎ (are_null stmts ≡ true)
+
+  pub record Inside (stmts : StmtTrees) (w : TaskWork) : Type 0 where
+    pub within : w.own.within ≡ None
+    pub puts : CanPut stmts
+
+  pub data MainStands (k : Kernel) (w : TaskWork) (s : TaskState) : Type 0 where
+    Main : (ms : List MainStatement) → w.work ≡ Goes (map DoesMain ms) → InMain ms s → MainStands k w s
+    Begins : (stmts : StmtTrees) (ms : List MainStatement) → w.work ≡ Goes (Sequence stmts NoHandlers ∷ rest_of_main ms) → Inside stmts w → InBody stmts ms s → MainStands k w s
+    Body : (stmts : StmtTrees) (ms : List MainStatement) → w.work ≡ Goes (before stmts (Handles NoHandlers ∷ rest_of_main ms)) → Inside stmts w → InBody stmts ms s → MainStands k w s
+    EndsBody : (ms : List MainStatement) → w.work ≡ Goes (rest_of_main ms) → InBody NoStmts ms s → MainStands k w s
+    Raised : (x : ℕ) (items : List Item) → w.work ≡ Raising x items → Unhandled items → Dying x s → MainStands k w s
     Over : (o : Outcome) → k.outcome ≡ Some o → MainStands k w s
 
   -- task 0 is main, and no other one runs
   abbrev pub TaskStands : Kernel → ℕ → TaskWork → TaskState → Type 0
-  TaskStands k zero w s = MainStands k w.work s
+  TaskStands k zero w s = MainStands k w s
   TaskStands k (suc u) w s = Unit {0}
 
   pub record Stands (k : Kernel) (u : ℕ) (w : TaskWork) (s : TaskState) : Type 0 where
@@ -91,12 +103,7 @@ module _ (p : ProgramTree) (i : Sections) where
 
   abbrev item_size : Item → ℕ
   item_size (Sequence stmts hs) = suc (suc (count stmts))
-  item_size (Declares d) = 1
-  item_size (Does s) = 1
-  item_size (DoesMain s) = 1
-  item_size (Handles hs) = 1
-  item_size (EndsHandler x) = 1
-  item_size EndsCall = 1
+  item_size item = 1
 
   abbrev pub items_size : List Item → ℕ
   items_size [] = 0
@@ -104,11 +111,12 @@ module _ (p : ProgramTree) (i : Sections) where
 
   abbrev pub work_size : Work → ℕ
   work_size (Goes items) = items_size items
+  work_size (Copies vs xs items) = items_size items
   work_size (Raising x items) = items_size items
 
   pub record Left (k : Kernel) (t : ℕ) (e : Effect) (w : TaskWork) (s : TaskState) : Type 0 where
     pub simple : Simple e
-    pub stands : MainStands (after t e k) w.work s
+    pub stands : MainStands (after t e k) w s
 
   abbrev pub relation : Relation Store TaskWork Given Words TaskState steps.Given
   relation = record { shares = λ store words. Unit {0}; stands = Stands; leaves = λ k t e w s given gives. Left k t e w s; size = λ w. work_size w.work }

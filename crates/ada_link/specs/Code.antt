@@ -11,8 +11,10 @@ use Rattle.ada_tree.specs.ProgramTree.{BodyTree, BodyItemTree, PackageTree, Subp
 use Rattle.ada_tree.specs.declared.program.MainStatement.{MainStatement}
 use Rattle.ada_tree.specs.declared.program.MainStatement.TheVariants as main
 use Rattle.image.specs.declared.instruction.Operation.TheVariants as op
-use Rattle.meaning.specs.Programs.{body_in, default_priority, exception_names}
-use Rattle.meaning.specs.Values.{value}
+use Rattle.ada_link.specs.Bodies.{body_in}
+use Rattle.base.specs.Names.{predefined}
+use Rattle.declaring.specs.TaskRules.{default_priority}
+use Rattle.ada_link.specs.Values.{value}
 use Rattle.ada_link.specs.Computing.{At, Computes}
 use Rattle.ada_link.specs.Linked.{IsBare, IsBody, IsPut, IsStatement}
 use Rattle.ada_link.specs.declared.code.Code.{Code}
@@ -159,7 +161,7 @@ pub record EmitsMainBody (p : Option PackageTree) (old : Code) (all : List MainS
 pub record HasCode (c : Code) (name : List ℕ) (i : Sections) : Type 0 where
   pub number : ℕ
   pub last : length c.subprograms.items ≡ suc number
-  pub exceptions : i.exceptions ≡ exception_names
+  pub exceptions : i.exceptions ≡ predefined
   pub labels : i.labels ≡ c.labels.items
   pub plain_words : i.plain_words ≡ []
   pub objects : i.objects ≡ []

@@ -10,8 +10,8 @@ use Rattle.image.specs.Frames.{Words, Frame, TaskState}
 use Rattle.image.specs.Steps.{act, behaviour, unwind}
 use Rattle.image.specs.declared.instruction.Operation.{Operation}
 use Rattle.types.specs.Values as values
-use Rattle.types.specs.Evaluations.{Gives, Raises, Meaningless}
-use Rattle.meaning.specs.Values.{Evaluation}
+use Rattle.types.specs.Evaluations.{Gives, Raises}
+use Rattle.ada_link.specs.Values.{Evaluation}
 use Rattle.meaning.specs.SameMeaning.{frames_of}
 
 -- the operation that stands at a place, with some depth

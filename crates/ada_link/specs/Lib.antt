@@ -1,4 +1,7 @@
 pub mod FirstLanguage
+pub mod Values
+pub mod Bodies
+pub mod Plain
 pub mod Computing
 pub mod Linked
 pub mod Code

@@ -11,8 +11,11 @@ use Rattle.ada_tree.specs.declared.program.MainStatement.TheVariants as main
 use Rattle.ada_tree.specs.ExpressionTree.{ExprTree, SelectorTrees, NoSelectors, MoreSelectors, Arguments, MoreArguments, NoArguments, Value, Text}
 use Rattle.ada_tree.specs.StatementTree.{StmtTree, Null, Call, StmtTrees, NoStmts, MoreStmts, NoHandlers}
 use Rattle.ada_tree.specs.ProgramTree.{ProgramTree, BodyTree}
-use Rattle.meaning.specs.Values.{value}
-use Rattle.meaning.specs.Programs.{default_priority, exception_names, procedure_body}
+use Rattle.ada_link.specs.Values.{value}
+use Rattle.ada_link.specs.Bodies.{procedure_body}
+use Rattle.base.specs.Names.{predefined}
+use Rattle.declaring.specs.TaskRules.{default_priority}
+use Rattle.ada_link.specs.Plain.{IsPlain}
 use Rattle.ada_link.specs.Computing.{At, Computes}
 
 -- from one place to the other stands the code of a line: its expression and the instruction that writes it
@@ -61,7 +64,8 @@ main_task p n = record { name = p.main.name.name; priority = default_priority; s
 
 -- the image has main for its one task, and the code of the program
 pub record Linked (p : ProgramTree) (i : Sections) : Type 0 where
-  pub exceptions : i.exceptions ≡ exception_names
+  pub plain : IsPlain p
+  pub exceptions : i.exceptions ≡ predefined
   pub objects : i.objects ≡ []
   pub rows : i.rows ≡ []
   pub number : ℕ

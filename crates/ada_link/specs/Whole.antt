@@ -7,7 +7,7 @@ use Rattle.image.specs.Sections.{Sections}
 use Rattle.image.specs.declared.subprograms.Kind.TheVariants as kinds
 use Rattle.image.specs.declared.subprograms.Subprogram.{Subprogram}
 use Rattle.ada_tree.specs.ProgramTree.{ProgramTree}
-use Rattle.meaning.specs.Programs.{exception_names}
+use Rattle.base.specs.Names.{predefined}
 use Rattle.ada_link.specs.Growing.{AreBuilt}
 use Rattle.ada_link.specs.Linked.{main_task}
 use Rattle.ada_link.specs.Size.{instructions_of, labels_of, words_of}
@@ -26,7 +26,7 @@ pub record IsCompiled (p : ProgramTree) (i : Sections) : Type 0 where
   pub labels : i.labels ≡ labels_of p
   pub count : length i.instructions ≡ instructions_of p
   pub words : words_of p ≤ FRAME_WORDS
-  pub exceptions : i.exceptions ≡ exception_names
+  pub exceptions : i.exceptions ≡ predefined
   pub plain_words : i.plain_words ≡ []
   pub objects : i.objects ≡ []
   pub rows : i.rows ≡ []

@@ -5,7 +5,7 @@ ghost use Rattle.image.specs.Rules.{IsWellFormed};
 ghost use Rattle.image.specs.Taken.{IsTaken};
 ghost use Rattle.ada_tree.specs.StatementTree.{optional_tree};
 ghost use Rattle.ada_tree.specs.ProgramTree.{package_tree, program_tree};
-ghost use Rattle.meaning.specs.Programs.{exception_names};
+ghost use Rattle.base.specs.Names.{predefined};
 ghost use Rattle.meaning.specs.SameMeaning.{KeepsCount, SameMeaning};
 ghost use Rattle.ada_link.specs.Code.{HasCode, HasProcedures, bodies_of};
 ghost use Rattle.ada_link.specs.Growing.{AreParts};
@@ -32,7 +32,7 @@ const PRIORITY: u8 = 15;
 
 // The names of the predefined exceptions, in the order of their numbers from 1 (RM 11.1).
 fn exceptions(alloc: Global) -> Result<Vec<Text>, Refusal>
-    ensures names { IfOk result (λ names. names.items ≡ exception_names) }
+    ensures names { IfOk result (λ names. names.items ≡ predefined) }
     ensures refused { IfErr result (λ why. why ≡ Memory) }
 {
     let mut names = Vec::new(alloc);

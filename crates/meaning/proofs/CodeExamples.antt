@@ -13,12 +13,13 @@ use Rattle.image.specs.declared.instruction.Instr.{Instr}
 use Rattle.image.specs.declared.instruction.Operation.{Operation}
 use Rattle.image.specs.declared.instruction.Operation.TheVariants as op
 use Rattle.image.specs.declared.subprograms.Kind.TheVariants.{Plain, TaskBody}
-use Rattle.meaning.specs.Programs.{default_priority, exception_names}
+use Rattle.base.specs.Names.{predefined}
+use Rattle.declaring.specs.TaskRules.{default_priority}
 use Rattle.meaning.specs.Source.{source, source_text}
 use Rattle.meaning.specs.SameMeaning.{SameMeaning}
 use Rattle.meaning.specs.NullExample.{return_image}
 use Rattle.ada_tree.specs.declared.program.MainStatement.TheVariants as main
-use Rattle.meaning.proofs.Examples.{overflow, program_of, sums}
+use Rattle.meaning.proofs.Examples.{overflow, overflow_text, program_of, sums, sums_text}
 
 abbrev at : ℕ → Operation → Instr
 at depth operation = record { depth = depth; operation = operation }
@@ -30,7 +31,7 @@ push depth n = at depth (op.Push (pos n))
 abbrev image_of : List (List ℕ) → ℕ → List Instr → Sections
 image_of labels end instructions =
     record {
-      exceptions = exception_names;
+      exceptions = predefined;
       labels = labels;
       plain_words = [];
       objects = [];
@@ -45,18 +46,24 @@ sums_image =
     image_of (codes "a" ∷ codes "b" ∷ []) 14
     (push 0 2 ∷ push 1 3 ∷ push 2 4 ∷ at 3 op.Multiply ∷ at 2 op.Add ∷ at 1 (op.PutLine 0) ∷ push 0 7 ∷ push 1 10 ∷ at 2 op.Subtract ∷ at 1 op.Negate ∷ at 1 (op.PutLine 1) ∷ [])
 
-sums_code : code_text sums_image [] 30 ≡ source_text sums [] 20
+sums_written : code_text sums_image [] 30 ≡ codes "0 MAIN a 14\n0 MAIN b 3\nended at 0\n"
 unfolding digits
-sums_code = refl
+sums_written = refl
+
+sums_code : code_text sums_image [] 30 ≡ source_text sums [] 20
+sums_code = sums_written ∙ sym sums_text
 
 abbrev overflow_image : Sections
 overflow_image =
     image_of (codes "a" ∷ codes "b" ∷ codes "c" ∷ []) 11
     (push 0 9223372036854775807 ∷ at 1 (op.PutLine 0) ∷ push 0 9223372036854775807 ∷ push 1 1 ∷ at 2 op.Add ∷ at 1 (op.PutLine 1) ∷ push 0 2 ∷ at 1 (op.PutLine 2) ∷ [])
 
-overflow_code : code_text overflow_image [] 30 ≡ source_text overflow [] 20
+overflow_written : code_text overflow_image [] 30 ≡ codes "0 MAIN a 9223372036854775807\nunhandled CONSTRAINT_ERROR in MAIN at 0\n"
 unfolding digits
-overflow_code = refl
+overflow_written = refl
+
+overflow_code : code_text overflow_image [] 30 ≡ source_text overflow [] 20
+overflow_code = overflow_written ∙ sym overflow_text
 
 -- An image that ends at once does not mean a program that writes
 

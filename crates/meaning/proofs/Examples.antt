@@ -12,7 +12,10 @@ use Rattle.ada_tree.specs.declared.program.MainStatement.TheVariants as main
 use Rattle.ada_tree.specs.ExpressionTree.{ExprTree, Number, Parenthesized, Unary, Binary, NoSelectors, MoreSelectors, Arguments, MoreArguments, NoArguments, Value, Text}
 use Rattle.ada_tree.specs.StatementTree.{StmtTree, Null, Call, Block, stmts_of, HandlerTrees, NoHandlers, MoreHandlers}
 use Rattle.ada_tree.specs.ProgramTree.{ProgramTree, PackageTree, BodyItemTree, SubprogramBody, OfSubprogram}
-use Rattle.meaning.specs.Programs.{exception_name}
+use Rattle.ada_tree.specs.declared.program.UnitClause.{UnitClause}
+use Rattle.ada_tree.specs.declared.program.UnitName.{UnitName}
+use Rattle.meaning.specs.Programs as programs
+use Rattle.meaning.specs.Programs.{Program, exception_name}
 use Rattle.meaning.specs.Source.{source_text}
 use Rattle.meaning.specs.SourceSteps.{covers}
 
@@ -45,10 +48,14 @@ abbrev pub procedure : List ℕ → List StmtTree → HandlerTrees → BodyItemT
 procedure name statements handlers =
     SubprogramBody (record { place = 0; name = named name; formals = []; result = None }) (record { declarations = []; statements = stmts_of statements; handlers = handlers; end_name = named name })
 
+-- `with Control_IO; use Control_IO;`
+abbrev control_io : UnitClause
+control_io = let unit : UnitName = record { first = named (codes "CONTROL_IO"); second = None } in record { place = 0; unit = unit; used = unit }
+
 abbrev pub package_of : List BodyItemTree → PackageTree
 package_of items =
     record {
-      clauses = [];
+      clauses = control_io ∷ [];
       declaration = record { place = 0; name = named (codes "APP"); items = OfSubprogram (record { place = 0; name = named (codes "RUN"); formals = []; result = None }) ∷ []; end_name = named (codes "APP") };
       body = record { place = 0; name = named (codes "APP"); items = items; end_name = named (codes "APP") };
       with_name = named (codes "APP");
@@ -79,7 +86,7 @@ cut_main = refl
 abbrev pub sums : ProgramTree
 sums = runs (put_line (codes "a") (two binary.Add (num 2) (two binary.Multiply (num 3) (num 4))) ∷ put_line (codes "b") (minus (grouped (two binary.Subtract (num 7) (num 10)))) ∷ [])
 
-sums_text : source_text sums [] 20 ≡ codes "0 MAIN a 14\n0 MAIN b 3\nended at 0\n"
+pub sums_text : source_text sums [] 20 ≡ codes "0 MAIN a 14\n0 MAIN b 3\nended at 0\n"
 unfolding digits
 sums_text = refl
 
@@ -91,7 +98,7 @@ most = num 9223372036854775807
 abbrev pub overflow : ProgramTree
 overflow = runs (put_line (codes "a") most ∷ put_line (codes "b") (two binary.Add most (num 1)) ∷ put_line (codes "c") (num 2) ∷ [])
 
-overflow_text : source_text overflow [] 20 ≡ codes "0 MAIN a 9223372036854775807\nunhandled CONSTRAINT_ERROR in MAIN at 0\n"
+pub overflow_text : source_text overflow [] 20 ≡ codes "0 MAIN a 9223372036854775807\nunhandled CONSTRAINT_ERROR in MAIN at 0\n"
 unfolding digits
 overflow_text = refl
 
@@ -208,14 +215,17 @@ over_text = refl
 
 -- Exception 0 is none: it has no name, and no handler of a name covers it
 
-none_is_unnamed : exception_name 0 ≡ []
-none_is_unnamed = refl
+none_is_unnamed : (p : Program) → exception_name p 0 ≡ []
+none_is_unnamed p = refl
 
-first_is_named : exception_name 1 ≡ codes "CONSTRAINT_ERROR"
+abbrev sums_program : Program
+sums_program = programs.program_of sums
+
+first_is_named : exception_name sums_program 1 ≡ codes "CONSTRAINT_ERROR"
 first_is_named = refl
 
-none_is_uncovered : covers 0 (choice.Exception (named (codes "CONSTRAINT_ERROR"))) ≡ false
+none_is_uncovered : covers sums_program 0 (choice.Exception (named (codes "CONSTRAINT_ERROR"))) ≡ false
 none_is_uncovered = refl
 
-first_is_covered : covers 1 (choice.Exception (named (codes "CONSTRAINT_ERROR"))) ≡ true
+first_is_covered : covers sums_program 1 (choice.Exception (named (codes "CONSTRAINT_ERROR"))) ≡ true
 first_is_covered = refl

@@ -4,3 +4,10 @@ pub mod Refuted
 pub mod Nulls
 pub mod CodeExamples
 pub mod Faults
+pub mod Trees
+pub mod Sequential
+pub mod Tasking
+pub mod Protection
+pub mod CallPoints
+pub mod TaskPoints
+pub mod WrongSteps

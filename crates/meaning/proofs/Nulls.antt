@@ -19,10 +19,10 @@ use Rattle.image.specs.Code as image
 use Rattle.ada_tree.specs.declared.expression.Identifier.{Identifier}
 use Rattle.ada_tree.specs.ProgramTree.{ProgramTree}
 use Rattle.meaning.specs.Meeting.{Relation, Last, Met, Still, Moves, Owed, Meets, Related}
-use Rattle.meaning.specs.Works.{Item, DoesMain, Work, Goes, Raising, TaskWork, Store, Given}
-use Rattle.meaning.specs.Programs.{partition_of, source_names}
-use Rattle.meaning.specs.SourceSteps.{source_behaviour, work_step}
-use Rattle.meaning.specs.Source.{source_start, initial_work}
+use Rattle.meaning.specs.Works.{DoesMain, Goes, TaskWork, Store, Given}
+use Rattle.meaning.specs.Programs.{program_of}
+use Rattle.meaning.specs.SourceSteps.{here_of, items_of, work_step}
+use Rattle.meaning.specs.Source.{partition_of, source_names, source_behaviour, source_start, initial_work}
 use Rattle.meaning.specs.SameMeaning.{frames_of}
 use Rattle.meaning.specs.Compiling.{MeetsUnder, met_keeps_count}
 use Rattle.meaning.specs.NullExample.{nulls, null_program, return_image, ReturnMeansNulls}
@@ -79,10 +79,6 @@ module _ (name : Identifier) where
     left : ℕ
     work : w.work ≡ Goes (map DoesMain (nulls left))
 
-  abbrev items_of : Work → List Item
-  items_of (Goes items) = items
-  items_of (Raising x items) = items
-
   abbrev size : TaskWork → ℕ
   size w = length (items_of w.work)
 
@@ -101,12 +97,12 @@ module _ (name : Identifier) where
 
     met_by : (i : ℕ) (k : Kernel) (t : ℕ) (a : Solo Store TaskWork) (b : Solo Words TaskState) → Shared a.memory b.memory → b.task ≡ first_state → a.task.work ≡ Goes (map DoesMain (nulls i)) → Meet k t a b
     met_by zero k t a b sh first e =
-        let is = ap (λ w. work_step p a.memory a.task.activations w) e in
+        let is = ap (λ w. work_step (here_of (program_of p) schedule k t a) w) e in
         let there = act_first schedule k t b first in
         Moves 1 b (Last refl) (omega arith) (ap (λ y. y.effect) there ∙ sym (ap (λ y. y.effect) is)) (ap (λ y. y.solo.memory.variables) is ∙ sh)
         (ap (λ y. y.effect) is, record { first = ap (λ y. y.solo.task) there; left = 0; work = ap (λ y. y.solo.task.work) is })
     met_by (suc i) k t a b sh first e =
-        let is = ap (λ w. work_step p a.memory a.task.activations w) e in
+        let is = ap (λ w. work_step (here_of (program_of p) schedule k t a) w) e in
         let less : size ((source_behaviour p schedule).act k t a).solo.task ≡ length (map DoesMain (nulls i)) = ap (λ y. size y.solo.task) is in
         let more : size a.task ≡ length (map DoesMain (nulls (suc i))) = ap (λ w. length (items_of w)) e in
         Still (ap (λ y. y.effect) is) (ap (λ y. y.solo.memory.variables) is ∙ sh) (record { first = first; left = i; work = ap (λ y. y.solo.task.work) is }) (omega (arith, less, more))
@@ -133,7 +129,7 @@ module _ (name : Identifier) where
       base_low zero = omega arith
       base_low (suc t) = omega arith
 
-      stands_first : (u : ℕ) → Stands (source_start p).kernel u (initial_work p u) (initial_state code_image u)
+      stands_first : (u : ℕ) → Stands (source_start p).kernel u (initial_work (program_of p) u) (initial_state code_image u)
       stands_first zero = record { first = refl; left = n; work = refl }
       stands_first (suc u) = record { first = initial_first (suc u); left = 0; work = refl }
 

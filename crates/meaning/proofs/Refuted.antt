@@ -1,13 +1,21 @@
 -- Wrong meanings, each refused by an expression or a program for which it gives what the manual does not.
-use Rattle.std.proofs.Common.{◌≡◌, ℤ, refl, sym, ap, ◌∙◌}
+use Rattle.std.proofs.Common.{◌≡◌, [], ℤ, refl, sym, ap, ◌∙◌}
 use Rattle.std.specs.Prelude.{pos, negsuc}
 use Rattle.ada_tree.specs.declared.expression.BinaryOperator.TheVariants as binary
 use Rattle.ada_tree.specs.ExpressionTree.{ExprTree, Number, Named, Parenthesized, Conditional, Unary, Binary}
 use Rattle.types.specs.Values as values
-use Rattle.types.specs.Evaluations.{Gives, Raises, Meaningless, and_then}
+use Rattle.types.specs.Evaluations.{Val, Gives, Raises, Meaningless, and_then}
 use Rattle.types.specs.Operators.{unary_value, binary_value}
-use Rattle.meaning.specs.Values.{Evaluation, value}
+use Rattle.types.specs.Statics.{static_place}
+use Rattle.types.specs.Evaluating.{val}
 use Rattle.meaning.proofs.Examples.{num, two}
+
+-- at a place where there is nothing
+abbrev Evaluation : Type 0
+Evaluation = Val values.Value
+
+abbrev value : ExprTree → Evaluation
+value e = val (static_place []) e
 
 abbrev number_in : Evaluation → ℤ
 number_in (Gives (values.Number z)) = z

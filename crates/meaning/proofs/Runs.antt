@@ -13,9 +13,7 @@ use Rattle.ada_tree.specs.ProgramTree.{ProgramTree}
 use Rattle.meaning.specs.Same.{Covers}
 use Rattle.meaning.specs.Following.{paced_same}
 use Rattle.meaning.specs.Meeting.{Counted}
-use Rattle.meaning.specs.Programs.{source_names}
-use Rattle.meaning.specs.SourceSteps.{source_behaviour}
-use Rattle.meaning.specs.Source.{source, source_start}
+use Rattle.meaning.specs.Source.{source, source_behaviour, source_names, source_start}
 use Rattle.meaning.specs.SameMeaning.{SameNames, frames_of}
 use Rattle.meaning.specs.Laws.{SourceStays, SourceLinesGrow, CountGivesMeaning, MeaningIsWritten}
 

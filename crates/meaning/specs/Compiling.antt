@@ -13,8 +13,7 @@ use Rattle.ada_tree.specs.ProgramTree.{ProgramTree}
 use Rattle.meaning.specs.Meeting.{Relation, Meets, Related}
 use Rattle.meaning.specs.Lifting.{steps_of_other, met_paced}
 use Rattle.meaning.specs.Works.{TaskWork, Store, Given}
-use Rattle.meaning.specs.SourceSteps.{source_behaviour}
-use Rattle.meaning.specs.Source.{source_start}
+use Rattle.meaning.specs.Source.{source_start, source_behaviour}
 use Rattle.meaning.specs.SameMeaning.{frames_of, KeepsCount}
 
 -- `rel` says which words stand for which variables and which frames for which work; `Keeps` is an invariant of the code's worlds

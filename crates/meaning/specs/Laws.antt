@@ -9,8 +9,7 @@ use Rattle.image.specs.Texts.{names_of}
 use Rattle.image.specs.Frames.{TaskState}
 use Rattle.image.specs.Code.{code, code_text}
 use Rattle.ada_tree.specs.ProgramTree.{ProgramTree}
-use Rattle.meaning.specs.Programs.{source_names}
-use Rattle.meaning.specs.Source.{source, source_text}
+use Rattle.meaning.specs.Source.{source, source_text, source_names}
 use Rattle.meaning.specs.SameMeaning.{SameNames, SameMeaning, KeepsCount}
 
 -- a world with an outcome does not change

@@ -3,9 +3,10 @@ pub mod Following
 pub mod Meeting
 pub mod MeetingLaws
 pub mod Lifting
-pub mod Values
-pub mod Works
 pub mod Programs
+pub mod Works
+pub mod Targets
+pub mod Calls
 pub mod SourceSteps
 pub mod Source
 pub mod SameMeaning

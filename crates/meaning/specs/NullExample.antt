@@ -7,7 +7,8 @@ use Rattle.ada_tree.specs.declared.expression.Identifier.{Identifier}
 use Rattle.ada_tree.specs.declared.program.MainStatement.{MainStatement}
 use Rattle.ada_tree.specs.declared.program.MainStatement.TheVariants as main
 use Rattle.ada_tree.specs.ProgramTree.{ProgramTree}
-use Rattle.meaning.specs.Programs.{default_priority, exception_names}
+use Rattle.base.specs.Names.{predefined}
+use Rattle.declaring.specs.TaskRules.{default_priority}
 use Rattle.meaning.specs.SameMeaning.{SameMeaning}
 
 abbrev pub nulls : ℕ → List MainStatement
@@ -21,7 +22,7 @@ null_program name n = record { pragmas = []; package_ = None; main = record { pl
 abbrev pub return_image : List ℕ → Sections
 return_image name =
     record {
-      exceptions = exception_names;
+      exceptions = predefined;
       labels = [];
       plain_words = [];
       objects = [];

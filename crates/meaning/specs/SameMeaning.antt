@@ -12,9 +12,7 @@ use Rattle.ada_tree.specs.ProgramTree.{ProgramTree}
 use Rattle.meaning.specs.Same.{ShowSame}
 use Rattle.meaning.specs.Following.{Paced}
 use Rattle.meaning.specs.Meeting.{Counted}
-use Rattle.meaning.specs.Programs.{source_names}
-use Rattle.meaning.specs.SourceSteps.{source_behaviour}
-use Rattle.meaning.specs.Source.{source, source_start}
+use Rattle.meaning.specs.Source.{source, source_start, source_names, source_behaviour}
 
 -- tasks and exceptions have the same names
 pub record SameNames (p : ProgramTree) (i : Sections) : Type 0 where

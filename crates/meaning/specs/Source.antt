@@ -1,29 +1,57 @@
 -- The run of a program under a schedule: its start, and its world after n steps.
-use Rattle.std.specs.Prelude.{ℕ, zero, suc, List, [], ◌∷◌, map}
+use Rattle.std.specs.Prelude.{ℕ, List, [], ◌∷◌, ◌++◌, map, Option, Some, None, slice_get}
 use Rattle.base.specs.declared.schedule.ScheduleLine.{ScheduleLine}
+use Rattle.kernel.specs.State.{Partition}
 use Rattle.kernel.specs.Effects.{begin}
-use Rattle.kernel.specs.Worlds.{World, Tasks, among, run}
-use Rattle.kernel.specs.Text.{text}
+use Rattle.kernel.specs.Worlds.{World, Tasks, Behaviour, among, run}
+use Rattle.kernel.specs.Text.{Names, text}
 use Rattle.ada_tree.specs.ProgramTree.{ProgramTree}
-use Rattle.meaning.specs.Works.{DoesMain, Goes, TaskWork, Store}
-use Rattle.meaning.specs.Programs.{partition_of, source_names}
-use Rattle.meaning.specs.SourceSteps.{source_behaviour}
+use Rattle.meaning.specs.Works.{Item, Declares, DoesMain, Sequence, Goes, TaskWork, Store, Given}
+use Rattle.meaning.specs.Programs.{Duty, OfBody, OfMain, Task, Program, program_names, program_of, program_partition}
+use Rattle.meaning.specs.SourceSteps.{program_behaviour}
 
--- a task at the start has its body to do (RM 9.2): main, which is number 0
-abbrev pub initial_work : ProgramTree → ℕ → TaskWork
-initial_work p zero = record { work = Goes (map DoesMain p.main.statements); activations = record { subprogram = p.main.name.name; locals = [] } ∷ [] }
-initial_work p (suc t) = record { work = Goes []; activations = [] }
+-- a task at the start has its body to do (RM 9.2)
+abbrev pub duty_items : Duty → List Item
+duty_items (OfBody b) = map Declares b.declarations ++ Sequence b.statements b.handlers ∷ []
+duty_items (OfMain statements) = map DoesMain statements
+
+abbrev pub task_items : Option Task → List Item
+task_items (Some t) = duty_items t.duty
+task_items None = []
+
+abbrev pub initial_work : Program → ℕ → TaskWork
+initial_work p t = record { work = Goes (task_items (slice_get p.tasks t)); own = record { within = None; locals = [] }; callers = [] }
 
 abbrev pub SourceWorld : Type 0
 SourceWorld = World (Tasks Store TaskWork)
 
-abbrev pub source_start : ProgramTree → SourceWorld
-source_start p = record { kernel = begin (partition_of p); rest = record { memory = record { variables = [] }; tasks = initial_work p } }
+abbrev pub start_of : Program → SourceWorld
+start_of p = record { kernel = begin (program_partition p); rest = record { memory = record { variables = p.variables; components = p.components }; tasks = initial_work p } }
 
 -- the world after n steps
-abbrev pub source : ProgramTree → List ScheduleLine → ℕ → SourceWorld
-source p schedule n = run (among (source_behaviour p schedule)) n (source_start p)
+abbrev pub run_of : Program → List ScheduleLine → ℕ → SourceWorld
+run_of p schedule n = run (among (program_behaviour p schedule)) n (start_of p)
 
 -- what the run writes that is cut after n steps
+abbrev pub text_of : Program → List ScheduleLine → ℕ → List ℕ
+text_of p schedule n = text (program_names p) (run_of p schedule n).kernel
+
+-- ---- the same of a program by its tree
+
+abbrev pub partition_of : ProgramTree → Partition
+partition_of p = program_partition (program_of p)
+
+abbrev pub source_names : ProgramTree → Names
+source_names p = program_names (program_of p)
+
+abbrev pub source_behaviour : ProgramTree → List ScheduleLine → Behaviour Store TaskWork Given
+source_behaviour p schedule = program_behaviour (program_of p) schedule
+
+abbrev pub source_start : ProgramTree → SourceWorld
+source_start p = start_of (program_of p)
+
+abbrev pub source : ProgramTree → List ScheduleLine → ℕ → SourceWorld
+source p schedule n = run_of (program_of p) schedule n
+
 abbrev pub source_text : ProgramTree → List ScheduleLine → ℕ → List ℕ
-source_text p schedule n = text (source_names p) (source p schedule n).kernel
+source_text p schedule n = text_of (program_of p) schedule n

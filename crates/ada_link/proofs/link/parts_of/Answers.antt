@@ -19,7 +19,7 @@ into_parts-requires-clause-name c = rw c.as_bytes.ensures.same (main_named (prog
 pub returns-clause-linked : goal.returns-clause-linked
 returns-clause-linked c =
     IfOk-weaker _ _ _
-    (λ parts h. program_linked (program_tree c.args.program.now) parts _ _ c.in_ok-code.ensures.has (rw c.deref.ensures.value at c.in_ok-main.ensures.emits) (rw c.as_bytes.ensures.same at h))
+    (λ parts h. program_linked (program_tree c.args.program.now) parts _ _ c.requires c.in_ok-code.ensures.has (rw c.deref.ensures.value at c.in_ok-main.ensures.emits) (rw c.as_bytes.ensures.same at h))
     c.into_parts.ensures.has
 
 pub into_parts-requires-clause-few : goal.into_parts-requires-clause-few
