@@ -10,8 +10,9 @@ use Rattle.image.specs.Sections.{Sections}
 use Rattle.image.specs.Rules.{IsWellFormed}
 use Rattle.ada_tree.specs.declared.program.Program.{Program}
 use Rattle.ada_tree.specs.ProgramTree.{ProgramTree, program_tree}
-use Rattle.expr_rules.specs.Faults.{IsLeast}
+use Rattle.expr_rules.specs.Faults.{Faults, IsLeast}
 use Rattle.checking.specs.ProgramRules.{IsLegal, RefusesProgram, program_faults}
+use Rattle.ravenscar.specs.ProgramRules.{IsRestricted, RefusesUnrestricted, restriction_faults}
 use Rattle.meaning.specs.SameMeaning.{KeepsCount, SameMeaning}
 use Rattle.ada_link.specs.FirstLanguage.{is_first_program}
 use Rattle.ada_link.specs.Refusals.{RefusesTree}
@@ -21,22 +22,25 @@ use Rattle.adarun.specs.Accepted.{Compiles, IsGiven, IsJudged, IsTreeOf, Refuses
 -- the program that was read is the one that was checked
 pub compiles : {E : Type 0} (r : Result Sections E) (text : List ℕ) (tokens list : List Token) (read : Program)
     → Spells text tokens → list ≡ tokens → Derives (program_tree read) list
-    → (checked : Program) → checked ≡ read → IsLegal (program_tree checked)
+    → (checked : Program) → checked ≡ read → IsLegal (program_tree checked) → IsRestricted (program_tree checked)
     → IfOk r (λ i. SameMeaning (program_tree checked) i)
     → IfOk r (λ i. KeepsCount (program_tree checked) i (most_steps (program_tree checked)))
     → IfOk r (λ i. IsWellFormed i)
     → OnOk r (is_first_program (program_tree checked) ≡ true)
     → IfOk r (λ i. Compiles text i)
-compiles (Ok i) text tokens list read spells same derives checked is legal means counted well_formed first =
+compiles (Ok i) text tokens list read spells same derives checked is legal restricted means counted well_formed first =
     let derived = subst (λ p. Derives (program_tree p) tokens) (sym is) (subst (Derives (program_tree read)) same derives) in
     record {
       tree = program_tree checked;
-      accepted = record { is_tree = record { tokens = tokens; spells = spells; derives = derived }; legal = legal; is_first = first };
+      accepted = record {
+        accepted = record { is_tree = record { tokens = tokens; spells = spells; derives = derived }; legal = legal; restricted = restricted };
+        is_first = first;
+      };
       means = means;
       counted = counted;
       well_formed = well_formed;
     }
-compiles (Err e) text tokens list read spells same derives checked is legal means counted well_formed first = tt
+compiles (Err e) text tokens list read spells same derives checked is legal restricted means counted well_formed first = tt
 
 -- a refusal of the text's tree, where the text is of the first language
 not_outside : (tree : ProgramTree) (fault : Fault) → is_first_program tree ≡ true → RefusesTree tree fault → IsGiven tree (Err fault)
@@ -49,32 +53,79 @@ pub given : (r : Result Sections Fault) (tree made : ProgramTree) → made ≡ t
 given (Ok i) tree made same first means refused = subst (λ t. SameMeaning t i) same means
 given (Err f) tree made same first means refused = not_outside tree f first (subst (λ t. RefusesTree t f) same refused)
 
+-- ---- where nothing is broken nothing is the least
+
+nothing_least : (faults : Faults) (fault : Fault) → faults ≡ [] → IsLeast faults fault → ⊥
+nothing_least faults fault none least =
+    let there : Contains [] fault = subst (λ fs. Contains fs fault) none least.listed in
+    let no : there.0 < 0 = there.1 in
+    omega (arith, no)
+
+-- what is legal is not refused by the check but for want of memory, and what is restricted not by the restrictions
+
+pub legal_given : (tree made : ProgramTree) (fault : Fault) → made ≡ tree → IsLegal tree → RefusesProgram made fault → IsGiven tree (Err fault)
+legal_given tree made fault same legal (inl memory) = inl memory
+legal_given tree made fault same legal (inr least) = absurd (nothing_least (program_faults tree) fault legal (subst (λ t. IsLeast (program_faults t) fault) same least))
+
+pub restricted_given : (tree made : ProgramTree) (fault : Fault) → made ≡ tree → IsRestricted tree → RefusesUnrestricted made fault → IsGiven tree (Err fault)
+restricted_given tree made fault same restricted (inl memory) = inl memory
+restricted_given tree made fault same restricted (inr least) =
+    absurd (nothing_least (restriction_faults tree) fault restricted (subst (λ t. IsLeast (restriction_faults t) fault) same least))
+
+-- ---- how a tree is judged
+
 -- what the check refuses
 pub judged : (tree made : ProgramTree) (fault : Fault) → made ≡ tree → RefusesProgram made fault → IsJudged tree (Err fault)
 judged tree made fault same (inl memory) = inl memory
 judged tree made fault same (inr least) = inr (inl (subst (λ t. IsLeast (program_faults t) fault) same least))
 
--- what is legal is not refused by the check but for want of memory
-pub legal_given : (tree made : ProgramTree) (fault : Fault) → made ≡ tree → IsLegal tree → RefusesProgram made fault → IsGiven tree (Err fault)
-legal_given tree made fault same legal (inl memory) = inl memory
-legal_given tree made fault same legal (inr least) =
-    let there : Contains [] fault = subst (λ fs. Contains fs fault) legal (subst (λ t. Contains (program_faults t) fault) same least.listed) in
-    let none : there.0 < 0 = there.1 in
-    absurd (omega (arith, none))
+-- what is legal and refused by a restriction
+pub judged_legal : (tree made : ProgramTree) (fault : Fault) → made ≡ tree → IsLegal made → RefusesUnrestricted made fault → IsJudged tree (Err fault)
+judged_legal tree made fault same legal (inl memory) = inl memory
+judged_legal tree made fault same legal (inr least) = inr (inr (inl (subst IsLegal same legal, subst (λ t. IsLeast (restriction_faults t) fault) same least)))
 
--- what was checked is legal
-pub judged_legal : (r : Result Sections Fault) (tree made : ProgramTree) → made ≡ tree → IsLegal made → IsJudged tree r
-judged_legal (Ok i) tree made same legal = subst IsLegal same legal
-judged_legal (Err fault) tree made same legal = inr (inr (subst IsLegal same legal))
+-- what breaks no rule
+pub judged_accepted : (r : Result Sections Fault) (tree made : ProgramTree) → made ≡ tree → IsLegal made → IsRestricted made
+    → IfErr r (λ f. RefusesTree made f) → IsJudged tree r
+judged_accepted (Ok i) tree made same legal restricted refused = (subst IsLegal same legal, subst IsRestricted same restricted)
+judged_accepted (Err fault) tree made same legal restricted refused =
+    inr (inr (inr (subst IsLegal same legal, (subst IsRestricted same restricted, subst (λ t. RefusesTree t fault) same refused))))
 
--- a text whose legal tree is not compiled
-pub refused_text : {A : Type 0} (r : Result A Fault) (text : List ℕ) (tokens list : List Token) (read : Program)
-    → Spells text tokens → list ≡ tokens → Derives (program_tree read) list
-    → (checked : Program) → checked ≡ read → IsLegal (program_tree checked)
+-- ---- texts that are not compiled
+
+-- the tree of the program that was read, of which another one is a copy
+read_tree : (text : List ℕ) (tokens list : List Token) (read copy : Program)
+    → Spells text tokens → list ≡ tokens → Derives (program_tree read) list → copy ≡ read → IsTreeOf (program_tree copy) text
+read_tree text tokens list read copy spells same derives is = record {
+  tokens = tokens;
+  spells = spells;
+  derives = subst (λ p. Derives (program_tree p) tokens) (sym is) (subst (Derives (program_tree read)) same derives);
+}
+
+-- its legal tree breaks a restriction
+pub unrestricted_text : (text : List ℕ) (tokens list : List Token) (read checked : Program) (fault : Fault)
+    → Spells text tokens → list ≡ tokens → Derives (program_tree read) list → checked ≡ read → IsLegal (program_tree read)
+    → RefusesUnrestricted (program_tree checked) fault
+    → RefusesText text fault
+unrestricted_text text tokens list read checked fault spells same derives is legal (inl memory) = inl memory
+unrestricted_text text tokens list read checked fault spells same derives is legal (inr least) =
+    inr (inr (inr (inr (inl (record {
+      tree = program_tree checked;
+      is_tree = read_tree text tokens list read checked spells same derives is;
+      legal = subst (λ p. IsLegal (program_tree p)) (sym is) legal;
+      least = least;
+    })))))
+
+-- it is accepted
+pub refused_text : {A : Type 0} (r : Result A Fault) (text : List ℕ) (tokens list : List Token) (read checked : Program)
+    → Spells text tokens → list ≡ tokens → Derives (program_tree read) list → checked ≡ read
+    → IsLegal (program_tree checked) → IsRestricted (program_tree checked)
     → IfErr r (λ f. RefusesTree (program_tree checked) f)
     → IfErr r (λ f. RefusesText text f)
-refused_text (Ok a) text tokens list read spells same derives checked is legal refused = tt
-refused_text (Err fault) text tokens list read spells same derives checked is legal refused =
-    let derived = subst (λ p. Derives (program_tree p) tokens) (sym is) (subst (Derives (program_tree read)) same derives) in
-    let is_tree : IsTreeOf (program_tree checked) text = record { tokens = tokens; spells = spells; derives = derived } in
-    inr (inr (inr (inr (record { tree = program_tree checked; is_tree = is_tree; legal = legal; refused = refused }))))
+refused_text (Ok a) text tokens list read checked spells same derives is legal restricted refused = tt
+refused_text (Err fault) text tokens list read checked spells same derives is legal restricted refused =
+    inr (inr (inr (inr (inr (record {
+      tree = program_tree checked;
+      accepted = record { is_tree = read_tree text tokens list read checked spells same derives is; legal = legal; restricted = restricted };
+      refused = refused;
+    })))))

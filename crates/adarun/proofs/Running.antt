@@ -13,8 +13,7 @@ use Rattle.image_laws.specs.Laws.{OutcomeStays}
 use Rattle.ada_tree.specs.ProgramTree.{ProgramTree}
 use Rattle.meaning.specs.Same.{Ends}
 use Rattle.meaning.specs.SameMeaning.{SameMeaning}
-use Rattle.meaning.specs.Programs.{source_names}
-use Rattle.meaning.specs.Source.{source}
+use Rattle.meaning.specs.Source.{source, source_names}
 use Rattle.machine.specs.Outcomes.{ending_of}
 use Rattle.machine.specs.Stands.{EndsBy}
 use Rattle.machine.specs.declared.reports.Outcome as machine

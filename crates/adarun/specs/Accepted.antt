@@ -1,4 +1,4 @@
--- Which texts are programs, which of these are legal, and which are compiled.
+-- Which texts are programs, which of these are accepted, and which are compiled.
 use Rattle.std.specs.Prelude.{◌≡◌, ◌⊎◌, ℕ, List, true, Result, Ok, Err}
 use Rattle.lexer.specs.Fault.{memory_fault}
 use Rattle.lexer.specs.Spelling.{Spells, IsBroken}
@@ -11,6 +11,7 @@ use Rattle.image.specs.declared.building.Image.{Image}
 use Rattle.ada_tree.specs.ProgramTree.{ProgramTree}
 use Rattle.expr_rules.specs.Faults.{IsLeast}
 use Rattle.checking.specs.ProgramRules.{IsLegal, program_faults}
+use Rattle.ravenscar.specs.ProgramRules.{IsRestricted, restriction_faults}
 use Rattle.meaning.specs.SameMeaning.{KeepsCount, SameMeaning}
 use Rattle.ada_link.specs.FirstLanguage.{is_first_program}
 use Rattle.ada_link.specs.Refusals.{RefusesTree, too_large}
@@ -22,16 +23,22 @@ pub record IsTreeOf (tree : ProgramTree) (text : List ℕ) : Type 0 where
   pub spells : Spells text tokens
   pub derives : Derives tree tokens
 
--- the tree of the text is a legal program, and one of the first language
+-- An accepted text: it has at most as many bytes as a text may have and tokens spell it, a tree with at most as many levels as may be open at once derives
+-- these, and the tree breaks no rule from 10 to 39.
 pub record IsAccepted (tree : ProgramTree) (text : List ℕ) : Type 0 where
   pub is_tree : IsTreeOf tree text
   pub legal : IsLegal tree
+  pub restricted : IsRestricted tree
+
+-- an accepted text of the first language
+pub record IsOfFirstLanguage (tree : ProgramTree) (text : List ℕ) : Type 0 where
+  pub accepted : IsAccepted tree text
   pub is_first : is_first_program tree ≡ true
 
 -- a well-formed image that means the same as the text's tree, which is of the first language, and keeps the count of steps
 pub record Compiles (text : List ℕ) (image : Sections) : Type 0 where
   pub tree : ProgramTree
-  pub accepted : IsAccepted tree text
+  pub accepted : IsOfFirstLanguage tree text
   pub means : SameMeaning tree image
   pub counted : KeepsCount tree image (most_steps tree)
   pub well_formed : IsWellFormed image
@@ -48,22 +55,35 @@ pub record HasIllegalTree (text : List ℕ) (fault : Fault) : Type 0 where
   pub is_tree : IsTreeOf tree text
   pub least : IsLeast (program_faults tree) fault
 
--- its tree is legal, and not compiled
-pub record HasRefusedTree (text : List ℕ) (fault : Fault) : Type 0 where
+-- its tree is legal, and breaks this rule from 30 to 39, and none before it
+pub record HasUnrestrictedTree (text : List ℕ) (fault : Fault) : Type 0 where
   pub tree : ProgramTree
   pub is_tree : IsTreeOf tree text
   pub legal : IsLegal tree
+  pub least : IsLeast (restriction_faults tree) fault
+
+-- the text is accepted, and not compiled
+pub record HasRefusedTree (text : List ℕ) (fault : Fault) : Type 0 where
+  pub tree : ProgramTree
+  pub accepted : IsAccepted tree text
   pub refused : RefusesTree tree fault
 
--- memory was refused; no tokens spell the text; they have no tree; the tree is illegal; or it is legal and not compiled
+-- memory was refused; no tokens spell the text; they have no tree; the tree is illegal; it is legal and breaks a restriction; or the text is accepted and not
+-- compiled
 abbrev pub RefusesText : List ℕ → Fault → Type 0
 RefusesText text fault =
-    (fault ≡ memory_fault) ⊎ (IsBroken text fault ⊎ (HasNoTree text fault ⊎ (HasIllegalTree text fault ⊎ HasRefusedTree text fault)))
+    (fault ≡ memory_fault)
+    ⊎ (IsBroken text fault ⊎ (HasNoTree text fault ⊎ (HasIllegalTree text fault ⊎ (HasUnrestrictedTree text fault ⊎ HasRefusedTree text fault))))
 
--- the tree is legal, or its text is refused by its least fault or for want of memory
+-- The tree breaks no rule; or its text is refused for want of memory, by the least rule from 10 to 23 that it breaks, where it is legal by the least one from
+-- 30 to 39, and where it breaks none of these for what is compiled today.
 abbrev pub IsJudged : ProgramTree → Result Image Fault → Type 0
-IsJudged tree (Ok image) = IsLegal tree
-IsJudged tree (Err fault) = (fault ≡ memory_fault) ⊎ (IsLeast (program_faults tree) fault ⊎ IsLegal tree)
+IsJudged tree (Ok image) = IsLegal tree × IsRestricted tree
+IsJudged tree (Err fault) =
+    (fault ≡ memory_fault)
+    ⊎ (IsLeast (program_faults tree) fault
+    ⊎ ((IsLegal tree × IsLeast (restriction_faults tree) fault)
+    ⊎ (IsLegal tree × (IsRestricted tree × RefusesTree tree fault))))
 
 -- memory was refused, or the program's code is too large
 abbrev pub IsRefusedOnlyBy : ProgramTree → Fault → Type 0

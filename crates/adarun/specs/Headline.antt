@@ -9,15 +9,14 @@ use Rattle.image.specs.Sections.{Sections}
 use Rattle.image.specs.Rules.{IsWellFormed}
 use Rattle.image.specs.Code.{code, code_text}
 use Rattle.ada_tree.specs.ProgramTree.{ProgramTree}
-use Rattle.meaning.specs.Programs.{source_names}
 use Rattle.meaning.specs.SameMeaning.{KeepsCount, SameMeaning}
-use Rattle.meaning.specs.Source.{source, source_text}
+use Rattle.meaning.specs.Source.{source, source_names, source_text}
 use Rattle.machine.specs.Outcomes.{ending_of, time_of}
 use Rattle.machine.specs.Stands.{EndsBy}
 use Rattle.machine.specs.Written.{AppendsBeginning}
 use Rattle.machine.specs.declared.reports.Outcome as machine
 use Rattle.ada_link.specs.Size.{most_steps}
-use Rattle.adarun.specs.Accepted.{Compiles, IsAccepted}
+use Rattle.adarun.specs.Accepted.{Compiles, IsOfFirstLanguage}
 
 -- the text of a run that is cut: a beginning of the lines of the source, and the line that says so
 pub record IsCut (tree : ProgramTree) (schedule : List ScheduleLine) (outcome : machine.Outcome) (written : List ℕ) : Type 0 where
@@ -51,7 +50,7 @@ pub record Runs (text input : List ℕ) (limit : ℕ) (outcome : machine.Outcome
   pub schedule : List ScheduleLine
   pub is_schedule : IsScheduleText input schedule
   pub tree : ProgramTree
-  pub accepted : IsAccepted tree text
+  pub accepted : IsOfFirstLanguage tree text
   pub image : Sections
   pub means : SameMeaning tree image
   pub counted : KeepsCount tree image (most_steps tree)

@@ -1,0 +1,4 @@
+mod BodyExamples
+mod Parts
+mod ProgramExamples
+mod Sample

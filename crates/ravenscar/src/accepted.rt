@@ -1,0 +1,117 @@
+//! Programs that are legal and break no restriction of the profile.
+ghost use Rattle.std.specs.Prelude.{◌≡◌, IfErr, IfOk, OnOk, option_map, slice_get};
+ghost use Rattle.ada_tree.specs.ProgramTree.{main_tree, package_tree, program_tree};
+ghost use Rattle.checking.specs.ProgramLayouts.{object_layouts, program_scope, variables_layout};
+ghost use Rattle.checking.specs.ProgramRules.{IsLegal};
+ghost use Rattle.expr_rules.specs.Faults.{least};
+ghost use Rattle.legality.specs.MainRules.{main_scope};
+ghost use Rattle.ravenscar.specs.TaskingRules.{aspect_faults};
+ghost use Rattle.ravenscar.specs.ProgramRules.{IsRestricted, RefusesUnrestricted, restriction_faults};
+
+use crate::package::package_part_fault;
+use crate::pragmas::pragma_fault;
+use crate::tasking::aspect_fault;
+use ada_tree::{Main, Package, Program};
+use checking::Checked;
+use expr_rules::laws::{least_by_parts, least_is_least};
+use expr_rules::sooner;
+use legality::main_scope;
+use lexer::Fault;
+use std::alloc::{AllocError, Global};
+use std::marker::Model;
+use types::{Layout, Scope};
+
+/// A legal program within the profile. It lends what the checked program lends, and contracts see the program itself.
+#[derive(Drop)]
+pub struct Accepted {
+    checked: Checked,
+}
+
+impl Model for Accepted {
+    ghost use Rattle.ada_tree.specs.declared.program.Program as declared;
+    ghost use Rattle.ada_tree.specs.ProgramTree.{program_tree};
+    ghost use Rattle.checking.specs.ProgramRules.{IsLegal};
+    ghost use Rattle.ravenscar.specs.ProgramRules.{IsRestricted};
+    ghost use Rattle.ada_tree.specs.contracts.program.Program as contract;
+    ghost use Rattle.std.specs.Coded.{codes};
+
+    ghost Value = { declared.Program };
+
+    ghost coded = { Prim.hlevel (codes, contract.the_row.coded) };
+
+    ghost view = { λ a. a.checked };
+
+    ghost invariant = { λ a. IsLegal (program_tree a.checked) × IsRestricted (program_tree a.checked) };
+}
+
+impl Accepted {
+    /// The program, which breaks no rule from 10 to 39.
+    pub fn program(&self) -> &Program
+        ensures same { result.now ≡ self.now }
+        ensures legal { IsLegal (program_tree self.now) }
+        ensures restricted { IsRestricted (program_tree self.now) }
+    {
+        self.checked.program()
+    }
+
+    /// The names that are visible behind the package (`Checked::scope`).
+    pub fn scope(&self) -> &Scope
+        ensures { result.now ≡ program_scope (program_tree self.now) }
+    {
+        self.checked.scope()
+    }
+
+    /// Where the variables of the package stand (`Checked::layout`).
+    pub fn layout(&self) -> &Layout
+        ensures { result.now ≡ variables_layout (program_scope (program_tree self.now)) }
+    {
+        self.checked.layout()
+    }
+
+    /// Where the components of the protected object with this number stand; `None` where there is no such object (`Checked::object_layout`).
+    pub fn object_layout(&self, number: usize) -> Option<&Layout>
+        ensures { option_map (λ l. l.now) result ≡ slice_get (object_layouts (program_scope (program_tree self.now))) number }
+    {
+        self.checked.object_layout(number)
+    }
+}
+
+fn main_fault(
+    alloc: Global,
+    package_: Option<&Package>,
+    main: &Main,
+) -> Result<Option<Fault>, AllocError>
+    ensures { IfOk result (λ f. f ≡ least (aspect_faults (main_scope (option_map (λ p. package_tree p.now) package_.entry)) (main_tree main.now).aspect)) }
+{
+    let scope = main_scope(alloc, package_)?;
+    Ok(aspect_fault(&scope, main.aspect.as_ref()))
+}
+
+// The least restriction that a program breaks, if it breaks one.
+fn restriction_fault(alloc: Global, program: &Program) -> Result<Option<Fault>, AllocError>
+    ensures { IfOk result (λ f. f ≡ least (restriction_faults (program_tree program.now))) }
+{
+    least_by_parts();
+    let package_ = program.package_.as_ref();
+    let inside = package_part_fault(alloc, package_)?;
+    let main = main_fault(alloc, package_, &program.main)?;
+    Ok(sooner(sooner(pragma_fault(program), inside), main))
+}
+
+/// Asks of a legal program that it keeps the restrictions of the Ravenscar profile, the rules from 30 to 39. What keeps them is refused for want of memory
+/// alone.
+///
+/// # Errors
+/// The restriction that is broken at the least place, and of several there the one with the least number (docs/LANGUAGE.md, "Rules of the profile"); 60, at
+/// place 0, where memory was refused.
+pub fn restrict(alloc: Global, checked: Checked) -> Result<Accepted, Fault>
+    ensures same { IfOk result (λ accepted. accepted ≡ checked) }
+    ensures restricted { OnOk result (IsRestricted (program_tree checked)) }
+    ensures refused { IfErr result (λ fault. RefusesUnrestricted (program_tree checked) fault) }
+{
+    least_is_least();
+    match restriction_fault(alloc, checked.program())? {
+        Some(fault) => Err(fault),
+        None => Ok(Accepted { checked }),
+    }
+}
