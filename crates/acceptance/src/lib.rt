@@ -6,15 +6,21 @@ ghost use Rattle.std.specs.Prelude.{◌≡◌};
 #[cfg(test)]
 mod commands;
 #[cfg(test)]
+mod exclusion;
+#[cfg(test)]
 mod expressions;
 #[cfg(test)]
 mod grammar;
+#[cfg(test)]
+mod image_text;
 #[cfg(test)]
 mod images;
 #[cfg(test)]
 mod memory;
 #[cfg(test)]
 mod names;
+#[cfg(test)]
+mod operations;
 #[cfg(test)]
 mod protected_actions;
 #[cfg(test)]
@@ -25,5 +31,7 @@ mod spelling;
 mod statements;
 #[cfg(test)]
 mod tables;
+#[cfg(test)]
+mod task_rows;
 #[cfg(test)]
 mod virtual_time;

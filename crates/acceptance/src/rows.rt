@@ -167,7 +167,7 @@ fn texts_without_a_program_are_refused(rt: HostRuntime) -> Result<(), Fail> {
         ),
         (
             "procedure Main is begin null; end Main;",
-            "fault 90 at 1:1\n",
+            "fault 39 at 1:1\n",
         ),
         (
             "pragma Profile (Ravenscar); procedure Main is begin null; end Mane;",

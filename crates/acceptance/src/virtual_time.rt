@@ -17,7 +17,7 @@ fn refusal(alloc: Global, text: &[u8]) -> (u8, u32) {
 
 #[test]
 fn names_the_first_faulty_line(rt: HostRuntime) -> Result<(), Fail> {
-    let rows: [(&[u8], u8, u32); 12] = [
+    let rows: [(&[u8], u8, u32); 20] = [
         (b"", 0, 0),
         (b"500 1 7\n", 0, 0),
         (
@@ -34,10 +34,25 @@ fn names_the_first_faulty_line(rt: HostRuntime) -> Result<(), Fail> {
         (b"500 9 7\n", 52, 1),
         (b"500 18446744073709551617 7\n", 52, 1),
         (b"500 9 9223372036854775808\n", 50, 1),
+        (b"01 1 7\n", 50, 1),
+        (b"5 1 -0\n", 50, 1),
+        (b"5 1 7\r\n", 50, 1),
+        (b"9223372036854775808 1 0\n", 50, 1),
+        (b"5 0 1\n", 52, 1),
+        (b"5 18446744073709551616 1\n", 52, 1),
+        (b"5 1 1\n4 9 1\n", 52, 2),
+        (b"5 1 -9223372036854775808\n", 0, 0),
     ];
     for (text, number, line) in rows {
         assert_eq!(rt; refusal(rt.alloc(), text), (number, line));
     }
+    let mut many = Vec::new(rt.alloc());
+    for _ in 0..4_096 {
+        many.extend_from_slice(b"0 1 1\n")?;
+    }
+    assert_eq!(rt; refusal(rt.alloc(), &many), (0, 0));
+    many.extend_from_slice(b"0 1 1\n")?;
+    assert_eq!(rt; refusal(rt.alloc(), &many), (53, 4_097));
     Ok(())
 }
 

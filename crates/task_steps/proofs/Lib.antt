@@ -1,4 +1,5 @@
 mod CallSteps
+mod Examples
 mod Going
 mod Operands
 mod Plainly

@@ -1,10 +1,11 @@
 //! Calls (RM 6.4, 9.5.1, 9.5.3): the refusals of the kernel, each an exception at the call, and the frame of the call.
-ghost use Rattle.std.specs.Prelude.{◌≡◌, ◌<◌, ◌≤◌, ℕ, List, None, Some, length};
+ghost use Rattle.std.specs.Prelude.{◌≡◌, ◌<◌, ◌≤◌, ◌||◌, ℕ, List, None, Some, length};
 ghost use Rattle.base.specs.declared.limits.TheConstants.{FRAME_WORDS};
 ghost use Rattle.base.specs.declared.schedule.ScheduleLine.{ScheduleLine};
 ghost use Rattle.image.specs.Sections.{object_of};
 ghost use Rattle.image.specs.Steps.{enters, queues, with_frame_left};
 ghost use Rattle.image.specs.declared.instruction.Operation.TheVariants as operations;
+ghost use Rattle.kernel.specs.Effects.{is_above_ceiling, is_inside_any};
 ghost use Rattle.kernel.specs.State.{Kernel};
 ghost use Rattle.processor.specs.Decoding.{words_in};
 ghost use Rattle.processor.specs.Layout.{role_of};
@@ -114,7 +115,7 @@ pub(crate) fn entry_call<R: Ready, D: Delays>(
         unreachable!()
     };
     let object = object_number(program, object);
-    if tasking.is_inside_any(task) || tasking.is_above_ceiling(task, object) {
+    if is_refused(tasking, task, object) {
         return raise_predefined(program, state, memory, PredefinedException::ProgramError);
     }
     if !memory.is_open(program.image(), object) {
@@ -132,6 +133,15 @@ pub(crate) fn entry_call<R: Ready, D: Delays>(
         role,
         Effect::Opens { object },
     )
+}
+
+// Whether an entry call is refused before its barrier is asked: inside any action, or above the ceiling (RM 9.5.1, D.3).
+fn is_refused<R: Ready, D: Delays>(tasking: &Tasking<R, D>, task: u8, object: u8) -> bool
+    requires task { IsTask (kernel_of tasking.now) task }
+    requires object { object < (kernel_of tasking.now).partition.objects }
+    ensures { result ≡ (is_inside_any (kernel_of tasking.now) task || is_above_ceiling (kernel_of tasking.now) task object) }
+{
+    tasking.is_inside_any(task) || tasking.is_above_ceiling(task, object)
 }
 
 // An entry call with a closed barrier waits, where no other does (RM D.7).

@@ -1,11 +1,17 @@
 //! Steps that ask the kernel, or tell it something: what may block, `delay until`, lines, input and the clock.
-ghost use Rattle.std.specs.Prelude.{◌≡◌, ◌<◌, ◌≤◌, ◌+◌, ◌∷◌, ℕ, List, drop, length};
+ghost use Rattle.std.specs.Prelude.{◌≡◌, ◌<◌, ◌≤◌, ◌+◌, ◌∷◌, ℕ, IfSome, List, None, drop, is_some, length};
+ghost use Rattle.base.specs.Exceptions.{number_of};
+ghost use Rattle.base.specs.declared.exceptions.PredefinedException.TheVariants.{ProgramError};
 ghost use Rattle.base.specs.declared.limits.TheConstants.{FRAME_WORDS};
 ghost use Rattle.base.specs.declared.schedule.ScheduleLine.{ScheduleLine};
 ghost use Rattle.image.specs.Scalars.{input_of};
+ghost use Rattle.image.specs.Steps.{unwind};
 ghost use Rattle.image.specs.declared.instruction.Operation.TheVariants as operations;
+ghost use Rattle.kernel.specs.Effects.{is_inside_any};
 ghost use Rattle.kernel.specs.State.{Kernel};
-ghost use Rattle.task_steps.specs.Stepping.{Does, DoesIn, IsReady};
+ghost use Rattle.processor.specs.Decoding.{words_in};
+ghost use Rattle.task_steps.specs.Acting.{stepped_of};
+ghost use Rattle.task_steps.specs.Stepping.{Does, DoesIn, IsReady, MayRaise};
 ghost use Rattle.tasking.specs.Held.{kernel_of};
 ghost use Rattle.tasking.specs.Orderly.{IsTask};
 
@@ -21,7 +27,28 @@ use dispatch::Ready;
 use processor::{Program, TaskState};
 use tasking::Tasking;
 
-/// BLK: what may block raises inside an action (RM 9.5.1, H.5).
+// What may block raises Program_Error inside an action (RM 9.5.1, H.5).
+fn refuse_inside<R: Ready, D: Delays>(
+    program: &Program,
+    tasking: &Tasking<R, D>,
+    task: u8,
+    state: &mut TaskState,
+    memory: &Memory,
+) -> Option<Act>
+    requires task { IsTask (kernel_of tasking.now) task }
+    requires raises { MayRaise program.now state.old }
+    ensures inside { is_some result ≡ is_inside_any (kernel_of tasking.now) task }
+    ensures refused { IfSome result (λ act. unwind program.now (words_in program.now memory.now.shared) (number_of ProgramError) state.old.frame state.old.callers ≡ stepped_of program.now act memory.now state.new) }
+    ensures passed { result ≡ None → state.new ≡ state.old }
+{
+    if tasking.is_inside_any(task) {
+        Some(raise_predefined(program, state, memory, PredefinedException::ProgramError))
+    } else {
+        None
+    }
+}
+
+/// BLK.
 pub(crate) fn check_blocking<R: Ready, D: Delays>(
     program: &Program,
     tasking: &Tasking<R, D>,
@@ -33,8 +60,8 @@ pub(crate) fn check_blocking<R: Ready, D: Delays>(
     requires here { IsReady program.now state.old operations.CheckBlocking }
     ensures { (schedule : List ScheduleLine) → DoesIn program.now operations.CheckBlocking state.old memory.now result memory.now state.new schedule (kernel_of tasking.now) task }
 {
-    if tasking.is_inside_any(task) {
-        return raise_predefined(program, state, memory, PredefinedException::ProgramError);
+    if let Some(act) = refuse_inside(program, tasking, task, state, memory) {
+        return act;
     }
     state.advance();
     Act::of(Effect::Quiet)
@@ -52,8 +79,8 @@ pub(crate) fn delay_until<R: Ready, D: Delays>(
     requires here { IsReady program.now state.old operations.DelayUntil }
     ensures { (schedule : List ScheduleLine) → DoesIn program.now operations.DelayUntil state.old memory.now result memory.now state.new schedule (kernel_of tasking.now) task }
 {
-    if tasking.is_inside_any(task) {
-        return raise_predefined(program, state, memory, PredefinedException::ProgramError);
+    if let Some(act) = refuse_inside(program, tasking, task, state, memory) {
+        return act;
     }
     let until = state.pop();
     state.advance();

@@ -1,4 +1,4 @@
-use Rattle.std.proofs.Common.{rules, ◌≡◌, ◌≤◌, ◌||◌, true, false, Some, length, slice_get, subst, sym, ap, ◌∙◌}
+use Rattle.std.proofs.Common.{rules, ◌≡◌, ◌≤◌, ◌||◌, true, false, Some, length, slice_get, subst, sym, ◌∙◌}
 use Rattle.image.specs.Frames.{Opened}
 use Rattle.image.specs.Operations.{called, called_if, entry_of, parameters_of}
 use Rattle.image.specs.Steps.{enters, is_open, queues, with_frame_left}
@@ -22,10 +22,8 @@ returns-then-not-is_open g c = λ schedule.
     let entry : entry_of (slice_get i.objects o) ≡ Some n = search rules in
     let there : called i n ≡ Some s = search rules in
     let enough = subst (λ v. parameters_of v ≤ length f.stack) there (subst (λ e. parameters_of (called_if i e) ≤ length f.stack) entry c.requires.here.there) in
-    let inside : is_inside_any k c.args.task ≡ false = search rules in
-    let above : is_above_ceiling k c.args.task o ≡ false = search rules in
     let closed : is_open i m o ≡ false = search rules in
-    let allowed = ap (λ b. b || is_above_ceiling k c.args.task o) inside ∙ above in
+    let allowed : (is_inside_any k c.args.task || is_above_ceiling k c.args.task o) ≡ false = search rules in
     entry_calls i schedule k c.args.task m f fs o n s entry there enough
     ∙ (entry_closed i schedule k c.args.task m f fs o n s allowed closed
     ∙ subst (λ p. with_frame_left i schedule k c.args.task m f fs (queues i schedule k c.args.task m f fs p) ≡ stepped_of i c.queue.result c.args.memory.now c.queue.new.state) c.object_number-object.ensures (c.queue.ensures schedule c.args.task))
@@ -43,10 +41,8 @@ returns g c = λ schedule.
     let entry : entry_of (slice_get i.objects o) ≡ Some n = search rules in
     let there : called i n ≡ Some s = search rules in
     let enough = subst (λ v. parameters_of v ≤ length f.stack) there (subst (λ e. parameters_of (called_if i e) ≤ length f.stack) entry c.requires.here.there) in
-    let inside : is_inside_any k c.args.task ≡ false = search rules in
-    let above : is_above_ceiling k c.args.task o ≡ false = search rules in
     let barrier : is_open i m o ≡ true = search rules in
-    let allowed = ap (λ b. b || is_above_ceiling k c.args.task o) inside ∙ above in
+    let allowed : (is_inside_any k c.args.task || is_above_ceiling k c.args.task o) ≡ false = search rules in
     let number = c.object_number-object.ensures in
     let object = c.from.ensures ∙ number in
     entry_calls i schedule k c.args.task m f fs o n s entry there enough

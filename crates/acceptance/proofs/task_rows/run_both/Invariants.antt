@@ -1,0 +1,7 @@
+use Rattle.acceptance.proofs.task_rows.run_both.Given as goal
+
+abbrev pub ghosts-run_both_over-L-Ledger : goal.ghosts-run_both_over-L-Ledger
+ghosts-run_both_over-L-Ledger a = record { name = a.first.name; parts = a.first.parts }
+
+abbrev pub ghosts-run_both_over-M-Ledger : goal.ghosts-run_both_over-M-Ledger
+ghosts-run_both_over-M-Ledger a = record { name = a.second.name; parts = a.second.parts }
