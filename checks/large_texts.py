@@ -65,11 +65,6 @@ def place_of(text, at):
     return f"{text.count(chr(10), 0, at) + 1}:{at - (text.rfind(chr(10), 0, at) + 1) + 1}"
 
 
-def outside(name, frame, first, more):
-    """A long legal text, which is not compiled today."""
-    return name, filled(frame, first, more)[0], 2, "", "fault 90 at 1:1"
-
-
 def fault_at(text, number, part, times=1):
     """The fault of this number where the part of the text stands for so many times."""
     at = -1
@@ -106,7 +101,7 @@ LISTS = [
     runs("lines", statements(), "", 'Put("n",7);', lambda n: lines(*[7] * n)),
     runs("calls of main", (PRAGMA + CALLED + "with App; procedure Main is begin ", "end Main;"), "", "App.P;", lambda n: LAST_LINE),
     runs("null statements of main", (PRAGMA + "procedure Main is begin ", "end Main;"), "null;", "null;", lambda n: LAST_LINE),
-    outside("pragmas", (PRAGMA, "procedure Main is begin null; end Main;"), "", "pragma A(B);"),
+    broken("pragmas", (PRAGMA, "procedure Main is begin null; end Main;"), "", "pragma A(B);", 39, "A(B)"),
     broken("unit clauses", (PRAGMA, CALLED + MAIN), "", "with A;use A;", 10, "A;"),
     broken("declarations of procedures", items(), "", "procedure Q;", 18, "Q;"),
     broken("bodies", app("procedure P is begin null; end P;", ""), "", "procedure Q is begin null;end Q;", 18, "Q is", 2),
@@ -135,7 +130,8 @@ LISTS = [
     broken("choices", statements("case X is when 1", "=>null; end case;"), "", "|1", 17, "case"),
     broken("handlers", statements("null; exception ", ""), "when A=>null;", "when A=>null;", 10, "A=>"),
     broken("choices of a handler", statements("null; exception when A", "=>null;"), "", "|A", 10, "A|"),
-    outside("tokens of a select", statements("select ", "end select;"), "", "X "),
+    broken("tokens of a select", statements("select ", "end select;"), "", "X ", 35, "select"),
+    broken("relative delays", statements(), "", "delay 1;", 34, "delay"),
 ]
 
 

@@ -3,7 +3,8 @@
 
     rules.py PROGRAM RULES SCRATCH
 
-A row's text is refused with the row's number at its mark; a legal one is compiled and run, or refused with 90, since not all of the language is compiled today.
+A row's text is refused with the row's number at its mark; a legal one within the profile is compiled and run, or refused with 90, since not all of the
+language is compiled today.
 """
 import os
 import subprocess
@@ -55,4 +56,5 @@ def main():
     return 1 if wrong or not rows else 0
 
 
-sys.exit(main())
+if __name__ == "__main__":
+    sys.exit(main())
