@@ -1,7 +1,9 @@
 -- The layers of compiling, one behind another.
-use Rattle.std.proofs.Common.{◌≡◌, ◌<◌, arith, ℕ, List, [], true, Result, Ok, Err, inl, inr, subst, sym}
+use Rattle.std.proofs.Common.{◌≡◌, ◌<◌, arith, ℕ, List, [], true, Result, Ok, Err, ap, inl, inr, subst, sym}
+use Rattle.std.proofs.lemmas.List.Elements.{All-contains}
 use Rattle.std.specs.List.{Contains}
 use Rattle.std.specs.Prelude.{IfOk, IfErr, OnOk}
+use Rattle.base.specs.declared.faults.TheConstants.{LIMIT_PASSED, LOCAL_TASKING, NAME_NOT_VISIBLE, OUTSIDE_LANGUAGE, WRONG_PRAGMAS}
 use Rattle.lexer.specs.Spelling.{Spells}
 use Rattle.lexer.specs.declared.fault.Fault.{Fault}
 use Rattle.lexer.specs.declared.token.Token.{Token}
@@ -13,11 +15,12 @@ use Rattle.ada_tree.specs.ProgramTree.{ProgramTree, program_tree}
 use Rattle.expr_rules.specs.Faults.{Faults, IsLeast}
 use Rattle.checking.specs.ProgramRules.{IsLegal, RefusesProgram, program_faults}
 use Rattle.ravenscar.specs.ProgramRules.{IsRestricted, RefusesUnrestricted, restriction_faults}
+use Rattle.fault_numbers.specs.Numbers.{AreNumbered, GrammarNumbers, IsNumbered, LegalityNumbers, RestrictionNumbers, SpellingNumbers}
 use Rattle.meaning.specs.SameMeaning.{KeepsCount, SameMeaning}
 use Rattle.ada_link.specs.FirstLanguage.{is_first_program}
 use Rattle.ada_link.specs.Refusals.{RefusesTree}
 use Rattle.ada_link.specs.Size.{most_steps}
-use Rattle.adarun.specs.Accepted.{Compiles, IsGiven, IsJudged, IsTreeOf, RefusesText}
+use Rattle.adarun.specs.Accepted.{Compiles, IsAccepted, IsGiven, IsJudged, IsLeftOut, IsTreeOf, RefusesText}
 
 -- the program that was read is the one that was checked
 pub compiles : {E : Type 0} (r : Result Sections E) (text : List ℕ) (tokens list : List Token) (read : Program)
@@ -129,3 +132,32 @@ refused_text (Err fault) text tokens list read checked spells same derives is le
       accepted = record { is_tree = read_tree text tokens list read checked spells same derives is; legal = legal; restricted = restricted };
       refused = refused;
     })))))
+
+-- ---- what is refused as outside the language of today
+
+module _ (spelling : SpellingNumbers) (grammar : GrammarNumbers) (legality : LegalityNumbers) (restrictions : RestrictionNumbers) where
+  among : (first last : ℕ) (faults : Faults) (fault : Fault) → AreNumbered first last faults → IsLeast faults fault → IsNumbered first last fault
+  among first last faults fault all least = All-contains (IsNumbered first last) faults fault all least.listed
+
+  of_tree : (text : List ℕ) (tree : ProgramTree) (fault : Fault) → IsAccepted tree text → RefusesTree tree fault → IsLeftOut text fault
+  of_tree text tree fault accepted (inl memory) = λ is. let n = ap (λ f. f.number) memory in absurd (omega (arith, n, is))
+  of_tree text tree fault accepted (inr (inl out)) = λ is. (out.0, (tree, (accepted, out.1)))
+  of_tree text tree fault accepted (inr (inr large)) = λ is. let n = ap (λ f. f.number) large.0 in absurd (omega (arith, n, is))
+
+  left_out : (text : List ℕ) (fault : Fault) → RefusesText text fault → IsLeftOut text fault
+  left_out text fault (inl memory) = λ is. let n = ap (λ f. f.number) memory in absurd (omega (arith, n, is))
+  left_out text fault (inr (inl broken)) = λ is. let n = (spelling text fault broken).1 in absurd (omega (arith, n, is))
+  left_out text fault (inr (inr (inl none))) = λ is. let n = (grammar none.tokens fault none.faulty).1 in absurd (omega (arith, n, is))
+  left_out text fault (inr (inr (inr (inl illegal)))) =
+      λ is.
+      let n = (among NAME_NOT_VISIBLE LIMIT_PASSED (program_faults illegal.tree) fault (legality illegal.tree) illegal.least).1 in
+      absurd (omega (arith, n, is))
+  left_out text fault (inr (inr (inr (inr (inl broken))))) =
+      λ is.
+      let n = (among LOCAL_TASKING WRONG_PRAGMAS (restriction_faults broken.tree) fault (restrictions broken.tree) broken.least).1 in
+      absurd (omega (arith, n, is))
+  left_out text fault (inr (inr (inr (inr (inr refused))))) = of_tree text refused.tree fault refused.accepted refused.refused
+
+  pub refused_left_out : {A : Type 0} (r : Result A Fault) (text : List ℕ) → IfErr r (λ f. RefusesText text f) → IfErr r (λ f. IsLeftOut text f)
+  refused_left_out (Ok a) text refused = tt
+  refused_left_out (Err fault) text refused = left_out text fault refused

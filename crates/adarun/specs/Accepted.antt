@@ -1,5 +1,6 @@
 -- Which texts are programs, which of these are accepted, and which are compiled.
-use Rattle.std.specs.Prelude.{◌≡◌, ◌⊎◌, ℕ, List, true, Result, Ok, Err}
+use Rattle.std.specs.Prelude.{◌≡◌, ◌⊎◌, ℕ, List, false, true, Result, Ok, Err}
+use Rattle.base.specs.declared.faults.TheConstants.{OUTSIDE_LANGUAGE}
 use Rattle.lexer.specs.Fault.{memory_fault}
 use Rattle.lexer.specs.Spelling.{Spells, IsBroken}
 use Rattle.lexer.specs.declared.fault.Fault.{Fault}
@@ -14,7 +15,7 @@ use Rattle.checking.specs.ProgramRules.{IsLegal, program_faults}
 use Rattle.ravenscar.specs.ProgramRules.{IsRestricted, restriction_faults}
 use Rattle.meaning.specs.SameMeaning.{KeepsCount, SameMeaning}
 use Rattle.ada_link.specs.FirstLanguage.{is_first_program}
-use Rattle.ada_link.specs.Refusals.{RefusesTree, too_large}
+use Rattle.ada_link.specs.Refusals.{RefusesTree, outside, too_large}
 use Rattle.ada_link.specs.Size.{is_too_large, most_steps}
 
 -- the tree is what the text spells
@@ -74,6 +75,11 @@ abbrev pub RefusesText : List ℕ → Fault → Type 0
 RefusesText text fault =
     (fault ≡ memory_fault)
     ⊎ (IsBroken text fault ⊎ (HasNoTree text fault ⊎ (HasIllegalTree text fault ⊎ (HasUnrestrictedTree text fault ⊎ HasRefusedTree text fault))))
+
+-- What is outside the language of today is an accepted text, and refused by this number at byte 0. No other text is.
+abbrev pub IsLeftOut : List ℕ → Fault → Type 0
+IsLeftOut text fault =
+    fault.number ≡ OUTSIDE_LANGUAGE → (fault ≡ outside) × ((tree : ProgramTree) × (IsAccepted tree text × (is_first_program tree ≡ false)))
 
 -- The tree breaks no rule; or its text is refused for want of memory, by the least rule from 10 to 23 that it breaks, where it is legal by the least one from
 -- 30 to 39, and where it breaks none of these for what is compiled today.

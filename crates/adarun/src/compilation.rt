@@ -2,10 +2,11 @@
 ghost use Rattle.std.specs.Prelude.{IfErr, IfOk};
 ghost use Rattle.image.specs.Taken.{IsTaken};
 ghost use Rattle.ada_tree.specs.ProgramTree.{ProgramTree};
-ghost use Rattle.adarun.specs.Accepted.{Compiles, IsGiven, IsJudged, IsOfFirstLanguage, IsTreeOf, RefusesText};
+ghost use Rattle.adarun.specs.Accepted.{Compiles, IsGiven, IsJudged, IsLeftOut, IsOfFirstLanguage, IsTreeOf, RefusesText};
 
 use ada_link::link::compile_tree;
 use checking::check;
+use fault_numbers::{grammar_numbers, legality_numbers, restriction_numbers, spelling_numbers};
 use image::Image;
 use lexer::{Fault, tokens};
 use parser::parse;
@@ -24,7 +25,12 @@ pub fn compile(alloc: Global, source: &[u8]) -> Result<Image, Fault>
     ensures accepted { (tree : ProgramTree) → IsOfFirstLanguage tree source.now → IsGiven tree result }
     ensures judged { (tree : ProgramTree) → IsTreeOf tree source.now → IsJudged tree result }
     ensures refused { IfErr result (λ fault. RefusesText source.now fault) }
+    ensures left_out { IfErr result (λ fault. IsLeftOut source.now fault) }
 {
+    spelling_numbers();
+    grammar_numbers();
+    legality_numbers();
+    restriction_numbers();
     let list = tokens(alloc, source)?;
     let program = parse(alloc, &list)?;
     let checked = check(alloc, program)?;

@@ -5,7 +5,7 @@ use Rattle.checking.specs.ProgramRules.{IsLegal}
 use Rattle.ravenscar.specs.ProgramRules.{IsRestricted}
 use Rattle.parser.specs.Parsing.{Derives}
 use Rattle.adarun.specs.Accepted.{IsGiven, IsJudged, RefusesText}
-use Rattle.adarun.proofs.Compiling.{compiles, given, judged, judged_accepted, judged_legal, legal_given, refused_text, restricted_given, unrestricted_text}
+use Rattle.adarun.proofs.Compiling.{compiles, given, judged, judged_accepted, judged_legal, legal_given, refused_left_out, refused_text, restricted_given, unrestricted_text}
 use Rattle.adarun.proofs.compilation.compile.Goals as goal
 
 pub returns-in_err-program-clause-judged : goal.returns-in_err-program-clause-judged
@@ -92,3 +92,18 @@ returns-clause-refused c =
     (subst (λ p. IsLegal (program_tree p)) (sym c.program.ensures.same) c.program.ensures.legal)
     (subst (λ p. IsRestricted (program_tree p)) (sym c.program.ensures.same) c.program.ensures.restricted)
     c.compile_tree.ensures.refused
+
+pub returns-in_err-checked-clause-left_out : goal.returns-in_err-checked-clause-left_out
+returns-in_err-checked-clause-left_out c =
+    let refused : IfErr c.from_residual-in_err-checked.result (λ fault. RefusesText c.args.source.now fault) = search rules in
+    refused_left_out c.spelling_numbers.ensures c.grammar_numbers.ensures c.legality_numbers.ensures c.restriction_numbers.ensures _ c.args.source.now refused
+
+pub returns-in_err-accepted-clause-left_out : goal.returns-in_err-accepted-clause-left_out
+returns-in_err-accepted-clause-left_out c =
+    refused_left_out c.spelling_numbers.ensures c.grammar_numbers.ensures c.legality_numbers.ensures c.restriction_numbers.ensures _ c.args.source.now
+    (returns-in_err-accepted-clause-refused c)
+
+pub returns-clause-left_out : goal.returns-clause-left_out
+returns-clause-left_out c =
+    refused_left_out c.spelling_numbers.ensures c.grammar_numbers.ensures c.legality_numbers.ensures c.restriction_numbers.ensures _ c.args.source.now
+    (returns-clause-refused c)

@@ -1,0 +1,10 @@
+mod Bodies
+mod Declarations
+mod Expressions
+mod Packages
+mod Programs
+mod Ranges
+mod Restrictions
+mod Sizes
+mod Statements
+mod Texts
