@@ -15,9 +15,9 @@ use Rattle.types.specs.Entities.{Entity, LibraryUnit, Put, Profile}
 use Rattle.types.specs.Scopes.{Scope, Named, entity_at, entity_of, is_visible as in_scope, standard, with_control_io, with_name, with_real_time}
 use Rattle.types.specs.Places.{ceiling_of, ceiling_or, or_else}
 use Rattle.declaring.specs.ItemRules.{items_scope}
-use Rattle.declaring.specs.ProfileRules.{formal_parameters, profile_entity, profile_with, subprogram_scope}
+use Rattle.type_rules.specs.ProfileRules.{formal_parameters, profile_entity, profile_with, subprogram_scope}
 use Rattle.declaring.specs.ProtectedRules.{one_if_protected, protected_count}
-use Rattle.declaring.specs.SubtypeNames.{entity_at_or_none, named_entity}
+use Rattle.type_rules.specs.SubtypeNames.{entity_at_or_none, named_entity}
 use Rattle.legality.specs.PackageBodyRules.{body_items_scope}
 use Rattle.legality.specs.PackageRules.{inside_scope, specified_scope, units_scope}
 use Rattle.legality.specs.UnitRules.{clause_scope, clauses_scope}

@@ -5,7 +5,7 @@ use Rattle.ada_tree.specs.declared.expression.Identifier.{Identifier}
 use Rattle.ada_tree.specs.ProgramTree.{ProgramTree, BodyTree}
 use Rattle.types.specs.Entities.{Put}
 use Rattle.types.specs.Places.{ceiling_of}
-use Rattle.declaring.specs.SubtypeNames.{named_entity}
+use Rattle.type_rules.specs.SubtypeNames.{named_entity}
 use Rattle.declaring.specs.TaskRules.{default_priority}
 use Rattle.meaning.specs.Programs.{OfMain, Procedure, Task, program_of}
 use Rattle.meaning.specs.Calls.{procedure_here}

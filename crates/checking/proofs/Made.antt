@@ -16,12 +16,12 @@ use Rattle.types.specs.Entities as entity
 use Rattle.types.specs.Scopes.{Named, Scope, entity_of, is_visible, number_of, standard, with_control_io, with_name, with_real_time}
 use Rattle.expr_rules.specs.declared.own.Wanted.TheVariants as wanted
 use Rattle.declaring.specs.ItemRules.{item_scope, items_scope}
-use Rattle.declaring.specs.ObjectRules.{constant_entity, initial_scalar, object_entity, role_of}
+use Rattle.type_rules.specs.ObjectRules.{constant_entity, initial_scalar, object_entity, role_of}
 use Rattle.types.specs.declared.entity.Role.TheVariants as role
-use Rattle.declaring.specs.ProfileRules.{formal_parameters, profile_entity, profile_with}
+use Rattle.type_rules.specs.ProfileRules.{formal_parameters, profile_entity, profile_with}
 use Rattle.declaring.specs.ProtectedRules.{object_components, object_operations, object_with, protected_count}
-use Rattle.declaring.specs.SubtypeNames.{entity_at_or_none, if_integer, subtype_in, subtype_of}
-use Rattle.declaring.specs.TypeRules.{array_entity, bounded, composite, definition_entity, index_subtype, integer_entity, narrowed, record_components, record_entity, short_length, static_whole, subtype_entity}
+use Rattle.type_rules.specs.SubtypeNames.{entity_at_or_none, if_integer, subtype_in, subtype_of}
+use Rattle.type_rules.specs.TypeRules.{array_entity, bounded, composite, definition_entity, index_subtype, integer_entity, narrowed, record_components, record_entity, short_length, static_whole, subtype_entity}
 use Rattle.expr_rules.specs.Typing.{is_integers}
 use Rattle.types.specs.Scopes.{form_at, integer_type}
 use Rattle.legality.specs.PackageBodyRules.{body_item_scope, body_items_scope}

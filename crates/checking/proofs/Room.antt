@@ -18,12 +18,12 @@ use Rattle.types.specs.Scopes.{Named, Scope, is_visible, standard, with_name}
 use Rattle.types.specs.Shapes.{words}
 use Rattle.declaring.specs.ItemRules.{item_scope, items_scope}
 use Rattle.declaring.specs.Laws.{NamesAreAdded, StandsFirst}
-use Rattle.declaring.specs.ObjectRules.{constant_entity, initial_scalar, object_entity, package_object_entity}
-use Rattle.declaring.specs.ProfileRules.{formal_parameters, profile_entity, profile_with}
+use Rattle.type_rules.specs.ObjectRules.{constant_entity, initial_scalar, object_entity, package_object_entity}
+use Rattle.type_rules.specs.ProfileRules.{formal_parameters, profile_entity, profile_with}
 use Rattle.declaring.specs.ProtectedRules.{default_ceiling, object_components, object_operations, object_with, part_and, protected_count, protected_entity}
-use Rattle.declaring.specs.SubtypeNames.{if_integer, subtype_of}
+use Rattle.type_rules.specs.SubtypeNames.{if_integer, subtype_of}
 use Rattle.declaring.specs.TaskRules.{default_priority, priority_of}
-use Rattle.declaring.specs.TypeRules.{array_entity, composite, definition_entity, index_subtype, integer_entity, narrowed, range_subtype, record_components, record_entity, short_length, subtype_entity}
+use Rattle.type_rules.specs.TypeRules.{array_entity, composite, definition_entity, index_subtype, integer_entity, narrowed, range_subtype, record_components, record_entity, short_length, subtype_entity}
 use Rattle.expr_rules.specs.declared.own.Wanted.TheVariants as wanted
 use Rattle.legality.specs.PackageBodyRules.{body_item_scope, body_items_scope}
 use Rattle.legality.specs.PackageRules.{inside_scope, package_scope, specified_scope}

@@ -1,7 +1,7 @@
 -- Tests of the elements of lists of trees, and the order of faults.
 use Rattle.std.proofs.Common.{◌≡◌, ◌≤◌, ◌<◌, ◌⊎◌, ◌+◌, ◌*◌, ℕ, List, map, Bool, arith}
 use Rattle.std.specs.List.{list_any}
-use Rattle.legality.specs.Walks as walks
+use Rattle.expr_rules.specs.Walks as walks
 use Rattle.checking.specs.ProgramRules.{OrderIsByPlaceAndNumber}
 
 pub any_of_trees : {A B : Type 0} (test : B → Bool) (tree : A → B) (xs : List A) → list_any test (map tree xs) ≡ list_any (λ x. test (tree x)) xs

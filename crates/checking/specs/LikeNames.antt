@@ -9,7 +9,7 @@ use Rattle.ada_tree.specs.ProgramTree.{ItemTree, OfProtected, BodyItemTree, OfIt
 use Rattle.expr_rules.specs.Faults.{Faults, rule}
 use Rattle.declaring.specs.ProtectedRules.{operation_name}
 use Rattle.legality.specs.MainRules.{item_name}
-use Rattle.legality.specs.MatchingRules.{same_name}
+use Rattle.matching.specs.MatchingRules.{same_name}
 
 -- an operation or component of the object has this name
 abbrev pub has_part : ProtectedTree → Identifier → Bool

@@ -6,7 +6,7 @@ ghost use Rattle.ada_tree.specs.ProgramTree.{body_item_tree, item_tree, package_
 ghost use Rattle.expr_rules.specs.Faults.{least};
 ghost use Rattle.declaring.specs.ProtectedRules.{operation_name};
 ghost use Rattle.legality.specs.MainRules.{item_name};
-ghost use Rattle.legality.specs.MatchingRules.{same_name};
+ghost use Rattle.matching.specs.MatchingRules.{same_name};
 ghost use Rattle.checking.specs.LikeNames.{behind_item_faults, behind_specified_faults, between_faults, body_like_faults, has_part, is_its_body, item_like_faults, like_name_faults, like_rule, specification_like_faults, specified_faults};
 
 use ada_tree::{
@@ -16,8 +16,9 @@ use base::faults::DECLARED_TWICE;
 use declaring::operation_name;
 use expr_rules::laws::{least_by_parts, sooner_associates};
 use expr_rules::{rule, sooner};
-use legality::{item_name, same_name};
+use legality::item_name;
 use lexer::Fault;
+use matching::same_name;
 
 fn has_operation(operations: &[Operation], name: &Identifier) -> bool
     ensures { result ≡ list_any (λ o. same_name (operation_name (operation_tree o)) name.now) operations.now }

@@ -1,6 +1,5 @@
-mod Joined
-mod Calls
-mod Examples
+mod ProtectedExamples
+mod BodyExamples
 mod Trees
 mod Counted
 mod Growing

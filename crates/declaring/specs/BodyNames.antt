@@ -19,8 +19,8 @@ use Rattle.expr_rules.specs.Faults.{Faults}
 use Rattle.expr_rules.specs.Typing.{is_integers, own_of}
 use Rattle.expr_rules.specs.NameRules.{mismatch}
 use Rattle.expr_rules.specs.ExpressionRules.{faults_of}
-use Rattle.declaring.specs.ObjectRules.{object_entity}
-use Rattle.declaring.specs.SubtypeNames.{declared_twice, subtype_of}
+use Rattle.type_rules.specs.ObjectRules.{object_entity}
+use Rattle.type_rules.specs.SubtypeNames.{declared_twice, subtype_of}
 
 -- ---- formal parameters in their body; since none is a subtype, what one names is the same before the first of them and behind it
 

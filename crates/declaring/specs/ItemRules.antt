@@ -3,12 +3,12 @@ use Rattle.std.specs.Prelude.{List, [], ◌∷◌, ◌++◌}
 use Rattle.ada_tree.specs.ProgramTree.{ItemTree, OfType, OfObject, OfException, OfSubprogram, OfTask, OfProtected}
 use Rattle.types.specs.Scopes.{Scope}
 use Rattle.expr_rules.specs.Faults.{Faults}
-use Rattle.declaring.specs.ObjectRules.{fixed_object_faults, package_object_scope}
-use Rattle.declaring.specs.ProfileRules.{subprogram_faults, subprogram_scope}
+use Rattle.type_rules.specs.ObjectRules.{fixed_object_faults, package_object_scope}
+use Rattle.type_rules.specs.ProfileRules.{subprogram_faults, subprogram_scope}
 use Rattle.declaring.specs.ProtectedRules.{protected_faults, protected_scope}
-use Rattle.declaring.specs.SubtypeNames.{declared_twice}
+use Rattle.type_rules.specs.SubtypeNames.{declared_twice}
 use Rattle.declaring.specs.TaskRules.{exception_scope, task_faults, task_scope}
-use Rattle.declaring.specs.TypeRules.{type_faults, type_scope}
+use Rattle.type_rules.specs.TypeRules.{type_faults, type_scope}
 
 abbrev pub item_faults : Scope → ItemTree → Faults
 item_faults s (OfType d) = type_faults s d

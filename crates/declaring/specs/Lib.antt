@@ -1,9 +1,6 @@
 pub use Rattle.expr_rules.specs.Faults
 pub use Rattle.expr_rules.specs.Typing
-pub mod SubtypeNames
-pub mod ObjectRules
-pub mod TypeRules
-pub mod ProfileRules
+pub use Rattle.type_rules.specs.SubtypeNames
 pub mod TaskRules
 pub mod ProtectedRules
 pub mod LocalRules

@@ -3,7 +3,7 @@ use Rattle.std.specs.Prelude.{List, [], ◌∷◌, ◌++◌}
 use Rattle.ada_tree.specs.StatementTree.{DeclarationTree, LocalObject, LocalTask, LocalProtected}
 use Rattle.types.specs.Scopes.{Scope}
 use Rattle.expr_rules.specs.Faults.{Faults}
-use Rattle.declaring.specs.ObjectRules.{fixed_object_faults, local_object_faults, local_object_scope}
+use Rattle.type_rules.specs.ObjectRules.{fixed_object_faults, local_object_faults, local_object_scope}
 use Rattle.declaring.specs.ProtectedRules.{protected_faults, protected_scope}
 use Rattle.declaring.specs.TaskRules.{task_faults, task_scope}
 

@@ -10,9 +10,9 @@ use Rattle.types.specs.declared.entity.Subtype.{Subtype}
 use Rattle.types.specs.Entities.{Profile, Operation, Entity, Protected, Doubtful}
 use Rattle.types.specs.Scopes.{Scope, is_visible, with_name}
 use Rattle.expr_rules.specs.Faults.{Faults, rule}
-use Rattle.declaring.specs.ObjectRules.{fixed_faults}
-use Rattle.declaring.specs.ProfileRules.{formal_parameters, formals_faults, profile_faults, profile_with}
-use Rattle.declaring.specs.SubtypeNames.{declared_twice, end_rule, subtype_of, subtype_faults}
+use Rattle.type_rules.specs.ObjectRules.{fixed_faults}
+use Rattle.type_rules.specs.ProfileRules.{formal_parameters, formals_faults, profile_faults, profile_with}
+use Rattle.type_rules.specs.SubtypeNames.{declared_twice, end_rule, subtype_of, subtype_faults}
 use Rattle.declaring.specs.TaskRules.{aspect_faults, priority_of}
 
 -- ---- operations

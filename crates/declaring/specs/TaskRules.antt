@@ -11,7 +11,7 @@ use Rattle.expr_rules.specs.declared.own.Wanted.TheVariants as wanted
 use Rattle.expr_rules.specs.Faults.{Faults}
 use Rattle.expr_rules.specs.ExpressionRules.{faults_of}
 use Rattle.expr_rules.specs.StaticRules.{static_scalar}
-use Rattle.declaring.specs.SubtypeNames.{declared_twice, end_rule}
+use Rattle.type_rules.specs.SubtypeNames.{declared_twice, end_rule}
 
 -- ---- exceptions
 

@@ -6,13 +6,12 @@ ghost use Rattle.types.specs.Scopes.{operations_or, protected_at, with_name, wit
 ghost use Rattle.expr_rules.specs.Faults.{least};
 ghost use Rattle.declaring.specs.BodyNames.{bounds_type, component_role, components_scope, formal_role, formal_scope, formals_scope, if_integers, last_rule, loop_faults, loop_scope, loop_type, object_body_scope, operation_entity, operations_scope, parameter_entity};
 
-use crate::names::{declare, declared_twice, subtype_of};
-use crate::objects::object_entity;
 use ada_tree::{Expr, Formal, Identifier, Mode, Range};
 use expr_rules::laws::least_by_parts;
 use expr_rules::{Own, Wanted, expression_fault, is_integral, mismatch, own_of, sooner};
 use lexer::Fault;
 use std::alloc::{AllocError, Global};
+use type_rules::{declare, declared_twice, object_entity, subtype_of};
 use types::{Entity, Operation, Profile, RecordComponent, Role, Scope, Subtype, start_of};
 
 fn formal_role(mode: Mode) -> Role

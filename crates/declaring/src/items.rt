@@ -4,10 +4,6 @@ ghost use Rattle.ada_tree.specs.ProgramTree.{item_tree};
 ghost use Rattle.expr_rules.specs.Faults.{least};
 ghost use Rattle.declaring.specs.ItemRules.{item_faults, item_scope, items_faults, items_scope};
 
-use crate::definitions::{declare_type, type_fault};
-use crate::names::declared_twice;
-use crate::objects::{declare_package_object, fixed_object_fault};
-use crate::profiles::{declare_subprogram, subprogram_fault};
 use crate::protected::{declare_protected, protected_fault};
 use crate::tasks::{declare_exception, declare_task, task_fault};
 use ada_tree::Item;
@@ -15,6 +11,10 @@ use expr_rules::laws::{least_by_parts, sooner_associates};
 use expr_rules::sooner;
 use lexer::Fault;
 use std::alloc::{AllocError, Global};
+use type_rules::{
+    declare_package_object, declare_subprogram, declare_type, declared_twice, fixed_object_fault,
+    subprogram_fault, type_fault,
+};
 use types::Scope;
 
 /// The least fault of a declaration of the package.

@@ -4,7 +4,6 @@ ghost use Rattle.ada_tree.specs.StatementTree.{declaration_tree};
 ghost use Rattle.expr_rules.specs.Faults.{least};
 ghost use Rattle.declaring.specs.LocalRules.{fixed_local_faults, fixed_locals_faults, local_faults, local_scope, locals_faults, locals_scope};
 
-use crate::objects::{declare_local_object, fixed_object_fault, local_object_fault};
 use crate::protected::{declare_protected, protected_fault};
 use crate::tasks::{declare_task, task_fault};
 use ada_tree::Declaration;
@@ -12,6 +11,7 @@ use expr_rules::laws::{least_by_parts, sooner_associates};
 use expr_rules::sooner;
 use lexer::Fault;
 use std::alloc::{AllocError, Global};
+use type_rules::{declare_local_object, fixed_object_fault, local_object_fault};
 use types::Scope;
 
 // Checks a declaration of a body or block, and makes its name visible.

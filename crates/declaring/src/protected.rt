@@ -6,9 +6,6 @@ ghost use Rattle.types.specs.Entities.{entity_value, operation_value, profile_va
 ghost use Rattle.expr_rules.specs.Faults.{least};
 ghost use Rattle.declaring.specs.ProtectedRules.{component_initial_faults, is_component_like, is_entry, is_operation_like, object_components, object_operations, object_with, operation_faults, operation_name, operation_profile, operation_profile_faults, operations_faults, part_faults, parts_faults, protected_count, protected_entity, protected_faults, protected_scope};
 
-use crate::initial::fixed_fault;
-use crate::names::{declare, declared_twice, end_rule, subtype_fault, subtype_of};
-use crate::profiles::{formal_parameters, formals_fault, profile_fault, profile_with};
 use crate::tasks::{aspect_fault, priority_of};
 use ada_tree::{
     Identifier, Operation as OperationDeclaration, ProtectedComponent, ProtectedDeclaration,
@@ -19,6 +16,10 @@ use expr_rules::laws::{least_by_parts, sooner_associates};
 use expr_rules::{rule, sooner};
 use lexer::Fault;
 use std::alloc::{AllocError, Global};
+use type_rules::{
+    declare, declared_twice, end_rule, fixed_fault, formal_parameters, formals_fault,
+    profile_fault, profile_with, subtype_fault, subtype_of,
+};
 use types::{Entity, Operation, Profile, ProtectedObject, RecordComponent, Scope};
 
 /// The ceiling of a protected object without an aspect (RM D.3).

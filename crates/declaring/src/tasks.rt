@@ -5,13 +5,13 @@ ghost use Rattle.types.specs.Values.{value_of};
 ghost use Rattle.expr_rules.specs.Faults.{least};
 ghost use Rattle.declaring.specs.TaskRules.{aspect_faults, aspect_wanted, exception_scope, is_priority, priority_of, priority_within, task_end_faults, task_faults, task_scope};
 
-use crate::names::{declare, declared_twice, end_rule};
 use ada_tree::{Aspect, Identifier, TaskDeclaration, TaskDefinition};
 use base::limits::TASK_PRIORITY;
 use expr_rules::laws::least_by_parts;
 use expr_rules::{Wanted, expression_fault, sooner, static_scalar};
 use lexer::Fault;
 use std::alloc::AllocError;
+use type_rules::{declare, declared_twice, end_rule};
 use types::{Entity, Scope, Subtype, Value};
 
 /// The base priority of a task without an aspect, and of main (RM D.1).

@@ -3,6 +3,9 @@ mod Loops
 mod Chains
 mod Unbroken
 mod Times
-mod Examples
+mod Sample
+mod NameExamples
+mod OperatorExamples
+mod StaticExamples
 mod TypeShapes
 mod TypedLaw

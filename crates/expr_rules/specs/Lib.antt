@@ -10,3 +10,4 @@ pub mod ExpressionRules
 pub mod StaticRules
 pub mod Judging
 pub mod Laws
+pub mod Walks

@@ -10,8 +10,8 @@ use Rattle.types.specs.declared.entity.RecordComponent.{RecordComponent}
 use Rattle.types.specs.Scopes.{Scope, number_of}
 use Rattle.declaring.specs.BodyNames.{components_scope, formals_scope, object_body_scope}
 use Rattle.declaring.specs.LocalRules.{locals_scope}
-use Rattle.declaring.specs.ProfileRules.{subprogram_scope}
-use Rattle.declaring.specs.SubtypeNames.{declared_twice, named_entity}
+use Rattle.type_rules.specs.ProfileRules.{subprogram_scope}
+use Rattle.type_rules.specs.SubtypeNames.{declared_twice, named_entity}
 use Rattle.stmt_rules.specs.declared.around.BodyKind.{BodyKind}
 use Rattle.stmt_rules.specs.declared.around.BodyKind.TheVariants as kind
 use Rattle.stmt_rules.specs.StatementRules.{in_body}

@@ -1,6 +1,6 @@
 mod BodyExamples
 mod MainExamples
-mod MatchingExamples
+mod Walks
 mod Objects
 mod PackageBodyExamples
 mod PackageExamples

@@ -9,8 +9,8 @@ use Rattle.ada_tree.specs.ProgramTree.{BodyTree}
 use Rattle.types.specs.Scopes.{Scope}
 use Rattle.expr_rules.specs.Faults.{LeastByParts, least, sooner}
 use Rattle.declaring.specs.BodyNames.{formals_scope}
-use Rattle.declaring.specs.ProfileRules.{subprogram_scope}
-use Rattle.declaring.specs.SubtypeNames.{end_rule}
+use Rattle.type_rules.specs.ProfileRules.{subprogram_scope}
+use Rattle.type_rules.specs.SubtypeNames.{end_rule}
 use Rattle.stmt_rules.specs.declared.around.BodyKind.{BodyKind}
 use Rattle.legality.specs.BodyRules.{body_faults, has_no_handlers, head_faults, is_single_return, kind_of, subprogram_body_faults}
 

@@ -9,8 +9,8 @@ use Rattle.types.specs.declared.entity.Subtype.{Subtype}
 use Rattle.types.specs.Entities.{Entity, Subprogram, Task, Doubtful}
 use Rattle.types.specs.Scopes.{Scope}
 use Rattle.expr_rules.specs.Faults.{Faults, rule}
-use Rattle.declaring.specs.SubtypeNames.{declared_twice, end_rule, named_entity, subtype_of}
-use Rattle.declaring.specs.ProfileRules.{profile_faults, subprogram_scope}
+use Rattle.type_rules.specs.SubtypeNames.{declared_twice, end_rule, named_entity, subtype_of}
+use Rattle.type_rules.specs.ProfileRules.{profile_faults, subprogram_scope}
 use Rattle.declaring.specs.LocalRules.{fixed_locals_faults, locals_faults, locals_scope}
 use Rattle.declaring.specs.BodyNames.{formals_scope}
 use Rattle.stmt_rules.specs.declared.around.BodyKind.{BodyKind}

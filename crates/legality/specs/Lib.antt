@@ -1,9 +1,8 @@
 pub use Rattle.stmt_rules.specs.StatementRules
+pub use Rattle.matching.specs.MatchingRules
 pub mod BodyRules
 pub mod ProtectedBodyRules
 pub mod PackageBodyRules
-pub mod MatchingRules
 pub mod UnitRules
 pub mod MainRules
 pub mod PackageRules
-pub mod Walks

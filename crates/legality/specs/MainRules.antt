@@ -10,9 +10,9 @@ use Rattle.ada_tree.specs.ProgramTree.{OfSubprogram as OfDeclared}
 use Rattle.types.specs.Entities.{LibraryUnit}
 use Rattle.types.specs.Scopes.{Scope, is_visible, standard, with_name}
 use Rattle.expr_rules.specs.Faults.{Faults, rule}
-use Rattle.declaring.specs.SubtypeNames.{end_rule}
+use Rattle.type_rules.specs.SubtypeNames.{end_rule}
 use Rattle.declaring.specs.TaskRules.{aspect_faults}
-use Rattle.legality.specs.MatchingRules.{any_declared, same_name}
+use Rattle.matching.specs.MatchingRules.{any_declared, same_name}
 use Rattle.legality.specs.declared.main_procedure.Meaning.{Meaning}
 use Rattle.legality.specs.declared.main_procedure.Meaning.TheVariants as meaning
 

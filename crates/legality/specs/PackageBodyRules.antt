@@ -3,7 +3,7 @@ use Rattle.std.specs.Prelude.{List, [], ◌∷◌, ◌++◌}
 use Rattle.ada_tree.specs.ProgramTree.{BodyItemTree, OfItem, SubprogramBody, TaskBody, ProtectedBody}
 use Rattle.types.specs.Scopes.{Scope}
 use Rattle.expr_rules.specs.Faults.{Faults}
-use Rattle.declaring.specs.ProfileRules.{subprogram_scope}
+use Rattle.type_rules.specs.ProfileRules.{subprogram_scope}
 use Rattle.declaring.specs.ItemRules.{item_faults, item_scope}
 use Rattle.legality.specs.BodyRules.{subprogram_body_faults, task_body_faults}
 use Rattle.legality.specs.ProtectedBodyRules.{protected_body_faults}

@@ -7,9 +7,9 @@ use Rattle.ada_tree.specs.ProgramTree.{OfSubprogram as OfDeclared}
 use Rattle.types.specs.Entities.{LibraryUnit}
 use Rattle.types.specs.Scopes.{Scope, with_name}
 use Rattle.expr_rules.specs.Faults.{Faults, rule}
-use Rattle.declaring.specs.SubtypeNames.{declared_twice, end_rule}
+use Rattle.type_rules.specs.SubtypeNames.{declared_twice, end_rule}
 use Rattle.declaring.specs.ItemRules.{items_faults, items_scope}
-use Rattle.legality.specs.MatchingRules.{matching_faults, same_name}
+use Rattle.matching.specs.MatchingRules.{matching_faults, same_name}
 use Rattle.legality.specs.PackageBodyRules.{body_items_faults, body_items_scope}
 use Rattle.legality.specs.UnitRules.{clauses_faults, clauses_scope}
 

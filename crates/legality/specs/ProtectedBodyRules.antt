@@ -9,8 +9,8 @@ use Rattle.types.specs.declared.entity.RecordComponent.{RecordComponent}
 use Rattle.types.specs.Entities.{Entity, Entry, Protected, Doubtful}
 use Rattle.types.specs.Scopes.{Scope, number_of, protected_at}
 use Rattle.expr_rules.specs.Faults.{Faults, rule}
-use Rattle.declaring.specs.SubtypeNames.{end_rule, named_entity}
-use Rattle.declaring.specs.ProfileRules.{formals_faults, subprogram_scope}
+use Rattle.type_rules.specs.SubtypeNames.{end_rule, named_entity}
+use Rattle.type_rules.specs.ProfileRules.{formals_faults, subprogram_scope}
 use Rattle.declaring.specs.BodyNames.{components_scope, formals_scope, object_body_scope}
 use Rattle.stmt_rules.specs.declared.around.BodyKind.TheVariants as kind
 use Rattle.stmt_rules.specs.SimpleRules.{condition_faults}

@@ -5,23 +5,23 @@ ghost use Rattle.ada_tree.specs.ProgramTree.{body_tree};
 ghost use Rattle.types.specs.Entities.{entity_value};
 ghost use Rattle.expr_rules.specs.Faults.{least};
 ghost use Rattle.declaring.specs.BodyNames.{formals_scope};
-ghost use Rattle.declaring.specs.ProfileRules.{subprogram_scope};
-ghost use Rattle.declaring.specs.SubtypeNames.{named_entity};
+ghost use Rattle.type_rules.specs.ProfileRules.{subprogram_scope};
+ghost use Rattle.type_rules.specs.SubtypeNames.{named_entity};
 ghost use Rattle.legality.specs.BodyRules.{body_faults, body_name_faults, function_body_faults, has_no_declarations, has_no_handlers, head_faults, is_function_body, is_return_of_value, is_single_return, is_subprogram, is_task, kind_of, own_name_faults, subprogram_body_faults, task_body_faults, task_rule, type_number};
 
 use ada_tree::laws::statements_by_parts;
 use ada_tree::{Body, Declaration, Formal, Handler, Identifier, Stmt, Subprogram};
 use base::faults::{DECLARED_TWICE, UNMATCHED_BODY, WRONG_FUNCTION};
 use declaring::laws::names_are_added;
-use declaring::{
-    declare_formals, declare_locals, declare_subprogram, declare_task_locals, declared_twice,
-    end_rule, named_entity, profile_fault, subtype_of,
-};
+use declaring::{declare_formals, declare_locals, declare_task_locals};
 use expr_rules::laws::{least_by_parts, sooner_associates};
 use expr_rules::{rule, sooner};
 use lexer::Fault;
 use std::alloc::{AllocError, Global};
 use stmt_rules::{Around, BodyKind, sequence_fault};
+use type_rules::{
+    declare_subprogram, declared_twice, end_rule, named_entity, profile_fault, subtype_of,
+};
 use types::{Entity, Scope, Subtype};
 
 /// The least fault in the declarations, statements and handlers of a body of this kind, which sees the names of the scope. The scope stays as it was.

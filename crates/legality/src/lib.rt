@@ -3,8 +3,6 @@
 
 mod bodies;
 mod main_procedure;
-mod matching;
-mod operations;
 mod package;
 mod package_body;
 mod protected;
@@ -13,8 +11,6 @@ mod visible;
 
 pub use bodies::{body_fault, subprogram_body_fault, task_body_fault};
 pub use main_procedure::{item_name, main_fault, main_scope};
-pub use matching::same_name;
-pub use operations::matching_fault;
 pub use package::package_fault;
 pub use package_body::body_items_fault;
 pub use protected::protected_body_fault;

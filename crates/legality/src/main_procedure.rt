@@ -4,17 +4,18 @@ ghost use Rattle.std.specs.List.{list_any};
 ghost use Rattle.ada_tree.specs.ProgramTree.{body_item_tree, item_tree, main_tree, package_tree};
 ghost use Rattle.types.specs.Scopes.{is_visible};
 ghost use Rattle.expr_rules.specs.Faults.{least};
-ghost use Rattle.legality.specs.MatchingRules.{passes_declared};
+ghost use Rattle.matching.specs.MatchingRules.{passes_declared};
 ghost use Rattle.legality.specs.MainRules.{called_rule, declared_meaning, has_no_formals, is_task_named, is_task_of, item_meaning, item_name, main_call_faults, main_faults, main_name_faults, main_scope, main_statement_faults, main_statements_faults, meaning_of, no_package_rule, package_call_faults};
 
-use crate::matching::same_name;
 use ada_tree::{BodyItem, Formal, Identifier, Item, Main, MainStatement, Package};
 use base::faults::{DECLARED_TWICE, NAME_NOT_VISIBLE, NO_MEANING, WRONG_ARGUMENT_COUNT};
-use declaring::{aspect_fault, declare, end_rule};
+use declaring::aspect_fault;
 use expr_rules::laws::{least_by_parts, sooner_associates};
 use expr_rules::{rule, sooner};
 use lexer::Fault;
+use matching::same_name;
 use std::alloc::{AllocError, Global};
+use type_rules::{declare, end_rule};
 use types::{Entity, Scope};
 
 /// What the specification of a package declares by a name.
@@ -58,7 +59,7 @@ fn any_task_in_body(items: &[BodyItem], name: &Identifier) -> bool
     items.iter().any(|item| is_task_in_body(name, item))
 }
 
-#[tactic(auto, using(crate::specs::Walks::any_of_trees))]
+#[tactic(auto, using(crate::proofs::Walks::any_of_trees))]
 fn is_task_of(package_: Option<&Package>, name: &Identifier) -> bool
     ensures { result ≡ is_task_of (option_map (λ p. package_tree p.now) package_.entry) name.now }
 {

@@ -6,17 +6,17 @@ ghost use Rattle.expr_rules.specs.Faults.{least};
 ghost use Rattle.legality.specs.PackageBodyRules.{body_items_scope};
 ghost use Rattle.legality.specs.PackageRules.{behind_faults, bodiless_rule, has_body, package_faults, package_scope, specification_faults, specified_scope};
 
-use crate::matching::same_name;
-use crate::operations::matching_fault;
 use crate::package_body::body_items_fault;
 use crate::units::{clauses_fault, see_units};
 use ada_tree::{Item, Package};
 use base::faults::{NAME_NOT_VISIBLE, UNMATCHED_BODY};
-use declaring::{declare, declare_items, declared_twice, end_rule};
+use declaring::declare_items;
 use expr_rules::laws::least_by_parts;
 use expr_rules::{rule, sooner};
 use lexer::Fault;
+use matching::{matching_fault, same_name};
 use std::alloc::{AllocError, Global};
+use type_rules::{declare, declared_twice, end_rule};
 use types::{Entity, Scope};
 
 fn has_body(item: &Item) -> bool
@@ -36,7 +36,7 @@ fn any_has_body(items: &[Item]) -> bool
     items.iter().any(has_body)
 }
 
-#[tactic(auto, using(crate::specs::Walks::any_of_trees))]
+#[tactic(auto, using(crate::proofs::Walks::any_of_trees))]
 fn bodiless_rule(package_: &Package) -> Option<Fault>
     ensures { result ≡ least (bodiless_rule (package_tree package_.now)) }
 {

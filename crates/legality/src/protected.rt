@@ -5,7 +5,7 @@ ghost use Rattle.ada_tree.specs.StatementTree.{entry_tree, subprogram_tree};
 ghost use Rattle.ada_tree.specs.ProgramTree.{body_tree, protected_item_tree};
 ghost use Rattle.expr_rules.specs.Faults.{least};
 ghost use Rattle.declaring.specs.BodyNames.{components_scope, formals_scope, object_body_scope};
-ghost use Rattle.declaring.specs.SubtypeNames.{named_entity};
+ghost use Rattle.type_rules.specs.SubtypeNames.{named_entity};
 ghost use Rattle.legality.specs.BodyRules.{subprogram_body_faults};
 ghost use Rattle.legality.specs.ProtectedBodyRules.{components_at, entry_body_faults, entry_rule, is_entry, is_object, known_body_faults, object_items_faults, object_rule, operation_sees, protected_body_faults, protected_item_faults, protected_item_scope, protected_items_faults, protected_items_scope};
 
@@ -13,15 +13,13 @@ use crate::bodies::{body_fault, subprogram_body_fault};
 use ada_tree::{Body, EntryDeclaration, Expr, Identifier, ProtectedBodyItem, Subprogram};
 use base::faults::UNMATCHED_BODY;
 use declaring::laws::{names_are_added, object_bodies_end};
-use declaring::{
-    declare_components, declare_formals, declare_subprogram, end_rule, enter_object, formals_fault,
-    leave_object, named_entity,
-};
+use declaring::{declare_components, declare_formals, enter_object, leave_object};
 use expr_rules::laws::{least_by_parts, sooner_associates};
 use expr_rules::{Wanted, expression_fault, rule, sooner};
 use lexer::Fault;
 use std::alloc::{AllocError, Global};
 use stmt_rules::BodyKind;
+use type_rules::{declare_subprogram, end_rule, formals_fault, named_entity};
 use types::{Entity, RecordComponent, Scope};
 
 // The body of a procedure or function, which sees the components; of its names none is visible behind it, its own neither.

@@ -7,8 +7,9 @@ ghost use Rattle.legality.specs.PackageRules.{inside_scope};
 
 use crate::units::see_units;
 use ada_tree::{BodyItem, Package};
-use declaring::{declare, declare_item, declare_subprogram};
+use declaring::declare_item;
 use std::alloc::{AllocError, Global};
+use type_rules::{declare, declare_subprogram};
 use types::{Entity, Scope};
 
 /// What the first declaration of a package sees: the names that are always visible, those of its units, and its own. Memory is the only refusal.

@@ -21,7 +21,7 @@ use Rattle.types.specs.Values as values
 use Rattle.types.specs.Values.{Value}
 use Rattle.types.specs.Evaluations.{Val, Gives, Raises, Meaningless, and_then}
 use Rattle.types.specs.Evaluating.{passed}
-use Rattle.declaring.specs.SubtypeNames.{named_entity}
+use Rattle.type_rules.specs.SubtypeNames.{named_entity}
 use Rattle.meaning.specs.Programs.{Procedure, subtype_named}
 use Rattle.meaning.specs.Works.{Target, Item, Declares, DeclaresParameter, Sequence, Does, DoesMain, Repeats, RepeatsWhile, RepeatsFor, Handles, EndsHandler, EndsCall, EndsAction, EndsServed, Queued, Work, Goes, Copies, Raising, Activation, TaskWork, Store, Given, frames_left}
 use Rattle.meaning.specs.Targets.{target}

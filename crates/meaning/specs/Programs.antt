@@ -22,7 +22,7 @@ use Rattle.types.specs.Places as places
 use Rattle.types.specs.Statics.{static_place}
 use Rattle.types.specs.Evaluating.{val}
 use Rattle.declaring.specs.ProtectedRules.{protected_count}
-use Rattle.declaring.specs.SubtypeNames.{named_entity, subtype_of}
+use Rattle.type_rules.specs.SubtypeNames.{named_entity, subtype_of}
 use Rattle.declaring.specs.TaskRules.{default_priority, priority_of}
 use Rattle.checking.specs.ProgramLayouts.{program_scope}
 

@@ -25,7 +25,7 @@ use Rattle.types.specs.Evaluations.{Val, Gives, Raises, Meaningless, and_then}
 use Rattle.types.specs.Operators.{are_same, same_truth}
 use Rattle.types.specs.Places.{Object, Place}
 use Rattle.types.specs.Evaluating.{passed, truth_of, val}
-use Rattle.declaring.specs.SubtypeNames.{named_entity}
+use Rattle.type_rules.specs.SubtypeNames.{named_entity}
 use Rattle.meaning.specs.Programs.{Parameter, Procedure, Program, exception_name, exception_number, subtype_named}
 use Rattle.meaning.specs.Works.{Target, Completion, Completed, Pending, Item, Declares, DeclaresParameter, Sequence, Does, DoesMain, Repeats, RepeatsWhile, RepeatsFor, Handles, EndsHandler, EndsCall, EndsAction, EndsServed, Queued, Work, Goes, Copies, Raising, Activation, TaskWork, Store, Given, Results, Raised, frames_left}
 use Rattle.meaning.specs.Targets.{target, store_with, activation_with}

@@ -11,7 +11,7 @@ use Rattle.types.specs.Entities.{Entity, Protected}
 use Rattle.types.specs.Scopes.{Scope, standard}
 use Rattle.expr_rules.specs.Faults.{Faults, IsLeast}
 use Rattle.declaring.specs.ItemRules.{item_scope}
-use Rattle.declaring.specs.SubtypeNames.{named_entity}
+use Rattle.type_rules.specs.SubtypeNames.{named_entity}
 use Rattle.legality.specs.MainRules.{main_scope}
 use Rattle.legality.specs.PackageBodyRules.{body_item_scope}
 use Rattle.legality.specs.PackageRules.{inside_scope, specified_scope}

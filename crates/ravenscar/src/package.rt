@@ -10,7 +10,8 @@ ghost use Rattle.ravenscar.specs.ProgramRules.{body_item_faults, body_items_faul
 use crate::bodies::{body_fault, operations_fault};
 use crate::tasking::{protected_fault, task_fault};
 use ada_tree::{BodyItem, Identifier, Item, Package, ProtectedBodyItem};
-use declaring::{declare_item, named_entity};
+use declaring::declare_item;
+use type_rules::named_entity;
 use expr_rules::laws::{least_by_parts, sooner_associates};
 use expr_rules::sooner;
 use legality::{inside_scope, see_body_item};

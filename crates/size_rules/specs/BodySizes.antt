@@ -10,7 +10,7 @@ use Rattle.ada_tree.specs.ProgramTree.{BodyTree}
 use Rattle.types.specs.Layouts.{capped, words_of}
 use Rattle.types.specs.Scopes.{Scope}
 use Rattle.expr_rules.specs.Faults.{Faults}
-use Rattle.declaring.specs.SubtypeNames.{subtype_of}
+use Rattle.type_rules.specs.SubtypeNames.{subtype_of}
 use Rattle.size_rules.specs.declared.thing.Thing.{Thing}
 use Rattle.size_rules.specs.declared.thing.Thing.TheVariants.{Label, Object}
 use Rattle.size_rules.specs.Limits.{Things, words_faults}

@@ -15,7 +15,7 @@ use ada_tree::{
     Stmt,
 };
 use base::limits::FRAME_WORDS;
-use declaring::subtype_of;
+use type_rules::subtype_of;
 use lexer::Fault;
 use std::alloc::AllocError;
 use types::Scope;

@@ -15,7 +15,8 @@ use ada_tree::{
     BodyItem, Identifier, Item, ObjectDeclaration, Operation, ProtectedBodyItem,
     ProtectedComponent, ProtectedDeclaration, Subprogram,
 };
-use declaring::{declare_item, named_entity};
+use declaring::declare_item;
+use type_rules::named_entity;
 use std::alloc::{AllocError, Global};
 use types::{Entity, ProtectedObject, Scope};
 

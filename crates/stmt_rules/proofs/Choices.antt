@@ -4,7 +4,7 @@ use Rattle.std.specs.Prelude.{option_map}
 use Rattle.types.specs.declared.entity.Value.{Value as Scalar}
 use Rattle.types.specs.declared.entity.Value.TheVariants as scalar
 use Rattle.types.specs.Values.{value_of}
-use Rattle.declaring.specs.ObjectRules.{known_scalar}
+use Rattle.type_rules.specs.ObjectRules.{known_scalar}
 
 pub known_back : (r : Option Scalar) → known_scalar (option_map value_of r) ≡ r
 known_back None = refl

@@ -18,7 +18,6 @@ use Rattle.declaring.specs.BodyNames.{formals_scope}
 use Rattle.declaring.specs.ItemRules.{items_faults, items_scope}
 use Rattle.declaring.specs.LocalRules.{locals_scope}
 use Rattle.stmt_rules.specs.declared.around.Around.{Around}
-use Rattle.stmt_rules.specs.declared.around.BodyKind.{BodyKind}
 use Rattle.stmt_rules.specs.declared.around.BodyKind.TheVariants as kind
 use Rattle.stmt_rules.specs.StatementRules.{in_body, stmts_faults}
 

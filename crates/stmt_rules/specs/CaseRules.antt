@@ -17,7 +17,7 @@ use Rattle.expr_rules.specs.Faults.{Faults, rule}
 use Rattle.expr_rules.specs.Typing.{is_boolean, is_integral, own_of, typed_wanted}
 use Rattle.expr_rules.specs.ExpressionRules.{faults_of}
 use Rattle.expr_rules.specs.StaticRules.{static_faults, static_scalar}
-use Rattle.declaring.specs.ObjectRules.{known_scalar}
+use Rattle.type_rules.specs.ObjectRules.{known_scalar}
 
 -- ---- the expression: of an integer type, or Boolean
 

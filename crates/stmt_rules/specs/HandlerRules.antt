@@ -9,7 +9,7 @@ use Rattle.types.specs.Entities.{Entity, Doubtful}
 use Rattle.types.specs.Entities as entity
 use Rattle.types.specs.Scopes.{Scope}
 use Rattle.expr_rules.specs.Faults.{Faults, rule}
-use Rattle.declaring.specs.SubtypeNames.{named_entity}
+use Rattle.type_rules.specs.SubtypeNames.{named_entity}
 
 -- the names of the choices before one, in all handlers of the sequence
 

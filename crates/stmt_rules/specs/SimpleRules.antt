@@ -15,7 +15,7 @@ use Rattle.expr_rules.specs.declared.own.Wanted.TheVariants.{Anything, OfType}
 use Rattle.expr_rules.specs.Faults.{Faults, rule}
 use Rattle.expr_rules.specs.Typing.{boolean_wanted, is_time, own_of, own_of_standing, typed_wanted}
 use Rattle.expr_rules.specs.ExpressionRules.{call_faults, faults_of, target_faults}
-use Rattle.declaring.specs.SubtypeNames.{named_entity}
+use Rattle.type_rules.specs.SubtypeNames.{named_entity}
 use Rattle.stmt_rules.specs.declared.around.Around.{Around}
 use Rattle.stmt_rules.specs.declared.around.BodyKind.{BodyKind}
 use Rattle.stmt_rules.specs.declared.around.BodyKind.TheVariants as kind

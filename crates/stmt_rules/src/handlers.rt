@@ -6,11 +6,11 @@ ghost use Rattle.stmt_rules.specs.HandlerRules.{exception_choice_faults, excepti
 
 use ada_tree::{ExceptionChoice, Identifier};
 use base::faults::{NAME_NOT_VISIBLE, WRONG_HANDLER};
-use declaring::named_entity;
 use expr_rules::laws::{least_by_parts, sooner_associates};
 use expr_rules::{rule, sooner};
 use lexer::{Fault, Text};
 use std::alloc::AllocError;
+use type_rules::named_entity;
 use types::{Entity, Scope};
 
 fn is_named(named: &[Text], name: &Text) -> bool

@@ -11,13 +11,13 @@ use crate::around::{Around, BodyKind};
 use ada_tree::laws::statements_by_parts;
 use ada_tree::{Expr, Identifier, NameExpr, Stmt};
 use base::faults::{MISPLACED_STATEMENT, NAME_NOT_VISIBLE, NO_MEANING};
-use declaring::named_entity;
 use expr_rules::laws::least_by_parts;
 use expr_rules::{
     Own, Wanted, call_fault, expression_fault, is_time, own_of, own_of_standing, rule, sooner,
     target_fault, typed_wanted,
 };
 use lexer::{Fault, Text};
+use type_rules::named_entity;
 use types::{Entity, Scope, Subtype, start_of};
 
 pub(crate) fn condition_fault(scope: &Scope, e: &Expr) -> Option<Fault>

@@ -1,7 +1,7 @@
 use Rattle.std.proofs.Common.{map, ap, ◌∙◌, refl}
 use Rattle.ada_tree.specs.ProgramTree.{body_item_tree, item_tree}
 use Rattle.expr_rules.specs.Faults.{least}
-use Rattle.legality.specs.Walks.{walk_turn}
+use Rattle.expr_rules.specs.Walks.{walk_turn}
 use Rattle.checking.specs.LikeNames.{behind_specified_faults, specification_like_faults}
 use Rattle.checking.proofs.like_names.specification_like_fault.Goals as goal
 

@@ -1,7 +1,7 @@
 use Rattle.std.proofs.Common.{◌≡◌, drop, map}
 use Rattle.ada_tree.specs.StatementTree.{protected_component_tree}
 use Rattle.declaring.specs.ProtectedRules.{object_components}
-use Rattle.declaring.proofs.Trees.{behind}
+use Rattle.expr_rules.specs.Walks.{behind}
 use Rattle.declaring.proofs.protected.object_components.Given as goal
 
 abbrev pub invariant-loop-component : goal.invariant-loop-component

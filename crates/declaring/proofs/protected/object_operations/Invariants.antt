@@ -2,7 +2,7 @@ use Rattle.std.proofs.Common.{◌≡◌, drop, map}
 use Rattle.ada_tree.specs.StatementTree.{operation_tree}
 use Rattle.types.specs.Entities.{operation_value}
 use Rattle.declaring.specs.ProtectedRules.{object_operations}
-use Rattle.declaring.proofs.Trees.{behind}
+use Rattle.expr_rules.specs.Walks.{behind}
 use Rattle.declaring.proofs.protected.object_operations.Given as goal
 
 abbrev pub invariant-loop-operation : goal.invariant-loop-operation

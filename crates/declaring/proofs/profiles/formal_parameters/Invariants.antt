@@ -1,7 +1,0 @@
-use Rattle.std.proofs.Common.{◌≡◌, drop}
-use Rattle.declaring.specs.ProfileRules.{formal_parameters}
-use Rattle.declaring.proofs.Trees.{behind}
-use Rattle.declaring.proofs.profiles.formal_parameters.Given as goal
-
-abbrev pub invariant-loop-formal : goal.invariant-loop-formal
-invariant-loop-formal l = behind l.all.items (formal_parameters l.scope (drop l.formal-index l.formals)) ≡ formal_parameters l.scope l.formals

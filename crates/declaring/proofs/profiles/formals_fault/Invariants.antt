@@ -1,7 +1,0 @@
-use Rattle.std.proofs.Common.{◌≡◌, [], drop, take}
-use Rattle.expr_rules.specs.Faults.{least, sooner}
-use Rattle.declaring.specs.ProfileRules.{formals_faults}
-use Rattle.declaring.proofs.profiles.formals_fault.Given as goal
-
-abbrev pub invariant-loop-index : goal.invariant-loop-index
-invariant-loop-index l = sooner l.fault (least (formals_faults l.scope (take l.index l.formals) (drop l.index l.formals))) ≡ least (formals_faults l.scope [] l.formals)

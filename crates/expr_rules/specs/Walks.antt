@@ -1,0 +1,46 @@
+-- Laws of walks over lists of trees, for proofs here and above: tests of their elements, and turns of loops that look back and ahead.
+use Rattle.std.proofs.Common.{◌≡◌, ◌<◌, ◌+◌, ◌++◌, ℕ, List, [], ◌∷◌, length, take, drop, map, Bool, Option, Some, None, refl, sym, ap, ◌∙◌}
+use Rattle.std.proofs.Math.Numerals.{add-one}
+use Rattle.std.proofs.Math.Seq.{take-suc}
+use Rattle.std.proofs.lemmas.List.{at_drop_more, map-append}
+use Rattle.std.specs.Prelude.{◌||◌, get_or}
+use Rattle.std.specs.List.{list_any}
+use Rattle.lexer.specs.declared.fault.Fault.{Fault}
+use Rattle.expr_rules.specs.Faults.{Faults, LeastByParts, SoonerAssociates, least, sooner}
+
+pub any_of_trees : {A B : Type 0} (test : B → Bool) (tree : A → B) (xs : List A) → list_any test (map tree xs) ≡ list_any (λ x. test (tree x)) xs
+any_of_trees test tree [] = refl
+any_of_trees test tree (x ∷ xs) = ap (λ b. test (tree x) || b) (any_of_trees test tree xs)
+
+-- a walk over trees of which each is judged with those in front of it and those behind it
+pub walk_turn : LeastByParts
+    → SoonerAssociates
+    → {A T : Type 0} (tree : A → T) (walk : List T → List T → Faults) (first : List T → T → List T → Faults)
+    → ((before : List T) (y : T) (rest : List T) → walk before (y ∷ rest) ≡ first before y rest ++ walk (before ++ y ∷ []) rest)
+    → (all : List A) (n : ℕ) (x : A) (f one whole : Option Fault)
+    → n < length all
+    → x ≡ get_or all n x
+    → sooner f (least (walk (map tree (take n all)) (map tree (drop n all)))) ≡ whole
+    → one ≡ least (first (map tree (take n all)) (tree x) (map tree (drop (n + 1) all)))
+    → sooner (sooner f one) (least (walk (map tree (take (n + 1) all)) (map tree (drop (n + 1) all)))) ≡ whole
+walk_turn parts associates tree walk first split all n x f one whole less at h here =
+    let before = map tree (take n all) in
+    let rest = map tree (drop (n + 1) all) in
+    let taken : map tree (take (n + 1) all) ≡ before ++ tree x ∷ [] =
+    ap (map tree) (ap (λ m. take m all) (add-one n) ∙ take-suc all n x less ∙ ap (λ y. take n all ++ y ∷ []) (sym at)) ∙ map-append tree (take n all) (x ∷ []) in
+    let left = walk (map tree (take (n + 1) all)) rest in
+    let step : walk before (map tree (drop n all)) ≡ first before (tree x) rest ++ left =
+    at_drop_more (λ r. walk before (map tree r)) all n x less
+    ∙ ap (λ y. walk before (tree y ∷ rest)) (sym at)
+    ∙ split before (tree x) rest
+    ∙ ap (λ b. first before (tree x) rest ++ walk b rest) (sym taken) in
+    associates f one (least left)
+    ∙ ap (λ o. sooner f (sooner o (least left))) here
+    ∙ ap (sooner f) (sym (parts (first before (tree x) rest) left))
+    ∙ ap (λ l. sooner f (least l)) (sym step)
+    ∙ h
+
+-- elements behind those that were read
+abbrev pub behind : {X : Type 0} → List X → Option (List X) → Option (List X)
+behind all (Some rest) = Some (all ++ rest)
+behind all None = None

@@ -1,0 +1,3 @@
+mod MatchingExamples
+pub mod Sample
+mod Walks

@@ -1,0 +1,10 @@
+use Rattle.std.proofs.Common.{◌≡◌, [], drop, map, take}
+use Rattle.ada_tree.specs.ProgramTree.{body_item_tree, item_tree}
+use Rattle.expr_rules.specs.Faults.{least, sooner}
+use Rattle.matching.specs.MatchingRules.{items_matching}
+use Rattle.matching.proofs.operations.items_matching_fault.Given as goal
+
+abbrev pub invariant-loop-index : goal.invariant-loop-index
+invariant-loop-index l =
+    sooner l.fault (least (items_matching (map item_tree l.specified) (map body_item_tree (take l.index l.items)) (map body_item_tree (drop l.index l.items))))
+    ≡ least (items_matching (map item_tree l.specified) [] (map body_item_tree l.items))

@@ -1,0 +1,9 @@
+//! Which bodies belong to which declarations of a package (docs/LANGUAGE.md, "Rules of bodies").
+#![tactic(auto)]
+
+mod bodies;
+mod conformance;
+mod operations;
+
+pub use conformance::same_name;
+pub use operations::matching_fault;

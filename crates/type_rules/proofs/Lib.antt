@@ -1,0 +1,5 @@
+mod Joined
+mod Calls
+pub mod Sample
+mod ObjectExamples
+mod TypeExamples

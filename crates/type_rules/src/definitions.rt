@@ -1,0 +1,310 @@
+//! Types and subtypes (RM 3.2 to 3.8).
+ghost use Rattle.std.specs.Prelude.{◌≡◌, ◌++◌, [], IfOk, OnErr, OnOk, option_map};
+ghost use Rattle.ada_tree.specs.ProgramTree.{definition_tree, index_tree, type_tree};
+ghost use Rattle.ada_tree.specs.StatementTree.{range_tree};
+ghost use Rattle.types.specs.Entities.{entity_value, form_value};
+ghost use Rattle.expr_rules.specs.Faults.{least};
+ghost use Rattle.type_rules.specs.TypeRules.{array_entity, array_faults, subtype_range_faults, components_faults, composite, definition_entity, definition_faults, index_faults, index_place, index_subtype, integer_entity, is_long, is_named_in, component_faults, narrowed, narrowed_faults, record_components, record_entity, subtype_entity, short_length, type_faults, type_scope};
+
+use crate::names::{declare, declared_twice, if_integer, is_other, subtype_fault, subtype_of};
+use crate::ranges::{range_fault, range_subtype};
+use ada_tree::{ArrayIndex, Component, Identifier, Range, TypeDeclaration, TypeDefinition};
+use base::faults::{DECLARED_TWICE, LIMIT_PASSED, NO_MEANING};
+use base::limits::COMPONENTS;
+use expr_rules::laws::{least_by_parts, sooner_associates};
+use expr_rules::{Wanted, rule, sooner};
+use lexer::Fault;
+use std::alloc::{AllocError, Global};
+use types::{Entity, RecordComponent, Scope, Subtype, TypeForm, start_of};
+
+// The number of components that an array with this index has, if it may have so many.
+fn short_length(index: Subtype) -> Option<u16>
+    ensures { result ≡ short_length index }
+{
+    let length = index.last.abs_diff(index.first);
+    if length < COMPONENTS as u64 {
+        Some(length as u16 + 1)
+    } else {
+        None
+    }
+}
+
+fn index_place(index: &ArrayIndex) -> u32
+    ensures { result ≡ index_place (index_tree index.now) }
+{
+    match index {
+        ArrayIndex::Range(range) => start_of(&range.first),
+        ArrayIndex::Subtype(name) => name.place,
+    }
+}
+
+fn index_subtype(scope: &Scope, index: &ArrayIndex) -> Option<Subtype>
+    ensures { result ≡ index_subtype scope.now (index_tree index.now) }
+{
+    match index {
+        ArrayIndex::Range(range) => {
+            let integer = Subtype::INTEGER;
+            let wanted = Wanted::OfType(integer.type_number);
+            range_subtype(scope, integer.type_number, wanted, Some(integer), range)
+        }
+        ArrayIndex::Subtype(name) => if_integer(scope, subtype_of(scope, name)),
+    }
+}
+
+fn index_fault(scope: &Scope, index: &ArrayIndex) -> Option<Fault>
+    ensures { result ≡ least (index_faults scope.now (index_tree index.now)) }
+{
+    least_by_parts();
+    match index {
+        ArrayIndex::Range(range) => {
+            let integer = Subtype::INTEGER;
+            let wanted = Wanted::OfType(integer.type_number);
+            range_fault(scope, wanted, Some(integer), range)
+        }
+        ArrayIndex::Subtype(name) => sooner(
+            subtype_fault(scope, name),
+            rule(
+                NO_MEANING,
+                name.place,
+                is_other(scope, subtype_of(scope, name)),
+            ),
+        ),
+    }
+}
+
+fn is_named_in(components: &[Component], name: &Identifier) -> bool
+    ensures { result ≡ is_named_in components.now name.now.name }
+{
+    components.iter().any(|component| component.name.name.as_bytes() == name.name.as_bytes())
+}
+
+fn is_long(index: Option<Subtype>) -> bool
+    ensures { result ≡ is_long index }
+{
+    match index {
+        Some(index) => short_length(index).is_none(),
+        None => false,
+    }
+}
+
+// A component behind these.
+fn component_fault(scope: &Scope, before: &[Component], component: &Component) -> Option<Fault>
+    ensures { result ≡ least (component_faults scope.now before.now component.now) }
+{
+    least_by_parts();
+    sooner(
+        rule(
+            DECLARED_TWICE,
+            component.name.place,
+            is_named_in(before, &component.name),
+        ),
+        subtype_fault(scope, &component.subtype),
+    )
+}
+
+fn components_fault(scope: &Scope, components: &[Component]) -> Option<Fault>
+    ensures { result ≡ least (components_faults scope.now [] components.now) }
+{
+    least_by_parts();
+    sooner_associates();
+    let mut fault = None;
+    for (index, component) in components.iter().enumerate() {
+        let (before, _) = components.split_at(index);
+        fault = sooner(fault, component_fault(scope, before, component));
+    }
+    fault
+}
+
+// The components, where the subtype of each is known.
+fn record_components(
+    alloc: Global,
+    scope: &Scope,
+    components: &[Component],
+) -> Result<Option<Vec<RecordComponent>>, AllocError>
+    ensures { IfOk result (λ o. option_map (λ v. v.items) o ≡ record_components scope.now components.now) }
+{
+    let mut all = Vec::new(alloc);
+    for component in components {
+        match subtype_of(scope, &component.subtype) {
+            Some(subtype) => all.push(RecordComponent {
+                name: component.name.name.clone()?,
+                subtype,
+            })?,
+            None => return Ok(None),
+        }
+    }
+    Ok(Some(all))
+}
+
+fn narrowed_fault(scope: &Scope, range: &Range, subtype: Option<Subtype>) -> Option<Fault>
+    ensures { result ≡ least (narrowed_faults scope.now (range_tree range.now) subtype) }
+{
+    match subtype {
+        Some(subtype) => {
+            let wanted = Wanted::OfType(subtype.type_number);
+            range_fault(scope, wanted, Some(subtype), range)
+        }
+        None => range_fault(scope, Wanted::AnyInteger, None, range),
+    }
+}
+
+fn array_fault(scope: &Scope, index: &ArrayIndex, component: &Identifier) -> Option<Fault>
+    ensures { result ≡ least (array_faults scope.now (index_tree index.now) component.now) }
+{
+    least_by_parts();
+    let long = rule(
+        LIMIT_PASSED,
+        index_place(index),
+        is_long(index_subtype(scope, index)),
+    );
+    sooner(
+        sooner(index_fault(scope, index), long),
+        subtype_fault(scope, component),
+    )
+}
+
+// A subtype with a range of its own.
+fn subtype_range_fault(scope: &Scope, name: &Identifier, range: &Range) -> Option<Fault>
+    ensures { result ≡ least (subtype_range_faults scope.now name.now (range_tree range.now)) }
+{
+    least_by_parts();
+    let subtype = subtype_of(scope, name);
+    let named = sooner(
+        subtype_fault(scope, name),
+        rule(NO_MEANING, name.place, is_other(scope, subtype)),
+    );
+    sooner(
+        named,
+        narrowed_fault(scope, range, if_integer(scope, subtype)),
+    )
+}
+
+fn definition_fault(scope: &Scope, definition: &TypeDefinition) -> Option<Fault>
+    ensures { result ≡ least (definition_faults scope.now (definition_tree definition.now)) }
+{
+    match definition {
+        TypeDefinition::Integer(range) => range_fault(scope, Wanted::AnyInteger, None, range),
+        TypeDefinition::Array(index, component) => array_fault(scope, index, component),
+        TypeDefinition::Record(components) => components_fault(scope, components),
+        TypeDefinition::Subtype(name, None) => subtype_fault(scope, name),
+        TypeDefinition::Subtype(name, Some(range)) => subtype_range_fault(scope, name, range),
+    }
+}
+
+/// The least fault of the declaration of a type or subtype.
+pub fn type_fault(scope: &Scope, declaration: &TypeDeclaration) -> Option<Fault>
+    ensures { result ≡ least (type_faults scope.now (type_tree declaration.now)) }
+{
+    least_by_parts();
+    sooner(
+        definition_fault(scope, &declaration.definition),
+        declared_twice(scope, &declaration.name),
+    )
+}
+
+// The type with the next number, of this form.
+fn composite(scope: &Scope, form: TypeForm) -> Entity
+    ensures { entity_value result ≡ composite scope.now (form_value form) }
+{
+    Entity::Type(
+        form,
+        Subtype {
+            type_number: scope.len(),
+            first: 0,
+            last: 0,
+        },
+    )
+}
+
+fn integer_entity(subtype: Option<Subtype>) -> Entity
+    ensures { entity_value result ≡ integer_entity subtype }
+{
+    match subtype {
+        Some(subtype) => Entity::Type(TypeForm::Integer, subtype),
+        None => Entity::Doubtful,
+    }
+}
+
+fn array_entity(scope: &Scope, index: Option<Subtype>, component: Option<Subtype>) -> Entity
+    ensures { entity_value result ≡ array_entity scope.now index component }
+{
+    match (index, component) {
+        (Some(index), Some(component)) => match short_length(index) {
+            Some(length) => composite(scope, TypeForm::Array(index, length, component)),
+            None => Entity::Doubtful,
+        },
+        _ => Entity::Doubtful,
+    }
+}
+
+fn record_entity(scope: &Scope, components: Option<Vec<RecordComponent>>) -> Entity
+    ensures { entity_value result ≡ record_entity scope.now (option_map (λ v. v.items) components) }
+{
+    match components {
+        Some(components) => composite(scope, TypeForm::Record(components)),
+        None => Entity::Doubtful,
+    }
+}
+
+fn subtype_entity(subtype: Option<Subtype>) -> Entity
+    ensures { entity_value result ≡ subtype_entity subtype }
+{
+    match subtype {
+        Some(subtype) => Entity::Subtype(subtype),
+        None => Entity::Doubtful,
+    }
+}
+
+fn narrowed(scope: &Scope, subtype: Option<Subtype>, range: &Range) -> Option<Subtype>
+    ensures { result ≡ narrowed scope.now subtype (range_tree range.now) }
+{
+    match subtype {
+        Some(subtype) => {
+            let wanted = Wanted::OfType(subtype.type_number);
+            range_subtype(scope, subtype.type_number, wanted, Some(subtype), range)
+        }
+        None => None,
+    }
+}
+
+// What the definition declares.
+fn definition_entity(
+    alloc: Global,
+    scope: &Scope,
+    definition: &TypeDefinition,
+) -> Result<Entity, AllocError>
+    ensures { IfOk result (λ e. entity_value e ≡ definition_entity scope.now (definition_tree definition.now)) }
+{
+    Ok(match definition {
+        TypeDefinition::Integer(range) => {
+            let subtype = range_subtype(scope, scope.len(), Wanted::AnyInteger, None, range);
+            integer_entity(subtype)
+        }
+        TypeDefinition::Array(index, component) => array_entity(
+            scope,
+            index_subtype(scope, index),
+            subtype_of(scope, component),
+        ),
+        TypeDefinition::Record(components) => {
+            record_entity(scope, record_components(alloc, scope, components)?)
+        }
+        TypeDefinition::Subtype(name, None) => subtype_entity(subtype_of(scope, name)),
+        TypeDefinition::Subtype(name, Some(range)) => {
+            let subtype = if_integer(scope, subtype_of(scope, name));
+            subtype_entity(narrowed(scope, subtype, range))
+        }
+    })
+}
+
+/// Makes the type or subtype visible. Memory is the only refusal, and leaves the scope as it was.
+pub fn declare_type(
+    alloc: Global,
+    scope: &mut Scope,
+    declaration: &TypeDeclaration,
+) -> Result<(), AllocError>
+    ensures ok { OnOk result (scope.new ≡ type_scope scope.old (type_tree declaration.now)) }
+    ensures err { OnErr result (scope.new ≡ scope.old) }
+{
+    let entity = definition_entity(alloc, scope, &declaration.definition)?;
+    declare(scope, &declaration.name, entity)
+}

@@ -1,0 +1,214 @@
+//! Formal parameters and results (RM 6.1).
+ghost use Rattle.std.specs.Prelude.{◌≡◌, ◌++◌, [], IfOk, OnErr, OnOk, option_map};
+ghost use Rattle.ada_tree.specs.StatementTree.{subprogram_tree};
+ghost use Rattle.types.specs.Entities.{entity_value, form_value, profile_value};
+ghost use Rattle.expr_rules.specs.Faults.{least};
+ghost use Rattle.type_rules.specs.SubtypeNames.{is_composite, is_composite_form};
+ghost use Rattle.type_rules.specs.ProfileRules.{formal_faults, formal_parameters, formals_faults, function_faults, given_profile, has_wrong_formal, is_formal_in, is_in, is_wrong_formal, profile_entity, profile_faults, profile_with, result_faults, subprogram_faults, subprogram_scope};
+
+use crate::names::{declare, declared_twice, subtype_fault, subtype_of};
+use ada_tree::{Formal, Identifier, Mode, Subprogram};
+use base::faults::{DECLARED_TWICE, LIMIT_PASSED, WRONG_FUNCTION};
+use base::limits::FORMALS;
+use expr_rules::laws::{least_by_parts, sooner_associates};
+use expr_rules::{rule, sooner};
+use lexer::Fault;
+use std::alloc::{AllocError, Global};
+use types::{Entity, FormalParameter, Profile, Scope, Subtype, TypeForm};
+
+fn is_formal_in(formals: &[Formal], name: &Identifier) -> bool
+    ensures { result ≡ is_formal_in formals.now name.now.name }
+{
+    formals.iter().any(|formal| formal.name.name.as_bytes() == name.name.as_bytes())
+}
+
+// A formal parameter behind these.
+fn formal_fault(scope: &Scope, before: &[Formal], formal: &Formal) -> Option<Fault>
+    ensures { result ≡ least (formal_faults scope.now before.now formal.now) }
+{
+    least_by_parts();
+    let place = formal.name.place;
+    let hides = scope.number_of(&formal.name.name).is_some() || is_formal_in(before, &formal.name);
+    sooner(
+        sooner(
+            rule(DECLARED_TWICE, place, hides),
+            rule(LIMIT_PASSED, place, FORMALS <= before.len()),
+        ),
+        subtype_fault(scope, &formal.subtype),
+    )
+}
+
+/// The least fault of formal parameters.
+pub fn formals_fault(scope: &Scope, formals: &[Formal]) -> Option<Fault>
+    ensures { result ≡ least (formals_faults scope.now [] formals.now) }
+{
+    least_by_parts();
+    sooner_associates();
+    let mut fault = None;
+    for (index, formal) in formals.iter().enumerate() {
+        let (before, _) = formals.split_at(index);
+        fault = sooner(fault, formal_fault(scope, before, formal));
+    }
+    fault
+}
+
+fn result_fault(scope: &Scope, given: Option<&Identifier>) -> Option<Fault>
+    ensures { result ≡ least (result_faults scope.now (option_map (λ n. n.now) given.entry)) }
+{
+    match given {
+        Some(name) => subtype_fault(scope, name),
+        None => None,
+    }
+}
+
+fn is_composite_form(form: Option<&TypeForm>) -> bool
+    ensures { result ≡ is_composite_form (option_map (λ f. form_value f.now) form.entry) }
+{
+    match form {
+        Some(TypeForm::Array(_, _, _)) => true,
+        Some(TypeForm::Record(_)) => true,
+        _ => false,
+    }
+}
+
+fn is_composite(scope: &Scope, subtype: Option<Subtype>) -> bool
+    ensures { result ≡ is_composite scope.now subtype }
+{
+    match subtype {
+        Some(subtype) => is_composite_form(scope.form(subtype.type_number)),
+        None => false,
+    }
+}
+
+fn is_in(mode: Mode) -> bool
+    ensures { result ≡ is_in mode }
+{
+    match mode {
+        Mode::In => true,
+        _ => false,
+    }
+}
+
+fn is_wrong_formal(scope: &Scope, formal: &Formal) -> bool
+    ensures { result ≡ is_wrong_formal scope.now formal.now }
+{
+    !is_in(formal.mode) || is_composite(scope, subtype_of(scope, &formal.subtype))
+}
+
+fn has_wrong_formal(scope: &Scope, formals: &[Formal]) -> bool
+    ensures { result ≡ has_wrong_formal scope.now formals.now }
+{
+    formals.iter().any(|formal| is_wrong_formal(scope, formal))
+}
+
+fn function_fault(
+    scope: &Scope,
+    name: &Identifier,
+    formals: &[Formal],
+    given: Option<&Identifier>,
+) -> Option<Fault>
+    ensures { result ≡ least (function_faults scope.now name.now formals.now (option_map (λ n. n.now) given.entry)) }
+{
+    match given {
+        Some(given) => {
+            let composite = is_composite(scope, subtype_of(scope, given));
+            rule(
+                WRONG_FUNCTION,
+                name.place,
+                composite || has_wrong_formal(scope, formals),
+            )
+        }
+        None => None,
+    }
+}
+
+/// The least fault of the formals and the result of a procedure or function.
+pub fn profile_fault(scope: &Scope, subprogram: &Subprogram) -> Option<Fault>
+    ensures { result ≡ least (profile_faults scope.now (subprogram_tree subprogram.now)) }
+{
+    least_by_parts();
+    let given = subprogram.result.as_ref();
+    let formals = formals_fault(scope, &subprogram.formals);
+    let named = sooner(formals, result_fault(scope, given));
+    let function = function_fault(scope, &subprogram.name, &subprogram.formals, given);
+    sooner(named, function)
+}
+
+/// The least fault of the declaration of a procedure or function, its body aside.
+pub fn subprogram_fault(scope: &Scope, subprogram: &Subprogram) -> Option<Fault>
+    ensures { result ≡ least (subprogram_faults scope.now (subprogram_tree subprogram.now)) }
+{
+    least_by_parts();
+    sooner(
+        profile_fault(scope, subprogram),
+        declared_twice(scope, &subprogram.name),
+    )
+}
+
+/// The formal parameters, where the subtype of each is known.
+pub fn formal_parameters(
+    alloc: Global,
+    scope: &Scope,
+    formals: &[Formal],
+) -> Result<Option<Vec<FormalParameter>>, AllocError>
+    ensures { IfOk result (λ o. option_map (λ v. v.items) o ≡ formal_parameters scope.now formals.now) }
+{
+    let mut all = Vec::new(alloc);
+    for formal in formals {
+        match subtype_of(scope, &formal.subtype) {
+            Some(subtype) => all.push(FormalParameter {
+                mode: formal.mode,
+                subtype,
+            })?,
+            None => return Ok(None),
+        }
+    }
+    Ok(Some(all))
+}
+
+/// The profile with these formals and this result, where both are known.
+pub fn profile_with(
+    scope: &Scope,
+    formals: Option<Vec<FormalParameter>>,
+    given: Option<&Identifier>,
+) -> Option<Profile>
+    ensures { option_map (λ p. profile_value p) result ≡ profile_with scope.now (option_map (λ v. v.items) formals) (option_map (λ n. n.now) given.entry) }
+{
+    let formals = formals?;
+    match given {
+        None => Some(Profile {
+            formals,
+            result: None,
+        }),
+        Some(name) => match subtype_of(scope, name) {
+            Some(subtype) => Some(Profile {
+                formals,
+                result: Some(subtype),
+            }),
+            None => None,
+        },
+    }
+}
+
+fn profile_entity(profile: Option<Profile>) -> Entity
+    ensures { entity_value result ≡ profile_entity (option_map (λ p. profile_value p) profile) }
+{
+    match profile {
+        Some(profile) => Entity::Subprogram(profile),
+        None => Entity::Doubtful,
+    }
+}
+
+/// Makes a procedure or function visible. Memory is the only refusal, and leaves the scope as it was.
+pub fn declare_subprogram(
+    alloc: Global,
+    scope: &mut Scope,
+    subprogram: &Subprogram,
+) -> Result<(), AllocError>
+    ensures ok { OnOk result (scope.new ≡ subprogram_scope scope.old (subprogram_tree subprogram.now)) }
+    ensures err { OnErr result (scope.new ≡ scope.old) }
+{
+    let formals = formal_parameters(alloc, scope, &subprogram.formals)?;
+    let profile = profile_with(scope, formals, subprogram.result.as_ref());
+    declare(scope, &subprogram.name, profile_entity(profile))
+}
