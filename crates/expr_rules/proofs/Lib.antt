@@ -7,5 +7,5 @@ mod Sample
 mod NameExamples
 mod OperatorExamples
 mod StaticExamples
-mod TypeShapes
-mod TypedLaw
+pub mod TypeShapes
+pub mod TypedLaw

@@ -19,11 +19,11 @@ kept_front [] ys n x h = cc
 kept_front (y ∷ xs) ys zero x h = h
 kept_front (y ∷ xs) ys (suc n) x h = kept_front xs ys n x h
 
-at_end : {X : Type 0} (xs : List X) (x : X) → slice_get (xs ++ x ∷ []) (length xs) ≡ Some x
+pub at_end : {X : Type 0} (xs : List X) (x : X) → slice_get (xs ++ x ∷ []) (length xs) ≡ Some x
 at_end [] x = refl
 at_end (y ∷ xs) x = at_end xs x
 
-kept_shape : (known : List Shape) (s : Scope) (n : ℕ) (x : Shape) → slice_get known n ≡ Some x → slice_get (shapes_after known s) n ≡ Some x
+pub kept_shape : (known : List Shape) (s : Scope) (n : ℕ) (x : Shape) → slice_get known n ≡ Some x → slice_get (shapes_after known s) n ≡ Some x
 kept_shape known [] n x h = h
 kept_shape known (m ∷ rest) n x h = kept_shape (known ++ entity_shape known m.entity ∷ []) rest n x (kept_front known (entity_shape known m.entity ∷ []) n x h)
 
@@ -50,7 +50,7 @@ shape_at known (x ∷ rest) (suc n) m h =
     (found.0, subst (λ k. slice_get (shapes_after after rest) k ≡ Some (entity_shape found.0 m.entity)) (length_more known (entity_shape known x.entity) n) found.1)
 
 -- what stands for a type with a form
-type_entity : (o : Option Entity) (form : TypeForm) → form_of o ≡ Some form → (t : Subtype) × (o ≡ Some (OfType form t))
+pub type_entity : (o : Option Entity) (form : TypeForm) → form_of o ≡ Some form → (t : Subtype) × (o ≡ Some (OfType form t))
 type_entity (Some (OfType f t)) form h = let g : Option TypeForm → TypeForm = λ o. elim o [ Some y ↦ y | None ↦ f ] in (t, ap (λ y. Some (OfType y t)) (ap g h))
 type_entity (Some (entity.OfSubtype t)) form h = cc
 type_entity (Some (entity.Object r t)) form h = cc
@@ -67,7 +67,7 @@ type_entity (Some entity.LibraryUnit) form h = cc
 type_entity (Some entity.Doubtful) form h = cc
 type_entity None form h = cc
 
-entity_named : (o : Option Named) (e : Entity) → entity_of o ≡ Some e → (m : Named) × (o ≡ Some m) × (m.entity ≡ e)
+pub entity_named : (o : Option Named) (e : Entity) → entity_of o ≡ Some e → (m : Named) × (o ≡ Some m) × (m.entity ≡ e)
 entity_named (Some m) e h = let g : Option Entity → Entity = λ o. elim o [ Some y ↦ y | None ↦ e ] in (m, refl, ap g h)
 entity_named None e h = cc
 

@@ -29,24 +29,24 @@ use Rattle.expr_rules.proofs.TypeShapes.{boolean_value, has_numbers, is_number, 
 
 -- ---- parts of what is broken nowhere
 
-front_empty : (xs ys : Faults) → xs ++ ys ≡ [] → xs ≡ []
+pub front_empty : (xs ys : Faults) → xs ++ ys ≡ [] → xs ≡ []
 front_empty [] ys h = refl
 front_empty (x ∷ xs) ys h = cc
 
-back_empty : (xs ys : Faults) → xs ++ ys ≡ [] → ys ≡ []
+pub back_empty : (xs ys : Faults) → xs ++ ys ≡ [] → ys ≡ []
 back_empty [] ys h = h
 back_empty (x ∷ xs) ys h = cc
 
-unbroken : (n p : ℕ) (b : Bool) → rule n p b ≡ [] → b ≡ false
+pub unbroken : (n p : ℕ) (b : Bool) → rule n p b ≡ [] → b ≡ false
 unbroken n p true h = cc
 unbroken n p false h = refl
 
-judged : (k h : Bool) → (k && not h) ≡ false → k ≡ true → h ≡ true
+pub judged : (k h : Bool) → (k && not h) ≡ false → k ≡ true → h ≡ true
 judged true true e k = refl
 judged true false e k = cc
 judged false h e k = cc
 
-judged_two : (j k h : Bool) → (j && (k && not h)) ≡ false → j ≡ true → k ≡ true → h ≡ true
+pub judged_two : (j k h : Bool) → (j && (k && not h)) ≡ false → j ≡ true → k ≡ true → h ≡ true
 judged_two true k h e j m = judged k h e m
 judged_two false k h e j m = cc
 
@@ -62,18 +62,18 @@ left_of : (a b : Bool) → a ≡ true → (a || b) ≡ true
 left_of true b h = refl
 left_of false b h = cc
 
-same_number : (n m : ℕ) → nat_eq n m ≡ true → n ≡ m
+pub same_number : (n m : ℕ) → nat_eq n m ≡ true → n ≡ m
 same_number n m h = grind (arith, h)
 
 -- ---- types
 
-integral_numeric : (s : Scope) (a : Own) → is_integral s a ≡ true → is_numeric s a ≡ true
+pub integral_numeric : (s : Scope) (a : Own) → is_integral s a ≡ true → is_numeric s a ≡ true
 integral_numeric s a h = left_of (is_integral s a) (is_time s a || is_span s a) h
 
-time_numeric : (s : Scope) (a : Own) → is_time s a ≡ true → is_numeric s a ≡ true
+pub time_numeric : (s : Scope) (a : Own) → is_time s a ≡ true → is_numeric s a ≡ true
 time_numeric s a h = right_of (is_integral s a) (is_time s a || is_span s a) (left_of (is_time s a) (is_span s a) h)
 
-span_numeric : (s : Scope) (a : Own) → is_span s a ≡ true → is_numeric s a ≡ true
+pub span_numeric : (s : Scope) (a : Own) → is_span s a ≡ true → is_numeric s a ≡ true
 span_numeric s a h = right_of (is_integral s a) (is_time s a || is_span s a) (right_of (is_time s a) (is_span s a) h)
 
 -- a scalar type has numbers or truth values
@@ -123,7 +123,7 @@ joined_numeric s (Typed n) (Typed m) h = by_test (nat_eq n m) refl h
     by_test true e k = (k, subst (λ i. is_numeric s (Typed i) ≡ true) (same_number n m e) k)
     by_test false e k = cc
 
-joined_boolean : (s : Scope) (a b : Own) → is_boolean s (join s a b) ≡ true → (is_boolean s a ≡ true) × (is_boolean s b ≡ true)
+pub joined_boolean : (s : Scope) (a b : Own) → is_boolean s (join s a b) ≡ true → (is_boolean s a ≡ true) × (is_boolean s b ≡ true)
 joined_boolean s Unknown b h = cc
 joined_boolean s Universal Unknown h = cc
 joined_boolean s Universal Universal h = cc
@@ -183,14 +183,14 @@ sum_numeric s operator a b behind h = by_test (is_time s a) refl h
 
 -- ---- values of types
 
-suits_number : (s : Scope) (a : Own) → is_numeric s a ≡ true → (z : ℤ) → is_value_of s a (Number z) ≡ true
+pub suits_number : (s : Scope) (a : Own) → is_numeric s a ≡ true → (z : ℤ) → is_value_of s a (Number z) ≡ true
 suits_number s a h z = numeric_value s a h (Number z)
 
-suits_computed : (s : Scope) (a : Own) → is_numeric s a ≡ true → (r : Checked) → suits s a (computed r) ≡ true
+pub suits_computed : (s : Scope) (a : Own) → is_numeric s a ≡ true → (r : Checked) → suits s a (computed r) ≡ true
 suits_computed s a h (Ok z) = suits_number s a h z
 suits_computed s a h (Err x) = refl
 
-abbrev Boolean : Scope → Type 0
+abbrev pub Boolean : Scope → Type 0
 Boolean s = form_at s boolean_type ≡ Some Booleans
 
 boolean_is : (s : Scope) → Boolean s → is_boolean s (Typed boolean_type) ≡ true
@@ -212,10 +212,10 @@ truth_of_value (Array vs) h = cc
 truth_of_value (Record fs) h = cc
 
 -- a value of a numeric type is a number, one of Boolean a truth value
-as_number : (s : Scope) (a : Own) (v : Value) → is_numeric s a ≡ true → is_value_of s a v ≡ true → (z : ℤ) × (v ≡ Number z)
+pub as_number : (s : Scope) (a : Own) (v : Value) → is_numeric s a ≡ true → is_value_of s a v ≡ true → (z : ℤ) × (v ≡ Number z)
 as_number s a v h i = number_of_value v (sym (numeric_value s a h v) ∙ i)
 
-as_truth : (s : Scope) (a : Own) (v : Value) → is_boolean s a ≡ true → is_value_of s a v ≡ true → (b : Bool) × (v ≡ Truth b)
+pub as_truth : (s : Scope) (a : Own) (v : Value) → is_boolean s a ≡ true → is_value_of s a v ≡ true → (b : Bool) × (v ≡ Truth b)
 as_truth s a v h i = truth_of_value v (sym (boolean_value s a h v) ∙ i)
 
 -- ---- what operators give
@@ -261,7 +261,7 @@ decided binary.AndThen (Truth false) h = (refl, refl)
 decided binary.OrElse (Truth true) h = (refl, refl)
 decided operator v h = cc
 
-abbrev Behind : Scope → Type 0
+abbrev pub Behind : Scope → Type 0
 Behind s = (n : ℕ) → is_times (form_at s n) ≡ true → is_spans (form_at s (suc n)) ≡ true
 
 -- both values are there
@@ -395,15 +395,15 @@ all_further s NoElsifValues own further all into = tt
 all_further s (MoreElsifValues condition value rest) own further all into = ((λ v i. into v (all.0 v i)), all_further s rest own further all.1 into)
 
 -- typed, and as expected
-record Expected (s : Scope) (w : Wanted) (own : Own) (v : Val Value) : Type 0 where
-  typed : IsTyped s own v
-  fitting : is_wanted s w own ≡ true
+pub record Expected (s : Scope) (w : Wanted) (own : Own) (v : Val Value) : Type 0 where
+  pub typed : IsTyped s own v
+  pub fitting : is_wanted s w own ≡ true
 
-expected : (s : Scope) (w : Wanted) (own : Own) (place : ℕ) (v : Val Value) → IsTyped s own v → mismatch s w own place ≡ [] → Expected s w own v
+pub expected : (s : Scope) (w : Wanted) (own : Own) (place : ℕ) (v : Val Value) → IsTyped s own v → mismatch s w own place ≡ [] → Expected s w own v
 expected s w own place v typed h = record { typed = typed; fitting = judged (is_known own) (is_wanted s w own) (unbroken 12 place (is_known own && not (is_wanted s w own)) h) typed.known }
 
 -- the conditions and the values of elsif parts
-abbrev AllTyped : Scope → Calls → Place → Wanted → ElsifValueTrees → Type 0
+abbrev pub AllTyped : Scope → Calls → Place → Wanted → ElsifValueTrees → Type 0
 AllTyped s calls p w NoElsifValues = ⊤
 AllTyped s calls p w (MoreElsifValues condition value rest) =
     (Expected s boolean_wanted (own_of s condition) (value_with calls p condition)) × (Expected s w (own_of s value) (value_with calls p value)) × (AllTyped s calls p w rest)
@@ -539,10 +539,10 @@ parts_universal s calls p w value last elsifs h a all b =
     ap is_known whole
 
 -- what each part is legal for
-record Parts (s : Scope) (calls : Calls) (p : Place) (value last : ExprTree) (elsifs : ElsifValueTrees) (w : Wanted) : Type 0 where
-  first : Expected s w (own_of s value) (value_with calls p value)
-  middle : AllTyped s calls p w elsifs
-  end : Expected s w (own_of s last) (value_with calls p last)
+pub record Parts (s : Scope) (calls : Calls) (p : Place) (value last : ExprTree) (elsifs : ElsifValueTrees) (w : Wanted) : Type 0 where
+  pub first : Expected s w (own_of s value) (value_with calls p value)
+  pub middle : AllTyped s calls p w elsifs
+  pub end : Expected s w (own_of s last) (value_with calls p last)
 
 first_known : (s : Scope) (calls : Calls) (p : Place) (value last : ExprTree) (elsifs : ElsifValueTrees) (first : Own) → or_first (own_of s value) (first_typed s elsifs (own_of s last)) ≡ first
     → Parts s calls p value last elsifs (typed_wanted first) → is_known (parts_own s value elsifs last) ≡ true
@@ -558,7 +558,7 @@ parts_known s calls p value last elsifs (OfType n) Unknown e all = parts_of s ca
 parts_known s calls p value last elsifs Anything Unknown e all = first_known s calls p value last elsifs (or_first (own_of s value) (first_typed s elsifs (own_of s last))) refl all
 parts_known s calls p value last elsifs AnyInteger Unknown e all = first_known s calls p value last elsifs (or_first (own_of s value) (first_typed s elsifs (own_of s last))) refl all
 
-conditional_typed : (s : Scope) (calls : Calls) (p : Place) → Boolean s → (place : ℕ) (condition value last : ExprTree) (elsifs : ElsifValueTrees) (w : Wanted)
+pub conditional_typed : (s : Scope) (calls : Calls) (p : Place) → Boolean s → (place : ℕ) (condition value last : ExprTree) (elsifs : ElsifValueTrees) (w : Wanted)
     → Expected s boolean_wanted (own_of s condition) (value_with calls p condition) → Parts s calls p value last elsifs (conditional_wanted s w value elsifs last)
     → IsTyped s (own_of s (Conditional place condition value elsifs last)) (value_with calls p (Conditional place condition value elsifs last))
 conditional_typed s calls p boolean place condition value last elsifs w holds all =
@@ -577,13 +577,13 @@ conditional_typed s calls p boolean place condition value last elsifs w holds al
           (condition_meant s boolean (own_of s condition) (value_with calls p condition) holds) one (found_or s own (elsif_with calls p elsifs) (value_with calls p last) middle other);
     }
 
-unary_typed : (s : Scope) (calls : Calls) (p : Place) → Boolean s → (operator : UnaryOperator) (place : ℕ) (e : ExprTree) → IsTyped s (own_of s e) (value_with calls p e) → unary_rule s operator place (own_of s e) ≡ []
+pub unary_typed : (s : Scope) (calls : Calls) (p : Place) → Boolean s → (operator : UnaryOperator) (place : ℕ) (e : ExprTree) → IsTyped s (own_of s e) (value_with calls p e) → unary_rule s operator place (own_of s e) ≡ []
     → IsTyped s (unary_own s operator (own_of s e)) (and_then (value_with calls p e) (unary_value operator))
 unary_typed s calls p boolean operator place e one h =
     let has = judged (is_known (own_of s e)) (has_unary s operator (own_of s e)) (unbroken 12 place (is_known (own_of s e) && not (has_unary s operator (own_of s e))) h) one.known in
     record { known = unary_known s operator (own_of s e) has one.known; suited = suits_unary s boolean operator (own_of s e) (value_with calls p e) has one.suited }
 
-binary_typed : (s : Scope) (calls : Calls) (p : Place) → Boolean s → Behind s → (operator : BinaryOperator) (place : ℕ) (a b : ExprTree) → IsTyped s (own_of s a) (value_with calls p a) → IsTyped s (own_of s b) (value_with calls p b)
+pub binary_typed : (s : Scope) (calls : Calls) (p : Place) → Boolean s → Behind s → (operator : BinaryOperator) (place : ℕ) (a b : ExprTree) → IsTyped s (own_of s a) (value_with calls p a) → IsTyped s (own_of s b) (value_with calls p b)
     → binary_rule s operator place (own_of s a) (own_of s b) ≡ [] → IsTyped s (own_of s (Binary operator a b)) (value_with calls p (Binary operator a b))
 binary_typed s calls p boolean behind operator place a b left right h =
     let test = is_known (own_of s a) && (is_known (own_of s b) && not (has_binary s operator (own_of s a) (own_of s b))) in

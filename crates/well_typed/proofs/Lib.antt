@@ -1,0 +1,12 @@
+mod Positions
+mod Parts
+mod Goods
+mod Growing
+mod Agreement
+mod FixedNames
+mod Elements
+mod Denoting
+mod Applying
+mod Arguments
+mod Expressions
+mod Calls
