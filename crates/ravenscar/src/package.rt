@@ -11,12 +11,12 @@ use crate::bodies::{body_fault, operations_fault};
 use crate::tasking::{protected_fault, task_fault};
 use ada_tree::{BodyItem, Identifier, Item, Package, ProtectedBodyItem};
 use declaring::declare_item;
-use type_rules::named_entity;
 use expr_rules::laws::{least_by_parts, sooner_associates};
 use expr_rules::sooner;
 use legality::{inside_scope, see_body_item};
 use lexer::Fault;
 use std::alloc::{AllocError, Global};
+use type_rules::named_entity;
 use types::{Entity, RecordComponent, Scope};
 
 fn item_fault(scope: &Scope, item: &Item) -> Option<Fault>

@@ -15,9 +15,9 @@ use ada_tree::{
     Stmt,
 };
 use base::limits::FRAME_WORDS;
-use type_rules::subtype_of;
 use lexer::Fault;
 use std::alloc::AllocError;
+use type_rules::subtype_of;
 use types::Scope;
 
 fn words_named(scope: &Scope, name: &Identifier) -> u16

@@ -16,8 +16,8 @@ use ada_tree::{
     ProtectedComponent, ProtectedDeclaration, Subprogram,
 };
 use declaring::declare_item;
-use type_rules::named_entity;
 use std::alloc::{AllocError, Global};
+use type_rules::named_entity;
 use types::{Entity, ProtectedObject, Scope};
 
 fn push_object(
