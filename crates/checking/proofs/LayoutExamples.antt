@@ -5,9 +5,7 @@ use Rattle.ada_tree.specs.declared.expression.Identifier.{Identifier}
 use Rattle.ada_tree.specs.declared.declaration.Component.{Component}
 use Rattle.ada_tree.specs.ExpressionTree.{ExprTree, Number}
 use Rattle.ada_tree.specs.StatementTree.{NoStmts, NoHandlers, OfSubprogram, ProtectedComponentTree, RangeTree, SubprogramTree}
-use Rattle.ada_tree.specs.ProgramTree.{Array, BodyItemTree, BodyTree, DefinitionTree, Integer, ItemTree, OfItem, OfObject, OfProtected, OfRange, OfType, PackageTree, ProgramTree, ProtectedBody, Record, SubprogramBody}
-use Rattle.ada_tree.specs.ProgramTree.{OfSubprogram as OfDeclared}
-use Rattle.types.specs.Layouts.{Objects}
+use Rattle.ada_tree.specs.ProgramTree.{Array, BodyItemTree, DefinitionTree, Integer, ItemTree, OfItem, OfObject, OfProtected, OfRange, OfType, PackageTree, ProgramTree, ProtectedBody, Record, SubprogramBody}
 use Rattle.types.specs.Scopes.{standard}
 use Rattle.checking.specs.ProgramLayouts.{object_layouts, placed, program_scope, variables_layout}
 

@@ -6,3 +6,4 @@ mod Made
 mod Numbers
 mod Placing
 mod Room
+mod OneWalk

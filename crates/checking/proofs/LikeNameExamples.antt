@@ -4,7 +4,7 @@ use Rattle.std.specs.Prelude.{codes}
 use Rattle.base.specs.declared.faults.TheConstants.{DECLARED_TWICE}
 use Rattle.lexer.specs.declared.fault.Fault.{Fault}
 use Rattle.ada_tree.specs.declared.expression.Identifier.{Identifier}
-use Rattle.ada_tree.specs.StatementTree.{OfSubprogram, OfEntry, ProtectedTree, SubprogramTree, NoStmts, NoHandlers}
+use Rattle.ada_tree.specs.StatementTree.{OfSubprogram, OfEntry, SubprogramTree, NoStmts, NoHandlers}
 use Rattle.ada_tree.specs.ProgramTree.{ItemTree, OfException, OfProtected, BodyTree, BodyItemTree, OfItem, SubprogramBody, ProtectedBody, PackageTree}
 use Rattle.ada_tree.specs.ProgramTree.{OfSubprogram as OfDeclared}
 use Rattle.checking.specs.LikeNames.{like_name_faults}

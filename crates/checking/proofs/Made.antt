@@ -16,14 +16,14 @@ use Rattle.types.specs.Entities as entity
 use Rattle.types.specs.Scopes.{Named, Scope, entity_of, is_visible, number_of, standard, with_control_io, with_name, with_real_time}
 use Rattle.expr_rules.specs.declared.own.Wanted.TheVariants as wanted
 use Rattle.declaring.specs.ItemRules.{item_scope, items_scope}
-use Rattle.type_rules.specs.ObjectRules.{constant_entity, initial_scalar, object_entity, role_of}
+use Rattle.type_rules.specs.ObjectRules.{constant_entity, initial_scalar, object_entity}
 use Rattle.types.specs.declared.entity.Role.TheVariants as role
 use Rattle.type_rules.specs.ProfileRules.{formal_parameters, profile_entity, profile_with}
 use Rattle.declaring.specs.ProtectedRules.{object_components, object_operations, object_with, protected_count}
 use Rattle.type_rules.specs.SubtypeNames.{entity_at_or_none, if_integer, subtype_in, subtype_of}
 use Rattle.type_rules.specs.TypeRules.{array_entity, bounded, composite, definition_entity, index_subtype, integer_entity, narrowed, record_components, record_entity, short_length, static_whole, subtype_entity}
 use Rattle.expr_rules.specs.Typing.{is_integers}
-use Rattle.types.specs.Scopes.{form_at, integer_type}
+use Rattle.types.specs.Scopes.{form_at}
 use Rattle.legality.specs.PackageBodyRules.{body_item_scope, body_items_scope}
 use Rattle.legality.specs.PackageRules.{inside_scope, specified_scope}
 use Rattle.checking.specs.ProgramLayouts.{optional_scope}

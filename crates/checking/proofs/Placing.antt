@@ -1,13 +1,12 @@
 -- The layouts of the names that are left, and the room for them.
-use Rattle.std.proofs.Common.{◌≡◌, ◌≤◌, ℕ, zero, suc, ◌+◌, List, [], ◌∷◌, ◌++◌, drop, map, slice_get, Option, Some, None, refl, sym, ap, ◌∙◌, arith}
+use Rattle.std.proofs.Common.{◌≡◌, ◌≤◌, ℕ, zero, suc, ◌+◌, List, [], ◌∷◌, ◌++◌, drop, slice_get, Some, refl, sym, ap, ◌∙◌, arith}
 use Rattle.std.proofs.Math.Numerals.{add-one}
-use Rattle.std.proofs.lemmas.List.{append_assoc, map-append}
 use Rattle.base.specs.declared.limits.TheConstants.{WORDS}
 use Rattle.types.specs.Entities.{Entity, Protected}
 use Rattle.types.specs.Layouts.{total}
 use Rattle.types.specs.Scopes.{Scope, entity_of, protected_of}
 use Rattle.checking.specs.Placing.{object_at, variable_at, words_of_entity, words_of_object}
-use Rattle.checking.specs.ProgramLayouts.{object_words, objects_words, placed, total_of_all, variables_words}
+use Rattle.checking.specs.ProgramLayouts.{object_words, objects_words, total_of_all, variables_words}
 
 pub total_both : (ws vs : List ℕ) → total (ws ++ vs) ≡ total ws + total vs
 total_both [] vs = omega arith

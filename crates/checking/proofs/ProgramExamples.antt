@@ -6,7 +6,7 @@ use Rattle.ada_tree.specs.declared.expression.Identifier.{Identifier}
 use Rattle.ada_tree.specs.declared.program.MainStatement.{MainStatement}
 use Rattle.ada_tree.specs.declared.program.MainStatement.TheVariants as main_statement
 use Rattle.ada_tree.specs.StatementTree.{NoStmts, MoreStmts, Null, NoHandlers, SubprogramTree}
-use Rattle.ada_tree.specs.ProgramTree.{MainTree, PackageTree, ProgramTree, SubprogramBody}
+use Rattle.ada_tree.specs.ProgramTree.{MainTree, ProgramTree, SubprogramBody}
 use Rattle.ada_tree.specs.ProgramTree.{OfSubprogram as OfDeclared}
 use Rattle.expr_rules.specs.Faults.{least}
 use Rattle.checking.specs.ProgramRules.{IsLegal, program_faults}

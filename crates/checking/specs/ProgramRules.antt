@@ -1,5 +1,5 @@
 -- The rules from 10 to 23 of a whole program (docs/LANGUAGE.md): which are broken where, what a legal program is, and which broken rule is told.
-use Rattle.std.specs.Prelude.{◌≡◌, ◌≤◌, ◌<◌, ◌⊎◌, ℕ, List, [], ◌++◌, Option, Some, None}
+use Rattle.std.specs.Prelude.{◌≡◌, ◌≤◌, ◌<◌, ◌⊎◌, ℕ, [], ◌++◌, Option, Some, None}
 use Rattle.std.specs.List.{Contains}
 use Rattle.lexer.specs.Fault.{memory_fault}
 use Rattle.lexer.specs.declared.fault.Fault.{Fault}

@@ -91,7 +91,7 @@ fn package_part_fault(
     match package_ {
         Some(package_) => {
             let fault = package_fault(alloc, scope, package_)?;
-            Ok(sooner(fault, like_name_fault(package_)))
+            Ok(sooner(fault, like_name_fault(alloc, package_)?))
         }
         None => Ok(None),
     }

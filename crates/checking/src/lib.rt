@@ -5,5 +5,6 @@ mod checked;
 pub mod laws;
 mod layouts;
 mod like_names;
+mod name_ends;
 
 pub use checked::{Checked, check};

@@ -1,5 +1,3 @@
 mod ProtectedExamples
 mod BodyExamples
-mod Trees
-mod Counted
 mod Growing

@@ -8,6 +8,7 @@ use Rattle.ada_tree.specs.StatementTree.{OperationTree, OfSubprogram, OfEntry, P
 use Rattle.types.specs.declared.entity.RecordComponent.{RecordComponent}
 use Rattle.types.specs.declared.entity.Subtype.{Subtype}
 use Rattle.types.specs.Entities.{Profile, Operation, Entity, Protected, Doubtful}
+pub use Rattle.types.specs.Scopes.{one_if_protected, protected_count}
 use Rattle.types.specs.Scopes.{Scope, is_visible, with_name}
 use Rattle.expr_rules.specs.Faults.{Faults, rule}
 use Rattle.type_rules.specs.ObjectRules.{fixed_faults}
@@ -20,6 +21,9 @@ use Rattle.declaring.specs.TaskRules.{aspect_faults, priority_of}
 abbrev pub operation_name : OperationTree → Identifier
 operation_name (OfSubprogram d) = d.name
 operation_name (OfEntry d) = d.name
+
+abbrev pub operation_bytes : OperationTree → List ℕ
+operation_bytes o = (operation_name o).name
 
 abbrev pub is_operation_in : List OperationTree → List ℕ → Bool
 is_operation_in operations name = list_any (λ o. bytes_eq (operation_name o).name name) operations
@@ -35,6 +39,12 @@ operation_profile_faults s (OfEntry d) = formals_faults s [] d.formals
 abbrev pub operation_faults : Scope → (own : Identifier) → (before : List OperationTree) → OperationTree → Faults
 operation_faults s own before o =
     rule DECLARED_TWICE (operation_name o).place (is_operation_like s own before (operation_name o).name) ++ operation_profile_faults s o
+
+-- the same where it is known whether an operation before it has its name
+abbrev pub like_operation_faults : Scope → (own : Identifier) → (is_second : Bool) → OperationTree → Faults
+like_operation_faults s own is_second o =
+    rule DECLARED_TWICE (operation_name o).place (is_visible s (operation_name o).name || bytes_eq own.name (operation_name o).name || is_second)
+    ++ operation_profile_faults s o
 
 abbrev pub operations_faults : Scope → (own : Identifier) → (before : List OperationTree) → List OperationTree → Faults
 operations_faults s own before [] = []
@@ -56,6 +66,13 @@ component_initial_faults s c = elim c.value [ Some e ↦ fixed_faults s (subtype
 abbrev pub part_faults : Scope → (own : Identifier) → List OperationTree → (before : List ProtectedComponentTree) → ProtectedComponentTree → Faults
 part_faults s own operations before c =
     rule DECLARED_TWICE c.name.place (is_component_like s own operations before c.name.name) ++ subtype_faults s c.subtype ++ component_initial_faults s c
+
+-- the same where it is known whether an operation, or a component before it, has its name
+abbrev pub like_part_faults : Scope → (own : Identifier) → (is_operation is_second : Bool) → ProtectedComponentTree → Faults
+like_part_faults s own is_operation is_second c =
+    rule DECLARED_TWICE c.name.place (is_visible s c.name.name || bytes_eq own.name c.name.name || is_operation || is_second)
+    ++ subtype_faults s c.subtype
+    ++ component_initial_faults s c
 
 abbrev pub parts_faults : Scope → (own : Identifier) → List OperationTree → (before : List ProtectedComponentTree) → List ProtectedComponentTree → Faults
 parts_faults s own operations before [] = []
@@ -98,15 +115,6 @@ part_and c t rest = None
 abbrev pub object_components : Scope → List ProtectedComponentTree → Option (List RecordComponent)
 object_components s [] = Some []
 object_components s (c ∷ cs) = part_and c (subtype_of s c.subtype) (object_components s cs)
-
--- protected objects are numbered in the order of their declarations
-abbrev pub one_if_protected : Entity → ℕ
-one_if_protected (Protected p) = 1
-one_if_protected e = 0
-
-abbrev pub protected_count : Scope → ℕ
-protected_count [] = 0
-protected_count (n ∷ rest) = one_if_protected n.entity + protected_count rest
 
 -- the ceiling of an object without an aspect (RM D.3)
 abbrev pub default_ceiling : ℕ

@@ -12,7 +12,9 @@ use expr_rules::{Own, Wanted, expression_fault, is_integral, mismatch, own_of, s
 use lexer::Fault;
 use std::alloc::{AllocError, Global};
 use type_rules::{declare, declared_twice, object_entity, subtype_of};
-use types::{Entity, Operation, Profile, RecordComponent, Role, Scope, Subtype, start_of};
+use types::{
+    Entity, Operation, Operations, Profile, RecordComponent, Role, Scope, Subtype, start_of,
+};
 
 fn formal_role(mode: Mode) -> Role
     ensures { result ≡ formal_role mode }
@@ -186,18 +188,19 @@ pub fn enter_object(
     alloc: Global,
     scope: &mut Scope,
     number: usize,
-) -> Result<Vec<Operation>, AllocError>
+) -> Result<Operations, AllocError>
     ensures scope { OnOk result (scope.new ≡ object_body_scope scope.old number) }
-    ensures operations { IfOk result (λ v. map operation_value v.items ≡ operations_or (protected_at scope.old number) []) }
+    ensures operations { IfOk result (λ v. map operation_value v ≡ operations_or (protected_at scope.old number) []) }
 {
-    let operations = scope.replace_operations(number, Vec::new(alloc));
-    declare_operations(alloc, scope, &operations)?;
+    let none = Operations::new(alloc, Vec::new(alloc))?;
+    let operations = scope.replace_operations(number, none);
+    declare_operations(alloc, scope, operations.as_slice())?;
     Ok(operations)
 }
 
 /// Ends the body of the protected object with this number: of the visible names the first `len` stay, and the object has its operations back.
-pub fn leave_object(scope: &mut Scope, number: usize, len: usize, operations: Vec<Operation>)
-    ensures { scope.new ≡ with_operations (take len scope.old) number (map operation_value operations.items) }
+pub fn leave_object(scope: &mut Scope, number: usize, len: usize, operations: Operations)
+    ensures { scope.new ≡ with_operations (take len scope.old) number (map operation_value operations) }
 {
     scope.truncate(len);
     scope.replace_operations(number, operations);

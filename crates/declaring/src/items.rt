@@ -17,17 +17,17 @@ use type_rules::{
 };
 use types::Scope;
 
-/// The least fault of a declaration of the package.
-pub fn item_fault(scope: &Scope, item: &Item) -> Option<Fault>
-    ensures { result ≡ least (item_faults scope.now (item_tree item.now)) }
+/// The least fault of a declaration of the package. Memory is the only refusal.
+pub fn item_fault(alloc: Global, scope: &Scope, item: &Item) -> Result<Option<Fault>, AllocError>
+    ensures { IfOk result (λ f. f ≡ least (item_faults scope.now (item_tree item.now))) }
 {
     match item {
-        Item::Type(declaration) => type_fault(scope, declaration),
-        Item::Object(object) => fixed_object_fault(scope, object),
-        Item::Exception(name) => declared_twice(scope, name),
-        Item::Subprogram(subprogram) => subprogram_fault(scope, subprogram),
-        Item::Task(task) => task_fault(scope, task),
-        Item::Protected(object) => protected_fault(scope, object),
+        Item::Type(declaration) => type_fault(alloc, scope, declaration),
+        Item::Object(object) => Ok(fixed_object_fault(scope, object)),
+        Item::Exception(name) => Ok(declared_twice(scope, name)),
+        Item::Subprogram(subprogram) => subprogram_fault(alloc, scope, subprogram),
+        Item::Task(task) => Ok(task_fault(scope, task)),
+        Item::Protected(object) => protected_fault(alloc, scope, object),
     }
 }
 
@@ -60,7 +60,7 @@ pub fn declare_items(
     sooner_associates();
     let mut fault = None;
     for item in items {
-        let found = item_fault(scope, item);
+        let found = item_fault(alloc, scope, item)?;
         declare_item(alloc, scope, item)?;
         fault = sooner(fault, found);
     }

@@ -35,7 +35,7 @@ fn local(
             Ok(fault)
         }
         Declaration::Protected(object) => {
-            let fault = protected_fault(scope, object);
+            let fault = protected_fault(alloc, scope, object)?;
             declare_protected(alloc, scope, object)?;
             Ok(fault)
         }
@@ -83,7 +83,7 @@ fn fixed_local(
             Ok(fault)
         }
         Declaration::Protected(object) => {
-            let fault = protected_fault(scope, object);
+            let fault = protected_fault(alloc, scope, object)?;
             declare_protected(alloc, scope, object)?;
             Ok(fault)
         }

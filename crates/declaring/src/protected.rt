@@ -1,10 +1,11 @@
 //! Protected objects (RM 9.4, 9.5.2, D.3).
-ghost use Rattle.std.specs.Prelude.{◌≡◌, ◌++◌, [], IfOk, OnErr, OnOk, bytes_eq, map, option_map};
-ghost use Rattle.std.specs.List.{list_any};
-ghost use Rattle.ada_tree.specs.StatementTree.{operation_tree, protected_component_tree, protected_tree};
+ghost use Rattle.std.specs.Prelude.{◌≡◌, ◌++◌, ◌||◌, List, [], IfOk, OnErr, OnOk, bytes_eq, map, option_map};
+ghost use Rattle.ada_tree.specs.StatementTree.{OperationTree, operation_tree, protected_component_tree, protected_tree};
 ghost use Rattle.types.specs.Entities.{entity_value, operation_value, profile_value};
+ghost use Rattle.types.specs.Scopes.{is_visible};
+ghost use Rattle.types.specs.Seen.{AreNames, is_seen};
 ghost use Rattle.expr_rules.specs.Faults.{least};
-ghost use Rattle.declaring.specs.ProtectedRules.{component_initial_faults, is_component_like, is_entry, is_operation_like, object_components, object_operations, object_with, operation_faults, operation_name, operation_profile, operation_profile_faults, operations_faults, part_faults, parts_faults, protected_count, protected_entity, protected_faults, protected_scope};
+ghost use Rattle.declaring.specs.ProtectedRules.{component_initial_faults, is_entry, like_operation_faults, like_part_faults, object_components, object_operations, object_with, operation_bytes, operation_name, operation_profile, operation_profile_faults, operations_faults, parts_faults, protected_entity, protected_faults, protected_scope};
 
 use crate::tasks::{aspect_fault, priority_of};
 use ada_tree::{
@@ -20,7 +21,9 @@ use type_rules::{
     declare, declared_twice, end_rule, fixed_fault, formal_parameters, formals_fault,
     profile_fault, profile_with, subtype_fault, subtype_of,
 };
-use types::{Entity, Operation, Profile, ProtectedObject, RecordComponent, Scope};
+use types::{
+    Entity, Operation, Operations, Profile, ProtectedObject, RecordComponent, Scope, SeenNames,
+};
 
 /// The ceiling of a protected object without an aspect (RM D.3).
 pub const DEFAULT_CEILING: u8 = 30;
@@ -35,93 +38,64 @@ pub fn operation_name(operation: &OperationDeclaration) -> &Identifier
     }
 }
 
-fn is_operation_in(operations: &[OperationDeclaration], name: &Identifier) -> bool
-    ensures { result ≡ list_any (λ o. bytes_eq (operation_name (operation_tree o)).name name.now.name) operations.now }
-{
-    operations.iter().any(|operation| operation_name(operation).name.as_bytes()
-        == name.name.as_bytes())
-}
-
-// Whether a name is like a visible one, the object's own, or one of these operations.
-#[tactic(auto, using(crate::proofs::Trees::any_of_trees))]
-fn is_operation_like(
+fn operation_profile_fault(
+    alloc: Global,
     scope: &Scope,
-    own: &Identifier,
-    before: &[OperationDeclaration],
-    name: &Identifier,
-) -> bool
-    ensures { result ≡ is_operation_like scope.now own.now (map operation_tree before.now) name.now.name }
-{
-    scope.number_of(&name.name).is_some()
-        || own.name.as_bytes() == name.name.as_bytes()
-        || is_operation_in(before, name)
-}
-
-fn operation_profile_fault(scope: &Scope, operation: &OperationDeclaration) -> Option<Fault>
-    ensures { result ≡ least (operation_profile_faults scope.now (operation_tree operation.now)) }
+    operation: &OperationDeclaration,
+) -> Result<Option<Fault>, AllocError>
+    ensures { IfOk result (λ f. f ≡ least (operation_profile_faults scope.now (operation_tree operation.now))) }
 {
     match operation {
-        OperationDeclaration::Subprogram(subprogram) => profile_fault(scope, subprogram),
-        OperationDeclaration::Entry(entry) => formals_fault(scope, &entry.formals),
+        OperationDeclaration::Subprogram(subprogram) => profile_fault(alloc, scope, subprogram),
+        OperationDeclaration::Entry(entry) => formals_fault(alloc, scope, &entry.formals),
     }
 }
 
-// An operation behind these.
-fn operation_fault(
-    scope: &Scope,
-    own: &Identifier,
-    before: &[OperationDeclaration],
-    operation: &OperationDeclaration,
-) -> Option<Fault>
-    ensures { result ≡ least (operation_faults scope.now own.now (map operation_tree before.now) (operation_tree operation.now)) }
+// Whether a name is like a visible one or the object's own.
+fn is_taken(scope: &Scope, own: &Identifier, name: &Identifier) -> bool
+    ensures { result ≡ (is_visible scope.now name.now.name || bytes_eq own.now.name name.now.name) }
 {
-    least_by_parts();
-    let name = operation_name(operation);
-    sooner(
-        rule(
-            DECLARED_TWICE,
-            name.place,
-            is_operation_like(scope, own, before, name),
-        ),
-        operation_profile_fault(scope, operation),
-    )
+    scope.number_of(&name.name).is_some() || own.name.as_bytes() == name.name.as_bytes()
 }
 
-fn operations_fault(
+// An operation, of which this says whether one before it has its name.
+fn operation_fault(
+    alloc: Global,
     scope: &Scope,
     own: &Identifier,
+    is_second: bool,
+    operation: &OperationDeclaration,
+) -> Result<Option<Fault>, AllocError>
+    ensures { IfOk result (λ f. f ≡ least (like_operation_faults scope.now own.now is_second (operation_tree operation.now))) }
+{
+    least_by_parts();
+    let profile = operation_profile_fault(alloc, scope, operation)?;
+    let name = operation_name(operation);
+    let is_like = is_taken(scope, own, name) || is_second;
+    Ok(sooner(rule(DECLARED_TWICE, name.place, is_like), profile))
+}
+
+// The operations, whose names are added to those that were seen: none.
+fn operations_fault(
+    alloc: Global,
+    scope: &Scope,
+    own: &Identifier,
+    names: &mut SeenNames,
     operations: &[OperationDeclaration],
-) -> Option<Fault>
-    ensures { result ≡ least (operations_faults scope.now own.now [] (map operation_tree operations.now)) }
+) -> Result<Option<Fault>, AllocError>
+    requires { names.old ≡ [] }
+    ensures fault { IfOk result (λ f. f ≡ least (operations_faults scope.now own.now [] (map operation_tree operations.now))) }
+    ensures names { OnOk result (AreNames operation_bytes (map operation_tree operations.now) names.new) }
 {
     least_by_parts();
     sooner_associates();
     let mut fault = None;
-    for (index, operation) in operations.iter().enumerate() {
-        let (before, _) = operations.split_at(index);
-        fault = sooner(fault, operation_fault(scope, own, before, operation));
+    for operation in operations {
+        let is_second = names.see(&operation_name(operation).name)?;
+        let found = operation_fault(alloc, scope, own, is_second, operation)?;
+        fault = sooner(fault, found);
     }
-    fault
-}
-
-fn is_component_in(components: &[ProtectedComponent], name: &Identifier) -> bool
-    ensures { result ≡ list_any (λ c. bytes_eq (protected_component_tree c).name.name name.now.name) components.now }
-{
-    components.iter().any(|component| component.name.name.as_bytes() == name.name.as_bytes())
-}
-
-// The same, or one of these components.
-#[tactic(auto, using(crate::proofs::Trees::any_of_trees))]
-fn is_component_like(
-    scope: &Scope,
-    own: &Identifier,
-    operations: &[OperationDeclaration],
-    before: &[ProtectedComponent],
-    name: &Identifier,
-) -> bool
-    ensures { result ≡ is_component_like scope.now own.now (map operation_tree operations.now) (map protected_component_tree before.now) name.now.name }
-{
-    is_operation_like(scope, own, operations, name) || is_component_in(before, name)
+    Ok(fault)
 }
 
 fn component_initial_fault(scope: &Scope, component: &ProtectedComponent) -> Option<Fault>
@@ -133,59 +107,71 @@ fn component_initial_fault(scope: &Scope, component: &ProtectedComponent) -> Opt
     }
 }
 
-// A component behind these.
+// A component behind operations of these names, of which this says whether one before it has its name.
 fn part_fault(
     scope: &Scope,
     own: &Identifier,
-    operations: &[OperationDeclaration],
-    before: &[ProtectedComponent],
+    operations: &SeenNames,
+    is_second: bool,
     component: &ProtectedComponent,
 ) -> Option<Fault>
-    ensures { result ≡ least (part_faults scope.now own.now (map operation_tree operations.now) (map protected_component_tree before.now) (protected_component_tree component.now)) }
+    ensures { result ≡ least (like_part_faults scope.now own.now (is_seen operations.now (protected_component_tree component.now).name.name) is_second (protected_component_tree component.now)) }
 {
     least_by_parts();
     let name = &component.name;
-    let like = is_component_like(scope, own, operations, before, name);
+    let is_like = is_taken(scope, own, name) || operations.has(&name.name) || is_second;
     sooner(
         sooner(
-            rule(DECLARED_TWICE, name.place, like),
+            rule(DECLARED_TWICE, name.place, is_like),
             subtype_fault(scope, &component.subtype),
         ),
         component_initial_fault(scope, component),
     )
 }
 
+// The components behind operations of these names.
 fn parts_fault(
+    alloc: Global,
     scope: &Scope,
     own: &Identifier,
-    operations: &[OperationDeclaration],
+    operations: &SeenNames,
     components: &[ProtectedComponent],
-) -> Option<Fault>
-    ensures { result ≡ least (parts_faults scope.now own.now (map operation_tree operations.now) [] (map protected_component_tree components.now)) }
+) -> Result<Option<Fault>, AllocError>
+    ensures { (all : List OperationTree) → AreNames operation_bytes all operations.now → IfOk result (λ f. f ≡ least (parts_faults scope.now own.now all [] (map protected_component_tree components.now))) }
 {
     least_by_parts();
     sooner_associates();
+    let mut names = SeenNames::new(alloc);
     let mut fault = None;
-    for (index, component) in components.iter().enumerate() {
-        let (before, _) = components.split_at(index);
-        fault = sooner(fault, part_fault(scope, own, operations, before, component));
+    for component in components {
+        let is_second = names.see(&component.name.name)?;
+        fault = sooner(
+            fault,
+            part_fault(scope, own, operations, is_second, component),
+        );
     }
-    fault
+    Ok(fault)
 }
 
-/// The least fault of the declaration of a protected object.
-pub fn protected_fault(scope: &Scope, object: &ProtectedDeclaration) -> Option<Fault>
-    ensures { result ≡ least (protected_faults scope.now (protected_tree object.now)) }
+/// The least fault of the declaration of a protected object. Memory is the only refusal.
+pub fn protected_fault(
+    alloc: Global,
+    scope: &Scope,
+    object: &ProtectedDeclaration,
+) -> Result<Option<Fault>, AllocError>
+    ensures { IfOk result (λ f. f ≡ least (protected_faults scope.now (protected_tree object.now))) }
 {
     least_by_parts();
     let own = &object.name;
-    let named = sooner(
-        aspect_fault(scope, object.aspect.as_ref()),
-        operations_fault(scope, own, &object.operations),
+    let mut names = SeenNames::new(alloc);
+    let aspect = aspect_fault(scope, object.aspect.as_ref());
+    let operations = operations_fault(alloc, scope, own, &mut names, &object.operations)?;
+    let parts = parts_fault(alloc, scope, own, &names, &object.components)?;
+    let inside = sooner(
+        sooner(sooner(aspect, operations), parts),
+        end_rule(own, &object.end_name),
     );
-    let parts = parts_fault(scope, own, &object.operations, &object.components);
-    let inside = sooner(sooner(named, parts), end_rule(own, &object.end_name));
-    sooner(inside, declared_twice(scope, own))
+    Ok(sooner(inside, declared_twice(scope, own)))
 }
 
 fn operation_profile(
@@ -259,36 +245,24 @@ fn object_components(
     Ok(Some(all))
 }
 
-// The protected objects among the visible names.
-fn protected_count(scope: &Scope) -> usize
-    ensures { result ≡ protected_count scope.now }
-{
-    let mut count = 0;
-    for number in 0..scope.len() {
-        if scope.protected(number).is_some() {
-            count += 1;
-        }
-    }
-    count
-}
-
 fn object_with(
+    alloc: Global,
     number: usize,
     ceiling: u8,
     operations: Option<Vec<Operation>>,
     components: Option<Vec<RecordComponent>>,
-) -> Entity
-    ensures { entity_value result ≡ object_with number ceiling (option_map (λ v. map operation_value v.items) operations) (option_map (λ v. v.items) components) }
+) -> Result<Entity, AllocError>
+    ensures { IfOk result (λ e. entity_value e ≡ object_with number ceiling (option_map (λ v. map operation_value v.items) operations) (option_map (λ v. v.items) components)) }
 {
     match (operations, components) {
-        (Some(operations), Some(components)) => Entity::Protected(ProtectedObject {
+        (Some(operations), Some(components)) => Ok(Entity::Protected(ProtectedObject {
             number,
             ceiling,
-            operations,
+            operations: Operations::new(alloc, operations)?,
             components,
             barrier: None,
-        }),
-        _ => Entity::Doubtful,
+        })),
+        _ => Ok(Entity::Doubtful),
     }
 }
 
@@ -307,7 +281,13 @@ fn protected_entity(
         DEFAULT_CEILING,
         object.aspect.as_ref(),
     );
-    Ok(object_with(protected_count(scope), ceiling, operations, components))
+    object_with(
+        alloc,
+        scope.protected_count(),
+        ceiling,
+        operations,
+        components,
+    )
 }
 
 /// Makes a protected object visible, with its ceiling, its operations and its components. Memory is the only refusal, and leaves the scope as it was.

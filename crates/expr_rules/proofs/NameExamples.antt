@@ -9,7 +9,7 @@ use Rattle.expr_rules.specs.declared.own.Wanted.TheVariants.{Anything, AnyIntege
 use Rattle.expr_rules.specs.Faults.{least}
 use Rattle.expr_rules.specs.Typing.{boolean_wanted}
 use Rattle.expr_rules.specs.ExpressionRules.{faults_of}
-use Rattle.expr_rules.proofs.Sample.{num, one, two, if_then, if_elsif, name, of, label, at, dot, tick, broken, package_scope, body_scope}
+use Rattle.expr_rules.proofs.Sample.{num, one, two, if_then, if_elsif, name, of, label, at, dot, tick, broken, operations, package_scope, body_scope}
 
 -- ---- nothing is broken
 

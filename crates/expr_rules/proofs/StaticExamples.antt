@@ -2,7 +2,7 @@
 use Rattle.std.proofs.Common.{◌≡◌, [], ◌∷◌, Some, None, refl}
 use Rattle.std.specs.Prelude.{pos, codes}
 use Rattle.ada_tree.specs.declared.expression.BinaryOperator.TheVariants as binary
-use Rattle.ada_tree.specs.ExpressionTree.{Parenthesized}
+use Rattle.ada_tree.specs.ExpressionTree.{Number, Parenthesized}
 use Rattle.types.specs.Scopes.{integer_type}
 use Rattle.types.specs.Values as value
 use Rattle.expr_rules.specs.declared.own.Wanted.TheVariants.{OfType}

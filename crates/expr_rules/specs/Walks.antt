@@ -40,6 +40,31 @@ walk_turn parts associates tree walk first split all n x f one whole less at h h
     ∙ ap (λ l. sooner f (least l)) (sym step)
     ∙ h
 
+-- the same over things that are no trees, of which each is judged with those in front of it
+pub own_walk_turn : LeastByParts
+    → SoonerAssociates
+    → {A : Type 0} (walk : List A → List A → Faults) (first : List A → A → Faults)
+    → ((before : List A) (y : A) (rest : List A) → walk before (y ∷ rest) ≡ first before y ++ walk (before ++ y ∷ []) rest)
+    → (all : List A) (n : ℕ) (x : A) (f one whole : Option Fault)
+    → n < length all
+    → x ≡ get_or all n x
+    → sooner f (least (walk (take n all) (drop n all))) ≡ whole
+    → one ≡ least (first (take n all) x)
+    → sooner (sooner f one) (least (walk (take (n + 1) all) (drop (n + 1) all))) ≡ whole
+own_walk_turn parts associates walk first split all n x f one whole less at h here =
+    let before = take n all in
+    let rest = drop (n + 1) all in
+    let taken : take (n + 1) all ≡ before ++ x ∷ [] =
+    ap (λ m. take m all) (add-one n) ∙ take-suc all n x less ∙ ap (λ y. before ++ y ∷ []) (sym at) in
+    let left = walk (take (n + 1) all) rest in
+    let step : walk before (drop n all) ≡ first before x ++ left =
+    at_drop_more (walk before) all n x less ∙ ap (λ y. walk before (y ∷ rest)) (sym at) ∙ split before x rest ∙ ap (λ b. first before x ++ walk b rest) (sym taken) in
+    associates f one (least left)
+    ∙ ap (λ o. sooner f (sooner o (least left))) here
+    ∙ ap (sooner f) (sym (parts (first before x) left))
+    ∙ ap (λ l. sooner f (least l)) (sym step)
+    ∙ h
+
 -- elements behind those that were read
 abbrev pub behind : {X : Type 0} → List X → Option (List X) → Option (List X)
 behind all (Some rest) = Some (all ++ rest)

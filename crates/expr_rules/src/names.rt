@@ -13,8 +13,7 @@ use ada_tree::{Argument, Expr, Identifier, Mode, Selector};
 use base::faults::{NAME_NOT_VISIBLE, NO_MEANING, NOT_A_VARIABLE, WRONG_ARGUMENT_COUNT};
 use lexer::Fault;
 use types::{
-    FormalParameter, Profile, ProtectedObject, Role, Scope, Standing, Subtype, TypeForm,
-    component_of, start_of,
+    FormalParameter, Profile, ProtectedObject, Role, Scope, Standing, Subtype, TypeForm, start_of,
 };
 
 /// What an argument is expected to be.
@@ -125,7 +124,7 @@ fn component_rule(place: u32, name: &Identifier, form: Option<&TypeForm>) -> Opt
         Some(TypeForm::Record(components)) => rule(
             NAME_NOT_VISIBLE,
             name.place,
-            component_of(components, &name.name).is_none(),
+            components.subtype_of(&name.name).is_none(),
         ),
         _ => rule(NO_MEANING, place, true),
     }

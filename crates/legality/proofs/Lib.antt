@@ -4,5 +4,6 @@ mod Walks
 mod Objects
 mod PackageBodyExamples
 mod PackageExamples
+mod Meanings
 mod Parts
 mod Sample

@@ -1,11 +1,12 @@
 -- The main procedure (RM 10.2; docs/LANGUAGE.md, "Rules of programs"), which sees the package by its name alone.
-use Rattle.std.specs.Prelude.{Bool, true, false, ◌||◌, List, [], ◌∷◌, ◌++◌, Option, Some, None, is_some}
+use Rattle.std.specs.Prelude.{ℕ, slice_get, Bool, true, false, ◌||◌, List, [], ◌∷◌, ◌++◌, Option, Some, None, is_some}
 use Rattle.base.specs.declared.faults.TheConstants.{NAME_NOT_VISIBLE, DECLARED_TWICE, NO_MEANING, WRONG_ARGUMENT_COUNT}
 use Rattle.ada_tree.specs.declared.expression.Identifier.{Identifier}
 use Rattle.ada_tree.specs.declared.declaration.Formal.{Formal}
 use Rattle.ada_tree.specs.declared.program.MainStatement.{MainStatement}
 use Rattle.ada_tree.specs.declared.program.MainStatement.TheVariants as main_statement
-use Rattle.ada_tree.specs.ProgramTree.{ItemTree, OfType, OfObject, OfException, OfTask, OfProtected, PackageTree, MainTree}
+use Rattle.ada_tree.specs.declared.declaration.Item.{Item}
+use Rattle.ada_tree.specs.ProgramTree.{ItemTree, OfType, OfObject, OfException, OfTask, OfProtected, PackageTree, MainTree, item_tree}
 use Rattle.ada_tree.specs.ProgramTree.{OfSubprogram as OfDeclared}
 use Rattle.types.specs.Entities.{LibraryUnit}
 use Rattle.types.specs.Scopes.{Scope, is_visible, standard, with_name}
@@ -58,6 +59,18 @@ item_meaning d = meaning.Other
 abbrev pub declared_meaning : List ItemTree → Identifier → Meaning
 declared_meaning [] name = meaning.Nothing
 declared_meaning (d ∷ ds) name = elim (same_name (item_name d) name) [ true ↦ item_meaning d | false ↦ declared_meaning ds name ]
+
+-- the same by the place where the name stands first
+abbrev pub item_bytes : Item → List ℕ
+item_bytes i = (item_name (item_tree i)).name
+
+abbrev pub meaning_or_nothing : Option Item → Meaning
+meaning_or_nothing (Some i) = item_meaning (item_tree i)
+meaning_or_nothing None = meaning.Nothing
+
+abbrev pub meaning_at : List Item → Option ℕ → Meaning
+meaning_at items (Some place) = meaning_or_nothing (slice_get items place)
+meaning_at items None = meaning.Nothing
 
 -- 10, at the procedure: not in the specification; at the package's name 12: no procedure, 16: it has formals
 abbrev pub called_rule : (first second : Identifier) → Meaning → Faults

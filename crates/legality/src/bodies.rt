@@ -188,16 +188,21 @@ fn own_name_fault(name: &Identifier, formals: &[Formal]) -> Option<Fault>
 }
 
 // What is broken in front of the declarations of a subprogram's body.
-fn head_fault(scope: &Scope, subprogram: &Subprogram, body: &Body) -> Option<Fault>
-    ensures { result ≡ least (head_faults scope.now (subprogram_tree subprogram.now) (body_tree body.now)) }
+fn head_fault(
+    alloc: Global,
+    scope: &Scope,
+    subprogram: &Subprogram,
+    body: &Body,
+) -> Result<Option<Fault>, AllocError>
+    ensures { IfOk result (λ f. f ≡ least (head_faults scope.now (subprogram_tree subprogram.now) (body_tree body.now))) }
 {
     least_by_parts();
     let profile = sooner(
-        profile_fault(scope, subprogram),
+        profile_fault(alloc, scope, subprogram)?,
         own_name_fault(&subprogram.name, &subprogram.formals),
     );
     let named = sooner(profile, body_name_fault(scope, &subprogram.name));
-    sooner(named, function_body_fault(subprogram, body))
+    Ok(sooner(named, function_body_fault(subprogram, body)))
 }
 
 /// The least fault of a subprogram's body, and makes its name visible, unless a declaration did before. Memory is the only refusal, and may leave names of
@@ -213,7 +218,7 @@ pub fn subprogram_body_fault(
 {
     least_by_parts();
     names_are_added();
-    let head = head_fault(scope, subprogram, body);
+    let head = head_fault(alloc, scope, subprogram, body)?;
     let kind = kind_of(scope, &subprogram.result);
     declare_subprogram(alloc, scope, subprogram)?;
     let len = scope.len();

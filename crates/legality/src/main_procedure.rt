@@ -3,9 +3,10 @@ ghost use Rattle.std.specs.Prelude.{◌≡◌, IfOk, map, option_map};
 ghost use Rattle.std.specs.List.{list_any};
 ghost use Rattle.ada_tree.specs.ProgramTree.{body_item_tree, item_tree, main_tree, package_tree};
 ghost use Rattle.types.specs.Scopes.{is_visible};
+ghost use Rattle.types.specs.Seen.{ArePlaces};
 ghost use Rattle.expr_rules.specs.Faults.{least};
 ghost use Rattle.matching.specs.MatchingRules.{passes_declared};
-ghost use Rattle.legality.specs.MainRules.{called_rule, declared_meaning, has_no_formals, is_task_named, is_task_of, item_meaning, item_name, main_call_faults, main_faults, main_name_faults, main_scope, main_statement_faults, main_statements_faults, meaning_of, no_package_rule, package_call_faults};
+ghost use Rattle.legality.specs.MainRules.{called_rule, declared_meaning, has_no_formals, is_task_named, is_task_of, item_bytes, item_meaning, item_name, main_call_faults, main_faults, main_name_faults, main_scope, main_statement_faults, main_statements_faults, meaning_at, meaning_of, no_package_rule, package_call_faults};
 
 use ada_tree::{BodyItem, Formal, Identifier, Item, Main, MainStatement, Package};
 use base::faults::{DECLARED_TWICE, NAME_NOT_VISIBLE, NO_MEANING, WRONG_ARGUMENT_COUNT};
@@ -15,8 +16,9 @@ use expr_rules::{rule, sooner};
 use lexer::Fault;
 use matching::same_name;
 use std::alloc::{AllocError, Global};
+use std::marker::Model;
 use type_rules::{declare, end_rule};
-use types::{Entity, Scope};
+use types::{Entity, NamePlaces, Scope};
 
 /// What the specification of a package declares by a name.
 #[derive(Clone, Copy, Debug, PartialEq, Eq)]
@@ -137,15 +139,69 @@ fn item_meaning(item: &Item) -> Meaning
     }
 }
 
-fn declared_meaning(items: &[Item], name: &Identifier) -> Meaning
-    ensures { result ≡ declared_meaning (map item_tree items.now) name.now }
+// The places of the names of these declarations, the first of each name.
+fn item_places(alloc: Global, items: &[Item]) -> Result<NamePlaces, AllocError>
+    ensures { IfOk result (λ places. ArePlaces item_bytes items.now places) }
 {
-    for item in items {
-        if same_name(item_name(item), name) {
-            return item_meaning(item);
-        }
+    let mut places = NamePlaces::new(alloc);
+    for (place, item) in items.iter().enumerate() {
+        places.add(item_name(item).name.clone()?, place)?;
     }
-    Meaning::Nothing
+    Ok(places)
+}
+
+fn meaning_at(items: &[Item], place: Option<usize>) -> Meaning
+    ensures { result ≡ meaning_at items.now place }
+{
+    match place {
+        Some(place) => match items.get(place) {
+            Some(item) => item_meaning(item),
+            None => Meaning::Nothing,
+        },
+        None => Meaning::Nothing,
+    }
+}
+
+// A package beside the places of the names that its specification declares. Contracts see the package.
+#[derive(Drop)]
+struct NamedPackage<'a> {
+    package_: &'a Package,
+    places: NamePlaces,
+}
+
+impl<'a> Model for NamedPackage<'a> {
+    ghost use Rattle.ada_tree.specs.declared.program.Package as declared;
+    ghost use Rattle.ada_tree.specs.contracts.program.Package as contract;
+    ghost use Rattle.std.specs.Coded.{codes};
+    ghost use Rattle.types.specs.Seen.{ArePlaces};
+    ghost use Rattle.legality.specs.MainRules.{item_bytes};
+
+    ghost Value = { declared.Package };
+
+    ghost coded = { Prim.hlevel (codes, contract.the_row.coded) };
+
+    ghost view = { λ p. p.package_.now };
+
+    ghost invariant = { λ p. ArePlaces item_bytes p.package_.now.declaration.items.items p.places };
+}
+
+impl<'a> NamedPackage<'a> {
+    fn new(alloc: Global, package_: &'a Package) -> Result<NamedPackage<'a>, AllocError>
+        ensures { IfOk result (λ p. p ≡ package_.now) }
+    {
+        let places = item_places(alloc, &package_.declaration.items)?;
+        Ok(NamedPackage { package_, places })
+    }
+
+    // What the specification declares by this name.
+    fn meaning(&self, name: &Identifier) -> Meaning
+        ensures { result ≡ declared_meaning (map item_tree self.now.declaration.items.items) name.now }
+    {
+        meaning_at(
+            &self.package_.declaration.items,
+            self.places.place_of(&name.name),
+        )
+    }
 }
 
 fn called_rule(first: &Identifier, second: &Identifier, meaning: Meaning) -> Option<Fault>
@@ -171,15 +227,14 @@ fn no_package_rule(is_visible: bool, first: &Identifier) -> Option<Fault>
 
 fn package_call_fault(
     scope: &Scope,
-    package_: &Package,
+    package_: &NamedPackage,
     first: &Identifier,
     second: &Identifier,
 ) -> Option<Fault>
     ensures { result ≡ least (package_call_faults scope.now (package_tree package_.now) first.now second.now) }
 {
-    if same_name(&package_.declaration.name, first) {
-        let meaning = declared_meaning(&package_.declaration.items, second);
-        called_rule(first, second, meaning)
+    if same_name(&package_.package_.declaration.name, first) {
+        called_rule(first, second, package_.meaning(second))
     } else {
         no_package_rule(scope.number_of(&first.name).is_some(), first)
     }
@@ -187,7 +242,7 @@ fn package_call_fault(
 
 fn main_call_fault(
     scope: &Scope,
-    package_: Option<&Package>,
+    package_: Option<&NamedPackage>,
     first: &Identifier,
     second: &Identifier,
 ) -> Option<Fault>
@@ -201,7 +256,7 @@ fn main_call_fault(
 
 fn main_statement_fault(
     scope: &Scope,
-    package_: Option<&Package>,
+    package_: Option<&NamedPackage>,
     statement: &MainStatement,
 ) -> Option<Fault>
     ensures { result ≡ least (main_statement_faults scope.now (option_map (λ p. package_tree p.now) package_.entry) statement.now) }
@@ -214,7 +269,7 @@ fn main_statement_fault(
 
 fn main_statements_fault(
     scope: &Scope,
-    package_: Option<&Package>,
+    package_: Option<&NamedPackage>,
     statements: &[MainStatement],
 ) -> Option<Fault>
     ensures { result ≡ least (main_statements_faults scope.now (option_map (λ p. package_tree p.now) package_.entry) statements.now) }
@@ -226,6 +281,23 @@ fn main_statements_fault(
         fault = sooner(fault, main_statement_fault(scope, package_, statement));
     }
     fault
+}
+
+fn statements_fault(
+    alloc: Global,
+    scope: &Scope,
+    package_: Option<&Package>,
+    statements: &[MainStatement],
+) -> Result<Option<Fault>, AllocError>
+    ensures { IfOk result (λ f. f ≡ least (main_statements_faults scope.now (option_map (λ p. package_tree p.now) package_.entry) statements.now)) }
+{
+    match package_ {
+        Some(package_) => {
+            let named = NamedPackage::new(alloc, package_)?;
+            Ok(main_statements_fault(scope, Some(&named), statements))
+        }
+        None => Ok(main_statements_fault(scope, None, statements)),
+    }
 }
 
 /// The least fault of the main procedure behind this package: its name, its aspect, what it calls, and the name after its `end`. Memory is the only refusal.
@@ -241,7 +313,7 @@ pub fn main_fault(
     let named = main_name_fault(&scope, package_, &main.name);
     let head = sooner(named, aspect_fault(&scope, main.aspect.as_ref()));
     declare(&mut scope, &main.name, Entity::Unit)?;
-    let inside = main_statements_fault(&scope, package_, &main.statements);
+    let inside = statements_fault(alloc, &scope, package_, &main.statements)?;
     let end = end_rule(&main.name, &main.end_name);
     Ok(sooner(sooner(head, inside), end))
 }

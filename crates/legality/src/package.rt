@@ -82,7 +82,7 @@ fn behind_fault(
     let body = &package_.body;
     let is_other = !same_name(name, &body.name);
     let head = rule(UNMATCHED_BODY, body.name.place, is_other);
-    let matching = matching_fault(&package_.declaration.items, &body.items);
+    let matching = matching_fault(alloc, &package_.declaration.items, &body.items)?;
     let inside = body_items_fault(alloc, scope, &body.items)?;
     let end = end_rule(&body.name, &body.end_name);
     let with = &package_.with_name;

@@ -23,7 +23,7 @@ fn declared_item_fault(
     ensures fault { IfOk result (λ f. f ≡ least (item_faults scope.old (item_tree item.now))) }
     ensures scope { OnOk result (scope.new ≡ item_scope scope.old (item_tree item.now)) }
 {
-    let fault = item_fault(scope, item);
+    let fault = item_fault(alloc, scope, item)?;
     declare_item(alloc, scope, item)?;
     Ok(fault)
 }

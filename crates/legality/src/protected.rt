@@ -70,7 +70,7 @@ fn entry_inside_fault(
     least_by_parts();
     let formals = sooner(
         entry_rule(scope, &entry.name),
-        formals_fault(scope, &entry.formals),
+        formals_fault(alloc, scope, &entry.formals)?,
     );
     declare_formals(scope, &entry.formals)?;
     let head = sooner(formals, expression_fault(scope, Wanted::BOOLEAN, barrier));

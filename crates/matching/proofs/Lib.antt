@@ -1,3 +1,5 @@
+mod Alike
+mod Fronts
 mod MatchingExamples
 pub mod Sample
-mod Walks
+mod Tabled

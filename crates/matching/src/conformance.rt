@@ -1,9 +1,11 @@
 //! Names that are alike, and declarations that conform to one another (RM 2.3, 6.3.1).
 ghost use Rattle.std.specs.Prelude.{◌≡◌, option_map};
-ghost use Rattle.ada_tree.specs.StatementTree.{subprogram_tree};
-ghost use Rattle.matching.specs.MatchingRules.{conforms, same_formal, same_formals, same_mode, same_name, same_result};
+ghost use Rattle.ada_tree.specs.StatementTree.{entry_tree, subprogram_tree};
+ghost use Rattle.ada_tree.specs.ProgramTree.{protected_item_tree};
+ghost use Rattle.matching.specs.MatchingRules.{same_formal, same_formals, same_mode, same_name, same_result};
+ghost use Rattle.matching.specs.Tables.{are_alike, body_profile, entry_profile, profile_tree, subprogram_profile};
 
-use ada_tree::{Formal, Identifier, Mode, Subprogram};
+use ada_tree::{EntryDeclaration, Formal, Identifier, Mode, ProtectedBodyItem, Subprogram};
 
 /// Whether two names are alike (RM 2.3).
 pub fn same_name(left: &Identifier, right: &Identifier) -> bool
@@ -58,9 +60,45 @@ fn same_result(left: Option<&Identifier>, right: Option<&Identifier>) -> bool
     }
 }
 
-pub(crate) fn conforms(declared: &Subprogram, body: &Subprogram) -> bool
-    ensures { result ≡ conforms (subprogram_tree declared.now) (subprogram_tree body.now) }
-{
-    same_formals(&declared.formals, &body.formals)
-        && same_result(declared.result.as_ref(), body.result.as_ref())
+/// The formals of a subprogram or an entry, and the subtype of a function's result.
+#[derive(Clone, Copy)]
+pub(crate) struct Profile<'a> {
+    pub formals: &'a [Formal],
+    pub result: Option<&'a Identifier>,
+}
+
+impl<'a> Profile<'a> {
+    pub(crate) fn of_subprogram(subprogram: &'a Subprogram) -> Profile<'a>
+        ensures { profile_tree result ≡ subprogram_profile (subprogram_tree subprogram.now) }
+    {
+        Profile {
+            formals: &subprogram.formals,
+            result: subprogram.result.as_ref(),
+        }
+    }
+
+    pub(crate) fn of_entry(entry: &'a EntryDeclaration) -> Profile<'a>
+        ensures { profile_tree result ≡ entry_profile (entry_tree entry.now) }
+    {
+        Profile {
+            formals: &entry.formals,
+            result: None,
+        }
+    }
+
+    pub(crate) fn of_body(body: &'a ProtectedBodyItem) -> Profile<'a>
+        ensures { profile_tree result ≡ body_profile (protected_item_tree body.now) }
+    {
+        match body {
+            ProtectedBodyItem::Subprogram(subprogram, _) => Profile::of_subprogram(subprogram),
+            ProtectedBodyItem::Entry(entry, _, _) => Profile::of_entry(entry),
+        }
+    }
+
+    /// Whether two profiles conform to one another (RM 6.3.1).
+    pub(crate) fn is_like(self, other: Profile<'a>) -> bool
+        ensures { result ≡ are_alike (profile_tree self.entry) (profile_tree other.entry) }
+    {
+        same_formals(self.formals, other.formals) && same_result(self.result, other.result)
+    }
 }

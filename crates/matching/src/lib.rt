@@ -3,7 +3,11 @@
 
 mod bodies;
 mod conformance;
+mod declared;
+mod front;
+mod keys;
 mod operations;
+mod places;
 
 pub use conformance::same_name;
 pub use operations::matching_fault;

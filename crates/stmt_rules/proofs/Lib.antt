@@ -1,4 +1,5 @@
 mod Choices
+mod Chosen
 mod Compound
 mod CompoundExamples
 mod Sample

@@ -1,8 +1,11 @@
 -- Turns of the loops over alternatives and handlers, of which the last one is another.
-use Rattle.std.proofs.Common.{◌≡◌, ◌++◌, ◌∷◌, length-drop, ℕ, ◌+◌, ◌<◌, List, [], length, drop, Option, refl, sym, ap, ◌∙◌, arith}
+use Rattle.std.proofs.Common.{◌≡◌, ◌++◌, ◌∷◌, length-drop, ℕ, ◌+◌, ◌<◌, Bool, List, [], length, drop, map, Option, refl, sym, ap, ◌∙◌, arith}
 use Rattle.std.specs.Prelude.{get_or, nat_eq}
 use Rattle.std.proofs.lemmas.List.{at_drop_more}
 use Rattle.lexer.specs.declared.fault.Fault.{Fault}
+use Rattle.ada_tree.specs.declared.expression.Expr.{Expr}
+use Rattle.ada_tree.specs.declared.statement.ExceptionChoice.{ExceptionChoice}
+use Rattle.ada_tree.specs.ExpressionTree.{expr_tree}
 use Rattle.ada_tree.specs.declared.statement.Alternative.{Alternative}
 use Rattle.ada_tree.specs.declared.statement.Handler.{Handler}
 use Rattle.ada_tree.specs.StatementTree.{alternative_tree, alternative_trees, handler_tree, handler_trees}
@@ -11,9 +14,11 @@ use Rattle.types.specs.Scopes.{Scope}
 use Rattle.expr_rules.specs.declared.own.Wanted.{Wanted}
 use Rattle.expr_rules.specs.Faults.{Faults, LeastByParts, SoonerAssociates, least, sooner}
 use Rattle.stmt_rules.specs.declared.around.Around.{Around}
-use Rattle.stmt_rules.specs.CaseRules.{chosen_by}
+use Rattle.stmt_rules.proofs.Chosen.{alternatives_behind, choices_behind, handlers_behind, values_behind}
+use Rattle.stmt_rules.specs.CaseRules.{choice_faults, choice_value, values_faults}
+use Rattle.stmt_rules.specs.Choosing.{chosen_once, once_after, once_by, seen_after, seen_by}
+use Rattle.stmt_rules.specs.HandlerRules.{exception_choice_faults, exception_choices_faults}
 use Rattle.stmt_rules.specs.CaseRules as alternatives
-use Rattle.stmt_rules.specs.HandlerRules.{named_after}
 use Rattle.stmt_rules.specs.HandlerRules as handlers
 use Rattle.stmt_rules.specs.StatementRules.{alternative_faults, alternatives_faults, handler_faults, more_handlers_faults}
 
@@ -59,12 +64,14 @@ pub alternatives_turn : LeastByParts
     → x ≡ get_or all n x
     → sooner f (least (alternatives_faults s a w before (alternative_trees (drop n all)))) ≡ whole
     → one ≡ least (alternative_faults s a w before (nat_eq (n + 1) (length all)) (alternative_tree x))
-    → sooner (sooner f one) (least (alternatives_faults s a w (chosen_by s w before (alternative_tree x).1.0) (alternative_trees (drop (n + 1) all)))) ≡ whole
+    → sooner (sooner f one) (least (alternatives_faults s a w (once_by s w before (alternative_tree x).1.0) (alternative_trees (drop (n + 1) all)))) ≡ whole
 alternatives_turn parts associates s a w before all n x f one whole less is h here =
     let rest = drop (n + 1) all in
     turn parts associates (λ l. alternatives_faults s a w before (alternative_trees l)) all n x f one
     (alternative_faults s a w before (alternatives.no_more (alternative_trees rest)) (alternative_tree x))
-    (alternatives_faults s a w (chosen_by s w before (alternative_tree x).1.0) (alternative_trees rest)) whole less is refl h
+    (alternatives_faults s a w (once_by s w before (alternative_tree x).1.0) (alternative_trees rest)) whole less is
+    (ap (λ fs. alternative_faults s a w before (alternatives.no_more (alternative_trees rest)) (alternative_tree x) ++ fs) (alternatives_behind s w a before (alternative_tree x).1.0 (alternative_trees rest)))
+    h
     (here ∙ ap (λ b. least (alternative_faults s a w before b (alternative_tree x))) (sym (last_alternative all n less)))
 
 pub handlers_turn : LeastByParts
@@ -74,10 +81,53 @@ pub handlers_turn : LeastByParts
     → x ≡ get_or all n x
     → sooner f (least (more_handlers_faults s a before (handler_trees (drop n all)))) ≡ whole
     → one ≡ least (handler_faults s a before (nat_eq (n + 1) (length all)) (handler_tree x))
-    → sooner (sooner f one) (least (more_handlers_faults s a (named_after before (handler_tree x).0) (handler_trees (drop (n + 1) all)))) ≡ whole
+    → sooner (sooner f one) (least (more_handlers_faults s a (seen_after before (handler_tree x).0) (handler_trees (drop (n + 1) all)))) ≡ whole
 handlers_turn parts associates s a before all n x f one whole less is h here =
     let rest = drop (n + 1) all in
     turn parts associates (λ l. more_handlers_faults s a before (handler_trees l)) all n x f one
     (handler_faults s a before (handlers.no_more (handler_trees rest)) (handler_tree x))
-    (more_handlers_faults s a (named_after before (handler_tree x).0) (handler_trees rest)) whole less is refl h
+    (more_handlers_faults s a (seen_after before (handler_tree x).0) (handler_trees rest)) whole less is
+    (ap (λ fs. handler_faults s a before (handlers.no_more (handler_trees rest)) (handler_tree x) ++ fs) (handlers_behind s a before (handler_tree x).0 (handler_trees rest)))
+    h
     (here ∙ ap (λ b. least (handler_faults s a before b (handler_tree x))) (sym (last_handler all n less)))
+
+-- ---- choices
+
+pub choices_turn : LeastByParts
+    → SoonerAssociates
+    → (s : Scope) (l : Bool) (before : List (List ℕ)) (all : List ExceptionChoice) (n : ℕ) (x : ExceptionChoice) (f one whole : Option Fault)
+    → n < length all
+    → x ≡ get_or all n x
+    → sooner f (least (exception_choices_faults s before l (drop n all))) ≡ whole
+    → one ≡ least (exception_choice_faults s before l x)
+    → sooner (sooner f one) (least (exception_choices_faults s (seen_by before x) l (drop (n + 1) all))) ≡ whole
+choices_turn parts associates s l before all n x f one whole less is h here =
+    let rest = drop (n + 1) all in
+    turn parts associates (exception_choices_faults s before l) all n x f one (exception_choice_faults s before l x) (exception_choices_faults s (seen_by before x) l rest) whole less is
+    (choices_behind s l before x rest) h here
+
+pub seen_turn : (before : List (List ℕ)) (all : List ExceptionChoice) (n : ℕ) (x : ExceptionChoice)
+    → n < length all
+    → x ≡ get_or all n x
+    → seen_after (seen_by before x) (drop (n + 1) all) ≡ seen_after before (drop n all)
+seen_turn before all n x less is = sym (at_drop_more (seen_after before) all n x less ∙ ap (λ y. seen_after before (y ∷ drop (n + 1) all)) (sym is))
+
+pub values_turn : LeastByParts
+    → SoonerAssociates
+    → (s : Scope) (w : Wanted) (before : List Scalar) (all : List Expr) (n : ℕ) (x : Expr) (f one whole : Option Fault)
+    → n < length all
+    → x ≡ get_or all n x
+    → sooner f (least (values_faults s w before (map expr_tree (drop n all)))) ≡ whole
+    → one ≡ least (choice_faults s w before (expr_tree x))
+    → sooner (sooner f one) (least (values_faults s w (chosen_once before (choice_value s w (expr_tree x))) (map expr_tree (drop (n + 1) all)))) ≡ whole
+values_turn parts associates s w before all n x f one whole less is h here =
+    let rest = map expr_tree (drop (n + 1) all) in
+    turn parts associates (λ l. values_faults s w before (map expr_tree l)) all n x f one (choice_faults s w before (expr_tree x)) (values_faults s w (chosen_once before (choice_value s w (expr_tree x))) rest) whole less is
+    (values_behind s w before (expr_tree x) rest) h here
+
+pub once_turn : (s : Scope) (w : Wanted) (before : List Scalar) (all : List Expr) (n : ℕ) (x : Expr)
+    → n < length all
+    → x ≡ get_or all n x
+    → once_after s w (chosen_once before (choice_value s w (expr_tree x))) (map expr_tree (drop (n + 1) all)) ≡ once_after s w before (map expr_tree (drop n all))
+once_turn s w before all n x less is =
+    sym (at_drop_more (λ l. once_after s w before (map expr_tree l)) all n x less ∙ ap (λ y. once_after s w before (map expr_tree (y ∷ drop (n + 1) all))) (sym is))

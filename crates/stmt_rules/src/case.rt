@@ -1,10 +1,10 @@
 //! The expression and the choices of case statements (RM 5.4).
 ghost use Rattle.std.specs.Prelude.{◌≡◌, ◌++◌, IfOk, OnOk, None, map};
-ghost use Rattle.std.specs.List.{list_any};
 ghost use Rattle.ada_tree.specs.ExpressionTree.{expr_tree};
 ghost use Rattle.ada_tree.specs.StatementTree.{alternative_trees, choices_tree};
 ghost use Rattle.expr_rules.specs.Faults.{least};
-ghost use Rattle.stmt_rules.specs.CaseRules.{choice_faults, choice_value, choices_faults, choices_wanted, chosen_after, chosen_by, chosen_with, discrete_rule, has_others, is_chosen, is_discrete, is_others, others_rule, same_scalar, selecting_faults, values_faults};
+ghost use Rattle.stmt_rules.specs.CaseRules.{choice_faults, choice_value, choices_faults, choices_wanted, discrete_rule, has_others, is_chosen, is_discrete, is_others, others_rule, selecting_faults, values_faults};
+ghost use Rattle.stmt_rules.specs.Choosing.{chosen_once, once_after, once_by};
 
 use ada_tree::{Alternative, CaseChoices, Expr};
 use base::faults::{NO_MEANING, WRONG_CHOICES};
@@ -13,6 +13,7 @@ use expr_rules::{
     Own, Wanted, expression_fault, is_boolean, is_integral, own_of, rule, sooner, static_fault,
     static_scalar, typed_wanted,
 };
+use indexmap::IndexSet;
 use lexer::Fault;
 use std::alloc::AllocError;
 use types::{Scope, Subtype, Value, start_of};
@@ -66,65 +67,40 @@ fn choice_value(scope: &Scope, wanted: Wanted, e: &Expr) -> Option<Value>
     static_scalar(scope, wanted, None, e)
 }
 
-fn same_scalar(a: Value, b: Value) -> bool
-    ensures { result ≡ same_scalar a b }
-{
-    match (a, b) {
-        (Value::Number(x), Value::Number(y)) => x <= y && y <= x,
-        (Value::Truth(x), Value::Truth(y)) => x == y,
-        _ => false,
-    }
-}
-
-fn is_among(chosen: &[Value], value: Value) -> bool
-    ensures { result ≡ list_any (same_scalar value) chosen.now }
-{
-    chosen.iter().any(|other| same_scalar(value, *other))
-}
-
-fn is_chosen(chosen: &[Value], value: Option<Value>) -> bool
-    ensures { result ≡ is_chosen chosen.now value }
+// Adds a value to those that are chosen, and says whether it was among them.
+fn choose(chosen: &mut IndexSet<Value>, value: Option<Value>) -> Result<bool, AllocError>
+    ensures again { IfOk result (λ b. b ≡ is_chosen chosen.old.keys value) }
+    ensures chosen { OnOk result (chosen.new.keys ≡ chosen_once chosen.old.keys value) }
 {
     match value {
-        Some(value) => is_among(chosen, value),
-        None => false,
+        Some(value) => Ok(!chosen.insert(value)?),
+        None => Ok(false),
     }
-}
-
-fn choose(chosen: &mut Vec<Value>, value: Option<Value>) -> Result<(), AllocError>
-    ensures { OnOk result (chosen.new.items ≡ chosen_with chosen.old.items value) }
-{
-    if let Some(value) = value {
-        chosen.push(value)?;
-    }
-    Ok(())
 }
 
 fn choice_fault(
     scope: &Scope,
     wanted: Wanted,
-    chosen: &mut Vec<Value>,
+    chosen: &mut IndexSet<Value>,
     e: &Expr,
 ) -> Result<Option<Fault>, AllocError>
-    ensures fault { IfOk result (λ f. f ≡ least (choice_faults scope.now wanted chosen.old.items (expr_tree e.now))) }
-    ensures chosen { OnOk result (chosen.new.items ≡ chosen_with chosen.old.items (choice_value scope.now wanted (expr_tree e.now))) }
+    ensures fault { IfOk result (λ f. f ≡ least (choice_faults scope.now wanted chosen.old.keys (expr_tree e.now))) }
+    ensures chosen { OnOk result (chosen.new.keys ≡ chosen_once chosen.old.keys (choice_value scope.now wanted (expr_tree e.now))) }
 {
     least_by_parts();
     let fault = static_fault(scope, wanted, None, e);
-    let value = choice_value(scope, wanted, e);
-    let again = rule(WRONG_CHOICES, start_of(e), is_chosen(chosen, value));
-    choose(chosen, value)?;
-    Ok(sooner(fault, again))
+    let is_again = choose(chosen, choice_value(scope, wanted, e))?;
+    Ok(sooner(fault, rule(WRONG_CHOICES, start_of(e), is_again)))
 }
 
 fn values_fault(
     scope: &Scope,
     wanted: Wanted,
-    chosen: &mut Vec<Value>,
+    chosen: &mut IndexSet<Value>,
     values: &[Expr],
 ) -> Result<Option<Fault>, AllocError>
-    ensures fault { IfOk result (λ f. f ≡ least (values_faults scope.now wanted chosen.old.items (map expr_tree values.now))) }
-    ensures chosen { OnOk result (chosen.new.items ≡ chosen_after scope.now wanted chosen.old.items (map expr_tree values.now)) }
+    ensures fault { IfOk result (λ f. f ≡ least (values_faults scope.now wanted chosen.old.keys (map expr_tree values.now))) }
+    ensures chosen { OnOk result (chosen.new.keys ≡ once_after scope.now wanted chosen.old.keys (map expr_tree values.now)) }
 {
     least_by_parts();
     sooner_associates();
@@ -141,12 +117,12 @@ fn values_fault(
 pub(crate) fn choices_fault(
     scope: &Scope,
     wanted: Wanted,
-    chosen: &mut Vec<Value>,
+    chosen: &mut IndexSet<Value>,
     is_last: bool,
     choices: &CaseChoices,
 ) -> Result<Option<Fault>, AllocError>
-    ensures fault { IfOk result (λ f. f ≡ least (choices_faults scope.now wanted chosen.old.items is_last (choices_tree choices.now))) }
-    ensures chosen { OnOk result (chosen.new.items ≡ chosen_by scope.now wanted chosen.old.items (choices_tree choices.now)) }
+    ensures fault { IfOk result (λ f. f ≡ least (choices_faults scope.now wanted chosen.old.keys is_last (choices_tree choices.now))) }
+    ensures chosen { OnOk result (chosen.new.keys ≡ once_by scope.now wanted chosen.old.keys (choices_tree choices.now)) }
 {
     match choices {
         CaseChoices::Values(values) => values_fault(scope, wanted, chosen, values),

@@ -2,33 +2,17 @@
 ghost use Rattle.std.specs.Prelude.{◌≡◌, ◌&&◌, IfOk, OnOk, option_map};
 ghost use Rattle.types.specs.Entities.{entity_value};
 ghost use Rattle.expr_rules.specs.Faults.{least};
-ghost use Rattle.stmt_rules.specs.HandlerRules.{exception_choice_faults, exception_choices_faults, exception_rule, is_named, is_single, named_after, named_with};
+ghost use Rattle.stmt_rules.specs.HandlerRules.{exception_choice_faults, exception_choices_faults, exception_rule, is_single};
+ghost use Rattle.stmt_rules.specs.Choosing.{seen_after, seen_by};
 
-use ada_tree::{ExceptionChoice, Identifier};
+use ada_tree::ExceptionChoice;
 use base::faults::{NAME_NOT_VISIBLE, WRONG_HANDLER};
 use expr_rules::laws::{least_by_parts, sooner_associates};
 use expr_rules::{rule, sooner};
-use lexer::{Fault, Text};
+use lexer::Fault;
 use std::alloc::AllocError;
 use type_rules::named_entity;
-use types::{Entity, Scope};
-
-fn is_named(named: &[Text], name: &Text) -> bool
-    ensures { result ≡ is_named named.now name.now }
-{
-    named
-        .iter()
-        .any(|other| name.as_bytes() == other.as_bytes())
-}
-
-fn name_with(named: &mut Vec<Text>, choice: &ExceptionChoice) -> Result<(), AllocError>
-    ensures { OnOk result (named.new.items ≡ named_with named.old.items choice.now) }
-{
-    if let ExceptionChoice::Exception(name) = choice {
-        named.push(name.name.clone()?)?;
-    }
-    Ok(())
-}
+use types::{Entity, Scope, SeenNames};
 
 fn exception_rule(place: u32, is_repeated: bool, entity: Option<&Entity>) -> Option<Fault>
     ensures { result ≡ least (exception_rule place is_repeated (option_map (λ e. entity_value e.now) entity.entry)) }
@@ -41,39 +25,39 @@ fn exception_rule(place: u32, is_repeated: bool, entity: Option<&Entity>) -> Opt
     }
 }
 
+// A choice behind those that name these exceptions, to which its own is added.
 fn exception_choice_fault(
     scope: &Scope,
-    named: &[Text],
+    named: &mut SeenNames,
     is_single_last: bool,
     choice: &ExceptionChoice,
-) -> Option<Fault>
-    ensures { result ≡ least (exception_choice_faults scope.now named.now is_single_last choice.now) }
+) -> Result<Option<Fault>, AllocError>
+    ensures fault { IfOk result (λ f. f ≡ least (exception_choice_faults scope.now named.old is_single_last choice.now)) }
+    ensures named { OnOk result (named.new ≡ seen_by named.old choice.now) }
 {
     match choice {
-        ExceptionChoice::Exception(name) => exception_rule(
-            name.place,
-            is_named(named, &name.name),
-            named_entity(scope, name),
-        ),
-        ExceptionChoice::Others(place) => rule(WRONG_HANDLER, *place, !is_single_last),
+        ExceptionChoice::Exception(name) => {
+            let is_repeated = named.see(&name.name)?;
+            Ok(exception_rule(name.place, is_repeated, named_entity(scope, name)))
+        }
+        ExceptionChoice::Others(place) => Ok(rule(WRONG_HANDLER, *place, !is_single_last)),
     }
 }
 
 fn choices_fault(
     scope: &Scope,
-    named: &mut Vec<Text>,
+    named: &mut SeenNames,
     is_single_last: bool,
     choices: &[ExceptionChoice],
 ) -> Result<Option<Fault>, AllocError>
-    ensures fault { IfOk result (λ f. f ≡ least (exception_choices_faults scope.now named.old.items is_single_last choices.now)) }
-    ensures named { OnOk result (named.new.items ≡ named_after named.old.items choices.now) }
+    ensures fault { IfOk result (λ f. f ≡ least (exception_choices_faults scope.now named.old is_single_last choices.now)) }
+    ensures named { OnOk result (named.new ≡ seen_after named.old choices.now) }
 {
     least_by_parts();
     sooner_associates();
     let mut fault = None;
     for choice in choices {
-        let found = exception_choice_fault(scope, named, is_single_last, choice);
-        name_with(named, choice)?;
+        let found = exception_choice_fault(scope, named, is_single_last, choice)?;
         fault = sooner(fault, found);
     }
     Ok(fault)
@@ -89,12 +73,12 @@ fn is_single(choices: &[ExceptionChoice]) -> bool
 /// leave some of them added.
 pub(crate) fn handler_choices_fault(
     scope: &Scope,
-    named: &mut Vec<Text>,
+    named: &mut SeenNames,
     is_last: bool,
     choices: &[ExceptionChoice],
 ) -> Result<Option<Fault>, AllocError>
-    ensures fault { IfOk result (λ f. f ≡ least (exception_choices_faults scope.now named.old.items (is_single choices.now && is_last) choices.now)) }
-    ensures named { OnOk result (named.new.items ≡ named_after named.old.items choices.now) }
+    ensures fault { IfOk result (λ f. f ≡ least (exception_choices_faults scope.now named.old (is_single choices.now && is_last) choices.now)) }
+    ensures named { OnOk result (named.new ≡ seen_after named.old choices.now) }
 {
     choices_fault(scope, named, is_single(choices) && is_last, choices)
 }

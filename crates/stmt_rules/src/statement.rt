@@ -2,8 +2,7 @@
 ghost use Rattle.std.specs.Prelude.{◌≡◌, ◌++◌, [], IfOk, OnOk};
 ghost use Rattle.ada_tree.specs.StatementTree.{alternative_tree, alternative_trees, choices_tree, elsif_tree, elsif_trees, handler_tree, handler_trees, iteration_tree, stmt_tree, stmt_trees};
 ghost use Rattle.expr_rules.specs.Faults.{least};
-ghost use Rattle.stmt_rules.specs.CaseRules.{chosen_by};
-ghost use Rattle.stmt_rules.specs.HandlerRules.{named_after};
+ghost use Rattle.stmt_rules.specs.Choosing.{once_by, seen_after};
 ghost use Rattle.stmt_rules.specs.StatementRules.{alternative_faults, alternatives_faults, elsif_faults, elsifs_faults, handler_faults, handlers_faults, iteration_faults, iteration_scope, looped_faults, sequence_faults, stmt_faults, stmts_faults};
 
 use crate::around::Around;
@@ -16,9 +15,10 @@ use declaring::laws::names_are_added;
 use declaring::{declare_locals, declare_loop_parameter, loop_fault};
 use expr_rules::laws::{least_by_parts, sooner_associates};
 use expr_rules::{Wanted, own_of, sooner};
-use lexer::{Fault, Text};
+use indexmap::IndexSet;
+use lexer::Fault;
 use std::alloc::{AllocError, Global};
-use types::{Scope, Value};
+use types::{Scope, SeenNames, Value};
 
 // Checks how often a loop turns, and makes its parameter visible.
 fn iterate(scope: &mut Scope, iteration: &Iteration) -> Result<Option<Fault>, AllocError>
@@ -79,12 +79,12 @@ fn alternative(
     scope: &mut Scope,
     around: Around,
     wanted: Wanted,
-    chosen: &mut Vec<Value>,
+    chosen: &mut IndexSet<Value>,
     is_last: bool,
     one: &Alternative,
 ) -> Result<Option<Fault>, AllocError>
-    ensures fault { IfOk result (λ f. f ≡ least (alternative_faults scope.old around wanted chosen.old.items is_last (alternative_tree one.now))) }
-    ensures chosen { OnOk result (chosen.new.items ≡ chosen_by scope.old wanted chosen.old.items (choices_tree one.now.choices)) }
+    ensures fault { IfOk result (λ f. f ≡ least (alternative_faults scope.old around wanted chosen.old.keys is_last (alternative_tree one.now))) }
+    ensures chosen { OnOk result (chosen.new.keys ≡ once_by scope.old wanted chosen.old.keys (choices_tree one.now.choices)) }
     ensures scope { OnOk result (scope.new ≡ scope.old) }
 {
     least_by_parts();
@@ -106,7 +106,7 @@ fn alternatives(
 {
     least_by_parts();
     sooner_associates();
-    let mut chosen = Vec::new(alloc);
+    let mut chosen = IndexSet::new(alloc);
     let mut fault = None;
     for (index, one) in all.iter().enumerate() {
         let is_last = index + 1 == all.len();
@@ -122,12 +122,12 @@ fn handler(
     alloc: Global,
     scope: &mut Scope,
     around: Around,
-    named: &mut Vec<Text>,
+    named: &mut SeenNames,
     is_last: bool,
     one: &Handler,
 ) -> Result<Option<Fault>, AllocError>
-    ensures fault { IfOk result (λ f. f ≡ least (handler_faults scope.old around named.old.items is_last (handler_tree one.now))) }
-    ensures named { OnOk result (named.new.items ≡ named_after named.old.items one.now.choices.items) }
+    ensures fault { IfOk result (λ f. f ≡ least (handler_faults scope.old around named.old is_last (handler_tree one.now))) }
+    ensures named { OnOk result (named.new ≡ seen_after named.old one.now.choices.items) }
     ensures scope { OnOk result (scope.new ≡ scope.old) }
 {
     least_by_parts();
@@ -148,7 +148,7 @@ fn handlers(
 {
     least_by_parts();
     sooner_associates();
-    let mut named = Vec::new(alloc);
+    let mut named = SeenNames::new(alloc);
     let mut fault = None;
     for (index, one) in all.iter().enumerate() {
         let is_last = index + 1 == all.len();

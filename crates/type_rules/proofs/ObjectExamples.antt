@@ -3,7 +3,8 @@ use Rattle.std.proofs.Common.{◌≡◌, [], ◌∷◌, Some, None, true, false,
 use Rattle.std.specs.Prelude.{pos, codes}
 use Rattle.ada_tree.specs.declared.expression.UnaryOperator.TheVariants as unary
 use Rattle.ada_tree.specs.declared.expression.BinaryOperator.TheVariants as binary
-use Rattle.ada_tree.specs.ExpressionTree.{Parenthesized}
+use Rattle.ada_tree.specs.ExpressionTree.{Number, Parenthesized}
+use Rattle.ada_tree.specs.ProgramTree.{Integer}
 use Rattle.types.specs.declared.entity.Role.TheVariants as role
 use Rattle.types.specs.declared.entity.Value.TheVariants as scalar
 use Rattle.types.specs.Entities.{Object, Constant, Doubtful}

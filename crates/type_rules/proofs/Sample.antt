@@ -8,7 +8,7 @@ use Rattle.ada_tree.specs.declared.expression.BinaryOperator.{BinaryOperator}
 use Rattle.ada_tree.specs.declared.declaration.Mode.TheVariants as mode
 use Rattle.ada_tree.specs.ExpressionTree.{ExprTree, Number, Named, Conditional, Unary, Binary, NoElsifValues, MoreElsifValues, SelectorTree, selectors_of, Component, Arguments, Attribute, ArgumentTree, Value, arguments_of}
 use Rattle.ada_tree.specs.StatementTree.{ObjectTree, RangeTree}
-use Rattle.ada_tree.specs.ProgramTree.{TypeTree}
+use Rattle.ada_tree.specs.ProgramTree.{TypeTree, Integer}
 use Rattle.types.specs.declared.entity.Subtype.{Subtype}
 use Rattle.types.specs.declared.entity.Role.TheVariants as role
 use Rattle.types.specs.declared.entity.Value.TheVariants as scalar

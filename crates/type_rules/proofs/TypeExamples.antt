@@ -11,7 +11,7 @@ use Rattle.types.specs.Scopes.{base_range_of, entity_at}
 use Rattle.expr_rules.specs.Faults.{least}
 use Rattle.type_rules.specs.ProfileRules.{subprogram_faults, subprogram_scope}
 use Rattle.type_rules.specs.TypeRules.{type_faults}
-use Rattle.type_rules.proofs.Sample.{identifier, num, one, two, name, tick, broken, range_of, subtype_of, small, idx, vec, package_scope, next, declared_type}
+use Rattle.type_rules.proofs.Sample.{identifier, num, one, two, name, of, tick, broken, range_of, subtype_of, small, idx, vec, package_scope, next, declared_type}
 
 -- ---- types
 

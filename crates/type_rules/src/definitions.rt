@@ -3,8 +3,9 @@ ghost use Rattle.std.specs.Prelude.{◌≡◌, ◌++◌, [], IfOk, OnErr, OnOk, 
 ghost use Rattle.ada_tree.specs.ProgramTree.{definition_tree, index_tree, type_tree};
 ghost use Rattle.ada_tree.specs.StatementTree.{range_tree};
 ghost use Rattle.types.specs.Entities.{entity_value, form_value};
-ghost use Rattle.expr_rules.specs.Faults.{least};
-ghost use Rattle.type_rules.specs.TypeRules.{array_entity, array_faults, subtype_range_faults, components_faults, composite, definition_entity, definition_faults, index_faults, index_place, index_subtype, integer_entity, is_long, is_named_in, component_faults, narrowed, narrowed_faults, record_components, record_entity, subtype_entity, short_length, type_faults, type_scope};
+ghost use Rattle.expr_rules.specs.Faults.{least, rule};
+ghost use Rattle.type_rules.specs.SubtypeNames.{subtype_faults};
+ghost use Rattle.type_rules.specs.TypeRules.{array_entity, array_faults, subtype_range_faults, components_faults, composite, definition_entity, definition_faults, index_faults, index_place, index_subtype, integer_entity, is_long, narrowed, narrowed_faults, record_components, record_entity, subtype_entity, short_length, type_faults, type_scope};
 
 use crate::names::{declare, declared_twice, if_integer, is_other, subtype_fault, subtype_of};
 use crate::ranges::{range_fault, range_subtype};
@@ -15,7 +16,7 @@ use expr_rules::laws::{least_by_parts, sooner_associates};
 use expr_rules::{Wanted, rule, sooner};
 use lexer::Fault;
 use std::alloc::{AllocError, Global};
-use types::{Entity, RecordComponent, Scope, Subtype, TypeForm, start_of};
+use types::{Components, Entity, RecordComponent, Scope, SeenNames, Subtype, TypeForm, start_of};
 
 // The number of components that an array with this index has, if it may have so many.
 fn short_length(index: Subtype) -> Option<u16>
@@ -72,12 +73,6 @@ fn index_fault(scope: &Scope, index: &ArrayIndex) -> Option<Fault>
     }
 }
 
-fn is_named_in(components: &[Component], name: &Identifier) -> bool
-    ensures { result ≡ is_named_in components.now name.now.name }
-{
-    components.iter().any(|component| component.name.name.as_bytes() == name.name.as_bytes())
-}
-
 fn is_long(index: Option<Subtype>) -> bool
     ensures { result ≡ is_long index }
 {
@@ -87,32 +82,33 @@ fn is_long(index: Option<Subtype>) -> bool
     }
 }
 
-// A component behind these.
-fn component_fault(scope: &Scope, before: &[Component], component: &Component) -> Option<Fault>
-    ensures { result ≡ least (component_faults scope.now before.now component.now) }
+// A component, of which this says whether one before it has its name.
+fn component_fault(scope: &Scope, is_second: bool, component: &Component) -> Option<Fault>
+    ensures { result ≡ least (rule DECLARED_TWICE component.now.name.place is_second ++ subtype_faults scope.now component.now.subtype) }
 {
     least_by_parts();
     sooner(
-        rule(
-            DECLARED_TWICE,
-            component.name.place,
-            is_named_in(before, &component.name),
-        ),
+        rule(DECLARED_TWICE, component.name.place, is_second),
         subtype_fault(scope, &component.subtype),
     )
 }
 
-fn components_fault(scope: &Scope, components: &[Component]) -> Option<Fault>
-    ensures { result ≡ least (components_faults scope.now [] components.now) }
+fn components_fault(
+    alloc: Global,
+    scope: &Scope,
+    components: &[Component],
+) -> Result<Option<Fault>, AllocError>
+    ensures { IfOk result (λ f. f ≡ least (components_faults scope.now [] components.now)) }
 {
     least_by_parts();
     sooner_associates();
+    let mut names = SeenNames::new(alloc);
     let mut fault = None;
-    for (index, component) in components.iter().enumerate() {
-        let (before, _) = components.split_at(index);
-        fault = sooner(fault, component_fault(scope, before, component));
+    for component in components {
+        let is_second = names.see(&component.name.name)?;
+        fault = sooner(fault, component_fault(scope, is_second, component));
     }
-    fault
+    Ok(fault)
 }
 
 // The components, where the subtype of each is known.
@@ -179,27 +175,33 @@ fn subtype_range_fault(scope: &Scope, name: &Identifier, range: &Range) -> Optio
     )
 }
 
-fn definition_fault(scope: &Scope, definition: &TypeDefinition) -> Option<Fault>
-    ensures { result ≡ least (definition_faults scope.now (definition_tree definition.now)) }
+fn definition_fault(
+    alloc: Global,
+    scope: &Scope,
+    definition: &TypeDefinition,
+) -> Result<Option<Fault>, AllocError>
+    ensures { IfOk result (λ f. f ≡ least (definition_faults scope.now (definition_tree definition.now))) }
 {
     match definition {
-        TypeDefinition::Integer(range) => range_fault(scope, Wanted::AnyInteger, None, range),
-        TypeDefinition::Array(index, component) => array_fault(scope, index, component),
-        TypeDefinition::Record(components) => components_fault(scope, components),
-        TypeDefinition::Subtype(name, None) => subtype_fault(scope, name),
-        TypeDefinition::Subtype(name, Some(range)) => subtype_range_fault(scope, name, range),
+        TypeDefinition::Integer(range) => Ok(range_fault(scope, Wanted::AnyInteger, None, range)),
+        TypeDefinition::Array(index, component) => Ok(array_fault(scope, index, component)),
+        TypeDefinition::Record(components) => components_fault(alloc, scope, components),
+        TypeDefinition::Subtype(name, None) => Ok(subtype_fault(scope, name)),
+        TypeDefinition::Subtype(name, Some(range)) => Ok(subtype_range_fault(scope, name, range)),
     }
 }
 
-/// The least fault of the declaration of a type or subtype.
-pub fn type_fault(scope: &Scope, declaration: &TypeDeclaration) -> Option<Fault>
-    ensures { result ≡ least (type_faults scope.now (type_tree declaration.now)) }
+/// The least fault of the declaration of a type or subtype. Memory is the only refusal.
+pub fn type_fault(
+    alloc: Global,
+    scope: &Scope,
+    declaration: &TypeDeclaration,
+) -> Result<Option<Fault>, AllocError>
+    ensures { IfOk result (λ f. f ≡ least (type_faults scope.now (type_tree declaration.now))) }
 {
     least_by_parts();
-    sooner(
-        definition_fault(scope, &declaration.definition),
-        declared_twice(scope, &declaration.name),
-    )
+    let inside = definition_fault(alloc, scope, &declaration.definition)?;
+    Ok(sooner(inside, declared_twice(scope, &declaration.name)))
 }
 
 // The type with the next number, of this form.
@@ -237,12 +239,19 @@ fn array_entity(scope: &Scope, index: Option<Subtype>, component: Option<Subtype
     }
 }
 
-fn record_entity(scope: &Scope, components: Option<Vec<RecordComponent>>) -> Entity
-    ensures { entity_value result ≡ record_entity scope.now (option_map (λ v. v.items) components) }
+fn record_entity(
+    alloc: Global,
+    scope: &Scope,
+    components: Option<Vec<RecordComponent>>,
+) -> Result<Entity, AllocError>
+    ensures { IfOk result (λ e. entity_value e ≡ record_entity scope.now (option_map (λ v. v.items) components)) }
 {
     match components {
-        Some(components) => composite(scope, TypeForm::Record(components)),
-        None => Entity::Doubtful,
+        Some(components) => {
+            let components = Components::new(alloc, components)?;
+            Ok(composite(scope, TypeForm::Record(components)))
+        }
+        None => Ok(Entity::Doubtful),
     }
 }
 
@@ -286,7 +295,8 @@ fn definition_entity(
             subtype_of(scope, component),
         ),
         TypeDefinition::Record(components) => {
-            record_entity(scope, record_components(alloc, scope, components)?)
+            let components = record_components(alloc, scope, components)?;
+            record_entity(alloc, scope, components)?
         }
         TypeDefinition::Subtype(name, None) => subtype_entity(subtype_of(scope, name)),
         TypeDefinition::Subtype(name, Some(range)) => {

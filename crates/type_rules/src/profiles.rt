@@ -1,10 +1,11 @@
 //! Formal parameters and results (RM 6.1).
-ghost use Rattle.std.specs.Prelude.{◌≡◌, ◌++◌, [], IfOk, OnErr, OnOk, option_map};
+ghost use Rattle.std.specs.Prelude.{◌≡◌, ◌++◌, ◌||◌, [], IfOk, OnErr, OnOk, nat_le, option_map};
 ghost use Rattle.ada_tree.specs.StatementTree.{subprogram_tree};
 ghost use Rattle.types.specs.Entities.{entity_value, form_value, profile_value};
-ghost use Rattle.expr_rules.specs.Faults.{least};
-ghost use Rattle.type_rules.specs.SubtypeNames.{is_composite, is_composite_form};
-ghost use Rattle.type_rules.specs.ProfileRules.{formal_faults, formal_parameters, formals_faults, function_faults, given_profile, has_wrong_formal, is_formal_in, is_in, is_wrong_formal, profile_entity, profile_faults, profile_with, result_faults, subprogram_faults, subprogram_scope};
+ghost use Rattle.types.specs.Scopes.{is_visible};
+ghost use Rattle.expr_rules.specs.Faults.{least, rule};
+ghost use Rattle.type_rules.specs.SubtypeNames.{is_composite, is_composite_form, subtype_faults};
+ghost use Rattle.type_rules.specs.ProfileRules.{formal_parameters, formals_faults, function_faults, given_profile, has_wrong_formal, is_in, is_wrong_formal, profile_entity, profile_faults, profile_with, result_faults, subprogram_faults, subprogram_scope};
 
 use crate::names::{declare, declared_twice, subtype_fault, subtype_of};
 use ada_tree::{Formal, Identifier, Mode, Subprogram};
@@ -14,42 +15,41 @@ use expr_rules::laws::{least_by_parts, sooner_associates};
 use expr_rules::{rule, sooner};
 use lexer::Fault;
 use std::alloc::{AllocError, Global};
-use types::{Entity, FormalParameter, Profile, Scope, Subtype, TypeForm};
+use types::{Entity, FormalParameter, Profile, Scope, SeenNames, Subtype, TypeForm};
 
-fn is_formal_in(formals: &[Formal], name: &Identifier) -> bool
-    ensures { result ≡ is_formal_in formals.now name.now.name }
-{
-    formals.iter().any(|formal| formal.name.name.as_bytes() == name.name.as_bytes())
-}
-
-// A formal parameter behind these.
-fn formal_fault(scope: &Scope, before: &[Formal], formal: &Formal) -> Option<Fault>
-    ensures { result ≡ least (formal_faults scope.now before.now formal.now) }
+// A formal parameter behind so many, of which this says whether one before it has its name.
+fn formal_fault(scope: &Scope, before: usize, is_second: bool, formal: &Formal) -> Option<Fault>
+    ensures { result ≡ least (rule DECLARED_TWICE formal.now.name.place (is_visible scope.now formal.now.name.name || is_second) ++ rule LIMIT_PASSED formal.now.name.place (nat_le FORMALS before) ++ subtype_faults scope.now formal.now.subtype) }
 {
     least_by_parts();
     let place = formal.name.place;
-    let hides = scope.number_of(&formal.name.name).is_some() || is_formal_in(before, &formal.name);
+    let hides = scope.number_of(&formal.name.name).is_some() || is_second;
     sooner(
         sooner(
             rule(DECLARED_TWICE, place, hides),
-            rule(LIMIT_PASSED, place, FORMALS <= before.len()),
+            rule(LIMIT_PASSED, place, FORMALS <= before),
         ),
         subtype_fault(scope, &formal.subtype),
     )
 }
 
-/// The least fault of formal parameters.
-pub fn formals_fault(scope: &Scope, formals: &[Formal]) -> Option<Fault>
-    ensures { result ≡ least (formals_faults scope.now [] formals.now) }
+/// The least fault of formal parameters. Memory is the only refusal.
+pub fn formals_fault(
+    alloc: Global,
+    scope: &Scope,
+    formals: &[Formal],
+) -> Result<Option<Fault>, AllocError>
+    ensures { IfOk result (λ f. f ≡ least (formals_faults scope.now [] formals.now)) }
 {
     least_by_parts();
     sooner_associates();
+    let mut names = SeenNames::new(alloc);
     let mut fault = None;
     for (index, formal) in formals.iter().enumerate() {
-        let (before, _) = formals.split_at(index);
-        fault = sooner(fault, formal_fault(scope, before, formal));
+        let is_second = names.see(&formal.name.name)?;
+        fault = sooner(fault, formal_fault(scope, index, is_second, formal));
     }
-    fault
+    Ok(fault)
 }
 
 fn result_fault(scope: &Scope, given: Option<&Identifier>) -> Option<Fault>
@@ -122,27 +122,33 @@ fn function_fault(
     }
 }
 
-/// The least fault of the formals and the result of a procedure or function.
-pub fn profile_fault(scope: &Scope, subprogram: &Subprogram) -> Option<Fault>
-    ensures { result ≡ least (profile_faults scope.now (subprogram_tree subprogram.now)) }
+/// The least fault of the formals and the result of a procedure or function. Memory is the only refusal.
+pub fn profile_fault(
+    alloc: Global,
+    scope: &Scope,
+    subprogram: &Subprogram,
+) -> Result<Option<Fault>, AllocError>
+    ensures { IfOk result (λ f. f ≡ least (profile_faults scope.now (subprogram_tree subprogram.now))) }
 {
     least_by_parts();
     let given = subprogram.result.as_ref();
-    let formals = formals_fault(scope, &subprogram.formals);
+    let formals = formals_fault(alloc, scope, &subprogram.formals)?;
     let named = sooner(formals, result_fault(scope, given));
     let function = function_fault(scope, &subprogram.name, &subprogram.formals, given);
-    sooner(named, function)
+    Ok(sooner(named, function))
 }
 
-/// The least fault of the declaration of a procedure or function, its body aside.
-pub fn subprogram_fault(scope: &Scope, subprogram: &Subprogram) -> Option<Fault>
-    ensures { result ≡ least (subprogram_faults scope.now (subprogram_tree subprogram.now)) }
+/// The least fault of the declaration of a procedure or function, its body aside. Memory is the only refusal.
+pub fn subprogram_fault(
+    alloc: Global,
+    scope: &Scope,
+    subprogram: &Subprogram,
+) -> Result<Option<Fault>, AllocError>
+    ensures { IfOk result (λ f. f ≡ least (subprogram_faults scope.now (subprogram_tree subprogram.now))) }
 {
     least_by_parts();
-    sooner(
-        profile_fault(scope, subprogram),
-        declared_twice(scope, &subprogram.name),
-    )
+    let profile = profile_fault(alloc, scope, subprogram)?;
+    Ok(sooner(profile, declared_twice(scope, &subprogram.name)))
 }
 
 /// The formal parameters, where the subtype of each is known.

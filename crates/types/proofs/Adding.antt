@@ -8,6 +8,7 @@ use Rattle.indexmap.proofs.MapLemmas.{some_index, absent_from_lookup, insert_ent
 use Rattle.types.specs.declared.scope.Declared.{Declared}
 use Rattle.types.specs.Entities.{entity_value}
 use Rattle.types.specs.Scopes.{entry_value, number_of, is_visible, with_name}
+use Rattle.types.specs.Seen.{place_of, with_place}
 use Rattle.types.proofs.Lists.{position_map}
 
 none_of : {A : Type 0} (x : Option A) → is_some x ≡ false → x ≡ None
@@ -30,3 +31,9 @@ appended es k v hidden =
     ap (λ l. map entry_value l) (goes_last es k v hidden)
     ∙ map-append entry_value es ((k, v) ∷ [])
     ∙ sym (ap (λ b. if b then map entry_value es else map entry_value es ++ record { name = k; entity = entity_value v.entity } ∷ []) hidden)
+
+-- a name without a place goes last with the one that it is given
+pub placed_new : (es : List (List ℕ × ℕ)) (name : List ℕ) (place : ℕ) → is_some (place_of es name) ≡ false → insert_entry bytes_eq es name place ≡ with_place es name place
+placed_new es name place hidden =
+    insert_entry-absent bytes_eq name place es (absent_from_lookup (bytes_eq name) es (none_of (lookup (bytes_eq name) es) hidden))
+    ∙ sym (ap (λ b. if b then es else es ++ (name, place) ∷ []) hidden)

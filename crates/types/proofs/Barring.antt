@@ -5,7 +5,7 @@ use Rattle.types.specs.declared.entity.Barrier.{Barrier}
 use Rattle.types.specs.declared.scope.Declared.{Declared}
 use Rattle.types.specs.Entities.{Entity, Operation, Protected, entity_value}
 use Rattle.types.specs.Kept.{capped_words, entry_words}
-use Rattle.types.specs.Scopes.{Scope, Named, barred, changed_at, entity_at, entry_value, offering}
+use Rattle.types.specs.Scopes.{Scope, Named, barred, changed_at, entity_at, entry_value, offering, one_if_protected}
 use Rattle.types.specs.Shapes.{Shape, entity_shape, shapes, shapes_after}
 use Rattle.types.proofs.Sizes.{AreKept}
 
@@ -18,7 +18,16 @@ pub same_shape_offering : (operations : List Operation) (known : List Shape) (e 
 same_shape_offering operations known (Protected p) = refl
 same_shape_offering operations known e = refl
 
-abbrev value_in : List ℕ × Declared → Declared
+-- nor how many protected objects there are
+pub same_one_barred : (b : Barrier) (e : Entity) → one_if_protected (barred b e) ≡ one_if_protected e
+same_one_barred b (Protected p) = refl
+same_one_barred b e = refl
+
+pub same_one_offering : (operations : List Operation) (e : Entity) → one_if_protected (offering operations e) ≡ one_if_protected e
+same_one_offering operations (Protected p) = refl
+same_one_offering operations e = refl
+
+abbrev pub value_in : List ℕ × Declared → Declared
 value_in e = e.1
 
 is_first : (old first : Declared) → Some old ≡ Some first → old ≡ first

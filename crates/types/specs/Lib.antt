@@ -1,5 +1,6 @@
 pub use Rattle.ada_tree.specs.ExpressionTree
 pub mod Entities
+pub mod Seen
 pub mod Scopes
 pub mod Standings
 pub mod Values

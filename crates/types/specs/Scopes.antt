@@ -1,5 +1,5 @@
 -- Which names are visible, and the numbers by which types and other names are known (RM 8.3, A.1).
-use Rattle.std.specs.Prelude.{ℕ, zero, suc, ◌-◌, ◌^◌, ℤ, pos, negsuc, Bool, true, false, List, [], ◌∷◌, ◌++◌, length, Option, Some, None, position, slice_get, bytes_eq, codes, if◌then◌else◌, is_some}
+use Rattle.std.specs.Prelude.{ℕ, zero, suc, ◌+◌, ◌-◌, ◌^◌, ℤ, pos, negsuc, Bool, true, false, List, [], ◌∷◌, ◌++◌, length, Option, Some, None, position, slice_get, bytes_eq, codes, if◌then◌else◌, is_some}
 use Rattle.ada_tree.specs.declared.declaration.Mode.TheVariants as mode
 use Rattle.types.specs.declared.entity.Barrier.{Barrier}
 use Rattle.types.specs.declared.entity.Subtype.{Subtype}
@@ -83,6 +83,15 @@ protected_of e = None
 
 abbrev pub protected_at : Scope → ℕ → Option ProtectedObject
 protected_at s n = protected_of (entity_at s n)
+
+-- protected objects are numbered in the order of their declarations
+abbrev pub one_if_protected : Entity → ℕ
+one_if_protected (Protected p) = 1
+one_if_protected e = 0
+
+abbrev pub protected_count : Scope → ℕ
+protected_count [] = 0
+protected_count (n ∷ rest) = one_if_protected n.entity + protected_count rest
 
 -- the operations of this protected object; of anything else the others
 abbrev pub operations_or : Option ProtectedObject → List Operation → List Operation

@@ -4,6 +4,7 @@ ghost use Rattle.types.specs.Entities.{protected_value};
 ghost use Rattle.types.specs.Scopes.{base_range_of};
 ghost use Rattle.types.specs.Values.{fits, value_of};
 
+use crate::parts::{Components, Operations};
 use ada_tree::Mode;
 use lexer::Text;
 
@@ -83,7 +84,7 @@ pub enum Role {
 }
 
 /// The value of a static expression, which is a scalar (RM 3.5): a number, or a truth value. Time and Time_Span are numbers of microseconds.
-#[derive(Clone, Copy, Debug, PartialEq, Eq)]
+#[derive(Clone, Copy, Debug, PartialEq, Eq, Hash)]
 pub enum Value {
     Number(i64),
     Truth(bool),
@@ -105,7 +106,7 @@ pub enum TypeForm {
     TimeSpan,
     /// The subtype of the index, the number of components, and their subtype.
     Array(Subtype, u16, Subtype),
-    Record(Vec<RecordComponent>),
+    Record(Components),
 }
 
 /// A formal parameter, as a call sees it (RM 6.1).
@@ -152,17 +153,9 @@ pub enum Barrier {
 pub struct ProtectedObject {
     pub number: usize,
     pub ceiling: u8,
-    pub operations: Vec<Operation>,
+    pub operations: Operations,
     pub components: Vec<RecordComponent>,
     pub barrier: Option<Barrier>,
-}
-
-fn position_of(operations: &[Operation], name: &Text) -> Option<usize>
-    ensures { result ≡ position (λ o. bytes_eq o.name name.now) operations.now }
-{
-    operations
-        .iter()
-        .position(|operation| operation.name.as_bytes() == name.as_bytes())
 }
 
 impl ProtectedObject {
@@ -170,7 +163,7 @@ impl ProtectedObject {
     pub fn position_of(&self, name: &Text) -> Option<usize>
         ensures { result ≡ position (λ o. bytes_eq o.name name.now) (protected_value self.now).operations }
     {
-        position_of(&self.operations, name)
+        self.operations.position_of(name)
     }
 }
 

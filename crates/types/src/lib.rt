@@ -5,8 +5,10 @@ mod entity;
 mod evaluation;
 pub mod laws;
 mod layout;
+mod parts;
 mod predefined;
 mod scope;
+mod seen;
 mod standing;
 mod statics;
 
@@ -15,6 +17,8 @@ pub use entity::{
     RecordComponent, Role, Subtype, TypeForm, Value,
 };
 pub use layout::{Layout, LayoutFault};
+pub use parts::{Components, Operations};
 pub use scope::{MORE_WORDS, Scope};
-pub use standing::{Callee, Standing, component_of};
+pub use seen::{NamePlaces, SeenNames};
+pub use standing::{Callee, Standing};
 pub use statics::{StaticForm, start_of, static_value, static_value_within};

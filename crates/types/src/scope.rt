@@ -3,11 +3,12 @@ ghost use Rattle.std.specs.Prelude.{◌≡◌, ◌+◌, ◌*◌, ◌<◌, ◌^�
 ghost use Rattle.types.specs.Entities.{entity_value, form_value, operation_value, profile_value, protected_value};
 ghost use Rattle.types.specs.Layouts.{capped, component_offset, words_of};
 ghost use Rattle.types.specs.Kept.{components_words, entity_words};
-ghost use Rattle.types.specs.Scopes.{barred, entity_at, form_at, is_visible, number_of, offering, operations_or, profile_at, protected_at, protected_of, with_barrier, with_name, with_operations};
+ghost use Rattle.types.specs.Scopes.{barred, entity_at, form_at, is_visible, number_of, offering, one_if_protected, operations_or, profile_at, protected_at, protected_count, protected_of, with_barrier, with_name, with_operations};
 
 use crate::entity::{
-    Barrier, Entity, Operation, Profile, ProtectedObject, RecordComponent, Subtype, TypeForm,
+    Barrier, Entity, Profile, ProtectedObject, RecordComponent, Subtype, TypeForm,
 };
+use crate::parts::Operations;
 use base::limits::WORDS;
 use indexmap::IndexMap;
 use lexer::Text;
@@ -18,27 +19,31 @@ use std::mem;
 /// One more word than a program may have.
 pub const MORE_WORDS: u16 = WORDS as u16 + 1;
 
-// What a name stands for, and the words of an object of the type that it is: 0 where it is none, `MORE_WORDS` where there are more than a program may have.
+// What a name stands for; the words of an object of the type that it is: 0 where it is none, `MORE_WORDS` where there are more than a program may have; and
+// the number of protected objects up to it, itself among them.
 #[derive(Drop)]
 struct Declared {
     entity: Entity,
     words: u16,
+    objects: usize,
 }
 
 impl Declared {
     fn set_barrier(&mut self, barrier: Barrier)
         ensures entity { entity_value self.new.entity ≡ barred barrier (entity_value self.old.entity) }
         ensures words { self.new.words ≡ self.old.words }
+        ensures objects { self.new.objects ≡ self.old.objects }
     {
         if let Entity::Protected(object) = &mut self.entity {
             object.barrier = Some(barrier);
         }
     }
 
-    fn replace_operations(&mut self, operations: Vec<Operation>) -> Vec<Operation>
-        ensures entity { entity_value self.new.entity ≡ offering (map operation_value operations.items) (entity_value self.old.entity) }
+    fn replace_operations(&mut self, operations: Operations) -> Operations
+        ensures entity { entity_value self.new.entity ≡ offering (map operation_value operations) (entity_value self.old.entity) }
         ensures words { self.new.words ≡ self.old.words }
-        ensures back { map operation_value result.items ≡ operations_or (protected_of (Some (entity_value self.old.entity))) (map operation_value operations.items) }
+        ensures objects { self.new.objects ≡ self.old.objects }
+        ensures back { map operation_value result ≡ operations_or (protected_of (Some (entity_value self.old.entity))) (map operation_value operations) }
     {
         match &mut self.entity {
             Entity::Protected(object) => mem::replace(&mut object.operations, operations),
@@ -55,7 +60,7 @@ pub struct Scope {
 
 impl Model for Scope {
     ghost use Rattle.std.specs.Prelude.{◌≡◌, List, map};
-    ghost use Rattle.types.specs.Kept.{capped_words, entry_words};
+    ghost use Rattle.types.specs.Kept.{capped_words, entry_objects, entry_words, objects_after};
     ghost use Rattle.types.specs.Scopes.{Named, entry_value};
     ghost use Rattle.types.specs.Shapes.{shapes};
 
@@ -63,7 +68,7 @@ impl Model for Scope {
 
     ghost view = { λ s. map entry_value s.names.entries };
 
-    ghost invariant = { λ s. map entry_words s.names.entries ≡ map capped_words (shapes (map entry_value s.names.entries)) };
+    ghost invariant = { λ s. (map entry_words s.names.entries ≡ map capped_words (shapes (map entry_value s.names.entries))) × (map entry_objects s.names.entries ≡ objects_after 0 (map entry_value s.names.entries)) };
 }
 
 fn capped(words: u32) -> u16
@@ -199,9 +204,36 @@ impl Scope {
             Entity::Type(TypeForm::Array(_, length, element), _) => {
                 capped_product(*length, self.words(*element))
             }
-            Entity::Type(TypeForm::Record(components), _) => self.components_words(components),
+            Entity::Type(TypeForm::Record(components), _) => {
+                self.components_words(components.as_slice())
+            }
             Entity::Type(_, _) => 1,
             _ => 0,
+        }
+    }
+
+    /// The number of protected objects among the names.
+    pub fn protected_count(&self) -> usize
+        ensures count { result ≡ protected_count self.now }
+        ensures small { result < 2 ^ 63 }
+    {
+        let len = self.len();
+        if len == 0 {
+            return 0;
+        }
+        match self.names.get_index(len - 1) {
+            Some((_, declared)) => declared.objects,
+            None => 0,
+        }
+    }
+
+    // The same with one name more, which stands for this.
+    fn objects_with(&self, entity: &Entity) -> usize
+        ensures { result ≡ protected_count self.now + one_if_protected (entity_value entity.now) }
+    {
+        match entity {
+            Entity::Protected(_) => self.protected_count() + 1,
+            _ => self.protected_count(),
         }
     }
 
@@ -214,7 +246,13 @@ impl Scope {
             return Ok(());
         }
         let words = self.entity_words(&entity);
-        self.names.insert(name, Declared { entity, words })?;
+        let objects = self.objects_with(&entity);
+        let declared = Declared {
+            entity,
+            words,
+            objects,
+        };
+        self.names.insert(name, declared)?;
         Ok(())
     }
 
@@ -230,13 +268,9 @@ impl Scope {
 
     /// Gives the protected object with this number these operations, and gives its own back: in its own body it has none behind its name (RM 9.4).
     /// Where the number is none of a protected object, nothing changes and the given ones come back.
-    pub fn replace_operations(
-        &mut self,
-        number: usize,
-        operations: Vec<Operation>,
-    ) -> Vec<Operation>
-        ensures scope { self.new ≡ with_operations self.old number (map operation_value operations.items) }
-        ensures back { map operation_value result.items ≡ operations_or (protected_at self.old number) (map operation_value operations.items) }
+    pub fn replace_operations(&mut self, number: usize, operations: Operations) -> Operations
+        ensures scope { self.new ≡ with_operations self.old number (map operation_value operations) }
+        ensures back { map operation_value result ≡ operations_or (protected_at self.old number) (map operation_value operations) }
     {
         match self.names.get_index_mut(number) {
             Some(declared) => declared.replace_operations(operations),

@@ -3,11 +3,9 @@ ghost use Rattle.std.specs.Prelude.{◌≡◌, bytes_eq, option_map};
 ghost use Rattle.ada_tree.specs.ExpressionTree.{argument_trees, name_tree, selector_tree, selector_trees};
 ghost use Rattle.types.specs.Entities.{entity_value, form_value, profile_value, protected_value};
 ghost use Rattle.types.specs.Scopes.{number_of};
-ghost use Rattle.types.specs.Standings.{array_attribute, bound_stands, bounds_stand, call_stands, called_operation, callee_profile, component_of, component_stands, conversion_stands, count, element_stands, is_single, object_attribute, object_select, operation_stands, profile_among, result_stands, select, select_all, settle, standing_of, stands_first, stands_for, subtype_attribute};
+ghost use Rattle.types.specs.Standings.{array_attribute, bound_stands, bounds_stand, call_stands, called_operation, callee_profile, component_stands, conversion_stands, count, element_stands, is_single, object_attribute, object_select, operation_stands, profile_among, result_stands, select, select_all, settle, standing_of, stands_first, stands_for, subtype_attribute};
 
-use crate::entity::{
-    Entity, Profile, ProtectedObject, RecordComponent, Role, Subtype, TypeForm, Value,
-};
+use crate::entity::{Entity, Profile, ProtectedObject, Role, Subtype, TypeForm, Value};
 use crate::scope::Scope;
 use ada_tree::laws::{arguments_by_parts, names_by_parts};
 use ada_tree::{Argument, Identifier, NameExpr, Selector};
@@ -73,23 +71,11 @@ fn stands_for(number: usize, entity: Option<&Entity>) -> Standing
     }
 }
 
-/// The subtype of the component with this name (RM 4.1.3).
-pub fn component_of(components: &[RecordComponent], name: &Text) -> Option<Subtype>
-    ensures { result ≡ component_of components.now name.now }
-{
-    for component in components {
-        if component.name.as_bytes() == name.as_bytes() {
-            return Some(component.subtype);
-        }
-    }
-    None
-}
-
 fn component_stands(role: Role, form: Option<&TypeForm>, name: &Text) -> Standing
     ensures { result ≡ component_stands role (option_map (λ f. form_value f.now) form.entry) name.now }
 {
     match form {
-        Some(TypeForm::Record(components)) => match component_of(components, name) {
+        Some(TypeForm::Record(components)) => match components.subtype_of(name) {
             Some(subtype) => Standing::Part(role, subtype),
             None => Standing::Doubtful,
         },
@@ -229,7 +215,7 @@ impl Scope {
         match callee {
             Callee::Direct(number) => self.profile(number),
             Callee::Operation(object, position) => {
-                match self.protected(object)?.operations.get(position) {
+                match self.protected(object)?.operations.as_slice().get(position) {
                     Some(operation) => Some(&operation.profile),
                     None => None,
                 }

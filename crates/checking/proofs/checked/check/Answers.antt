@@ -1,6 +1,5 @@
-use Rattle.std.proofs.Common.{◌≡◌, ◌++◌, [], None, Some, inr, sym, ap, subst, ◌∙◌}
+use Rattle.std.proofs.Common.{◌≡◌, ◌++◌, [], inr, sym, subst, ◌∙◌}
 use Rattle.ada_tree.specs.ProgramTree.{program_tree}
-use Rattle.expr_rules.specs.Faults.{least}
 use Rattle.types.specs.Scopes.{standard}
 use Rattle.legality.specs.MainRules.{main_faults}
 use Rattle.size_rules.specs.ProgramSizes.{size_faults}

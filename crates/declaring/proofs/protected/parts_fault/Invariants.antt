@@ -1,10 +1,14 @@
-use Rattle.std.proofs.Common.{◌≡◌, [], drop, map, take}
-use Rattle.ada_tree.specs.StatementTree.{operation_tree, protected_component_tree}
+use Rattle.std.proofs.Common.{◌≡◌, List, [], drop, map, take}
+use Rattle.ada_tree.specs.StatementTree.{OperationTree, protected_component_tree}
+use Rattle.types.specs.Seen.{AreNames}
 use Rattle.expr_rules.specs.Faults.{least, sooner}
-use Rattle.declaring.specs.ProtectedRules.{parts_faults}
+use Rattle.declaring.specs.ProtectedRules.{operation_bytes, parts_faults}
 use Rattle.declaring.proofs.protected.parts_fault.Given as goal
 
-abbrev pub invariant-loop-index : goal.invariant-loop-index
-invariant-loop-index l =
-    sooner l.fault (least (parts_faults l.scope l.own (map operation_tree l.operations) (map protected_component_tree (take l.index l.components)) (map protected_component_tree (drop l.index l.components))))
-    ≡ least (parts_faults l.scope l.own (map operation_tree l.operations) [] (map protected_component_tree l.components))
+abbrev pub invariant-loop-component : goal.invariant-loop-component
+invariant-loop-component l =
+    ((all : List OperationTree)
+    → AreNames operation_bytes all l.operations
+    → sooner l.fault (least (parts_faults l.scope l.own all (map protected_component_tree (take l.component-index l.components)) (map protected_component_tree (drop l.component-index l.components))))
+    ≡ least (parts_faults l.scope l.own all [] (map protected_component_tree l.components)))
+    × AreNames (λ c. c.name.name) (map protected_component_tree (take l.component-index l.components)) l.names

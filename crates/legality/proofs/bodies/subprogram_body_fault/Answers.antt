@@ -14,10 +14,10 @@ returns-clause-fault c =
     c.sooner-2.ensures
     ∙ ap (λ o. sooner o c.end_rule-end.result) c.sooner.ensures
     ∙ subprogram_least c.least_by_parts.ensures c.args.scope.now d b named c.declare_formals.new.scope c.kind_of-kind.result
-    c.head_fault-head.result c.in_ok-inside.inside c.end_rule-end.result
+    c.in_ok-head.head c.in_ok-inside.inside c.end_rule-end.result
     c.in_ok-declare_subprogram.ensures.ok
     (c.in_ok-declare_formals.ensures ∙ ap (λ l. formals_scope named l) c.deref.ensures.value)
     c.kind_of-kind.ensures
-    c.head_fault-head.ensures
+    c.in_ok-head.ensures
     c.in_ok-inside.ensures.fault
     c.end_rule-end.ensures

@@ -10,7 +10,7 @@ returns-clause-scope c =
     ∙ object_left c.names_are_added.ensures c.object_bodies_end.ensures c.args.scope.now c.enter_object.new.scope c.protected_items_fault.new.scope c.args.number
     c.len-len.result
     (map protected_item_tree c.args.items.now)
-    (map operation_value c.in_ok-operations.operations.items)
+    (map operation_value c.in_ok-operations.operations)
     c.in_ok-operations.ensures.scope
     c.in_ok-fault.ensures.scope
     c.len-len.ensures.value

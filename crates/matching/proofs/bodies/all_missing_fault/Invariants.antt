@@ -6,5 +6,5 @@ use Rattle.matching.proofs.bodies.all_missing_fault.Given as goal
 
 abbrev pub invariant-loop-item : goal.invariant-loop-item
 invariant-loop-item l =
-    sooner l.fault (least (all_missing_faults (map body_item_tree l.behind) (map item_tree (drop l.item-index l.items))))
-    ≡ least (all_missing_faults (map body_item_tree l.behind) (map item_tree l.items))
+    sooner l.fault (least (all_missing_faults (map body_item_tree l.bodies) (map item_tree (drop l.item-index l.items))))
+    ≡ least (all_missing_faults (map body_item_tree l.bodies) (map item_tree l.items))

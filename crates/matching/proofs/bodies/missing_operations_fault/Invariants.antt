@@ -7,5 +7,5 @@ use Rattle.matching.proofs.bodies.missing_operations_fault.Given as goal
 
 abbrev pub invariant-loop-operation : goal.invariant-loop-operation
 invariant-loop-operation l =
-    sooner l.fault (least (missing_operations_faults (map body_item_tree l.behind) l.object (map operation_tree (drop l.operation-index l.operations))))
-    ≡ least (missing_operations_faults (map body_item_tree l.behind) l.object (map operation_tree l.operations))
+    sooner l.fault (least (missing_operations_faults (map body_item_tree (drop l.start l.bodies)) l.object (map operation_tree (drop l.operation-index l.operations))))
+    ≡ least (missing_operations_faults (map body_item_tree (drop l.start l.bodies)) l.object (map operation_tree l.operations))

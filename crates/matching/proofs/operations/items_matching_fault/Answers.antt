@@ -1,17 +1,25 @@
-use Rattle.std.proofs.Common.{map, ◌∙◌, refl}
+use Rattle.std.proofs.Common.{◌+◌, map, drop, take, ap, sym, ◌∙◌, refl}
 use Rattle.ada_tree.specs.ProgramTree.{body_item_tree, item_tree}
 use Rattle.expr_rules.specs.Faults.{least}
-use Rattle.matching.specs.MatchingRules.{item_matching, items_matching}
 use Rattle.expr_rules.specs.Walks.{walk_turn}
+use Rattle.matching.specs.MatchingRules.{item_matching, items_matching}
+use Rattle.matching.specs.Tables.{front_before, front_next, front_specified}
+use Rattle.matching.proofs.Fronts.{gone_on}
 use Rattle.matching.proofs.operations.items_matching_fault.Goals as goal
 
 pub loop-index-preserved : goal.loop-index-preserved
 loop-index-preserved c =
     let specified = map item_tree c.args.specified.now in
-    let x = c.index-items-index.result in
+    let all = c.items-items.result.now in
     let l = c.loop-index in
-    rw c.sooner-fault.ensures
-    (walk_turn c.least_by_parts.ensures c.sooner_associates.ensures body_item_tree (items_matching specified) (λ b y r. item_matching specified b r y) (λ b y r. refl)
-    c.args.items.now l.index x l.fault c.item_matching_fault.result _ c.loop-index-test.true c.index-items-index.is l.invariant
-    (c.item_matching_fault.ensures
-    ∙ (λ j. least (item_matching specified (map body_item_tree (c.split_at.ensures.front j)) (map body_item_tree (c.split_at-in-loop-index.ensures.back j)) (body_item_tree x)))))
+    let n = l.index in
+    let x = c.index-items-index.result in
+    let behind = map body_item_tree (drop (n + 1) c.args.bodies.now) in (
+      rw c.sooner-fault.ensures
+          (walk_turn c.least_by_parts.ensures c.sooner_associates.ensures body_item_tree (items_matching specified) (λ b y r. item_matching specified b r y) (λ b y r. refl)
+          all n x l.fault c.in_ok-here.here _ c.loop-index-test.true c.index-items-index.is l.invariant.0
+          (c.in_ok-here.ensures
+          ∙ ap (λ f. least (item_matching (front_specified f) (front_before f) behind (body_item_tree x))) l.invariant.1
+          ∙ ap (λ b. least (item_matching specified (map body_item_tree (take n all)) (map body_item_tree (drop (n + 1) b)) (body_item_tree x))) (sym c.items-items.ensures))),
+      c.in_ok-front-2.ensures ∙ ap front_next l.invariant.1 ∙ gone_on c.args.specified.now all n c.loop-index-test.true,
+    )

@@ -6,5 +6,6 @@ use Rattle.matching.proofs.operations.items_matching_fault.Given as goal
 
 abbrev pub invariant-loop-index : goal.invariant-loop-index
 invariant-loop-index l =
-    sooner l.fault (least (items_matching (map item_tree l.specified) (map body_item_tree (take l.index l.items)) (map body_item_tree (drop l.index l.items))))
-    ≡ least (items_matching (map item_tree l.specified) [] (map body_item_tree l.items))
+    (sooner l.fault (least (items_matching (map item_tree l.specified) (map body_item_tree (take l.index l.items)) (map body_item_tree (drop l.index l.items))))
+    ≡ least (items_matching (map item_tree l.specified) [] (map body_item_tree l.bodies)))
+    × (l.front ≡ (l.specified, (l.items, l.index)))

@@ -1,20 +1,33 @@
-use Rattle.std.proofs.Common.{map, ap, ◌∙◌, refl}
-use Rattle.ada_tree.specs.ProgramTree.{body_item_tree, item_tree, protected_item_tree}
+use Rattle.std.proofs.Common.{map, take, ap, ◌∙◌, refl}
+use Rattle.ada_tree.specs.ProgramTree.{protected_item_tree}
 use Rattle.expr_rules.specs.Faults.{least}
-use Rattle.matching.specs.MatchingRules.{operation_bodies_faults, operation_body_rule}
 use Rattle.expr_rules.specs.Walks.{walk_turn}
+use Rattle.matching.specs.MatchingRules.{operation_bodies_faults, operation_body_rule}
+use Rattle.matching.specs.Tables.{front_before, front_specified, known_operation_rule, has_operation_key, is_same_key}
+use Rattle.matching.proofs.Tabled.{own_operation, second_found, seen_next, sees_as}
 use Rattle.matching.proofs.operations.operation_bodies_fault.Goals as goal
 
-pub loop-index-preserved : goal.loop-index-preserved
-loop-index-preserved c =
-    let specified = map item_tree c.args.specified.now in
-    let before = map body_item_tree c.args.before.now in
+pub loop-body-preserved : goal.loop-body-preserved
+loop-body-preserved c =
+    let specified = front_specified c.args.front.now in
+    let before = front_before c.args.front.now in
     let own = c.args.object.now in
-    let x = c.index-bodies-index.result in
-    let l = c.loop-index in
-    rw c.sooner-fault.ensures
-    (walk_turn c.least_by_parts.ensures c.sooner_associates.ensures protected_item_tree (operation_bodies_faults specified before own)
-    (λ b y r. operation_body_rule specified before own b y)
-    (λ b y r. refl)
-    c.args.bodies.now l.index x l.fault c.operation_body_rule.result _ c.loop-index-test.true c.index-bodies-index.is l.invariant
-    (c.operation_body_rule.ensures ∙ ap (λ b. least (operation_body_rule specified before own (map protected_item_tree b) (protected_item_tree x))) c.split_at.ensures.front))
+    let all = c.args.bodies.now in
+    let l = c.loop-body in
+    let n = l.body-index in
+    let x = c.body-item.result in
+    let i = protected_item_tree x in
+    let key = c.of_operation_body.result in
+    let earlier = map protected_item_tree (take n all) in
+    let second = c.in_ok-is_second.ensures.before ∙ l.invariant.1 key ∙ second_found key own i c.of_operation_body.ensures earlier in (
+      rw c.sooner-fault.ensures
+          (walk_turn c.least_by_parts.ensures c.sooner_associates.ensures protected_item_tree (operation_bodies_faults specified before own)
+          (λ b y r. operation_body_rule specified before own b y)
+          (λ b y r. refl)
+          all n x l.fault c.operation_body_rule.result _ c.loop-body-test.true c.body-item.is l.invariant.0
+          (c.operation_body_rule.ensures
+          ∙ ap (λ b. least (known_operation_rule specified before own b i)) second)),
+      seen_next protected_item_tree (λ k y. has_operation_key k own y) all n x l.seen.set.keys c.see.new.self.set.keys c.loop-body-test.true c.body-item.is l.invariant.1
+          (sees_as l.seen.set.keys c.see.new.self.set.keys (is_same_key key) (λ k. has_operation_key k own i) (own_operation key own i c.of_operation_body.ensures)
+          c.in_ok-is_second.ensures.seen),
+    )

@@ -5,7 +5,8 @@ use Rattle.ada_tree.specs.ExpressionTree.{expr_tree}
 use Rattle.ada_tree.specs.StatementTree.{alternative_tree, alternative_trees, choices_tree, declaration_tree, elsif_trees, handler_tree, handler_trees, iteration_tree, stmt_tree, stmt_trees}
 use Rattle.expr_rules.specs.Faults.{least, sooner}
 use Rattle.declaring.specs.LocalRules.{locals_faults, locals_scope}
-use Rattle.stmt_rules.specs.CaseRules.{choices_wanted, chosen_by, others_rule}
+use Rattle.stmt_rules.specs.CaseRules.{choices_wanted, others_rule}
+use Rattle.stmt_rules.specs.Choosing.{once_by}
 use Rattle.stmt_rules.specs.StatementRules.{alternative_faults, alternatives_faults, elsifs_faults, handler_faults, handlers_faults, looped_faults, more_handlers_faults, stmt_faults, stmts_faults}
 use Rattle.stmt_rules.proofs.Turns.{alternatives_turn, handlers_turn}
 use Rattle.stmt_rules.proofs.Compound.{if_least, case_least, loop_least, block_least}
@@ -22,12 +23,12 @@ alternatives-loop-index-preserved t c =
     let f = c.in_ok-found.found in
     let less = c.loop-index-test.true in
     let last = nat_eq (l.index + 1) (length all) in
-    let before = l.chosen.items in
+    let before = l.chosen.keys in
     let parts = c.least_by_parts.ensures in
     record {
       fault = rw c.sooner-fault.ensures
           (ap (λ v. sooner (sooner l.fault f) (least (alternatives_faults s a w v (alternative_trees (drop (l.index + 1) all)))))
-          (c.in_ok-found.ensures.chosen ∙ ap (λ y. chosen_by y w before (choices_tree x.choices)) l.invariant.scope)
+          (c.in_ok-found.ensures.chosen ∙ ap (λ y. once_by y w before (choices_tree x.choices)) l.invariant.scope)
           ∙ alternatives_turn parts c.sooner_associates.ensures s a w before all l.index x l.fault f _ less c.index-all-index.is l.invariant.fault
           (c.in_ok-found.ensures.fault ∙ ap (λ y. least (alternative_faults y a w before last (alternative_tree x))) l.invariant.scope));
       scope = c.in_ok-found.ensures.scope ∙ l.invariant.scope;
@@ -43,7 +44,7 @@ handlers-loop-index-preserved t c =
     let f = c.in_ok-found.found in
     let less = c.loop-index-test.true in
     let last = nat_eq (l.index + 1) (length all) in
-    let before = l.named.items in
+    let before = l.named in
     record {
       fault = rw c.sooner-fault.ensures
           (ap (λ v. sooner (sooner l.fault f) (least (more_handlers_faults s a v (handler_trees (drop (l.index + 1) all))))) c.in_ok-found.ensures.named

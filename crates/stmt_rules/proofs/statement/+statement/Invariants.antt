@@ -7,7 +7,7 @@ use Rattle.stmt_rules.proofs.statement.+statement.Given as goal
 abbrev pub invariant-alternatives-loop-index : goal.invariant-alternatives-loop-index
 invariant-alternatives-loop-index l =
     record {
-      fault : sooner l.fault (least (alternatives_faults l.fn.scope l.around l.wanted l.chosen.items (alternative_trees (drop l.index l.all))))
+      fault : sooner l.fault (least (alternatives_faults l.fn.scope l.around l.wanted l.chosen.keys (alternative_trees (drop l.index l.all))))
           ≡ least (alternatives_faults l.fn.scope l.around l.wanted [] (alternative_trees l.all));
       scope : l.scope ≡ l.fn.scope;
     }
@@ -23,7 +23,7 @@ invariant-elsif_parts-loop-part l =
 abbrev pub invariant-handlers-loop-index : goal.invariant-handlers-loop-index
 invariant-handlers-loop-index l =
     record {
-      fault : sooner l.fault (least (more_handlers_faults l.fn.scope l.around l.named.items (handler_trees (drop l.index l.all))))
+      fault : sooner l.fault (least (more_handlers_faults l.fn.scope l.around l.named (handler_trees (drop l.index l.all))))
           ≡ least (handlers_faults l.fn.scope l.around (handler_trees l.all));
       scope : l.scope ≡ l.fn.scope;
     }

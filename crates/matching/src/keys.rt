@@ -1,0 +1,151 @@
+//! What a declaration and its bodies have in common, as the key of a table.
+ghost use Rattle.std.specs.Prelude.{◌≡◌, [], OnOk, IfOk};
+ghost use Rattle.ada_tree.specs.ProgramTree.{body_item_tree, protected_item_tree};
+ghost use Rattle.matching.specs.MatchingRules.{operation_is_entry, operation_name};
+ghost use Rattle.matching.specs.Tables.{IsKeyOf, Sees, has_body_key, is_same_key, is_seen, kind_of, operation_kind, optional_has};
+
+use crate::bodies::BodyOf;
+use ada_tree::{BodyItem, Identifier, ProtectedBodyItem};
+use indexmap::IndexSet;
+use lexer::Text;
+use std::alloc::{AllocError, Global};
+
+/// What a name with a body stands for.
+#[derive(Clone, Copy, Debug, PartialEq, Eq, Hash)]
+pub(crate) enum Kind {
+    Subprogram,
+    Task,
+    Object,
+    /// A procedure or function of a protected object.
+    Operation,
+    /// An entry of a protected object.
+    Entry,
+}
+
+/// A name with a body: what it stands for, and the object that it is an operation of, or its own name where it is none.
+#[derive(Clone, Copy, PartialEq, Eq, Hash)]
+pub(crate) struct Key<'a> {
+    pub kind: Kind,
+    pub object: &'a Text,
+    pub name: &'a Text,
+}
+
+fn kind_of(kind: BodyOf) -> Kind
+    ensures { result ≡ kind_of kind }
+{
+    match kind {
+        BodyOf::Subprogram => Kind::Subprogram,
+        BodyOf::Task => Kind::Task,
+        BodyOf::Object => Kind::Object,
+    }
+}
+
+fn operation_kind(is_entry: bool) -> Kind
+    ensures { result ≡ operation_kind is_entry }
+{
+    if is_entry {
+        Kind::Entry
+    } else {
+        Kind::Operation
+    }
+}
+
+impl<'a> Key<'a> {
+    /// The key of what has a body of this kind.
+    pub(crate) fn of_body(kind: BodyOf, name: &'a Identifier) -> Key<'a>
+        ensures { IsKeyOf result (kind_of kind) name.now.name name.now.name }
+    {
+        Key {
+            kind: kind_of(kind),
+            object: &name.name,
+            name: &name.name,
+        }
+    }
+
+    /// The key of an operation of this object.
+    pub(crate) fn of_operation(
+        object: &'a Identifier,
+        is_entry: bool,
+        name: &'a Identifier,
+    ) -> Key<'a>
+        ensures { IsKeyOf result (operation_kind is_entry) object.now.name name.now.name }
+    {
+        Key {
+            kind: operation_kind(is_entry),
+            object: &object.name,
+            name: &name.name,
+        }
+    }
+
+    /// The key of what this is the body of.
+    pub(crate) fn of_operation_body(object: &'a Identifier, body: &'a ProtectedBodyItem) -> Key<'a>
+        ensures { IsKeyOf result (operation_kind (operation_is_entry (protected_item_tree body.now))) object.now.name (operation_name (protected_item_tree body.now)).name }
+    {
+        match body {
+            ProtectedBodyItem::Subprogram(subprogram, _) => {
+                Key::of_operation(object, false, &subprogram.name)
+            }
+            ProtectedBodyItem::Entry(entry, _, _) => Key::of_operation(object, true, &entry.name),
+        }
+    }
+
+    /// The key of what this item is the body of, if it is one.
+    pub(crate) fn of_item(item: &'a BodyItem) -> Option<Key<'a>>
+        ensures { (k : Key) → optional_has k result ≡ has_body_key k (body_item_tree item.now) }
+    {
+        match item {
+            BodyItem::Item(_) => None,
+            BodyItem::Subprogram(subprogram, _) => {
+                Some(Key::of_body(BodyOf::Subprogram, &subprogram.name))
+            }
+            BodyItem::Task(name, _) => Some(Key::of_body(BodyOf::Task, name)),
+            BodyItem::Protected(name, _, _) => Some(Key::of_body(BodyOf::Object, name)),
+        }
+    }
+}
+
+/// Keys that were seen.
+#[derive(Drop)]
+pub(crate) struct Keys<'a> {
+    set: IndexSet<Key<'a>>,
+}
+
+impl<'a> Keys<'a> {
+    /// No keys.
+    pub(crate) fn new(alloc: Global) -> Keys<'a>
+        ensures { result.set.keys ≡ [] }
+    {
+        Keys {
+            set: IndexSet::new(alloc),
+        }
+    }
+
+    /// Whether a key was seen.
+    pub(crate) fn has(&self, key: Key<'a>) -> bool
+        ensures { result ≡ is_seen self.now.set.keys key.entry }
+    {
+        self.set.contains(&key)
+    }
+
+    /// Sees a key, and says whether it was seen before. Memory is the only refusal.
+    pub(crate) fn see(&mut self, key: Key<'a>) -> Result<bool, AllocError>
+        ensures before { IfOk result (λ b. b ≡ is_seen self.old.set.keys key.entry) }
+        ensures seen { OnOk result (Sees self.old.set.keys self.new.set.keys (is_same_key key.entry)) }
+    {
+        let is_new = self.set.insert(key)?;
+        Ok(!is_new)
+    }
+
+    /// Sees the key of what this item is the body of. Memory is the only refusal.
+    pub(crate) fn see_item(&mut self, item: &'a BodyItem) -> Result<(), AllocError>
+        ensures { OnOk result (Sees self.old.set.keys self.new.set.keys (λ k. has_body_key k (body_item_tree item.now))) }
+    {
+        match Key::of_item(item) {
+            Some(key) => {
+                self.see(key)?;
+                Ok(())
+            }
+            None => Ok(()),
+        }
+    }
+}
