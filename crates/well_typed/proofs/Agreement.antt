@@ -9,22 +9,25 @@ use Rattle.types.specs.declared.entity.Role.{Role}
 use Rattle.types.specs.declared.entity.Role.TheVariants as role
 use Rattle.types.specs.declared.standing.Standing.{Standing}
 use Rattle.types.specs.declared.standing.Standing.TheVariants as standing
-use Rattle.types.specs.Entities.{TypeForm, Profile, ProtectedObject, Entity, OfType, OfSubtype, Constant, Literal, Exception, Subprogram, Entry, Predefined, Put, Task, Protected, LibraryUnit, Doubtful}
+use Rattle.types.specs.Entities.{TypeForm, Integers, Profile, ProtectedObject, Entity, OfType, OfSubtype, Constant, Literal, Exception, Subprogram, Entry, Predefined, Put, Task, Protected, LibraryUnit, Doubtful}
 use Rattle.types.specs.Entities as entity
-use Rattle.types.specs.Scopes.{Scope, Named, entity_at, entity_of, form_at, is_visible, number_of, with_name}
-use Rattle.types.specs.Values.{Value}
+use Rattle.types.specs.Scopes.{Scope, Named, base_range_of, entity_at, entity_of, form_at, integer, integer_type, is_visible, number_of, with_name}
+use Rattle.types.specs.Values.{Value, Number}
 use Rattle.types.specs.Shapes.{has_shape, shape_of}
 use Rattle.types.specs.Standings.{stands_first}
-use Rattle.types.specs.Places.{Object, Function, Place, Meaning, IsObject, IsFunction, IsPredefined, IsProtected, IsSubtype, function_meaning, function_stands, is_of, meaning_in_scope, meaning_of, meaning_or, object_meaning, object_of, object_stands, or_else, own_components, own_function, own_object, package_function, package_object, stands_here}
-use Rattle.expr_rules.specs.Laws.{type_shape}
+use Rattle.types.specs.Places.{Object, Function, Place, Meaning, IsObject, IsPredefined, IsProtected, IsSubtype, function_meaning, function_stands, meaning_in_scope, meaning_of, meaning_or, object_meaning, object_of, object_stands, or_else, own_components, own_function, own_object, package_function, package_object, stands_here}
+use Rattle.expr_rules.specs.declared.own.Own.TheVariants.{Typed}
+use Rattle.expr_rules.specs.Typing.{is_integers}
+use Rattle.expr_rules.proofs.TypedLaw.{as_number, integral_numeric}
 use Rattle.declaring.specs.Laws.{StandsFirst}
-use Rattle.well_typed.specs.SoundScopes.{IsKnown, SoundScope}
-use Rattle.well_typed.specs.Agreeing.{Agrees, Means, MeansFunction, MeansObject, MeansProtected}
+use Rattle.well_typed.specs.SoundScopes.{IsKnown, IsSoundObject, SoundScope}
+use Rattle.well_typed.specs.Agreeing.{Agrees, Means, MeansFunction, MeansNumber, MeansObject, MeansOne}
 use Rattle.well_typed.specs.Laws.{AgreementIsKept, HasComponent, Replaces}
 use Rattle.well_typed.proofs.Positions.{entity_kept, entity_number, item_added, number_added, number_kept, same_some}
-use Rattle.well_typed.proofs.Parts.{same_values}
-use Rattle.well_typed.proofs.Goods.{not_empty}
-use Rattle.well_typed.proofs.Growing.{form_before, form_kept, known_kept, object_named, sound_with_object, type_shape_kept, values_kept}
+use Rattle.well_typed.proofs.Parts.{same_values, subtype_values}
+use Rattle.well_typed.proofs.Goods.{not_empty, object_known}
+use Rattle.well_typed.proofs.Hiding.{hidden}
+use Rattle.well_typed.proofs.Growing.{form_before, form_kept, grown, object_named, one_kept, sound_with_object, type_shape_kept, values_kept}
 
 -- ---- what a name means, by what is found of it
 
@@ -54,7 +57,8 @@ record IsStored (s : Scope) (old new : Meaning) : Type 0 where
   same : after.subtype ≡ before.subtype
   suited : has_shape (shape_of s after.subtype) after.value ≡ true
 
-stored_first : (s : Scope) (f g : Option Function) (o p q r : Option Object) (last : Meaning) → IsNewer s o p → IsStored s (meaning_by o f q g last) (meaning_by p f r g last)
+stored_first : (s : Scope) (f g : Option Function) (o p q r : Option Object) (last : Meaning) → IsNewer s o p
+    → IsStored s (meaning_by o f q g last) (meaning_by p f r g last)
 stored_first s f g o p q r last n =
     record {
       before = n.before;
@@ -91,7 +95,8 @@ object_alike : (s : Scope) (o p : Option Object) (w : Standing) → IsAlike s o 
 object_alike s o p w (inl e) = ap (λ x. object_stands x w) e
 object_alike s o p w (inr n) = ap (λ x. object_stands x w) n.stored ∙ ap (λ t. standing.Part role.Variable t) n.same ∙ sym (ap (λ x. object_stands x w) n.found)
 
-stands_alike : (s : Scope) (f g : Option Function) (o p q r : Option Object) (last : Standing) → IsAlike s o p → IsAlike s q r → stands_by p f r g last ≡ stands_by o f q g last
+stands_alike : (s : Scope) (f g : Option Function) (o p q r : Option Object) (last : Standing) → IsAlike s o p → IsAlike s q r
+    → stands_by p f r g last ≡ stands_by o f q g last
 stands_alike s f g o p q r last h k =
     object_alike s o p (function_stands f (object_stands r (function_stands g last))) h
     ∙ ap (λ w. object_stands o (function_stands f w)) (object_alike s q r (function_stands g last) k)
@@ -113,8 +118,13 @@ changed p schedule now variables components locals actions priority frames_left 
     }
 
 -- the shape of the values of a known subtype is the same in both scopes
-pub place_values : (s : Scope) (p : Place) → Agrees s p → (t : Subtype) (v : Value) → IsKnown s t → has_shape (shape_of p.scope t) v ≡ has_shape (shape_of s t) v
+pub place_values : (s : Scope) (p : Place) → Agrees s p → (t : Subtype) (v : Value) → IsKnown s t
+    → has_shape (shape_of p.scope t) v ≡ has_shape (shape_of s t) v
 place_values s p agrees t v known = let f = not_empty (form_at s t.type_number) known in same_values p.scope s t v (agrees.shapes t.type_number f.0 f.1)
+
+number_of_shape : (s : Scope) (t : Subtype) (v : Value) → is_integers (form_at s t.type_number) ≡ true → has_shape (shape_of s t) v ≡ true
+    → (z : ℤ) × (v ≡ Number z)
+number_of_shape s t v integers suited = as_number s (Typed t.type_number) v (integral_numeric s (Typed t.type_number) integers) (sym (subtype_values s t v) ∙ suited)
 
 object_subtype : (t : Subtype) (v : Value) (m : Meaning) (x : Object) → m ≡ IsObject t v → m ≡ IsObject x.subtype x.value → t ≡ x.subtype
 object_subtype t v m x h k = let f : Meaning → Subtype = λ m. elim m [ IsObject u v ↦ u | n ↦ t ] in ap f (sym h ∙ k)
@@ -126,7 +136,8 @@ module _ (s : Scope) (p : Place) (agrees : Agrees s p) (schedule : List Schedule
   abbrev Kept : List ℕ → Type 0
   Kept name = (meaning_of later name ≡ meaning_of p name) ⊎ IsStored p.scope (meaning_of p name) (meaning_of later name)
 
-  function_kept : (name : List ℕ) (profile : Profile) (r : Option Subtype) → Kept name → MeansFunction p (meaning_of p name) profile r → MeansFunction later (meaning_of later name) profile r
+  function_kept : (name : List ℕ) (profile : Profile) (r : Option Subtype) → Kept name → MeansFunction p (meaning_of p name) profile r
+      → MeansFunction later (meaning_of later name) profile r
   function_kept name profile (Some t) (inl e) h = (h.0, e ∙ h.1, h.2)
   function_kept name profile (Some t) (inr k) h = let e = sym k.found ∙ h.1 in cc
   function_kept name profile None k h = tt
@@ -141,11 +152,26 @@ module _ (s : Scope) (p : Place) (agrees : Agrees s p) (schedule : List Schedule
         suited = sym (place_values s p agrees t k.after.value known) ∙ subst (λ u. has_shape (shape_of p.scope u) k.after.value ≡ true) same k.suited;
       }
 
+  parameter_after : (name : List ℕ) → Kept name → MeansNumber p.scope (meaning_of p name) → MeansNumber p.scope (meaning_of later name)
+  parameter_after name (inl e) h = record { subtype = h.subtype; value = h.value; is = e ∙ h.is; integers = h.integers }
+  parameter_after name (inr k) h =
+      let t : Subtype = k.after.subtype in
+      let same : t ≡ h.subtype = k.same ∙ sym (object_subtype h.subtype (Number h.value) (meaning_of p name) k.before h.is k.found) in
+      let integers : is_integers (form_at p.scope t.type_number) ≡ true = ap (λ u. is_integers (form_at p.scope u.type_number)) same ∙ h.integers in
+      let number = number_of_shape p.scope t k.after.value integers k.suited in
+      record { subtype = t; value = number.0; is = k.stored ∙ ap (IsObject t) number.1; integers = integers }
+
+  one_after : (name : List ℕ) (r : Role) (t : Subtype) → IsKnown s t → Kept name → MeansOne s p.scope (meaning_of p name) r t
+      → MeansOne s p.scope (meaning_of later name) r t
+  one_after name role.LoopParameter t known k h = parameter_after name k h
+  one_after name r t known k h = object_kept name t known k h
+
   other_kept : (name : List ℕ) (m : Meaning) → ((t : Subtype) (v : Value) → IsObject t v ≢ m) → Kept name → meaning_of p name ≡ m → meaning_of later name ≡ m
   other_kept name m other (inl e) h = e ∙ h
   other_kept name m other (inr k) h = absurd (other k.before.subtype k.before.value (sym k.found ∙ h))
 
-  means_kept : (name : List ℕ) (number : ℕ) (e : Entity) → entity_at s number ≡ Some e → IsAlike p.scope (own_object p name) (own_object later name) → IsAlike p.scope (package_object p name) (package_object later name)
+  means_kept : (name : List ℕ) (number : ℕ) (e : Entity) → entity_at s number ≡ Some e → IsAlike p.scope (own_object p name) (own_object later name)
+      → IsAlike p.scope (package_object p name) (package_object later name)
       → Means s p name e → Means s later name e
   means_kept name number e at own outer h = by_entity e at h
     where
@@ -166,7 +192,7 @@ module _ (s : Scope) (p : Place) (agrees : Agrees s p) (schedule : List Schedule
       by_entity : (e : Entity) → entity_at s number ≡ Some e → Means s p name e → Means s later name e
       by_entity (OfType form t) at h = other_kept name (IsSubtype t) (λ u v k. cc) kept h
       by_entity (OfSubtype t) at h = other_kept name (IsSubtype t) (λ u v k. cc) kept h
-      by_entity (entity.Object r t) at h = object_kept name t (agrees.sound.each number (entity.Object r t) at) kept h
+      by_entity (entity.Object r t) at h = one_after name r t (object_known s r t (agrees.sound.each number (entity.Object r t) at)) kept h
       by_entity (Constant t v) at h = stands ∙ h
       by_entity (Literal b) at h = stands ∙ h
       by_entity Exception at h = tt
@@ -179,7 +205,8 @@ module _ (s : Scope) (p : Place) (agrees : Agrees s p) (schedule : List Schedule
       by_entity LibraryUnit at h = tt
       by_entity Doubtful at h = tt
 
-  changed_agrees : ((name : List ℕ) → IsAlike p.scope (own_object p name) (own_object later name)) → ((name : List ℕ) → IsAlike p.scope (package_object p name) (package_object later name)) → Agrees s later
+  changed_agrees : ((name : List ℕ) → IsAlike p.scope (own_object p name) (own_object later name))
+      → ((name : List ℕ) → IsAlike p.scope (package_object p name) (package_object later name)) → Agrees s later
   changed_agrees own outer =
       record {
         sound = agrees.sound;
@@ -190,7 +217,8 @@ module _ (s : Scope) (p : Place) (agrees : Agrees s p) (schedule : List Schedule
 
 -- ---- one object in front of others
 
-replaced : (s : Scope) (x : Object) (objects : List Object) (old : Object) → object_of objects x.name ≡ Some old → x.subtype ≡ old.subtype → has_shape (shape_of s x.subtype) x.value ≡ true
+replaced : (s : Scope) (x : Object) (objects : List Object) (old : Object) → object_of objects x.name ≡ Some old → x.subtype ≡ old.subtype
+    → has_shape (shape_of s x.subtype) x.value ≡ true
     → (name : List ℕ) → IsAlike s (object_of objects name) (object_of (x ∷ objects) name)
 replaced s x objects old found same suited name = by_test (bytes_eq x.name name) refl
   where
@@ -217,7 +245,8 @@ pub variable_kept : (s : Scope) (p : Place) (x : Object) → Agrees s p → Repl
 variable_kept s p x agrees r =
     changed_agrees s p agrees p.schedule p.now (x ∷ p.variables) p.components p.locals p.actions p.priority p.frames_left (λ name. inl refl) (replaced p.scope x p.variables r.old r.found r.same r.suited)
 
-components_alike : (p : Place) (object : ℕ) (x : Object) (after : ℕ → List Object) → Replaces p x (p.components object) → HasComponent p.components after object x → (n : ℕ) (name : List ℕ)
+components_alike : (p : Place) (object : ℕ) (x : Object) (after : ℕ → List Object) → Replaces p x (p.components object)
+    → HasComponent p.components after object x → (n : ℕ) (name : List ℕ)
     → IsAlike p.scope (object_of (p.components n) name) (object_of (after n) name)
 components_alike p object x after r has n name = by_test (nat_eq n object) refl
   where
@@ -228,12 +257,14 @@ components_alike p object x after r has n name = by_test (nat_eq n object) refl
         (subst (λ l. IsAlike p.scope (object_of (p.components object) name) (object_of l name)) (sym has.added) (replaced p.scope x (p.components object) r.old r.found r.same r.suited name))
     by_test false e = let differs : n ≢ object = λ k. grind (arith, e, k) in inl (ap (λ l. object_of l name) (has.others n differs))
 
-own_alike : (p : Place) (object : ℕ) (x : Object) (after : ℕ → List Object) → Replaces p x (p.components object) → HasComponent p.components after object x → (within : Option ℕ) (name : List ℕ)
+own_alike : (p : Place) (object : ℕ) (x : Object) (after : ℕ → List Object) → Replaces p x (p.components object) → HasComponent p.components after object x
+    → (within : Option ℕ) (name : List ℕ)
     → IsAlike p.scope (object_of (own_components p within) name) (object_of (own_components (record p { components = after }) within) name)
 own_alike p object x after r has (Some n) name = components_alike p object x after r has n name
 own_alike p object x after r has None name = inl refl
 
-pub component_kept : (s : Scope) (p : Place) (object : ℕ) (x : Object) (after : ℕ → List Object) → Agrees s p → Replaces p x (p.components object) → HasComponent p.components after object x
+pub component_kept : (s : Scope) (p : Place) (object : ℕ) (x : Object) (after : ℕ → List Object) → Agrees s p → Replaces p x (p.components object)
+    → HasComponent p.components after object x
     → Agrees s (record p { components = after })
 component_kept s p object x after agrees r has =
     changed_agrees s p agrees p.schedule p.now p.variables after p.locals p.actions p.priority p.frames_left
@@ -249,11 +280,14 @@ circumstances_kept s p schedule now actions priority frames_left agrees =
 -- ---- fewer names
 
 module _ (s more : Scope) (p : Place) (sound : SoundScope s) (agrees : Agrees (s ++ more) p) where
+  one_before : (m : Meaning) (r : Role) (t : Subtype) → IsKnown s t → MeansOne (s ++ more) p.scope m r t → MeansOne s p.scope m r t
+  one_before m role.LoopParameter t known h = h
+  one_before m r t known h = record { value = h.value; is = h.is; suited = sym (values_kept s (s ++ more) (grown s more) t h.value known) ∙ h.suited }
+
   means_before : (name : List ℕ) (number : ℕ) (e : Entity) → entity_at s number ≡ Some e → Means (s ++ more) p name e → Means s p name e
   means_before name number (OfType form t) at h = h
   means_before name number (OfSubtype t) at h = h
-  means_before name number (entity.Object r t) at h =
-      record { value = h.value; is = h.is; suited = sym (values_kept s more t h.value (sound.each number (entity.Object r t) at)) ∙ h.suited }
+  means_before name number (entity.Object r t) at h = one_before (meaning_of p name) r t (object_known s r t (sound.each number (entity.Object r t) at)) h
   means_before name number (Constant t v) at h = h
   means_before name number (Literal b) at h = h
   means_before name number Exception at h = tt
@@ -282,9 +316,10 @@ narrowed s t p first sound agrees =
 
 -- ---- a new object
 
-module _ (s : Scope) (p : Place) (name : List ℕ) (r : Role) (t : Subtype) (v : Value) (agrees : Agrees s p) (hidden : is_visible s name ≡ false) (known : IsKnown s t) (suited : has_shape (shape_of s t) v ≡ true) where
+-- a name for an object, which is one of subtype `u` at the place
+module _ (s : Scope) (p : Place) (name : List ℕ) (r : Role) (t u : Subtype) (v : Value) (agrees : Agrees s p) (hidden : is_visible s name ≡ false) (sound : IsSoundObject s r t) (means : (m : Meaning) → m ≡ IsObject u v → MeansOne (s ++ object_named name r t ∷ []) p.scope m r t) where
   abbrev added : Object
-  added = record { name = name; subtype = t; value = v }
+  added = record { name = name; subtype = u; value = v }
 
   abbrev inside : Place
   inside = record p { locals = added ∷ p.locals }
@@ -310,11 +345,11 @@ module _ (s : Scope) (p : Place) (name : List ℕ) (r : Role) (t : Subtype) (v :
   in_front other number h = inl (ap (λ b. or_else (cond b (Some added) (object_of p.locals other)) (object_of (own_components p p.within) other)) (own_differs other number h))
 
   means_wider : (other : List ℕ) (number : ℕ) (e : Entity) → entity_at s number ≡ Some e → Means s inside other e → Means wider inside other e
-  means_wider other number (OfType form u) at h = h
-  means_wider other number (OfSubtype u) at h = h
-  means_wider other number (entity.Object q u) at h =
-      record { value = h.value; is = h.is; suited = values_kept s (object_named name r t ∷ []) u h.value (agrees.sound.each number (entity.Object q u) at) ∙ h.suited }
-  means_wider other number (Constant u w) at h = h
+  means_wider other number (OfType form x) at h = h
+  means_wider other number (OfSubtype x) at h = h
+  means_wider other number (entity.Object q x) at h =
+      one_kept s wider (grown s (object_named name r t ∷ [])) p.scope (meaning_of inside other) q x (object_known s q x (agrees.sound.each number (entity.Object q x) at)) h
+  means_wider other number (Constant x w) at h = h
   means_wider other number (Literal b) at h = h
   means_wider other number Exception at h = tt
   means_wider other number (Subprogram profile) at h = h
@@ -336,9 +371,8 @@ module _ (s : Scope) (p : Place) (name : List ℕ) (r : Role) (t : Subtype) (v :
   new_name other e same is =
       let named : name ≡ other = sym ((bytes_eq-Decides other name).0 same) in
       let seen : bytes_eq name other ≡ true = ap (λ n. bytes_eq name n) (sym named) ∙ (bytes_eq-Decides name name).1 refl in
-      let means : MeansObject wider (meaning_of inside other) t =
-      record { value = v; is = ap (λ b. found_own (cond b (Some added) (object_of p.locals other)) other) seen; suited = values_kept s (object_named name r t ∷ []) t v known ∙ suited } in
-      subst (Means wider inside other) is means
+      let meant : meaning_of inside other ≡ IsObject u v = ap (λ b. found_own (cond b (Some added) (object_of p.locals other)) other) seen in
+      subst (Means wider inside other) is (means (meaning_of inside other) meant)
 
   names_wider : (other : List ℕ) (number : ℕ) (e : Entity) → number_of wider other ≡ Some number → entity_at wider number ≡ Some e → Means wider inside other e
   names_wider other number e numbered at =
@@ -347,7 +381,8 @@ module _ (s : Scope) (p : Place) (name : List ℕ) (r : Role) (t : Subtype) (v :
         | inr k ↦ (let last : entity.Object r t ≡ e = last_is s (object_named name r t) number e k.0 at in new_name other e k.1 last)
       ]
     where
-      entity_is : (a b : Scope) (other : List ℕ) (number : ℕ) → number_of a other ≡ Some number → (e : Entity) → entity_at (a ++ b) number ≡ Some e → entity_at a number ≡ Some e
+      entity_is : (a b : Scope) (other : List ℕ) (number : ℕ) → number_of a other ≡ Some number → (e : Entity) → entity_at (a ++ b) number ≡ Some e
+          → entity_at a number ≡ Some e
       entity_is a b other number h e at =
           let x = entity_number a other number h in
           x.1 ∙ sym (entity_kept a b number x.0 x.1) ∙ at
@@ -358,7 +393,7 @@ module _ (s : Scope) (p : Place) (name : List ℕ) (r : Role) (t : Subtype) (v :
   wider_agrees : Agrees wider inside
   wider_agrees =
       record {
-        sound = sound_with_object s name r t agrees.sound known;
+        sound = sound_with_object s name r t agrees.sound sound;
         forms = λ n form h. agrees.forms n form (form_before s name r t n form h);
         shapes =
             λ n form h. agrees.shapes n form (form_before s name r t n form h) ∙ sym (type_shape_kept s (object_named name r t ∷ []) n form (form_before s name r t n form h));
@@ -368,11 +403,41 @@ module _ (s : Scope) (p : Place) (name : List ℕ) (r : Role) (t : Subtype) (v :
   declared_agrees : Agrees (with_name s name (entity.Object r t)) inside
   declared_agrees = subst (λ b. Agrees (cond b s wider) inside) (sym hidden) wider_agrees
 
+integers_here : (s : Scope) (p : Place) → Agrees s p → (n : ℕ) → is_integers (form_at s n) ≡ true → is_integers (form_at p.scope n) ≡ true
+integers_here s p agrees n h = by_form (form_at s n) refl h
+  where
+    by_form : (o : Option TypeForm) → form_at s n ≡ o → is_integers o ≡ true → is_integers (form_at p.scope n) ≡ true
+    by_form (Some form) e k = ap is_integers (agrees.forms n form e) ∙ k
+    by_form None e k = cc
+
+module _ (s : Scope) (p : Place) (name : List ℕ) (agrees : Agrees s p) (hidden : is_visible s name ≡ false) where
+  -- an object of its own subtype
+  new_object : (r : Role) (t : Subtype) (v : Value) → IsSoundObject s r t → has_shape (shape_of s t) v ≡ true → (m : Meaning) → m ≡ IsObject t v
+      → MeansOne (s ++ object_named name r t ∷ []) p.scope m r t
+  new_object role.LoopParameter t v sound suited m h =
+      let number = number_of_shape s t v sound suited in
+      record { subtype = t; value = number.0; is = h ∙ ap (IsObject t) number.1; integers = integers_here s p agrees t.type_number sound }
+  new_object r t v sound suited m h =
+      record { value = v; is = h; suited = values_kept s (s ++ object_named name r t ∷ []) (grown s (object_named name r t ∷ [])) t v sound ∙ suited }
+
+  object_declared : (r : Role) (t : Subtype) (v : Value) → IsSoundObject s r t → has_shape (shape_of s t) v ≡ true
+      → Agrees (with_name s name (entity.Object r t)) (record p { locals = (let x : Object = record { name = name; subtype = t; value = v } in x) ∷ p.locals })
+  object_declared r t v sound suited = declared_agrees s p name r t t v agrees hidden sound (new_object r t v sound suited)
+
+  parameter_declared : (n : ℕ) (z : ℤ) → is_integers (form_at s n) ≡ true
+      → Agrees (with_name s name (entity.Object role.LoopParameter (base_range_of n)))
+      (record p { locals = (let x : Object = record { name = name; subtype = integer; value = Number z } in x) ∷ p.locals })
+  parameter_declared n z integers =
+      declared_agrees s p name role.LoopParameter (base_range_of n) integer (Number z) agrees hidden integers
+      (λ m h. record { subtype = integer; value = z; is = h; integers = ap is_integers (agrees.forms integer_type Integers agrees.sound.integer) })
+
 pub agreement_is_kept : AgreementIsKept
 agreement_is_kept =
     record {
       narrowed = narrowed;
-      declared = declared_agrees;
+      hidden = hidden;
+      declared = λ s p name r t v agrees unseen sound suited. object_declared s p name agrees unseen r t v sound suited;
+      parameter = λ s p name n z agrees unseen integers. parameter_declared s p name agrees unseen n z integers;
       local = local_kept;
       variable = variable_kept;
       component = component_kept;

@@ -1,42 +1,39 @@
 -- Calls, components and conversions with values in their parentheses: they come to what the name stands for with this part more.
-use Rattle.std.proofs.Common.{◌≡◌, ℕ, zero, suc, List, [], ◌∷◌, map, Bool, true, false, not, ◌&&◌, ◌⊎◌, inl, inr, Option, Some, None, refl, sym, ap, ◌∙◌, subst, arith}
-use Rattle.std.specs.Prelude.{⊤, bytes_eq, cond, is_none, length, nat_eq, nat_le, position, slice_get, unsigned_abs, ◌-ℤ◌, ℤ}
+use Rattle.std.proofs.Common.{◌≡◌, ℕ, suc, List, [], ◌∷◌, map, Bool, true, false, not, ◌&&◌, inl, inr, Option, Some, None, refl, sym, ap, ◌∙◌, subst, arith}
+use Rattle.std.specs.Prelude.{⊤, bytes_eq, cond, is_none, length, nat_eq, nat_le, position, ℤ}
 use Rattle.ada_tree.specs.declared.expression.Identifier.{Identifier}
-use Rattle.ada_tree.specs.ExpressionTree.{SelectorTree, Component, Arguments, Attribute, ArgumentTrees}
+use Rattle.ada_tree.specs.ExpressionTree.{Component}
 use Rattle.types.specs.declared.entity.Subtype.{Subtype}
 use Rattle.types.specs.declared.entity.Role.{Role}
-use Rattle.types.specs.declared.entity.RecordComponent.{RecordComponent}
-use Rattle.types.specs.declared.entity.Value.{Value as Scalar}
 use Rattle.types.specs.declared.entity.FormalParameter.{FormalParameter}
 use Rattle.types.specs.declared.entity.PredefinedOperation.{PredefinedOperation}
 use Rattle.types.specs.declared.entity.PredefinedOperation.TheVariants as predefined
 use Rattle.types.specs.declared.standing.Callee.TheVariants as callee
 use Rattle.types.specs.declared.standing.Standing.{Standing}
 use Rattle.types.specs.declared.standing.Standing.TheVariants as standing
-use Rattle.types.specs.Entities.{TypeForm, Integers, Booleans, Times, Spans, Arrays, Records, Profile, Operation, ProtectedObject}
-use Rattle.types.specs.Scopes.{Scope, form_at, integer, integer_type, protected_at}
-use Rattle.types.specs.Values.{Value, Number, Truth, Array, Record, Fields, element_at, field_of, fits}
+use Rattle.types.specs.Entities.{TypeForm, Records, Profile, ProtectedObject}
+use Rattle.types.specs.Scopes.{Scope, form_at, integer_type, protected_at}
+use Rattle.types.specs.Values.{Value, Number, Record, Fields, field_of}
 use Rattle.types.specs.Shapes.{has_shape, shape_of}
-use Rattle.types.specs.Standings.{call_stands, called_operation, callee_profile, component_of, component_stands, conversion_stands, count, element_stands, is_single, object_attribute, operation_profile, operation_stands, part_of, profile_among, result_stands, select, settle, subtype_attribute}
+use Rattle.types.specs.Standings.{call_stands, called_operation, callee_profile, component_of, component_stands, operation_profile, operation_stands, part_of, profile_among, result_stands, select, settle}
 use Rattle.base.specs.declared.exceptions.PredefinedException.TheVariants.{ProgramError}
-use Rattle.types.specs.Evaluations.{Val, Gives, Raises, Meaningless, and_then, raise}
-use Rattle.types.specs.Places.{Formal, Function, Place, Meaning, IsObject, IsFunction, IsPredefined, IsSubtype, IsProtected, IsValue, active_priority, function_of, is_among}
-use Rattle.types.specs.Evaluating.{Calls, actuals_with, applied, as_value, called, channels, chosen, element_meaning, ended, external_call, field_meaning, fixed_value, formal_subtype, function_through, object_or_nothing, part_with, predefined_value, wanted, wanted_by_conversion, wanted_by_index, wanted_by_operation}
+use Rattle.types.specs.Evaluations.{Val, Gives, Raises, Meaningless, raise}
+use Rattle.types.specs.Places.{Formal, Function, Place, Meaning, IsObject, active_priority, function_of, is_among}
+use Rattle.types.specs.Evaluating.{Calls, called, chosen, ended, external_call, field_meaning, formal_subtype, function_through, object_or_nothing, predefined_value, wanted_by_operation}
 use Rattle.expr_rules.specs.declared.own.Own.TheVariants.{Typed}
-use Rattle.expr_rules.specs.Faults.{rule}
-use Rattle.expr_rules.specs.Typing.{is_integers, is_spans, is_times, own_of_standing}
-use Rattle.expr_rules.specs.NameRules.{component_rule, count_rule, end_rule, is_doubtful, operation_rule, part_rule, profile_formals, value_rule}
+use Rattle.expr_rules.specs.Typing.{is_integers, own_of_standing}
+use Rattle.expr_rules.specs.NameRules.{component_rule, count_rule, end_rule, operation_rule, part_rule, profile_formals, value_rule}
 use Rattle.expr_rules.specs.Laws.{suits, type_shape}
 use Rattle.expr_rules.proofs.TypedLaw.{as_number, integral_numeric, span_numeric, suits_computed, suits_number, time_numeric, unbroken}
-use Rattle.well_typed.specs.SoundScopes.{HasOperation, IsKnown, IsSoundPredefined, IsSoundProfile, IsSoundResult, integer_formal}
-use Rattle.well_typed.specs.Agreeing.{Agrees, HasProfile, MeansObject, MeansProtected, OffersFunction, parameter_subtype}
+use Rattle.well_typed.specs.SoundScopes.{HasOperation, IsKnown, IsSoundPredefined, IsSoundProfile, IsSoundResult}
+use Rattle.well_typed.specs.Agreeing.{Agrees, HasProfile, MeansProtected, OffersFunction, parameter_subtype}
 use Rattle.well_typed.specs.Answers.{CallsAnswer, are_actuals}
 use Rattle.well_typed.proofs.Positions.{found_at, place_is, same_some}
 use Rattle.well_typed.proofs.Parts.{same_values, subtype_values}
-use Rattle.well_typed.proofs.Goods.{Good, GoodCallee, good_select, no_constant_parts, not_empty, not_none, sound_form, sound_operation, sound_result}
+use Rattle.well_typed.proofs.Goods.{Good, GoodCallee, good_select, no_constant_parts, no_integer_parts, not_empty, not_none}
 use Rattle.well_typed.proofs.FixedNames.{same_form}
-use Rattle.well_typed.proofs.Elements.{array_element, record_field}
-use Rattle.well_typed.proofs.Denoting.{AllKnown, AreValues, CanBeCalled, Comes, Denotes, DenotesCallee, DenotesProtected, DenotesResult, IsDeclared, IsOfLanguage, Meant, MeansValue, formals_known, gives_nothing, is_empty, is_statement}
+use Rattle.well_typed.proofs.Elements.{record_field}
+use Rattle.well_typed.proofs.Denoting.{AllKnown, AreValues, CanBeCalled, Comes, Denotes, DenotesCallee, DenotesProtected, DenotesResult, IsDeclared, Meant, MeansParameter, MeansPart, formals_known, gives_nothing, is_empty, is_statement}
 
 abbrev pub ActualsSuit : Scope → List Subtype → Val (List Value) → Type 0
 ActualsSuit s ts (Gives vs) = AreValues s ts vs
@@ -67,10 +64,12 @@ module _ (s : Scope) (integers : is_integers (form_at s integer_type) ≡ true) 
   integer_number : (v : Value) → has_shape (type_shape s integer_type) v ≡ true → (z : ℤ) × (v ≡ Number z)
   integer_number v h = as_number s (Typed integer_type) v (integral_numeric s (Typed integer_type) integers) h
 
-  result_type : {formals : List FormalParameter} {test : Option TypeForm → Bool} (p : Profile) (t : Subtype) → (h : HasOperation s formals test p) → p.result ≡ Some t → test (form_at s t.type_number) ≡ true
+  result_type : {formals : List FormalParameter} {test : Option TypeForm → Bool} (p : Profile) (t : Subtype) → (h : HasOperation s formals test p)
+      → p.result ≡ Some t → test (form_at s t.type_number) ≡ true
   result_type {test = test} p t h r = let same : h.subtype ≡ t = same_some h.subtype t (sym h.result ∙ r) in subst (λ u. test (form_at s u.type_number) ≡ true) same h.form
 
-  pub predefined_suits : (p : Place) (o : PredefinedOperation) (profile : Profile) (t : Subtype) (vs : List Value) → IsSoundPredefined s o profile → profile.result ≡ Some t → AreValues s (wanted_by_operation o) vs
+  pub predefined_suits : (p : Place) (o : PredefinedOperation) (profile : Profile) (t : Subtype) (vs : List Value) → IsSoundPredefined s o profile
+      → profile.result ≡ Some t → AreValues s (wanted_by_operation o) vs
       → suits s (Typed t.type_number) (predefined_value p o vs) ≡ true
   predefined_suits p predefined.Clock profile t [] sound r h = suits_number s (Typed t.type_number) (time_numeric s (Typed t.type_number) (result_type profile t sound r)) p.now
   predefined_suits p predefined.Clock profile t (v ∷ vs) sound r h = absurd h
@@ -101,7 +100,8 @@ same_suits s u n (Raises x) h = refl
 same_suits s u n Meaningless h = refl
 
 module _ (s : Scope) (p : Place) (agrees : Agrees s p) (calls : Calls) (answers : CallsAnswer calls p) where
-  actuals_fit : (fs : List Formal) (vs : List Value) → AllKnown s (map formal_subtype fs) → AreValues s (map formal_subtype fs) vs → are_actuals p.scope fs vs ≡ true
+  actuals_fit : (fs : List Formal) (vs : List Value) → AllKnown s (map formal_subtype fs) → AreValues s (map formal_subtype fs) vs
+      → are_actuals p.scope fs vs ≡ true
   actuals_fit [] [] known h = refl
   actuals_fit [] (v ∷ vs) known h = absurd h
   actuals_fit (f ∷ fs) [] known h = absurd h
@@ -112,7 +112,8 @@ module _ (s : Scope) (p : Place) (agrees : Agrees s p) (calls : Calls) (answers 
       ap (λ b. b && are_actuals p.scope fs vs) first ∙ actuals_fit fs vs known.1 h.2
 
   -- a function's result is of its type
-  returned : (owner : Option ℕ) (name : List ℕ) (f : Function) (profile : Profile) (t : Subtype) (vs : List Value) → function_of p.functions owner name ≡ Some f → HasProfile f profile → IsSoundProfile s profile
+  returned : (owner : Option ℕ) (name : List ℕ) (f : Function) (profile : Profile) (t : Subtype) (vs : List Value) → function_of p.functions owner name ≡ Some f
+      → HasProfile f profile → IsSoundProfile s profile
       → profile.result ≡ Some t → AreValues s (map formal_subtype f.formals) vs → (actions : List ℕ) → suits s (Typed t.type_number) (calls (record p { actions = actions }) f vs) ≡ true
   returned owner name f profile t vs found has sound r h actions =
       let same : f.result ≡ t = same_some f.result t (sym has.result ∙ r) in
@@ -137,41 +138,55 @@ module _ (s : Scope) (p : Place) (agrees : Agrees s p) (calls : Calls) (answers 
   called_suits f None t vs all = all p.actions
   called_suits f (Some o) t vs all = external_suits f o t vs all
 
-  pub declared_suits : (m : Meaning) (profile : Profile) (t : Subtype) (d : IsDeclared p m profile) (vs : List Value) → IsSoundProfile s profile → profile.result ≡ Some t → AreValues s (map formal_subtype d.function.formals) vs
+  pub declared_suits : (m : Meaning) (profile : Profile) (t : Subtype) (d : IsDeclared p m profile) (vs : List Value) → IsSoundProfile s profile
+      → profile.result ≡ Some t → AreValues s (map formal_subtype d.function.formals) vs
       → suits s (Typed t.type_number) (called calls p d.function d.through vs) ≡ true
   declared_suits m profile t d vs sound r h = called_suits d.function d.through t vs (returned d.owner d.name d.function profile t vs d.found d.profiled sound r h)
 
   -- ---- where a name ends
 
-  no_formals : (fs : List FormalParameter) (f : Function) → map formal_subtype f.formals ≡ map parameter_subtype fs → 0 ≡ length fs → AreValues s (map formal_subtype f.formals) []
+  no_formals : (fs : List FormalParameter) (f : Function) → map formal_subtype f.formals ≡ map parameter_subtype fs → 0 ≡ length fs
+      → AreValues s (map formal_subtype f.formals) []
   no_formals fs f same none = no_values s (map formal_subtype f.formals) (ap length same ∙ mapped_length parameter_subtype fs ∙ sym none)
 
-  no_parameters : (o : PredefinedOperation) (profile : Profile) → IsSoundPredefined s o profile → 0 ≡ length profile.formals → AreValues s (wanted_by_operation o) []
+  no_parameters : (o : PredefinedOperation) (profile : Profile) → IsSoundPredefined s o profile → 0 ≡ length profile.formals
+      → AreValues s (wanted_by_operation o) []
   no_parameters predefined.Clock profile h none = tt
   no_parameters predefined.Milliseconds profile h none = let k = none ∙ ap length h.takes in cc
   no_parameters predefined.Microseconds profile h none = let k = none ∙ ap length h.takes in cc
   no_parameters predefined.Read profile h none = let k = none ∙ ap length h.takes in cc
 
-  call_ended : (m : Meaning) (profile : Profile) (t : Subtype) → IsSoundProfile s profile → profile.result ≡ Some t → 0 ≡ length profile.formals → CanBeCalled s p m profile → suits s (Typed t.type_number) (ended calls p m) ≡ true
+  call_ended : (m : Meaning) (profile : Profile) (t : Subtype) → IsSoundProfile s profile → profile.result ≡ Some t → 0 ≡ length profile.formals
+      → CanBeCalled s p m profile → suits s (Typed t.type_number) (ended calls p m) ≡ true
   call_ended m profile t sound r none (inl d) =
       ap (λ n. suits s (Typed t.type_number) (ended calls p n)) d.is ∙ declared_suits m profile t d [] sound r (no_formals profile.formals d.function d.profiled.formals none)
   call_ended m profile t sound r none (inr d) =
       ap (λ n. suits s (Typed t.type_number) (ended calls p n)) d.is
       ∙ predefined_suits s (ap is_integers agrees.sound.integer) p d.operation profile t [] d.sound r (no_parameters d.operation profile d.sound none)
 
-  result_ended : (place : ℕ) (m : Meaning) (profile : Profile) (r : Option Subtype) → profile.result ≡ r → IsSoundProfile s profile → 0 ≡ length profile.formals → DenotesResult s p profile r m
+  result_ended : (place : ℕ) (m : Meaning) (profile : Profile) (r : Option Subtype) → profile.result ≡ r → IsSoundProfile s profile → 0 ≡ length profile.formals
+      → DenotesResult s p profile r m
       → value_rule place (result_stands r) ≡ [] → suits s (own_of_standing (result_stands r)) (ended calls p m) ≡ true
   result_ended place m profile (Some t) e sound none d v = call_ended m profile t sound e none d
   result_ended place m profile None e sound none d v = cc
 
-  callee_ended : (place : ℕ) (m : Meaning) (o : Option Profile) → GoodCallee s o → DenotesCallee s p o m → count_rule place 0 (length (profile_formals o)) ≡ [] → value_rule place (call_stands o) ≡ []
+  callee_ended : (place : ℕ) (m : Meaning) (o : Option Profile) → GoodCallee s o → DenotesCallee s p o m → count_rule place 0 (length (profile_formals o)) ≡ []
+      → value_rule place (call_stands o) ≡ []
       → suits s (own_of_standing (call_stands o)) (ended calls p m) ≡ true
   callee_ended place m (Some profile) g d h v = result_ended place m profile profile.result refl g (one_count place 0 (length profile.formals) h) d v
   callee_ended place m None g d h v = absurd g
 
-  pub ended_suits : (place : ℕ) (w : Standing) (m : Meaning) → Good s w → Denotes s p w m → is_empty s w ≡ false → end_rule s place w ≡ [] → value_rule place (settle s w) ≡ []
+  number_suits : (t : Subtype) (m : Meaning) → MeansParameter s p.scope m t → suits s (Typed t.type_number) (ended calls p m) ≡ true
+  number_suits t m d = ap (λ n. suits s (Typed t.type_number) (ended calls p n)) d.number.is ∙ suits_number s (Typed t.type_number) (integral_numeric s (Typed t.type_number) d.integers) d.number.value
+
+  part_ended : (t : Subtype) (m : Meaning) → MeansPart s p.scope m t → suits s (Typed t.type_number) (ended calls p m) ≡ true
+  part_ended t m (inl d) = ap (λ n. suits s (Typed t.type_number) (ended calls p n)) d.is ∙ sym (subtype_values s t d.value) ∙ d.suited
+  part_ended t m (inr d) = number_suits t m d
+
+  pub ended_suits : (place : ℕ) (w : Standing) (m : Meaning) → Good s w → Denotes s p w m → is_empty s w ≡ false → end_rule s place w ≡ []
+      → value_rule place (settle s w) ≡ []
       → suits s (own_of_standing (settle s w)) (ended calls p m) ≡ true
-  ended_suits place (standing.Part r t) m g d e h v = ap (λ n. suits s (Typed t.type_number) (ended calls p n)) d.is ∙ sym (subtype_values s t d.value) ∙ d.suited
+  ended_suits place (standing.Part r t) m g d e h v = part_ended t m d
   ended_suits place (standing.Given t None) m g d e h v = ap (λ n. suits s (Typed t.type_number) (ended calls p n)) d.is ∙ d.suited
   ended_suits place (standing.Callee f) m g d e h v = callee_ended place m (callee_profile s f) g d h v
   ended_suits place (standing.Named t) m g d e h v = cc
@@ -187,23 +202,27 @@ module _ (s : Scope) (p : Place) (agrees : Agrees s p) (calls : Calls) (answers 
 
   -- ---- components and operations
 
-  field_comes : (place : ℕ) (name : Identifier) (r : Role) (t : Subtype) (v : Value) (o : Option TypeForm) → form_at s t.type_number ≡ o → has_shape (shape_of s t) v ≡ true → component_rule place name o ≡ []
+  field_comes : (place : ℕ) (name : Identifier) (r : Role) (t : Subtype) (v : Value) (o : Option TypeForm) → form_at s t.type_number ≡ o
+      → has_shape (shape_of s t) v ≡ true → component_rule place name o ≡ []
       → Comes s p (component_stands r o name.name) (field_meaning o v name.name)
   field_comes place name r t v (Some (Records cs)) e suited h =
       let named = not_none (component_of cs name.name) (unbroken 10 name.place (is_none (component_of cs name.name)) h) in
       let found = record_field s agrees.sound t cs name.name named.0 v e suited named.1 in
       subst (λ c. Comes s p (part_of r c) (field_meaning (Some (Records cs)) v name.name)) (sym named.1)
       (subst (λ x. Comes s p (standing.Part r named.0) x) (sym (meaning_is named.0 found.0 found.2 named.1 found.1 found.3))
-      (record { value = found.2; is = refl; suited = found.4 }))
+      (inl (record { value = found.2; is = refl; suited = found.4 })))
     where
-      meaning_is : (u : Subtype) (fs : Fields) (x : Value) → component_of cs name.name ≡ Some u → v ≡ Record fs → field_of fs name.name ≡ Some x → field_meaning (Some (Records cs)) v name.name ≡ Gives (IsObject u x)
+      meaning_is : (u : Subtype) (fs : Fields) (x : Value) → component_of cs name.name ≡ Some u → v ≡ Record fs → field_of fs name.name ≡ Some x
+          → field_meaning (Some (Records cs)) v name.name ≡ Gives (IsObject u x)
       meaning_is u fs x a b c =
           ap (λ w. field_meaning (Some (Records cs)) w name.name) b ∙ ap (λ k. object_or_nothing k (field_of fs name.name)) a ∙ ap (λ k. object_or_nothing (Some u) k) c
   field_comes place name r t v o e suited h = cc
 
-  part_component : (place : ℕ) (name : Identifier) (r : Role) (t : Subtype) (m : Meaning) → IsKnown s t → MeansObject s m t → component_rule place name (form_at s t.type_number) ≡ []
+  part_component : (place : ℕ) (name : Identifier) (r : Role) (t : Subtype) (m : Meaning) → IsKnown s t → MeansPart s p.scope m t
+      → component_rule place name (form_at s t.type_number) ≡ []
       → Comes s p (component_stands r (form_at s t.type_number) name.name) (chosen p m name.name)
-  part_component place name r t m known d h =
+  part_component place name r t m known (inr d) h = absurd (no_integer_parts s agrees.sound place r t (Component name) d.integers h)
+  part_component place name r t m known (inl d) h =
       subst (λ n. Comes s p (component_stands r (form_at s t.type_number) name.name) (chosen p n name.name)) (sym d.is)
       (subst (λ o. Comes s p (component_stands r (form_at s t.type_number) name.name) (field_meaning o d.value name.name)) (sym (same_form s p agrees t.type_number known))
       (field_comes place name r t d.value (form_at s t.type_number) refl d.suited h))
@@ -222,12 +241,14 @@ module _ (s : Scope) (p : Place) (agrees : Agrees s p) (calls : Calls) (answers 
       by_function (Some f) = tt
       by_function None = refl
 
-  operation_comes : (n : ℕ) (name : Identifier) (o : ProtectedObject) (m : Meaning) → protected_at s n ≡ Some o → MeansProtected p m o → operation_rule name (Some o) ≡ []
+  operation_comes : (n : ℕ) (name : Identifier) (o : ProtectedObject) (m : Meaning) → protected_at s n ≡ Some o → MeansProtected p m o
+      → operation_rule name (Some o) ≡ []
       → Comes s p (operation_stands n (Some o) name.name) (chosen p m name.name)
   operation_comes n name o m at d h =
       by_place (position (λ x. bytes_eq x.name name.name) o.operations) refl (unbroken 10 name.place (is_none (position (λ x. bytes_eq x.name name.name) o.operations)) h)
     where
-      by_place : (k : Option ℕ) → position (λ x. bytes_eq x.name name.name) o.operations ≡ k → is_none k ≡ false → Comes s p (called_operation n k) (chosen p m name.name)
+      by_place : (k : Option ℕ) → position (λ x. bytes_eq x.name name.name) o.operations ≡ k → is_none k ≡ false
+          → Comes s p (called_operation n k) (chosen p m name.name)
       by_place (Some k) e some =
           let found = found_at (λ x. bytes_eq x.name name.name) o.operations k (sym (place_is (λ x. bytes_eq x.name name.name) o.operations) ∙ e) in
           let is : callee_profile s (callee.Operation n k) ≡ Some found.0.profile = ap (λ x. profile_among x k) at ∙ ap operation_profile found.1 in
@@ -236,11 +257,13 @@ module _ (s : Scope) (p : Place) (agrees : Agrees s p) (calls : Calls) (answers 
           (offered d.object name.name found.0.profile found.0.profile.result (d.offers name.name k found.0 e found.1)))
       by_place None e some = cc
 
-  object_operation : (n : ℕ) (name : Identifier) (o : Option ProtectedObject) (m : Meaning) → protected_at s n ≡ o → DenotesProtected p o m → operation_rule name o ≡ [] → Comes s p (operation_stands n o name.name) (chosen p m name.name)
+  object_operation : (n : ℕ) (name : Identifier) (o : Option ProtectedObject) (m : Meaning) → protected_at s n ≡ o → DenotesProtected p o m
+      → operation_rule name o ≡ [] → Comes s p (operation_stands n o name.name) (chosen p m name.name)
   object_operation n name (Some o) m at d h = operation_comes n name o m at d h
   object_operation n name None m at d h = cc
 
-  pub component_comes : (place : ℕ) (name : Identifier) (w : Standing) (m : Meaning) → Good s w → Denotes s p w m → part_rule s place w (Component name) ≡ [] → Comes s p (select s w (Component name)) (chosen p m name.name)
+  pub component_comes : (place : ℕ) (name : Identifier) (w : Standing) (m : Meaning) → Good s w → Denotes s p w m → part_rule s place w (Component name) ≡ []
+      → Comes s p (select s w (Component name)) (chosen p m name.name)
   component_comes place name (standing.Part r t) m g d h = part_component place name r t m g d h
   component_comes place name (standing.Protected n) m g d h = object_operation n name (protected_at s n) m refl d h
   component_comes place name (standing.Fixed t c) m g d h = absurd (no_constant_parts s agrees.sound place t c (Component name) g h)

@@ -1,17 +1,17 @@
 -- Calls of sound functions are answered, by induction on the frames that are left.
-use Rattle.std.proofs.Common.{◌≡◌, ℕ, zero, suc, List, Bool, true, false, Option, Some, None, refl, sym, ap, ◌∙◌, subst}
+use Rattle.std.proofs.Common.{◌≡◌, ℕ, zero, suc, List, Bool, true, false, refl, ◌∙◌}
 use Rattle.std.specs.Prelude.{cond}
 use Rattle.base.specs.declared.exceptions.PredefinedException.TheVariants.{ConstraintError}
 use Rattle.types.specs.declared.entity.Subtype.{Subtype}
 use Rattle.types.specs.Scopes.{Scope, form_at}
 use Rattle.types.specs.Values.{Value, fits}
 use Rattle.types.specs.Evaluations.{Val, Gives, Raises, Meaningless, and_then, raise}
-use Rattle.types.specs.Places.{Function, Place, function_of}
+use Rattle.types.specs.Places.{Function, Place}
 use Rattle.types.specs.Evaluating.{call, entered, passed, value_with}
 use Rattle.expr_rules.specs.declared.own.Own.TheVariants.{Typed}
 use Rattle.expr_rules.specs.Laws.{suits}
 use Rattle.well_typed.specs.Agreeing.{Agrees}
-use Rattle.well_typed.specs.Answers.{CallsAnswer, FunctionsAreSound, IsSoundBody, are_actuals}
+use Rattle.well_typed.specs.Answers.{CallsAnswer, FunctionsAreSound, IsSoundBody}
 use Rattle.well_typed.specs.Laws.{CallsAreTyped}
 use Rattle.well_typed.proofs.Goods.{not_empty}
 use Rattle.well_typed.proofs.Applying.{same_suits}

@@ -1,38 +1,46 @@
 -- What a meaning has to be where a legal name stands for this: an object of the subtype, a function of the profile, and so on.
-use Rattle.std.proofs.Common.{◌≡◌, ℕ, zero, suc, List, [], ◌∷◌, map, Bool, true, false, not, ◌⊎◌, inl, inr, Option, Some, None, refl, sym, ap, ◌∙◌, subst, arith}
-use Rattle.std.specs.Prelude.{⊤, cond, length, nat_eq, nat_le}
+use Rattle.std.proofs.Common.{◌≡◌, ℕ, List, [], ◌∷◌, map, Bool, true, false, ◌⊎◌, inl, inr, Option, Some, None, sym, ◌∙◌}
+use Rattle.std.specs.Prelude.{⊤}
 use Rattle.ada_tree.specs.ExpressionTree.{SelectorTrees, NoSelectors, MoreSelectors, SelectorTree, Component, Arguments, Attribute}
 use Rattle.types.specs.declared.entity.Subtype.{Subtype}
+use Rattle.types.specs.declared.entity.Role.{Role}
+use Rattle.types.specs.declared.entity.Role.TheVariants as role
 use Rattle.types.specs.declared.entity.Value.{Value as Scalar}
 use Rattle.types.specs.declared.entity.FormalParameter.{FormalParameter}
 use Rattle.types.specs.declared.entity.PredefinedOperation.{PredefinedOperation}
-use Rattle.types.specs.declared.entity.PredefinedOperation.TheVariants as predefined
 use Rattle.types.specs.declared.standing.Standing.{Standing}
 use Rattle.types.specs.declared.standing.Standing.TheVariants as standing
-use Rattle.types.specs.Entities.{TypeForm, Integers, Arrays, Profile, ProtectedObject}
-use Rattle.types.specs.Scopes.{Scope, form_at, integer, integer_type, protected_at}
-use Rattle.types.specs.Values.{Value, Number, fits}
-use Rattle.types.specs.Shapes.{has_shape, shape_of}
-use Rattle.types.specs.Standings.{call_stands, callee_profile, result_stands, select, select_all, settle}
+use Rattle.types.specs.Entities.{Profile, ProtectedObject}
+use Rattle.types.specs.Scopes.{Scope, form_at, protected_at}
+use Rattle.types.specs.Values.{Value, fits}
+use Rattle.types.specs.Shapes.{has_shape}
+use Rattle.types.specs.Standings.{call_stands, callee_profile, result_stands, select, select_all}
 use Rattle.types.specs.Evaluations.{Val, Gives, Raises, Meaningless}
-use Rattle.types.specs.Places.{Formal, Function, Place, Meaning, IsObject, IsFunction, IsPredefined, IsSubtype, IsProtected, IsValue, active_priority, function_of, is_among}
-use Rattle.types.specs.Evaluating.{Calls, called, external_call, fixed_value, formal_subtype, predefined_value, wanted_by_operation}
-use Rattle.expr_rules.specs.declared.own.Own.{Own}
-use Rattle.expr_rules.specs.declared.own.Own.TheVariants.{Typed}
-use Rattle.expr_rules.specs.Faults.{rule}
-use Rattle.expr_rules.specs.Typing.{is_integers, is_known, is_spans, is_times, own_of_standing}
+use Rattle.types.specs.Places.{Function, Place, Meaning, IsFunction, IsPredefined, IsSubtype, IsValue, function_of}
+use Rattle.types.specs.Evaluating.{fixed_value}
+use Rattle.expr_rules.specs.Typing.{is_integers}
 use Rattle.expr_rules.specs.NameRules.{part_rule, value_rule}
 use Rattle.expr_rules.specs.ExpressionRules.{selector_faults, selectors_faults}
-use Rattle.expr_rules.specs.Laws.{suits, type_shape}
-use Rattle.expr_rules.proofs.TypedLaw.{as_number, back_empty, front_empty, integral_numeric, span_numeric, suits_computed, suits_number, time_numeric, unbroken}
-use Rattle.well_typed.specs.SoundScopes.{AreKnown, HasOperation, IsKnown, IsSoundPredefined, IsSoundProfile, SoundScope, integer_formal}
-use Rattle.well_typed.specs.Agreeing.{Agrees, HasProfile, MeansObject, MeansProtected, parameter_subtype}
-use Rattle.well_typed.specs.Answers.{CallsAnswer, are_actuals}
-use Rattle.well_typed.proofs.Positions.{same_some}
-use Rattle.well_typed.proofs.Parts.{same_values, subtype_values}
-use Rattle.well_typed.proofs.Goods.{Good, GoodCallee, good_select, no_constant_parts, not_empty, part_unbroken}
+use Rattle.expr_rules.specs.Laws.{type_shape}
+use Rattle.expr_rules.proofs.TypedLaw.{back_empty, front_empty}
+use Rattle.well_typed.specs.SoundScopes.{AreKnown, IsKnown, IsSoundObject, IsSoundPredefined, SoundScope}
+use Rattle.well_typed.specs.Agreeing.{HasProfile, MeansNumber, MeansObject, MeansOne, MeansProtected, parameter_subtype}
+use Rattle.well_typed.proofs.Goods.{Good, GoodCallee, good_select, no_constant_parts, part_unbroken}
 
 -- ---- what is meant
+
+-- a loop parameter
+pub record MeansParameter (s here : Scope) (m : Meaning) (t : Subtype) : Type 0 where
+  pub number : MeansNumber here m
+  pub integers : is_integers (form_at s t.type_number) ≡ true
+
+-- an object: a loop parameter, or one of this subtype
+abbrev pub MeansPart : Scope → (here : Scope) → Meaning → Subtype → Type 0
+MeansPart s here m t = MeansObject s m t ⊎ MeansParameter s here m t
+
+pub means_part : (s here : Scope) (m : Meaning) (r : Role) (t : Subtype) → IsSoundObject s r t → MeansOne s here m r t → MeansPart s here m t
+means_part s here m role.LoopParameter t sound h = inr (record { number = h; integers = sound })
+means_part s here m r t sound h = inl h
 
 pub record MeansValue (s : Scope) (m : Meaning) (t : Subtype) : Type 0 where
   pub value : Value
@@ -73,7 +81,7 @@ DenotesGiven s t None m = MeansValue s m t
 DenotesGiven s t (Some v) m = ⊤
 
 abbrev pub Denotes : Scope → Place → Standing → Meaning → Type 0
-Denotes s p (standing.Part r t) m = MeansObject s m t
+Denotes s p (standing.Part r t) m = MeansPart s p.scope m t
 Denotes s p (standing.Named t) m = m ≡ IsSubtype t
 Denotes s p (standing.Given t v) m = DenotesGiven s t v m
 Denotes s p (standing.Callee f) m = DenotesCallee s p (callee_profile s f) m
@@ -124,17 +132,20 @@ formals_known s (f ∷ fs) h = (h.0, formals_known s fs h.1)
 -- ---- legal names that are empty
 
 module _ (s : Scope) (sound : SoundScope s) where
-  statement_ends : (place : ℕ) (selectors : SelectorTrees) → selectors_faults s place standing.Statement selectors ≡ [] → value_rule place (select_all s standing.Statement selectors) ≡ [] → ⊥
+  statement_ends : (place : ℕ) (selectors : SelectorTrees) → selectors_faults s place standing.Statement selectors ≡ []
+      → value_rule place (select_all s standing.Statement selectors) ≡ [] → ⊥
   statement_ends place NoSelectors h v = cc
   statement_ends place (MoreSelectors x rest) h v =
       let here = front_empty (selector_faults s place standing.Statement x) (selectors_faults s place (select s standing.Statement x) rest) h in
       good_select s sound place standing.Statement x tt (part_unbroken s sound place standing.Statement x here)
 
-  result_ends : (place : ℕ) (selectors : SelectorTrees) (r : Option Subtype) → gives_nothing r ≡ true → selectors_faults s place (result_stands r) selectors ≡ [] → value_rule place (select_all s (result_stands r) selectors) ≡ [] → ⊥
+  result_ends : (place : ℕ) (selectors : SelectorTrees) (r : Option Subtype) → gives_nothing r ≡ true
+      → selectors_faults s place (result_stands r) selectors ≡ [] → value_rule place (select_all s (result_stands r) selectors) ≡ [] → ⊥
   result_ends place parts None e h v = statement_ends place parts h v
   result_ends place _ (Some t) e h v = cc
 
-  call_ends : (place : ℕ) (selectors : SelectorTrees) (o : Option Profile) → GoodCallee s o → is_statement o ≡ true → selectors_faults s place (call_stands o) selectors ≡ [] → value_rule place (select_all s (call_stands o) selectors) ≡ [] → ⊥
+  call_ends : (place : ℕ) (selectors : SelectorTrees) (o : Option Profile) → GoodCallee s o → is_statement o ≡ true
+      → selectors_faults s place (call_stands o) selectors ≡ [] → value_rule place (select_all s (call_stands o) selectors) ≡ [] → ⊥
   call_ends place parts (Some p) g e h v = result_ends place parts p.result e h v
   call_ends place _ None g e h v = g
 
@@ -146,7 +157,8 @@ module _ (s : Scope) (sound : SoundScope s) where
       by_result None e v = cc
   settled_call place None g e v = g
 
-  empty_part : (place : ℕ) (x : SelectorTree) (rest : SelectorTrees) (w : Standing) → is_empty s w ≡ true → Good s w → part_rule s place w x ≡ [] → selectors_faults s place (select s w x) rest ≡ []
+  empty_part : (place : ℕ) (x : SelectorTree) (rest : SelectorTrees) (w : Standing) → is_empty s w ≡ true → Good s w → part_rule s place w x ≡ []
+      → selectors_faults s place (select s w x) rest ≡ []
       → value_rule place (select_all s (select s w x) rest) ≡ [] → ⊥
   empty_part place (Arguments a) rest (standing.Callee f) e g part later v = call_ends place rest (callee_profile s f) g e later v
   empty_part place (Component name) rest (standing.Callee f) e g part later v = good_select s sound place (standing.Callee f) (Component name) g part
@@ -167,7 +179,8 @@ module _ (s : Scope) (sound : SoundScope s) where
   empty_part place x rest (standing.Protected n) e g part later v = cc
 
   -- what is empty breaks a rule, or has a fixed value
-  pub empty_ends : (place : ℕ) (selectors : SelectorTrees) (w : Standing) → is_empty s w ≡ true → Good s w → selectors_faults s place w selectors ≡ [] → value_rule place (select_all s w selectors) ≡ []
+  pub empty_ends : (place : ℕ) (selectors : SelectorTrees) (w : Standing) → is_empty s w ≡ true → Good s w → selectors_faults s place w selectors ≡ []
+      → value_rule place (select_all s w selectors) ≡ []
       → fixed_value (select_all s w selectors) ≡ None → ⊥
   empty_ends place NoSelectors (standing.Fixed t c) e g h v none = let k = sym g.given ∙ none in cc
   empty_ends place NoSelectors (standing.Given t (Some c)) e g h v none = cc

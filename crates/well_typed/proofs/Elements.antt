@@ -1,18 +1,18 @@
 -- The parts of values of a shape are there, and of the shapes of the parts.
-use Rattle.std.proofs.Common.{◌≡◌, ℕ, zero, suc, ◌<◌, ℤ, pos, negsuc, ◌-ℤ◌, List, [], ◌∷◌, Bool, true, false, ◌&&◌, Option, Some, None, refl, sym, ap, ◌∙◌, subst, arith}
+use Rattle.std.proofs.Common.{◌≡◌, ℕ, zero, suc, ◌<◌, ℤ, ◌-ℤ◌, List, [], ◌∷◌, Bool, true, false, ◌&&◌, Some, refl, sym, ap, ◌∙◌, subst, arith}
 use Rattle.std.specs.Prelude.{bytes_eq, cond, int_le, nat_eq, unsigned_abs}
 use Rattle.std.proofs.lemmas.Int.{ints}
 use Rattle.std.proofs.lemmas.Slice.Eq.{bytes_eq-Decides}
 use Rattle.types.specs.declared.entity.Subtype.{Subtype}
 use Rattle.types.specs.declared.entity.RecordComponent.{RecordComponent}
-use Rattle.types.specs.Entities.{TypeForm, Arrays, Records}
+use Rattle.types.specs.Entities.{Arrays, Records}
 use Rattle.types.specs.Scopes.{Scope, form_at}
 use Rattle.types.specs.Standings.{component_of}
 use Rattle.types.specs.Values.{Value, Number, Truth, Array, Record, Values, NoValues, MoreValues, Fields, NoFields, MoreFields, element_at, field_of, fits, is_within}
 use Rattle.types.specs.Shapes.{Shape, Repeated, Grouped, Shapes, all_values, component_shapes, count_values, has_shape, have_shapes, shape_among, shape_of}
 use Rattle.type_rules.specs.TypeRules.{length_of}
 use Rattle.expr_rules.specs.Laws.{type_shape}
-use Rattle.well_typed.specs.SoundScopes.{AreEarlier, IsEarlier, SoundScope}
+use Rattle.well_typed.specs.SoundScopes.{SoundScope}
 use Rattle.well_typed.proofs.Positions.{same_some}
 use Rattle.well_typed.proofs.Parts.{before, part_shape, shape_by_form, subtype_values}
 use Rattle.well_typed.proofs.Goods.{earlier_component, sound_form}
@@ -27,7 +27,8 @@ both_right false b h = cc
 
 -- ---- components of arrays
 
-pub element_there : (x : Shape) (vs : Values) (n : ℕ) → all_values (has_shape x) vs ≡ true → n < count_values vs → (v : Value) × (element_at vs n ≡ Some v) × (has_shape x v ≡ true)
+pub element_there : (x : Shape) (vs : Values) (n : ℕ) → all_values (has_shape x) vs ≡ true → n < count_values vs
+    → (v : Value) × (element_at vs n ≡ Some v) × (has_shape x v ≡ true)
 element_there x NoValues n h less = absurd (omega (arith, less))
 element_there x (MoreValues v rest) zero h less = (v, refl, both_left (has_shape x v) (all_values (has_shape x) rest) h)
 element_there x (MoreValues v rest) (suc n) h less =
@@ -67,7 +68,8 @@ record_value parts (Number z) h = cc
 record_value parts (Truth b) h = cc
 record_value parts (Array vs) h = cc
 
-pub field_there : (known : List Shape) (cs : List RecordComponent) (fs : Fields) (name : List ℕ) (t : Subtype) → have_shapes (component_shapes known cs) fs ≡ true → component_of cs name ≡ Some t
+pub field_there : (known : List Shape) (cs : List RecordComponent) (fs : Fields) (name : List ℕ) (t : Subtype)
+    → have_shapes (component_shapes known cs) fs ≡ true → component_of cs name ≡ Some t
     → (v : Value) × (field_of fs name ≡ Some v) × (has_shape (shape_among known t) v ≡ true)
 field_there known [] fs name t h found = cc
 field_there known (c ∷ cs) NoFields name t h found = cc
@@ -94,32 +96,44 @@ field_there known (c ∷ cs) (MoreFields own v rest) name t h found = by_test (b
 
 -- ---- parts of a value of a subtype
 
+-- a value of a subtype is of the shape of its type
+pub of_type : (s : Scope) (t : Subtype) (v : Value) (x : Shape) → type_shape s t.type_number ≡ x → has_shape (shape_of s t) v ≡ true → has_shape x v ≡ true
+of_type s t v x h k = sym (ap (λ y. has_shape y v) h) ∙ sym (subtype_values s t v) ∙ k
+
+-- a part of a type is of an earlier type
+of_part : (s : Scope) (n : ℕ) (t : Subtype) (v : Value) → t.type_number < n → has_shape (shape_among (before s n) t) v ≡ true → has_shape (shape_of s t) v ≡ true
+of_part s n t v less h = ap (λ x. has_shape x v) (sym (part_shape s n t less)) ∙ h
+
 module _ (s : Scope) (sound : SoundScope s) where
-  pub array_at : (t index : Subtype) (size : ℕ) (element : Subtype) (v : Value) (n : ℕ) → form_at s t.type_number ≡ Some (Arrays index size element) → has_shape (shape_of s t) v ≡ true → n < size
+  pub array_at : (t index : Subtype) (size : ℕ) (element : Subtype) (v : Value) (n : ℕ) → form_at s t.type_number ≡ Some (Arrays index size element)
+      → has_shape (shape_of s t) v ≡ true → n < size
       → (vs : Values) × (v ≡ Array vs) × (x : Value) × (element_at vs n ≡ Some x) × (has_shape (shape_of s element) x ≡ true)
   array_at t index size element v n form suited less =
       let part = sound_form s sound t.type_number (Arrays index size element) form in
       let shape = shape_by_form s t.type_number (Arrays index size element) form in
       let inner = shape_among (before s t.type_number) element in
-      let repeated : has_shape (Repeated size inner) v ≡ true = sym (ap (λ x. has_shape x v) shape.1) ∙ sym (subtype_values s t v) ∙ suited in
+      let repeated = of_type s t v (Repeated size inner) shape.1 suited in
       let all = array_value size inner v repeated in
       let counted : count_values all.values ≡ size = (let e = all.counted in grind (arith, e)) in
       let inside : n < count_values all.values = subst (λ k. n < k) (sym counted) less in
       let found = element_there inner all.values n all.suited inside in
-      (all.values, all.is, found.0, found.1, ap (λ x. has_shape x found.0) (sym (part_shape s t.type_number element part.earlier.before)) ∙ found.2)
+      (all.values, all.is, found.0, found.1, of_part s t.type_number element found.0 part.earlier.before found.2)
 
-  pub array_element : (t index : Subtype) (size : ℕ) (element : Subtype) (v : Value) (z : ℤ) → form_at s t.type_number ≡ Some (Arrays index size element) → has_shape (shape_of s t) v ≡ true
-      → fits index (Number z) ≡ true → (vs : Values) × (v ≡ Array vs) × (x : Value) × (element_at vs (unsigned_abs (z -ℤ index.first)) ≡ Some x) × (has_shape (shape_of s element) x ≡ true)
+  pub array_element : (t index : Subtype) (size : ℕ) (element : Subtype) (v : Value) (z : ℤ) → form_at s t.type_number ≡ Some (Arrays index size element)
+      → has_shape (shape_of s t) v ≡ true
+      → fits index (Number z) ≡ true
+      → (vs : Values) × (v ≡ Array vs) × (x : Value) × (element_at vs (unsigned_abs (z -ℤ index.first)) ≡ Some x) × (has_shape (shape_of s element) x ≡ true)
   array_element t index size element v z form suited within =
       let part = sound_form s sound t.type_number (Arrays index size element) form in
       array_at t index size element v (unsigned_abs (z -ℤ index.first)) form suited (subst (λ k. unsigned_abs (z -ℤ index.first) < k) (sym part.counted) (index_within index z within))
 
-  pub record_field : (t : Subtype) (cs : List RecordComponent) (name : List ℕ) (u : Subtype) (v : Value) → form_at s t.type_number ≡ Some (Records cs) → has_shape (shape_of s t) v ≡ true
+  pub record_field : (t : Subtype) (cs : List RecordComponent) (name : List ℕ) (u : Subtype) (v : Value) → form_at s t.type_number ≡ Some (Records cs)
+      → has_shape (shape_of s t) v ≡ true
       → component_of cs name ≡ Some u → (fs : Fields) × (v ≡ Record fs) × (x : Value) × (field_of fs name ≡ Some x) × (has_shape (shape_of s u) x ≡ true)
   record_field t cs name u v form suited named =
       let shape = shape_by_form s t.type_number (Records cs) form in
-      let grouped : has_shape (Grouped (component_shapes (before s t.type_number) cs)) v ≡ true = sym (ap (λ x. has_shape x v) shape.1) ∙ sym (subtype_values s t v) ∙ suited in
+      let grouped = of_type s t v (Grouped (component_shapes (before s t.type_number) cs)) shape.1 suited in
       let whole = record_value (component_shapes (before s t.type_number) cs) v grouped in
       let found = field_there (before s t.type_number) cs whole.0 name u whole.2 named in
       let earlier = earlier_component s sound t.type_number cs name u (sound_form s sound t.type_number (Records cs) form) named in
-      (whole.0, whole.1, found.0, found.1, ap (λ x. has_shape x found.0) (sym (part_shape s t.type_number u earlier.before)) ∙ found.2)
+      (whole.0, whole.1, found.0, found.1, of_part s t.type_number u found.0 earlier.before found.2)

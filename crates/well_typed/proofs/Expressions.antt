@@ -5,6 +5,7 @@ use Rattle.ada_tree.specs.declared.expression.Identifier.{Identifier}
 use Rattle.ada_tree.specs.ExpressionTree as tree
 use Rattle.ada_tree.specs.ExpressionTree.{ExprTree, Named, Parenthesized, Conditional, Unary, Binary, ElsifValueTrees, NoElsifValues, MoreElsifValues, SelectorTrees, NoSelectors, MoreSelectors, SelectorTree, Component, Arguments, Attribute, ArgumentTrees, NoArguments, MoreArguments, ArgumentTree, Text}
 use Rattle.types.specs.declared.entity.Subtype.{Subtype}
+use Rattle.types.specs.declared.entity.Role.{Role}
 use Rattle.types.specs.declared.entity.Value.{Value as Scalar}
 use Rattle.types.specs.declared.entity.Value.TheVariants as scalar
 use Rattle.types.specs.declared.entity.PredefinedOperation.{PredefinedOperation}
@@ -15,7 +16,7 @@ use Rattle.types.specs.Entities.{TypeForm, Integers, Arrays, Profile, Entity, Of
 use Rattle.types.specs.Scopes.{Scope, boolean, entity_at, form_at, is_visible, number_of, profile_at, profile_of, protected_of}
 use Rattle.types.specs.Standings.{array_attribute, bound_stands, bounds_stand, count, object_attribute, select, select_all, settle, standing_of, stands_first, stands_for, subtype_attribute}
 use Rattle.types.specs.Statics.{start_of}
-use Rattle.types.specs.Values.{Value, Number, value_of}
+use Rattle.types.specs.Values.{value_of}
 use Rattle.types.specs.Evaluations.{Val, Gives, Raises, Meaningless, and_then}
 use Rattle.types.specs.Places.{Place, Meaning, IsFunction, IsPredefined, IsProtected, meaning_of, stands_here}
 use Rattle.types.specs.Evaluating.{Calls, actual_with, actuals_with, ended, fixed_name, fixed_value, name_with, part_with, value_with}
@@ -25,32 +26,32 @@ use Rattle.expr_rules.specs.declared.own.Wanted.{Wanted}
 use Rattle.expr_rules.specs.declared.own.Wanted.TheVariants.{OfType}
 use Rattle.expr_rules.specs.declared.names.Slot.{Slot}
 use Rattle.expr_rules.specs.declared.names.Slot.TheVariants.{Expects, Takes, TakesLabel}
-use Rattle.expr_rules.specs.Faults.{Faults, rule}
+use Rattle.expr_rules.specs.Faults.{rule}
 use Rattle.expr_rules.specs.Typing.{boolean_wanted, own_of, own_of_standing}
 use Rattle.expr_rules.specs.NameRules.{end_rule, label_rule, mismatch, part_rule, slot_at, slot_rule, slot_wanted, value_rule}
 use Rattle.expr_rules.specs.ExpressionRules.{argument_faults, arguments_faults, below, beside, binary_rule, conditional_wanted, elsif_faults, faults_in, faults_of, selector_faults, selectors_faults, unary_rule}
 use Rattle.expr_rules.specs.Laws.{IsTyped, suits}
 use Rattle.expr_rules.proofs.TypedLaw.{AllTyped, back_empty, binary_typed, conditional_typed, expected, front_empty, unary_typed, unbroken}
-use Rattle.well_typed.specs.SoundScopes.{IsSoundConstant, IsSoundEntry, IsSoundPredefined}
+use Rattle.well_typed.specs.SoundScopes.{IsKnown, IsSoundConstant, IsSoundEntry, IsSoundPredefined}
 use Rattle.well_typed.specs.Agreeing.{Agrees, Means, MeansFunction}
 use Rattle.well_typed.specs.Answers.{CallsAnswer}
 use Rattle.well_typed.specs.Laws.{ExpressionsAreTyped}
 use Rattle.well_typed.proofs.Positions.{named}
-use Rattle.well_typed.proofs.Goods.{Good, fixed_suits, good_all, good_first, good_select, known_all, known_type, part_unbroken}
-use Rattle.well_typed.proofs.FixedNames.{Corresponds, all_valueless, constant_same, corresponds, function_found, given_same, is_valueless, object_same, subtype_same, valueless_same}
-use Rattle.well_typed.proofs.Denoting.{Comes, Denotes, DenotesCallee, DenotesProtected, DenotesResult, empty_ends, gives_nothing, is_empty, is_statement}
+use Rattle.well_typed.proofs.Goods.{Good, fixed_suits, good_all, good_first, good_select, known_all, known_type, object_known, part_unbroken}
+use Rattle.well_typed.proofs.FixedNames.{Corresponds, all_valueless, constant_same, corresponds, function_found, given_same, is_valueless, number_same, object_same, subtype_same, valueless_same}
+use Rattle.well_typed.proofs.Denoting.{Comes, Denotes, DenotesCallee, DenotesProtected, DenotesResult, MeansPart, empty_ends, gives_nothing, is_empty, is_statement, means_part}
 use Rattle.well_typed.proofs.Applying.{ActualsSuit, component_comes, ended_suits}
 use Rattle.well_typed.proofs.Arguments.{ActualSuits, SlotFits, Slots, arguments_come, expected_suits, next_suits, passed_suits, slot_suits}
 
 -- ---- the first name
 
 -- the name is worth the same at the place, and means there what it stands for
-record IsHere (s : Scope) (p : Place) (name : List ℕ) (selectors : SelectorTrees) (w : Standing) : Type 0 where
-  same : fixed_value (select_all p.scope (stands_here p name) selectors) ≡ fixed_value (select_all s w selectors)
-  denotes : Denotes s p w (meaning_of p name)
+pub record IsHere (s : Scope) (p : Place) (name : List ℕ) (selectors : SelectorTrees) (w : Standing) : Type 0 where
+  pub same : fixed_value (select_all p.scope (stands_here p name) selectors) ≡ fixed_value (select_all s w selectors)
+  pub denotes : Denotes s p w (meaning_of p name)
 
 -- it has no value
-abbrev IsNone : Scope → Standing → Type 0
+abbrev pub IsNone : Scope → Standing → Type 0
 IsNone s w = (is_empty s w ≡ true) × (is_valueless w ≡ true)
 
 module _ (s : Scope) (p : Place) (agrees : Agrees s p) (name : List ℕ) (selectors : SelectorTrees) (n : ℕ) where
@@ -63,7 +64,8 @@ module _ (s : Scope) (p : Place) (agrees : Agrees s p) (name : List ℕ) (select
   statement_none : (profile : Profile) → profile_at s n ≡ Some profile → profile.result ≡ None → IsNone s (standing.Callee (callee.Direct n))
   statement_none profile at r = (ap is_statement at ∙ ap gives_nothing r, refl)
 
-  function_here : (profile : Profile) (r : Option Subtype) → profile_at s n ≡ Some profile → profile.result ≡ r → MeansFunction p (meaning_of p name) profile r → Callable profile
+  function_here : (profile : Profile) (r : Option Subtype) → profile_at s n ≡ Some profile → profile.result ≡ r → MeansFunction p (meaning_of p name) profile r
+      → Callable profile
   function_here profile None at e h = inl (statement_none profile at e)
   function_here profile (Some t) at e h =
       let found = function_found p name h.0 h.1 in
@@ -74,7 +76,8 @@ module _ (s : Scope) (p : Place) (agrees : Agrees s p) (name : List ℕ) (select
         denotes = subst (λ o. DenotesCallee s p o (meaning_of p name)) (sym at) (subst (λ r. DenotesResult s p profile r (meaning_of p name)) (sym e) declared);
       })
 
-  language_here : (o : PredefinedOperation) (profile : Profile) → profile_at s n ≡ Some profile → IsSoundPredefined s o profile → meaning_of p name ≡ IsPredefined o → Callable profile
+  language_here : (o : PredefinedOperation) (profile : Profile) → profile_at s n ≡ Some profile → IsSoundPredefined s o profile
+      → meaning_of p name ≡ IsPredefined o → Callable profile
   language_here o profile at sound h =
       inr (record {
         same = valueless_same s p agrees selectors (standing.Callee (callee.Direct n)) (stands_here p name) refl (stands_valueless (IsPredefined o) h);
@@ -85,10 +88,14 @@ module _ (s : Scope) (p : Place) (agrees : Agrees s p) (name : List ℕ) (select
       by_result (Some t) = inr (record { operation = o; is = h; sound = sound })
       by_result None = tt
 
-  first_here : (e : Entity) → entity_at s n ≡ Some e → Means s p name e → IsNone s (stands_for n (Some e)) ⊎ IsHere s p name selectors (stands_for n (Some e))
+  object_here : (r : Role) (t : Subtype) → MeansPart s p.scope (meaning_of p name) t → IsKnown s t → IsHere s p name selectors (standing.Part r t)
+  object_here r t (inl h) known = record { same = object_same s p agrees name selectors r t h.value known h.is; denotes = inl h }
+  object_here r t (inr h) known = record { same = number_same s p agrees name selectors r t h.integers h.number; denotes = inr h }
+
+  pub first_here : (e : Entity) → entity_at s n ≡ Some e → Means s p name e → IsNone s (stands_for n (Some e)) ⊎ IsHere s p name selectors (stands_for n (Some e))
   first_here (OfType form t) at h = inr (record { same = subtype_same s p agrees name selectors t (known_type s agrees.sound n form t at) h; denotes = h })
   first_here (OfSubtype t) at h = inr (record { same = subtype_same s p agrees name selectors t (agrees.sound.each n (OfSubtype t) at) h; denotes = h })
-  first_here (Object r t) at h = inr (record { same = object_same s p agrees name selectors r t h.value (agrees.sound.each n (Object r t) at) h.is; denotes = h })
+  first_here (Object r t) at h = inr (object_here r t (means_part s p.scope (meaning_of p name) r t (agrees.sound.each n (Object r t) at) h) (object_known s r t (agrees.sound.each n (Object r t) at)))
   first_here (Constant t v) at h = let c : IsSoundConstant s t v = agrees.sound.each n (Constant t v) at in inr (record { same = constant_same s p agrees name selectors t v c.known h; denotes = tt })
   first_here (Literal b) at h = inr (record { same = given_same s p agrees name selectors boolean (Some (scalar.Truth b)) h; denotes = tt })
   first_here Exception at h = inl (refl, refl)
@@ -169,11 +176,14 @@ module _ (s : Scope) (p : Place) (agrees : Agrees s p) (calls : Calls) (answers 
       → suits s (own_of_standing (select_all s w selectors)) (name_with calls p m selectors) ≡ true
 
   named_value : (first : Identifier) (selectors : SelectorTrees) (own : Own) (o : Option Scalar) → fixed_name p first selectors ≡ o
-      → suits s own (elim o [ Some v ↦ Gives (value_of v) | None ↦ name_with calls p (meaning_of p first.name) selectors ]) ≡ true → suits s own (value_with calls p (Named first selectors)) ≡ true
+      → suits s own (elim o [ Some v ↦ Gives (value_of v) | None ↦ name_with calls p (meaning_of p first.name) selectors ]) ≡ true
+      → suits s own (value_with calls p (Named first selectors)) ≡ true
   named_value first selectors own o e h = subst (λ x. suits s own (elim x [ Some v ↦ Gives (value_of v) | None ↦ name_with calls p (meaning_of p first.name) selectors ]) ≡ true) (sym e) h
 
-  whole_name : (first : Identifier) (selectors : SelectorTrees) (w : Standing) → Good s w → selectors_faults s first.place w selectors ≡ [] → value_rule first.place (select_all s w selectors) ≡ []
-      → IsNone s w ⊎ IsHere s p first.name selectors w → Goes selectors → IsTyped s (own_of_standing (select_all s w selectors)) (value_with calls p (Named first selectors))
+  whole_name : (first : Identifier) (selectors : SelectorTrees) (w : Standing) → Good s w → selectors_faults s first.place w selectors ≡ []
+      → value_rule first.place (select_all s w selectors) ≡ []
+      → IsNone s w ⊎ IsHere s p first.name selectors w → Goes selectors
+      → IsTyped s (own_of_standing (select_all s w selectors)) (value_with calls p (Named first selectors))
   whole_name first selectors w g h v (inl none) goes = absurd (empty_ends s agrees.sound first.place selectors w none.0 g h v (all_valueless s selectors w none.1))
   whole_name first selectors w g h v (inr here) goes =
       record {
@@ -181,14 +191,16 @@ module _ (s : Scope) (p : Place) (agrees : Agrees s p) (calls : Calls) (answers 
         suited = by_value (fixed_value (select_all s w selectors)) refl;
       }
     where
-      by_value : (o : Option Scalar) → fixed_value (select_all s w selectors) ≡ o → suits s (own_of_standing (select_all s w selectors)) (value_with calls p (Named first selectors)) ≡ true
+      by_value : (o : Option Scalar) → fixed_value (select_all s w selectors) ≡ o
+          → suits s (own_of_standing (select_all s w selectors)) (value_with calls p (Named first selectors)) ≡ true
       by_value (Some c) k =
           named_value first selectors (own_of_standing (select_all s w selectors)) (Some c) (here.same ∙ k)
           (fixed_suits s agrees.sound (select_all s w selectors) c (good_all s agrees.sound first.place selectors w g h) k)
       by_value None k =
           named_value first selectors (own_of_standing (select_all s w selectors)) None (here.same ∙ k) (goes first.place w (meaning_of p first.name) g here.denotes h v k)
 
-  name_typed : (w : Wanted) (first : Identifier) (selectors : SelectorTrees) → faults_in s w (Named first selectors) ≡ [] → Goes selectors → IsTyped s (own_of s (Named first selectors)) (value_with calls p (Named first selectors))
+  name_typed : (w : Wanted) (first : Identifier) (selectors : SelectorTrees) → faults_in s w (Named first selectors) ≡ [] → Goes selectors
+      → IsTyped s (own_of s (Named first selectors)) (value_with calls p (Named first selectors))
   name_typed w first selectors h goes =
       let hidden = rule 10 first.place (not (is_visible s first.name)) in
       let parts = selectors_faults s first.place (stands_first s (number_of s first.name)) selectors in
@@ -203,7 +215,8 @@ module _ (s : Scope) (p : Place) (agrees : Agrees s p) (calls : Calls) (answers 
       (subst (λ u. value_rule first.place (select_all s u selectors) ≡ []) is (back_empty (hidden ++ parts) whole h))
       (first_here s p agrees first.name selectors x.number x.entity x.stands (agrees.names first.name x.number x.entity x.numbered x.stands)) goes)
 
-  name_ends : (place : ℕ) (w : Standing) (m : Meaning) → Good s w → Denotes s p w m → end_rule s place w ≡ [] → value_rule place (settle s w) ≡ [] → fixed_value (settle s w) ≡ None
+  name_ends : (place : ℕ) (w : Standing) (m : Meaning) → Good s w → Denotes s p w m → end_rule s place w ≡ [] → value_rule place (settle s w) ≡ []
+      → fixed_value (settle s w) ≡ None
       → suits s (own_of_standing (settle s w)) (ended calls p m) ≡ true
   name_ends place w m g d h v none = by_test (is_empty s w) refl
     where
@@ -265,8 +278,10 @@ module _ (s : Scope) (p : Place) (agrees : Agrees s p) (calls : Calls) (answers 
           elsif_parts rest w (back_empty ((c ++ cm) ++ (v ++ vm)) m h),
         )
 
-    name_suits : (selectors : SelectorTrees) (place : ℕ) (w : Standing) (v : Val Meaning) → Good s w → Comes s p w v → selectors_faults s place w selectors ≡ [] → value_rule place (select_all s w selectors) ≡ []
-        → fixed_value (select_all s w selectors) ≡ None → suits s (own_of_standing (select_all s w selectors)) (and_then v (λ m. name_with calls p m selectors)) ≡ true
+    name_suits : (selectors : SelectorTrees) (place : ℕ) (w : Standing) (v : Val Meaning) → Good s w → Comes s p w v → selectors_faults s place w selectors ≡ []
+        → value_rule place (select_all s w selectors) ≡ []
+        → fixed_value (select_all s w selectors) ≡ None
+        → suits s (own_of_standing (select_all s w selectors)) (and_then v (λ m. name_with calls p m selectors)) ≡ true
     name_suits NoSelectors place w (Gives m) g d h v none = name_ends place w m g d h v none
     name_suits NoSelectors place w (Raises n) g d h v none = refl
     name_suits NoSelectors place w Meaningless g d h v none = absurd (empty_ends s agrees.sound place NoSelectors w d g h v none)
@@ -277,7 +292,8 @@ module _ (s : Scope) (p : Place) (agrees : Agrees s p) (calls : Calls) (answers 
     name_suits (MoreSelectors x rest) place w (Raises n) g d h v none = refl
     name_suits (MoreSelectors x rest) place w Meaningless g d h v none = absurd (empty_ends s agrees.sound place (MoreSelectors x rest) w d g h v none)
 
-    part_comes : (x : SelectorTree) (place : ℕ) (w : Standing) (m : Meaning) → Good s w → Denotes s p w m → selector_faults s place w x ≡ [] → Comes s p (select s w x) (part_with calls p m x)
+    part_comes : (x : SelectorTree) (place : ℕ) (w : Standing) (m : Meaning) → Good s w → Denotes s p w m → selector_faults s place w x ≡ []
+        → Comes s p (select s w x) (part_with calls p m x)
     part_comes (Component name) place w m g d h = component_comes s p agrees calls answers place name w m g d h
     part_comes (Attribute name) place w m g d h = attribute_empty s w name
     part_comes (Arguments a) place w m g d h =
@@ -285,7 +301,8 @@ module _ (s : Scope) (p : Place) (agrees : Agrees s p) (calls : Calls) (answers 
         arguments_come s p agrees calls answers place a w m g d (front_empty own (arguments_faults s w zero a) h)
         (λ ts slots size. actuals_suit a w zero ts slots size (back_empty own (arguments_faults s w zero a) h))
 
-    pub actuals_suit : (a : ArgumentTrees) (w : Standing) (k : ℕ) (ts : List Subtype) → Slots s (λ i. slot_at s w i) k ts → count a ≡ length ts → arguments_faults s w k a ≡ [] → ActualsSuit s ts (actuals_with calls p a ts)
+    pub actuals_suit : (a : ArgumentTrees) (w : Standing) (k : ℕ) (ts : List Subtype) → Slots s (λ i. slot_at s w i) k ts → count a ≡ length ts
+        → arguments_faults s w k a ≡ [] → ActualsSuit s ts (actuals_with calls p a ts)
     actuals_suit NoArguments w k [] slots size h = tt
     actuals_suit NoArguments w k (t ∷ ts) slots size h = cc
     actuals_suit (MoreArguments x rest) w k [] slots size h = cc
@@ -295,7 +312,8 @@ module _ (s : Scope) (p : Place) (agrees : Agrees s p) (calls : Calls) (answers 
         next_suits s t ts (actual_with calls p t x) (actuals_with calls p rest ts) (actual_suits x (slot_at s w k) t slots.0 (front_empty one more h))
         (actuals_suit rest w (suc k) ts slots.1 (one_less (count rest) (length ts) size) (back_empty one more h))
 
-    actual_suits : (x : ArgumentTree) (slot : Slot) (t : Subtype) → SlotFits s slot t → argument_faults s slot x ≡ [] → ActualSuits s t (actual_with calls p t x)
+    actual_suits : (x : ArgumentTree) (slot : Slot) (t : Subtype) → SlotFits s slot t → argument_faults s slot x ≡ []
+        → ActualSuits s t (actual_with calls p t x)
     actual_suits (tree.Value e) slot t fits h =
         let inside = faults_in s (slot_wanted slot) e in
         let own = slot_rule s slot e (own_of s e) in

@@ -1,12 +1,11 @@
 -- What a legal name is worth by types and constants alone is the same at a place as in the scope.
-use Rattle.std.proofs.Common.{◌≡◌, ℕ, List, [], ◌∷◌, Bool, true, false, ◌⊎◌, inl, inr, Option, Some, None, refl, sym, ap, ◌∙◌, subst}
+use Rattle.std.proofs.Common.{◌≡◌, ℕ, List, Bool, true, false, ◌⊎◌, inl, inr, Option, Some, None, refl, sym, ap, ◌∙◌, subst}
 use Rattle.std.specs.Prelude.{⊤, bytes_eq, codes, cond, is_some, position, pos}
 use Rattle.ada_tree.specs.ExpressionTree.{SelectorTrees, NoSelectors, MoreSelectors, SelectorTree, Component, Arguments, Attribute}
 use Rattle.types.specs.declared.entity.Subtype.{Subtype}
 use Rattle.types.specs.declared.entity.Role.{Role}
 use Rattle.types.specs.declared.entity.Role.TheVariants as role
 use Rattle.types.specs.declared.entity.Value.{Value as Scalar}
-use Rattle.types.specs.declared.entity.Value.TheVariants as scalar
 use Rattle.types.specs.declared.standing.Standing.{Standing}
 use Rattle.types.specs.declared.standing.Standing.TheVariants as standing
 use Rattle.types.specs.Entities.{TypeForm, Integers, Arrays, Records, Profile, ProtectedObject, Entity, OfType, OfSubtype, Object, Constant, Literal, Exception, Subprogram, Entry, Predefined, Put, Task, Protected, LibraryUnit, Doubtful}
@@ -16,8 +15,9 @@ use Rattle.types.specs.Places as places
 use Rattle.types.specs.Places.{Function, Place, Meaning, IsObject, IsFunction, IsPredefined, IsSubtype, IsProtected, IsValue, IsNothing, function_meaning, function_of, function_stands, meaning_in_scope, meaning_of, meaning_of_entity, meaning_or, object_meaning, object_stands, or_else, own_function, own_object, package_function, package_object, stands_here}
 use Rattle.types.specs.Evaluating.{fixed_value}
 use Rattle.types.specs.Values.{Value}
+use Rattle.expr_rules.specs.Typing.{is_integers}
 use Rattle.well_typed.specs.SoundScopes.{IsKnown}
-use Rattle.well_typed.specs.Agreeing.{Agrees}
+use Rattle.well_typed.specs.Agreeing.{Agrees, MeansNumber}
 use Rattle.well_typed.proofs.Goods.{earlier_component, not_empty, sound_form}
 
 -- ---- what a name stands for at a place, by what it means there
@@ -61,7 +61,8 @@ scope_corresponds : (s : Scope) (k : Option ℕ) → Corresponds (meaning_in_sco
 scope_corresponds s (Some n) = entity_corresponds n (entity_at s n)
 scope_corresponds s None = tt
 
-found_corresponds : (own : Option places.Object) (f : Option Function) (outer : Option places.Object) (g : Option Function) (m : Meaning) (w : Standing) → Corresponds m w
+found_corresponds : (own : Option places.Object) (f : Option Function) (outer : Option places.Object) (g : Option Function) (m : Meaning) (w : Standing)
+    → Corresponds m w
     → Corresponds (meaning_or (or_else (object_meaning own) (function_meaning f)) (meaning_or (or_else (object_meaning outer) (function_meaning g)) m))
     (object_stands own (function_stands f (object_stands outer (function_stands g w))))
 found_corresponds (Some x) f outer g m w h = refl
@@ -79,8 +80,10 @@ corresponds p name =
 same_function : (g f : Function) → IsFunction g None ≡ IsFunction f None → g ≡ f
 same_function g f h = let read : Meaning → Function = λ m. elim m [ IsFunction x o ↦ x | n ↦ g ] in ap read h
 
-found_function : (own : Option places.Object) (a : Option Function) (outer : Option places.Object) (b : Option Function) (last : Meaning) (f : Function) → (last ≡ IsFunction f None → ⊥)
-    → meaning_or (or_else (object_meaning own) (function_meaning a)) (meaning_or (or_else (object_meaning outer) (function_meaning b)) last) ≡ IsFunction f None → (a ≡ Some f) ⊎ (b ≡ Some f)
+found_function : (own : Option places.Object) (a : Option Function) (outer : Option places.Object) (b : Option Function) (last : Meaning) (f : Function)
+    → (last ≡ IsFunction f None → ⊥)
+    → meaning_or (or_else (object_meaning own) (function_meaning a)) (meaning_or (or_else (object_meaning outer) (function_meaning b)) last) ≡ IsFunction f None
+    → (a ≡ Some f) ⊎ (b ≡ Some f)
 found_function (Some x) a outer b last f never h = cc
 found_function None (Some g) outer b last f never h = inl (ap Some (same_function g f h))
 found_function None None (Some x) b last f never h = cc
@@ -98,7 +101,8 @@ scope_no_function : (s : Scope) (k : Option ℕ) (f : Function) → meaning_in_s
 scope_no_function s (Some n) f h = entity_no_function (entity_at s n) f h
 scope_no_function s None f h = cc
 
-pub function_found : (p : Place) (name : List ℕ) (f : Function) → meaning_of p name ≡ IsFunction f None → (owner : Option ℕ) × (function_of p.functions owner name ≡ Some f)
+pub function_found : (p : Place) (name : List ℕ) (f : Function) → meaning_of p name ≡ IsFunction f None
+    → (owner : Option ℕ) × (function_of p.functions owner name ≡ Some f)
 function_found p name f h =
     elim (found_function (own_object p name) (own_function p name) (package_object p name) (package_function p name) (meaning_in_scope p.scope (number_of p.scope name)) f (scope_no_function p.scope (number_of p.scope name) f) h) [
       | inl e ↦ (p.within, e)
@@ -178,6 +182,21 @@ pub all_valueless : (s : Scope) (selectors : SelectorTrees) (w : Standing) → i
 all_valueless s NoSelectors w h = no_value (settle s w) (settle_valueless s w h)
 all_valueless s (MoreSelectors x rest) w h = all_valueless s rest (select s w x) (select_valueless s w x h)
 
+by_integers : (r : Role) (o : Option TypeForm) → is_integers o ≡ true → (x : SelectorTree)
+    → is_valueless (elim x [ Component name ↦ component_stands r o name.name | Arguments a ↦ element_stands r o (is_single a) | Attribute name ↦ object_attribute o name.name ]) ≡ true
+by_integers r (Some Integers) h (Component name) = refl
+by_integers r (Some Integers) h (Arguments a) = refl
+by_integers r (Some Integers) h (Attribute name) = refl
+by_integers r o h x = cc
+
+-- nor from an object of an integer type
+pub integer_valueless : (s : Scope) (r : Role) (t : Subtype) (selectors : SelectorTrees) → is_integers (form_at s t.type_number) ≡ true
+    → fixed_value (select_all s (standing.Part r t) selectors) ≡ None
+integer_valueless s r t NoSelectors h = refl
+integer_valueless s r t (MoreSelectors (Component name) rest) h = all_valueless s rest (select s (standing.Part r t) (Component name)) (by_integers r (form_at s t.type_number) h (Component name))
+integer_valueless s r t (MoreSelectors (Arguments a) rest) h = all_valueless s rest (select s (standing.Part r t) (Arguments a)) (by_integers r (form_at s t.type_number) h (Arguments a))
+integer_valueless s r t (MoreSelectors (Attribute name) rest) h = all_valueless s rest (select s (standing.Part r t) (Attribute name)) (by_integers r (form_at s t.type_number) h (Attribute name))
+
 -- ---- what has no parts
 
 abbrev is_final : Standing → Bool
@@ -244,7 +263,8 @@ module _ (s : Scope) (p : Place) (agrees : Agrees s p) where
   abbrev PartsSame : SelectorTrees → Type 0
   PartsSame rest = (r q : Role) (t : Subtype) → IsKnown s t → IsSame rest (standing.Part r t) (standing.Part q t)
 
-  component_same : (rest : SelectorTrees) → PartsSame rest → (r q : Role) (n : ℕ) (o : Option TypeForm) → form_at s n ≡ o → (name : List ℕ) → IsSame rest (component_stands r o name) (component_stands q o name)
+  component_same : (rest : SelectorTrees) → PartsSame rest → (r q : Role) (n : ℕ) (o : Option TypeForm) → form_at s n ≡ o → (name : List ℕ)
+      → IsSame rest (component_stands r o name) (component_stands q o name)
   component_same rest later r q n (Some (Records cs)) e name = by_part (component_of cs name) refl
     where
       by_part : (c : Option Subtype) → component_of cs name ≡ c → IsSame rest (part_of r c) (part_of q c)
@@ -252,11 +272,13 @@ module _ (s : Scope) (p : Place) (agrees : Agrees s p) where
       by_part None h = final_same rest standing.Doubtful refl
   component_same rest later r q n o e name = final_same rest standing.Doubtful refl
 
-  element_same : (rest : SelectorTrees) → PartsSame rest → (r q : Role) (n : ℕ) (o : Option TypeForm) → form_at s n ≡ o → (single : Bool) → IsSame rest (element_stands r o single) (element_stands q o single)
+  element_same : (rest : SelectorTrees) → PartsSame rest → (r q : Role) (n : ℕ) (o : Option TypeForm) → form_at s n ≡ o → (single : Bool)
+      → IsSame rest (element_stands r o single) (element_stands q o single)
   element_same rest later r q n (Some (Arrays index count element)) e true = later r q element (sound_form s agrees.sound n (Arrays index count element) e).earlier.known
   element_same rest later r q n o e single = final_same rest standing.Doubtful refl
 
-  select_same : (x : SelectorTree) (rest : SelectorTrees) → PartsSame rest → (r q : Role) (t : Subtype) → IsKnown s t → IsSame rest (object_select s r t x) (object_select p.scope q t x)
+  select_same : (x : SelectorTree) (rest : SelectorTrees) → PartsSame rest → (r q : Role) (t : Subtype) → IsKnown s t
+      → IsSame rest (object_select s r t x) (object_select p.scope q t x)
   select_same (Component name) rest later r q t known =
       subst (λ o. IsSame rest (component_stands r (form_at s t.type_number) name.name) (component_stands q o name.name)) (sym (same_form t.type_number known))
       (component_same rest later r q t.type_number (form_at s t.type_number) refl name.name)
@@ -289,18 +311,30 @@ module _ (s : Scope) (p : Place) (agrees : Agrees s p) where
   valueless_same selectors w u h k = all_valueless p.scope selectors u k ∙ sym (all_valueless s selectors w h)
 
   -- by what the name means at the place
-  pub object_same : (name : List ℕ) (selectors : SelectorTrees) (r : Role) (t : Subtype) (v : Value) → IsKnown s t → meaning_of p name ≡ IsObject t v → IsSame selectors (standing.Part r t) (stands_here p name)
+  pub object_same : (name : List ℕ) (selectors : SelectorTrees) (r : Role) (t : Subtype) (v : Value) → IsKnown s t → meaning_of p name ≡ IsObject t v
+      → IsSame selectors (standing.Part r t) (stands_here p name)
   object_same name selectors r t v known h =
       let at : stands_here p name ≡ standing.Part role.Variable t = subst (λ m. Corresponds m (stands_here p name)) h (corresponds p name) in
       subst (λ w. IsSame selectors (standing.Part r t) w) (sym at) (part_same selectors r role.Variable t known)
 
-  pub subtype_same : (name : List ℕ) (selectors : SelectorTrees) (t : Subtype) → IsKnown s t → meaning_of p name ≡ IsSubtype t → IsSame selectors (standing.Named t) (stands_here p name)
+  -- a loop parameter
+  pub number_same : (name : List ℕ) (selectors : SelectorTrees) (r : Role) (t : Subtype) → is_integers (form_at s t.type_number) ≡ true
+      → MeansNumber p.scope (meaning_of p name) → IsSame selectors (standing.Part r t) (stands_here p name)
+  number_same name selectors r t integers h =
+      let at : stands_here p name ≡ standing.Part role.Variable h.subtype = subst (λ m. Corresponds m (stands_here p name)) h.is (corresponds p name) in
+      subst (λ w. IsSame selectors (standing.Part r t) w) (sym at)
+      (integer_valueless p.scope role.Variable h.subtype selectors h.integers ∙ sym (integer_valueless s r t selectors integers))
+
+  pub subtype_same : (name : List ℕ) (selectors : SelectorTrees) (t : Subtype) → IsKnown s t → meaning_of p name ≡ IsSubtype t
+      → IsSame selectors (standing.Named t) (stands_here p name)
   subtype_same name selectors t known h =
       let at : stands_here p name ≡ standing.Named t = subst (λ m. Corresponds m (stands_here p name)) h (corresponds p name) in
       subst (λ w. IsSame selectors (standing.Named t) w) (sym at) (named_same selectors t known)
 
-  pub constant_same : (name : List ℕ) (selectors : SelectorTrees) (t : Subtype) (v : Option Scalar) → IsKnown s t → stands_here p name ≡ standing.Fixed t v → IsSame selectors (standing.Fixed t v) (stands_here p name)
+  pub constant_same : (name : List ℕ) (selectors : SelectorTrees) (t : Subtype) (v : Option Scalar) → IsKnown s t → stands_here p name ≡ standing.Fixed t v
+      → IsSame selectors (standing.Fixed t v) (stands_here p name)
   constant_same name selectors t v known h = subst (λ w. IsSame selectors (standing.Fixed t v) w) (sym h) (fixed_same selectors t v known)
 
-  pub given_same : (name : List ℕ) (selectors : SelectorTrees) (t : Subtype) (v : Option Scalar) → stands_here p name ≡ standing.Given t v → IsSame selectors (standing.Given t v) (stands_here p name)
+  pub given_same : (name : List ℕ) (selectors : SelectorTrees) (t : Subtype) (v : Option Scalar) → stands_here p name ≡ standing.Given t v
+      → IsSame selectors (standing.Given t v) (stands_here p name)
   given_same name selectors t v h = subst (λ w. IsSame selectors (standing.Given t v) w) (sym h) (final_same selectors (standing.Given t v) refl)

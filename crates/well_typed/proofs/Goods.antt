@@ -1,38 +1,36 @@
 -- What is known of legal names in a sound scope, part by part, without evaluation.
-use Rattle.std.proofs.Common.{◌≡◌, ℕ, zero, suc, ℤ, pos, ◌++◌, List, [], ◌∷◌, Bool, true, false, not, Option, Some, None, refl, sym, ap, ◌∙◌, subst}
-use Rattle.std.specs.Prelude.{⊤, bytes_eq, codes, cond, is_none, is_some, length, nat_eq, position, slice_get}
+use Rattle.std.proofs.Common.{◌≡◌, ℕ, zero, suc, ℤ, pos, List, [], ◌∷◌, Bool, true, false, Option, Some, None, refl, sym, ap, ◌∙◌, subst}
+use Rattle.std.specs.Prelude.{⊤, bytes_eq, codes, cond, is_none, is_some, length, position, slice_get}
 use Rattle.ada_tree.specs.declared.expression.Identifier.{Identifier}
-use Rattle.ada_tree.specs.ExpressionTree.{SelectorTrees, NoSelectors, MoreSelectors, SelectorTree, Component, Arguments, Attribute, ArgumentTrees}
+use Rattle.ada_tree.specs.ExpressionTree.{SelectorTrees, NoSelectors, MoreSelectors, SelectorTree, Component, Arguments, Attribute}
 use Rattle.types.specs.declared.entity.Subtype.{Subtype}
 use Rattle.types.specs.declared.entity.Role.{Role}
+use Rattle.types.specs.declared.entity.Role.TheVariants as role
 use Rattle.types.specs.declared.entity.Value.{Value as Scalar}
 use Rattle.types.specs.declared.entity.Value.TheVariants as scalar
 use Rattle.types.specs.declared.entity.RecordComponent.{RecordComponent}
 use Rattle.types.specs.declared.entity.FormalParameter.{FormalParameter}
 use Rattle.types.specs.declared.entity.PredefinedOperation.{PredefinedOperation}
 use Rattle.types.specs.declared.entity.PredefinedOperation.TheVariants as predefined
-use Rattle.types.specs.declared.standing.Callee.{Callee}
 use Rattle.types.specs.declared.standing.Callee.TheVariants as callee
 use Rattle.types.specs.declared.standing.Standing.{Standing}
 use Rattle.types.specs.declared.standing.Standing.TheVariants as standing
 use Rattle.types.specs.Entities.{TypeForm, Integers, Booleans, Times, Spans, Arrays, Records, Profile, Operation, ProtectedObject, Entity, OfType, OfSubtype, Object, Constant, Literal, Exception, Subprogram, Entry, Predefined, Put, Task, Protected, LibraryUnit, Doubtful}
-use Rattle.types.specs.Scopes.{Scope, base_range_of, boolean, boolean_type, entity_at, form_at, form_of, profile_of, protected_at, protected_of}
-use Rattle.types.specs.Shapes.{has_shape, shape_of}
+use Rattle.types.specs.Scopes.{Scope, boolean_type, entity_at, form_at, form_of, profile_of, protected_at, protected_of}
+use Rattle.types.specs.Shapes.{has_shape}
 use Rattle.types.specs.Standings.{array_attribute, bounds_stand, bound_stands, call_stands, called_operation, callee_profile, component_of, component_stands, conversion_stands, element_stands, is_single, object_attribute, operation_profile, operation_stands, profile_among, result_stands, select, select_all, settle, stands_for, subtype_attribute}
-use Rattle.types.specs.Values.{Value, Number, Truth, value_of}
+use Rattle.types.specs.Values.{Number, Truth, value_of}
 use Rattle.types.specs.Evaluating.{fixed_value}
-use Rattle.expr_rules.specs.declared.own.Own.{Own}
-use Rattle.expr_rules.specs.declared.own.Own.TheVariants.{Unknown, Universal, Typed}
-use Rattle.expr_rules.specs.Faults.{Faults, rule}
+use Rattle.expr_rules.specs.declared.own.Own.TheVariants.{Universal, Typed}
 use Rattle.expr_rules.specs.Typing.{is_integers, is_known, is_spans, is_times, own_of_standing}
-use Rattle.expr_rules.specs.NameRules.{component_rule, count_rule, end_rule, is_doubtful, operation_rule, part_rule, value_rule}
+use Rattle.expr_rules.specs.NameRules.{component_rule, is_doubtful, operation_rule, part_rule, value_rule}
 use Rattle.expr_rules.specs.ExpressionRules.{arguments_faults, selector_faults, selectors_faults}
 use Rattle.expr_rules.specs.Laws.{is_value_of, type_shape}
-use Rattle.expr_rules.proofs.TypeShapes.{boolean_value, has_numbers, is_number, numeric_value, type_entity}
+use Rattle.expr_rules.proofs.TypeShapes.{boolean_value, type_entity}
 use Rattle.expr_rules.proofs.TypedLaw.{back_empty, front_empty, integral_numeric, suits_number, unbroken}
-use Rattle.well_typed.specs.SoundScopes.{AreEarlier, AreIn, AreKnown, AreSoundOperations, HasOperation, IsEarlier, IsKnown, IsSound, IsSoundArray, IsSoundConstant, IsSoundEntry, IsSoundForm, IsSoundOperation, IsSoundPredefined, IsSoundProfile, IsSoundResult, IsSoundType, SoundScope, integer_formal}
+use Rattle.well_typed.specs.SoundScopes.{AreEarlier, AreIn, AreKnown, AreSoundOperations, HasOperation, IsEarlier, IsKnown, IsSoundConstant, IsSoundEntry, IsSoundForm, IsSoundObject, IsSoundOperation, IsSoundPredefined, IsSoundProfile, IsSoundResult, IsSoundType, SoundScope, integer_formal}
 use Rattle.well_typed.proofs.Positions.{found_at, place_is, same_some}
-use Rattle.well_typed.proofs.Parts.{before, shape_by_form, subtype_values}
+use Rattle.well_typed.proofs.Parts.{shape_by_form, subtype_values}
 
 -- ---- what is known of what a name stands for
 
@@ -78,6 +76,15 @@ pub not_none : {X : Type 0} (o : Option X) → is_none o ≡ false → (x : X) �
 not_none (Some x) h = (x, refl)
 not_none None h = cc
 
+-- whatever object it is, its type is declared
+pub object_known : (s : Scope) (r : Role) (t : Subtype) → IsSoundObject s r t → IsKnown s t
+object_known s role.LoopParameter t h = by_form (form_at s t.type_number) h
+  where
+    by_form : (o : Option TypeForm) → is_integers o ≡ true → is_some o ≡ true
+    by_form (Some form) k = refl
+    by_form None k = cc
+object_known s r t h = h
+
 -- a constant's type is no composite one
 abbrev pub is_composite : Option TypeForm → Bool
 is_composite (Some (Arrays index length element)) = true
@@ -105,7 +112,8 @@ module _ (s : Scope) (sound : SoundScope s) where
           by_form (Some form) k = refl
           by_form None k = cc
 
-      gives : (formals : List FormalParameter) (test : Option TypeForm → Bool) → test None ≡ false → AreIn formals → AreKnown s formals → HasOperation s formals test p → IsSoundProfile s p
+      gives : (formals : List FormalParameter) (test : Option TypeForm → Bool) → test None ≡ false → AreIn formals → AreKnown s formals
+          → HasOperation s formals test p → IsSoundProfile s p
       gives formals test none ins all x =
           record {
             known = subst (AreKnown s) (sym x.takes) all;
@@ -127,7 +135,7 @@ module _ (s : Scope) (sound : SoundScope s) where
   pub good_first : (n : ℕ) (e : Entity) → entity_at s n ≡ Some e → Good s (stands_for n (Some e))
   good_first n (OfType form t) h = known_type n form t h
   good_first n (OfSubtype t) h = sound.each n (OfSubtype t) h
-  good_first n (Object r t) h = sound.each n (Object r t) h
+  good_first n (Object r t) h = object_known s r t (sound.each n (Object r t) h)
   good_first n (Constant t v) h = sound.each n (Constant t v) h
   good_first n (Literal b) h = boolean_value s (Typed boolean_type) (ap (λ o. is_booleans o) sound.boolean) (Truth b)
     where
@@ -146,7 +154,8 @@ module _ (s : Scope) (sound : SoundScope s) where
 
   -- ---- parts
 
-  pub earlier_component : (n : ℕ) (cs : List RecordComponent) (name : List ℕ) (t : Subtype) → AreEarlier s n cs → component_of cs name ≡ Some t → IsEarlier s n t
+  pub earlier_component : (n : ℕ) (cs : List RecordComponent) (name : List ℕ) (t : Subtype) → AreEarlier s n cs → component_of cs name ≡ Some t
+      → IsEarlier s n t
   earlier_component n [] name t all h = cc
   earlier_component n (c ∷ cs) name t all h = by_test (bytes_eq c.name name) (earlier_component n cs name t all.1) h
     where
@@ -154,7 +163,8 @@ module _ (s : Scope) (sound : SoundScope s) where
       by_test true later k = subst (λ u. IsEarlier s n u) (same_some c.subtype t k) all.0
       by_test false later k = later k
 
-  good_component : (r : Role) (place : ℕ) (name : Identifier) (n : ℕ) (o : Option TypeForm) → form_at s n ≡ o → component_rule place name o ≡ [] → Good s (component_stands r o name.name)
+  good_component : (r : Role) (place : ℕ) (name : Identifier) (n : ℕ) (o : Option TypeForm) → form_at s n ≡ o → component_rule place name o ≡ []
+      → Good s (component_stands r o name.name)
   good_component r place name n (Some (Records cs)) e h =
       let found = not_none (component_of cs name.name) (unbroken 10 name.place (is_none (component_of cs name.name)) h) in
       subst (λ c. Good s (part c)) (sym found.1) (earlier_component n cs name.name found.0 (sound_form n (Records cs) e) found.1).known
@@ -165,7 +175,8 @@ module _ (s : Scope) (sound : SoundScope s) where
   good_component r place name n o e h = cc
 
   -- First, Last and Length
-  good_bounds : (t : Subtype) (name : List ℕ) → is_integers (form_at s t.type_number) ≡ true → is_doubtful (bounds_stand t name) ≡ false → Good s (bounds_stand t name)
+  good_bounds : (t : Subtype) (name : List ℕ) → is_integers (form_at s t.type_number) ≡ true → is_doubtful (bounds_stand t name) ≡ false
+      → Good s (bounds_stand t name)
   good_bounds t name h k = by_first (bytes_eq name (codes "FIRST")) (bytes_eq name (codes "LAST")) k
     where
       by_first : (a b : Bool) → is_doubtful (cond a (bound_stands t t.first) (cond b (bound_stands t t.last) standing.Doubtful)) ≡ false
@@ -174,26 +185,32 @@ module _ (s : Scope) (sound : SoundScope s) where
       by_first false true k = integer_value s t.type_number h t.last
       by_first false false k = cc
 
-  good_array_attribute : (index : Subtype) (count : ℕ) (name : List ℕ) → is_integers (form_at s index.type_number) ≡ true → is_doubtful (array_attribute index count name) ≡ false → Good s (array_attribute index count name)
+  good_array_attribute : (index : Subtype) (count : ℕ) (name : List ℕ) → is_integers (form_at s index.type_number) ≡ true
+      → is_doubtful (array_attribute index count name) ≡ false → Good s (array_attribute index count name)
   good_array_attribute index count name h k = by_test (bytes_eq name (codes "LENGTH")) k
     where
-      by_test : (b : Bool) → is_doubtful (cond b (standing.Plain (pos count)) (bounds_stand index name)) ≡ false → Good s (cond b (standing.Plain (pos count)) (bounds_stand index name))
+      by_test : (b : Bool) → is_doubtful (cond b (standing.Plain (pos count)) (bounds_stand index name)) ≡ false
+          → Good s (cond b (standing.Plain (pos count)) (bounds_stand index name))
       by_test true k = tt
       by_test false k = good_bounds index name h k
 
-  good_attribute : (n : ℕ) (o : Option TypeForm) (name : List ℕ) → form_at s n ≡ o → is_doubtful (object_attribute o name) ≡ false → Good s (object_attribute o name)
+  good_attribute : (n : ℕ) (o : Option TypeForm) (name : List ℕ) → form_at s n ≡ o → is_doubtful (object_attribute o name) ≡ false
+      → Good s (object_attribute o name)
   good_attribute n (Some (Arrays index count element)) name e k = good_array_attribute index count name (sound_form n (Arrays index count element) e).integers k
   good_attribute n o name e k = cc
 
-  good_element : (r : Role) (n : ℕ) (o : Option TypeForm) (single : Bool) → form_at s n ≡ o → is_doubtful (element_stands r o single) ≡ false → Good s (element_stands r o single)
+  good_element : (r : Role) (n : ℕ) (o : Option TypeForm) (single : Bool) → form_at s n ≡ o → is_doubtful (element_stands r o single) ≡ false
+      → Good s (element_stands r o single)
   good_element r n (Some (Arrays index count element)) true e k = (sound_form n (Arrays index count element) e).earlier.known
   good_element r n o single e k = cc
 
-  good_conversion : (t : Subtype) (o : Option TypeForm) (single : Bool) → is_doubtful (conversion_stands t o single) ≡ false → Good s (conversion_stands t o single)
+  good_conversion : (t : Subtype) (o : Option TypeForm) (single : Bool) → is_doubtful (conversion_stands t o single) ≡ false
+      → Good s (conversion_stands t o single)
   good_conversion t (Some Integers) true k = tt
   good_conversion t o single k = cc
 
-  good_subtype_attribute : (t : Subtype) (o : Option TypeForm) (name : List ℕ) → form_at s t.type_number ≡ o → is_doubtful (subtype_attribute t o name) ≡ false → Good s (subtype_attribute t o name)
+  good_subtype_attribute : (t : Subtype) (o : Option TypeForm) (name : List ℕ) → form_at s t.type_number ≡ o → is_doubtful (subtype_attribute t o name) ≡ false
+      → Good s (subtype_attribute t o name)
   good_subtype_attribute t (Some Integers) name e k = good_bounds t name (ap is_integers e) k
   good_subtype_attribute t (Some (Arrays index count element)) name e k = good_array_attribute index count name (sound_form t.type_number (Arrays index count element) e).integers k
   good_subtype_attribute t o name e k = cc
@@ -206,7 +223,8 @@ module _ (s : Scope) (sound : SoundScope s) where
   good_call (Some p) h = good_result p.result
   good_call None h = absurd h
 
-  pub sound_operation : (operations : List Operation) (k : ℕ) (o : Operation) → AreSoundOperations s operations → slice_get operations k ≡ Some o → IsSoundOperation s o.is_entry o.profile
+  pub sound_operation : (operations : List Operation) (k : ℕ) (o : Operation) → AreSoundOperations s operations → slice_get operations k ≡ Some o
+      → IsSoundOperation s o.is_entry o.profile
   sound_operation [] k o all h = cc
   sound_operation (x ∷ xs) zero o all h = subst (λ y. IsSoundOperation s y.is_entry y.profile) (same_some x o h) all.0
   sound_operation (x ∷ xs) (suc k) o all h = sound_operation xs k o all.1 h
@@ -215,7 +233,8 @@ module _ (s : Scope) (sound : SoundScope s) where
   sound_result true p h = good_entry p h
   sound_result false p h = h
 
-  good_operation : (n : ℕ) (o : Option ProtectedObject) (name : Identifier) → protected_at s n ≡ o → GoodObject s o → operation_rule name o ≡ [] → Good s (operation_stands n o name.name)
+  good_operation : (n : ℕ) (o : Option ProtectedObject) (name : Identifier) → protected_at s n ≡ o → GoodObject s o → operation_rule name o ≡ []
+      → Good s (operation_stands n o name.name)
   good_operation n (Some p) name e all h = by_place (position (λ o. bytes_eq o.name name.name) p.operations) refl (unbroken 10 name.place (is_none (position (λ o. bytes_eq o.name name.name) p.operations)) h)
     where
       by_place : (k : Option ℕ) → position (λ o. bytes_eq o.name name.name) p.operations ≡ k → is_none k ≡ false → Good s (called_operation n k)
@@ -233,11 +252,13 @@ module _ (s : Scope) (sound : SoundScope s) where
       suited : has_shape (type_shape s t.type_number) (value_of x.value) ≡ true
       suited = sym (subtype_values s t (value_of x.value)) ∙ x.suited
 
-      by_value : (index : Subtype) (count : ℕ) (element : Subtype) (v : Scalar) → form_at s t.type_number ≡ Some (Arrays index count element) → has_shape (type_shape s t.type_number) (value_of v) ≡ true → ⊥
+      by_value : (index : Subtype) (count : ℕ) (element : Subtype) (v : Scalar) → form_at s t.type_number ≡ Some (Arrays index count element)
+          → has_shape (type_shape s t.type_number) (value_of v) ≡ true → ⊥
       by_value index count element (scalar.Number z) e h = let y = shape_by_form s t.type_number (Arrays index count element) e in let k = sym (ap (λ x. has_shape x (Number z)) y.1) ∙ h in cc
       by_value index count element (scalar.Truth b) e h = let y = shape_by_form s t.type_number (Arrays index count element) e in let k = sym (ap (λ x. has_shape x (Truth b)) y.1) ∙ h in cc
 
-      by_record : (cs : List RecordComponent) (v : Scalar) → form_at s t.type_number ≡ Some (Records cs) → has_shape (type_shape s t.type_number) (value_of v) ≡ true → ⊥
+      by_record : (cs : List RecordComponent) (v : Scalar) → form_at s t.type_number ≡ Some (Records cs)
+          → has_shape (type_shape s t.type_number) (value_of v) ≡ true → ⊥
       by_record cs (scalar.Number z) e h = let y = shape_by_form s t.type_number (Records cs) e in let k = sym (ap (λ x. has_shape x (Number z)) y.1) ∙ h in cc
       by_record cs (scalar.Truth b) e h = let y = shape_by_form s t.type_number (Records cs) e in let k = sym (ap (λ x. has_shape x (Truth b)) y.1) ∙ h in cc
 
@@ -262,10 +283,22 @@ module _ (s : Scope) (sound : SoundScope s) where
   scalar_attribute (Some (Arrays index count element)) name h k = cc
   scalar_attribute o name h k = cc
 
-  pub no_constant_parts : (place : ℕ) (t : Subtype) (v : Option Scalar) (x : SelectorTree) → IsSoundConstant s t v → part_rule s place (standing.Fixed t v) x ≡ [] → ⊥
+  pub no_constant_parts : (place : ℕ) (t : Subtype) (v : Option Scalar) (x : SelectorTree) → IsSoundConstant s t v
+      → part_rule s place (standing.Fixed t v) x ≡ [] → ⊥
   no_constant_parts place t v (Component name) c h = scalar_component place name (form_at s t.type_number) (constant_scalar t v c) h
   no_constant_parts place t v (Arguments a) c h = scalar_element _ (form_at s t.type_number) (is_single a) (constant_scalar t v c) (unbroken 12 place _ h)
   no_constant_parts place t v (Attribute name) c h = scalar_attribute (form_at s t.type_number) name.name (constant_scalar t v c) (unbroken 12 place _ h)
+
+  integers_scalar : (o : Option TypeForm) → is_integers o ≡ true → is_composite o ≡ false
+  integers_scalar (Some Integers) h = refl
+  integers_scalar o h = cc
+
+  -- nor has an integer
+  pub no_integer_parts : (place : ℕ) (r : Role) (t : Subtype) (x : SelectorTree) → is_integers (form_at s t.type_number) ≡ true
+      → part_rule s place (standing.Part r t) x ≡ [] → ⊥
+  no_integer_parts place r t (Component name) c h = scalar_component place name (form_at s t.type_number) (integers_scalar (form_at s t.type_number) c) h
+  no_integer_parts place r t (Arguments a) c h = scalar_element r (form_at s t.type_number) (is_single a) (integers_scalar (form_at s t.type_number) c) (unbroken 12 place _ h)
+  no_integer_parts place r t (Attribute name) c h = scalar_attribute (form_at s t.type_number) name.name (integers_scalar (form_at s t.type_number) c) (unbroken 12 place _ h)
 
   pub good_select : (place : ℕ) (w : Standing) (x : SelectorTree) → Good s w → part_rule s place w x ≡ [] → Good s (select s w x)
   good_select place (standing.Part r t) (Component name) g h = good_component r place name t.type_number (form_at s t.type_number) refl h
@@ -321,7 +354,8 @@ module _ (s : Scope) (sound : SoundScope s) where
   part_unbroken place w (Arguments a) h = front_empty (part_rule s place w (Arguments a)) (arguments_faults s w 0 a) h
   part_unbroken place w (Attribute name) h = h
 
-  pub good_all : (place : ℕ) (selectors : SelectorTrees) (w : Standing) → Good s w → selectors_faults s place w selectors ≡ [] → Good s (select_all s w selectors)
+  pub good_all : (place : ℕ) (selectors : SelectorTrees) (w : Standing) → Good s w → selectors_faults s place w selectors ≡ []
+      → Good s (select_all s w selectors)
   good_all place NoSelectors w g h = good_settle w g
   good_all place (MoreSelectors x rest) w g h =
       let here = front_empty (selector_faults s place w x) (selectors_faults s place (select s w x) rest) h in
@@ -352,7 +386,8 @@ module _ (s : Scope) (sound : SoundScope s) where
   known_settled place standing.Other g h = cc
   known_settled place standing.Doubtful g h = absurd g
 
-  pub known_all : (place : ℕ) (selectors : SelectorTrees) (w : Standing) → Good s w → selectors_faults s place w selectors ≡ [] → value_rule place (select_all s w selectors) ≡ []
+  pub known_all : (place : ℕ) (selectors : SelectorTrees) (w : Standing) → Good s w → selectors_faults s place w selectors ≡ []
+      → value_rule place (select_all s w selectors) ≡ []
       → is_known (own_of_standing (select_all s w selectors)) ≡ true
   known_all place NoSelectors w g h v = known_settled place w g v
   known_all place (MoreSelectors x rest) w g h v =

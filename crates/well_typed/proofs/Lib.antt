@@ -1,12 +1,20 @@
-mod Positions
+pub mod Positions
 mod Parts
-mod Goods
+pub mod Goods
 mod Growing
+mod Hiding
 mod Agreement
-mod FixedNames
+pub mod FixedNames
 mod Elements
-mod Denoting
+pub mod Denoting
 mod Applying
-mod Arguments
-mod Expressions
+pub mod Arguments
+pub mod Expressions
 mod Calls
+mod Storing
+mod Targeting
+mod Stored
+mod Standard
+mod Widening
+mod Clauses
+mod LoopExample

@@ -1,15 +1,14 @@
 -- The shapes of types by their forms, and those of what they are made of.
-use Rattle.std.proofs.Common.{◌≡◌, ℕ, zero, suc, ◌+◌, ◌<◌, ◌++◌, length, take, List, [], ◌∷◌, Bool, true, false, Option, Some, None, refl, sym, ap, ◌∙◌, subst, arith}
-use Rattle.std.specs.Prelude.{is_some, slice_get}
+use Rattle.std.proofs.Common.{◌≡◌, ℕ, zero, suc, ◌+◌, ◌<◌, ◌++◌, length, take, List, [], ◌∷◌, Some, refl, sym, ap, ◌∙◌, subst, arith}
+use Rattle.std.specs.Prelude.{slice_get}
 use Rattle.std.proofs.lemmas.List.{length-append}
 use Rattle.types.specs.declared.entity.Subtype.{Subtype}
-use Rattle.types.specs.Entities.{TypeForm, Entity, OfType}
+use Rattle.types.specs.Entities.{TypeForm, OfType}
 use Rattle.types.specs.Scopes.{Scope, Named, entity_at, form_at, base_range_of}
 use Rattle.types.specs.Values.{Value, Number, Truth, Array, Record}
 use Rattle.types.specs.Shapes.{Shape, Ranged, Logical, Timed, Repeated, Grouped, Shapeless, entity_shape, form_shape, has_shape, narrowed, shape_among, shape_of, shape_or_none, shapes, shapes_after}
 use Rattle.expr_rules.specs.Laws.{type_shape}
 use Rattle.expr_rules.proofs.TypeShapes.{at_end, entity_named, kept_shape, type_entity}
-use Rattle.well_typed.specs.SoundScopes.{IsEarlier, IsKnown}
 use Rattle.well_typed.proofs.Positions.{item_kept, same_some}
 
 -- the first value of a subtype tells nothing of which values are of its shape
@@ -29,7 +28,8 @@ pub subtype_values : (s : Scope) (t : Subtype) (v : Value) → has_shape (shape_
 subtype_values s t v = narrowed_alike t (base_range_of t.type_number) (shape_or_none (slice_get (shapes s) t.type_number)) v
 
 -- two scopes with the same shape of a type have the same of its subtypes' values
-pub same_values : (s u : Scope) (t : Subtype) (v : Value) → type_shape s t.type_number ≡ type_shape u t.type_number → has_shape (shape_of s t) v ≡ has_shape (shape_of u t) v
+pub same_values : (s u : Scope) (t : Subtype) (v : Value) → type_shape s t.type_number ≡ type_shape u t.type_number
+    → has_shape (shape_of s t) v ≡ has_shape (shape_of u t) v
 same_values s u t v h = subtype_values s t v ∙ ap (λ x. has_shape x v) h ∙ sym (subtype_values u t v)
 
 -- ---- what is before a number
@@ -57,7 +57,8 @@ some_within (x ∷ xs) zero less = (x, refl)
 some_within (x ∷ xs) (suc k) less = some_within xs k (omega (arith, less))
 
 -- those before it are the same in the whole
-before_same : (known : List Shape) (s : Scope) (n k : ℕ) → k < length known + n → slice_get (shapes_after known (take n s)) k ≡ slice_get (shapes_after known s) k
+before_same : (known : List Shape) (s : Scope) (n k : ℕ) → k < length known + n
+    → slice_get (shapes_after known (take n s)) k ≡ slice_get (shapes_after known s) k
 before_same known [] zero k less = refl
 before_same known [] (suc n) k less = refl
 before_same known (x ∷ rest) zero k less =
@@ -74,7 +75,8 @@ before_same known (x ∷ rest) (suc n) k less =
 abbrev pub before : Scope → ℕ → List Shape
 before s n = shapes (take n s)
 
-pub shape_by_form : (s : Scope) (n : ℕ) (form : TypeForm) → form_at s n ≡ Some form → (t : Subtype) × (type_shape s n ≡ narrowed (base_range_of n) (form_shape (before s n) t form))
+pub shape_by_form : (s : Scope) (n : ℕ) (form : TypeForm) → form_at s n ≡ Some form
+    → (t : Subtype) × (type_shape s n ≡ narrowed (base_range_of n) (form_shape (before s n) t form))
 shape_by_form s n form h =
     let one = type_entity (entity_at s n) form h in
     let item = entity_named (slice_get s n) (OfType form one.0) one.1 in

@@ -1,7 +1,7 @@
 -- Where names stand in scopes, and in scopes with more names.
-use Rattle.std.proofs.Common.{◌≡◌, ℕ, zero, suc, ◌+◌, ◌<◌, List, [], ◌∷◌, ◌++◌, length, map, not, Bool, true, false, ◌⊎◌, inl, inr, Option, Some, None, refl, sym, ap, ◌∙◌, subst, arith}
+use Rattle.std.proofs.Common.{◌≡◌, ℕ, zero, suc, ◌+◌, List, [], ◌∷◌, ◌++◌, length, not, Bool, true, false, ◌⊎◌, inl, inr, Option, Some, None, refl, sym, ap, ◌∙◌, arith}
 use Rattle.std.specs.Prelude.{bytes_eq, cond, is_some, nat_lt, option_map, position, slice_get}
-use Rattle.std.specs.List.{position_or_len, prefix_len}
+use Rattle.std.specs.List.{position_or_len}
 use Rattle.types.specs.Entities.{Entity}
 use Rattle.types.specs.Scopes.{Scope, Named, entity_at, entity_of, is_visible, number_of}
 
@@ -61,13 +61,15 @@ pub place_kept : {X : Type 0} (p : X → Bool) (xs ys : List X) (n : ℕ) → fi
 place_kept p [] ys n h = cc
 place_kept {X} p (x ∷ xs) ys n h = by_test (p x) h (λ m. place_kept p xs ys m)
   where
-    by_test : (b : Bool) → cond b (Some 0) (option_map suc (first_place p xs)) ≡ Some n → ((m : ℕ) → first_place p xs ≡ Some m → first_place p (xs ++ ys) ≡ Some m)
+    by_test : (b : Bool) → cond b (Some 0) (option_map suc (first_place p xs)) ≡ Some n
+        → ((m : ℕ) → first_place p xs ≡ Some m → first_place p (xs ++ ys) ≡ Some m)
         → cond b (Some 0) (option_map suc (first_place p (xs ++ ys))) ≡ Some n
     by_test true k later = k
     by_test false k later = let m = suc_of (first_place p xs) n k in ap (option_map suc) (later m.0 m.1) ∙ ap Some (sym m.2)
 
 -- in a list with one more it is found where it was, or it is the last
-pub place_added : {X : Type 0} (p : X → Bool) (xs : List X) (y : X) (n : ℕ) → first_place p (xs ++ y ∷ []) ≡ Some n → (first_place p xs ≡ Some n) ⊎ ((n ≡ length xs) × (p y ≡ true))
+pub place_added : {X : Type 0} (p : X → Bool) (xs : List X) (y : X) (n : ℕ) → first_place p (xs ++ y ∷ []) ≡ Some n
+    → (first_place p xs ≡ Some n) ⊎ ((n ≡ length xs) × (p y ≡ true))
 place_added p [] y n h = by_test (p y) refl h
   where
     by_test : (b : Bool) → p y ≡ b → cond b (Some 0) (option_map {T = ℕ} suc None) ≡ Some n → (first_place p [] ≡ Some n) ⊎ ((n ≡ 0) × (p y ≡ true))
@@ -133,7 +135,8 @@ pub number_kept : (s more : Scope) (name : List ℕ) (n : ℕ) → number_of s n
 number_kept s more name n h =
     number_place (s ++ more) name ∙ place_kept (λ n. bytes_eq name n.name) s more n (sym (number_place s name) ∙ h)
 
-pub number_added : (s : Scope) (x : Named) (name : List ℕ) (n : ℕ) → number_of (s ++ x ∷ []) name ≡ Some n → (number_of s name ≡ Some n) ⊎ ((n ≡ length s) × (bytes_eq name x.name ≡ true))
+pub number_added : (s : Scope) (x : Named) (name : List ℕ) (n : ℕ) → number_of (s ++ x ∷ []) name ≡ Some n
+    → (number_of s name ≡ Some n) ⊎ ((n ≡ length s) × (bytes_eq name x.name ≡ true))
 number_added s x name n h =
     elim (place_added (λ n. bytes_eq name n.name) s x n (sym (number_place (s ++ x ∷ []) name) ∙ h)) [
       | inl e ↦ inl (number_place s name ∙ e)
@@ -149,7 +152,8 @@ entity_kept s more n e h =
     let m = named_item (slice_get s n) e h in
     ap entity_of (item_kept s more n m.0 m.1) ∙ ap Some m.2
 
-pub entity_added : (s : Scope) (x : Named) (n : ℕ) (e : Entity) → entity_at (s ++ x ∷ []) n ≡ Some e → (entity_at s n ≡ Some e) ⊎ ((n ≡ length s) × (x.entity ≡ e))
+pub entity_added : (s : Scope) (x : Named) (n : ℕ) (e : Entity) → entity_at (s ++ x ∷ []) n ≡ Some e
+    → (entity_at s n ≡ Some e) ⊎ ((n ≡ length s) × (x.entity ≡ e))
 entity_added s x n e h =
     let m = named_item (slice_get (s ++ x ∷ []) n) e h in
     elim (item_of_added s x m.0 n m.1) [

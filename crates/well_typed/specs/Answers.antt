@@ -21,7 +21,8 @@ are_actuals s fs vs = false
 -- Each function here, called with values of its formals, gives a value of its result's type or raises an exception, whatever actions are open.
 abbrev pub CallsAnswer : Calls → Place → Type 0
 CallsAnswer calls p = (actions : List ℕ) (owner : Option ℕ) (name : List ℕ) (f : Function) (vs : List Value)
-    → function_of p.functions owner name ≡ Some f → are_actuals p.scope f.formals vs ≡ true → suits p.scope (Typed f.result.type_number) (calls (record p { actions = actions }) f vs) ≡ true
+    → function_of p.functions owner name ≡ Some f → are_actuals p.scope f.formals vs ≡ true
+    → suits p.scope (Typed f.result.type_number) (calls (record p { actions = actions }) f vs) ≡ true
 
 -- what the body of a function returns is legal in a scope that agrees with the place of the body
 pub record IsSoundBody (p : Place) (f : Function) : Type 0 where

@@ -4,3 +4,4 @@ pub mod SoundScopes
 pub mod Agreeing
 pub mod Answers
 pub mod Laws
+pub mod Variables

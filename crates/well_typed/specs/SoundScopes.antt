@@ -1,14 +1,15 @@
 -- Scopes whose names are all known: what the legal declarations in front of a point of the text make visible there (RM 3, 6, 9).
 use Rattle.std.specs.Prelude.{◌≡◌, ◌<◌, ℕ, suc, Bool, true, false, List, [], ◌∷◌, Option, Some, None, is_some, ⊤}
-use Rattle.ada_tree.specs.declared.declaration.Mode.{Mode}
 use Rattle.ada_tree.specs.declared.declaration.Mode.TheVariants as mode
 use Rattle.types.specs.declared.entity.Subtype.{Subtype}
+use Rattle.types.specs.declared.entity.Role.{Role}
+use Rattle.types.specs.declared.entity.Role.TheVariants as role
 use Rattle.types.specs.declared.entity.Value.{Value as Scalar}
 use Rattle.types.specs.declared.entity.RecordComponent.{RecordComponent}
 use Rattle.types.specs.declared.entity.FormalParameter.{FormalParameter}
 use Rattle.types.specs.declared.entity.PredefinedOperation.{PredefinedOperation}
 use Rattle.types.specs.declared.entity.PredefinedOperation.TheVariants as predefined
-use Rattle.types.specs.Entities.{TypeForm, Integers, Booleans, Times, Spans, Arrays, Records, Profile, Operation, Entity, OfType, OfSubtype, Object, Constant, Literal, Exception, Subprogram, Entry, Predefined, Put, Task, Protected, LibraryUnit, Doubtful}
+use Rattle.types.specs.Entities.{TypeForm, Integers, Booleans, Arrays, Records, Profile, Operation, Entity, OfType, OfSubtype, Object, Constant, Subprogram, Entry, Predefined, Protected, Doubtful}
 use Rattle.types.specs.Scopes.{Scope, entity_at, form_at, boolean_type, integer_type, integer}
 use Rattle.types.specs.Shapes.{has_shape, shape_of}
 use Rattle.types.specs.Values.{value_of}
@@ -108,13 +109,20 @@ IsSoundPredefined s predefined.Milliseconds p = HasOperation s (integer_formal �
 IsSoundPredefined s predefined.Microseconds p = HasOperation s (integer_formal ∷ []) is_spans p
 IsSoundPredefined s predefined.Read p = HasOperation s (integer_formal ∷ []) is_integers p
 
+-- ---- objects
+
+-- the type of an object is declared, and that of a loop parameter is an integer type (RM 5.5)
+abbrev pub IsSoundObject : Scope → Role → Subtype → Type 0
+IsSoundObject s role.LoopParameter t = is_integers (form_at s t.type_number) ≡ true
+IsSoundObject s r t = IsKnown s t
+
 -- ---- scopes
 
 -- what the name with this number stands for
 abbrev pub IsSound : Scope → ℕ → Entity → Type 0
 IsSound s number (OfType form t) = IsSoundType s number form t
 IsSound s number (OfSubtype t) = IsKnown s t
-IsSound s number (Object r t) = IsKnown s t
+IsSound s number (Object r t) = IsSoundObject s r t
 IsSound s number (Constant t v) = IsSoundConstant s t v
 IsSound s number (Subprogram p) = IsSoundProfile s p
 IsSound s number (Entry p) = IsSoundEntry s p
