@@ -1,5 +1,5 @@
 pub mod Positions
-mod Parts
+pub mod Parts
 pub mod Goods
 mod Growing
 mod Hiding

@@ -1,0 +1,112 @@
+-- Code of expressions whose values are checked against a subtype.
+use Rattle.std.proofs.Common.{◌≡◌, ℕ, ℤ, ◌+◌, true, Some, refl, sym, ap, ◌∙◌, subst, arith}
+use Rattle.kernel.specs.Laws.{QuietStays}
+use Rattle.ada_tree.specs.ExpressionTree.{ExprTree}
+use Rattle.image.specs.Sections.{Sections}
+use Rattle.image.specs.declared.instruction.Operation.TheVariants as op
+use Rattle.types.specs.declared.entity.Subtype.{Subtype}
+use Rattle.types.specs.Entities.{Booleans, Integers}
+use Rattle.types.specs.Evaluations.{Gives}
+use Rattle.types.specs.Evaluating.{passed, value_with}
+use Rattle.types.specs.Scopes.{form_at, Scope}
+use Rattle.types.specs.Statics.{start_of}
+use Rattle.expr_rules.specs.declared.own.Own.TheVariants.{Typed}
+use Rattle.expr_rules.specs.declared.own.Wanted.{Wanted}
+use Rattle.expr_rules.specs.declared.own.Wanted.TheVariants.{Anything, AnyInteger, OfType}
+use Rattle.expr_rules.specs.declared.names.Slot.TheVariants.{Expects}
+use Rattle.expr_rules.specs.ExpressionRules.{faults_in}
+use Rattle.expr_rules.specs.Laws.{suits}
+use Rattle.expr_rules.specs.NameRules.{mismatch}
+use Rattle.expr_rules.specs.Typing.{is_booleans, is_integers, own_of}
+use Rattle.expr_rules.proofs.TypedLaw.{as_number, as_truth, back_empty, front_empty, integral_numeric}
+use Rattle.well_typed.specs.Laws.{ExpressionsAreTyped}
+use Rattle.well_typed.proofs.Arguments as arguments
+use Rattle.well_typed.proofs.Arguments.{slot_suits}
+use Rattle.expr_code.specs.Views.{At}
+use Rattle.expr_code.specs.Code.{Adds, here}
+use Rattle.expr_code.specs.Computing.{AlwaysPasses, ComputesChecked, IsNumber}
+use Rattle.expr_code.specs.Emitting.{EmitsChecked, EmitsExpression, IsFit, IsLegal, WantedFits}
+use Rattle.expr_code.specs.Seeing.{library_of, Sees, Suits}
+use Rattle.expr_code.specs.declared.code.Code.{Code}
+use Rattle.expr_code.specs.declared.visible.Visible.{Visible}
+use Rattle.expr_code.proofs.Flowing.{flows_then, instruction_flows}
+use Rattle.expr_code.proofs.Growing.{added_at, added_extends, added_here, extends_trans, holds_before}
+use Rattle.expr_code.proofs.Passing.{computes_checked, computes_unchecked}
+
+module _ (s : Scope) (t : Subtype) (e : ExprTree) (h : IsFit s t e) where
+  pub fit_legal : IsLegal s e
+  fit_legal = record { wanted = h.wanted; unbroken = front_empty (faults_in s h.wanted e) (mismatch s h.wanted (own_of s e) (start_of e)) h.unbroken }
+
+-- the value, where there is one, is of the subtype's type
+of_type : ExpressionsAreTyped → (v : Visible) (t : Subtype) (e : ExprTree) → IsFit v.scope t e → (calls : _) (p : _) (view : _) → (library_of v).sound calls → Sees v p view → suits v.scope (Typed t.type_number) (value_with calls p e) ≡ true
+of_type laws v t e h calls p view sound sees =
+    let legal = fit_legal v.scope t e h in
+    slot_suits v.scope (Expects h.wanted) t e (own_of v.scope e) (value_with calls p e) (same_fits h.wanted h.fits)
+    (back_empty (faults_in v.scope h.wanted e) (mismatch v.scope h.wanted (own_of v.scope e) (start_of e)) h.unbroken)
+    (laws.own v.scope p calls sees.agrees (sound p sees.agrees) e legal.wanted legal.unbroken)
+  where
+    same_fits : (w : Wanted) → WantedFits v.scope w t → arguments.WantedFits v.scope w t
+    same_fits (OfType n) f = f
+    same_fits AnyInteger f = f
+    same_fits Anything f = absurd f
+
+module _ (laws : ExpressionsAreTyped) (i : Sections) (v : Visible) (t : Subtype) (e : ExprTree) (h : IsFit v.scope t e) where
+  pub is_a_number : form_at v.scope t.type_number ≡ Some Integers → IsNumber i (library_of v) (Sees v) e
+  is_a_number form calls p view x sound sees is =
+      as_number v.scope (Typed t.type_number) x (integral_numeric v.scope (Typed t.type_number) (ap is_integers form)) (ap (suits v.scope (Typed t.type_number)) (sym is) ∙ of_type laws v t e h calls p view sound sees)
+
+  always_passes : form_at v.scope t.type_number ≡ Some Booleans → AlwaysPasses i (library_of v) (Sees v) t e
+  always_passes form calls p view x sound sees is =
+      let b = as_truth v.scope (Typed t.type_number) x (ap is_booleans form) (ap (suits v.scope (Typed t.type_number)) (sym is) ∙ of_type laws v t e h calls p view sound sees) in
+      subst (λ y. passed t y ≡ Gives y) (sym b.1) refl
+
+module _ (quiet : QuietStays) (laws : ExpressionsAreTyped) (v : Visible) (old mid : Code) (depth : ℕ) (t : Subtype) (e : ExprTree) (h : IsFit v.scope t e) (inner : EmitsExpression v old depth e mid) where
+  pub unchecked_emits : form_at v.scope t.type_number ≡ Some Booleans → EmitsChecked v old depth t e mid
+  unchecked_emits form = record {
+    extends = inner.extends;
+    sized = omega (arith, inner.sized);
+    computes = λ i g. computes_unchecked quiet i (library_of v) (Sees v) (here old) (here mid) t e (inner.computes i g) (always_passes laws i v t e h form);
+    flows = inner.flows;
+  }
+
+  module _ (low high new : Code) (one two three : ℕ) (x y : ℤ) (p : one ≡ depth + 1) (q : two ≡ one + 1) (r : three ≡ two + 1) (sx : x ≡ t.first) (sy : y ≡ t.last)
+      (ax : Adds mid one (op.Push x) low) (ay : Adds low two (op.Push y) high) (check : Adds high three op.CheckRange new) where
+    first : Adds mid (depth + 1) (op.Push t.first) low
+    first = subst (λ n. Adds mid n (op.Push t.first) low) p (subst (λ z. Adds mid one (op.Push z) low) sx ax)
+
+    second : Adds low (depth + 1 + 1) (op.Push t.last) high
+    second = subst (λ n. Adds low n (op.Push t.last) high) (q ∙ ap (λ n. n + 1) p) (subst (λ z. Adds low two (op.Push z) high) sy ay)
+
+    third : Adds high (depth + 1 + 1 + 1) op.CheckRange new
+    third = subst (λ n. Adds high n op.CheckRange new) (r ∙ ap (λ n. n + 1) (q ∙ ap (λ n. n + 1) p)) check
+
+    pub checked_emits : form_at v.scope t.type_number ≡ Some Integers → EmitsChecked v old depth t e new
+    checked_emits form =
+        let a = added_here mid low (depth + 1) (op.Push t.first) first in
+        let b = added_here low high (depth + 1 + 1) (op.Push t.last) second in
+        let c = added_here high new (depth + 1 + 1 + 1) op.CheckRange third in
+        let ea = added_extends mid low (depth + 1) (op.Push t.first) first in
+        let eb = added_extends low high (depth + 1 + 1) (op.Push t.last) second in
+        let ec = added_extends high new (depth + 1 + 1 + 1) op.CheckRange third in
+        let after = extends_trans mid low new ea (extends_trans low high new eb ec) in
+        record {
+          extends = extends_trans old mid new inner.extends after;
+          sized = omega (arith, inner.sized, a, b, c);
+          computes = λ i g.
+              let le = inner.extends.longer in
+              let at_first = added_at mid low (depth + 1) (op.Push t.first) first i (here old) le (holds_before i (here old) low new (extends_trans low high new eb ec) g) in
+              let at_second = added_at low high (depth + 1 + 1) (op.Push t.last) second i (here old) (omega (arith, le, a)) (holds_before i (here old) high new ec g) in
+              let at_third = added_at high new (depth + 1 + 1 + 1) op.CheckRange third i (here old) (omega (arith, le, a, b)) g in
+              let end : here new ≡ here mid + 3 = omega (arith, a, b, c) in
+              let next : here low ≡ here mid + 1 = omega (arith, a) in
+              let last : here high ≡ here mid + 2 = omega (arith, a, b) in
+              subst (λ n. ComputesChecked i (library_of v) (Sees v) (here old) n t e) (sym end)
+              (computes_checked quiet i (library_of v) (Sees v) (here old) (here mid) t e le (inner.computes i (holds_before i (here old) mid new after g)) (is_a_number laws i v t e h form)
+              (at_first, subst (λ n. At i n (op.Push t.last)) next at_second, subst (λ n. At i n op.CheckRange) last at_third));
+          flows = flows_then (Suits v) old mid new depth (depth + 1) (depth + 1) inner.extends after inner.flows
+              (flows_then (Suits v) mid low new (depth + 1) (depth + 1 + 1) (depth + 1) ea (extends_trans low high new eb ec)
+              (instruction_flows (Suits v) mid low (depth + 1) (depth + 1 + 1) (op.Push t.first) first (record { operands = refl; names = λ i s k. refl; takes = λ i s k. omega arith; leaves = λ i s k. omega arith; stays = refl; is_none = refl }))
+              (flows_then (Suits v) low high new (depth + 1 + 1) (depth + 1 + 1 + 1) (depth + 1) eb ec
+              (instruction_flows (Suits v) low high (depth + 1 + 1) (depth + 1 + 1 + 1) (op.Push t.last) second (record { operands = refl; names = λ i s k. refl; takes = λ i s k. omega arith; leaves = λ i s k. omega arith; stays = refl; is_none = refl }))
+              (instruction_flows (Suits v) high new (depth + 1 + 1 + 1) (depth + 1) op.CheckRange third (record { operands = refl; names = λ i s k. refl; takes = λ i s k. omega arith; leaves = λ i s k. omega arith; stays = refl; is_none = refl }))));
+        }

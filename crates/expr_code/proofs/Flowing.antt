@@ -1,0 +1,167 @@
+-- Code behind code keeps the rules of images, and so do the instructions of which it is made.
+use Rattle.std.proofs.Common.{◌≡◌, ℕ, suc, ◌+◌, ◌-◌, ◌<◌, ◌≤◌, Bool, true, false, ◌&&◌, ◌||◌, not, None, Some, Option, refl, sym, ap, ◌∙◌, subst, arith, rules, ◌⊎◌, inl, inr}
+use Rattle.std.specs.Prelude.{nat_eq, nat_le, nat_lt, slice_get}
+use Rattle.image.specs.Sections.{Sections}
+use Rattle.image.specs.Operations.{given_by, goes_on, jump_target, taken_by}
+use Rattle.image.specs.Rules.{depth_after, has_depth, has_effect, has_operands, is_return, leaves_depth, names_things, none_or}
+use Rattle.image.specs.declared.instruction.Instr.{Instr}
+use Rattle.image.specs.declared.instruction.Operation.{Operation}
+use Rattle.image.specs.declared.subprograms.Subprogram.{Subprogram}
+use Rattle.expr_code.specs.Code.{Extends, Adds, here}
+use Rattle.expr_code.specs.Flows.{AreKept, Flows, Keeps}
+use Rattle.expr_code.specs.declared.code.Code.{Code}
+use Rattle.expr_code.proofs.Growing.{added_here, added_there, holds_before, holds_later}
+
+-- ---- tests
+
+le_true : (a b : ℕ) → a ≤ b → nat_le a b ≡ true
+le_true a b h = search rules
+
+eq_true : (a b : ℕ) → a ≡ b → nat_eq a b ≡ true
+eq_true a b h = search rules
+
+both : (a b : Bool) → a ≡ true → b ≡ true → (a && b) ≡ true
+both true b p q = q
+both false b p q = p
+
+lt_of : (k n : ℕ) → nat_lt k n ≡ true → k < n
+lt_of k n e = search rules
+
+le_of : (k n : ℕ) → nat_lt k n ≡ false → n ≤ k
+le_of k n e = search rules
+
+either : (a b : Bool) → b ≡ true → (a || b) ≡ true
+either true b q = refl
+either false b q = q
+
+absent : (a b : Bool) → a ≡ false → (not a || b) ≡ true
+absent false b p = refl
+absent true b p = cc
+
+-- ---- one behind the other
+
+module _ (i : Sections) (s : Subprogram) where
+  pub widened : (from to low high one two depth : ℕ) → low ≤ from → to ≤ high → AreKept i s from to one two depth → AreKept i s low high one two depth
+  widened from to low high one two depth down up kept = record {
+    begins = kept.begins;
+    shallow = kept.shallow;
+    each = λ k x le less is.
+        let it = kept.each k x le less is in
+        record { operands = it.operands; names = it.names; depth = it.depth; jumps = λ a target. let inside = it.jumps a target in (omega (arith, down, inside.0), omega (arith, up, inside.1)) };
+  }
+
+  pub kept_then : (low high from mid to one two : ℕ) → AreKept i s low high from mid one → AreKept i s low high mid to two → AreKept i s low high from to one
+  kept_then low high from mid to one two first second = record {
+    begins = first.begins;
+    shallow = first.shallow;
+    each = λ k x le less is. by k x le less is (either_side k mid);
+  }
+    where
+      either_side : (k n : ℕ) → (k < n) ⊎ (n ≤ k)
+      either_side k n = by_test (nat_lt k n) refl
+        where
+          by_test : (t : Bool) → nat_lt k n ≡ t → (k < n) ⊎ (n ≤ k)
+          by_test true e = inl (lt_of k n e)
+          by_test false e = inr (le_of k n e)
+
+      by : (k : ℕ) (x : Instr) → from ≤ k → k < to → slice_get i.instructions k ≡ Some x → (k < mid) ⊎ (mid ≤ k) → Keeps i s low high k x
+      by k x le less is (inl small) = first.each k x le small is
+      by k x le less is (inr large) = second.each k x large less is
+
+  -- ---- one instruction, with its names and the depth that it leaves
+  module _ (low high place depth out : ℕ) (o : Operation)
+      (there : slice_get i.instructions place ≡ Some (record { depth = depth; operation = o }))
+      (shallow : depth ≤ s.stack) (within : out ≤ s.stack)
+      (operands : has_operands o ≡ true) (names : names_things i s o ≡ true)
+      (takes : taken_by i s.results o ≤ depth) (leaves : depth - taken_by i s.results o + given_by i o ≡ out)
+      (is_none : is_return o ≡ false)
+      (next : goes_on o ≡ true → has_depth i (suc place) out ≡ true)
+      (jumps : (a : ℕ) → jump_target o ≡ Some a → (low ≤ a) × (a ≤ high) × (has_depth i a out ≡ true)) where
+    abbrev it : Instr
+    it = record { depth = depth; operation = o }
+
+    only : (k : ℕ) (x : Instr) → place ≤ k → k < suc place → slice_get i.instructions k ≡ Some x → (k ≡ place) × (x ≡ it)
+    only k x le less is = (same, some_same x it (sym is ∙ ap (λ n. slice_get i.instructions n) same ∙ there))
+      where
+        same : k ≡ place
+        same = omega (arith, le, less)
+
+        some_same : (x y : Instr) → Some x ≡ Some y → x ≡ y
+        some_same x y e = cc
+
+    begins : has_depth i place depth ≡ true
+    begins = ap (λ y. none_or y (λ x. nat_eq x.depth depth)) there ∙ eq_true depth depth refl
+
+    goes : (b : Bool) → goes_on o ≡ b → (not b || has_depth i (place + 1) (depth_after i s it)) ≡ true
+    goes true e =
+        let more : place + 1 ≡ suc place = omega arith in
+        ap (λ n. has_depth i n (depth_after i s it)) more ∙ ap (has_depth i (suc place)) leaves ∙ next e
+    goes false e = refl
+
+    target : (t : Option ℕ) → jump_target o ≡ t → none_or t (λ a. has_depth i a (depth_after i s it)) ≡ true
+    target None e = refl
+    target (Some a) e = ap (has_depth i a) leaves ∙ (jumps a e).2
+
+    pub kept_one : AreKept i s low high place (suc place) depth
+    kept_one = record {
+      begins = begins;
+      shallow = shallow;
+      each = λ k x le less is.
+          let same = only k x le less is in
+          subst (λ n. Keeps i s low high n x) (sym same.0)
+          (subst (λ y. Keeps i s low high place y) (sym same.1)
+          (record {
+            operands = operands;
+            names = names;
+            depth =
+                both (nat_le depth s.stack) _ (le_true depth s.stack shallow)
+                (both (not (is_return o) || nat_eq depth s.results) (not (has_effect i o) || leaves_depth i place it s) (absent (is_return o) (nat_eq depth s.results) is_none)
+                (either (not (has_effect i o)) (leaves_depth i place it s)
+                (both (nat_le (taken_by i s.results o) depth) _ (le_true (taken_by i s.results o) depth takes)
+                (both (nat_le (depth_after i s it) s.stack) _ (le_true (depth_after i s it) s.stack (omega (arith, leaves, within)))
+                (both (not (goes_on o) || has_depth i (place + 1) (depth_after i s it)) _ (goes (goes_on o) refl)
+                (target (jump_target o) refl))))));
+            jumps = λ a e. let inside = jumps a e in (inside.0, inside.1);
+          }));
+    }
+
+-- ---- code behind code
+
+module _ (Suits : Sections → Subprogram → Type 0) where
+  pub flows_then : (a b c : Code) (one two three : ℕ) → Extends a b → Extends b c → Flows Suits a one b two → Flows Suits b two c three → Flows Suits a one c three
+  flows_then a b c one two three e g p q = record {
+    flows = λ i s h suits deep high depth.
+        let second = q.flows i s (holds_later i (here a) (here b) c e.longer h) suits deep high depth in
+        let first = p.flows i s (holds_before i (here a) b c g h) suits (omega (arith, g.deeper, deep)) second.shallow second.begins in
+        kept_then i s (here a) (here c) (here a) (here b) (here c) one two
+        (widened i s (here a) (here b) (here a) (here c) (here a) (here b) one (omega arith) g.longer first)
+        (widened i s (here b) (here c) (here a) (here c) (here b) (here c) two e.longer (omega arith) second);
+  }
+
+  pub flows_same : (c : Code) (depth : ℕ) → Flows Suits c depth c depth
+  flows_same c depth = record {
+    flows = λ i s h suits deep high is. record { begins = is; shallow = high; each = λ k x le less there. absurd (omega (arith, le, less)) };
+  }
+
+  -- what an instruction that doesn't jump finds and leaves, wherever the names suit
+  pub record Changes (o : Operation) (depth out : ℕ) : Type 0 where
+    pub operands : has_operands o ≡ true
+    pub names : (i : Sections) (s : Subprogram) → Suits i s → names_things i s o ≡ true
+    pub takes : (i : Sections) (s : Subprogram) → Suits i s → taken_by i s.results o ≤ depth
+    pub leaves : (i : Sections) (s : Subprogram) → Suits i s → depth - taken_by i s.results o + given_by i o ≡ out
+    pub stays : jump_target o ≡ None
+    pub is_none : is_return o ≡ false
+
+  pub instruction_flows : (old new : Code) (depth out : ℕ) (o : Operation) → Adds old depth o new → Changes o depth out → Flows Suits old depth new out
+  instruction_flows old new depth out o a c = record {
+    flows = λ i s h suits deep high ends.
+        let end = added_here old new depth o a in
+        let one = kept_one i s (here old) (here new) (here old) depth out o (added_there old new depth o a i (here old) (omega arith) h)
+        (omega (arith, a.within, deep)) high c.operands (c.names i s suits) (c.takes i s suits) (c.leaves i s suits) c.is_none
+        (λ e. ap (λ n. has_depth i n out) (sym end) ∙ ends)
+        (λ n target. absurd (none_some n (sym c.stays ∙ target))) in
+        subst (λ n. AreKept i s (here old) (here new) (here old) n depth) (sym end) one;
+  }
+    where
+      none_some : (n : ℕ) → None ≡ Some n → ⊥
+      none_some n e = cc

@@ -1,0 +1,454 @@
+-- Code along a path from the address of an object to that of a part: one selector, one behind the other, and the load of what stands there.
+use Rattle.std.proofs.Common.{◌≡◌, ℕ, zero, suc, ◌+◌, ◌<◌, ◌≤◌, ◌++◌, ℤ, pos, List, [], ◌∷◌, length, map, take, drop, Bool, true, false, Option, Some, None, refl, sym, ap, ◌∙◌, subst, arith, inl, inr}
+use Rattle.std.specs.Prelude.{bytes_eq, cond, get_or, is_some, not, option_map, slice_get}
+use Rattle.std.proofs.Math.Seq.{take-suc}
+use Rattle.base.specs.declared.faults.TheConstants.{NAME_NOT_VISIBLE}
+use Rattle.base.specs.declared.limits.TheConstants.{WORDS}
+use Rattle.kernel.specs.Laws.{QuietStays}
+use Rattle.ada_tree.specs.declared.expression.Argument.{Argument}
+use Rattle.ada_tree.specs.declared.expression.Argument as arguments
+use Rattle.ada_tree.specs.declared.expression.Expr.{Expr}
+use Rattle.ada_tree.specs.declared.expression.Identifier.{Identifier}
+use Rattle.ada_tree.specs.declared.expression.Selector.{Selector}
+use Rattle.ada_tree.specs.ExpressionTree as tree
+use Rattle.ada_tree.specs.ExpressionTree.{argument_trees, Arguments, bare_name, Component, expr_tree, ExprTree, MoreArguments, MoreSelectors, NoArguments, NoSelectors, SelectorTree, SelectorTrees, selector_tree, selector_trees}
+use Rattle.ada_tree.specs.Size.{selectors_size}
+use Rattle.image.specs.Sections.{Sections}
+use Rattle.image.specs.declared.instruction.Operation.TheVariants as op
+use Rattle.types.specs.declared.entity.RecordComponent.{RecordComponent}
+use Rattle.types.specs.declared.entity.Role.{Role}
+use Rattle.types.specs.declared.entity.Subtype.{Subtype}
+use Rattle.types.specs.declared.standing.Standing.TheVariants as standing
+use Rattle.types.specs.Entities.{Arrays, Integers, Records, TypeForm}
+use Rattle.types.specs.Evaluating.{fixed_name, fixed_value}
+use Rattle.types.specs.Places.{IsObject, meaning_of}
+use Rattle.types.specs.Values.{Value}
+use Rattle.types.specs.Laws.{PartsHavePlaces, ValuesHaveWords}
+use Rattle.types.specs.Layouts.{capped, field_offset, words_of}
+use Rattle.types.specs.Scopes.{Scope, base_range_of, form_at, is_visible, number_of}
+use Rattle.types.specs.Shapes.{Shape, Shapes, MoreShapes, Ranged, Logical, Timed, Repeated, Grouped, Shapeless, component_shapes, has_shape, narrowed, shape_among, shape_of, shape_or_none, shapes}
+use Rattle.types.specs.Standings.{component_of, select, select_all, standing_of, stands_first}
+use Rattle.expr_rules.specs.declared.own.Wanted.TheVariants.{OfType}
+use Rattle.expr_rules.specs.ExpressionRules.{argument_faults, arguments_faults, selector_faults, selectors_faults}
+use Rattle.expr_rules.specs.Faults.{rule}
+use Rattle.expr_rules.specs.NameRules.{index_slot, part_rule, value_rule}
+use Rattle.expr_rules.specs.Typing.{is_integers}
+use Rattle.expr_rules.proofs.TypedLaw.{back_empty, front_empty}
+use Rattle.well_typed.specs.Laws.{ExpressionsAreTyped}
+use Rattle.well_typed.specs.SoundScopes.{AreEarlier, SoundScope}
+use Rattle.well_typed.proofs.Expressions.{IsHere}
+use Rattle.well_typed.proofs.FixedNames.{same_form}
+use Rattle.well_typed.proofs.Denoting.{MeansPart}
+use Rattle.well_typed.proofs.Goods.{no_integer_parts, part_unbroken, sound_form}
+use Rattle.well_typed.proofs.Parts.{before, part_shape, shape_by_form}
+use Rattle.well_typed.proofs.Positions.{same_some}
+use Rattle.expr_code.specs.Views.{At}
+use Rattle.expr_code.specs.Code.{Adds, Extends, here, Holds}
+use Rattle.expr_code.specs.Computing.{Computes}
+use Rattle.expr_code.specs.Emitting.{EmitsChecked, EmitsExpression, IsFit, IsLegal}
+use Rattle.expr_code.specs.Flows.{Flows}
+use Rattle.expr_code.specs.Going.{AddsOffset, EmitsPath, IsLegalPart, IsLegalPath, path_size, selected, Selects}
+use Rattle.expr_code.specs.Locating.{IsPath, shape_in}
+use Rattle.expr_code.specs.Naming.{Lies}
+use Rattle.expr_code.specs.Seeing.{library_of, Sees, slot_of, Suits}
+use Rattle.expr_code.specs.declared.code.Code.{Code}
+use Rattle.expr_code.specs.declared.visible.Slot.{Slot}
+use Rattle.expr_code.specs.declared.visible.Visible.{Visible}
+use Rattle.expr_code.proofs.Checking.{is_a_number}
+use Rattle.expr_code.proofs.Flowing.{Changes, flows_same, flows_then, instruction_flows}
+use Rattle.expr_code.proofs.Growing.{added_at, added_extends, added_here, extends_self, extends_trans, holds_before, holds_later}
+use Rattle.expr_code.proofs.Names.{legal_here}
+use Rattle.expr_code.proofs.Paths.{computes_part, NamesStored}
+
+-- ---- shapes of composites
+
+grouped_too : (b t : Subtype) (x : Shape) (parts : Shapes) → narrowed b x ≡ Grouped parts → narrowed t x ≡ Grouped parts
+grouped_too b t (Ranged first) parts e = cc
+grouped_too b t Logical parts e = e
+grouped_too b t Timed parts e = e
+grouped_too b t (Repeated n x) parts e = e
+grouped_too b t (Grouped xs) parts e = e
+grouped_too b t Shapeless parts e = e
+
+repeated_too : (b t : Subtype) (x inner : Shape) (many : ℕ) → narrowed b x ≡ Repeated many inner → narrowed t x ≡ Repeated many inner
+repeated_too b t (Ranged first) inner many e = cc
+repeated_too b t Logical inner many e = e
+repeated_too b t Timed inner many e = e
+repeated_too b t (Repeated n x) inner many e = e
+repeated_too b t (Grouped xs) inner many e = e
+repeated_too b t Shapeless inner many e = e
+
+shape_named : (known : List Shape) (cs : List RecordComponent) (name : List ℕ) (u : Subtype) → component_of cs name ≡ Some u → shape_in (component_shapes known cs) name ≡ Some (shape_among known u)
+shape_named known [] name u found = cc
+shape_named known (c ∷ cs) name u found = by_test (bytes_eq c.name name) refl found (shape_named known cs name u)
+  where
+    by_test : (b : Bool) → bytes_eq c.name name ≡ b → cond b (Some c.subtype) (component_of cs name) ≡ Some u
+        → (component_of cs name ≡ Some u → shape_in (component_shapes known cs) name ≡ Some (shape_among known u)) → shape_in (component_shapes known (c ∷ cs)) name ≡ Some (shape_among known u)
+    by_test true e k more = ap (λ b. cond b (Some (shape_among known c.subtype)) (shape_in (component_shapes known cs) name)) e ∙ ap (λ y. Some (shape_among known y)) (same_some c.subtype u k)
+    by_test false e k more = ap (λ b. cond b (Some (shape_among known c.subtype)) (shape_in (component_shapes known cs) name)) e ∙ more k
+
+module _ (s : Scope) (sound : SoundScope s) where
+  same_parts : (n : ℕ) (cs : List RecordComponent) → AreEarlier s n cs → component_shapes (before s n) cs ≡ component_shapes (shapes s) cs
+  same_parts n [] all = refl
+  same_parts n (c ∷ cs) all = λ j. MoreShapes c.name (part_shape s n c.subtype all.0.before j) (same_parts n cs all.1 j)
+
+  grouped_shape : (t : Subtype) (cs : List RecordComponent) → form_at s t.type_number ≡ Some (Records cs) → shape_of s t ≡ Grouped (component_shapes (shapes s) cs)
+  grouped_shape t cs form =
+      let n = t.type_number in
+      let shape = shape_by_form s n (Records cs) form in
+      grouped_too (base_range_of n) t (shape_or_none (slice_get (shapes s) n)) (component_shapes (shapes s) cs) (shape.1 ∙ ap Grouped (same_parts n cs (sound_form s sound n (Records cs) form)))
+
+  repeated_shape : (t index : Subtype) (many : ℕ) (element : Subtype) → form_at s t.type_number ≡ Some (Arrays index many element) → shape_of s t ≡ Repeated many (shape_of s element)
+  repeated_shape t index many element form =
+      let n = t.type_number in
+      let shape = shape_by_form s n (Arrays index many element) form in
+      let part = sound_form s sound n (Arrays index many element) form in
+      repeated_too (base_range_of n) t (shape_or_none (slice_get (shapes s) n)) (shape_of s element) many (shape.1 ∙ ap (Repeated many) (part_shape s n element part.earlier.before))
+
+  index_integers : (t index : Subtype) (many : ℕ) (element : Subtype) → form_at s t.type_number ≡ Some (Arrays index many element) → form_at s index.type_number ≡ Some Integers
+  index_integers t index many element form = integers (form_at s index.type_number) (sound_form s sound t.type_number (Arrays index many element) form).integers
+    where
+      integers : (o : Option TypeForm) → is_integers o ≡ true → o ≡ Some Integers
+      integers (Some Integers) h = refl
+      integers o h = absurd cc
+
+-- ---- what is legal
+
+pub first_part : (s : Scope) (t : Subtype) (x : SelectorTree) (rest : SelectorTrees) → IsLegalPath s t (MoreSelectors x rest) → IsLegalPart s t x
+first_part s t x rest h = record {
+  role = h.role;
+  place = h.place;
+  unbroken = front_empty (selector_faults s h.place (standing.Part h.role t) x) (selectors_faults s h.place (select s (standing.Part h.role t) x) rest) h.unbroken;
+}
+
+pub further_path : (s : Scope) (t last : Subtype) (x : SelectorTree) (rest : SelectorTrees) → IsLegalPath s t (MoreSelectors x rest) → Selects s t x last → IsLegalPath s last rest
+further_path s t last x rest h selects = record {
+  role = h.role;
+  place = h.place;
+  unbroken =
+      ap (λ w. selectors_faults s h.place w rest) (sym (selects h.role))
+      ∙ back_empty (selector_faults s h.place (standing.Part h.role t) x) (selectors_faults s h.place (select s (standing.Part h.role t) x) rest) h.unbroken;
+}
+
+pub drop_at : {A : Type 0} (all : List A) (n : ℕ) (x : A) → n < length all → x ≡ get_or all n x → drop n all ≡ x ∷ drop (n + 1) all
+drop_at [] n x less is = absurd (omega (arith, less))
+drop_at (y ∷ all) zero x less is = ap (λ z. z ∷ all) (sym is)
+drop_at (y ∷ all) (suc n) x less is =
+    let more : suc n + 1 ≡ suc (n + 1) = omega arith in
+    drop_at all n x (omega (arith, less)) is ∙ ap (λ k. x ∷ drop k (y ∷ all)) (sym more)
+
+pub index_fit : (s : Scope) (t index element : Subtype) (many : ℕ) (e : ExprTree) → form_at s t.type_number ≡ Some (Arrays index many element)
+    → IsLegalPart s t (Arguments (MoreArguments (tree.Value e) NoArguments)) → IsFit s index e
+index_fit s t index element many e form h =
+    let argument = MoreArguments (tree.Value e) NoArguments in
+    let all = back_empty (part_rule s h.place (standing.Part h.role t) (Arguments argument)) (arguments_faults s (standing.Part h.role t) 0 argument) h.unbroken in
+    let its = front_empty (argument_faults s (index_slot (form_at s t.type_number)) (tree.Value e)) [] all in
+    record { wanted = OfType index.type_number; fits = refl; unbroken = ap (λ o. argument_faults s (index_slot o) (tree.Value e)) (sym form) ∙ its }
+
+-- ---- code behind code
+
+selected_then : (one two : List SelectorTree) (rest : SelectorTrees) → selected (one ++ two) rest ≡ selected one (selected two rest)
+selected_then [] two rest = refl
+selected_then (x ∷ one) two rest = ap (MoreSelectors x) (selected_then one two rest)
+
+size_then : (one two : List SelectorTree) → path_size (one ++ two) ≡ path_size one + path_size two
+size_then [] two = omega arith
+size_then (x ∷ one) two = let more = size_then one two in omega (arith, more)
+
+pub stays_there : (v : Visible) (c : Code) (depth : ℕ) (t : Subtype) → EmitsPath v c depth t [] t c
+stays_there v c depth t = record {
+  extends = extends_self c;
+  sized = omega arith;
+  goes = λ i h to rest final end le path. path;
+  flows = flows_same (Suits v) c (depth + 1);
+}
+
+goes_then : (v : Visible) (a b c : Code) (depth : ℕ) (t m l : Subtype) (one two : List SelectorTree) → EmitsPath v a depth t one m b → EmitsPath v b depth m two l c → EmitsPath v a depth t (one ++ two) l c
+goes_then v a b c depth t m l one two p q = record {
+  extends = extends_trans a b c p.extends q.extends;
+  sized = let sum = size_then one two in omega (arith, p.sized, q.sized, sum);
+  goes = λ i h to rest final end le path.
+      subst (λ all. IsPath i (library_of v) (Sees v) (here a) to t (shape_of v.scope t) all final end) (sym (selected_then one two rest))
+      (p.goes i (holds_before i (here a) b c q.extends h) to (selected two rest) final end (let up = q.extends.longer in omega (arith, up, le))
+      (q.goes i (holds_later i (here a) (here b) c p.extends.longer h) to rest final end le path));
+  flows = flows_then (Suits v) a b c (depth + 1) (depth + 1) (depth + 1) p.extends q.extends p.flows q.flows;
+}
+
+pub goes_next : (v : Visible) (start c d : Code) (depth : ℕ) (t m l : Subtype) (all : List Selector) (n : ℕ) (x : Selector) → n < length all → x ≡ get_or all n x
+    → EmitsPath v start depth t (map selector_tree (take n all)) m c → EmitsPath v c depth m (selector_tree x ∷ []) l d → EmitsPath v start depth t (map selector_tree (take (n + 1) all)) l d
+goes_next v start c d depth t m l all n x less is p q =
+    subst (λ l'. EmitsPath v start depth t l' l d) (sym longer) (goes_then v start c d depth t m l (map selector_tree (take n all)) (selector_tree x ∷ []) p q)
+  where
+    last : (xs : List Selector) (y : Selector) → map selector_tree (xs ++ y ∷ []) ≡ map selector_tree xs ++ selector_tree y ∷ []
+    last [] y = refl
+    last (z ∷ xs) y = ap (λ l'. selector_tree z ∷ l') (last xs y)
+
+    longer : map selector_tree (take (n + 1) all) ≡ map selector_tree (take n all) ++ selector_tree x ∷ []
+    longer =
+        let more : n + 1 ≡ suc n = omega arith in
+        ap (λ k. map selector_tree (take k all)) more
+        ∙ ap (map selector_tree) (take-suc all n x less)
+        ∙ last (take n all) (get_or all n x)
+        ∙ ap (λ y. map selector_tree (take n all) ++ selector_tree y ∷ []) (sym is)
+
+pub all_gone : (v : Visible) (start c : Code) (depth : ℕ) (t l : Subtype) (all : List Selector) (n : ℕ) → length all ≤ n
+    → EmitsPath v start depth t (map selector_tree (take n all)) l c → EmitsPath v start depth t (map selector_tree all) l c
+all_gone v start c depth t l all n up p = subst (λ xs. EmitsPath v start depth t (map selector_tree xs) l c) (take_all all n up) p
+  where
+    take_all : (xs : List Selector) (k : ℕ) → length xs ≤ k → take k xs ≡ xs
+    take_all [] zero le = refl
+    take_all [] (suc k) le = refl
+    take_all (x ∷ xs) zero le = absurd (omega (arith, le))
+    take_all (x ∷ xs) (suc k) le = ap (λ l'. x ∷ l') (take_all xs k (omega (arith, le)))
+
+-- ---- a component of a record
+
+pushes_word : (v : Visible) (depth : ℕ) (z : ℤ) → Changes (Suits v) (op.Push z) depth (depth + 1)
+pushes_word v depth z = record { operands = refl; names = λ i s g. refl; takes = λ i s g. omega arith; leaves = λ i s g. omega arith; stays = refl; is_none = refl }
+
+takes_two : (v : Visible) (depth : ℕ) → Changes (Suits v) op.Add (depth + 1 + 1) (depth + 1)
+takes_two v depth = record { operands = refl; names = λ i s h. refl; takes = λ i s h. omega arith; leaves = λ i s h. omega arith; stays = refl; is_none = refl }
+
+module _ (v : Visible) (old low new : Code) (depth one two : ℕ) (t u : Subtype) (cs : List RecordComponent) (name : Identifier) (offset : ℕ) (w : ℤ) (p : one ≡ depth + 1) (q : two ≡ one + 1) (z : w ≡ pos offset)
+    (form : form_at v.scope t.type_number ≡ Some (Records cs)) (chosen : component_of cs name.name ≡ Some u) (stands : field_offset (component_shapes (shapes v.scope) cs) name.name ≡ Some offset)
+    (few : offset ≤ 65536) (ax : Adds old one (op.Push w) low) (ay : Adds low two op.Add new) where
+  pushed : Adds old (depth + 1) (op.Push (pos offset)) low
+  pushed = subst (λ n. Adds old n (op.Push (pos offset)) low) p (subst (λ y. Adds old one (op.Push y) low) z ax)
+
+  summed : Adds low (depth + 1 + 1) op.Add new
+  summed = subst (λ n. Adds low n op.Add new) (q ∙ ap (λ n. n + 1) p) ay
+
+  pub component_goes : EmitsPath v old depth t (Component name ∷ []) u new
+  component_goes =
+      let a = added_here old low (depth + 1) (op.Push (pos offset)) pushed in
+      let b = added_here low new (depth + 1 + 1) op.Add summed in
+      let ea = added_extends old low (depth + 1) (op.Push (pos offset)) pushed in
+      let eb = added_extends low new (depth + 1 + 1) op.Add summed in
+      let next : here low ≡ here old + 1 = omega (arith, a) in
+      let end_ : here new ≡ here old + 2 = omega (arith, a, b) in
+      record {
+        extends = extends_trans old low new ea eb;
+        sized = omega (arith, a, b);
+        goes = λ i h to rest final end le path. (
+          cs,
+          component_shapes (shapes v.scope) cs,
+          u,
+          shape_of v.scope u,
+          offset,
+          (λ pl view sees. same_form v.scope pl sees.agrees t.type_number (ap is_some form) ∙ form),
+          (λ pl view sees. grouped_shape v.scope sees.agrees.sound t cs form),
+          chosen,
+          shape_named (shapes v.scope) cs name.name u chosen,
+          stands,
+          few,
+          added_at old low (depth + 1) (op.Push (pos offset)) pushed i (here old) (omega arith) (holds_before i (here old) low new eb h),
+          subst (λ n. At i n op.Add) next (added_at low new (depth + 1 + 1) op.Add summed i (here old) (omega (arith, a)) h),
+          omega (arith, le, end_),
+          subst (λ n. IsPath i (library_of v) (Sees v) n to u (shape_of v.scope u) rest final end) end_ path,
+        );
+        flows = flows_then (Suits v) old low new (depth + 1) (depth + 1 + 1) (depth + 1) ea eb
+            (instruction_flows (Suits v) old low (depth + 1) (depth + 1 + 1) (op.Push (pos offset)) pushed (pushes_word v (depth + 1) (pos offset)))
+            (instruction_flows (Suits v) low new (depth + 1 + 1) (depth + 1) op.Add summed (takes_two v depth));
+      }
+
+-- ---- a component of an array
+
+subtracts : (v : Visible) (depth : ℕ) → Changes (Suits v) op.Subtract (depth + 1 + 1) (depth + 1)
+subtracts v depth = record { operands = refl; names = λ i s h. refl; takes = λ i s h. omega arith; leaves = λ i s h. omega arith; stays = refl; is_none = refl }
+
+multiplies : (v : Visible) (depth : ℕ) → Changes (Suits v) op.Multiply (depth + 1 + 1) (depth + 1)
+multiplies v depth = record { operands = refl; names = λ i s h. refl; takes = λ i s h. omega arith; leaves = λ i s h. omega arith; stays = refl; is_none = refl }
+
+-- where the five instructions stand
+record IsScaled (v : Visible) (depth : ℕ) (first : ℤ) (size : ℕ) (old new : Code) : Type 0 where
+  extends : Extends old new
+  long : here new ≡ here old + 5
+  at : (i : Sections) (from : ℕ) → from ≤ here old → Holds i from new
+      → At i (here old) (op.Push first) × At i (here old + 1) op.Subtract × At i (here old + 2) (op.Push (pos size)) × At i (here old + 3) op.Multiply × At i (here old + 4) op.Add
+  flows : Flows (Suits v) old (depth + 1 + 1) new (depth + 1)
+
+is_scaled : (v : Visible) (depth : ℕ) (first : ℤ) (size : ℕ) (old new : Code) → AddsOffset old (depth + 1 + 1) first size new → IsScaled v depth first size old new
+is_scaled v depth first size old new x =
+    let a = added_here old x.pushed (depth + 1 + 1) (op.Push first) x.push in
+    let b = added_here x.pushed x.counted (depth + 1 + 1 + 1) op.Subtract x.subtract in
+    let c = added_here x.counted x.sized (depth + 1 + 1) (op.Push (pos size)) x.size in
+    let d = added_here x.sized x.scaled (depth + 1 + 1 + 1) op.Multiply x.multiply in
+    let e = added_here x.scaled new (depth + 1 + 1) op.Add x.add in
+    let ea = added_extends old x.pushed (depth + 1 + 1) (op.Push first) x.push in
+    let eb = added_extends x.pushed x.counted (depth + 1 + 1 + 1) op.Subtract x.subtract in
+    let ec = added_extends x.counted x.sized (depth + 1 + 1) (op.Push (pos size)) x.size in
+    let ed = added_extends x.sized x.scaled (depth + 1 + 1 + 1) op.Multiply x.multiply in
+    let ee = added_extends x.scaled new (depth + 1 + 1) op.Add x.add in
+    let de = extends_trans x.sized x.scaled new ed ee in
+    let ce = extends_trans x.counted x.sized new ec de in
+    let be = extends_trans x.pushed x.counted new eb ce in
+    let one : here x.pushed ≡ here old + 1 = omega (arith, a) in
+    let two : here x.counted ≡ here old + 2 = omega (arith, a, b) in
+    let three : here x.sized ≡ here old + 3 = omega (arith, a, b, c) in
+    let four : here x.scaled ≡ here old + 4 = omega (arith, a, b, c, d) in
+    record {
+      extends = extends_trans old x.pushed new ea be;
+      long = omega (arith, a, b, c, d, e);
+      at = λ i from le h. (
+        added_at old x.pushed (depth + 1 + 1) (op.Push first) x.push i from le (holds_before i from x.pushed new be h),
+        subst (λ n. At i n op.Subtract) one (added_at x.pushed x.counted (depth + 1 + 1 + 1) op.Subtract x.subtract i from (omega (arith, le, one)) (holds_before i from x.counted new ce h)),
+        subst (λ n. At i n (op.Push (pos size))) two (added_at x.counted x.sized (depth + 1 + 1) (op.Push (pos size)) x.size i from (omega (arith, le, two)) (holds_before i from x.sized new de h)),
+        subst (λ n. At i n op.Multiply) three (added_at x.sized x.scaled (depth + 1 + 1 + 1) op.Multiply x.multiply i from (omega (arith, le, three)) (holds_before i from x.scaled new ee h)),
+        subst (λ n. At i n op.Add) four (added_at x.scaled new (depth + 1 + 1) op.Add x.add i from (omega (arith, le, four)) h),
+      );
+      flows =
+          flows_then (Suits v) old x.pushed new (depth + 1 + 1) (depth + 1 + 1 + 1) (depth + 1) ea be
+          (instruction_flows (Suits v) old x.pushed (depth + 1 + 1) (depth + 1 + 1 + 1) (op.Push first) x.push (pushes_word v (depth + 1 + 1) first))
+          (flows_then (Suits v) x.pushed x.counted new (depth + 1 + 1 + 1) (depth + 1 + 1) (depth + 1) eb ce
+          (instruction_flows (Suits v) x.pushed x.counted (depth + 1 + 1 + 1) (depth + 1 + 1) op.Subtract x.subtract (subtracts v (depth + 1)))
+          (flows_then (Suits v) x.counted x.sized new (depth + 1 + 1) (depth + 1 + 1 + 1) (depth + 1) ec de
+          (instruction_flows (Suits v) x.counted x.sized (depth + 1 + 1) (depth + 1 + 1 + 1) (op.Push (pos size)) x.size (pushes_word v (depth + 1 + 1) (pos size)))
+          (flows_then (Suits v) x.sized x.scaled new (depth + 1 + 1 + 1) (depth + 1 + 1) (depth + 1) ed ee
+          (instruction_flows (Suits v) x.sized x.scaled (depth + 1 + 1 + 1) (depth + 1 + 1) op.Multiply x.multiply (multiplies v (depth + 1)))
+          (instruction_flows (Suits v) x.scaled new (depth + 1 + 1) (depth + 1) op.Add x.add (takes_two v depth)))));
+    }
+
+module _ (quiet : QuietStays) (laws : ExpressionsAreTyped) (v : Visible) (old mid new : Code) (depth one two : ℕ) (t index u : Subtype) (many : ℕ) (e : ExprTree) (w : ℕ) (p : one ≡ depth + 1) (q : two ≡ one + 1)
+    (form : form_at v.scope t.type_number ≡ Some (Arrays index many u)) (first : ℤ) (same : first ≡ index.first) (legal : IsLegalPart v.scope t (Arguments (MoreArguments (tree.Value e) NoArguments)))
+    (few : many ≤ 65536) (size : w ≡ words_of v.scope u) (value : EmitsChecked v old one index e mid) (adds : AddsOffset mid two first w new) where
+  checked : EmitsChecked v old (depth + 1) index e mid
+  checked = subst (λ n. EmitsChecked v old n index e mid) p value
+
+  scaled : IsScaled v depth index.first (words_of v.scope u) mid new
+  scaled = is_scaled v depth index.first (words_of v.scope u) mid new (subst (λ n. AddsOffset mid n index.first (words_of v.scope u) new) (q ∙ ap (λ n. n + 1) p) (subst (λ n. AddsOffset mid two index.first n new) size (subst (λ z. AddsOffset mid two z w new) same adds)))
+
+  pub element_goes : EmitsPath v old depth t (Arguments (MoreArguments (tree.Value e) NoArguments) ∷ []) u new
+  element_goes = record {
+    extends = extends_trans old mid new checked.extends scaled.extends;
+    sized = let n = scaled.long in omega (arith, checked.sized, n);
+    goes = λ i h to rest final end le path.
+        let up = checked.extends.longer in
+        let five = scaled.long in
+        let places = scaled.at i (here old) up h in (
+          index,
+          u,
+          many,
+          shape_of v.scope u,
+          here mid,
+          (λ pl view sees. same_form v.scope pl sees.agrees t.type_number (ap is_some form) ∙ form),
+          (λ pl view sees. repeated_shape v.scope sees.agrees.sound t index many u form),
+          few,
+          up,
+          checked.computes i (holds_before i (here old) mid new scaled.extends h),
+          (λ calls pl view x sound sees is.
+              is_a_number laws i v index e (index_fit v.scope t index u many e form legal) (index_integers v.scope sees.agrees.sound t index many u form) calls pl view x sound sees is),
+          places.0,
+          places.1,
+          places.2,
+          places.3,
+          places.4,
+          omega (arith, le, five),
+          subst (λ n. IsPath i (library_of v) (Sees v) n to u (shape_of v.scope u) rest final end) five path,
+        );
+    flows = flows_then (Suits v) old mid new (depth + 1) (depth + 1 + 1) (depth + 1) checked.extends scaled.extends checked.flows scaled.flows;
+  }
+
+-- ---- the whole
+
+whole_path : (s : Scope) (first : Identifier) (all : SelectorTrees) (r : Role) (t : Subtype) → IsLegal s (tree.Named first all) → stands_first s (number_of s first.name) ≡ standing.Part r t → IsLegalPath s t all
+whole_path s first all r t legal stands =
+    let hidden = rule NAME_NOT_VISIBLE first.place (not (is_visible s first.name)) in
+    let parts = selectors_faults s first.place (stands_first s (number_of s first.name)) all in
+    let two = front_empty (hidden ++ parts) (value_rule first.place (standing_of s first all)) legal.unbroken in
+    record { role = r; place = first.place; unbroken = ap (λ w. selectors_faults s first.place w all) (sym stands) ∙ back_empty hidden parts two }
+
+-- an integer has no parts
+no_parts : (s : Scope) → SoundScope s → (first : Identifier) (all : List Selector) (t : Subtype) → bare_name (tree.Named first (selector_trees all)) ≡ None → IsLegalPath s t (selector_trees all)
+    → is_integers (form_at s t.type_number) ≡ true → ⊥
+no_parts s sound first [] t parts h integers = cc
+no_parts s sound first (x ∷ all) t parts h integers =
+    let part = first_part s t (selector_tree x) (selector_trees all) h in
+    no_integer_parts s sound part.place part.role t (selector_tree x) integers (part_unbroken s sound part.place (standing.Part part.role t) (selector_tree x) part.unbroken)
+
+selected_all : (all : List Selector) → selected (map selector_tree all) NoSelectors ≡ selector_trees all
+selected_all [] = refl
+selected_all (x ∷ all) = ap (MoreSelectors (selector_tree x)) (selected_all all)
+
+module _ (quiet : QuietStays) (sized : ValuesHaveWords) (places : PartsHavePlaces) (v : Visible) (old low mid new : Code) (depth one : ℕ) (first : Identifier) (selectors : List Selector) (r : Role) (t last : Subtype)
+    (slot : Slot) (w : ℤ) (p : one ≡ depth + 1) (z : w ≡ pos slot.offset) (legal : IsLegal v.scope (tree.Named first (selector_trees selectors)))
+    (stands : stands_first v.scope (number_of v.scope first.name) ≡ standing.Part r t) (valueless : fixed_value (standing_of v.scope first (selector_trees selectors)) ≡ None)
+    (there : slot_of v first.name ≡ Some slot) (parts : bare_name (tree.Named first (selector_trees selectors)) ≡ None) (single : words_of v.scope last ≡ 1) (ax : Adds old depth (op.Push w) low) (path : EmitsPath v low depth t (map selector_tree selectors) last mid)
+    (ay : Adds mid one (op.LoadBlock slot.region 1) new) where
+  pushes : Adds old depth (op.Push (pos slot.offset)) low
+  pushes = subst (λ y. Adds old depth (op.Push y) low) z ax
+
+  loads : Adds mid (depth + 1) (op.LoadBlock slot.region 1) new
+  loads = subst (λ n. Adds mid n (op.LoadBlock slot.region 1) new) p ay
+
+  stored : NamesStored (Sees v) first (selector_trees selectors) t (shape_of v.scope t) slot.region slot.offset
+  stored pl view sees = by_part here_.denotes
+    where
+      here_ : IsHere v.scope pl first.name (selector_trees selectors) (standing.Part r t)
+      here_ = subst (λ u. IsHere v.scope pl first.name (selector_trees selectors) u) stands (legal_here v.scope pl sees.agrees first (selector_trees selectors) legal)
+
+      by_part : MeansPart v.scope pl.scope (meaning_of pl first.name) t
+          → (x : Value)
+          × (fixed_name pl first (selector_trees selectors) ≡ None)
+          × (meaning_of pl first.name ≡ IsObject t x)
+          × Lies (view.words slot.region) slot.offset x
+          × (has_shape (shape_of v.scope t) x ≡ true)
+          × (length (view.words slot.region) ≤ 65536)
+      by_part (inr parameter) = absurd (no_parts v.scope sees.agrees.sound first selectors t parts (whole_path v.scope first (selector_trees selectors) r t legal stands) parameter.integers)
+      by_part (inl object) = (
+        object.value,
+        here_.same ∙ ap (λ u. fixed_value (select_all v.scope u (selector_trees selectors))) (sym stands) ∙ valueless,
+        object.is,
+        sees.objects first.name slot t object.value there object.is,
+        object.suited,
+        sees.small slot.region,
+      )
+
+  pub part_emits : EmitsExpression v old depth (tree.Named first (selector_trees selectors)) new
+  part_emits =
+      let a = added_here old low depth (op.Push (pos slot.offset)) pushes in
+      let b = added_here mid new (depth + 1) (op.LoadBlock slot.region 1) loads in
+      let ea = added_extends old low depth (op.Push (pos slot.offset)) pushes in
+      let eb = added_extends mid new (depth + 1) (op.LoadBlock slot.region 1) loads in
+      let up = path.extends.longer in
+      let next : here low ≡ here old + 1 = omega (arith, a) in
+      let whole = extends_trans low mid new path.extends eb in
+      let all : selected (map selector_tree selectors) NoSelectors ≡ selector_trees selectors = selected_all selectors in
+      record {
+        extends = extends_trans old low new ea whole;
+        sized = let same = path_counts selectors in omega (arith, a, b, path.sized, same);
+        computes = λ i h.
+            let in_mid = holds_before i (here old) mid new eb h in
+            let along : IsPath i (library_of v) (Sees v) (here low) (here mid) t (shape_of v.scope t) (selected (map selector_tree selectors) NoSelectors) last (shape_of v.scope last) =
+            path.goes i (holds_later i (here old) (here low) mid (omega (arith, a)) in_mid) (here mid) NoSelectors last (shape_of v.scope last) (omega arith) (refl, refl, refl) in
+            subst (λ n. Computes i (library_of v) (Sees v) (here old) n (tree.Named first (selector_trees selectors))) (sym b)
+            (computes_part quiet sized places i (library_of v) (Sees v) slot.region (here old) (here mid) slot.offset first (selector_trees selectors) t last (shape_of v.scope t) (shape_of v.scope last)
+            (omega (arith, a, up)) stored
+            (added_at old low depth (op.Push (pos slot.offset)) pushes i (here old) (omega arith) (holds_before i (here old) low mid path.extends in_mid))
+            (subst (λ xs. IsPath i (library_of v) (Sees v) (here old + 1) (here mid) t (shape_of v.scope t) xs last (shape_of v.scope last)) all
+            (subst (λ n. IsPath i (library_of v) (Sees v) n (here mid) t (shape_of v.scope t) (selected (map selector_tree selectors) NoSelectors) last (shape_of v.scope last)) next along))
+            (subst (λ n. At i (here mid) (op.LoadBlock slot.region n)) (sym single) (added_at mid new (depth + 1) (op.LoadBlock slot.region 1) loads i (here old) (omega (arith, a, up)) h)));
+        flows = flows_then (Suits v) old low new depth (depth + 1) (depth + 1) ea whole
+            (instruction_flows (Suits v) old low depth (depth + 1) (op.Push (pos slot.offset)) pushes (pushes_word v depth (pos slot.offset)))
+            (flows_then (Suits v) low mid new (depth + 1) (depth + 1) (depth + 1) path.extends eb path.flows
+            (instruction_flows (Suits v) mid new (depth + 1) (depth + 1) (op.LoadBlock slot.region 1) loads
+            (record { operands = refl; names = λ i s g. g.region first.name slot there; takes = λ i s g. omega arith; leaves = λ i s g. omega arith; stays = refl; is_none = refl })));
+      }
+    where
+      path_counts : (all : List Selector) → path_size (map selector_tree all) ≡ selectors_size (selector_trees all)
+      path_counts [] = refl
+      path_counts (x ∷ all) = let more = path_counts all in omega (arith, more)
+
+-- ---- lists of one argument
+
+pub one_argument : (all : List Argument) (e : Expr) (x : Argument) → 1 ≤ length all → length all < 2 → x ≡ get_or all 0 x → x ≡ arguments.Expr e → argument_trees all ≡ MoreArguments (tree.Value (expr_tree e)) NoArguments
+one_argument [] e x more less is form = absurd (omega (arith, more))
+one_argument (a ∷ []) e x more less is form = ap (λ y. argument_trees (y ∷ [])) (sym is ∙ form)
+one_argument (a ∷ b ∷ all) e x more less is form = absurd (omega (arith, less))
+
+-- a number of words that is told, and not more than a program may have, is the real one
+pub uncapped_words : (told n : ℕ) → told ≡ capped n → told ≤ WORDS → told ≡ n
+uncapped_words told n e le = omega (arith, e, le)
+
+pub uncapped : (o : Option ℕ) (n : ℕ) → option_map capped o ≡ Some n → n ≤ WORDS → o ≡ Some n
+uncapped (Some m) n e le = ap Some (sym (uncapped_words n m (sym (same_some (capped m) n e)) le))
+uncapped None n e le = cc

@@ -1,0 +1,120 @@
+-- What is broken nowhere in a chain of operators is broken nowhere in its parts; and the left operand of a logical operator is a truth value.
+use Rattle.std.proofs.Common.{◌≡◌, ◌<◌, ◌++◌, ℕ, zero, suc, List, [], ◌∷◌, length, map, Bool, true, false, refl, sym, ap, ◌∙◌, subst, arith}
+use Rattle.std.specs.Prelude.{cond, get_or}
+use Rattle.ada_tree.specs.declared.expression.Operand.{Operand}
+use Rattle.ada_tree.specs.declared.expression.UnaryOperator.{UnaryOperator}
+use Rattle.ada_tree.specs.declared.expression.BinaryOperator.{BinaryOperator}
+use Rattle.ada_tree.specs.ExpressionTree as tree
+use Rattle.ada_tree.specs.declared.expression.ElsifValue.{ElsifValue}
+use Rattle.ada_tree.specs.ExpressionTree.{ExprTree, ElsifValueTrees, NoElsifValues, MoreElsifValues, chain_tree, elsif_value_trees, expr_tree}
+use Rattle.image.specs.Sections.{Sections}
+use Rattle.types.specs.Scopes.{Scope}
+use Rattle.types.specs.Statics.{start_of}
+use Rattle.expr_rules.specs.Typing.{boolean_wanted, own_of, has_binary, is_boolean, is_known, is_logical, join}
+use Rattle.expr_rules.specs.ExpressionRules.{below, beside, binary_rule, conditional_wanted, elsif_faults, faults_in, faults_of, unary_rule}
+use Rattle.expr_rules.specs.NameRules.{mismatch}
+use Rattle.expr_rules.specs.declared.own.Wanted.{Wanted}
+use Rattle.expr_rules.specs.Faults.{Faults}
+use Rattle.expr_rules.specs.Laws.{suits}
+use Rattle.expr_rules.proofs.TypedLaw.{as_truth, back_empty, front_empty, joined_boolean, judged_two, unbroken}
+use Rattle.base.specs.declared.faults.TheConstants.{NO_MEANING}
+use Rattle.well_typed.specs.Laws.{ExpressionsAreTyped}
+use Rattle.expr_code.specs.Computing.{IsTruth}
+use Rattle.expr_code.specs.Branches.{AreLegalBranches, Branch, branch_of, in_front}
+use Rattle.expr_code.specs.Emitting.{AreLegal, IsLegal}
+use Rattle.expr_code.specs.Seeing.{library_of, Sees}
+use Rattle.expr_code.specs.declared.visible.Visible.{Visible}
+
+module _ (s : Scope) where
+  pub legal_operand : (o : UnaryOperator) (place : _) (e : ExprTree) → IsLegal s (tree.Unary o place e) → IsLegal s e
+  legal_operand o place e h = record { wanted = below o h.wanted; unbroken = front_empty (faults_in s (below o h.wanted) e) (unary_rule s o place (own_of s e)) h.unbroken }
+
+  module _ (o : BinaryOperator) (a b : ExprTree) (h : IsLegal s (tree.Binary o a b)) where
+    abbrev in_left : Faults
+    in_left = faults_in s (beside s o (own_of s b)) a
+
+    abbrev in_right : Faults
+    in_right = faults_in s (beside s o (own_of s a)) b
+
+    abbrev of_both : Faults
+    of_both = binary_rule s o (start_of a) (own_of s a) (own_of s b)
+
+    pub legal_left : IsLegal s a
+    legal_left = record { wanted = beside s o (own_of s b); unbroken = front_empty in_left in_right (front_empty (in_left ++ in_right) of_both h.unbroken) }
+
+    pub legal_right : IsLegal s b
+    legal_right = record { wanted = beside s o (own_of s a); unbroken = back_empty in_left in_right (front_empty (in_left ++ in_right) of_both h.unbroken) }
+
+    legal_rule : of_both ≡ []
+    legal_rule = back_empty (in_left ++ in_right) of_both h.unbroken
+
+  pub legal_chain : (left : ExprTree) (all : List Operand) → IsLegal s (chain_tree left all) → IsLegal s left × AreLegal s all
+  legal_chain left [] h = (h, tt)
+  legal_chain left (o ∷ all) h =
+      let whole = tree.Binary o.operator left (expr_tree o.value) in
+      let parts = legal_chain whole all h in
+      (legal_left o.operator left (expr_tree o.value) parts.0, (legal_right o.operator left (expr_tree o.value) parts.0, parts.1))
+
+  -- ---- if expressions
+
+  legal_elsifs : (w : Wanted) (all : List Branch) → elsif_faults s w (in_front all NoElsifValues) ≡ [] → AreLegalBranches s all
+  legal_elsifs w [] h = tt
+  legal_elsifs w (b ∷ all) h =
+      let c = faults_of s boolean_wanted b.condition in
+      let v = faults_of s w b.value in
+      let rest = elsif_faults s w (in_front all NoElsifValues) in
+      let two = front_empty (c ++ v) rest h in (
+        record { wanted = boolean_wanted; unbroken = front_empty (faults_in s boolean_wanted b.condition) (mismatch s boolean_wanted (own_of s b.condition) (start_of b.condition)) (front_empty c v two) },
+        record { wanted = w; unbroken = front_empty (faults_in s w b.value) (mismatch s w (own_of s b.value) (start_of b.value)) (back_empty c v two) },
+        legal_elsifs w all (back_empty (c ++ v) rest h),
+      )
+
+  -- the parts of an if expression
+  pub record PartsAreLegal (c v : ExprTree) (all : List Branch) (l : ExprTree) : Type 0 where
+    pub condition : IsLegal s c
+    pub value : IsLegal s v
+    pub elsifs : AreLegalBranches s all
+    pub last : IsLegal s l
+
+  pub legal_parts : (place : ℕ) (condition value : ExprTree) (all : List Branch) (last : ExprTree) → IsLegal s (tree.Conditional place condition value (in_front all NoElsifValues) last) → PartsAreLegal condition value all last
+  legal_parts place condition value all last h =
+      let w = conditional_wanted s h.wanted value (in_front all NoElsifValues) last in
+      let c = faults_of s boolean_wanted condition in
+      let v = faults_of s w value in
+      let m = elsif_faults s w (in_front all NoElsifValues) in
+      let l = faults_of s w last in
+      let three = front_empty ((c ++ v) ++ m) l h.unbroken in
+      let two = front_empty (c ++ v) m three in
+      record {
+        condition = record { wanted = boolean_wanted; unbroken = front_empty (faults_in s boolean_wanted condition) (mismatch s boolean_wanted (own_of s condition) (start_of condition)) (front_empty c v two) };
+        value = record { wanted = w; unbroken = front_empty (faults_in s w value) (mismatch s w (own_of s value) (start_of value)) (back_empty c v two) };
+        elsifs = legal_elsifs w all (back_empty (c ++ v) m three);
+        last = record { wanted = w; unbroken = front_empty (faults_in s w last) (mismatch s w (own_of s last) (start_of last)) (back_empty ((c ++ v) ++ m) l h.unbroken) };
+      }
+
+  -- a branch at a place
+  pub legal_branch : (all : List ElsifValue) (n : ℕ) (x : ElsifValue) → n < length all → x ≡ get_or all n x → AreLegalBranches s (map branch_of all) → IsLegal s (expr_tree x.condition) × IsLegal s (expr_tree x.value)
+  legal_branch [] n x less is h = absurd (omega (arith, less))
+  legal_branch (e ∷ all) zero x less is h = (subst (λ y. IsLegal s (expr_tree y.condition)) (sym is) h.0, subst (λ y. IsLegal s (expr_tree y.value)) (sym is) h.1)
+  legal_branch (e ∷ all) (suc n) x less is h = legal_branch all n x (omega (arith, less)) is h.2
+
+-- the trees of all branches
+pub branches_are : (all : List ElsifValue) → in_front (map branch_of all) NoElsifValues ≡ elsif_value_trees all
+branches_are [] = refl
+branches_are (e ∷ all) = ap (MoreElsifValues (expr_tree e.condition) (expr_tree e.value)) (branches_are all)
+
+chosen : (b : Bool) (x y : Bool) → b ≡ true → cond b x y ≡ true → x ≡ true
+chosen true x y e h = h
+chosen false x y e h = absurd cc
+
+-- the left operand of a logical operator is a truth value wherever it has a value
+pub left_truth : ExpressionsAreTyped → (i : Sections) (v : Visible) (o : BinaryOperator) (a b : ExprTree) → is_logical o ≡ true → IsLegal v.scope (tree.Binary o a b) → IsTruth i (library_of v) (Sees v) a
+left_truth laws i v o a b logical h calls p view x sound sees e =
+    let s = v.scope in
+    let left = legal_left s o a b h in
+    let right = legal_right s o a b h in
+    let first = laws.own s p calls sees.agrees (sound p sees.agrees) a left.wanted left.unbroken in
+    let second = laws.own s p calls sees.agrees (sound p sees.agrees) b right.wanted right.unbroken in
+    let has = judged_two (is_known (own_of s a)) (is_known (own_of s b)) (has_binary s o (own_of s a) (own_of s b)) (unbroken NO_MEANING (start_of a) _ (legal_rule s o a b h)) first.known second.known in
+    let boolean = (joined_boolean s (own_of s a) (own_of s b) (chosen (is_logical o) (is_boolean s (join s (own_of s a) (own_of s b))) _ logical has)).0 in
+    as_truth s (own_of s a) x boolean (ap (suits s (own_of s a)) (sym e) ∙ first.suited)

@@ -1,0 +1,432 @@
+-- Parts of arrays at a checked index: their addresses, and their words.
+use Rattle.std.proofs.Common.{◌≡◌, ℕ, zero, suc, ◌+◌, ◌-◌, ◌*◌, ◌≤◌, ◌<◌, ℤ, List, [], ◌∷◌, ◌++◌, cond, length, Option, None, Some, Ok, Bool, true, false, refl, sym, ap, ◌∙◌, subst, arith, rules}
+use Rattle.std.proofs.lemmas.Int.{ints}
+use Rattle.std.proofs.lemmas.Bool.{and_parts}
+use Rattle.std.proofs.lemmas.Slice.Eq.{bytes_eq-Decides}
+use Rattle.std.specs.Prelude.{pos, negsuc, int_le, ◌-ℤ◌, ◌*ℤ◌, ◌≤ℤ◌, nat_le, nat_lt, ◌^◌, ◌&&◌, take, drop, unsigned_abs, bytes_eq, if◌then◌else◌}
+use Rattle.base.specs.Arithmetic.{in_range, constraint_error}
+use Rattle.base.specs.declared.exceptions.PredefinedException.TheVariants.{ConstraintError}
+use Rattle.base.specs.declared.schedule.ScheduleLine.{ScheduleLine}
+use Rattle.kernel.specs.State.{Kernel}
+use Rattle.kernel.specs.Effects.{Quiet}
+use Rattle.kernel.specs.Calm.{Calm}
+use Rattle.kernel.specs.Counting.{Spends}
+use Rattle.kernel.specs.Laws.{QuietStays}
+use Rattle.kernel.specs.RunLaws.{spends_trans}
+use Rattle.ada_tree.specs.declared.expression.Identifier.{Identifier}
+use Rattle.ada_tree.specs.ExpressionTree as tree
+use Rattle.ada_tree.specs.ExpressionTree.{Arguments, Component, ExprTree, MoreArguments, NoArguments, SelectorTree}
+use Rattle.image.specs.Sections.{Sections}
+use Rattle.image.specs.Frames.{Words, Frame, region_words}
+use Rattle.image.specs.Steps.{act, behaviour, does, gives}
+use Rattle.image.specs.declared.instruction.Operation.TheVariants as op
+use Rattle.image.specs.declared.instruction.Region.{Region}
+use Rattle.types.specs.Laws.{PartsHavePlaces, ValuesHaveWords}
+use Rattle.types.specs.Layouts.{field_offset, further}
+use Rattle.types.specs.Shapes.{Shape, Shapes, NoShapes, MoreShapes, all_values, count_values, fields_words, has_shape, have_shapes, value_words, values_words, words}
+use Rattle.types.specs.declared.entity.Subtype.{Subtype}
+use Rattle.types.specs.Evaluations.{Val, Gives, Raises, Meaningless, and_then, raise}
+use Rattle.types.specs.declared.entity.RecordComponent.{RecordComponent}
+use Rattle.types.specs.Entities.{Arrays, Records}
+use Rattle.types.specs.Standings.{component_of}
+use Rattle.types.specs.Scopes.{form_at}
+use Rattle.types.specs.Evaluating.{Calls, actuals_with, applied, element_meaning, field_meaning, object_or_nothing, part_with, passed, value_with, wanted_by_index}
+use Rattle.types.specs.Places.{IsObject, Meaning, Place}
+use Rattle.types.specs.Values.{Value, Values, NoValues, MoreValues, Fields, NoFields, MoreFields, Array, Record, Number, element_at, field_of}
+use Rattle.meaning.specs.MeetingLaws.{takes_more}
+use Rattle.meaning.specs.SameMeaning.{frames_of}
+use Rattle.expr_code.specs.Views.{At, frames_above, in_frame, placed, Sight, view_of}
+use Rattle.expr_code.specs.Coming.{Comes, most_steps, on}
+use Rattle.expr_code.specs.Computing.{Answers, ComputesChecked, IsNumber, Library}
+use Rattle.expr_code.specs.Locating.{Finds, shape_in}
+use Rattle.expr_code.specs.Naming.{Lies}
+use Rattle.expr_code.proofs.Coming.{acts, after_first, steps, pushes}
+use Rattle.expr_code.proofs.Naming.{same_words}
+
+ordered : (a b : ℤ) → int_le a b ≡ true → a ≤ℤ b
+ordered a b h = grind (arith, ints)
+
+-- a number that is not below another one lies at a distance from it
+pub distance : (low v d : ℤ) → int_le low v ≡ true → v -ℤ low ≡ d → (n : ℕ) × (d ≡ pos n)
+distance low v (pos n) above is = (n, refl)
+distance low v (negsuc n) above is = let x = ordered low v above in absurd (omega (arith, ints, x, is))
+
+small : (a b : ℕ) → a < b → nat_lt a b ≡ true
+small a b h = search rules
+
+in_base : (n : ℕ) → n < 2 ^ 63 → in_range (pos n) ≡ Ok (pos n)
+in_base n h = ap (λ c. cond c (Ok (pos n)) constraint_error) (small n (2 ^ 63) h)
+
+times : (n size : ℕ) → pos n *ℤ pos size ≡ pos (n * size)
+times n size = grind (arith, ints)
+
+-- ---- the words of a component among those of its array
+
+abbrev none : List ℤ
+none = []
+
+drop_none : (o : ℕ) → drop o none ≡ none
+drop_none zero = refl
+drop_none (suc o) = refl
+
+drop_more : (ws : List ℤ) (a o : ℕ) → drop o (drop a ws) ≡ drop (a + o) ws
+drop_more ws zero o = ap (λ n. drop n ws) (plus o)
+  where
+    plus : (o : ℕ) → o ≡ 0 + o
+    plus o = omega arith
+drop_more [] (suc a) o = drop_none o ∙ sym (drop_none (suc a + o))
+drop_more (w ∷ ws) (suc a) o = drop_more ws a o ∙ ap (λ n. drop n (w ∷ ws)) (up a o)
+  where
+    up : (a o : ℕ) → suc (a + o) ≡ suc a + o
+    up a o = omega arith
+
+take_take : (ws : List ℤ) (l n : ℕ) → l ≤ n → take l (take n ws) ≡ take l ws
+take_take ws zero n le = refl
+take_take ws (suc l) zero le = absurd (omega (arith, le))
+take_take [] (suc l) (suc n) le = refl
+take_take (w ∷ ws) (suc l) (suc n) le = ap (λ x. w ∷ x) (take_take ws l n (omega (arith, le)))
+
+window : (ws : List ℤ) (o l n : ℕ) → o + l ≤ n → take l (drop o (take n ws)) ≡ take l (drop o ws)
+window ws zero l n le = take_take ws l n (omega (arith, le))
+window ws (suc o) l zero le = absurd (omega (arith, le))
+window [] (suc o) l (suc n) le = refl
+window (w ∷ ws) (suc o) l (suc n) le = window ws o l n (omega (arith, le))
+
+joined : (xs ys : List ℤ) → length (xs ++ ys) ≡ length xs + length ys
+joined [] ys = omega arith
+joined (x ∷ xs) ys = let h = joined xs ys in omega (arith, h)
+
+next_size : (n w : ℕ) → suc n * w ≡ w + n * w
+next_size n w = omega arith
+
+-- a component stands within its array
+fits_in : (sized : ValuesHaveWords) (x : Shape) (vs : Values) (n : ℕ) (w : Value) → all_values (has_shape x) vs ≡ true → element_at vs n ≡ Some w → n * words x + words x ≤ length (values_words vs)
+fits_in sized x NoValues n w all there = absurd cc
+fits_in sized x (MoreValues v rest) zero w all there =
+    let parts = and_parts (has_shape x v) (all_values (has_shape x) rest) all in
+    let size = (sized x v parts.0).sized in
+    let whole = joined (value_words v) (values_words rest) in
+    omega (arith, size, whole)
+fits_in sized x (MoreValues v rest) (suc n) w all there =
+    let parts = and_parts (has_shape x v) (all_values (has_shape x) rest) all in
+    let size = (sized x v parts.0).sized in
+    let whole = joined (value_words v) (values_words rest) in
+    let inner = fits_in sized x rest n w parts.1 there in
+    let product = next_size n (words x) in
+    omega (arith, size, whole, inner, product)
+
+element_shape : (x : Shape) (vs : Values) (n : ℕ) (w : Value) → all_values (has_shape x) vs ≡ true → element_at vs n ≡ Some w → has_shape x w ≡ true
+element_shape x NoValues n w all there = absurd cc
+element_shape x (MoreValues v rest) zero w all there =
+    let parts = and_parts (has_shape x v) (all_values (has_shape x) rest) all in
+    let same : v ≡ w = cc in subst (λ u. has_shape x u ≡ true) same parts.0
+element_shape x (MoreValues v rest) (suc n) w all there =
+    let parts = and_parts (has_shape x v) (all_values (has_shape x) rest) all in
+    element_shape x rest n w parts.1 there
+
+-- what `words_at` tells
+told : (b : Bool) (xs ys : List ℤ) → cond b (Some xs) None ≡ Some ys → (b ≡ true) × (xs ≡ ys)
+told true xs ys e = (refl, cc)
+told false xs ys e = absurd cc
+
+within : (n m : ℕ) → nat_le n m ≡ true → n ≤ m
+within n m h = search rules
+
+below : (n m : ℕ) → n ≤ m → nat_le n m ≡ true
+below n m h = search rules
+
+pub element_lies : (sized : ValuesHaveWords) (places : PartsHavePlaces) (ws : List ℤ) (a : ℕ) (x : Shape) (vs : Values) (n : ℕ) (w : Value)
+    → all_values (has_shape x) vs ≡ true → element_at vs n ≡ Some w → Lies ws a (Array vs) → Lies ws (a + n * words x) w
+element_lies sized places ws a x vs n w all there lies =
+    let o = n * words x in
+    let v = values_words vs in
+    let l = length (value_words w) in
+    let held = told (nat_le (a + length v) (length ws)) (take (length v) (drop a ws)) v lies in
+    let room = within (a + length v) (length ws) held.0 in
+    let fit = fits_in sized x vs n w all there in
+    let size = (sized x w (element_shape x vs n w all there)).sized in
+    let part : take (words x) (drop o v) ≡ value_words w = places.elements x vs n w all there in
+    ap (λ b. cond b (Some (take l (drop (a + o) ws))) None) (below ((a + o) + l) (length ws) (omega (arith, room, fit, size)))
+    ∙ ap Some
+    (ap (take l) (sym (drop_more ws a o))
+    ∙ sym (window (drop a ws) o l (length v) (omega (arith, fit, size)))
+    ∙ ap (λ y. take l (drop o y)) held.1
+    ∙ ap (λ q. take q (drop o v)) size
+    ∙ part)
+
+module _ (quiet : QuietStays) (i : Sections) (schedule : List ScheduleLine) (k : Kernel) (t : ℕ) (m : Words) (calm : Calm k t) (f : Frame) (fs : List Frame) where
+  -- one step to another place and stack
+  one : (from to : ℕ) (s s' : List ℤ) → act i schedule k t (in_frame m (placed f from s) fs) ≡ does Quiet m (placed f to s') fs None None
+      → Spends (behaviour i schedule) t frames_of (most_steps i) (suc (length fs)) 1 k (in_frame m (placed f from s) fs) k (in_frame m (placed f to s') fs)
+  one from to s s' h = steps quiet i schedule k t m calm (placed f from s) (placed f to s') fs h
+
+  -- above the address of an array and a checked index: the distance from the first index, the words of so many components, and the address of the component
+  pub indexes : (place : ℕ) (first z : ℤ) (size address n : ℕ) (base : List ℤ)
+      → z -ℤ first ≡ pos n → n < 2 ^ 63 → n * size < 2 ^ 63 → address + n * size < 2 ^ 63
+      → At i place (op.Push first) → At i (place + 1) op.Subtract → At i (place + 2) (op.Push (pos size)) → At i (place + 3) op.Multiply → At i (place + 4) op.Add
+      → Spends (behaviour i schedule) t frames_of (most_steps i) (suc (length fs)) 5 k (in_frame m (placed f place (z ∷ pos address ∷ base)) fs) k (in_frame m (placed f (place + 5) (pos (address + n * size) ∷ base)) fs)
+  indexes place first z size address n base far few small_product small_sum a b c d e =
+      let end = in_frame m (placed f (place + 5) (pos (address + n * size) ∷ base)) fs in
+      let s0 : List ℤ = z ∷ pos address ∷ base in
+      let s1 : List ℤ = first ∷ z ∷ pos address ∷ base in
+      let s2 : List ℤ = pos n ∷ pos address ∷ base in
+      let s3 : List ℤ = pos size ∷ pos n ∷ pos address ∷ base in
+      let s4 : List ℤ = pos (n * size) ∷ pos address ∷ base in
+      let s5 : List ℤ = pos (address + n * size) ∷ base in
+      spends_trans (behaviour i schedule) t frames_of (most_steps i) 4 k end
+      (pushes quiet i schedule k t m calm place first a f fs s0 (place + 1) refl)
+      (spends_trans (behaviour i schedule) t frames_of (most_steps i) 3 k end
+      (one (place + 1) (place + 2) s1 s2
+      (acts quiet i (place + 1) op.Subtract b schedule k t m f fs s1
+      ∙ ap (λ x. gives i schedule k t m (placed f (place + 1) s1) fs x (pos address ∷ base)) (ap in_range far ∙ in_base n few)
+      ∙ ap (λ q. does Quiet m (placed f q s2) fs None None) (next 1)))
+      (spends_trans (behaviour i schedule) t frames_of (most_steps i) 2 k end
+      (pushes quiet i schedule k t m calm (place + 2) (pos size) c f fs s2 (place + 3) (next 2))
+      (spends_trans (behaviour i schedule) t frames_of (most_steps i) 1 k end
+      (one (place + 3) (place + 4) s3 s4
+      (acts quiet i (place + 3) op.Multiply d schedule k t m f fs s3
+      ∙ ap (λ x. gives i schedule k t m (placed f (place + 3) s3) fs x (pos address ∷ base)) (ap in_range (times n size) ∙ in_base (n * size) small_product)
+      ∙ ap (λ q. does Quiet m (placed f q s4) fs None None) (next 3)))
+      (one (place + 4) (place + 5) s4 s5
+      (acts quiet i (place + 4) op.Add e schedule k t m f fs s4
+      ∙ ap (λ x. gives i schedule k t m (placed f (place + 4) s4) fs x base) (in_base (address + n * size) small_sum)
+      ∙ ap (λ q. does Quiet m (placed f q s5) fs None None) (next 4))))))
+    where
+      next : (j : ℕ) → (place + j) + 1 ≡ place + suc j
+      next j = omega arith
+
+-- ---- a value, and then an address
+
+given : {A B : Type 0} (v : Val A) (go : A → Val B) (b : B) → and_then v go ≡ Gives b → (a : A) × (v ≡ Gives a) × (go a ≡ Gives b)
+given (Gives a) go b e = (a, refl, e)
+given (Raises x) go b e = absurd cc
+given Meaningless go b e = absurd cc
+
+-- a number that has passed a check against its subtype is not below the first value
+passed_number : (s : Subtype) (z : ℤ) (a : Value) → passed s (Number z) ≡ Gives a → (a ≡ Number z) × (int_le s.first z ≡ true)
+passed_number s z a e = by (int_le s.first z) (int_le z s.last) refl e
+  where
+    by : (b c : Bool) → int_le s.first z ≡ b → cond (b && c) (Gives (Number z)) (raise ConstraintError) ≡ Gives a → (a ≡ Number z) × (int_le s.first z ≡ true)
+    by true true is e = let same : Number z ≡ a = cc in (sym same, is)
+    by true false is e = absurd cc
+    by false c is e = absurd cc
+
+module _ (quiet : QuietStays) (i : Sections) (schedule : List ScheduleLine) (k : Kernel) (t : ℕ) (m : Words) (calm : Calm k t) (fs : List Frame) (region : Region) (r : Subtype) (x : Shape) where
+  -- steps, and then what finds an address
+  found_after : (f : Frame) (n n' mid to : ℕ) (st base : List ℤ) (v : Val Meaning)
+      → f.place ≤ mid
+      → Spends (behaviour i schedule) t frames_of (most_steps i) (suc (length fs)) n k (in_frame m f fs) k (in_frame m (placed f mid st) fs)
+      → Finds i schedule k t m (placed f mid st) fs region r x n' to base v
+      → Finds i schedule k t m f fs region r x (n + n') to base v
+  found_after f n n' mid to st base (Gives (IsObject s v)) le h g =
+      (g.0, subst (λ ws. Lies ws g.0 v) (same_words i m region f mid st) g.1, g.2, g.3, spends_trans (behaviour i schedule) t frames_of (most_steps i) n' k (in_frame m (placed f to (pos g.0 ∷ base)) fs) h g.4)
+  found_after f n n' mid to st base (Raises e) le h g = after_first quiet i schedule k t m calm f fs n n' mid to st (λ (meaning : Meaning). base) (Raises e) le h g
+  found_after f n n' mid to st base Meaningless le h g = tt
+  found_after f n n' mid to st base v le h g = absurd g
+
+  pub then_finds : (f : Frame) (n n' mid to : ℕ) (st : Value → List ℤ) (base : List ℤ) (v : Val Value) (go : Value → Val Meaning)
+      → f.place ≤ mid
+      → mid ≤ to
+      → Comes i schedule k t m f fs n mid st v
+      → ((a : Value) → v ≡ Gives a → Finds i schedule k t m (placed f mid (st a)) fs region r x n' to base (go a))
+      → Finds i schedule k t m f fs region r x (n + n') to base (and_then v go)
+  then_finds f n n' mid to st base (Gives a) go le up h g = found_after f n n' mid to (st a) base (go a) le h (g a refl)
+  then_finds f n n' mid to st base (Raises e) go le up h g =
+      let below = h.5 in
+      (h.0, h.1, h.2, takes_more (behaviour i schedule) t frames_of (most_steps i) (n + n') (omega arith) h.3, h.4, omega (arith, below, up), h.6)
+  then_finds f n n' mid to st base Meaningless go le up h g = tt
+
+  -- an address, and then another one
+  pub then_found : (q : Subtype) (y : Shape) (f : Frame) (n n' mid to : ℕ) (base : List ℤ) (v : Val Meaning) (go : Meaning → Val Meaning)
+      → f.place ≤ mid
+      → mid ≤ to
+      → Finds i schedule k t m f fs region q y n mid base v
+      → ((a : Value) (address : ℕ) → Lies (region_words i region m f) address a → has_shape y a ≡ true → Finds i schedule k t m (placed f mid (pos address ∷ base)) fs region r x n' to base (go (IsObject q a)))
+      → Finds i schedule k t m f fs region r x (n + n') to base (and_then v go)
+  then_found q y f n n' mid to base (Gives (IsObject s a)) go le up h g = found_after f n n' mid to (pos h.0 ∷ base) base (go (IsObject s a)) le h.4 (subst (λ z. Finds i schedule k t m (placed f mid (pos h.0 ∷ base)) fs region r x n' to base (go (IsObject z a))) (sym h.3) (g a h.0 h.1 h.2))
+  then_found q y f n n' mid to base (Raises e) go le up h g =
+      let below = h.5 in
+      (h.0, h.1, h.2, takes_more (behaviour i schedule) t frames_of (most_steps i) (n + n') (omega arith) h.3, h.4, omega (arith, below, up), h.6)
+  then_found q y f n n' mid to base Meaningless go le up h g = tt
+  then_found q y f n n' mid to base v go le up h g = absurd h
+
+-- ---- a component of an array at an index
+
+at_most : (vs : Values) (n : ℕ) (w : Value) → element_at vs n ≡ Some w → n < count_values vs
+at_most NoValues n w e = absurd cc
+at_most (MoreValues v rest) zero w e = omega arith
+at_most (MoreValues v rest) (suc n) w e = let h = at_most rest n w e in omega (arith, h)
+
+one_value : (v : Val Value) (go : List Value → Val Meaning) → and_then (and_then v (λ a. Gives (a ∷ []))) go ≡ and_then v (λ a. go (a ∷ []))
+one_value (Gives a) go = refl
+one_value (Raises x) go = refl
+one_value Meaningless go = refl
+
+abbrev index_of : ExprTree → SelectorTree
+index_of e = Arguments (MoreArguments (tree.Value e) NoArguments)
+
+-- what a component is worth, in terms of its checked index
+part_is : (calls : Calls) (p : Place) (s index element : Subtype) (many : ℕ) (vs : Values) (e : ExprTree) → form_at p.scope s.type_number ≡ Some (Arrays index many element)
+    → part_with calls p (IsObject s (Array vs)) (index_of e) ≡ and_then (and_then (value_with calls p e) (passed index)) (λ a. applied calls p (IsObject s (Array vs)) (a ∷ []))
+part_is calls p s index element many vs e form =
+    ap (λ o. elim (wanted_by_index o) [ Some ts ↦ and_then (actuals_with calls p (MoreArguments (tree.Value e) NoArguments) ts) (applied calls p (IsObject s (Array vs))) | None ↦ Meaningless ]) form
+    ∙ one_value (and_then (value_with calls p e) (passed index)) (applied calls p (IsObject s (Array vs)))
+
+-- an array that stands in the words of a region, and is small enough for its addresses to be numbers
+pub record StandsAsArray (ws : List ℤ) (address : ℕ) (x : Shape) (vs : Values) : Type 0 where
+  pub lies : Lies ws address (Array vs)
+  pub shaped : all_values (has_shape x) vs ≡ true
+  pub few : count_values vs ≤ 65536
+  pub small : length ws ≤ 65536
+
+module _ (quiet : QuietStays) (sized : ValuesHaveWords) (places : PartsHavePlaces) (i : Sections) (library : Library) (sight : Sight) (region : Region) where
+  -- Above the address of an array stands code for an index, checked, and five instructions: then the address of the component stands there.
+  pub finds_element : (from mid : ℕ) (e : ExprTree) (s index element : Subtype) (many : ℕ) (x : Shape)
+      → from ≤ mid
+      → ComputesChecked i library sight from mid index e
+      → IsNumber i library sight e
+      → At i mid (op.Push index.first) → At i (mid + 1) op.Subtract → At i (mid + 2) (op.Push (pos (words x))) → At i (mid + 3) op.Multiply → At i (mid + 4) op.Add
+      → (calls : Calls) (left : ℕ)
+      → Answers i library calls left
+      → (schedule : List ScheduleLine) (k : Kernel) (t : ℕ) (m : Words) (f : Frame) (fs : List Frame) (p : Place) (base : List ℤ)
+      → Calm k t
+      → sight p (view_of i schedule k m f fs)
+      → left ≡ frames_above fs
+      → form_at p.scope s.type_number ≡ Some (Arrays index many element)
+      → (vs : Values) (address : ℕ)
+      → StandsAsArray (region_words i region m f) address x vs
+      → Finds i schedule k t m (placed f from (pos address ∷ base)) fs region element x ((mid - from) + 5) (mid + 5) base (part_with calls p (IsObject s (Array vs)) (index_of e))
+  finds_element from mid e s index element many x le inner number a b c d add calls left answers schedule k t m f fs p base calm sees is form vs address stands =
+      subst (λ v. Finds i schedule k t m (placed f from (pos address ∷ base)) fs region element x ((mid - from) + 5) (mid + 5) base v) (sym (part_is calls p s index element many vs e form))
+      (then_finds quiet i schedule k t m calm fs region element x (placed f from (pos address ∷ base)) (mid - from) 5 mid (mid + 5) (on (pos address ∷ base)) base (and_then (value_with calls p e) (passed index)) go le (omega arith)
+      (inner calls left answers schedule k t m f fs p (pos address ∷ base) calm sees is)
+      (λ v ev. at_value v ev))
+    where
+      go : Value → Val Meaning
+      go v = applied calls p (IsObject s (Array vs)) (v ∷ [])
+
+      W : List ℤ
+      W = region_words i region m f
+
+      at_number : (z : ℤ) → int_le index.first z ≡ true → Finds i schedule k t m (placed f mid (z ∷ pos address ∷ base)) fs region element x 5 (mid + 5) base (go (Number z))
+      at_number z above =
+          let far = distance index.first z (z -ℤ index.first) above refl in
+          subst (λ o. Finds i schedule k t m (placed f mid (z ∷ pos address ∷ base)) fs region element x 5 (mid + 5) base (element_meaning o (Array vs) z)) (sym form)
+          (subst (λ y. Finds i schedule k t m (placed f mid (z ∷ pos address ∷ base)) fs region element x 5 (mid + 5) base (object_or_nothing (Some element) (element_at vs (unsigned_abs y)))) (sym far.1)
+          (there far.0 far.1 (element_at vs far.0) refl))
+        where
+          there : (n : ℕ) → z -ℤ index.first ≡ pos n → (o : Option Value) → element_at vs n ≡ o → Finds i schedule k t m (placed f mid (z ∷ pos address ∷ base)) fs region element x 5 (mid + 5) base (object_or_nothing (Some element) o)
+          there n far None is = tt
+          there n far (Some w) is =
+              let lies = stands.lies in
+              let held = told (nat_le (address + length (values_words vs)) (length W)) (take (length (values_words vs)) (drop address W)) (values_words vs) lies in
+              let room = within (address + length (values_words vs)) (length W) held.0 in
+              let fit = fits_in sized x vs n w stands.shaped is in
+              let below = at_most vs n w is in
+              let few = stands.few in
+              let small = stands.small in (
+                address + n * words x,
+                subst (λ ws. Lies ws (address + n * words x) w) (sym (same_words i m region f mid (z ∷ pos address ∷ base))) (element_lies sized places W address x vs n w stands.shaped is lies),
+                element_shape x vs n w stands.shaped is,
+                refl,
+                indexes quiet i schedule k t m calm f fs mid index.first z (words x) address n base far (omega (arith, below, few)) (omega (arith, fit, room, small)) (omega (arith, fit, room, small)) a b c d add,
+              )
+
+      at_value : (v : Value) → and_then (value_with calls p e) (passed index) ≡ Gives v → Finds i schedule k t m (placed f mid (on (pos address ∷ base) v)) fs region element x 5 (mid + 5) base (go v)
+      at_value v ev =
+          let first = given (value_with calls p e) (passed index) v ev in
+          let it = number calls p (view_of i schedule k m f fs) first.0 answers.sound sees first.1 in
+          let checked = passed_number index it.0 v (ap (passed index) (sym it.1) ∙ first.2) in
+          subst (λ u. Finds i schedule k t m (placed f mid (on (pos address ∷ base) u)) fs region element x 5 (mid + 5) base (go u)) (sym checked.0) (at_number it.0 checked.1)
+
+-- ---- a component of a record
+
+-- a component stands within its record
+field_fits : (sized : ValuesHaveWords) (parts : Shapes) (fs : Fields) (name : List ℕ) (v : Value) (x : Shape) (place : ℕ)
+    → have_shapes parts fs ≡ true → field_of fs name ≡ Some v → shape_in parts name ≡ Some x → field_offset parts name ≡ Some place
+    → (place + length (value_words v) ≤ length (fields_words fs)) × (has_shape x v ≡ true)
+field_fits sized NoShapes NoFields name v x place all there shape offset = absurd cc
+field_fits sized NoShapes (MoreFields own w rest) name v x place all there shape offset = absurd cc
+field_fits sized (MoreShapes own y more) NoFields name v x place all there shape offset = absurd cc
+field_fits sized (MoreShapes own y more) (MoreFields other w rest) name v x place all there shape offset =
+    let parts = and_parts (bytes_eq other own) (has_shape y w && have_shapes more rest) all in
+    let inner = and_parts (has_shape y w) (have_shapes more rest) parts.1 in
+    let same : other ≡ own = (bytes_eq-Decides other own).0 parts.0 in
+    by (bytes_eq own name) refl (ap (λ n. bytes_eq n name) same) inner.0 inner.1 (λ n. field_fits sized more rest name v x n)
+  where
+    whole : length (fields_words (MoreFields other w rest)) ≡ length (value_words w) + length (fields_words rest)
+    whole = joined (value_words w) (fields_words rest)
+
+    by : (b : Bool) → bytes_eq own name ≡ b → bytes_eq other name ≡ bytes_eq own name → has_shape y w ≡ true → have_shapes more rest ≡ true
+        → ((n : ℕ) → have_shapes more rest ≡ true → field_of rest name ≡ Some v → shape_in more name ≡ Some x → field_offset more name ≡ Some n → (n + length (value_words v) ≤ length (fields_words rest)) × (has_shape x v ≡ true))
+        → (place + length (value_words v) ≤ length (fields_words (MoreFields other w rest))) × (has_shape x v ≡ true)
+    by true is same first others again =
+        let at_once : w ≡ v = unwrap (ap (λ b. if b then Some w else field_of rest name) (sym (same ∙ is)) ∙ there) in
+        let shaped : y ≡ x = unwrap (ap (λ b. if b then Some y else shape_in more name) (sym is) ∙ shape) in
+        let at : 0 ≡ place = unwrap (ap (λ b. if b then Some 0 else further (words y) (field_offset more name)) (sym is) ∙ offset) in
+        let size = ap (λ u. length (value_words u)) at_once in
+        let w0 = whole in
+        (omega (arith, at, size, w0), subst (λ u. has_shape x u ≡ true) at_once (subst (λ z. has_shape z w ≡ true) shaped first))
+      where
+        unwrap : {A : Type 0} {a b : A} → Some a ≡ Some b → a ≡ b
+        unwrap e = cc
+    by false is same first others again =
+        let later : field_of rest name ≡ Some v = ap (λ b. if b then Some w else field_of rest name) (sym (same ∙ is)) ∙ there in
+        let shaped : shape_in more name ≡ Some x = ap (λ b. if b then Some y else shape_in more name) (sym is) ∙ shape in
+        let at : further (words y) (field_offset more name) ≡ Some place = ap (λ b. if b then Some 0 else further (words y) (field_offset more name)) (sym is) ∙ offset in
+        let size = (sized y w first).sized in
+        let w0 = whole in
+        behind (field_offset more name) refl at later shaped size w0
+      where
+        behind : (o : Option ℕ) → field_offset more name ≡ o → further (words y) o ≡ Some place → field_of rest name ≡ Some v → shape_in more name ≡ Some x → length (value_words w) ≡ words y
+            → length (fields_words (MoreFields other w rest)) ≡ length (value_words w) + length (fields_words rest)
+            → (place + length (value_words v) ≤ length (fields_words (MoreFields other w rest))) × (has_shape x v ≡ true)
+        behind None is at later shaped size w0 = absurd cc
+        behind (Some n) is at later shaped size w0 =
+            let step = again n others later shaped is in
+            let sum : words y + n ≡ place = cc in
+            let low = step.0 in
+            (omega (arith, sum, low, size, w0), step.1)
+
+module _ (quiet : QuietStays) (sized : ValuesHaveWords) (places : PartsHavePlaces) (i : Sections) (library : Library) (sight : Sight) (region : Region) where
+  module _ (schedule : List ScheduleLine) (k : Kernel) (t : ℕ) (m : Words) (calm : Calm k t) (f : Frame) (fs : List Frame) (base : List ℤ) where
+    abbrev W : List ℤ
+    W = region_words i region m f
+
+    -- above the address of a record stand an offset and a sum: then the address of the component stands there
+    pub finds_field : (from offset address : ℕ) (s : Subtype) (fields : Fields) (parts : Shapes) (components : List RecordComponent) (part : Subtype) (inner : Shape) (name : Identifier) (calls : Calls) (p : Place)
+        → form_at p.scope s.type_number ≡ Some (Records components)
+        → component_of components name.name ≡ Some part
+        → shape_in parts name.name ≡ Some inner
+        → field_offset parts name.name ≡ Some offset
+        → At i from (op.Push (pos offset)) → At i (from + 1) op.Add
+        → Lies W address (Record fields) → have_shapes parts fields ≡ true → length W ≤ 65536
+        → Finds i schedule k t m (placed f from (pos address ∷ base)) fs region part inner 2 (from + 2) base (part_with calls p (IsObject s (Record fields)) (Component name))
+    finds_field from offset address s fields parts components part inner name calls p form chosen shaped at push add lies all small =
+        subst (λ o. Finds i schedule k t m (placed f from (pos address ∷ base)) fs region part inner 2 (from + 2) base (field_meaning o (Record fields) name.name)) (sym form)
+        (subst (λ o. Finds i schedule k t m (placed f from (pos address ∷ base)) fs region part inner 2 (from + 2) base (object_or_nothing o (field_of fields name.name))) (sym chosen) (there (field_of fields name.name) refl))
+      where
+        there : (o : Option Value) → field_of fields name.name ≡ o → Finds i schedule k t m (placed f from (pos address ∷ base)) fs region part inner 2 (from + 2) base (object_or_nothing (Some part) o)
+        there None is = tt
+        there (Some w) is =
+            let fit = field_fits sized parts fields name.name w inner offset all is shaped at in
+            let held = told (nat_le (address + length (fields_words fields)) (length W)) (take (length (fields_words fields)) (drop address W)) (fields_words fields) lies in
+            let room = within (address + length (fields_words fields)) (length W) held.0 in
+            let inside = fit.0 in
+            let law = places.fields parts fields name.name w offset all is at in
+            let l = length (value_words w) in
+            let two : (from + 1) + 1 ≡ from + 2 = omega arith in (
+              address + offset,
+              subst (λ ws. Lies ws (address + offset) w) (sym (same_words i m region f from (pos address ∷ base)))
+                  (ap (λ b. cond b (Some (take l (drop (address + offset) W))) None) (below ((address + offset) + l) (length W) (omega (arith, room, inside)))
+                  ∙ ap Some
+                  (ap (take l) (sym (drop_more W address offset)) ∙ sym (window (drop address W) offset l (length (fields_words fields)) inside) ∙ ap (λ y. take l (drop offset y)) held.1 ∙ law)),
+              fit.1,
+              refl,
+              spends_trans (behaviour i schedule) t frames_of (most_steps i) 1 k (in_frame m (placed f (from + 2) (pos (address + offset) ∷ base)) fs)
+                  (pushes quiet i schedule k t m calm from (pos offset) push f fs (pos address ∷ base) (from + 1) refl)
+                  (steps quiet i schedule k t m calm (placed f (from + 1) (pos offset ∷ pos address ∷ base)) (placed f (from + 2) (pos (address + offset) ∷ base)) fs
+                  (acts quiet i (from + 1) op.Add add schedule k t m f fs (pos offset ∷ pos address ∷ base)
+                  ∙ ap (λ z. gives i schedule k t m (placed f (from + 1) (pos offset ∷ pos address ∷ base)) fs z base) (in_base (address + offset) (omega (arith, room, inside, small)))
+                  ∙ ap (λ q. does Quiet m (placed f q (pos (address + offset) ∷ base)) fs None None) two)),
+            )

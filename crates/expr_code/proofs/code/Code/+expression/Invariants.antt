@@ -1,0 +1,17 @@
+use Rattle.std.proofs.Common.{drop, map, take}
+use Rattle.ada_tree.specs.ExpressionTree.{selector_tree, selector_trees}
+use Rattle.expr_code.specs.Branches.{AddsBranches, branch_of}
+use Rattle.expr_code.specs.Emitting.{EmitsOperands}
+use Rattle.expr_code.specs.Going.{EmitsPath, IsLegalPath}
+use Rattle.expr_code.proofs.code.Code.+expression.Given as goal
+
+abbrev pub invariant-elsifs-loop-elsif : goal.invariant-elsifs-loop-elsif
+invariant-elsifs-loop-elsif l = AddsBranches l.visible l.fn.self l.depth (map branch_of (take l.elsif-index l.elsifs)) l.fn.waiting.items l.waiting.items l.self
+
+abbrev pub invariant-operands-loop-operand : goal.invariant-operands-loop-operand
+invariant-operands-loop-operand l = EmitsOperands l.visible l.fn.self l.depth (take l.operand-index l.all) l.self
+
+abbrev pub invariant-path-loop-selector : goal.invariant-path-loop-selector
+invariant-path-loop-selector l =
+    EmitsPath l.visible l.fn.self l.depth l.fn.subtype (map selector_tree (take l.selector-index l.selectors)) l.last l.self
+    × IsLegalPath l.visible.scope l.last (selector_trees (drop l.selector-index l.selectors))

@@ -1,0 +1,37 @@
+-- What it is that code is added to, and that an image holds it.
+use Rattle.std.specs.Prelude.{◌≡◌, ℕ, ◌≤◌, List, [], ◌∷◌, ◌++◌, length, Some, slice_get, slice_set}
+use Rattle.image.specs.Sections.{Sections}
+use Rattle.image.specs.declared.instruction.Instr.{Instr}
+use Rattle.image.specs.declared.instruction.Operation.{Operation}
+use Rattle.expr_code.specs.declared.code.Code.{Code}
+
+-- how many instructions there are
+abbrev pub here : Code → ℕ
+here c = length c.instructions.items
+
+-- every element of the one list from a place on stands in the other at its place
+abbrev pub StandsFrom : {X : Type 0} → ℕ → List X → List X → Type 0
+StandsFrom {X} from part whole = (k : ℕ) (x : X) → from ≤ k → slice_get part k ≡ Some x → slice_get whole k ≡ Some x
+
+-- the image holds the instructions from a place on
+abbrev pub Holds : Sections → (from : ℕ) → Code → Type 0
+Holds i from c = StandsFrom from c.instructions.items i.instructions
+
+-- what stood in the old code stands in the new one
+pub record Extends (old new : Code) : Type 0 where
+  pub instructions : StandsFrom 0 old.instructions.items new.instructions.items
+  pub longer : here old ≤ here new
+  pub deeper : old.deepest ≤ new.deepest
+
+-- one more instruction, which finds so many words on the operand stack
+pub record Adds (old : Code) (depth : ℕ) (operation : Operation) (new : Code) : Type 0 where
+  pub instructions : new.instructions.items ≡ old.instructions.items ++ (record { depth = depth; operation = operation }) ∷ []
+  pub deeper : old.deepest ≤ new.deepest
+  pub within : depth ≤ new.deepest
+
+-- the instruction at a place is another one, at the same depth; nothing else changes
+pub record Patches (old : Code) (place : ℕ) (operation : Operation) (new : Code) : Type 0 where
+  pub before : Instr
+  pub there : slice_get old.instructions.items place ≡ Some before
+  pub instructions : new.instructions.items ≡ slice_set old.instructions.items place (record { depth = before.depth; operation = operation })
+  pub deepest : new.deepest ≡ old.deepest

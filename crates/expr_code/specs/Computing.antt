@@ -1,0 +1,147 @@
+-- What it is that code computes an expression, and the expressions in parentheses behind a name, wherever a part of a program sees enough of what they name.
+use Rattle.std.specs.Prelude.{◌≡◌, ℕ, suc, ◌-◌, ◌+◌, ◌≤◌, ℤ, Bool, List, [], ◌∷◌, ◌++◌, length, map, Some, None}
+use Rattle.base.specs.declared.schedule.ScheduleLine.{ScheduleLine}
+use Rattle.kernel.specs.State.{Kernel}
+use Rattle.kernel.specs.Calm.{Calm}
+use Rattle.handlers.specs.Innermost.{handler_of}
+use Rattle.ada_tree.specs.declared.expression.Identifier.{Identifier}
+use Rattle.ada_tree.specs.ExpressionTree.{ExprTree, ArgumentTrees, SelectorTrees, ElsifValueTrees, NoElsifValues, MoreElsifValues}
+use Rattle.image.specs.Sections.{Sections, first_place}
+use Rattle.image.specs.Operations.{called}
+use Rattle.image.specs.Frames.{Words, Frame}
+use Rattle.image.specs.declared.instruction.Operation.TheVariants as op
+use Rattle.image.specs.declared.instruction.Region.TheVariants as regions
+use Rattle.image.specs.declared.subprograms.Subprogram.{Subprogram}
+use Rattle.types.specs.declared.entity.Subtype.{Subtype}
+use Rattle.types.specs.Values.{Value, Number, Truth}
+use Rattle.types.specs.Shapes.{value_words}
+use Rattle.types.specs.Evaluations.{Val, Gives, and_then}
+use Rattle.types.specs.Places.{Function, IsFunction, Place, meaning_of}
+use Rattle.types.specs.Evaluating.{Calls, actuals_with, entered, fixed_name, formal_subtype, passed, value_with}
+use Rattle.expr_code.specs.Views.{At, placed, frames_above, Sight, View, view_of}
+use Rattle.expr_code.specs.Coming.{all_on, all_words, Comes, on}
+
+-- each value takes as many words as are told
+abbrev pub ArePassed : List ℕ → List Value → Type 0
+ArePassed [] [] = Unit {0}
+ArePassed (n ∷ ns) (v ∷ vs) = (length (value_words v) ≡ n) × ArePassed ns vs
+ArePassed ns vs = ⊥
+
+-- the functions that code may call
+pub record Library : Type 1 where
+  -- what all bodies of the program see
+  pub shared : Sight
+  -- the function has the subprogram with this number; and its parameters have so many words each
+  pub coded : Function → ℕ → Type 0
+  pub sizes : Function → List ℕ
+  -- what is known of the values of calls: that they are of the types of the results
+  pub sound : Calls → Type 0
+
+module _ (i : Sections) (library : Library) where
+  -- The code of the functions that are called gives their values, with so many frames left: where the actual parameters stand on the operand stack at the call,
+  -- the frame comes behind it with the value in their place.
+  pub record Answers (calls : Calls) (left : ℕ) : Type 0 where
+    pub sound : library.sound calls
+    pub answers :
+        (schedule : List ScheduleLine) (k : Kernel) (t : ℕ) (m : Words) (f : Frame) (fs : List Frame) (p : Place) (place : ℕ) (base : List ℤ)
+        (function : Function) (number : ℕ) (args : List Value)
+        → Calm k t
+        → library.shared p (view_of i schedule k m f fs)
+        → library.coded function number
+        → At i place (op.Call number)
+        → ArePassed (library.sizes function) args
+        → left ≡ frames_above fs
+        → Comes i schedule k t m (placed f place (all_on base args)) fs 1 (suc place) (on base) (calls p function args)
+
+  -- from each state of a frame that sees what is visible
+  abbrev pub Everywhere : {A : Type 0} → Sight → (from to : ℕ) → (List ℤ → A → List ℤ) → (Calls → Place → Val A) → Type 0
+  Everywhere sight from to stack value =
+      (calls : Calls) (left : ℕ)
+      → Answers calls left
+      → (schedule : List ScheduleLine) (k : Kernel) (t : ℕ) (m : Words) (f : Frame) (fs : List Frame) (p : Place) (base : List ℤ)
+      → Calm k t
+      → sight p (view_of i schedule k m f fs)
+      → left ≡ frames_above fs
+      → Comes i schedule k t m (placed f from base) fs (to - from) to (stack base) (value calls p)
+
+  -- the code between two places computes the expression: it leaves its value on the operand stack
+  abbrev pub Computes : Sight → (from to : ℕ) → ExprTree → Type 0
+  Computes sight from to e = Everywhere sight from to on (λ calls p. value_with calls p e)
+
+  -- ... the values in parentheses, each checked against its subtype before the next one is computed
+  abbrev pub ComputesAll : Sight → (from to : ℕ) → List Subtype → ArgumentTrees → Type 0
+  ComputesAll sight from to ts arguments = Everywhere sight from to all_on (λ calls p. actuals_with calls p arguments ts)
+
+  -- a truth value, wherever the expression has a value
+  abbrev pub IsTruth : Sight → ExprTree → Type 0
+  IsTruth sight e = (calls : Calls) (p : Place) (view : View) (v : Value) → library.sound calls → sight p view → value_with calls p e ≡ Gives v → (b : Bool) × (v ≡ Truth b)
+
+  -- a check against a subtype
+  abbrev pub Checks : ℕ → Subtype → Type 0
+  Checks from t = At i from (op.Push t.first) × At i (from + 1) (op.Push t.last) × At i (from + 2) op.CheckRange
+
+  -- the parts of an if expression behind its first value (RM 4.5.7): each condition, a jump behind its value where it does not hold, the value, a jump to the
+  -- end; and in the end the value for `else`
+  abbrev pub ComputesElse : Sight → (from to : ℕ) → ElsifValueTrees → ExprTree → Type 0
+  ComputesElse sight from to NoElsifValues e = (from ≤ to) × Computes sight from to e
+  ComputesElse sight from to (MoreElsifValues condition value rest) e =
+      (mid stop next : ℕ)
+      × (from ≤ mid)
+      × (suc mid ≤ stop)
+      × (suc stop ≤ next)
+      × (next ≤ to)
+      × Computes sight from mid condition
+      × At i mid (op.JumpIfZero next)
+      × Computes sight (mid + 1) stop value
+      × At i stop (op.Jump to)
+      × ComputesElse sight next to rest e
+
+  -- the code computes an expression and checks its value against a subtype
+  abbrev pub ComputesChecked : Sight → (from to : ℕ) → Subtype → ExprTree → Type 0
+  ComputesChecked sight from to t e = Everywhere sight from to on (λ calls p. and_then (value_with calls p e) (passed t))
+
+  -- wherever the expression has a value, it is a number; or it lies in the subtype, and no check is needed
+  abbrev pub IsNumber : Sight → ExprTree → Type 0
+  IsNumber sight e = (calls : Calls) (p : Place) (view : View) (v : Value) → library.sound calls → sight p view → value_with calls p e ≡ Gives v → (z : ℤ) × (v ≡ Number z)
+
+  abbrev pub AlwaysPasses : Sight → Subtype → ExprTree → Type 0
+  AlwaysPasses sight t e = (calls : Calls) (p : Place) (view : View) (v : Value) → library.sound calls → sight p view → value_with calls p e ≡ Gives v → passed t v ≡ Gives v
+
+  -- the name stands for the function, which has this subprogram, and its actual parameters have the words of its formals
+  pub record NamesFunction (sight : Sight) (first : Identifier) (selectors : SelectorTrees) (function : Function) (number : ℕ) : Type 0 where
+    pub coded : library.coded function number
+    pub shared : (p : Place) (view : View) → sight p view → library.shared p view
+    pub named : (p : Place) (view : View) → sight p view → (fixed_name p first selectors ≡ None) × (meaning_of p first.name ≡ IsFunction function None)
+
+  abbrev pub ArePassedWell : Sight → Function → ArgumentTrees → Type 0
+  ArePassedWell sight function arguments =
+      (calls : Calls) (p : Place) (view : View) (vs : List Value)
+      → library.sound calls
+      → sight p view
+      → actuals_with calls p arguments (map formal_subtype function.formals) ≡ Gives vs
+      → ArePassed (library.sizes function) vs
+
+  -- the code of a function: its value, checked, and a return. It handles nothing, and sees what all bodies see and its formals
+  pub record IsFunctionCode (function : Function) (number : ℕ) : Type 1 where
+    pub s : Subprogram
+    pub there : called i number ≡ Some s
+    pub parameters : (args : List Value) → ArePassed (library.sizes function) args → length (all_words args) ≡ s.parameters
+    pub sight : Sight
+    pub mid : ℕ
+    pub behind : first_place i number ≤ mid
+    pub body : ComputesChecked sight (first_place i number) mid function.result function.value
+    pub return : At i mid op.Return
+    pub within : suc mid ≤ s.end_
+    pub bare : (place x : ℕ) → first_place i number ≤ place → place ≤ mid → handler_of i.rows place x ≡ None
+    -- its result has the words that are returned
+    pub sized : (calls : Calls) (p : Place) (view : View) (v : Value) → library.sound calls → sight p view → and_then (value_with calls p function.value) (passed function.result) ≡ Gives v → length (value_words v) ≡ s.results
+    -- what it sees when it is entered
+    pub enters : (p : Place) (view inner : View) (args : List Value) (left : ℕ) (locals : List ℤ)
+        → library.shared p view
+        → ArePassed (library.sizes function) args
+        → inner.schedule ≡ view.schedule
+        → inner.now ≡ view.now
+        → inner.memory ≡ view.memory
+        → inner.words regions.Locals ≡ all_words args ++ locals
+        → inner.left ≡ left
+        → sight (entered p function args left) inner

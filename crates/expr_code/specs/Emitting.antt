@@ -1,0 +1,59 @@
+-- What methods that add the code of expressions promise.
+use Rattle.std.specs.Prelude.{◌≡◌, ℕ, ◌+◌, ◌*◌, ◌≤◌, List, [], ◌∷◌, true, ⊤}
+use Rattle.image.specs.Sections.{Sections}
+use Rattle.ada_tree.specs.declared.expression.Operand.{Operand}
+use Rattle.ada_tree.specs.ExpressionTree.{ExprTree, chain_tree, expr_tree}
+use Rattle.ada_tree.specs.Size.{expr_size}
+use Rattle.types.specs.declared.entity.Subtype.{Subtype}
+use Rattle.types.specs.Scopes.{form_at, Scope}
+use Rattle.expr_rules.specs.declared.own.Wanted.{Wanted}
+use Rattle.expr_rules.specs.declared.own.Wanted.TheVariants.{Anything, AnyInteger, OfType}
+use Rattle.expr_rules.specs.ExpressionRules.{faults_in, faults_of}
+use Rattle.expr_rules.specs.Typing.{is_integers}
+use Rattle.expr_code.specs.Code.{here, Extends, Holds}
+use Rattle.expr_code.specs.Computing.{Computes, ComputesChecked}
+use Rattle.expr_code.specs.Flows.{Flows}
+use Rattle.expr_code.specs.Seeing.{library_of, Sees, Suits}
+use Rattle.expr_code.specs.declared.code.Code.{Code}
+use Rattle.expr_code.specs.declared.visible.Visible.{Visible}
+
+-- no rule is broken in the expression, where something fit is expected of it
+pub record IsLegal (s : Scope) (e : ExprTree) : Type 0 where
+  pub wanted : Wanted
+  pub unbroken : faults_in s wanted e ≡ []
+
+-- what is wanted of an expression whose value is to lie in a subtype
+abbrev pub WantedFits : Scope → Wanted → Subtype → Type 0
+WantedFits s (OfType n) t = n ≡ t.type_number
+WantedFits s AnyInteger t = is_integers (form_at s t.type_number) ≡ true
+WantedFits s Anything t = ⊥
+
+-- no rule is broken in an expression whose value is to lie in the subtype
+pub record IsFit (s : Scope) (t : Subtype) (e : ExprTree) : Type 0 where
+  pub wanted : Wanted
+  pub fits : WantedFits s wanted t
+  pub unbroken : faults_of s wanted e ≡ []
+
+-- ... in the operands behind operators
+abbrev pub AreLegal : Scope → List Operand → Type 0
+AreLegal s [] = ⊤
+AreLegal s (o ∷ rest) = IsLegal s (expr_tree o.value) × AreLegal s rest
+
+-- The code that was added computes the expression, in every image that holds it and wherever a frame stands for the place of evaluation; it keeps the rules
+-- of images; and it has at most 20 instructions for each part of the expression. It finds so many words on the operand stack, and leaves one more.
+pub record EmitsExpression (v : Visible) (old : Code) (depth : ℕ) (e : ExprTree) (new : Code) : Type 0 where
+  pub extends : Extends old new
+  pub sized : here new ≤ here old + 20 * expr_size e
+  pub computes : (i : Sections) → Holds i (here old) new → Computes i (library_of v) (Sees v) (here old) (here new) e
+  pub flows : Flows (Suits v) old depth new (depth + 1)
+
+-- ... and checks its value against a subtype
+pub record EmitsChecked (v : Visible) (old : Code) (depth : ℕ) (t : Subtype) (e : ExprTree) (new : Code) : Type 0 where
+  pub extends : Extends old new
+  pub sized : here new ≤ here old + (20 * expr_size e + 3)
+  pub computes : (i : Sections) → Holds i (here old) new → ComputesChecked i (library_of v) (Sees v) (here old) (here new) t e
+  pub flows : Flows (Suits v) old depth new (depth + 1)
+
+-- The code that was added makes of an expression's value, computed by the code before it, that of the operators and operands behind it.
+pub record EmitsOperands (v : Visible) (old : Code) (depth : ℕ) (all : List Operand) (new : Code) : Type 0 where
+  pub emits : (start : Code) (left : ExprTree) → EmitsExpression v start depth left old → IsLegal v.scope (chain_tree left all) → EmitsExpression v start depth (chain_tree left all) new

@@ -1,0 +1,65 @@
+-- What code promises that goes from the address of an object to that of a part of it (RM 4.1.1, 4.1.3).
+use Rattle.std.specs.Prelude.{◌≡◌, ℕ, ◌+◌, ◌*◌, ◌≤◌, ℤ, pos, List, [], ◌∷◌}
+use Rattle.ada_tree.specs.ExpressionTree.{MoreSelectors, SelectorTree, SelectorTrees}
+use Rattle.ada_tree.specs.Size.{selector_size}
+use Rattle.image.specs.Sections.{Sections}
+use Rattle.image.specs.declared.instruction.Operation.TheVariants as op
+use Rattle.types.specs.declared.entity.Role.{Role}
+use Rattle.types.specs.declared.entity.Subtype.{Subtype}
+use Rattle.types.specs.declared.standing.Standing.TheVariants as standing
+use Rattle.types.specs.Scopes.{Scope}
+use Rattle.types.specs.Shapes.{Shape, shape_of}
+use Rattle.types.specs.Standings.{object_select}
+use Rattle.expr_rules.specs.ExpressionRules.{selector_faults, selectors_faults}
+use Rattle.expr_code.specs.Code.{Adds, here, Extends, Holds}
+use Rattle.expr_code.specs.Flows.{Flows}
+use Rattle.expr_code.specs.Locating.{IsPath}
+use Rattle.expr_code.specs.Seeing.{library_of, Sees, Suits}
+use Rattle.expr_code.specs.declared.code.Code.{Code}
+use Rattle.expr_code.specs.declared.visible.Visible.{Visible}
+
+-- no rule is broken in the parts of a name behind an object or part of this subtype; in one of them
+pub record IsLegalPath (s : Scope) (t : Subtype) (all : SelectorTrees) : Type 0 where
+  pub role : Role
+  pub place : ℕ
+  pub unbroken : selectors_faults s place (standing.Part role t) all ≡ []
+
+pub record IsLegalPart (s : Scope) (t : Subtype) (x : SelectorTree) : Type 0 where
+  pub role : Role
+  pub place : ℕ
+  pub unbroken : selector_faults s place (standing.Part role t) x ≡ []
+
+-- with this part more it is an object of this subtype
+abbrev pub Selects : Scope → Subtype → SelectorTree → Subtype → Type 0
+Selects s t x last = (r : Role) → object_select s r t x ≡ standing.Part r last
+
+-- these selectors in front of others
+abbrev pub selected : List SelectorTree → SelectorTrees → SelectorTrees
+selected [] rest = rest
+selected (x ∷ all) rest = MoreSelectors x (selected all rest)
+
+abbrev pub path_size : List SelectorTree → ℕ
+path_size [] = 0
+path_size (x ∷ all) = selector_size x + path_size all
+
+-- The code that was added goes from the address of an object or part of this subtype, above so many words on the operand stack, to that of its part, in front of
+-- whatever path goes on from there.
+pub record EmitsPath (v : Visible) (old : Code) (depth : ℕ) (t : Subtype) (all : List SelectorTree) (last : Subtype) (new : Code) : Type 0 where
+  pub extends : Extends old new
+  pub sized : here new ≤ here old + 20 * path_size all
+  pub goes : (i : Sections) → Holds i (here old) new → (to : ℕ) (rest : SelectorTrees) (final : Subtype) (end : Shape) → here new ≤ to
+      → IsPath i (library_of v) (Sees v) (here new) to last (shape_of v.scope last) rest final end
+      → IsPath i (library_of v) (Sees v) (here old) to t (shape_of v.scope t) (selected all rest) final end
+  pub flows : Flows (Suits v) old (depth + 1) new (depth + 1)
+
+-- what makes of an address and an index that was checked, both on the operand stack, the address of the component: from the first index on, by the words of each
+pub record AddsOffset (old : Code) (depth : ℕ) (first : ℤ) (words : ℕ) (new : Code) : Type 0 where
+  pub pushed : Code
+  pub counted : Code
+  pub sized : Code
+  pub scaled : Code
+  pub push : Adds old depth (op.Push first) pushed
+  pub subtract : Adds pushed (depth + 1) op.Subtract counted
+  pub size : Adds counted depth (op.Push (pos words)) sized
+  pub multiply : Adds sized (depth + 1) op.Multiply scaled
+  pub add : Adds scaled depth op.Add new

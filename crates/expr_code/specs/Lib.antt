@@ -1,0 +1,12 @@
+pub mod Views
+pub mod Code
+pub mod Coming
+pub mod OperatorCode
+pub mod Computing
+pub mod Naming
+pub mod Seeing
+pub mod Flows
+pub mod Emitting
+pub mod Branches
+pub mod Locating
+pub mod Going

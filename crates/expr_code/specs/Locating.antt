@@ -1,0 +1,90 @@
+-- What it is that code finds a part of an object (RM 4.1.1, 4.1.3): its address stands on the operand stack.
+use Rattle.std.specs.Prelude.{◌≡◌, ℕ, suc, ◌+◌, ◌≤◌, pos, ℤ, List, ◌∷◌, length, true, Option, None, Some, bytes_eq, if◌then◌else◌}
+use Rattle.base.specs.declared.schedule.ScheduleLine.{ScheduleLine}
+use Rattle.kernel.specs.State.{Kernel}
+use Rattle.kernel.specs.Counting.{Spends}
+use Rattle.ada_tree.specs.ExpressionTree.{SelectorTrees, NoSelectors, MoreSelectors, Component, Arguments, MoreArguments, NoArguments, Value}
+use Rattle.image.specs.Sections.{Sections}
+use Rattle.image.specs.Frames.{Words, Frame, region_words}
+use Rattle.image.specs.Steps.{behaviour}
+use Rattle.image.specs.declared.instruction.Operation.TheVariants as op
+use Rattle.image.specs.declared.instruction.Region.{Region}
+use Rattle.types.specs.declared.entity.RecordComponent.{RecordComponent}
+use Rattle.types.specs.declared.entity.Subtype.{Subtype}
+use Rattle.types.specs.Entities.{Arrays, Records}
+use Rattle.types.specs.Scopes.{form_at}
+use Rattle.types.specs.Standings.{component_of}
+use Rattle.types.specs.Layouts.{field_offset}
+use Rattle.types.specs.Shapes.{Shape, Shapes, NoShapes, MoreShapes, Repeated, Grouped, has_shape, words}
+use Rattle.types.specs.Evaluations.{Val, Gives, Raises, Meaningless, and_then}
+use Rattle.types.specs.Places.{Meaning, IsObject, Place}
+use Rattle.types.specs.Evaluating.{Calls, part_with}
+use Rattle.meaning.specs.SameMeaning.{frames_of}
+use Rattle.expr_code.specs.Views.{At, in_frame, placed, Sight, View}
+use Rattle.expr_code.specs.Coming.{Comes, most_steps}
+use Rattle.expr_code.specs.Computing.{ComputesChecked, IsNumber, Library}
+use Rattle.expr_code.specs.Naming.{Lies}
+
+-- what a name means before it ends: that of its parts, from left to right
+abbrev pub located : Calls → Place → Meaning → SelectorTrees → Val Meaning
+located calls p m NoSelectors = Gives m
+located calls p m (MoreSelectors x rest) = and_then (part_with calls p m x) (λ n. located calls p n rest)
+
+-- the shape of the component of this name
+abbrev pub shape_in : Shapes → List ℕ → Option Shape
+shape_in NoShapes name = None
+shape_in (MoreShapes own x rest) name = if bytes_eq own name then Some x else shape_in rest name
+
+module _ (i : Sections) (schedule : List ScheduleLine) (k : Kernel) (t : ℕ) (m : Words) where
+  -- in at most n steps of its own the frame comes to the place `to` with the address of an object or part of this subtype and shape in this region on its stack, or raises
+  abbrev pub Finds : Frame → List Frame → Region → Subtype → Shape → (n to : ℕ) → (base : List ℤ) → Val Meaning → Type 0
+  Finds f fs region r x n to base (Gives (IsObject s v)) =
+      (address : ℕ)
+      × Lies (region_words i region m f) address v
+      × (has_shape x v ≡ true)
+      × (s ≡ r)
+      × Spends (behaviour i schedule) t frames_of (most_steps i) (suc (length fs)) n k (in_frame m f fs) k (in_frame m (placed f to (pos address ∷ base)) fs)
+  Finds f fs region r x n to base (Gives meaning) = ⊥
+  Finds f fs region r x n to base (Raises e) = Comes i schedule k t m f fs n to (λ (meaning : Meaning). base) (Raises e)
+  Finds f fs region r x n to base Meaningless = Unit {0}
+
+-- Code that goes from the address of an object or part of this subtype and shape along selectors: for a component of a record its offset and a sum; for one
+-- of an array its index, checked, and five instructions that make it an address.
+module _ (i : Sections) (library : Library) (sight : Sight) where
+  abbrev pub IsPath : (from to : ℕ) → Subtype → Shape → SelectorTrees → (last : Subtype) → (end : Shape) → Type 0
+  IsPath from to s x NoSelectors last end = (from ≡ to) × (x ≡ end) × (s ≡ last)
+  IsPath from to s x (MoreSelectors (Component name) rest) last end =
+      (components : List RecordComponent)
+      × (parts : Shapes)
+      × (part : Subtype)
+      × (inner : Shape)
+      × (offset : ℕ)
+      × ((p : Place) (view : View) → sight p view → form_at p.scope s.type_number ≡ Some (Records components))
+      × ((p : Place) (view : View) → sight p view → x ≡ Grouped parts)
+      × (component_of components name.name ≡ Some part)
+      × (shape_in parts name.name ≡ Some inner)
+      × (field_offset parts name.name ≡ Some offset)
+      × (offset ≤ 65536)
+      × At i from (op.Push (pos offset))
+      × At i (from + 1) op.Add
+      × (from + 2 ≤ to)
+      × IsPath (from + 2) to part inner rest last end
+  IsPath from to s x (MoreSelectors (Arguments (MoreArguments (Value e) NoArguments)) rest) last end =
+      (index element : Subtype)
+      × (many : ℕ)
+      × (inner : Shape)
+      × (mid : ℕ)
+      × ((p : Place) (view : View) → sight p view → form_at p.scope s.type_number ≡ Some (Arrays index many element))
+      × ((p : Place) (view : View) → sight p view → x ≡ Repeated many inner)
+      × (many ≤ 65536)
+      × (from ≤ mid)
+      × ComputesChecked i library sight from mid index e
+      × IsNumber i library sight e
+      × At i mid (op.Push index.first)
+      × At i (mid + 1) op.Subtract
+      × At i (mid + 2) (op.Push (pos (words inner)))
+      × At i (mid + 3) op.Multiply
+      × At i (mid + 4) op.Add
+      × (mid + 5 ≤ to)
+      × IsPath (mid + 5) to element inner rest last end
+  IsPath from to s x (MoreSelectors other rest) last end = ⊥

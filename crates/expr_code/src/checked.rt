@@ -1,0 +1,43 @@
+//! The code of expressions whose values are checked against a subtype (RM 4.6, 6.4.1).
+ghost use Rattle.std.specs.Prelude.{◌≡◌, OnOk};
+ghost use Rattle.ada_tree.specs.ExpressionTree.{expr_tree};
+ghost use Rattle.expr_code.specs.Emitting.{EmitsChecked, IsFit};
+
+use crate::code::{Code, above};
+use crate::refusal::Refusal;
+use crate::visible::Visible;
+use ada_tree::Expr;
+use image::Operation;
+use kernel::laws::quiet_stays;
+use types::{Subtype, TypeForm};
+use well_typed::laws::expressions_are_typed;
+
+impl Code {
+    /// Adds the code of an expression whose value is to lie in a subtype, and of the check that it does, where that is one of integers.
+    #[cycle(expression)]
+    pub(crate) fn checked(
+        &mut self,
+        visible: &Visible,
+        depth: u16,
+        subtype: Subtype,
+        e: &Expr,
+    ) -> Result<(), Refusal>
+        requires fit { IsFit visible.now.scope subtype (expr_tree e.now) }
+        ensures emits { OnOk result (EmitsChecked visible.now self.old depth subtype (expr_tree e.now) self.new) }
+    {
+        quiet_stays();
+        expressions_are_typed();
+        self.expression(visible, depth, e)?;
+        match visible.scope.form(subtype.type_number) {
+            Some(TypeForm::Integer) => {
+                let one = above(depth)?;
+                let two = above(one)?;
+                self.emit(one, Operation::Push(subtype.first))?;
+                self.emit(two, Operation::Push(subtype.last))?;
+                self.emit(above(two)?, Operation::CheckRange)
+            }
+            Some(TypeForm::Boolean) => Ok(()),
+            _ => Err(Refusal::Outside),
+        }
+    }
+}

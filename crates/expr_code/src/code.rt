@@ -1,0 +1,78 @@
+//! The instructions of a program as they are put together.
+ghost use Rattle.std.specs.Prelude.{◌≡◌, ◌⊎◌, ◌+◌, ◌<◌, ◌≤◌, [], max, IfErr, IfOk, OnOk};
+ghost use Rattle.base.specs.declared.limits.TheConstants.{FRAME_WORDS, INSTRUCTIONS};
+ghost use Rattle.expr_code.specs.Code.{Adds, here, Patches};
+ghost use Rattle.expr_code.specs.declared.refusal.Refusal.TheVariants.{Memory};
+
+use crate::refusal::Refusal;
+use base::limits::{FRAME_WORDS, INSTRUCTIONS};
+use image::{Instr, Operation};
+use std::alloc::Global;
+
+/// One word more on the operand stack.
+pub(crate) fn above(depth: u16) -> Result<u16, Refusal>
+    ensures more { IfOk result (λ more. more ≡ depth + 1) }
+    ensures within { IfOk result (λ more. more ≤ FRAME_WORDS) }
+    ensures refused { IfErr result (λ why. FRAME_WORDS < depth + 1) }
+{
+    if FRAME_WORDS <= usize::from(depth) {
+        return Err(Refusal::Limit);
+    }
+    Ok(depth + 1)
+}
+
+/// Instructions that are put together one by one.
+#[derive(Drop)]
+pub struct Code {
+    pub alloc: Global,
+    pub instructions: Vec<Instr>,
+    /// The greatest depth of the operand stack in the subprogram that is being put together, in words.
+    pub deepest: u16,
+}
+
+impl Code {
+    /// No code.
+    pub fn new(alloc: Global) -> Code
+        ensures instructions { result.instructions.items ≡ [] }
+        ensures deepest { result.deepest ≡ 0 }
+    {
+        Code {
+            alloc,
+            instructions: Vec::new(alloc),
+            deepest: 0,
+        }
+    }
+
+    /// Adds an instruction that finds `depth` words on the operand stack.
+    pub(crate) fn emit(&mut self, depth: u16, operation: Operation) -> Result<(), Refusal>
+        ensures adds { OnOk result (Adds self.old depth operation self.new) }
+        ensures few { OnOk result (here self.new ≤ INSTRUCTIONS) }
+        ensures shallow { OnOk result (depth ≤ FRAME_WORDS) }
+        ensures deepest { OnOk result (self.new.deepest ≡ max self.old.deepest depth) }
+        ensures refused { IfErr result (λ why. (why ≡ Memory) ⊎ ((INSTRUCTIONS < here self.old + 1) ⊎ (FRAME_WORDS < depth))) }
+    {
+        if FRAME_WORDS < usize::from(depth) || INSTRUCTIONS <= self.instructions.len() {
+            return Err(Refusal::Limit);
+        }
+        self.instructions.push(Instr { depth, operation })?;
+        self.deepest = self.deepest.max(depth);
+        Ok(())
+    }
+
+    /// The place behind all instructions.
+    pub(crate) fn end(&self) -> Result<u16, Refusal>
+        ensures end { IfOk result (λ end. end ≡ here self.now) }
+        ensures refused { IfErr result (λ why. INSTRUCTIONS < here self.now) }
+    {
+        u16::try_from(self.instructions.len()).map_err(|_| Refusal::Limit)
+    }
+
+    /// Puts another operation in the place of one that stands there.
+    pub(crate) fn patch(&mut self, place: usize, operation: Operation)
+        requires there { place < here self.old }
+        ensures patches { Patches self.old place operation self.new }
+    {
+        let depth = self.instructions[place].depth;
+        self.instructions[place] = Instr { depth, operation };
+    }
+}

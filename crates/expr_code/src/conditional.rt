@@ -1,0 +1,74 @@
+//! The code of if expressions (RM 4.5.7): each condition, a jump behind its value where it does not hold, the value, a jump to the end.
+ghost use Rattle.std.specs.Prelude.{◌≡◌, ◌+◌, ◌<◌, map, true, ℕ, IfOk, OnOk};
+ghost use Rattle.types.specs.Places.{is_among};
+ghost use Rattle.expr_code.specs.Branches.{AddsBranches, AreLegalBranches, branch_of, Closes, Rejoins};
+ghost use Rattle.expr_code.specs.Code.{Adds, here};
+ghost use Rattle.image.specs.declared.instruction.Operation.TheVariants.{JumpIfZero};
+
+use crate::code::{Code, above};
+use crate::refusal::Refusal;
+use crate::visible::Visible;
+use ada_tree::ElsifValue;
+use image::Operation;
+
+impl Code {
+    /// Adds a jump where the condition above `depth` words does not hold, and tells its place; where it leads is not known yet.
+    pub(crate) fn test(&mut self, depth: u16) -> Result<usize, Refusal>
+        ensures place { IfOk result (λ place. place ≡ here self.old) }
+        ensures adds { OnOk result (Adds self.old (depth + 1) (JumpIfZero 0) self.new) }
+    {
+        let place = self.instructions.len();
+        self.emit(above(depth)?, Operation::JumpIfZero(0))?;
+        Ok(place)
+    }
+
+    /// Adds a jump behind the value above `depth` words, whose place waits for the end, and makes the test lead behind it.
+    pub(crate) fn close(
+        &mut self,
+        depth: u16,
+        test: usize,
+        waiting: &mut Vec<usize>,
+    ) -> Result<(), Refusal>
+        requires there { test < here self.old }
+        ensures closes { OnOk result (Closes self.old depth test waiting.old.items waiting.new.items self.new) }
+    {
+        waiting.push(self.instructions.len())?;
+        self.emit(above(depth)?, Operation::Jump(0))?;
+        let next = self.end()?;
+        self.patch(test, Operation::JumpIfZero(next));
+        Ok(())
+    }
+
+    /// Adds the code of all parts behind the first one.
+    #[cycle(expression)]
+    pub(crate) fn elsifs(
+        &mut self,
+        visible: &Visible,
+        depth: u16,
+        elsifs: &[ElsifValue],
+        waiting: &mut Vec<usize>,
+    ) -> Result<(), Refusal>
+        requires legal { AreLegalBranches visible.now.scope (map branch_of elsifs.now) }
+        ensures adds { OnOk result (AddsBranches visible.now self.old depth (map branch_of elsifs.now) waiting.old.items waiting.new.items self.new) }
+    {
+        for elsif in elsifs {
+            self.expression(visible, depth, &elsif.condition)?;
+            let test = self.test(depth)?;
+            self.expression(visible, depth, &elsif.value)?;
+            self.close(depth, test, waiting)?;
+        }
+        Ok(())
+    }
+
+    /// Makes the jumps at these places lead to the end of the code.
+    pub(crate) fn rejoin(&mut self, places: &[usize]) -> Result<(), Refusal>
+        requires there { (k : ℕ) → is_among places.now k ≡ true → k < here self.old }
+        ensures rejoins { OnOk result (Rejoins self.old places.now (here self.old) self.new) }
+    {
+        let end = self.end()?;
+        for place in places {
+            self.patch(*place, Operation::Jump(end));
+        }
+        Ok(())
+    }
+}

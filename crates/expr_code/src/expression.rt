@@ -1,0 +1,113 @@
+//! The code of expressions (RM 4.4).
+ghost use Rattle.std.specs.Prelude.{◌≡◌, ◌∷◌, [], None, OnOk};
+ghost use Rattle.ada_tree.specs.ExpressionTree.{chain_tree, expr_tree};
+ghost use Rattle.expr_code.specs.Emitting.{AreLegal, EmitsExpression, EmitsOperands, IsLegal};
+ghost use Rattle.expr_code.specs.OperatorCode.{binary_operation};
+
+use crate::code::{Code, above};
+use crate::operation::{binary_operation, unary_operation};
+use crate::refusal::Refusal;
+use crate::visible::Visible;
+use ada_tree::laws::{chains_by_parts, conditional_by_parts, names_by_parts};
+use ada_tree::{BinaryOperator, Expr, Operand};
+use image::Operation;
+use kernel::laws::quiet_stays;
+use well_typed::laws::expressions_are_typed;
+
+impl Code {
+    /// Adds the code of an expression, where its names are visible. It finds `depth` words on the operand stack, and leaves its value above them.
+    #[cycle(expression)]
+    pub fn expression(&mut self, visible: &Visible, depth: u16, e: &Expr) -> Result<(), Refusal>
+        requires legal { IsLegal visible.now.scope (expr_tree e.now) }
+        ensures emits { OnOk result (EmitsExpression visible.now self.old depth (expr_tree e.now) self.new) }
+    {
+        quiet_stays();
+        chains_by_parts();
+        conditional_by_parts();
+        names_by_parts();
+        match e {
+            Expr::Number(value, _) => self.emit(depth, Operation::Push(*value)),
+            Expr::Name(name) => self.name(visible, depth, name),
+            Expr::Parenthesized(_, inner) => self.expression(visible, depth, inner),
+            Expr::Unary(operator, _, operand) => {
+                self.expression(visible, depth, operand)?;
+                match unary_operation(*operator) {
+                    Some(operation) => self.emit(above(depth)?, operation),
+                    None => Ok(()),
+                }
+            }
+            Expr::Chain(first, second, more) => {
+                self.expression(visible, depth, first)?;
+                self.operand(visible, depth, second)?;
+                self.operands(visible, depth, more)
+            }
+            Expr::Conditional(_, condition, value, elsifs, last) => {
+                let mut waiting = Vec::new(self.alloc);
+                self.expression(visible, depth, condition)?;
+                let test = self.test(depth)?;
+                self.expression(visible, depth, value)?;
+                self.close(depth, test, &mut waiting)?;
+                self.elsifs(visible, depth, elsifs, &mut waiting)?;
+                self.expression(visible, depth, last)?;
+                self.rejoin(&waiting)
+            }
+        }
+    }
+
+    // Adds the code of an operator and the operand behind it, which finds its left operand's value above `depth` words.
+    #[cycle(expression)]
+    fn operand(&mut self, visible: &Visible, depth: u16, operand: &Operand) -> Result<(), Refusal>
+        requires legal { IsLegal visible.now.scope (expr_tree operand.now.value) }
+        ensures emits { OnOk result (EmitsOperands visible.now self.old depth (operand.now ∷ []) self.new) }
+    {
+        quiet_stays();
+        match binary_operation(operand.operator) {
+            Some(operation) => {
+                let second = above(depth)?;
+                self.expression(visible, second, &operand.value)?;
+                self.emit(above(second)?, operation)
+            }
+            None => self.short_circuit(visible, depth, operand),
+        }
+    }
+
+    // Adds that of `and then` or `or else`: a copy of the left operand's value; where that decides, a jump behind the right operand, which else takes its place.
+    #[cycle(expression)]
+    fn short_circuit(
+        &mut self,
+        visible: &Visible,
+        depth: u16,
+        operand: &Operand,
+    ) -> Result<(), Refusal>
+        requires legal { IsLegal visible.now.scope (expr_tree operand.now.value) }
+        requires short { binary_operation operand.now.operator ≡ None }
+        ensures emits { OnOk result (EmitsOperands visible.now self.old depth (operand.now ∷ []) self.new) }
+    {
+        quiet_stays();
+        expressions_are_typed();
+        let one = above(depth)?;
+        self.emit(one, Operation::Duplicate)?;
+        let jump = self.instructions.len();
+        self.emit(above(one)?, Operation::JumpIfZero(0))?;
+        self.emit(one, Operation::Drop)?;
+        self.expression(visible, depth, &operand.value)?;
+        let end = self.end()?;
+        match operand.operator {
+            BinaryOperator::OrElse => self.patch(jump, Operation::JumpIfNotZero(end)),
+            _ => self.patch(jump, Operation::JumpIfZero(end)),
+        }
+        Ok(())
+    }
+
+    // Adds the code of operators and the operands behind them, which finds the first one's left operand's value above `depth` words.
+    #[cycle(expression)]
+    fn operands(&mut self, visible: &Visible, depth: u16, all: &[Operand]) -> Result<(), Refusal>
+        requires legal { AreLegal visible.now.scope all.now }
+        ensures emits { OnOk result (EmitsOperands visible.now self.old depth all.now self.new) }
+    {
+        for operand in all {
+            self.operand(visible, depth, operand)?;
+        }
+        Ok(())
+    }
+}

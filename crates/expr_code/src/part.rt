@@ -1,0 +1,181 @@
+//! The code of parts of objects (RM 4.1.1, 4.1.3): the address of the object, what goes from there to the part's, and a load of the words there.
+ghost use Rattle.std.specs.Prelude.{◌≡◌, ◌∷◌, [], map, None, Some, IfOk, OnOk};
+ghost use Rattle.ada_tree.specs.ExpressionTree.{Arguments, argument_trees, bare_name, Component, Named, selector_tree, selector_trees};
+ghost use Rattle.types.specs.declared.entity.Role.{Role};
+ghost use Rattle.types.specs.declared.standing.Standing.TheVariants as standing;
+ghost use Rattle.types.specs.Entities.{Arrays};
+ghost use Rattle.types.specs.Evaluating.{fixed_value};
+ghost use Rattle.types.specs.Scopes.{form_at, number_of};
+ghost use Rattle.types.specs.Standings.{standing_of, stands_first};
+ghost use Rattle.expr_code.specs.Emitting.{EmitsExpression, IsLegal};
+ghost use Rattle.expr_code.specs.Going.{AddsOffset, EmitsPath, IsLegalPart, IsLegalPath, Selects};
+ghost use Rattle.expr_code.specs.Seeing.{slot_of};
+
+use crate::code::{Code, above};
+use crate::refusal::Refusal;
+use crate::visible::{Slot, Visible};
+use ada_tree::laws::arguments_by_parts;
+use ada_tree::{Argument, Identifier, Selector};
+use base::limits::WORDS;
+use image::Operation;
+use kernel::laws::quiet_stays;
+use types::laws::{parts_have_places, values_have_words};
+use types::{Subtype, TypeForm};
+use well_typed::laws::expressions_are_typed;
+
+impl Code {
+    /// Adds the code of a part of the object with this name, subtype and words, which has one word.
+    #[cycle(expression)]
+    pub(crate) fn part(
+        &mut self,
+        visible: &Visible,
+        depth: u16,
+        slot: Slot,
+        subtype: Subtype,
+        first: &Identifier,
+        selectors: &[Selector],
+    ) -> Result<(), Refusal>
+        requires legal { IsLegal visible.now.scope (Named first.now (selector_trees selectors.now)) }
+        requires stands { (r : Role) × (stands_first visible.now.scope (number_of visible.now.scope first.now.name) ≡ standing.Part r subtype) }
+        requires valueless { fixed_value (standing_of visible.now.scope first.now (selector_trees selectors.now)) ≡ None }
+        requires there { slot_of visible.now first.now.name ≡ Some slot }
+        requires parts { bare_name (Named first.now (selector_trees selectors.now)) ≡ None }
+        ensures emits { OnOk result (EmitsExpression visible.now self.old depth (Named first.now (selector_trees selectors.now)) self.new) }
+    {
+        quiet_stays();
+        values_have_words();
+        parts_have_places();
+        let address = above(depth)?;
+        self.emit(depth, Operation::Push(i64::from(slot.offset)))?;
+        let last = self.path(visible, depth, subtype, selectors)?;
+        match visible.scope.words(last) {
+            1 => self.emit(
+                address,
+                Operation::LoadBlock {
+                    region: slot.region,
+                    words: 1,
+                },
+            ),
+            _ => Err(Refusal::Outside),
+        }
+    }
+
+    // Adds what goes from the address above `depth` words to that of the part behind these selectors, and tells the part's subtype.
+    #[cycle(expression)]
+    fn path(
+        &mut self,
+        visible: &Visible,
+        depth: u16,
+        subtype: Subtype,
+        selectors: &[Selector],
+    ) -> Result<Subtype, Refusal>
+        requires legal { IsLegalPath visible.now.scope subtype (selector_trees selectors.now) }
+        ensures emits { IfOk result (λ last. EmitsPath visible.now self.old depth subtype (map selector_tree selectors.now) last self.new) }
+    {
+        let mut last = subtype;
+        for selector in selectors {
+            last = self.select(visible, depth, last, selector)?;
+        }
+        Ok(last)
+    }
+
+    // The same of one selector.
+    #[cycle(expression)]
+    fn select(
+        &mut self,
+        visible: &Visible,
+        depth: u16,
+        subtype: Subtype,
+        selector: &Selector,
+    ) -> Result<Subtype, Refusal>
+        requires legal { IsLegalPart visible.now.scope subtype (selector_tree selector.now) }
+        ensures stands { IfOk result (λ last. Selects visible.now.scope subtype (selector_tree selector.now) last) }
+        ensures emits { IfOk result (λ last. EmitsPath visible.now self.old depth subtype (selector_tree selector.now ∷ []) last self.new) }
+    {
+        arguments_by_parts();
+        match selector {
+            Selector::Component(name) => self.component(visible, depth, subtype, name),
+            Selector::Arguments(arguments) => self.element(visible, depth, subtype, arguments),
+            Selector::Attribute(_) => Err(Refusal::Outside),
+        }
+    }
+
+    // Of a component of a record: its offset, added.
+    fn component(
+        &mut self,
+        visible: &Visible,
+        depth: u16,
+        subtype: Subtype,
+        name: &Identifier,
+    ) -> Result<Subtype, Refusal>
+        ensures stands { IfOk result (λ last. Selects visible.now.scope subtype (Component name.now) last) }
+        ensures emits { IfOk result (λ last. EmitsPath visible.now self.old depth subtype (Component name.now ∷ []) last self.new) }
+    {
+        let Some(TypeForm::Record(components)) = visible.scope.form(subtype.type_number) else {
+            return Err(Refusal::Outside);
+        };
+        let Some(last) = components.subtype_of(&name.name) else {
+            return Err(Refusal::Outside);
+        };
+        let Some(offset) = visible
+            .scope
+            .component_offset(components.as_slice(), &name.name)
+        else {
+            return Err(Refusal::Outside);
+        };
+        if WORDS < usize::from(offset) {
+            return Err(Refusal::Limit);
+        }
+        let address = above(depth)?;
+        self.emit(address, Operation::Push(i64::from(offset)))?;
+        self.emit(above(address)?, Operation::Add)?;
+        Ok(last)
+    }
+
+    // Of a component of an array: the index, checked, less the first one, by the words of a component, added.
+    #[cycle(expression)]
+    fn element(
+        &mut self,
+        visible: &Visible,
+        depth: u16,
+        subtype: Subtype,
+        arguments: &[Argument],
+    ) -> Result<Subtype, Refusal>
+        requires legal { IsLegalPart visible.now.scope subtype (Arguments (argument_trees arguments.now)) }
+        ensures stands { IfOk result (λ last. Selects visible.now.scope subtype (Arguments (argument_trees arguments.now)) last) }
+        ensures emits { IfOk result (λ last. EmitsPath visible.now self.old depth subtype (Arguments (argument_trees arguments.now) ∷ []) last self.new) }
+    {
+        quiet_stays();
+        expressions_are_typed();
+        let [argument] = arguments else {
+            return Err(Refusal::Outside);
+        };
+        let Argument::Expr(e) = argument else {
+            return Err(Refusal::Outside);
+        };
+        let Some(TypeForm::Array(index, many, last)) = visible.scope.form(subtype.type_number)
+        else {
+            return Err(Refusal::Outside);
+        };
+        let words = visible.scope.words(*last);
+        if WORDS < usize::from(*many) || WORDS < usize::from(words) {
+            return Err(Refusal::Limit);
+        }
+        let address = above(depth)?;
+        self.checked(visible, address, *index, e)?;
+        self.offset(above(address)?, index.first, words)?;
+        Ok(*last)
+    }
+
+    // Adds what makes of an address and a checked index above it the address of the component, given the first index and the words of a component.
+    fn offset(&mut self, depth: u16, first: i64, words: u16) -> Result<(), Refusal>
+        ensures adds { OnOk result (AddsOffset self.old depth first words self.new) }
+    {
+        let two = above(depth)?;
+        self.emit(depth, Operation::Push(first))?;
+        self.emit(two, Operation::Subtract)?;
+        self.emit(depth, Operation::Push(i64::from(words)))?;
+        self.emit(two, Operation::Multiply)?;
+        self.emit(depth, Operation::Add)
+    }
+}
