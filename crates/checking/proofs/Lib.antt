@@ -2,7 +2,7 @@ mod LayoutExamples
 mod LikeNameExamples
 mod ProgramExamples
 mod Turns
-mod Made
+pub mod Made
 mod Numbers
 mod Placing
 mod Room

@@ -106,9 +106,9 @@ module _ (v : Visible) (depth : ℕ) (a b c : Code) (one two : List Branch) (fir
     sized = omega (arith, p.sized, q.sized, sizes one two);
     inside = λ k is. within k (one_of (is_among first k) (is_among second k) (sym (among_both first second k) ∙ is));
     waits = λ k is. waiting k (one_of (is_among first k) (is_among second k) (sym (among_both first second k) ∙ is));
-    computes = λ i end up j rest e code.
-        subst (λ t. ComputesElse i (library_of v) (Sees v) (here a) end t e) (sym (front one two rest))
-        (p.computes i end (omega (arith, q.extends.longer, up)) (before i end j) (in_front two rest) e (q.computes i end up (behind i end j) rest e code));
+    computes = λ i end up j unit rest e code.
+        subst (λ t. ComputesElse i (library_of unit) (Sees unit v) (here a) end t e) (sym (front one two rest))
+        (p.computes i end (omega (arith, q.extends.longer, up)) (before i end j) unit (in_front two rest) e (q.computes i end up (behind i end j) unit rest e code));
     flows = λ i s end up j suits deep high ends next.
         let more = q.flows i s end up (behind i end j) suits deep high ends next in
         let most = p.flows i s end (omega (arith, q.extends.longer, up)) (before i end j) suits (omega (arith, q.extends.deeper, deep)) high ends more.begins in
@@ -129,7 +129,7 @@ no_branches v c depth = record {
   sized = omega arith;
   inside = λ k is. absurd cc;
   waits = λ k is. absurd cc;
-  computes = λ i end up j rest e code. code;
+  computes = λ i end up j unit rest e code. code;
   flows = λ i s end up j suits deep high ends next. record { begins = next; shallow = omega (arith, high); each = λ k x le less there. absurd (omega (arith, le, less)) };
 }
 
@@ -207,7 +207,7 @@ module _ (v : Visible) (depth : ℕ) (start tested jumped valued closed new : Co
     sized = omega (arith, first.sized, second.sized, two, four, end_is);
     inside = λ k is. let same = here_is k is in (omega (arith, same, first.extends.longer, two, second.extends.longer), omega (arith, same, four, end_is));
     waits = λ k is. ap (slice_get new.instructions.items) (here_is k is) ∙ close_there;
-    computes = λ i end up j rest e code.
+    computes = λ i end up j unit rest e code.
         let next : n ≡ here new = next_is ∙ sym end_is in (
           here tested,
           here valued,
@@ -216,9 +216,9 @@ module _ (v : Visible) (depth : ℕ) (start tested jumped valued closed new : Co
           omega (arith, two, second.extends.longer),
           omega (arith, four, end_is),
           up,
-          first.computes i (in_tested i end up j),
+          first.computes i (in_tested i end up j) unit,
           subst (λ m. At i (here tested) (op.JumpIfZero m)) next (depth + 1, at_test i end up j),
-          subst (λ m. Computes i (library_of v) (Sees v) m (here valued) value) (let p : here jumped ≡ here tested + 1 = omega (arith, two) in p) (second.computes i (in_valued i end up j)),
+          subst (λ m. Computes i (library_of unit) (Sees unit v) m (here valued) value) (let p : here jumped ≡ here tested + 1 = omega (arith, two) in p) (second.computes i (in_valued i end up j) unit),
           (depth + 1, at_close i end up j),
           code,
         );
@@ -287,11 +287,11 @@ module _ (quiet : QuietStays) (v : Visible) (depth place n : ℕ) (start branche
       deeper = omega (arith, p.extends.deeper, q.extends.deeper, ap (λ m. m) r.deepest);
     };
     sized = let s = sizes in omega (arith, p.sized, q.sized, r.long, s);
-    computes = λ i h.
-        let code = p.computes i (here new) (omega (arith, q.extends.longer, r.long)) (joins i h) NoElsifValues last
-        (omega (arith, q.extends.longer, r.long), subst (λ m. Computes i (library_of v) (Sees v) (here branched) m last) (sym r.long) (q.computes i (later i h))) in
-        computes_conditional quiet i (library_of v) (Sees v) (here start) code.0 code.1 code.2 (here new) place condition value elsifs last code.3 code.4 code.5 code.6 code.7 code.8 code.9 code.10
-        (subst (λ t. ComputesElse i (library_of v) (Sees v) code.2 (here new) t last) elsifs_are code.11);
+    computes = λ i h unit.
+        let code = p.computes i (here new) (omega (arith, q.extends.longer, r.long)) (joins i h) unit NoElsifValues last
+        (omega (arith, q.extends.longer, r.long), subst (λ m. Computes i (library_of unit) (Sees unit v) (here branched) m last) (sym r.long) (q.computes i (later i h) unit)) in
+        computes_conditional quiet i (library_of unit) (Sees unit v) (here start) code.0 code.1 code.2 (here new) place condition value elsifs last code.3 code.4 code.5 code.6 code.7 code.8 code.9 code.10
+        (subst (λ t. ComputesElse i (library_of unit) (Sees unit v) code.2 (here new) t last) elsifs_are code.11);
     flows = record {
       flows = λ i s h suits deep high ends.
           let deepest : valued.deepest ≤ s.stack = omega (arith, ap (λ m. m) r.deepest, deep) in

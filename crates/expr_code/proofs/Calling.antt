@@ -13,9 +13,9 @@ use Rattle.kernel.specs.Calm.{Calm}
 use Rattle.kernel.specs.Counting.{Spends, Done}
 use Rattle.kernel.specs.Laws.{QuietStays}
 use Rattle.kernel.specs.RunLaws.{spends_trans}
-use Rattle.image.specs.Sections.{Sections, first_place, end_of}
+use Rattle.image.specs.Sections.{Sections, first_place, end_of, object_of}
 use Rattle.image.specs.Operations.{called, results_of}
-use Rattle.image.specs.Frames.{Words, Inner, Frame, new_frame, arguments}
+use Rattle.image.specs.Frames.{Words, Inner, Frame, new_frame, arguments, kind_of, object_words}
 use Rattle.image.specs.Steps.{act, behaviour, unwind, does, caught, removed}
 use Rattle.image.specs.Steps as step
 use Rattle.image.specs.declared.instruction.Operation.TheVariants as op
@@ -71,6 +71,10 @@ is_less n m h = search rules
 
 is_not_less : (n m : ℕ) → m ≤ n → nat_lt n m ≡ false
 is_not_less n m h = search rules
+
+replicated : (n : ℕ) → length (replicate n (pos 0)) ≡ n
+replicated zero = refl
+replicated (suc n) = ap suc (replicated n)
 
 -- ---- one call
 
@@ -184,7 +188,8 @@ module _ (quiet : QuietStays) (i : Sections) (library : Library) (codes : (funct
         let first = enters quiet i library function g is schedule k t m f fs place base words here many (omega (arith, e)) in
         let there = entered p function args left in
         let view = view_of i schedule k m frame (caller ∷ fs) in
-        let sees = is.enters p (view_of i schedule k m f fs) view args left (replicate (is.s.locals - is.s.parameters) (pos 0)) shared passes refl refl refl refl (omega (arith, e)) in
+        let sees = is.enters p (view_of i schedule k m f fs) view args left (replicate (is.s.locals - is.s.parameters) (pos 0)) shared passes refl refl refl refl (replicated (is.s.locals - is.s.parameters)) refl
+        (ap (λ o. object_words (object_of (kind_of o)) m) is.there) (omega (arith, e)) in
         returned quiet i library function g is schedule k t m f fs place base words here many calm (and_then (value_with (call left) there function.value) (passed function.result))
         (λ a ea. is.sized (call left) there view a (sound left) sees ea) first
         (is.body (call left) left (functions_answer left) schedule k t m frame (caller ∷ fs) there [] calm sees (omega (arith, e)));

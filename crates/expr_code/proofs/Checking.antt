@@ -1,5 +1,6 @@
 -- Code of expressions whose values are checked against a subtype.
-use Rattle.std.proofs.Common.{◌≡◌, ℕ, ℤ, ◌+◌, true, Some, refl, sym, ap, ◌∙◌, subst, arith}
+use Rattle.std.proofs.Common.{◌≡◌, ℕ, ℤ, ◌+◌, true, false, Some, refl, sym, ap, ◌∙◌, subst, arith}
+use Rattle.std.specs.Prelude.{pos}
 use Rattle.kernel.specs.Laws.{QuietStays}
 use Rattle.ada_tree.specs.ExpressionTree.{ExprTree}
 use Rattle.image.specs.Sections.{Sections}
@@ -7,9 +8,14 @@ use Rattle.image.specs.declared.instruction.Operation.TheVariants as op
 use Rattle.types.specs.declared.entity.Subtype.{Subtype}
 use Rattle.types.specs.Entities.{Booleans, Integers}
 use Rattle.types.specs.Evaluations.{Gives}
-use Rattle.types.specs.Evaluating.{passed, value_with}
+use Rattle.types.specs.Evaluating.{Calls, passed, value_with}
+use Rattle.types.specs.Laws.{ValuesHaveWords}
+use Rattle.types.specs.Layouts.{words_of}
+use Rattle.types.specs.Places.{Place}
 use Rattle.types.specs.Scopes.{form_at, Scope}
+use Rattle.types.specs.Shapes.{has_shape, shape_of}
 use Rattle.types.specs.Statics.{start_of}
+use Rattle.types.specs.Values.{Number, Truth, Value}
 use Rattle.expr_rules.specs.declared.own.Own.TheVariants.{Typed}
 use Rattle.expr_rules.specs.declared.own.Wanted.{Wanted}
 use Rattle.expr_rules.specs.declared.own.Wanted.TheVariants.{Anything, AnyInteger, OfType}
@@ -18,15 +24,19 @@ use Rattle.expr_rules.specs.ExpressionRules.{faults_in}
 use Rattle.expr_rules.specs.Laws.{suits}
 use Rattle.expr_rules.specs.NameRules.{mismatch}
 use Rattle.expr_rules.specs.Typing.{is_booleans, is_integers, own_of}
+use Rattle.expr_rules.proofs.TypeShapes.{boolean_value, numeric_value}
 use Rattle.expr_rules.proofs.TypedLaw.{as_number, as_truth, back_empty, front_empty, integral_numeric}
+use Rattle.well_typed.specs.Agreeing.{Agrees}
+use Rattle.well_typed.specs.Answers.{CallsAnswer}
 use Rattle.well_typed.specs.Laws.{ExpressionsAreTyped}
 use Rattle.well_typed.proofs.Arguments as arguments
 use Rattle.well_typed.proofs.Arguments.{slot_suits}
+use Rattle.well_typed.proofs.Parts.{subtype_values}
 use Rattle.expr_code.specs.Views.{At}
 use Rattle.expr_code.specs.Code.{Adds, here}
 use Rattle.expr_code.specs.Computing.{AlwaysPasses, ComputesChecked, IsNumber}
 use Rattle.expr_code.specs.Emitting.{EmitsChecked, EmitsExpression, IsFit, IsLegal, WantedFits}
-use Rattle.expr_code.specs.Seeing.{library_of, Sees, Suits}
+use Rattle.expr_code.specs.Seeing.{library_of, Package, Sees, Suits}
 use Rattle.expr_code.specs.declared.code.Code.{Code}
 use Rattle.expr_code.specs.declared.visible.Visible.{Visible}
 use Rattle.expr_code.proofs.Flowing.{flows_then, instruction_flows}
@@ -38,35 +48,58 @@ module _ (s : Scope) (t : Subtype) (e : ExprTree) (h : IsFit s t e) where
   fit_legal = record { wanted = h.wanted; unbroken = front_empty (faults_in s h.wanted e) (mismatch s h.wanted (own_of s e) (start_of e)) h.unbroken }
 
 -- the value, where there is one, is of the subtype's type
-of_type : ExpressionsAreTyped → (v : Visible) (t : Subtype) (e : ExprTree) → IsFit v.scope t e → (calls : _) (p : _) (view : _) → (library_of v).sound calls → Sees v p view → suits v.scope (Typed t.type_number) (value_with calls p e) ≡ true
-of_type laws v t e h calls p view sound sees =
+suited : ExpressionsAreTyped → (v : Visible) (t : Subtype) (e : ExprTree) → IsFit v.scope t e → (calls : Calls) (p : Place) → Agrees v.scope p → CallsAnswer calls p
+    → suits v.scope (Typed t.type_number) (value_with calls p e) ≡ true
+suited laws v t e h calls p agrees answers =
     let legal = fit_legal v.scope t e h in
     slot_suits v.scope (Expects h.wanted) t e (own_of v.scope e) (value_with calls p e) (same_fits h.wanted h.fits)
     (back_empty (faults_in v.scope h.wanted e) (mismatch v.scope h.wanted (own_of v.scope e) (start_of e)) h.unbroken)
-    (laws.own v.scope p calls sees.agrees (sound p sees.agrees) e legal.wanted legal.unbroken)
+    (laws.own v.scope p calls agrees answers e legal.wanted legal.unbroken)
   where
     same_fits : (w : Wanted) → WantedFits v.scope w t → arguments.WantedFits v.scope w t
     same_fits (OfType n) f = f
     same_fits AnyInteger f = f
     same_fits Anything f = absurd f
 
-module _ (laws : ExpressionsAreTyped) (i : Sections) (v : Visible) (t : Subtype) (e : ExprTree) (h : IsFit v.scope t e) where
-  pub is_a_number : form_at v.scope t.type_number ≡ Some Integers → IsNumber i (library_of v) (Sees v) e
-  is_a_number form calls p view x sound sees is =
-      as_number v.scope (Typed t.type_number) x (integral_numeric v.scope (Typed t.type_number) (ap is_integers form)) (ap (suits v.scope (Typed t.type_number)) (sym is) ∙ of_type laws v t e h calls p view sound sees)
+of_type : ExpressionsAreTyped → (v : Visible) (unit : Package) (t : Subtype) (e : ExprTree) → IsFit v.scope t e → (calls : _) (p : _) (view : _) → (library_of unit).sound calls → Sees unit v p view → suits v.scope (Typed t.type_number) (value_with calls p e) ≡ true
+of_type laws v unit t e h calls p view sound sees = suited laws v t e h calls p sees.names.agrees (sound p sees.unit.sound)
 
-  always_passes : form_at v.scope t.type_number ≡ Some Booleans → AlwaysPasses i (library_of v) (Sees v) t e
+shaped : ExpressionsAreTyped → (v : Visible) (t : Subtype) (e : ExprTree) → IsFit v.scope t e → (calls : Calls) (p : Place) → Agrees v.scope p → CallsAnswer calls p → (x : Value) → value_with calls p e ≡ Gives x
+    → has_shape (shape_of v.scope t) x ≡ true
+shaped laws v t e h calls p agrees answers x is = subtype_values v.scope t x ∙ ap (suits v.scope (Typed t.type_number)) (sym is) ∙ suited laws v t e h calls p agrees answers
+
+-- numbers and truth values take one word
+single_number : ValuesHaveWords → (s : Scope) (t : Subtype) → form_at s t.type_number ≡ Some Integers → words_of s t ≡ 1
+single_number words s t form =
+    let own = Typed t.type_number in
+    let has = subtype_values s t (Number (pos 0)) ∙ numeric_value s own (integral_numeric s own (ap is_integers form)) (Number (pos 0)) in
+    sym (words (shape_of s t) (Number (pos 0)) has).sized
+
+single_truth : ValuesHaveWords → (s : Scope) (t : Subtype) → form_at s t.type_number ≡ Some Booleans → words_of s t ≡ 1
+single_truth words s t form =
+    let has = subtype_values s t (Truth false) ∙ boolean_value s (Typed t.type_number) (ap is_booleans form) (Truth false) in
+    sym (words (shape_of s t) (Truth false) has).sized
+
+module _ (laws : ExpressionsAreTyped) (i : Sections) (v : Visible) (unit : Package) (t : Subtype) (e : ExprTree) (h : IsFit v.scope t e) where
+  pub is_a_number : form_at v.scope t.type_number ≡ Some Integers → IsNumber i (library_of unit) (Sees unit v) e
+  is_a_number form calls p view x sound sees is =
+      as_number v.scope (Typed t.type_number) x (integral_numeric v.scope (Typed t.type_number) (ap is_integers form)) (ap (suits v.scope (Typed t.type_number)) (sym is) ∙ of_type laws v unit t e h calls p view sound sees)
+
+  always_passes : form_at v.scope t.type_number ≡ Some Booleans → AlwaysPasses i (library_of unit) (Sees unit v) t e
   always_passes form calls p view x sound sees is =
-      let b = as_truth v.scope (Typed t.type_number) x (ap is_booleans form) (ap (suits v.scope (Typed t.type_number)) (sym is) ∙ of_type laws v t e h calls p view sound sees) in
+      let b = as_truth v.scope (Typed t.type_number) x (ap is_booleans form) (ap (suits v.scope (Typed t.type_number)) (sym is) ∙ of_type laws v unit t e h calls p view sound sees) in
       subst (λ y. passed t y ≡ Gives y) (sym b.1) refl
 
-module _ (quiet : QuietStays) (laws : ExpressionsAreTyped) (v : Visible) (old mid : Code) (depth : ℕ) (t : Subtype) (e : ExprTree) (h : IsFit v.scope t e) (inner : EmitsExpression v old depth e mid) where
+module _ (quiet : QuietStays) (laws : ExpressionsAreTyped) (words : ValuesHaveWords) (v : Visible) (old mid : Code) (depth : ℕ) (t : Subtype) (e : ExprTree) (h : IsFit v.scope t e) (inner : EmitsExpression v old depth e mid) where
   pub unchecked_emits : form_at v.scope t.type_number ≡ Some Booleans → EmitsChecked v old depth t e mid
   unchecked_emits form = record {
     extends = inner.extends;
     sized = omega (arith, inner.sized);
-    computes = λ i g. computes_unchecked quiet i (library_of v) (Sees v) (here old) (here mid) t e (inner.computes i g) (always_passes laws i v t e h form);
+    computes = λ i g unit. computes_unchecked quiet i (library_of unit) (Sees unit v) (here old) (here mid) t e (inner.computes i g unit) (always_passes laws i v unit t e h form);
     flows = inner.flows;
+    known = (Booleans, form);
+    single = single_truth words v.scope t form;
+    typed = shaped laws v t e h;
   }
 
   module _ (low high new : Code) (one two three : ℕ) (x y : ℤ) (p : one ≡ depth + 1) (q : two ≡ one + 1) (r : three ≡ two + 1) (sx : x ≡ t.first) (sy : y ≡ t.last)
@@ -92,7 +125,7 @@ module _ (quiet : QuietStays) (laws : ExpressionsAreTyped) (v : Visible) (old mi
         record {
           extends = extends_trans old mid new inner.extends after;
           sized = omega (arith, inner.sized, a, b, c);
-          computes = λ i g.
+          computes = λ i g unit.
               let le = inner.extends.longer in
               let at_first = added_at mid low (depth + 1) (op.Push t.first) first i (here old) le (holds_before i (here old) low new (extends_trans low high new eb ec) g) in
               let at_second = added_at low high (depth + 1 + 1) (op.Push t.last) second i (here old) (omega (arith, le, a)) (holds_before i (here old) high new ec g) in
@@ -100,8 +133,8 @@ module _ (quiet : QuietStays) (laws : ExpressionsAreTyped) (v : Visible) (old mi
               let end : here new ≡ here mid + 3 = omega (arith, a, b, c) in
               let next : here low ≡ here mid + 1 = omega (arith, a) in
               let last : here high ≡ here mid + 2 = omega (arith, a, b) in
-              subst (λ n. ComputesChecked i (library_of v) (Sees v) (here old) n t e) (sym end)
-              (computes_checked quiet i (library_of v) (Sees v) (here old) (here mid) t e le (inner.computes i (holds_before i (here old) mid new after g)) (is_a_number laws i v t e h form)
+              subst (λ n. ComputesChecked i (library_of unit) (Sees unit v) (here old) n t e) (sym end)
+              (computes_checked quiet i (library_of unit) (Sees unit v) (here old) (here mid) t e le (inner.computes i (holds_before i (here old) mid new after g) unit) (is_a_number laws i v unit t e h form)
               (at_first, subst (λ n. At i n (op.Push t.last)) next at_second, subst (λ n. At i n op.CheckRange) last at_third));
           flows = flows_then (Suits v) old mid new depth (depth + 1) (depth + 1) inner.extends after inner.flows
               (flows_then (Suits v) mid low new (depth + 1) (depth + 1 + 1) (depth + 1) ea (extends_trans low high new eb ec)
@@ -109,4 +142,7 @@ module _ (quiet : QuietStays) (laws : ExpressionsAreTyped) (v : Visible) (old mi
               (flows_then (Suits v) low high new (depth + 1 + 1) (depth + 1 + 1 + 1) (depth + 1) eb ec
               (instruction_flows (Suits v) low high (depth + 1 + 1) (depth + 1 + 1 + 1) (op.Push t.last) second (record { operands = refl; names = λ i s k. refl; takes = λ i s k. omega arith; leaves = λ i s k. omega arith; stays = refl; is_none = refl }))
               (instruction_flows (Suits v) high new (depth + 1 + 1 + 1) (depth + 1) op.CheckRange third (record { operands = refl; names = λ i s k. refl; takes = λ i s k. omega arith; leaves = λ i s k. omega arith; stays = refl; is_none = refl }))));
+          known = (Integers, form);
+          single = single_number words v.scope t form;
+          typed = shaped laws v t e h;
         }

@@ -65,11 +65,11 @@ module _ (quiet : QuietStays) (v : Visible) (old new : Code) (depth : ℕ) (firs
   conversion_emits h = record {
     extends = h.extends;
     sized = omega (arith, h.sized);
-    computes = λ i g.
-        computes_conversion quiet i (library_of v) (Sees v) (here old) (here new) first t e
-        (λ p view sees. let known = subst (λ w. IsHere v.scope p first.name (with_argument e) w) stands (legal_here v.scope p sees.agrees first (with_argument e) legal) in (known.same ∙ valueless, known.denotes))
-        (λ p view sees. same_form v.scope p sees.agrees t.type_number (ap is_some integral) ∙ integral)
-        (h.computes i g);
+    computes = λ i g unit.
+        computes_conversion quiet i (library_of unit) (Sees unit v) (here old) (here new) first t e
+        (λ p view sees. let known = subst (λ w. IsHere v.scope p first.name (with_argument e) w) stands (legal_here v.scope p sees.names.agrees first (with_argument e) legal) in (known.same ∙ valueless, known.denotes))
+        (λ p view sees. same_form v.scope p sees.names.agrees t.type_number (ap is_some integral) ∙ integral)
+        (h.computes i g unit);
     flows = h.flows;
   }
     where

@@ -86,9 +86,9 @@ module _ (quiet : QuietStays) (v : Visible) where
       record {
         extends = added_extends old new depth (op.Push z) a;
         sized = omega (arith, next);
-        computes = λ i h.
-            subst (λ n. Computes i (library_of v) (Sees v) (here old) n (tree.Number z place)) (sym next)
-            (computes_number quiet i (library_of v) (Sees v) (here old) place z (added_at old new depth (op.Push z) a i (here old) (omega arith) h));
+        computes = λ i h unit.
+            subst (λ n. Computes i (library_of unit) (Sees unit v) (here old) n (tree.Number z place)) (sym next)
+            (computes_number quiet i (library_of unit) (Sees unit v) (here old) place z (added_at old new depth (op.Push z) a i (here old) (omega arith) h));
         flows = instruction_flows (Suits v) old new depth (depth + 1) (op.Push z) a
             (record { operands = refl; names = λ i s h. refl; takes = λ i s h. omega arith; leaves = λ i s h. omega arith; stays = refl; is_none = refl });
       }
@@ -100,7 +100,7 @@ module _ (quiet : QuietStays) (v : Visible) where
   plus_emits old new depth place e h = record {
     extends = h.extends;
     sized = omega (arith, h.sized);
-    computes = λ i g. computes_plus quiet i (library_of v) (Sees v) (here old) (here new) place e (h.computes i g);
+    computes = λ i g unit. computes_plus quiet i (library_of unit) (Sees unit v) (here old) (here new) place e (h.computes i g unit);
     flows = h.flows;
   }
 
@@ -112,10 +112,10 @@ module _ (quiet : QuietStays) (v : Visible) where
       record {
         extends = extends_trans old mid new h.extends ends;
         sized = omega (arith, h.sized, next);
-        computes = λ i g.
-            subst (λ n. Computes i (library_of v) (Sees v) (here old) n (tree.Unary o place e)) (sym next)
-            (computes_unary quiet i (library_of v) (Sees v) (here old) (here mid) place o e h.extends.longer
-            (h.computes i (holds_before i (here old) mid new ends g))
+        computes = λ i g unit.
+            subst (λ n. Computes i (library_of unit) (Sees unit v) (here old) n (tree.Unary o place e)) (sym next)
+            (computes_unary quiet i (library_of unit) (Sees unit v) (here old) (here mid) place o e h.extends.longer
+            (h.computes i (holds_before i (here old) mid new ends g) unit)
             (has_added i (here mid) (unary_operation o) x is (added_at mid new (depth + 1) x a i (here old) h.extends.longer g)));
         flows = flows_then (Suits v) old mid new depth (depth + 1) (depth + 1) h.extends ends h.flows
             (instruction_flows (Suits v) mid new (depth + 1) (depth + 1) x a
@@ -132,12 +132,12 @@ module _ (quiet : QuietStays) (v : Visible) where
       record {
         extends = extends_trans old most new both ends;
         sized = omega (arith, first.sized, second.sized, next);
-        computes = λ i g.
+        computes = λ i g unit.
             let in_most = holds_before i (here old) most new ends g in
-            subst (λ n. Computes i (library_of v) (Sees v) (here old) n (tree.Binary o a b)) (sym next)
-            (computes_binary quiet i (library_of v) (Sees v) (here old) (here mid) (here most) o a b first.extends.longer second.extends.longer
-            (first.computes i (holds_before i (here old) mid most second.extends in_most))
-            (second.computes i (holds_later i (here old) (here mid) most first.extends.longer in_most))
+            subst (λ n. Computes i (library_of unit) (Sees unit v) (here old) n (tree.Binary o a b)) (sym next)
+            (computes_binary quiet i (library_of unit) (Sees unit v) (here old) (here mid) (here most) o a b first.extends.longer second.extends.longer
+            (first.computes i (holds_before i (here old) mid most second.extends in_most) unit)
+            (second.computes i (holds_later i (here old) (here mid) most first.extends.longer in_most) unit)
             (has_added i (here most) (binary_operation o) x is (added_at most new (depth + 1 + 1) x added i (here old) both.longer g)));
         flows = flows_then (Suits v) old most new depth (depth + 1 + 1) (depth + 1) both ends
             (flows_then (Suits v) old mid most depth (depth + 1) (depth + 1 + 1) first.extends second.extends first.flows second.flows)

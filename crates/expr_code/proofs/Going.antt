@@ -50,7 +50,7 @@ use Rattle.expr_code.specs.Flows.{Flows}
 use Rattle.expr_code.specs.Going.{AddsOffset, EmitsPath, IsLegalPart, IsLegalPath, path_size, selected, Selects}
 use Rattle.expr_code.specs.Locating.{IsPath, shape_in}
 use Rattle.expr_code.specs.Naming.{Lies}
-use Rattle.expr_code.specs.Seeing.{library_of, Sees, slot_of, Suits}
+use Rattle.expr_code.specs.Seeing.{library_of, Package, Sees, slot_of, Suits}
 use Rattle.expr_code.specs.declared.code.Code.{Code}
 use Rattle.expr_code.specs.declared.visible.Slot.{Slot}
 use Rattle.expr_code.specs.declared.visible.Visible.{Visible}
@@ -159,7 +159,7 @@ pub stays_there : (v : Visible) (c : Code) (depth : ℕ) (t : Subtype) → Emits
 stays_there v c depth t = record {
   extends = extends_self c;
   sized = omega arith;
-  goes = λ i h to rest final end le path. path;
+  goes = λ i h unit to rest final end le path. path;
   flows = flows_same (Suits v) c (depth + 1);
 }
 
@@ -167,10 +167,10 @@ goes_then : (v : Visible) (a b c : Code) (depth : ℕ) (t m l : Subtype) (one tw
 goes_then v a b c depth t m l one two p q = record {
   extends = extends_trans a b c p.extends q.extends;
   sized = let sum = size_then one two in omega (arith, p.sized, q.sized, sum);
-  goes = λ i h to rest final end le path.
-      subst (λ all. IsPath i (library_of v) (Sees v) (here a) to t (shape_of v.scope t) all final end) (sym (selected_then one two rest))
-      (p.goes i (holds_before i (here a) b c q.extends h) to (selected two rest) final end (let up = q.extends.longer in omega (arith, up, le))
-      (q.goes i (holds_later i (here a) (here b) c p.extends.longer h) to rest final end le path));
+  goes = λ i h unit to rest final end le path.
+      subst (λ all. IsPath i (library_of unit) (Sees unit v) (here a) to t (shape_of v.scope t) all final end) (sym (selected_then one two rest))
+      (p.goes i (holds_before i (here a) b c q.extends h) unit to (selected two rest) final end (let up = q.extends.longer in omega (arith, up, le))
+      (q.goes i (holds_later i (here a) (here b) c p.extends.longer h) unit to rest final end le path));
   flows = flows_then (Suits v) a b c (depth + 1) (depth + 1) (depth + 1) p.extends q.extends p.flows q.flows;
 }
 
@@ -229,14 +229,14 @@ module _ (v : Visible) (old low new : Code) (depth one two : ℕ) (t u : Subtype
       record {
         extends = extends_trans old low new ea eb;
         sized = omega (arith, a, b);
-        goes = λ i h to rest final end le path. (
+        goes = λ i h unit to rest final end le path. (
           cs,
           component_shapes (shapes v.scope) cs,
           u,
           shape_of v.scope u,
           offset,
-          (λ pl view sees. same_form v.scope pl sees.agrees t.type_number (ap is_some form) ∙ form),
-          (λ pl view sees. grouped_shape v.scope sees.agrees.sound t cs form),
+          (λ pl view sees. same_form v.scope pl sees.names.agrees t.type_number (ap is_some form) ∙ form),
+          (λ pl view sees. grouped_shape v.scope sees.names.agrees.sound t cs form),
           chosen,
           shape_named (shapes v.scope) cs name.name u chosen,
           stands,
@@ -244,7 +244,7 @@ module _ (v : Visible) (old low new : Code) (depth one two : ℕ) (t u : Subtype
           added_at old low (depth + 1) (op.Push (pos offset)) pushed i (here old) (omega arith) (holds_before i (here old) low new eb h),
           subst (λ n. At i n op.Add) next (added_at low new (depth + 1 + 1) op.Add summed i (here old) (omega (arith, a)) h),
           omega (arith, le, end_),
-          subst (λ n. IsPath i (library_of v) (Sees v) n to u (shape_of v.scope u) rest final end) end_ path,
+          subst (λ n. IsPath i (library_of unit) (Sees unit v) n to u (shape_of v.scope u) rest final end) end_ path,
         );
         flows = flows_then (Suits v) old low new (depth + 1) (depth + 1 + 1) (depth + 1) ea eb
             (instruction_flows (Suits v) old low (depth + 1) (depth + 1 + 1) (op.Push (pos offset)) pushed (pushes_word v (depth + 1) (pos offset)))
@@ -321,7 +321,7 @@ module _ (quiet : QuietStays) (laws : ExpressionsAreTyped) (v : Visible) (old mi
   element_goes = record {
     extends = extends_trans old mid new checked.extends scaled.extends;
     sized = let n = scaled.long in omega (arith, checked.sized, n);
-    goes = λ i h to rest final end le path.
+    goes = λ i h unit to rest final end le path.
         let up = checked.extends.longer in
         let five = scaled.long in
         let places = scaled.at i (here old) up h in (
@@ -330,27 +330,27 @@ module _ (quiet : QuietStays) (laws : ExpressionsAreTyped) (v : Visible) (old mi
           many,
           shape_of v.scope u,
           here mid,
-          (λ pl view sees. same_form v.scope pl sees.agrees t.type_number (ap is_some form) ∙ form),
-          (λ pl view sees. repeated_shape v.scope sees.agrees.sound t index many u form),
+          (λ pl view sees. same_form v.scope pl sees.names.agrees t.type_number (ap is_some form) ∙ form),
+          (λ pl view sees. repeated_shape v.scope sees.names.agrees.sound t index many u form),
           few,
           up,
-          checked.computes i (holds_before i (here old) mid new scaled.extends h),
+          checked.computes i (holds_before i (here old) mid new scaled.extends h) unit,
           (λ calls pl view x sound sees is.
-              is_a_number laws i v index e (index_fit v.scope t index u many e form legal) (index_integers v.scope sees.agrees.sound t index many u form) calls pl view x sound sees is),
+              is_a_number laws i v unit index e (index_fit v.scope t index u many e form legal) (index_integers v.scope sees.names.agrees.sound t index many u form) calls pl view x sound sees is),
           places.0,
           places.1,
           places.2,
           places.3,
           places.4,
           omega (arith, le, five),
-          subst (λ n. IsPath i (library_of v) (Sees v) n to u (shape_of v.scope u) rest final end) five path,
+          subst (λ n. IsPath i (library_of unit) (Sees unit v) n to u (shape_of v.scope u) rest final end) five path,
         );
     flows = flows_then (Suits v) old mid new (depth + 1) (depth + 1 + 1) (depth + 1) checked.extends scaled.extends checked.flows scaled.flows;
   }
 
 -- ---- the whole
 
-whole_path : (s : Scope) (first : Identifier) (all : SelectorTrees) (r : Role) (t : Subtype) → IsLegal s (tree.Named first all) → stands_first s (number_of s first.name) ≡ standing.Part r t → IsLegalPath s t all
+pub whole_path : (s : Scope) (first : Identifier) (all : SelectorTrees) (r : Role) (t : Subtype) → IsLegal s (tree.Named first all) → stands_first s (number_of s first.name) ≡ standing.Part r t → IsLegalPath s t all
 whole_path s first all r t legal stands =
     let hidden = rule NAME_NOT_VISIBLE first.place (not (is_visible s first.name)) in
     let parts = selectors_faults s first.place (stands_first s (number_of s first.name)) all in
@@ -380,11 +380,11 @@ module _ (quiet : QuietStays) (sized : ValuesHaveWords) (places : PartsHavePlace
   loads : Adds mid (depth + 1) (op.LoadBlock slot.region 1) new
   loads = subst (λ n. Adds mid n (op.LoadBlock slot.region 1) new) p ay
 
-  stored : NamesStored (Sees v) first (selector_trees selectors) t (shape_of v.scope t) slot.region slot.offset
-  stored pl view sees = by_part here_.denotes
+  stored : (unit : Package) → NamesStored (Sees unit v) first (selector_trees selectors) t (shape_of v.scope t) slot.region slot.offset
+  stored unit pl view sees = by_part here_.denotes
     where
       here_ : IsHere v.scope pl first.name (selector_trees selectors) (standing.Part r t)
-      here_ = subst (λ u. IsHere v.scope pl first.name (selector_trees selectors) u) stands (legal_here v.scope pl sees.agrees first (selector_trees selectors) legal)
+      here_ = subst (λ u. IsHere v.scope pl first.name (selector_trees selectors) u) stands (legal_here v.scope pl sees.names.agrees first (selector_trees selectors) legal)
 
       by_part : MeansPart v.scope pl.scope (meaning_of pl first.name) t
           → (x : Value)
@@ -393,14 +393,14 @@ module _ (quiet : QuietStays) (sized : ValuesHaveWords) (places : PartsHavePlace
           × Lies (view.words slot.region) slot.offset x
           × (has_shape (shape_of v.scope t) x ≡ true)
           × (length (view.words slot.region) ≤ 65536)
-      by_part (inr parameter) = absurd (no_parts v.scope sees.agrees.sound first selectors t parts (whole_path v.scope first (selector_trees selectors) r t legal stands) parameter.integers)
+      by_part (inr parameter) = absurd (no_parts v.scope sees.names.agrees.sound first selectors t parts (whole_path v.scope first (selector_trees selectors) r t legal stands) parameter.integers)
       by_part (inl object) = (
         object.value,
         here_.same ∙ ap (λ u. fixed_value (select_all v.scope u (selector_trees selectors))) (sym stands) ∙ valueless,
         object.is,
-        sees.objects first.name slot t object.value there object.is,
+        sees.names.objects first.name slot t object.value there object.is,
         object.suited,
-        sees.small slot.region,
+        sees.unit.small slot.region,
       )
 
   pub part_emits : EmitsExpression v old depth (tree.Named first (selector_trees selectors)) new
@@ -416,16 +416,16 @@ module _ (quiet : QuietStays) (sized : ValuesHaveWords) (places : PartsHavePlace
       record {
         extends = extends_trans old low new ea whole;
         sized = let same = path_counts selectors in omega (arith, a, b, path.sized, same);
-        computes = λ i h.
+        computes = λ i h unit.
             let in_mid = holds_before i (here old) mid new eb h in
-            let along : IsPath i (library_of v) (Sees v) (here low) (here mid) t (shape_of v.scope t) (selected (map selector_tree selectors) NoSelectors) last (shape_of v.scope last) =
-            path.goes i (holds_later i (here old) (here low) mid (omega (arith, a)) in_mid) (here mid) NoSelectors last (shape_of v.scope last) (omega arith) (refl, refl, refl) in
-            subst (λ n. Computes i (library_of v) (Sees v) (here old) n (tree.Named first (selector_trees selectors))) (sym b)
-            (computes_part quiet sized places i (library_of v) (Sees v) slot.region (here old) (here mid) slot.offset first (selector_trees selectors) t last (shape_of v.scope t) (shape_of v.scope last)
-            (omega (arith, a, up)) stored
+            let along : IsPath i (library_of unit) (Sees unit v) (here low) (here mid) t (shape_of v.scope t) (selected (map selector_tree selectors) NoSelectors) last (shape_of v.scope last) =
+            path.goes i (holds_later i (here old) (here low) mid (omega (arith, a)) in_mid) unit (here mid) NoSelectors last (shape_of v.scope last) (omega arith) (refl, refl, refl) in
+            subst (λ n. Computes i (library_of unit) (Sees unit v) (here old) n (tree.Named first (selector_trees selectors))) (sym b)
+            (computes_part quiet sized places i (library_of unit) (Sees unit v) slot.region (here old) (here mid) slot.offset first (selector_trees selectors) t last (shape_of v.scope t) (shape_of v.scope last)
+            (omega (arith, a, up)) (stored unit)
             (added_at old low depth (op.Push (pos slot.offset)) pushes i (here old) (omega arith) (holds_before i (here old) low mid path.extends in_mid))
-            (subst (λ xs. IsPath i (library_of v) (Sees v) (here old + 1) (here mid) t (shape_of v.scope t) xs last (shape_of v.scope last)) all
-            (subst (λ n. IsPath i (library_of v) (Sees v) n (here mid) t (shape_of v.scope t) (selected (map selector_tree selectors) NoSelectors) last (shape_of v.scope last)) next along))
+            (subst (λ xs. IsPath i (library_of unit) (Sees unit v) (here old + 1) (here mid) t (shape_of v.scope t) xs last (shape_of v.scope last)) all
+            (subst (λ n. IsPath i (library_of unit) (Sees unit v) n (here mid) t (shape_of v.scope t) (selected (map selector_tree selectors) NoSelectors) last (shape_of v.scope last)) next along))
             (subst (λ n. At i (here mid) (op.LoadBlock slot.region n)) (sym single) (added_at mid new (depth + 1) (op.LoadBlock slot.region 1) loads i (here old) (omega (arith, a, up)) h)));
         flows = flows_then (Suits v) old low new depth (depth + 1) (depth + 1) ea whole
             (instruction_flows (Suits v) old low depth (depth + 1) (op.Push (pos slot.offset)) pushes (pushes_word v depth (pos slot.offset)))

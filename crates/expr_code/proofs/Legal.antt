@@ -22,7 +22,7 @@ use Rattle.well_typed.specs.Laws.{ExpressionsAreTyped}
 use Rattle.expr_code.specs.Computing.{IsTruth}
 use Rattle.expr_code.specs.Branches.{AreLegalBranches, Branch, branch_of, in_front}
 use Rattle.expr_code.specs.Emitting.{AreLegal, IsLegal}
-use Rattle.expr_code.specs.Seeing.{library_of, Sees}
+use Rattle.expr_code.specs.Seeing.{library_of, Package, Sees}
 use Rattle.expr_code.specs.declared.visible.Visible.{Visible}
 
 module _ (s : Scope) where
@@ -108,13 +108,13 @@ chosen true x y e h = h
 chosen false x y e h = absurd cc
 
 -- the left operand of a logical operator is a truth value wherever it has a value
-pub left_truth : ExpressionsAreTyped → (i : Sections) (v : Visible) (o : BinaryOperator) (a b : ExprTree) → is_logical o ≡ true → IsLegal v.scope (tree.Binary o a b) → IsTruth i (library_of v) (Sees v) a
-left_truth laws i v o a b logical h calls p view x sound sees e =
+pub left_truth : ExpressionsAreTyped → (i : Sections) (v : Visible) (unit : Package) (o : BinaryOperator) (a b : ExprTree) → is_logical o ≡ true → IsLegal v.scope (tree.Binary o a b) → IsTruth i (library_of unit) (Sees unit v) a
+left_truth laws i v unit o a b logical h calls p view x sound sees e =
     let s = v.scope in
     let left = legal_left s o a b h in
     let right = legal_right s o a b h in
-    let first = laws.own s p calls sees.agrees (sound p sees.agrees) a left.wanted left.unbroken in
-    let second = laws.own s p calls sees.agrees (sound p sees.agrees) b right.wanted right.unbroken in
+    let first = laws.own s p calls sees.names.agrees (sound p sees.unit.sound) a left.wanted left.unbroken in
+    let second = laws.own s p calls sees.names.agrees (sound p sees.unit.sound) b right.wanted right.unbroken in
     let has = judged_two (is_known (own_of s a)) (is_known (own_of s b)) (has_binary s o (own_of s a) (own_of s b)) (unbroken NO_MEANING (start_of a) _ (legal_rule s o a b h)) first.known second.known in
     let boolean = (joined_boolean s (own_of s a) (own_of s b) (chosen (is_logical o) (is_boolean s (join s (own_of s a) (own_of s b))) _ logical has)).0 in
     as_truth s (own_of s a) x boolean (ap (suits s (own_of s a)) (sym e) ∙ first.suited)

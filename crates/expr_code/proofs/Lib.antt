@@ -17,3 +17,4 @@ mod Names
 mod Checking
 mod Conversions
 mod Going
+mod Actuals

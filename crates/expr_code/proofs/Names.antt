@@ -37,7 +37,7 @@ use Rattle.expr_code.specs.Code.{Adds, here}
 use Rattle.expr_code.specs.Computing.{Computes}
 use Rattle.expr_code.specs.Emitting.{EmitsExpression, IsLegal}
 use Rattle.expr_code.specs.Naming.{IsFixed, IsStored, Lies, load_operation, scalar_word}
-use Rattle.expr_code.specs.Seeing.{library_of, Sees, slot_of, Suits}
+use Rattle.expr_code.specs.Seeing.{library_of, Package, Sees, slot_of, Suits}
 use Rattle.expr_code.specs.declared.code.Code.{Code}
 use Rattle.expr_code.specs.declared.visible.Slot.{Slot}
 use Rattle.expr_code.specs.declared.visible.Visible.{Visible}
@@ -81,13 +81,13 @@ module _ (quiet : QuietStays) (v : Visible) (old new : Code) (depth : ℕ) (firs
   fixed_emits selectors w value same legal is given =
       let a = subst (λ y. Adds old depth (op.Push y) new) same given in
       let next = added_here old new depth (op.Push (scalar_word value)) a in
-      let fixed : IsFixed (Sees v) first selectors value = λ p view sees. (legal_here v.scope p sees.agrees first selectors legal).same ∙ is in
+      let fixed : (unit : Package) → IsFixed (Sees unit v) first selectors value = λ unit p view sees. (legal_here v.scope p sees.names.agrees first selectors legal).same ∙ is in
       record {
         extends = added_extends old new depth (op.Push (scalar_word value)) a;
         sized = omega (arith, next);
-        computes = λ i h.
-            subst (λ n. Computes i (library_of v) (Sees v) (here old) n (tree.Named first selectors)) (sym next)
-            (computes_fixed quiet i (library_of v) (Sees v) (here old) first selectors value fixed (added_at old new depth (op.Push (scalar_word value)) a i (here old) (omega arith) h));
+        computes = λ i h unit.
+            subst (λ n. Computes i (library_of unit) (Sees unit v) (here old) n (tree.Named first selectors)) (sym next)
+            (computes_fixed quiet i (library_of unit) (Sees unit v) (here old) first selectors value (fixed unit) (added_at old new depth (op.Push (scalar_word value)) a i (here old) (omega arith) h));
         flows = instruction_flows (Suits v) old new depth (depth + 1) (op.Push (scalar_word value)) a
             (record { operands = refl; names = λ i s g. refl; takes = λ i s g. omega arith; leaves = λ i s g. omega arith; stays = refl; is_none = refl });
       }
@@ -95,11 +95,11 @@ module _ (quiet : QuietStays) (v : Visible) (old new : Code) (depth : ℕ) (firs
   -- ---- an object of one word
   module _ (laws : ValuesHaveWords) (r : Role) (t : Subtype) (slot : Slot) (legal : IsLegal v.scope (tree.Named first NoSelectors)) (stands : stands_first v.scope (number_of v.scope first.name) ≡ standing.Part r t)
       (one : words_of v.scope t ≡ 1) (there : slot_of v first.name ≡ Some slot) where
-    stored : IsStored (library_of v) (Sees v) (tree.Named first NoSelectors) slot.region slot.offset 1
-    stored calls p view sound sees = by_part known.denotes
+    stored : (unit : Package) → IsStored (library_of unit) (Sees unit v) (tree.Named first NoSelectors) slot.region slot.offset 1
+    stored unit calls p view sound sees = by_part known.denotes
       where
         known : IsHere v.scope p first.name NoSelectors (standing.Part r t)
-        known = subst (λ w. IsHere v.scope p first.name NoSelectors w) stands (legal_here v.scope p sees.agrees first NoSelectors legal)
+        known = subst (λ w. IsHere v.scope p first.name NoSelectors w) stands (legal_here v.scope p sees.names.agrees first NoSelectors legal)
 
         whole : (m : Meaning) → meaning_of p first.name ≡ m → value_with calls p (tree.Named first NoSelectors) ≡ name_with calls p m NoSelectors
         whole m is = named_value calls p first NoSelectors (meaning_of p first.name) known.same refl ∙ ap (λ n. name_with calls p n NoSelectors) is
@@ -109,14 +109,14 @@ module _ (quiet : QuietStays) (v : Visible) (old new : Code) (depth : ℕ) (firs
         by_part (inl object) = (
           object.value,
           whole (IsObject t object.value) object.is,
-          sees.objects first.name slot t object.value there object.is,
+          sees.names.objects first.name slot t object.value there object.is,
           (laws (shape_of v.scope t) object.value object.suited).sized ∙ one,
         )
         by_part (inr parameter) =
             let z = parameter.number in (
               Number z.value,
               whole (IsObject z.subtype (Number z.value)) z.is,
-              sees.objects first.name slot z.subtype (Number z.value) there z.is,
+              sees.names.objects first.name slot z.subtype (Number z.value) there z.is,
               refl,
             )
 
@@ -132,8 +132,8 @@ module _ (quiet : QuietStays) (v : Visible) (old new : Code) (depth : ℕ) (firs
         record {
           extends = added_extends old new depth o a;
           sized = omega (arith, next);
-          computes = λ i h.
-              subst (λ n. Computes i (library_of v) (Sees v) (here old) n (tree.Named first NoSelectors)) (sym next)
-              (computes_stored quiet i (library_of v) (Sees v) (here old) slot.offset slot.region (tree.Named first NoSelectors) stored (added_at old new depth o a i (here old) (omega arith) h));
+          computes = λ i h unit.
+              subst (λ n. Computes i (library_of unit) (Sees unit v) (here old) n (tree.Named first NoSelectors)) (sym next)
+              (computes_stored quiet i (library_of unit) (Sees unit v) (here old) slot.offset slot.region (tree.Named first NoSelectors) (stored unit) (added_at old new depth o a i (here old) (omega arith) h));
           flows = instruction_flows (Suits v) old new depth (depth + 1) o a (loads slot.region refl);
         }

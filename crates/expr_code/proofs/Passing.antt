@@ -24,7 +24,7 @@ use Rattle.types.specs.Evaluating.{Calls, actuals_with, fixed_name, formal_subty
 use Rattle.expr_code.specs.Views.{At, placed, Sight, view_of}
 use Rattle.expr_code.specs.Coming.{all_on, all_words, Comes, on}
 use Rattle.expr_code.specs.OperatorCode.{IsWordOf}
-use Rattle.expr_code.specs.Computing.{AlwaysPasses, ArePassed, ArePassedWell, Checks, Computes, ComputesAll, ComputesChecked, IsNumber, Library, NamesFunction}
+use Rattle.expr_code.specs.Computing.{AlwaysPasses, ArePassedWell, Checks, Computes, ComputesAll, ComputesChecked, IsNumber, Library, AlwaysNames}
 use Rattle.expr_code.proofs.Coming.{acts, more, after_first, then_comes, by_result, pushes}
 
 -- a check's word, whichever way it goes
@@ -120,31 +120,36 @@ module _ (quiet : QuietStays) (i : Sections) where
         (λ v ev. onto schedule k t m calm f fs mid (to - mid) to base v others (second calls left answers schedule k t m f fs p (on base v) calm sees is)))
 
     -- a call of a function
-    pub computes_call : (from mid number : ℕ) (first : Identifier) (arguments : ArgumentTrees) (function : Function) → from ≤ mid
-        → NamesFunction i library sight first (MoreSelectors (Arguments arguments) NoSelectors) function number
-        → ArePassedWell i library sight function arguments
-        → ComputesAll i library sight from mid (map formal_subtype function.formals) arguments
+    pub computes_call : (from mid number : ℕ) (first : Identifier) (arguments : ArgumentTrees) (ts : List Subtype) → from ≤ mid
+        → AlwaysNames i library sight first (MoreSelectors (Arguments arguments) NoSelectors) number ts
+        → ArePassedWell i library sight ts arguments
+        → ComputesAll i library sight from mid ts arguments
         → At i mid (op.Call number)
         → Computes i library sight from (suc mid) (tree.Named first (MoreSelectors (Arguments arguments) NoSelectors))
-    computes_call from mid number first arguments function le names passed_well all here calls left answers schedule k t m f fs p base calm sees is =
+    computes_call from mid number first arguments ts le names passed_well all here calls left answers schedule k t m f fs p base calm sees is =
         let view = view_of i schedule k m f fs in
-        let named = names.named p view sees in
-        let actuals = actuals_with calls p arguments (map formal_subtype function.formals) in
+        let named = names p view sees in
+        let function = named.function in
+        let actuals = actuals_with calls p arguments ts in
         subst (λ v. Comes i schedule k t m (placed f from base) fs (suc mid - from) (suc mid) (on base) v)
-        (sym (named_value calls p first (MoreSelectors (Arguments arguments) NoSelectors) (IsFunction function None) named.0 named.1 ∙ call_value calls p function actuals))
+        (sym (named_value calls p first (MoreSelectors (Arguments arguments) NoSelectors) (IsFunction function None) named.valueless named.means
+        ∙ call_value calls p function (actuals_with calls p arguments (map formal_subtype function.formals))
+        ∙ ap (λ us. and_then (actuals_with calls p arguments us) (calls p function)) named.formals))
         (more quiet i schedule k t m calm (placed f from base) fs ((mid - from) + 1) (suc mid - from) (suc mid) (on base) (and_then actuals (calls p function)) (omega (arith, le))
         (then_comes quiet i schedule k t m calm (placed f from base) fs (mid - from) 1 mid (suc mid) (all_on base) (on base) actuals (calls p function) le (omega arith)
         (all calls left answers schedule k t m f fs p base calm sees is)
-        (λ vs ev. answers.answers schedule k t m f fs p mid base function number vs calm (names.shared p view sees) names.coded here (passed_well calls p view vs answers.sound sees ev) is)))
+        (λ vs ev. answers.answers schedule k t m f fs p mid base function number vs calm named.shared named.coded here (passed_well calls p view function vs answers.sound sees named.formals ev) is)))
 
-    pub computes_call_alone : (from number : ℕ) (first : Identifier) (function : Function)
-        → NamesFunction i library sight first NoSelectors function number
-        → ArePassed (library.sizes function) []
+    -- ... that has no formals
+    pub computes_call_alone : (from number : ℕ) (first : Identifier)
+        → AlwaysNames i library sight first NoSelectors number []
+        → ArePassedWell i library sight [] NoArguments
         → At i from (op.Call number)
         → Computes i library sight from (suc from) (tree.Named first NoSelectors)
-    computes_call_alone from number first function names passed_none here calls left answers schedule k t m f fs p base calm sees is =
+    computes_call_alone from number first names passed_well here calls left answers schedule k t m f fs p base calm sees is =
         let view = view_of i schedule k m f fs in
-        let named = names.named p view sees in
-        subst (λ v. Comes i schedule k t m (placed f from base) fs (suc from - from) (suc from) (on base) v) (sym (named_value calls p first NoSelectors (IsFunction function None) named.0 named.1))
+        let named = names p view sees in
+        let function = named.function in
+        subst (λ v. Comes i schedule k t m (placed f from base) fs (suc from - from) (suc from) (on base) v) (sym (named_value calls p first NoSelectors (IsFunction function None) named.valueless named.means))
         (more quiet i schedule k t m calm (placed f from base) fs 1 (suc from - from) (suc from) (on base) (calls p function []) (omega arith)
-        (answers.answers schedule k t m f fs p from base function number [] calm (names.shared p view sees) names.coded here passed_none is))
+        (answers.answers schedule k t m f fs p from base function number [] calm named.shared named.coded here (passed_well calls p view function [] answers.sound sees named.formals refl) is))

@@ -18,7 +18,7 @@ use Rattle.expr_code.specs.Computing.{Computes}
 use Rattle.well_typed.specs.Laws.{ExpressionsAreTyped}
 use Rattle.expr_code.specs.Emitting.{EmitsExpression, IsLegal}
 use Rattle.expr_code.specs.Flows.{AreKept, Flows}
-use Rattle.expr_code.specs.Seeing.{library_of, Sees, Suits}
+use Rattle.expr_code.specs.Seeing.{library_of, Package, Sees, Suits}
 use Rattle.expr_code.specs.declared.code.Code.{Code}
 use Rattle.expr_code.specs.declared.visible.Visible.{Visible}
 use Rattle.expr_code.proofs.Expressions.{computes_and_then, computes_or_else}
@@ -132,23 +132,23 @@ module _ (v : Visible) (old copied jumped dropped done new : Code) (depth : ℕ)
 
     -- ---- the whole
     module _ (quiet : QuietStays) (start : Code) (a : ExprTree) (o : BinaryOperator) (left : EmitsExpression v start depth a old)
-        (makes : (i : Sections) → Computes i (library_of v) (Sees v) (here start) (here old) a → At i (here old) op.Duplicate → At i (here old + 1) y → At i (here old + 2) op.Drop
-        → Computes i (library_of v) (Sees v) (here old + 3) (here new) b → Computes i (library_of v) (Sees v) (here start) (here new) (tree.Binary o a b)) where
+        (makes : (i : Sections) (unit : Package) → Computes i (library_of unit) (Sees unit v) (here start) (here old) a → At i (here old) op.Duplicate → At i (here old + 1) y → At i (here old + 2) op.Drop
+        → Computes i (library_of unit) (Sees unit v) (here old + 3) (here new) b → Computes i (library_of unit) (Sees unit v) (here start) (here new) (tree.Binary o a b)) where
       pub short_emits : EmitsExpression v start depth (tree.Binary o a b) new
       short_emits = record {
         extends = extends_trans start old new left.extends old_extends;
         sized = omega (arith, left.sized, right.sized, one, two, three, end);
-        computes = λ i h.
+        computes = λ i h unit.
             let before = holds_before i (here start) old new old_extends h in
             let le = left.extends.longer in
             let later = holds_later i (here start) (here old) new le h in
             let behind : here dropped ≡ here old + 3 = omega (arith, one, two, three) in
-            makes i (left.computes i before)
+            makes i unit (left.computes i before unit)
             (depth + 1, copy_there i (here old) (omega arith) later)
             (subst (λ n. At i n y) (let p : here copied ≡ here old + 1 = omega (arith, one) in p) (depth + 1 + 1, jump_there i (here old) (omega arith) later))
             (subst (λ n. At i n op.Drop) (let p : here jumped ≡ here old + 2 = omega (arith, one, two) in p) (depth + 1, drop_there i (here old) (omega arith) later))
-            (subst (λ n. Computes i (library_of v) (Sees v) n (here new) b) behind
-            (subst (λ n. Computes i (library_of v) (Sees v) (here dropped) n b) (sym end) (right.computes i (right_holds i (here old) (omega arith) later))));
+            (subst (λ n. Computes i (library_of unit) (Sees unit v) n (here new) b) behind
+            (subst (λ n. Computes i (library_of unit) (Sees unit v) (here dropped) n b) (sym end) (right.computes i (right_holds i (here old) (omega arith) later) unit)));
         flows = flows_then (Suits v) start old new depth (depth + 1) (depth + 1) left.extends old_extends left.flows behind_flows;
       }
 
@@ -172,15 +172,15 @@ module _ (quiet : QuietStays) (laws : ExpressionsAreTyped) (v : Visible) (start 
       let to = ends (op.JumpIfZero n) patch in
       short_emits v old copied jumped dropped done new depth x (op.JumpIfZero n) b copy jump drop right patch
       (λ i s suits. subst (λ m. Jumps i s (op.JumpIfZero n) m) to (at_zero i s n)) quiet start a binary.AndThen left
-      (λ i first at_copy at_jump at_drop second.
-      computes_and_then quiet i (library_of v) (Sees v) (here start) (here old) (here new) a b left.extends.longer (long (op.JumpIfZero n) patch) first
-      (left_truth laws i v binary.AndThen a b refl legal) at_copy (subst (λ m. At i (here old + 1) (op.JumpIfZero m)) to at_jump) at_drop second)
+      (λ i unit first at_copy at_jump at_drop second.
+      computes_and_then quiet i (library_of unit) (Sees unit v) (here start) (here old) (here new) a b left.extends.longer (long (op.JumpIfZero n) patch) first
+      (left_truth laws i v unit binary.AndThen a b refl legal) at_copy (subst (λ m. At i (here old + 1) (op.JumpIfZero m)) to at_jump) at_drop second)
 
   pub or_else_emits : IsLegal v.scope (tree.Binary binary.OrElse a b) → Patches done (here copied) (op.JumpIfNotZero n) new → EmitsExpression v start depth (tree.Binary binary.OrElse a b) new
   or_else_emits legal patch =
       let to = ends (op.JumpIfNotZero n) patch in
       short_emits v old copied jumped dropped done new depth x (op.JumpIfNotZero n) b copy jump drop right patch
       (λ i s suits. subst (λ m. Jumps i s (op.JumpIfNotZero n) m) to (at_one i s n)) quiet start a binary.OrElse left
-      (λ i first at_copy at_jump at_drop second.
-      computes_or_else quiet i (library_of v) (Sees v) (here start) (here old) (here new) a b left.extends.longer (long (op.JumpIfNotZero n) patch) first
-      (left_truth laws i v binary.OrElse a b refl legal) at_copy (subst (λ m. At i (here old + 1) (op.JumpIfNotZero m)) to at_jump) at_drop second)
+      (λ i unit first at_copy at_jump at_drop second.
+      computes_or_else quiet i (library_of unit) (Sees unit v) (here start) (here old) (here new) a b left.extends.longer (long (op.JumpIfNotZero n) patch) first
+      (left_truth laws i v unit binary.OrElse a b refl legal) at_copy (subst (λ m. At i (here old + 1) (op.JumpIfNotZero m)) to at_jump) at_drop second)

@@ -14,7 +14,7 @@ use Rattle.expr_code.specs.Code.{Adds, here, Extends, Patches}
 use Rattle.expr_code.specs.Computing.{ComputesElse}
 use Rattle.expr_code.specs.Emitting.{IsLegal}
 use Rattle.expr_code.specs.Flows.{AreKept}
-use Rattle.expr_code.specs.Seeing.{library_of, Sees, Suits}
+use Rattle.expr_code.specs.Seeing.{library_of, Package, Sees, Suits}
 use Rattle.expr_code.specs.declared.code.Code.{Code}
 use Rattle.expr_code.specs.declared.visible.Visible.{Visible}
 
@@ -52,7 +52,9 @@ pub record EmitsBranches (v : Visible) (old : Code) (depth : ℕ) (all : List Br
   pub inside : (k : ℕ) → is_among waiting k ≡ true → (here old ≤ k) × (k < here new)
   pub waits : (k : ℕ) → is_among waiting k ≡ true → slice_get new.instructions.items k ≡ Some (record { depth = depth + 1; operation = op.Jump 0 })
   pub computes : (i : Sections) (end : ℕ) → here new ≤ end → Joins i (here old) waiting end (depth + 1) new
-      → (rest : ElsifValueTrees) (e : ExprTree) → ComputesElse i (library_of v) (Sees v) (here new) end rest e → ComputesElse i (library_of v) (Sees v) (here old) end (in_front all rest) e
+      → (g : Package) (rest : ElsifValueTrees) (e : ExprTree)
+      → ComputesElse i (library_of g) (Sees g v) (here new) end rest e
+      → ComputesElse i (library_of g) (Sees g v) (here old) end (in_front all rest) e
   pub flows : (i : Sections) (s : Subprogram) (end : ℕ) → here new ≤ end → Joins i (here old) waiting end (depth + 1) new → Suits v i s → new.deepest ≤ s.stack → depth + 1 ≤ s.stack
       → has_depth i end (depth + 1) ≡ true → has_depth i (here new) depth ≡ true → AreKept i s (here old) end (here old) (here new) depth
 

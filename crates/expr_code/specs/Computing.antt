@@ -6,9 +6,9 @@ use Rattle.kernel.specs.Calm.{Calm}
 use Rattle.handlers.specs.Innermost.{handler_of}
 use Rattle.ada_tree.specs.declared.expression.Identifier.{Identifier}
 use Rattle.ada_tree.specs.ExpressionTree.{ExprTree, ArgumentTrees, SelectorTrees, ElsifValueTrees, NoElsifValues, MoreElsifValues}
-use Rattle.image.specs.Sections.{Sections, first_place}
+use Rattle.image.specs.Sections.{Sections, first_place, object_of}
 use Rattle.image.specs.Operations.{called}
-use Rattle.image.specs.Frames.{Words, Frame}
+use Rattle.image.specs.Frames.{Words, Frame, object_words}
 use Rattle.image.specs.declared.instruction.Operation.TheVariants as op
 use Rattle.image.specs.declared.instruction.Region.TheVariants as regions
 use Rattle.image.specs.declared.subprograms.Subprogram.{Subprogram}
@@ -107,18 +107,26 @@ module _ (i : Sections) (library : Library) where
   abbrev pub AlwaysPasses : Sight → Subtype → ExprTree → Type 0
   AlwaysPasses sight t e = (calls : Calls) (p : Place) (view : View) (v : Value) → library.sound calls → sight p view → value_with calls p e ≡ Gives v → passed t v ≡ Gives v
 
-  -- the name stands for the function, which has this subprogram, and its actual parameters have the words of its formals
-  pub record NamesFunction (sight : Sight) (first : Identifier) (selectors : SelectorTrees) (function : Function) (number : ℕ) : Type 0 where
+  -- The name stands for a function, which has this subprogram and these subtypes of its formals.
+  pub record NamesFunction (first : Identifier) (selectors : SelectorTrees) (number : ℕ) (ts : List Subtype) (p : Place) (view : View) : Type 0 where
+    pub function : Function
     pub coded : library.coded function number
-    pub shared : (p : Place) (view : View) → sight p view → library.shared p view
-    pub named : (p : Place) (view : View) → sight p view → (fixed_name p first selectors ≡ None) × (meaning_of p first.name ≡ IsFunction function None)
+    pub shared : library.shared p view
+    pub valueless : fixed_name p first selectors ≡ None
+    pub means : meaning_of p first.name ≡ IsFunction function None
+    pub formals : map formal_subtype function.formals ≡ ts
 
-  abbrev pub ArePassedWell : Sight → Function → ArgumentTrees → Type 0
-  ArePassedWell sight function arguments =
-      (calls : Calls) (p : Place) (view : View) (vs : List Value)
+  abbrev pub AlwaysNames : Sight → Identifier → SelectorTrees → (number : ℕ) → List Subtype → Type 0
+  AlwaysNames sight first selectors number ts = (p : Place) (view : View) → sight p view → NamesFunction first selectors number ts p view
+
+  -- the actual parameters have the words of the formals of each function that has these subtypes of formals
+  abbrev pub ArePassedWell : Sight → List Subtype → ArgumentTrees → Type 0
+  ArePassedWell sight ts arguments =
+      (calls : Calls) (p : Place) (view : View) (function : Function) (vs : List Value)
       → library.sound calls
       → sight p view
-      → actuals_with calls p arguments (map formal_subtype function.formals) ≡ Gives vs
+      → map formal_subtype function.formals ≡ ts
+      → actuals_with calls p arguments ts ≡ Gives vs
       → ArePassed (library.sizes function) vs
 
   -- the code of a function: its value, checked, and a return. It handles nothing, and sees what all bodies see and its formals
@@ -143,5 +151,8 @@ module _ (i : Sections) (library : Library) where
         → inner.now ≡ view.now
         → inner.memory ≡ view.memory
         → inner.words regions.Locals ≡ all_words args ++ locals
+        → length locals ≡ s.locals - s.parameters
+        → inner.words regions.Plain ≡ view.words regions.Plain
+        → inner.words regions.Object ≡ object_words (object_of s.kind) view.memory
         → inner.left ≡ left
         → sight (entered p function args left) inner

@@ -1,19 +1,28 @@
 -- What methods that add the code of expressions promise.
-use Rattle.std.specs.Prelude.{◌≡◌, ℕ, ◌+◌, ◌*◌, ◌≤◌, List, [], ◌∷◌, true, ⊤}
+use Rattle.std.specs.Prelude.{◌≡◌, ℕ, ◌+◌, ◌*◌, ◌≤◌, List, [], ◌∷◌, true, Some, ⊤}
 use Rattle.image.specs.Sections.{Sections}
 use Rattle.ada_tree.specs.declared.expression.Operand.{Operand}
 use Rattle.ada_tree.specs.ExpressionTree.{ExprTree, chain_tree, expr_tree}
 use Rattle.ada_tree.specs.Size.{expr_size}
 use Rattle.types.specs.declared.entity.Subtype.{Subtype}
+use Rattle.types.specs.Entities.{TypeForm}
+use Rattle.types.specs.Evaluations.{Gives}
+use Rattle.types.specs.Evaluating.{Calls, value_with}
+use Rattle.types.specs.Layouts.{words_of}
+use Rattle.types.specs.Places.{Place}
 use Rattle.types.specs.Scopes.{form_at, Scope}
+use Rattle.types.specs.Shapes.{has_shape, shape_of}
+use Rattle.types.specs.Values.{Value}
 use Rattle.expr_rules.specs.declared.own.Wanted.{Wanted}
 use Rattle.expr_rules.specs.declared.own.Wanted.TheVariants.{Anything, AnyInteger, OfType}
 use Rattle.expr_rules.specs.ExpressionRules.{faults_in, faults_of}
 use Rattle.expr_rules.specs.Typing.{is_integers}
+use Rattle.well_typed.specs.Agreeing.{Agrees}
+use Rattle.well_typed.specs.Answers.{CallsAnswer}
 use Rattle.expr_code.specs.Code.{here, Extends, Holds}
 use Rattle.expr_code.specs.Computing.{Computes, ComputesChecked}
 use Rattle.expr_code.specs.Flows.{Flows}
-use Rattle.expr_code.specs.Seeing.{library_of, Sees, Suits}
+use Rattle.expr_code.specs.Seeing.{library_of, Package, Sees, Suits}
 use Rattle.expr_code.specs.declared.code.Code.{Code}
 use Rattle.expr_code.specs.declared.visible.Visible.{Visible}
 
@@ -44,15 +53,19 @@ AreLegal s (o ∷ rest) = IsLegal s (expr_tree o.value) × AreLegal s rest
 pub record EmitsExpression (v : Visible) (old : Code) (depth : ℕ) (e : ExprTree) (new : Code) : Type 0 where
   pub extends : Extends old new
   pub sized : here new ≤ here old + 20 * expr_size e
-  pub computes : (i : Sections) → Holds i (here old) new → Computes i (library_of v) (Sees v) (here old) (here new) e
+  pub computes : (i : Sections) → Holds i (here old) new → (g : Package) → Computes i (library_of g) (Sees g v) (here old) (here new) e
   pub flows : Flows (Suits v) old depth new (depth + 1)
 
--- ... and checks its value against a subtype
+-- ... and checks its value against a subtype, one of single words
 pub record EmitsChecked (v : Visible) (old : Code) (depth : ℕ) (t : Subtype) (e : ExprTree) (new : Code) : Type 0 where
   pub extends : Extends old new
   pub sized : here new ≤ here old + (20 * expr_size e + 3)
-  pub computes : (i : Sections) → Holds i (here old) new → ComputesChecked i (library_of v) (Sees v) (here old) (here new) t e
+  pub computes : (i : Sections) → Holds i (here old) new → (g : Package) → ComputesChecked i (library_of g) (Sees g v) (here old) (here new) t e
   pub flows : Flows (Suits v) old depth new (depth + 1)
+  pub known : (form : TypeForm) × (form_at v.scope t.type_number ≡ Some form)
+  pub single : words_of v.scope t ≡ 1
+  -- its value, where there is one, is of the subtype's type
+  pub typed : (calls : Calls) (p : Place) → Agrees v.scope p → CallsAnswer calls p → (x : Value) → value_with calls p e ≡ Gives x → has_shape (shape_of v.scope t) x ≡ true
 
 -- The code that was added makes of an expression's value, computed by the code before it, that of the operators and operands behind it.
 pub record EmitsOperands (v : Visible) (old : Code) (depth : ℕ) (all : List Operand) (new : Code) : Type 0 where

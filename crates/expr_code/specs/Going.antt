@@ -14,7 +14,7 @@ use Rattle.expr_rules.specs.ExpressionRules.{selector_faults, selectors_faults}
 use Rattle.expr_code.specs.Code.{Adds, here, Extends, Holds}
 use Rattle.expr_code.specs.Flows.{Flows}
 use Rattle.expr_code.specs.Locating.{IsPath}
-use Rattle.expr_code.specs.Seeing.{library_of, Sees, Suits}
+use Rattle.expr_code.specs.Seeing.{library_of, Package, Sees, Suits}
 use Rattle.expr_code.specs.declared.code.Code.{Code}
 use Rattle.expr_code.specs.declared.visible.Visible.{Visible}
 
@@ -47,9 +47,9 @@ path_size (x ∷ all) = selector_size x + path_size all
 pub record EmitsPath (v : Visible) (old : Code) (depth : ℕ) (t : Subtype) (all : List SelectorTree) (last : Subtype) (new : Code) : Type 0 where
   pub extends : Extends old new
   pub sized : here new ≤ here old + 20 * path_size all
-  pub goes : (i : Sections) → Holds i (here old) new → (to : ℕ) (rest : SelectorTrees) (final : Subtype) (end : Shape) → here new ≤ to
-      → IsPath i (library_of v) (Sees v) (here new) to last (shape_of v.scope last) rest final end
-      → IsPath i (library_of v) (Sees v) (here old) to t (shape_of v.scope t) (selected all rest) final end
+  pub goes : (i : Sections) → Holds i (here old) new → (g : Package) (to : ℕ) (rest : SelectorTrees) (final : Subtype) (end : Shape) → here new ≤ to
+      → IsPath i (library_of g) (Sees g v) (here new) to last (shape_of v.scope last) rest final end
+      → IsPath i (library_of g) (Sees g v) (here old) to t (shape_of v.scope t) (selected all rest) final end
   pub flows : Flows (Suits v) old (depth + 1) new (depth + 1)
 
 -- what makes of an address and an index that was checked, both on the operand stack, the address of the component: from the first index on, by the words of each

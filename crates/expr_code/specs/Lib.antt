@@ -10,3 +10,4 @@ pub mod Emitting
 pub mod Branches
 pub mod Locating
 pub mod Going
+pub mod Actuals

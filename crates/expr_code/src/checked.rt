@@ -9,6 +9,7 @@ use crate::visible::Visible;
 use ada_tree::Expr;
 use image::Operation;
 use kernel::laws::quiet_stays;
+use types::laws::values_have_words;
 use types::{Subtype, TypeForm};
 use well_typed::laws::expressions_are_typed;
 
@@ -27,6 +28,7 @@ impl Code {
     {
         quiet_stays();
         expressions_are_typed();
+        values_have_words();
         self.expression(visible, depth, e)?;
         match visible.scope.form(subtype.type_number) {
             Some(TypeForm::Integer) => {

@@ -1,6 +1,7 @@
 //! The code of expressions (docs/CODEGEN.md).
 #![tactic(auto)]
 
+mod call;
 mod checked;
 mod code;
 mod conditional;

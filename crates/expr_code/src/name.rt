@@ -67,7 +67,7 @@ impl Code {
         match fixed_value(visible.scope.standing(name)) {
             Some(value) => self.emit(depth, Operation::Push(scalar_word(value))),
             None => match name.bare() {
-                Some(identifier) => self.object(visible, depth, identifier),
+                Some(identifier) => self.bare(visible, depth, identifier),
                 None => self.named(visible, depth, &name.first, &name.selectors),
             },
         }
@@ -99,6 +99,12 @@ impl Code {
                 Some(slot) => self.part(visible, depth, slot, subtype, first, selectors),
                 None => Err(Refusal::Outside),
             },
+            Standing::Callee(_) => match (visible.profile(&first.name), selectors) {
+                (Some(profile), [Selector::Arguments(arguments)]) => {
+                    self.call(visible, depth, first, profile, arguments)
+                }
+                _ => Err(Refusal::Outside),
+            },
             _ => Err(Refusal::Outside),
         }
     }
@@ -127,8 +133,8 @@ impl Code {
         }
     }
 
-    // Adds that of an object as a whole, of one word.
-    fn object(&mut self, visible: &Visible, depth: u16, name: &Identifier) -> Result<(), Refusal>
+    // Adds that of an object as a whole, of one word, or of a call without parameters.
+    fn bare(&mut self, visible: &Visible, depth: u16, name: &Identifier) -> Result<(), Refusal>
         requires legal { IsLegal visible.now.scope (Named name.now NoSelectors) }
         ensures emits { OnOk result (EmitsExpression visible.now self.old depth (Named name.now NoSelectors) self.new) }
     {
@@ -141,6 +147,10 @@ impl Code {
                     None => Err(Refusal::Outside),
                 }
             }
+            Standing::Callee(_) => match visible.profile(&name.name) {
+                Some(profile) => self.call_alone(visible, depth, name, profile),
+                None => Err(Refusal::Outside),
+            },
             _ => Err(Refusal::Outside),
         }
     }

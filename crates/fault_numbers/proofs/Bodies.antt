@@ -16,7 +16,7 @@ use Rattle.stmt_rules.specs.declared.around.BodyKind.{BodyKind}
 use Rattle.stmt_rules.specs.declared.around.BodyKind.TheVariants as kind
 use Rattle.stmt_rules.specs.StatementRules.{in_body}
 use Rattle.legality.specs.BodyRules.{body_faults, body_name_faults, function_body_faults, head_faults, is_subprogram, kind_of, own_name_faults, subprogram_body_faults, task_body_faults, task_rule}
-use Rattle.legality.specs.ProtectedBodyRules.{components_at, entry_body_faults, entry_rule, known_body_faults, object_items_faults, object_rule, operation_sees, protected_body_faults, protected_item_faults, protected_item_scope, protected_items_faults}
+use Rattle.legality.specs.ProtectedBodyRules.{components_at, entry_body_faults, entry_rule, known_body_faults, object_items_faults, object_rule, operation_sees, outer_name_rule, outer_names_faults, protected_body_faults, protected_item_faults, protected_item_scope, protected_items_faults}
 use Rattle.legality.specs.PackageBodyRules.{body_item_faults, body_item_scope, body_items_faults}
 use Rattle.fault_numbers.proofs.Ranges.{Legality, ◌⊕◌, asked, none}
 use Rattle.fault_numbers.proofs.Declarations.{of_end_name, of_fixed_locals, of_formals, of_item, of_locals, of_new_name, of_profile}
@@ -81,9 +81,17 @@ of_protected_items : (s : Scope) (components : List RecordComponent) (is : List 
 of_protected_items s components [] = none
 of_protected_items s components (i ∷ is) = of_protected_item s components i ⊕ of_protected_items (protected_item_scope s i) components is
 
+of_outer_name : (s : Scope) (i : ProtectedItemTree) → Legality (outer_name_rule s i)
+of_outer_name s (OperationBody d b) = of_new_name s d.name
+of_outer_name s (EntryBody d barrier b) = none
+
+of_outer_names : (s : Scope) (is : List ProtectedItemTree) → Legality (outer_names_faults s is)
+of_outer_names s [] = none
+of_outer_names s (i ∷ is) = of_outer_name s i ⊕ of_outer_names s is
+
 of_object_items : (s : Scope) (number : ℕ) (components : Option (List RecordComponent)) (items : List ProtectedItemTree)
     → Legality (object_items_faults s number components items)
-of_object_items s number (Some components) items = of_protected_items (object_body_scope s number) components items
+of_object_items s number (Some components) items = of_outer_names s items ⊕ of_protected_items (object_body_scope s number) components items
 of_object_items s number None items = none
 
 of_known_body : (s : Scope) (number : Option ℕ) (items : List ProtectedItemTree) → Legality (known_body_faults s number items)

@@ -13,7 +13,7 @@ use Rattle.types.specs.declared.entity.Subtype.{Subtype}
 use Rattle.types.specs.Entities.{Entity, OfType, OfSubtype, Doubtful}
 use Rattle.types.specs.Evaluations.{Val, Raises}
 use Rattle.types.specs.Scopes.{Scope, integer, integer_type}
-use Rattle.types.specs.Statics.{start_of, static_form}
+use Rattle.types.specs.Statics.{start_of, static_form, static_value}
 use Rattle.types.specs.Values.{Value}
 use Rattle.expr_rules.specs.declared.own.Own.{Own}
 use Rattle.expr_rules.specs.declared.own.Wanted.{Wanted}
@@ -31,7 +31,7 @@ use Rattle.type_rules.specs.SubtypeNames.{declared_twice, end_rule, if_integer, 
 use Rattle.declaring.specs.TaskRules.{aspect_faults, aspect_wanted, is_priority, task_end_faults, task_faults}
 use Rattle.type_rules.specs.TypeRules.{array_faults, component_faults, components_faults, definition_faults, index_faults, index_place, narrowed_faults, null_rule, range_faults, static_whole, subtype_range_faults, type_faults}
 use Rattle.fault_numbers.proofs.Ranges.{Legality, ◌⊕◌, asked, none}
-use Rattle.fault_numbers.proofs.Expressions.{of_expression, of_form, of_mismatch, of_static, unless_broken}
+use Rattle.fault_numbers.proofs.Expressions.{of_expression, of_form, of_mismatch, of_static, of_static_value, unless_broken}
 
 -- ---- names
 
@@ -104,7 +104,8 @@ of_span_call : (s : Scope) (t : Option Subtype) (e : ExprTree) (operation : Pred
 of_span_call s t e operation argument =
     of_expression s (wanted_by t) e
     ⊕ of_form (start_of e) (static_form s argument)
-    ⊕ unless_broken (faults_of s (wanted_by t) e) (of_span (start_of e) (span_value s operation argument))
+    ⊕ unless_broken (faults_of s (wanted_by t) e)
+    (of_static_value (start_of e) None (static_form s argument) (static_value s argument) ⊕ of_span (start_of e) (span_value s operation argument))
 
 of_called : (s : Scope) (t : Option Subtype) (e : ExprTree) (call : Option (PredefinedOperation × ExprTree)) → Legality (called_faults s t e call)
 of_called s t e (Some x) = of_span_call s t e x.0 x.1

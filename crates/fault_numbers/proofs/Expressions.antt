@@ -164,7 +164,7 @@ pub of_form : (place : ℕ) (form : StaticForm) → Legality (form_rule place fo
 of_form place NotStatic = asked NOT_STATIC place true refl
 of_form place form = none
 
-of_static_value : (place : ℕ) (within : Option Subtype) (form : StaticForm) (v : Val values.Value) → Legality (static.value_rule place within form v)
+pub of_static_value : (place : ℕ) (within : Option Subtype) (form : StaticForm) (v : Val values.Value) → Legality (static.value_rule place within form v)
 of_static_value place within Static (Gives v) = asked WRONG_STATIC_VALUE place _ refl
 of_static_value place within Static (Raises x) = asked WRONG_STATIC_VALUE place true refl
 of_static_value place within form v = none

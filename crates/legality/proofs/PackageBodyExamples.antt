@@ -143,6 +143,12 @@ operation_like_a_variable : least (body_items_faults visible (ProtectedBody (ide
     [])) ≡ broken 11 30
 operation_like_a_variable = refl
 
+-- `protected body P is procedure Go is begin null; end Go; end P;`
+operation_like_a_procedure : least (body_items_faults visible (ProtectedBody (identifier 15 (codes "P")) (OperationBody (subprogram_of 20 (identifier
+    30 (codes "GO")) ([]) None) (body_of ([]) (MoreStmts (Null 42) NoStmts) NoHandlers (identifier 52 (codes "GO"))) ∷ []) (identifier 60 (codes "P")) ∷
+    [])) ≡ broken 11 30
+operation_like_a_procedure = refl
+
 -- `protected body P is procedure V is begin null; end V; end P;`
 operation_like_a_component : least (body_items_faults visible (ProtectedBody (identifier 15 (codes "P")) (OperationBody (subprogram_of 20 (identifier
     30 (codes "V")) ([]) None) (body_of ([]) (MoreStmts (Null 41) NoStmts) NoHandlers (identifier 51 (codes "V"))) ∷ []) (identifier 58 (codes "P")) ∷

@@ -9,7 +9,7 @@ use Rattle.types.specs.declared.entity.RecordComponent.{RecordComponent}
 use Rattle.types.specs.Entities.{Entity, Entry, Protected, Doubtful}
 use Rattle.types.specs.Scopes.{Scope, number_of, protected_at}
 use Rattle.expr_rules.specs.Faults.{Faults, rule}
-use Rattle.type_rules.specs.SubtypeNames.{end_rule, named_entity}
+use Rattle.type_rules.specs.SubtypeNames.{declared_twice, end_rule, named_entity}
 use Rattle.type_rules.specs.ProfileRules.{formals_faults, subprogram_scope}
 use Rattle.declaring.specs.BodyNames.{components_scope, formals_scope, object_body_scope}
 use Rattle.stmt_rules.specs.declared.around.BodyKind.TheVariants as kind
@@ -61,9 +61,19 @@ protected_items_scope s (i ∷ is) = protected_items_scope (protected_item_scope
 abbrev pub components_at : Scope → (number : ℕ) → Option (List RecordComponent)
 components_at s number = option_map (λ p. p.components) (protected_at s number)
 
+-- 11: the body of a procedure or function is like a name that is visible in front of the object's body, as a subprogram of the package is; the object's own
+-- operations are not visible there
+abbrev pub outer_name_rule : Scope → ProtectedItemTree → Faults
+outer_name_rule s (OperationBody d b) = declared_twice s d.name
+outer_name_rule s (EntryBody d barrier b) = []
+
+abbrev pub outer_names_faults : Scope → List ProtectedItemTree → Faults
+outer_names_faults s [] = []
+outer_names_faults s (i ∷ is) = outer_name_rule s i ++ outer_names_faults s is
+
 -- nothing more is said of what stands in the body of an object that is not known
 abbrev pub object_items_faults : Scope → (number : ℕ) → Option (List RecordComponent) → List ProtectedItemTree → Faults
-object_items_faults s number (Some components) items = protected_items_faults (object_body_scope s number) components items
+object_items_faults s number (Some components) items = outer_names_faults s items ++ protected_items_faults (object_body_scope s number) components items
 object_items_faults s number None items = []
 
 abbrev pub known_body_faults : Scope → Option ℕ → List ProtectedItemTree → Faults

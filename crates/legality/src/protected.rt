@@ -7,7 +7,7 @@ ghost use Rattle.expr_rules.specs.Faults.{least};
 ghost use Rattle.declaring.specs.BodyNames.{components_scope, formals_scope, object_body_scope};
 ghost use Rattle.type_rules.specs.SubtypeNames.{named_entity};
 ghost use Rattle.legality.specs.BodyRules.{subprogram_body_faults};
-ghost use Rattle.legality.specs.ProtectedBodyRules.{components_at, entry_body_faults, entry_rule, is_entry, is_object, known_body_faults, object_items_faults, object_rule, operation_sees, protected_body_faults, protected_item_faults, protected_item_scope, protected_items_faults, protected_items_scope};
+ghost use Rattle.legality.specs.ProtectedBodyRules.{components_at, entry_body_faults, entry_rule, is_entry, is_object, known_body_faults, object_items_faults, object_rule, operation_sees, outer_name_rule, outer_names_faults, protected_body_faults, protected_item_faults, protected_item_scope, protected_items_faults, protected_items_scope};
 
 use crate::bodies::{body_fault, subprogram_body_fault};
 use ada_tree::{Body, EntryDeclaration, Expr, Identifier, ProtectedBodyItem, Subprogram};
@@ -19,7 +19,7 @@ use expr_rules::{Wanted, expression_fault, rule, sooner};
 use lexer::Fault;
 use std::alloc::{AllocError, Global};
 use stmt_rules::BodyKind;
-use type_rules::{declare_subprogram, end_rule, formals_fault, named_entity};
+use type_rules::{declare_subprogram, declared_twice, end_rule, formals_fault, named_entity};
 use types::{Entity, RecordComponent, Scope};
 
 // The body of a procedure or function, which sees the components; of its names none is visible behind it, its own neither.
@@ -138,6 +138,28 @@ fn protected_items_fault(
     Ok(fault)
 }
 
+fn outer_name_rule(scope: &Scope, item: &ProtectedBodyItem) -> Option<Fault>
+    ensures { result ≡ least (outer_name_rule scope.now (protected_item_tree item.now)) }
+{
+    match item {
+        ProtectedBodyItem::Subprogram(subprogram, _) => declared_twice(scope, &subprogram.name),
+        ProtectedBodyItem::Entry(_, _, _) => None,
+    }
+}
+
+// The names of procedures and functions in the body of an object, in front of which the scope stands.
+fn outer_names_fault(scope: &Scope, items: &[ProtectedBodyItem]) -> Option<Fault>
+    ensures { result ≡ least (outer_names_faults scope.now (map protected_item_tree items.now)) }
+{
+    least_by_parts();
+    sooner_associates();
+    let mut fault = None;
+    for item in items {
+        fault = sooner(fault, outer_name_rule(scope, item));
+    }
+    fault
+}
+
 // What stands in the body of the protected object with this number and these components.
 fn object_body_fault(
     alloc: Global,
@@ -197,8 +219,13 @@ fn object_items_fault(
     ensures fault { IfOk result (λ f. f ≡ least (object_items_faults scope.old number (components_at scope.old number) (map protected_item_tree items.now))) }
     ensures scope { OnOk result (scope.new ≡ scope.old) }
 {
+    least_by_parts();
     match components_at(alloc, scope, number)? {
-        Some(components) => object_body_fault(alloc, scope, number, &components, items),
+        Some(components) => {
+            let outer = outer_names_fault(scope, items);
+            let inside = object_body_fault(alloc, scope, number, &components, items)?;
+            Ok(sooner(outer, inside))
+        }
         None => Ok(None),
     }
 }

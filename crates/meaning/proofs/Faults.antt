@@ -31,7 +31,7 @@ use Rattle.meaning.specs.Source.{partition_of, source_behaviour, source_start}
 use Rattle.meaning.specs.Programs.{program_of}
 use Rattle.meaning.specs.Laws.{SourceNeverFaults, MeaningNeverFaults}
 
-either : {A : Type 0} (P : A → Type 0) (b : Bool) (x y : A) → P x → P y → P (cond b x y)
+pub either : {A : Type 0} (P : A → Type 0) (b : Bool) (x y : A) → P x → P y → P (cond b x y)
 either P true x y p q = p
 either P false x y p q = q
 
@@ -56,10 +56,10 @@ dispatch_same_at : (r : Option ℕ) (k : Kernel) → Same (dispatch_from r k) k
 dispatch_same_at None k = from_same (highest k.ready PRIORITIES) k
 dispatch_same_at (Some t) k = preempts_same t (highest k.ready PRIORITIES) k
 
-dispatch_same : (k : Kernel) → Same (dispatch k) k
+pub dispatch_same : (k : Kernel) → Same (dispatch k) k
 dispatch_same k = dispatch_same_at k.running k
 
-wakes_same : (ss : List Sleeper) (k : Kernel) → Same (wakes_due ss k) k
+pub wakes_same : (ss : List Sleeper) (k : Kernel) → Same (wakes_due ss k) k
 wakes_same [] k = refl
 wakes_same (s ∷ ss) k =
     wakes_same ss (wakes_if_due s k)

@@ -26,7 +26,7 @@ use Rattle.meaning.specs.Programs.{Parameter, subtype_named, subtype_or_integer}
 use Rattle.meaning.specs.Works.{Item}
 use Rattle.meaning.specs.SourceSteps.{Here, declare, declare_parameter, declared_value, evaluate, place_of, with_object, with_value}
 use Rattle.sound_steps.specs.Objects.{Comes, IsOf}
-use Rattle.sound_steps.specs.Fitting.{Fits}
+use Rattle.sound_steps.specs.Fitting.{Fits, Narrows}
 use Rattle.sound_steps.specs.Opened.{IsHeld, opened_in}
 use Rattle.sound_steps.specs.Judged.{Begins, IsLegalLocal, IsNewParameter, Leaves, Waiting, parameter_scope}
 use Rattle.sound_steps.specs.Holding.{IsSoundStep, inside}
@@ -184,10 +184,11 @@ module _ (h : Here) (s : Scope) (outer : List Waiting) (laws : Premises h.progra
   declares_sound (LocalTask d) legal begins leaves = let bad = legal.1 in cc
   declares_sound (LocalProtected d) legal begins leaves = let bad = legal.1 in cc
 
-  pub parameter_sound : (f : Parameter) → IsNewParameter s f → Begins h.program (parameter_scope s f) outer a items → IsSoundStep h (opened_in items) (declare_parameter h f items)
-  parameter_sound f new begins =
+  pub parameter_sound : (f : Parameter) (later : Scope) → IsNewParameter s f → Narrows h.program (parameter_scope s f) later → Begins h.program later outer a items
+      → IsSoundStep h (opened_in items) (declare_parameter h f items)
+  parameter_sound f later new narrows begins =
       let v = initial h.program.scope f.subtype in
       let y : Object = record { name = f.name; subtype = f.subtype; value = v } in
-      added h s outer laws c a items items y (parameter_scope s f) held (initial_suited h.program laws f.subtype)
-      (λ p fits. fits_declared h.program laws s (inside h.program h.memory h.own p) f.name role.Out f.subtype v fits new.unseen new.known new.known (initial_suited h.program laws f.subtype))
-      (begins_ready h.program _ (parameter_scope s f) outer a items begins) refl
+      added h s outer laws c a items items y later held (initial_suited h.program laws f.subtype)
+      (λ p fits. narrows _ (fits_declared h.program laws s (inside h.program h.memory h.own p) f.name role.Out f.subtype v fits new.unseen new.known new.known (initial_suited h.program laws f.subtype)))
+      (begins_ready h.program _ later outer a items begins) refl

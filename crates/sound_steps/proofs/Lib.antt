@@ -1,9 +1,9 @@
 mod Raising
 mod Reaching
-mod Lookups
-mod Sights
+pub mod Lookups
+pub mod Sights
 mod Aiming
-mod Going
+pub mod Going
 mod Walking
 mod Valued
 mod Storing

@@ -45,7 +45,7 @@ module _ (h : Here) (s : Scope) (outer : List Waiting) (laws : Premises h.progra
 
   item_sound : (i : Item) (items : List Item) → IsHeld h.own.within (opened_in (i ∷ items)) → IsReady h.program h.own s outer a (i ∷ items) → IsSoundStep h (opened_in (i ∷ items)) (item_step h i items)
   item_sound (Declares d) items held r = declares_sound h s outer laws c a items held d r.0 r.1 r.2
-  item_sound (DeclaresParameter f) items held r = parameter_sound h s outer laws c a items held f r.0 r.1
+  item_sound (DeclaresParameter f) items held r = parameter_sound h s outer laws c a items held f r.1 r.0 r.2 r.3
   item_sound (Sequence body all) items held r = sequence_sound body all items held r.0 r.1 (r.2, r.3, r.4)
   item_sound (Does x) items held r =
       let at : At h s outer a items = record { current = c; held = held; behind = (r.1, r.2, r.3) } in

@@ -128,10 +128,12 @@ module _ (program : Program) where
   Leaves s outer a (Sequence body all ∷ items) = Leaves s outer a items
   Leaves s outer a items = (later : Scope) × Narrows program s later × Judged later outer a items
 
-  -- a body or block that has not begun: its parameters, its declarations, its statements with their handlers
+  -- a body or block that has not begun: its parameters, its declarations, its statements with their handlers. The body sees its formals in the order of the
+  -- text, so behind an `out` parameter the same names may be visible in another order.
   abbrev pub Begins : Scope → (outer : List Waiting) → Around → List Item → Type 0
   Begins s outer a (Declares d ∷ items) = IsLegalLocal s d × Begins (local_scope s d) outer a items × Leaves s outer a items
-  Begins s outer a (DeclaresParameter f ∷ items) = IsNewParameter s f × Begins (parameter_scope s f) outer a items
+  Begins s outer a (DeclaresParameter f ∷ items) =
+      IsNewParameter s f × (later : Scope) × Narrows program (parameter_scope s f) later × Begins later outer a items
   Begins s outer a (Sequence body all ∷ items) = AreLegal s a body × AreLegalHandlers s a all × (later : Scope) × Narrows program s later
       × Judged later outer a items
   Begins s outer a items = Judged s outer a items

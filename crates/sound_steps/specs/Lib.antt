@@ -5,3 +5,4 @@ pub mod Opened
 pub mod Judged
 pub mod Holding
 pub mod Laws
+pub mod Starting

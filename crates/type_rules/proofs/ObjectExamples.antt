@@ -164,6 +164,11 @@ clock_for_a_span : least (fixed_object_faults package_scope (object_of (identifi
     17 (codes "CLOCK") [])))) ≡ broken 12 17
 clock_for_a_span = refl
 
+-- `Z : Time_Span := Milliseconds (1 / 0);`
+raising_span : least (fixed_object_faults package_scope (object_of (identifier 0 (codes "Z")) false (identifier 4 (codes "TIME_SPAN")) (Some
+    (name 17 (codes "MILLISECONDS") (at (of (two binary.Divide (num 31 1) (num 35 0)) ∷ []) ∷ []))))) ≡ broken 15 17
+raising_span = refl
+
 -- `Z : Time := Milliseconds (5);`
 span_for_a_time : least (fixed_object_faults package_scope (object_of (identifier 0 (codes "Z")) false (identifier 4 (codes "TIME")) (Some (name 12
     (codes "MILLISECONDS") (at (of (num 26 5) ∷ []) ∷ []))))) ≡ broken 12 12

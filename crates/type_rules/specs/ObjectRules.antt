@@ -18,11 +18,11 @@ use Rattle.types.specs.Values.{Value, Number, Truth}
 use Rattle.types.specs.Evaluations.{Val, Gives, Raises, Meaningless, computed}
 use Rattle.base.specs.Arithmetic.{Checked}
 use Rattle.types.specs.Operators.{milliseconds_value, microseconds_value}
-use Rattle.types.specs.Statics.{static_form, start_of}
+use Rattle.types.specs.Statics.{static_form, static_value, start_of}
 use Rattle.expr_rules.specs.declared.own.Wanted.TheVariants as wanted
 use Rattle.expr_rules.specs.Faults.{Faults, rule}
 use Rattle.expr_rules.specs.ExpressionRules.{faults_of}
-use Rattle.expr_rules.specs.StaticRules.{form_rule, if_unbroken, static_faults, static_scalar}
+use Rattle.expr_rules.specs.StaticRules.{form_rule, if_unbroken, static_faults, static_scalar, value_rule}
 use Rattle.type_rules.specs.SubtypeNames.{declared_twice, named_entity, subtype_of, subtype_faults, wanted_by}
 
 -- ---- initial values that must be static
@@ -74,9 +74,14 @@ abbrev pub span_rule : (place : ℕ) → Val Value → Faults
 span_rule place (Raises x) = rule WRONG_STATIC_VALUE place true
 span_rule place v = []
 
+-- 15: the evaluation of the argument raises
+abbrev pub computed_faults : Scope → (place : ℕ) → PredefinedOperation → (argument : ExprTree) → Faults
+computed_faults s place operation argument =
+    value_rule place None (static_form s argument) (static_value s argument) ++ span_rule place (span_value s operation argument)
+
 abbrev pub span_faults : Scope → Option Subtype → ExprTree → PredefinedOperation → (argument : ExprTree) → Faults
 span_faults s t e operation argument =
-    faults_of s (wanted_by t) e ++ form_rule (start_of e) (static_form s argument) ++ if_unbroken (faults_of s (wanted_by t) e) (span_rule (start_of e) (span_value s operation argument))
+    faults_of s (wanted_by t) e ++ form_rule (start_of e) (static_form s argument) ++ if_unbroken (faults_of s (wanted_by t) e) (computed_faults s (start_of e) operation argument)
 
 abbrev pub called_faults : Scope → Option Subtype → ExprTree → Option (PredefinedOperation × ExprTree) → Faults
 called_faults s t e (Some x) = span_faults s t e x.0 x.1

@@ -3,10 +3,10 @@ ghost use Rattle.std.specs.Prelude.{◌≡◌, ◌++◌, [], option_map};
 ghost use Rattle.ada_tree.specs.ExpressionTree.{argument_trees, expr_tree, selector_trees};
 ghost use Rattle.types.specs.Entities.{entity_value};
 ghost use Rattle.types.specs.Evaluations.{Val};
-ghost use Rattle.types.specs.Statics.{static_form, start_of};
+ghost use Rattle.types.specs.Statics.{static_form, static_value, start_of};
 ghost use Rattle.expr_rules.specs.Faults.{least};
-ghost use Rattle.expr_rules.specs.StaticRules.{form_rule};
-ghost use Rattle.type_rules.specs.ObjectRules.{called_faults, called_scalar, counted, fixed_faults, fixed_scalar, fixed_value, is_clock, is_clock_entity, known_scalar, scalar_if_unbroken, scalar_of, single_argument, single_expression, span_by, span_call, span_faults, span_rule, span_value};
+ghost use Rattle.expr_rules.specs.StaticRules.{form_rule, value_rule};
+ghost use Rattle.type_rules.specs.ObjectRules.{called_faults, called_scalar, computed_faults, counted, fixed_faults, fixed_scalar, fixed_value, is_clock, is_clock_entity, known_scalar, scalar_if_unbroken, scalar_of, single_argument, single_expression, span_by, span_call, span_faults, span_rule, span_value};
 
 use crate::names::{named_entity, wanted_by};
 use ada_tree::laws::{arguments_by_parts, chains_by_parts, names_by_parts};
@@ -17,7 +17,9 @@ use base::faults::{NOT_STATIC, WRONG_STATIC_VALUE};
 use expr_rules::laws::{least_by_parts, least_is_least};
 use expr_rules::{Wanted, expression_fault, rule, sooner, static_fault, static_scalar};
 use lexer::Fault;
-use types::{Entity, PredefinedOperation, Scope, StaticForm, Subtype, Value, start_of};
+use types::{
+    Entity, PredefinedOperation, Scope, StaticForm, Subtype, Value, start_of, static_value,
+};
 
 fn is_clock_entity(entity: Option<&Entity>) -> bool
     ensures { result ≡ is_clock_entity (option_map (λ e. entity_value e.now) entity.entry) }
@@ -117,6 +119,35 @@ fn span_rule(place: u32, span: Option<Checked>) -> Option<Fault>
     }
 }
 
+fn raised_rule(scope: &Scope, place: u32, argument: &Expr) -> Option<Fault>
+    ensures { result ≡ least (value_rule place None (static_form scope.now (expr_tree argument.now)) (static_value scope.now (expr_tree argument.now))) }
+{
+    match static_value(scope, argument) {
+        Ok(_) => None,
+        Err(fault) => rule(
+            WRONG_STATIC_VALUE,
+            place,
+            fault.number == WRONG_STATIC_VALUE,
+        ),
+    }
+}
+
+// What is broken only where the call is legal: the argument raises, or the span overflows.
+fn computed_fault(
+    scope: &Scope,
+    place: u32,
+    operation: PredefinedOperation,
+    argument: &Expr,
+) -> Option<Fault>
+    ensures { result ≡ least (computed_faults scope.now place operation (expr_tree argument.now)) }
+{
+    least_by_parts();
+    sooner(
+        raised_rule(scope, place, argument),
+        span_rule(place, span_value(scope, operation, argument)),
+    )
+}
+
 fn form_rule(place: u32, form: StaticForm) -> Option<Fault>
     ensures { result ≡ least (form_rule place form) }
 {
@@ -138,9 +169,9 @@ fn span_fault(
     least_by_parts();
     least_is_least();
     let form = form_rule(start_of(e), scope.static_form(argument));
-    let span = span_rule(start_of(e), span_value(scope, operation, argument));
+    let computed = computed_fault(scope, start_of(e), operation, argument);
     match expression_fault(scope, wanted_by(subtype), e) {
-        None => sooner(form, span),
+        None => sooner(form, computed),
         Some(fault) => sooner(Some(fault), form),
     }
 }

@@ -18,11 +18,11 @@ changed_place [] n change name = refl
 changed_place (x ∷ rest) zero change name = refl
 changed_place (x ∷ rest) (suc n) change name = ap (λ o. cond (bytes_eq name x.name) (Some 0) (option_map suc o)) (changed_place rest n change name)
 
-changed_number : (s : Scope) (n : ℕ) (change : Entity → Entity) (name : List ℕ) → number_of (changed_at s n change) name ≡ number_of s name
+pub changed_number : (s : Scope) (n : ℕ) (change : Entity → Entity) (name : List ℕ) → number_of (changed_at s n change) name ≡ number_of s name
 changed_number s n change name = number_place (changed_at s n change) name ∙ changed_place s n change name ∙ sym (number_place s name)
 
 -- what stands there is what stood there, or that with its change
-changed_entity : (s : Scope) (n : ℕ) (change : Entity → Entity) (k : ℕ) (e : Entity) → entity_at (changed_at s n change) k ≡ Some e
+pub changed_entity : (s : Scope) (n : ℕ) (change : Entity → Entity) (k : ℕ) (e : Entity) → entity_at (changed_at s n change) k ≡ Some e
     → (old : Entity) × (entity_at s k ≡ Some old) × ((old ≡ e) ⊎ (change old ≡ e))
 changed_entity [] n change k e h = (e, h, inl refl)
 changed_entity (x ∷ rest) zero change zero e h = (x.entity, refl, inr (same_some (change x.entity) e h))
@@ -38,7 +38,7 @@ offered_shape : (operations : List Operation) (known : List Shape) (e : Entity) 
 offered_shape operations known (Protected o) = refl
 offered_shape operations known e = refl
 
-same_forms : (s : Scope) (n : ℕ) (operations : List Operation) (k : ℕ) → form_at (with_operations s n operations) k ≡ form_at s k
+pub same_forms : (s : Scope) (n : ℕ) (operations : List Operation) (k : ℕ) → form_at (with_operations s n operations) k ≡ form_at s k
 same_forms [] n operations k = refl
 same_forms (x ∷ rest) zero operations zero = offered_form operations x.entity
 same_forms (x ∷ rest) zero operations (suc k) = refl
@@ -52,10 +52,10 @@ same_shapes known (x ∷ rest) zero operations = ap (λ y. shapes_after (known +
 same_shapes known (x ∷ rest) (suc n) operations = same_shapes (known ++ entity_shape known x.entity ∷ []) rest n operations
 
 module _ (s : Scope) (n : ℕ) where
-  abbrev inside : Scope
+  abbrev pub inside : Scope
   inside = with_operations s n []
 
-  has_types : HasTypes s inside
+  pub has_types : HasTypes s inside
   has_types =
       record {
         forms = λ k form h. same_forms s n [] k ∙ h;
@@ -66,7 +66,7 @@ module _ (s : Scope) (n : ℕ) where
   offered_sound k (Protected o) h = (tt, h.1)
   offered_sound k e h = h
 
-  inside_sound : SoundScope s → SoundScope inside
+  pub inside_sound : SoundScope s → SoundScope inside
   inside_sound sound =
       record {
         integer = same_forms s n [] integer_type ∙ sound.integer;

@@ -1,8 +1,8 @@
-use Rattle.std.proofs.Common.{map, rules, refl, sym, ap, ◌∙◌, ◌≤◌, ◌∷◌, [], subst}
+use Rattle.std.proofs.Common.{length, ltb-true, map, take, rules, refl, sym, ap, ◌∙◌, ◌≤◌, ◌∷◌, [], subst}
 use Rattle.std.specs.Prelude.{IfOk}
 use Rattle.std.proofs.lemmas.Result.{on_ok_weaker}
 use Rattle.ada_tree.specs.declared.expression.Expr as expressions
-use Rattle.ada_tree.specs.ExpressionTree.{argument_trees, Arguments, expr_tree, MoreSelectors, Named, NoSelectors, selector_tree, selector_trees}
+use Rattle.ada_tree.specs.ExpressionTree.{argument_tree, argument_trees, Arguments, expr_tree, MoreSelectors, Named, NoSelectors, selector_tree, selector_trees}
 use Rattle.expr_code.specs.Branches.{AddsBranches, AreLegalBranches, branch_of}
 use Rattle.expr_code.specs.Emitting.{AreLegal, EmitsExpression, IsLegal}
 use Rattle.expr_code.specs.Going.{EmitsPath, IsLegalPart, IsLegalPath}
@@ -13,8 +13,11 @@ use Rattle.expr_code.proofs.Emitted.{number_emits, parenthesized_emits, sign_emi
 use Rattle.types.specs.Evaluating.{fixed_value}
 use Rattle.expr_code.proofs.Conversions.{conversion_emits}
 use Rattle.expr_code.proofs.Names.{fixed_emits, one_word}
-use Rattle.expr_code.proofs.Going.{drop_at, element_goes, first_part, further_path, goes_next, one_argument, part_emits, uncapped_words}
+use Rattle.expr_code.proofs.Going.{drop_at, element_goes, first_part, further_path, goes_next, one_argument, part_emits, uncapped_words, whole_path}
 use Rattle.expr_code.proofs.Legal.{legal_branch}
+use Rattle.well_typed.specs.Agreeing.{parameter_subtype}
+use Rattle.expr_code.specs.Actuals.{ArePassedLegally, EmitsActuals}
+use Rattle.expr_code.proofs.Actuals.{actuals_next, all_actuals, all_legal, call_emits, got, mapped}
 use Rattle.expr_code.proofs.code.Code.+expression.Goals as goal
 
 -- ---- chains of operators
@@ -155,14 +158,14 @@ elsifs-returns t c = record { adds = all_branches c.args.visible.now _ _ c.args.
 
 pub checked-returns-in_ok-above-in-Some-Integer : goal.checked-returns-in_ok-above-in-Some-Integer
 checked-returns-in_ok-above-in-Some-Integer t c = record {
-  emits = on_ok_weaker _ (λ p. checked_emits c.quiet_stays.ensures c.expressions_are_typed.ensures c.args.visible.now _ _ c.args.depth c.args.subtype _ c.requires.fit c.in_ok-expression.ensures.emits
+  emits = on_ok_weaker _ (λ p. checked_emits c.quiet_stays.ensures c.expressions_are_typed.ensures c.values_have_words.ensures c.args.visible.now _ _ c.args.depth c.args.subtype _ c.requires.fit c.in_ok-expression.ensures.emits
       _ _ _ _ _ _ _ _ c.in_ok-one-in-Some-Integer.ensures.more c.in_ok-two-in-Some-Integer.ensures.more c.in_ok-above-in-Some-Integer.ensures.more (search rules) (search rules)
       c.in_ok-emit-in-Some-Integer.ensures.adds c.in_ok-emit-in-Some-Integer-2.ensures.adds p (search rules)) c.emit-in-Some-Integer-2.ensures.adds;
 }
 
 pub checked-returns-in-Some-Boolean : goal.checked-returns-in-Some-Boolean
 checked-returns-in-Some-Boolean t c = record {
-  emits = unchecked_emits c.quiet_stays.ensures c.expressions_are_typed.ensures c.args.visible.now _ _ c.args.depth c.args.subtype _ c.requires.fit c.in_ok-expression.ensures.emits (search rules);
+  emits = unchecked_emits c.quiet_stays.ensures c.expressions_are_typed.ensures c.values_have_words.ensures c.args.visible.now _ _ c.args.depth c.args.subtype _ c.requires.fit c.in_ok-expression.ensures.emits (search rules);
 }
 
 pub conversion-returns-in-Expr : goal.conversion-returns-in-Expr
@@ -228,3 +231,47 @@ pub select-returns-in-Arguments-clause-emits : goal.select-returns-in-Arguments-
 select-returns-in-Arguments-clause-emits t c =
     let tree = ap selector_tree c.in-Arguments.is ∙ c.arguments_by_parts.ensures c.in-Arguments.arguments ∙ ap (λ l. Arguments (argument_trees l)) (sym c.deref.ensures.value) in
     subst (λ x. IfOk c.element.result (λ last. EmitsPath c.args.visible.now c.args.self.now c.args.depth c.args.subtype (x ∷ []) last c.element.new.self)) (sym tree) c.element.ensures.emits
+
+-- ---- calls
+
+pub call-actuals-requires : goal.call-actuals-requires
+call-actuals-requires t c = (
+  search (rules, expressions.the_lemmas),
+  subst (λ l. ArePassedLegally c.args.visible.now.scope l (map argument_tree c.args.arguments.now)) (sym c.deref.ensures.value)
+      (all_legal c.args.visible.now c.args.first.now _ c.requires.names c.args.arguments.now c.requires.legal),
+)
+
+pub call-returns : goal.call-returns
+call-returns t c = record {
+  emits = on_ok_weaker _ (λ p. call_emits c.args.visible.now c.args.first.now _ c.requires.names c.quiet_stays.ensures c.args.arguments.now c.requires.legal _ _ _ c.args.depth _
+      (subst (λ l. EmitsActuals c.args.visible.now c.args.self.now c.args.depth (map parameter_subtype (take (length c.args.arguments.now) l)) (map argument_tree c.args.arguments.now) c.in_ok-height.height c.actuals.new.self)
+      c.deref.ensures.value c.in_ok-height.ensures.emits) p) c.invoke.ensures.adds;
+}
+
+pub actuals-returns : goal.actuals-returns
+actuals-returns t c = record {
+  emits = all_actuals c.args.visible.now c.args.self.now c.loop-index.self c.args.depth c.loop-index.height c.args.formals.now c.args.arguments.now c.loop-index.index c.loop-index.auto.index-end c.loop-index-test.false
+      c.loop-index.invariant;
+}
+
+pub actuals-actual-requires : goal.actuals-actual-requires
+actuals-actual-requires t c =
+    let formal = got c.args.formals.now c.loop-index.index c.in-Some.formal.now (ltb-true c.loop-index.index (length c.args.formals.now) (sym c.in-Some.ensures.lookup.0)) c.in-Some.ensures.lookup.1 in (
+      search (rules, expressions.the_lemmas),
+      c.requires.legal c.loop-index.index c.in-Some.formal.now _ formal
+          (mapped argument_tree c.args.arguments.now c.loop-index.index _ (got c.args.arguments.now c.loop-index.index _ c.loop-index-test.true c.index-arguments-index.is)),
+    )
+
+pub actuals-loop-index-preserved : goal.actuals-loop-index-preserved
+actuals-loop-index-preserved t c =
+    let formal = got c.args.formals.now c.loop-index.index c.in-Some.formal.now (ltb-true c.loop-index.index (length c.args.formals.now) (sym c.in-Some.ensures.lookup.0)) c.in-Some.ensures.lookup.1 in
+    actuals_next c.quiet_stays.ensures c.values_have_words.ensures c.args.visible.now c.args.self.now _ _ c.args.depth _ _ c.args.formals.now c.args.arguments.now c.loop-index.index c.in-Some.formal.now _ formal
+    (got c.args.arguments.now c.loop-index.index _ c.loop-index-test.true c.index-arguments-index.is) c.in_ok-height.ensures.more c.loop-index.invariant c.in_ok-actual.ensures.emits
+
+-- ---- parts
+
+pub part-path-requires : goal.part-path-requires
+part-path-requires t c = (
+  search (rules, expressions.the_lemmas),
+  whole_path c.args.visible.now.scope c.args.first.now _ c.requires.stands.0 c.args.subtype c.requires.legal c.requires.stands.1,
+)

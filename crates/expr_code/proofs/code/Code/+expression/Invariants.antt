@@ -1,5 +1,7 @@
 use Rattle.std.proofs.Common.{drop, map, take}
-use Rattle.ada_tree.specs.ExpressionTree.{selector_tree, selector_trees}
+use Rattle.ada_tree.specs.ExpressionTree.{argument_tree, selector_tree, selector_trees}
+use Rattle.well_typed.specs.Agreeing.{parameter_subtype}
+use Rattle.expr_code.specs.Actuals.{EmitsActuals}
 use Rattle.expr_code.specs.Branches.{AddsBranches, branch_of}
 use Rattle.expr_code.specs.Emitting.{EmitsOperands}
 use Rattle.expr_code.specs.Going.{EmitsPath, IsLegalPath}
@@ -7,6 +9,10 @@ use Rattle.expr_code.proofs.code.Code.+expression.Given as goal
 
 abbrev pub invariant-elsifs-loop-elsif : goal.invariant-elsifs-loop-elsif
 invariant-elsifs-loop-elsif l = AddsBranches l.visible l.fn.self l.depth (map branch_of (take l.elsif-index l.elsifs)) l.fn.waiting.items l.waiting.items l.self
+
+abbrev pub invariant-actuals-loop-index : goal.invariant-actuals-loop-index
+invariant-actuals-loop-index l =
+    EmitsActuals l.visible l.fn.self l.depth (map parameter_subtype (take l.index l.formals)) (map argument_tree (take l.index l.arguments)) l.height l.self
 
 abbrev pub invariant-operands-loop-operand : goal.invariant-operands-loop-operand
 invariant-operands-loop-operand l = EmitsOperands l.visible l.fn.self l.depth (take l.operand-index l.all) l.self

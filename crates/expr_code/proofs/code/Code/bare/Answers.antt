@@ -2,7 +2,7 @@ use Rattle.std.proofs.Common.{sym, ◌∙◌, subst}
 use Rattle.std.proofs.lemmas.Result.{on_ok_weaker}
 use Rattle.expr_code.specs.Code.{Adds}
 use Rattle.expr_code.proofs.Names.{one_word, object_emits}
-use Rattle.expr_code.proofs.code.Code.object.Goals as goal
+use Rattle.expr_code.proofs.code.Code.bare.Goals as goal
 
 pub returns-in-Some : goal.returns-in-Some
 returns-in-Some c = record {

@@ -1,0 +1,120 @@
+//! The code of calls of functions (RM 6.4): the actual parameters in order, each checked against the subtype of its formal, and the call.
+ghost use Rattle.std.specs.Prelude.{◌≡◌, map, take, length, IfOk, OnOk};
+ghost use Rattle.ada_tree.specs.ExpressionTree.{argument_tree, argument_trees, Arguments, MoreSelectors, Named, NoSelectors};
+ghost use Rattle.types.specs.Entities.{profile_value};
+ghost use Rattle.well_typed.specs.Agreeing.{parameter_subtype};
+ghost use Rattle.expr_code.specs.Emitting.{EmitsExpression, IsLegal};
+ghost use Rattle.expr_code.specs.Actuals.{AddsCall, ArePassedLegally, EmitsActual, EmitsActuals, IsPassedLegally};
+ghost use Rattle.expr_code.specs.Seeing.{NamesProfile};
+
+use crate::code::{Code, above};
+use crate::refusal::Refusal;
+use crate::visible::Visible;
+use ada_tree::laws::arguments_by_parts;
+use ada_tree::{Argument, Identifier, Mode};
+use image::Operation;
+use kernel::laws::quiet_stays;
+use types::laws::values_have_words;
+use types::{FormalParameter, Profile};
+
+impl Code {
+    /// Adds the code of a call of the function with this name and profile.
+    #[cycle(expression)]
+    pub(crate) fn call(
+        &mut self,
+        visible: &Visible,
+        depth: u16,
+        first: &Identifier,
+        profile: &Profile,
+        arguments: &[Argument],
+    ) -> Result<(), Refusal>
+        requires names { NamesProfile visible.now.scope first.now.name (profile_value profile.now) }
+        requires legal { IsLegal visible.now.scope (Named first.now (MoreSelectors (Arguments (argument_trees arguments.now)) NoSelectors)) }
+        ensures emits { OnOk result (EmitsExpression visible.now self.old depth (Named first.now (MoreSelectors (Arguments (argument_trees arguments.now)) NoSelectors)) self.new) }
+    {
+        quiet_stays();
+        let height = self.actuals(visible, depth, &profile.formals, arguments)?;
+        self.invoke(visible, height, first, profile)
+    }
+
+    /// Adds that of a call without actual parameters.
+    pub(crate) fn call_alone(
+        &mut self,
+        visible: &Visible,
+        depth: u16,
+        first: &Identifier,
+        profile: &Profile,
+    ) -> Result<(), Refusal>
+        requires names { NamesProfile visible.now.scope first.now.name (profile_value profile.now) }
+        requires legal { IsLegal visible.now.scope (Named first.now NoSelectors) }
+        ensures emits { OnOk result (EmitsExpression visible.now self.old depth (Named first.now NoSelectors) self.new) }
+    {
+        quiet_stays();
+        self.invoke(visible, depth, first, profile)
+    }
+
+    // Adds the call itself, which finds `height` words on the operand stack with those of the actual parameters, and leaves one for the result.
+    fn invoke(
+        &mut self,
+        visible: &Visible,
+        height: u16,
+        first: &Identifier,
+        profile: &Profile,
+    ) -> Result<(), Refusal>
+        ensures adds { OnOk result (AddsCall visible.now first.now.name (profile_value profile.now) self.old height self.new) }
+    {
+        let Some(number) = visible.subprogram(&first.name) else {
+            return Err(Refusal::Outside);
+        };
+        match profile.result {
+            Some(result) if visible.scope.words(result) == 1 => {
+                self.emit(height, Operation::Call(number))
+            }
+            _ => Err(Refusal::Outside),
+        }
+    }
+
+    // Adds the code of the actual parameters, and tells how many words stand on the operand stack with theirs.
+    #[cycle(expression)]
+    fn actuals(
+        &mut self,
+        visible: &Visible,
+        depth: u16,
+        formals: &[FormalParameter],
+        arguments: &[Argument],
+    ) -> Result<u16, Refusal>
+        requires legal { ArePassedLegally visible.now.scope formals.now (map argument_tree arguments.now) }
+        ensures emits { IfOk result (λ height. EmitsActuals visible.now self.old depth (map parameter_subtype (take (length arguments.now) formals.now)) (map argument_tree arguments.now) height self.new) }
+    {
+        quiet_stays();
+        values_have_words();
+        let mut height = depth;
+        for (index, argument) in arguments.iter().enumerate() {
+            let Some(formal) = formals.get(index) else {
+                return Err(Refusal::Outside);
+            };
+            self.actual(visible, height, formal, argument)?;
+            height = above(height)?;
+        }
+        Ok(height)
+    }
+
+    // Adds that of the actual parameter for a formal.
+    #[cycle(expression)]
+    fn actual(
+        &mut self,
+        visible: &Visible,
+        depth: u16,
+        formal: &FormalParameter,
+        argument: &Argument,
+    ) -> Result<(), Refusal>
+        requires legal { IsPassedLegally visible.now.scope formal.now (argument_tree argument.now) }
+        ensures emits { OnOk result (EmitsActual visible.now self.old depth formal.now.subtype (argument_tree argument.now) self.new) }
+    {
+        arguments_by_parts();
+        match (formal.mode, argument) {
+            (Mode::In, Argument::Expr(e)) => self.checked(visible, depth, formal.subtype, e),
+            _ => Err(Refusal::Outside),
+        }
+    }
+}

@@ -1,0 +1,6 @@
+mod Awaiting
+mod Outcomes
+mod Entries
+mod Others
+mod Nexts
+mod Runs

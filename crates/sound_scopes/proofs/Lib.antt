@@ -1,0 +1,7 @@
+mod Statics
+mod Extending
+mod Subtypes
+mod Initials
+mod Declared
+mod Parts
+mod Walks
