@@ -138,7 +138,7 @@ static_is_scalar s (Conditional place condition value elsifs last) h = cc
 
 -- ---- values of the type that is expected
 
-of_wanted : (s : Scope) (n : ℕ) (own : Own) (v : Value) → is_known own ≡ true → is_wanted s (wanted.OfType n) own ≡ true → is_value_of s own v ≡ true
+pub of_wanted : (s : Scope) (n : ℕ) (own : Own) (v : Value) → is_known own ≡ true → is_wanted s (wanted.OfType n) own ≡ true → is_value_of s own v ≡ true
     → has_shape (type_shape s n) v ≡ true
 of_wanted s n Unknown v k h i = cc
 of_wanted s n Universal (Number z) k h i = suits_number s (Typed n) (integral_numeric s (Typed n) h) z
@@ -146,6 +146,20 @@ of_wanted s n Universal (Truth b) k h i = cc
 of_wanted s n Universal (Array vs) k h i = cc
 of_wanted s n Universal (Record fs) k h i = cc
 of_wanted s n (Typed m) v k h i = subst (λ a. has_shape (type_shape s a) v ≡ true) (sym (same_number n m h)) i
+
+-- ---- the operations of Ada.Real_Time, and a call with one actual
+
+abbrev pub is_now : PredefinedOperation → Bool
+is_now predefined.Clock = true
+is_now o = false
+
+abbrev pub is_span : PredefinedOperation → Bool
+is_span predefined.Milliseconds = true
+is_span predefined.Microseconds = true
+is_span o = false
+
+abbrev pub with_argument : ExprTree → SelectorTrees
+with_argument a = MoreSelectors (Arguments (MoreArguments (tree.Value a) NoArguments)) NoSelectors
 
 -- ---- the whole
 
@@ -173,10 +187,6 @@ module _ (s : Scope) (sound : SoundScope s) where
   stands_callee first test o = ap (stands_first s) o.numbered ∙ ap (stands_for o.number) o.stands
 
   -- ---- `Clock`
-
-  abbrev pub is_now : PredefinedOperation → Bool
-  is_now predefined.Clock = true
-  is_now o = false
 
   pub clock_operation : (first : Identifier) → is_clock_entity (named_entity s first) ≡ true → IsOperation first is_now
   clock_operation first h = by_number (number_of s first.name) refl h
@@ -212,14 +222,6 @@ module _ (s : Scope) (sound : SoundScope s) where
   clock_type n e h k = cc
 
   -- ---- `Milliseconds (N)` and `Microseconds (N)`
-
-  abbrev pub is_span : PredefinedOperation → Bool
-  is_span predefined.Milliseconds = true
-  is_span predefined.Microseconds = true
-  is_span o = false
-
-  abbrev pub with_argument : ExprTree → SelectorTrees
-  with_argument a = MoreSelectors (Arguments (MoreArguments (tree.Value a) NoArguments)) NoSelectors
 
   pub record IsSpanCall (e : ExprTree) (x : PredefinedOperation × ExprTree) : Type 0 where
     pub first : Identifier

@@ -5,3 +5,15 @@ mod Initials
 mod Declared
 mod Parts
 mod Walks
+mod Lists
+mod Origins
+mod Matches
+mod Profiles
+mod Functions
+mod Declaring
+mod Globals
+mod Variables
+mod Objects
+mod Barriers
+mod Priorities
+mod Firsts

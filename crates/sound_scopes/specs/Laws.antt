@@ -1,5 +1,5 @@
 -- What legality says of the names of a package, as statements; each is the contract of a public function.
-use Rattle.std.specs.Prelude.{◌≡◌, List, [], ◌∷◌, ◌++◌, Some}
+use Rattle.std.specs.Prelude.{◌≡◌, ℕ, List, [], ◌∷◌, ◌++◌, Some}
 use Rattle.ada_tree.specs.declared.declaration.Formal.{Formal}
 use Rattle.ada_tree.specs.declared.expression.Identifier.{Identifier}
 use Rattle.ada_tree.specs.StatementTree.{DeclarationTree, SubprogramTree}
@@ -14,7 +14,12 @@ use Rattle.legality.specs.PackageBodyRules.{body_item_faults}
 use Rattle.legality.specs.PackageRules.{inside_scope, specified_scope}
 use Rattle.checking.specs.ProgramLayouts.{program_scope}
 use Rattle.checking.specs.ProgramRules.{IsLegal}
+use Rattle.ravenscar.specs.ProgramRules.{IsRestricted}
+use Rattle.kernel.specs.Invariant.{Fits}
+use Rattle.meaning.specs.Programs.{program_of, program_partition}
 use Rattle.well_typed.specs.SoundScopes.{SoundScope}
+use Rattle.sound_steps.specs.Laws.{BarriersAreOwn}
+use Rattle.sound_steps.specs.Objects.{AreSoundObjects}
 use Rattle.sound_scopes.specs.Points.{IsJudgedItem, IsObjectBody, scope_behind}
 
 -- ---- scopes
@@ -38,3 +43,18 @@ pub record ScopesAreSound : Type 0 where
   pub judged : (t : ProgramTree) (p : PackageTree) → IsLegal t → t.package_ ≡ Some p
       → (before : List BodyItemTree) (i : BodyItemTree) (behind : List BodyItemTree) → p.body.items ≡ before ++ i ∷ behind
       → IsJudgedItem t (scope_behind p before) i
+
+-- ---- what runs need beside names
+
+-- variables and components have values of their types at the start (RM 3.3.1)
+pub record ObjectsAreSound : Type 0 where
+  pub variables : (t : ProgramTree) → IsLegal t → AreSoundObjects (program_scope t) (program_of t).variables
+  pub components : (t : ProgramTree) → IsLegal t → (o : ℕ) → AreSoundObjects (program_scope t) ((program_of t).components o)
+
+-- priorities and ceilings are in their range, whatever the aspects of a program are (RM D.1, D.3)
+abbrev pub PartitionsFit : Type 0
+PartitionsFit = (t : ProgramTree) → Fits (program_partition (program_of t))
+
+-- barriers tell the same while the components of their object do (RM D.7, Simple_Barriers)
+abbrev pub BarriersAreTheirOwn : Type 0
+BarriersAreTheirOwn = (t : ProgramTree) → IsRestricted t → BarriersAreOwn (program_of t)
