@@ -309,7 +309,7 @@ module _ (v : Visible) (first : Identifier) (profile : Profile) (names : NamesPr
         none [] e = tt
         none (w ∷ ws) e = absurd cc
 
-    pub call_emits : EmitsExpression v old depth (tree.Named first (MoreSelectors (Arguments (argument_trees arguments)) NoSelectors)) new
+    pub call_emits : EmitsExpression v old depth 1 (tree.Named first (MoreSelectors (Arguments (argument_trees arguments)) NoSelectors)) new
     call_emits =
         let call = op.Call added.number in
         let next = added_here mid new height call added.adds in
@@ -339,7 +339,7 @@ module _ (v : Visible) (first : Identifier) (profile : Profile) (names : NamesPr
         empty [] e = refl
         empty (x ∷ l) e = absurd (omega (arith, e))
 
-    pub call_alone_emits : EmitsExpression v old depth (tree.Named first NoSelectors) new
+    pub call_alone_emits : EmitsExpression v old depth 1 (tree.Named first NoSelectors) new
     call_alone_emits =
         let call = op.Call added.number in
         let next = added_here old new depth call added.adds in

@@ -60,7 +60,7 @@ one_of false b e = inr e
 
 -- ---- branches behind branches
 
-module _ (v : Visible) (depth : ℕ) (a b c : Code) (one two : List Branch) (first second : List ℕ) (p : EmitsBranches v a depth one first b) (q : EmitsBranches v b depth two second c) where
+module _ (v : Visible) (depth width : ℕ) (a b c : Code) (one two : List Branch) (first second : List ℕ) (p : EmitsBranches v a depth width one first b) (q : EmitsBranches v b depth width two second c) where
   front : (xs ys : List Branch) (rest : ElsifValueTrees) → in_front (xs ++ ys) rest ≡ in_front xs (in_front ys rest)
   front [] ys rest = refl
   front (x ∷ xs) ys rest = ap (MoreElsifValues x.condition x.value) (front xs ys rest)
@@ -76,14 +76,14 @@ module _ (v : Visible) (depth : ℕ) (a b c : Code) (one two : List Branch) (fir
       by true e = absurd (omega (arith, less, (q.inside k e).0))
       by false e = e
 
-  before : (i : Sections) (end : ℕ) → Joins i (here a) (first ++ second) end (depth + 1) c → Joins i (here a) first end (depth + 1) b
+  before : (i : Sections) (end : ℕ) → Joins i (here a) (first ++ second) end (depth + width) c → Joins i (here a) first end (depth + width) b
   before i end j = record {
     others = λ k x le none is.
         j.others k x le (among_both first second k ∙ (λ t. none t || apart k (shorter b.instructions.items k x is) t)) (q.extends.instructions k x (omega arith) is);
     jumps = λ k is. j.jumps k (among_both first second k ∙ ap (λ t. t || is_among second k) is);
   }
 
-  behind : (i : Sections) (end : ℕ) → Joins i (here a) (first ++ second) end (depth + 1) c → Joins i (here b) second end (depth + 1) c
+  behind : (i : Sections) (end : ℕ) → Joins i (here a) (first ++ second) end (depth + width) c → Joins i (here b) second end (depth + width) c
   behind i end j = record {
     others = λ k x le none is. j.others k x (omega (arith, le, p.extends.longer)) (among_both first second k ∙ (λ t. early k le t || none t)) is;
     jumps = λ k is. j.jumps k (among_both first second k ∙ ap (λ t. is_among first k || t) is ∙ last (is_among first k));
@@ -100,7 +100,7 @@ module _ (v : Visible) (depth : ℕ) (a b c : Code) (one two : List Branch) (fir
       last true = refl
       last false = refl
 
-  pub branches_then : EmitsBranches v a depth (one ++ two) (first ++ second) c
+  pub branches_then : EmitsBranches v a depth width (one ++ two) (first ++ second) c
   branches_then = record {
     extends = extends_trans a b c p.extends q.extends;
     sized = omega (arith, p.sized, q.sized, sizes one two);
@@ -119,12 +119,12 @@ module _ (v : Visible) (depth : ℕ) (a b c : Code) (one two : List Branch) (fir
       within k (inl e) = let w = p.inside k e in (w.0, omega (arith, w.1, q.extends.longer))
       within k (inr e) = let w = q.inside k e in (omega (arith, w.0, p.extends.longer), w.1)
 
-      waiting : (k : ℕ) → (is_among first k ≡ true) ⊎ (is_among second k ≡ true) → slice_get c.instructions.items k ≡ Some (record { depth = depth + 1; operation = op.Jump 0 })
+      waiting : (k : ℕ) → (is_among first k ≡ true) ⊎ (is_among second k ≡ true) → slice_get c.instructions.items k ≡ Some (record { depth = depth + width; operation = op.Jump 0 })
       waiting k (inl e) = q.extends.instructions k _ (omega arith) (p.waits k e)
       waiting k (inr e) = q.waits k e
 
-pub no_branches : (v : Visible) (c : Code) (depth : ℕ) → EmitsBranches v c depth [] [] c
-no_branches v c depth = record {
+pub no_branches : (v : Visible) (c : Code) (depth width : ℕ) → EmitsBranches v c depth width [] [] c
+no_branches v c depth width = record {
   extends = record { instructions = λ k x le h. h; longer = omega arith; deeper = omega arith };
   sized = omega arith;
   inside = λ k is. absurd cc;
@@ -135,9 +135,9 @@ no_branches v c depth = record {
 
 -- ---- one branch
 
-module _ (v : Visible) (depth : ℕ) (start tested jumped valued closed new : Code) (x : Operation) (condition value : ExprTree)
-    (first : EmitsExpression v start depth condition tested) (jump : Adds tested (depth + 1) x jumped) (second : EmitsExpression v jumped depth value valued)
-    (close : Adds valued (depth + 1) (op.Jump 0) closed) (n : ℕ) (next_is : n ≡ here closed) (patch : Patches closed (here tested) (op.JumpIfZero n) new) where
+module _ (v : Visible) (depth width : ℕ) (start tested jumped valued closed new : Code) (x : Operation) (condition value : ExprTree)
+    (first : EmitsExpression v start depth 1 condition tested) (jump : Adds tested (depth + 1) x jumped) (second : EmitsExpression v jumped depth width value valued)
+    (close : Adds valued (depth + width) (op.Jump 0) closed) (n : ℕ) (next_is : n ≡ here closed) (patch : Patches closed (here tested) (op.JumpIfZero n) new) where
   abbrev branch : Branch
   branch = record { condition = condition; value = value }
 
@@ -145,13 +145,13 @@ module _ (v : Visible) (depth : ℕ) (start tested jumped valued closed new : Co
   two = added_here tested jumped (depth + 1) x jump
 
   four : here closed ≡ suc (here valued)
-  four = added_here valued closed (depth + 1) (op.Jump 0) close
+  four = added_here valued closed (depth + width) (op.Jump 0) close
 
   end_is : here new ≡ here closed
   end_is = patched_here closed new (here tested) (op.JumpIfZero n) patch
 
   jumped_extends : Extends jumped closed
-  jumped_extends = extends_trans jumped valued closed second.extends (added_extends valued closed (depth + 1) (op.Jump 0) close)
+  jumped_extends = extends_trans jumped valued closed second.extends (added_extends valued closed (depth + width) (op.Jump 0) close)
 
   tested_extends : Extends tested new
   tested_extends = patched_extends closed new (here tested) (op.JumpIfZero n) patch tested (omega arith) (extends_trans tested jumped closed (added_extends tested jumped (depth + 1) x jump) jumped_extends)
@@ -171,7 +171,7 @@ module _ (v : Visible) (depth : ℕ) (start tested jumped valued closed new : Co
       was : slice_get jumped.instructions.items (here tested) ≡ Some it
       was = ap (λ l. slice_get l (here tested)) jump.instructions ∙ get_last tested.instructions.items it
 
-  close_there : slice_get new.instructions.items (here valued) ≡ Some (record { depth = depth + 1; operation = op.Jump 0 })
+  close_there : slice_get new.instructions.items (here valued) ≡ Some (record { depth = depth + width; operation = op.Jump 0 })
   close_there =
       patched_other closed new (here tested) (op.JumpIfZero n) patch (here valued) (λ e. absurd (omega (arith, e, two, second.extends.longer)))
       ∙ ap (λ l. slice_get l (here valued)) close.instructions ∙ get_last valued.instructions.items _
@@ -183,7 +183,7 @@ module _ (v : Visible) (depth : ℕ) (start tested jumped valued closed new : Co
       by true e = absurd (let same : here valued ≡ k = same_nat (here valued) k e in omega (arith, less, same))
       by false e = refl
 
-  module _ (i : Sections) (end : ℕ) (up : here new ≤ end) (j : Joins i (here start) (here valued ∷ []) end (depth + 1) new) where
+  module _ (i : Sections) (end : ℕ) (up : here new ≤ end) (j : Joins i (here start) (here valued ∷ []) end (depth + width) new) where
     in_tested : Holds i (here start) tested
     in_tested = λ k y le is.
         j.others k y le (alone k (let less = shorter tested.instructions.items k y is in omega (arith, less, two, second.extends.longer))) (tested_extends.instructions k y (omega arith) is)
@@ -193,15 +193,15 @@ module _ (v : Visible) (depth : ℕ) (start tested jumped valued closed new : Co
         let less = shorter valued.instructions.items k y is in
         j.others k y (omega (arith, le, two, first.extends.longer)) (alone k less)
         (patched_other closed new (here tested) (op.JumpIfZero n) patch k (λ e. absurd (omega (arith, e, le, two)))
-        ∙ (added_extends valued closed (depth + 1) (op.Jump 0) close).instructions k y (omega arith) is)
+        ∙ (added_extends valued closed (depth + width) (op.Jump 0) close).instructions k y (omega arith) is)
 
     at_test : slice_get i.instructions (here tested) ≡ Some (record { depth = depth + 1; operation = op.JumpIfZero n })
     at_test = j.others (here tested) _ first.extends.longer (alone (here tested) (omega (arith, two, second.extends.longer))) test_there
 
-    at_close : slice_get i.instructions (here valued) ≡ Some (record { depth = depth + 1; operation = op.Jump end })
+    at_close : slice_get i.instructions (here valued) ≡ Some (record { depth = depth + width; operation = op.Jump end })
     at_close = j.jumps (here valued) (ap (λ t. t || false) (same_self (here valued)))
 
-  pub branch_emits : EmitsBranches v start depth (branch ∷ []) (here valued ∷ []) new
+  pub branch_emits : EmitsBranches v start depth width (branch ∷ []) (here valued ∷ []) new
   branch_emits = record {
     extends = extends_trans start tested new first.extends tested_extends;
     sized = omega (arith, first.sized, second.sized, two, four, end_is);
@@ -219,23 +219,24 @@ module _ (v : Visible) (depth : ℕ) (start tested jumped valued closed new : Co
           first.computes i (in_tested i end up j) unit,
           subst (λ m. At i (here tested) (op.JumpIfZero m)) next (depth + 1, at_test i end up j),
           subst (λ m. Computes i (library_of unit) (Sees unit v) m (here valued) value) (let p : here jumped ≡ here tested + 1 = omega (arith, two) in p) (second.computes i (in_valued i end up j) unit),
-          (depth + 1, at_close i end up j),
+          (depth + width, at_close i end up j),
           code,
         );
     flows = λ i s end up j suits deep high ends next.
         let to : n ≡ here new = next_is ∙ sym end_is in
         let deepest : closed.deepest ≤ s.stack = omega (arith, ap (λ m. m) patch.deepest, deep) in
-        let closing = kept_one i s (here start) end (here valued) (depth + 1) (depth + 1) (op.Jump end) (at_close i end up j) high high refl refl (omega arith) (omega arith) refl
-        (λ e. absurd cc) (λ a e. let same : a ≡ end = jump_same a end e in (omega (arith, same, up, end_is, four, second.extends.longer, two, first.extends.longer), omega (arith, same), ap (λ m. has_depth i m (depth + 1)) same ∙ ends)) in
-        let in_value = second.flows.flows i s (in_valued i end up j) suits (omega (arith, (added_extends valued closed (depth + 1) (op.Jump 0) close).deeper, deepest)) high closing.begins in
+        let low : depth + 1 ≤ s.stack = omega (arith, jump.within, jumped_extends.deeper, deepest) in
+        let closing = kept_one i s (here start) end (here valued) (depth + width) (depth + width) (op.Jump end) (at_close i end up j) high high refl refl (omega arith) (omega arith) refl
+        (λ e. absurd cc) (λ a e. let same : a ≡ end = jump_same a end e in (omega (arith, same, up, end_is, four, second.extends.longer, two, first.extends.longer), omega (arith, same), ap (λ m. has_depth i m (depth + width)) same ∙ ends)) in
+        let in_value = second.flows.flows i s (in_valued i end up j) suits (omega (arith, (added_extends valued closed (depth + width) (op.Jump 0) close).deeper, deepest)) high closing.begins in
         let value_kept = widened i s (here jumped) (here valued) (here start) end (here jumped) (here valued) depth (omega (arith, two, first.extends.longer)) (omega (arith, up, end_is, four)) in_value in
-        let testing = kept_one i s (here start) end (here tested) (depth + 1) depth (op.JumpIfZero n) (at_test i end up j) high (omega (arith, high)) refl refl (omega arith) (omega arith) refl
+        let testing = kept_one i s (here start) end (here tested) (depth + 1) depth (op.JumpIfZero n) (at_test i end up j) low (omega (arith, low)) refl refl (omega arith) (omega arith) refl
         (λ e. ap (λ m. has_depth i m depth) (sym two) ∙ value_kept.begins)
         (λ a e. let same : a ≡ here new = test_same a n e ∙ to in (omega (arith, same, end_is, four, second.extends.longer, two, first.extends.longer), omega (arith, same, up), ap (λ m. has_depth i m depth) same ∙ next)) in
-        let in_test = first.flows.flows i s (in_tested i end up j) suits (omega (arith, tested_extends.deeper, deep)) high testing.begins in
+        let in_test = first.flows.flows i s (in_tested i end up j) suits (omega (arith, tested_extends.deeper, deep)) low testing.begins in
         let test_kept = widened i s (here start) (here tested) (here start) end (here start) (here tested) depth (omega arith) (omega (arith, two, second.extends.longer, four, end_is, up)) in_test in
-        let last = subst (λ m. AreKept i s (here start) end (here valued) m (depth + 1)) (sym (end_is ∙ four)) closing in
-        let tail = kept_then i s (here start) end (here jumped) (here valued) (here new) depth (depth + 1) value_kept last in
+        let last = subst (λ m. AreKept i s (here start) end (here valued) m (depth + width)) (sym (end_is ∙ four)) closing in
+        let tail = kept_then i s (here start) end (here jumped) (here valued) (here new) depth (depth + width) value_kept last in
         let middle = subst (λ m. AreKept i s (here start) end (here tested) m (depth + 1)) (sym two) testing in
         kept_then i s (here start) end (here start) (here tested) (here new) depth (depth + 1) test_kept (kept_then i s (here start) end (here tested) (here jumped) (here new) (depth + 1) depth middle tail);
   }
@@ -255,18 +256,18 @@ module _ (v : Visible) (depth : ℕ) (start tested jumped valued closed new : Co
 
 -- ---- the whole
 
-module _ (quiet : QuietStays) (v : Visible) (depth place n : ℕ) (start branched valued new : Code) (condition value : ExprTree) (all : List Branch) (elsifs : ElsifValueTrees) (last : ExprTree) (waiting : List ℕ)
-    (p : EmitsBranches v start depth (record { condition = condition; value = value } ∷ all) waiting branched) (q : EmitsExpression v branched depth last valued)
+module _ (quiet : QuietStays) (v : Visible) (depth width place n : ℕ) (start branched valued new : Code) (condition value : ExprTree) (all : List Branch) (elsifs : ElsifValueTrees) (last : ExprTree) (waiting : List ℕ)
+    (p : EmitsBranches v start depth width (record { condition = condition; value = value } ∷ all) waiting branched) (q : EmitsExpression v branched depth width last valued)
     (elsifs_are : in_front all NoElsifValues ≡ elsifs) (n_is : n ≡ here valued) (r : Rejoins valued waiting n new) where
   end : n ≡ here new
   end = n_is ∙ sym r.long
 
-  joins : (i : Sections) → Holds i (here start) new → Joins i (here start) waiting (here new) (depth + 1) branched
+  joins : (i : Sections) → Holds i (here start) new → Joins i (here start) waiting (here new) (depth + width) branched
   joins i h = record {
     others = λ k x le none is. h k x le (r.others k none ∙ q.extends.instructions k x (omega arith) is);
     jumps = λ k is.
-        let at = r.jumps k (record { depth = depth + 1; operation = op.Jump 0 }) is (q.extends.instructions k _ (omega arith) (p.waits k is)) in
-        h k _ (p.inside k is).0 (at ∙ ap (λ m. Some (record { depth = depth + 1; operation = op.Jump m })) end);
+        let at = r.jumps k (record { depth = depth + width; operation = op.Jump 0 }) is (q.extends.instructions k _ (omega arith) (p.waits k is)) in
+        h k _ (p.inside k is).0 (at ∙ ap (λ m. Some (record { depth = depth + width; operation = op.Jump m })) end);
   }
 
   later : (i : Sections) → Holds i (here start) new → Holds i (here branched) valued
@@ -279,7 +280,7 @@ module _ (quiet : QuietStays) (v : Visible) (depth place n : ℕ) (start branche
           by true e = absurd (omega (arith, le, (p.inside k e).1))
           by false e = e
 
-  pub conditional_emits : EmitsExpression v start depth (tree.Conditional place condition value elsifs last) new
+  pub conditional_emits : EmitsExpression v start depth width (tree.Conditional place condition value elsifs last) new
   conditional_emits = record {
     extends = record {
       instructions = λ k x le is. r.others k (front k x is) ∙ (extends_trans start branched valued p.extends q.extends).instructions k x le is;
@@ -295,7 +296,7 @@ module _ (quiet : QuietStays) (v : Visible) (depth place n : ℕ) (start branche
     flows = record {
       flows = λ i s h suits deep high ends.
           let deepest : valued.deepest ≤ s.stack = omega (arith, ap (λ m. m) r.deepest, deep) in
-          let in_last = q.flows.flows i s (later i h) suits deepest high (ap (λ m. has_depth i m (depth + 1)) (sym r.long) ∙ ends) in
+          let in_last = q.flows.flows i s (later i h) suits deepest high (ap (λ m. has_depth i m (depth + width)) (sym r.long) ∙ ends) in
           let last_kept = widened i s (here branched) (here valued) (here start) (here new) (here branched) (here valued) depth p.extends.longer (omega (arith, r.long)) in_last in
           let front = p.flows i s (here new) (omega (arith, q.extends.longer, r.long)) (joins i h) suits (omega (arith, q.extends.deeper, deepest)) high ends in_last.begins in
           kept_then i s (here start) (here new) (here start) (here branched) (here new) depth depth front (subst (λ m. AreKept i s (here start) (here new) (here branched) m depth) (sym r.long) last_kept);
@@ -391,21 +392,21 @@ all_rejoined old c places n end up r = subst (λ l. Rejoins old l end c) (take_a
 
 -- ---- branches in a loop
 
-pub adds_first : (v : Visible) (old new : Code) (depth : ℕ) (b : Branch) (before after : List ℕ) (place : ℕ) → after ≡ before ++ place ∷ [] → EmitsBranches v old depth (b ∷ []) (place ∷ []) new → AddsBranches v old depth (b ∷ []) before after new
-adds_first v old new depth b before after place is e = record { waiting = place ∷ []; after_is = is; emits = e }
+pub adds_first : (v : Visible) (old new : Code) (depth width : ℕ) (b : Branch) (before after : List ℕ) (place : ℕ) → after ≡ before ++ place ∷ [] → EmitsBranches v old depth width (b ∷ []) (place ∷ []) new → AddsBranches v old depth width (b ∷ []) before after new
+adds_first v old new depth width b before after place is e = record { waiting = place ∷ []; after_is = is; emits = e }
 
-pub adds_none : (v : Visible) (c : Code) (depth : ℕ) (waiting : List ℕ) → AddsBranches v c depth [] waiting waiting c
-adds_none v c depth waiting = record { waiting = []; after_is = sym (append_none waiting); emits = no_branches v c depth }
+pub adds_none : (v : Visible) (c : Code) (depth width : ℕ) (waiting : List ℕ) → AddsBranches v c depth width [] waiting waiting c
+adds_none v c depth width waiting = record { waiting = []; after_is = sym (append_none waiting); emits = no_branches v c depth width }
   where
     append_none : (xs : List ℕ) → xs ++ [] ≡ xs
     append_none [] = refl
     append_none (x ∷ xs) = ap (λ l. x ∷ l) (append_none xs)
 
-pub adds_then : (v : Visible) (a b c : Code) (depth : ℕ) (one two : List Branch) (before mid after : List ℕ) → AddsBranches v a depth one before mid b → AddsBranches v b depth two mid after c → AddsBranches v a depth (one ++ two) before after c
-adds_then v a b c depth one two before mid after p q = record {
+pub adds_then : (v : Visible) (a b c : Code) (depth width : ℕ) (one two : List Branch) (before mid after : List ℕ) → AddsBranches v a depth width one before mid b → AddsBranches v b depth width two mid after c → AddsBranches v a depth width (one ++ two) before after c
+adds_then v a b c depth width one two before mid after p q = record {
   waiting = p.waiting ++ q.waiting;
   after_is = q.after_is ∙ ap (λ l. l ++ q.waiting) p.after_is ∙ append_again before p.waiting q.waiting;
-  emits = branches_then v depth a b c one two p.waiting q.waiting p.emits q.emits;
+  emits = branches_then v depth width a b c one two p.waiting q.waiting p.emits q.emits;
 }
   where
     append_again : (xs ys zs : List ℕ) → (xs ++ ys) ++ zs ≡ xs ++ (ys ++ zs)
@@ -423,39 +424,39 @@ branch_next f all n x less is =
 
 -- ---- the whole, as its methods add it
 
-module _ (v : Visible) (depth n : ℕ) (start one branched valued new : Code) (condition value : ExprTree) (elsifs : List ElsifValue) (last : ExprTree) (first all : List ℕ)
-    (p : AddsBranches v start depth (record { condition = condition; value = value } ∷ []) [] first one) (q : AddsBranches v one depth (map branch_of elsifs) first all branched) (e : EmitsExpression v branched depth last valued) where
-  both : AddsBranches v start depth (record { condition = condition; value = value } ∷ map branch_of elsifs) [] all branched
-  both = adds_then v start one branched depth (record { condition = condition; value = value } ∷ []) (map branch_of elsifs) [] first all p q
+module _ (v : Visible) (depth width n : ℕ) (start one branched valued new : Code) (condition value : ExprTree) (elsifs : List ElsifValue) (last : ExprTree) (first all : List ℕ)
+    (p : AddsBranches v start depth width (record { condition = condition; value = value } ∷ []) [] first one) (q : AddsBranches v one depth width (map branch_of elsifs) first all branched) (e : EmitsExpression v branched depth width last valued) where
+  both : AddsBranches v start depth width (record { condition = condition; value = value } ∷ map branch_of elsifs) [] all branched
+  both = adds_then v start one branched depth width (record { condition = condition; value = value } ∷ []) (map branch_of elsifs) [] first all p q
 
   -- the jumps that wait stand in the code
   pub waiting_there : (k : ℕ) → is_among all k ≡ true → k < here valued
   waiting_there k is = let inside = both.emits.inside k (ap (λ l. is_among l k) (sym both.after_is) ∙ is) in omega (arith, inside.1, e.extends.longer)
 
-  pub whole_emits : QuietStays → n ≡ here valued → Rejoins valued all n new → (place : ℕ) → EmitsExpression v start depth (tree.Conditional place condition value (elsif_value_trees elsifs) last) new
+  pub whole_emits : QuietStays → n ≡ here valued → Rejoins valued all n new → (place : ℕ) → EmitsExpression v start depth width (tree.Conditional place condition value (elsif_value_trees elsifs) last) new
   whole_emits quiet n_is r place =
-      conditional_emits quiet v depth place n start branched valued new condition value (map branch_of elsifs) (elsif_value_trees elsifs) last both.waiting both.emits e (branches_are elsifs) n_is
+      conditional_emits quiet v depth width place n start branched valued new condition value (map branch_of elsifs) (elsif_value_trees elsifs) last both.waiting both.emits e (branches_are elsifs) n_is
       (subst (λ l. Rejoins valued l n new) both.after_is r)
 
 -- a branch, as its methods add it
-pub branch_closed : (v : Visible) (depth place : ℕ) (start tested jumped valued new : Code) (condition value : ExprTree) (before after : List ℕ)
-    → place ≡ here tested
-    → EmitsExpression v start depth condition tested → Adds tested (depth + 1) (op.JumpIfZero 0) jumped → EmitsExpression v jumped depth value valued → Closes valued depth place before after new
-    → AddsBranches v start depth (record { condition = condition; value = value } ∷ []) before after new
-branch_closed v depth place start tested jumped valued new condition value before after there first jump second c =
-    adds_first v start new depth (record { condition = condition; value = value }) before after (here valued) c.waits
-    (branch_emits v depth start tested jumped valued c.closed new (op.JumpIfZero 0) condition value first jump second c.adds (here c.closed) refl
+pub branch_closed : (v : Visible) (depth width height place : ℕ) (start tested jumped valued new : Code) (condition value : ExprTree) (before after : List ℕ)
+    → height ≡ depth + width → place ≡ here tested
+    → EmitsExpression v start depth 1 condition tested → Adds tested (depth + 1) (op.JumpIfZero 0) jumped → EmitsExpression v jumped depth width value valued → Closes valued height place before after new
+    → AddsBranches v start depth width (record { condition = condition; value = value } ∷ []) before after new
+branch_closed v depth width height place start tested jumped valued new condition value before after high there first jump second c =
+    adds_first v start new depth width (record { condition = condition; value = value }) before after (here valued) c.waits
+    (branch_emits v depth width start tested jumped valued c.closed new (op.JumpIfZero 0) condition value first jump second (subst (λ n. Adds valued n (op.Jump 0) c.closed) high c.adds) (here c.closed) refl
     (subst (λ n. Patches c.closed n (op.JumpIfZero (here c.closed)) new) there c.patches))
 
-pub branches_next : (v : Visible) (start c d : Code) (depth : ℕ) (all : List ElsifValue) (n : ℕ) (x : ElsifValue) (before mid after : List ℕ) → n < length all → x ≡ get_or all n x
-    → AddsBranches v start depth (map branch_of (take n all)) before mid c → AddsBranches v c depth (record { condition = expr_tree x.condition; value = expr_tree x.value } ∷ []) mid after d
-    → AddsBranches v start depth (map branch_of (take (n + 1) all)) before after d
-branches_next v start c d depth all n x before mid after less is p q =
-    subst (λ l. AddsBranches v start depth l before after d) (sym (branch_next branch_of all n x less is)) (adds_then v start c d depth (map branch_of (take n all)) (branch_of x ∷ []) before mid after p q)
+pub branches_next : (v : Visible) (start c d : Code) (depth width : ℕ) (all : List ElsifValue) (n : ℕ) (x : ElsifValue) (before mid after : List ℕ) → n < length all → x ≡ get_or all n x
+    → AddsBranches v start depth width (map branch_of (take n all)) before mid c → AddsBranches v c depth width (record { condition = expr_tree x.condition; value = expr_tree x.value } ∷ []) mid after d
+    → AddsBranches v start depth width (map branch_of (take (n + 1) all)) before after d
+branches_next v start c d depth width all n x before mid after less is p q =
+    subst (λ l. AddsBranches v start depth width l before after d) (sym (branch_next branch_of all n x less is)) (adds_then v start c d depth width (map branch_of (take n all)) (branch_of x ∷ []) before mid after p q)
 
-pub all_branches : (v : Visible) (start c : Code) (depth : ℕ) (all : List ElsifValue) (n : ℕ) (before after : List ℕ) → length all ≤ n → AddsBranches v start depth (map branch_of (take n all)) before after c
-    → AddsBranches v start depth (map branch_of all) before after c
-all_branches v start c depth all n before after up p = subst (λ l. AddsBranches v start depth (map branch_of l) before after c) (take_all all n up) p
+pub all_branches : (v : Visible) (start c : Code) (depth width : ℕ) (all : List ElsifValue) (n : ℕ) (before after : List ℕ) → length all ≤ n → AddsBranches v start depth width (map branch_of (take n all)) before after c
+    → AddsBranches v start depth width (map branch_of all) before after c
+all_branches v start c depth width all n before after up p = subst (λ l. AddsBranches v start depth width (map branch_of l) before after c) (take_all all n up) p
   where
     take_all : (xs : List ElsifValue) (n : ℕ) → length xs ≤ n → take n xs ≡ xs
     take_all [] zero up = refl
@@ -463,16 +464,16 @@ all_branches v start c depth all n before after up p = subst (λ l. AddsBranches
     take_all (x ∷ xs) zero up = absurd (omega (arith, up))
     take_all (x ∷ xs) (suc n) up = ap (λ l. x ∷ l) (take_all xs n (omega (arith, up)))
 
-module _ (v : Visible) (depth n : ℕ) (start one branched valued new : Code) (condition value : ExprTree) (elsifs : List ElsifValue) (last : ExprTree) (none first all places : List ℕ) (is_none : none ≡ []) (same : places ≡ all)
-    (p : AddsBranches v start depth (record { condition = condition; value = value } ∷ []) none first one) (q : AddsBranches v one depth (map branch_of elsifs) first all branched) (e : EmitsExpression v branched depth last valued) where
-  begun : AddsBranches v start depth (record { condition = condition; value = value } ∷ []) [] first one
-  begun = subst (λ l. AddsBranches v start depth (record { condition = condition; value = value } ∷ []) l first one) is_none p
+module _ (v : Visible) (depth width n : ℕ) (start one branched valued new : Code) (condition value : ExprTree) (elsifs : List ElsifValue) (last : ExprTree) (none first all places : List ℕ) (is_none : none ≡ []) (same : places ≡ all)
+    (p : AddsBranches v start depth width (record { condition = condition; value = value } ∷ []) none first one) (q : AddsBranches v one depth width (map branch_of elsifs) first all branched) (e : EmitsExpression v branched depth width last valued) where
+  begun : AddsBranches v start depth width (record { condition = condition; value = value } ∷ []) [] first one
+  begun = subst (λ l. AddsBranches v start depth width (record { condition = condition; value = value } ∷ []) l first one) is_none p
 
   pub waiting_at : (k : ℕ) → is_among places k ≡ true → k < here valued
-  waiting_at k is = waiting_there v depth n start one branched valued new condition value elsifs last first all begun q e k (ap (λ l. is_among l k) (sym same) ∙ is)
+  waiting_at k is = waiting_there v depth width n start one branched valued new condition value elsifs last first all begun q e k (ap (λ l. is_among l k) (sym same) ∙ is)
 
-  pub whole_at : QuietStays → n ≡ here valued → Rejoins valued places n new → (place : ℕ) → EmitsExpression v start depth (tree.Conditional place condition value (elsif_value_trees elsifs) last) new
-  whole_at quiet n_is r place = whole_emits v depth n start one branched valued new condition value elsifs last first all begun q e quiet n_is (subst (λ l. Rejoins valued l n new) same r) place
+  pub whole_at : QuietStays → n ≡ here valued → Rejoins valued places n new → (place : ℕ) → EmitsExpression v start depth width (tree.Conditional place condition value (elsif_value_trees elsifs) last) new
+  whole_at quiet n_is r place = whole_emits v depth width n start one branched valued new condition value elsifs last first all begun q e quiet n_is (subst (λ l. Rejoins valued l n new) same r) place
 
 pub conditional_legal : (s : Scope) (e : ExprTree) (place : ℕ) (condition value : ExprTree) (elsifs : List ElsifValue) (last : ExprTree) → e ≡ tree.Conditional place condition value (elsif_value_trees elsifs) last → IsLegal s e
     → PartsAreLegal s condition value (map branch_of elsifs) last

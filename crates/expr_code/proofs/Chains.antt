@@ -51,7 +51,7 @@ legal_at s (o ∷ all) (suc n) x less is h = legal_at s all n x (omega (arith, l
 
 -- of an operator that takes both
 pub operand_emits : (quiet : QuietStays) (v : Visible) (old most new : Code) (depth : ℕ) (o : Operand) (x : Operation) → binary_operation o.operator ≡ Some x
-    → EmitsExpression v old (depth + 1) (expr_tree o.value) most → Adds most (depth + 1 + 1) x new → EmitsOperands v old depth (o ∷ []) new
+    → EmitsExpression v old (depth + 1) 1 (expr_tree o.value) most → Adds most (depth + 1 + 1) x new → EmitsOperands v old depth (o ∷ []) new
 operand_emits quiet v old most new depth o x is second added = record {
   emits = λ start left first legal. binary_emits quiet v start old most new depth o.operator x left (expr_tree o.value) is first second added;
 }
@@ -59,11 +59,11 @@ operand_emits quiet v old most new depth o x is second added = record {
 -- of one that may leave out the right one
 module _ (quiet : QuietStays) (laws : ExpressionsAreTyped) (v : Visible) (old copied jumped dropped done new : Code) (depth n : ℕ) (x : Operation) (o : Operand)
     (copy : Adds old (depth + 1) op.Duplicate copied) (jump : Adds copied (depth + 1 + 1) x jumped) (drop : Adds jumped (depth + 1) op.Drop dropped)
-    (right : EmitsExpression v dropped depth (expr_tree o.value) done) (end : n ≡ here done) where
+    (right : EmitsExpression v dropped depth 1 (expr_tree o.value) done) (end : n ≡ here done) where
   pub or_else_operand : o.operator ≡ binary.OrElse → Patches done (here copied) (op.JumpIfNotZero n) new → EmitsOperands v old depth (o ∷ []) new
   or_else_operand is patch = record {
     emits = λ start left first legal.
-        subst (λ y. EmitsExpression v start depth (tree.Binary y left (expr_tree o.value)) new) (sym is)
+        subst (λ y. EmitsExpression v start depth 1 (tree.Binary y left (expr_tree o.value)) new) (sym is)
         (or_else_emits quiet laws v start old copied jumped dropped done new depth n x left (expr_tree o.value) first copy jump drop right end
         (subst (λ y. IsLegal v.scope (tree.Binary y left (expr_tree o.value))) is legal) patch);
   }
@@ -78,7 +78,7 @@ module _ (quiet : QuietStays) (laws : ExpressionsAreTyped) (v : Visible) (old co
       let is = and_then_is o.operator short other in
       record {
         emits = λ start left first legal.
-            subst (λ y. EmitsExpression v start depth (tree.Binary y left (expr_tree o.value)) new) (sym is)
+            subst (λ y. EmitsExpression v start depth 1 (tree.Binary y left (expr_tree o.value)) new) (sym is)
             (and_then_emits quiet laws v start old copied jumped dropped done new depth n x left (expr_tree o.value) first copy jump drop right end
             (subst (λ y. IsLegal v.scope (tree.Binary y left (expr_tree o.value))) is legal) patch);
       }
@@ -94,7 +94,7 @@ one_emitted v start c d depth all n x less is h g = record {
   emits = λ first left e legal.
       let next = chain_next left all n x less is in
       let whole = subst (IsLegal v.scope) next legal in
-      subst (λ t. EmitsExpression v first depth t d) (sym next)
+      subst (λ t. EmitsExpression v first depth 1 t d) (sym next)
       (g.emits first (chain_tree left (take n all)) (h.emits first left e (legal_left v.scope x.operator (chain_tree left (take n all)) (expr_tree x.value) whole)) whole);
 }
 
@@ -116,22 +116,22 @@ module _ (v : Visible) (e left : ExprTree) (second : Operand) (more : List Opera
   pub more_legal : AreLegal v.scope more
   more_legal = parts.1.1
 
-  pub chain_emits : (old one two new : Code) (depth : ℕ) → EmitsExpression v old depth left one → EmitsOperands v one depth (second ∷ []) two → EmitsOperands v two depth more new → EmitsExpression v old depth e new
+  pub chain_emits : (old one two new : Code) (depth : ℕ) → EmitsExpression v old depth 1 left one → EmitsOperands v one depth (second ∷ []) two → EmitsOperands v two depth more new → EmitsExpression v old depth 1 e new
   chain_emits old one two new depth first next last =
       let whole = subst (IsLegal v.scope) same legal in
       let pair = (legal_chain v.scope (tree.Binary second.operator left (expr_tree second.value)) more whole).0 in
-      subst (λ x. EmitsExpression v old depth x new) (sym same) (last.emits old (tree.Binary second.operator left (expr_tree second.value)) (next.emits old left first pair) whole)
+      subst (λ x. EmitsExpression v old depth 1 x new) (sym same) (last.emits old (tree.Binary second.operator left (expr_tree second.value)) (next.emits old left first pair) whole)
 
 -- ---- where depths and places are told by equations
 
 pub operand_at : (quiet : QuietStays) (v : Visible) (old most new : Code) (depth second third : ℕ) (o : Operand) (x : Operation) → second ≡ depth + 1 → third ≡ second + 1 → binary_operation o.operator ≡ Some x
-    → EmitsExpression v old second (expr_tree o.value) most → Adds most third x new → EmitsOperands v old depth (o ∷ []) new
+    → EmitsExpression v old second 1 (expr_tree o.value) most → Adds most third x new → EmitsOperands v old depth (o ∷ []) new
 operand_at quiet v old most new depth second third o x p q is e a =
-    operand_emits quiet v old most new depth o x is (subst (λ n. EmitsExpression v old n (expr_tree o.value) most) p e) (subst (λ n. Adds most n x new) (q ∙ ap (λ n. n + 1) p) a)
+    operand_emits quiet v old most new depth o x is (subst (λ n. EmitsExpression v old n 1 (expr_tree o.value) most) p e) (subst (λ n. Adds most n x new) (q ∙ ap (λ n. n + 1) p) a)
 
 module _ (quiet : QuietStays) (laws : ExpressionsAreTyped) (v : Visible) (old copied jumped dropped done new : Code) (depth one two place n : ℕ) (x : Operation) (o : Operand)
     (p : one ≡ depth + 1) (q : two ≡ one + 1) (r : place ≡ here copied) (copy : Adds old one op.Duplicate copied) (jump : Adds copied two x jumped) (drop : Adds jumped one op.Drop dropped)
-    (right : EmitsExpression v dropped depth (expr_tree o.value) done) (end : n ≡ here done) where
+    (right : EmitsExpression v dropped depth 1 (expr_tree o.value) done) (end : n ≡ here done) where
   first : Adds old (depth + 1) op.Duplicate copied
   first = subst (λ m. Adds old m op.Duplicate copied) p copy
 

@@ -69,10 +69,10 @@ shaped : ExpressionsAreTyped → (v : Visible) (t : Subtype) (e : ExprTree) → 
 shaped laws v t e h calls p agrees answers x is = subtype_values v.scope t x ∙ ap (suits v.scope (Typed t.type_number)) (sym is) ∙ suited laws v t e h calls p agrees answers
 
 -- numbers and truth values take one word
-single_number : ValuesHaveWords → (s : Scope) (t : Subtype) → form_at s t.type_number ≡ Some Integers → words_of s t ≡ 1
-single_number words s t form =
+pub single_number : ValuesHaveWords → (s : Scope) (t : Subtype) → is_integers (form_at s t.type_number) ≡ true → words_of s t ≡ 1
+single_number words s t integers =
     let own = Typed t.type_number in
-    let has = subtype_values s t (Number (pos 0)) ∙ numeric_value s own (integral_numeric s own (ap is_integers form)) (Number (pos 0)) in
+    let has = subtype_values s t (Number (pos 0)) ∙ numeric_value s own (integral_numeric s own integers) (Number (pos 0)) in
     sym (words (shape_of s t) (Number (pos 0)) has).sized
 
 single_truth : ValuesHaveWords → (s : Scope) (t : Subtype) → form_at s t.type_number ≡ Some Booleans → words_of s t ≡ 1
@@ -90,7 +90,7 @@ module _ (laws : ExpressionsAreTyped) (i : Sections) (v : Visible) (unit : Packa
       let b = as_truth v.scope (Typed t.type_number) x (ap is_booleans form) (ap (suits v.scope (Typed t.type_number)) (sym is) ∙ of_type laws v unit t e h calls p view sound sees) in
       subst (λ y. passed t y ≡ Gives y) (sym b.1) refl
 
-module _ (quiet : QuietStays) (laws : ExpressionsAreTyped) (words : ValuesHaveWords) (v : Visible) (old mid : Code) (depth : ℕ) (t : Subtype) (e : ExprTree) (h : IsFit v.scope t e) (inner : EmitsExpression v old depth e mid) where
+module _ (quiet : QuietStays) (laws : ExpressionsAreTyped) (words : ValuesHaveWords) (v : Visible) (old mid : Code) (depth : ℕ) (t : Subtype) (e : ExprTree) (h : IsFit v.scope t e) (inner : EmitsExpression v old depth 1 e mid) where
   pub unchecked_emits : form_at v.scope t.type_number ≡ Some Booleans → EmitsChecked v old depth t e mid
   unchecked_emits form = record {
     extends = inner.extends;
@@ -143,6 +143,6 @@ module _ (quiet : QuietStays) (laws : ExpressionsAreTyped) (words : ValuesHaveWo
               (instruction_flows (Suits v) low high (depth + 1 + 1) (depth + 1 + 1 + 1) (op.Push t.last) second (record { operands = refl; names = λ i s k. refl; takes = λ i s k. omega arith; leaves = λ i s k. omega arith; stays = refl; is_none = refl }))
               (instruction_flows (Suits v) high new (depth + 1 + 1 + 1) (depth + 1) op.CheckRange third (record { operands = refl; names = λ i s k. refl; takes = λ i s k. omega arith; leaves = λ i s k. omega arith; stays = refl; is_none = refl }))));
           known = (Integers, form);
-          single = single_number words v.scope t form;
+          single = single_number words v.scope t (ap is_integers form);
           typed = shaped laws v t e h;
         }

@@ -61,7 +61,7 @@ module _ (s : Scope) (first : Identifier) (e : ExprTree) (t : Subtype) (stands :
       }
 
 module _ (quiet : QuietStays) (v : Visible) (old new : Code) (depth : ℕ) (first : Identifier) (e : ExprTree) (t : Subtype) (stands : stands_first v.scope (number_of v.scope first.name) ≡ standing.Named t) (legal : IsLegal v.scope (tree.Named first (with_argument e))) where
-  pub conversion_emits : EmitsChecked v old depth t e new → EmitsExpression v old depth (tree.Named first (with_argument e)) new
+  pub conversion_emits : EmitsChecked v old depth t e new → EmitsExpression v old depth 1 (tree.Named first (with_argument e)) new
   conversion_emits h = record {
     extends = h.extends;
     sized = omega (arith, h.sized);

@@ -79,7 +79,7 @@ binary_changes v binary.Xor x depth is =
 binary_changes v o x depth is = absurd cc
 
 module _ (quiet : QuietStays) (v : Visible) where
-  pub number_emits : (old new : Code) (depth place : ℕ) (w z : ℤ) → w ≡ z → Adds old depth (op.Push w) new → EmitsExpression v old depth (tree.Number z place) new
+  pub number_emits : (old new : Code) (depth place : ℕ) (w z : ℤ) → w ≡ z → Adds old depth (op.Push w) new → EmitsExpression v old depth 1 (tree.Number z place) new
   number_emits old new depth place w z same given =
       let a = subst (λ y. Adds old depth (op.Push y) new) same given in
       let next = added_here old new depth (op.Push z) a in
@@ -93,10 +93,10 @@ module _ (quiet : QuietStays) (v : Visible) where
             (record { operands = refl; names = λ i s h. refl; takes = λ i s h. omega arith; leaves = λ i s h. omega arith; stays = refl; is_none = refl });
       }
 
-  pub parenthesized_emits : (old new : Code) (depth place : ℕ) (e : ExprTree) → EmitsExpression v old depth e new → EmitsExpression v old depth (tree.Parenthesized place e) new
-  parenthesized_emits old new depth place e h = record { extends = h.extends; sized = omega (arith, h.sized); computes = h.computes; flows = h.flows }
+  pub parenthesized_emits : (old new : Code) (depth width place : ℕ) (e : ExprTree) → EmitsExpression v old depth width e new → EmitsExpression v old depth width (tree.Parenthesized place e) new
+  parenthesized_emits old new depth width place e h = record { extends = h.extends; sized = omega (arith, h.sized); computes = h.computes; flows = h.flows }
 
-  pub plus_emits : (old new : Code) (depth place : ℕ) (e : ExprTree) → EmitsExpression v old depth e new → EmitsExpression v old depth (tree.Unary unary.Plus place e) new
+  pub plus_emits : (old new : Code) (depth place : ℕ) (e : ExprTree) → EmitsExpression v old depth 1 e new → EmitsExpression v old depth 1 (tree.Unary unary.Plus place e) new
   plus_emits old new depth place e h = record {
     extends = h.extends;
     sized = omega (arith, h.sized);
@@ -105,7 +105,7 @@ module _ (quiet : QuietStays) (v : Visible) where
   }
 
   pub unary_emits : (old mid new : Code) (depth place : ℕ) (o : UnaryOperator) (x : Operation) (e : ExprTree) → unary_operation o ≡ Some x
-      → EmitsExpression v old depth e mid → Adds mid (depth + 1) x new → EmitsExpression v old depth (tree.Unary o place e) new
+      → EmitsExpression v old depth 1 e mid → Adds mid (depth + 1) x new → EmitsExpression v old depth 1 (tree.Unary o place e) new
   unary_emits old mid new depth place o x e is h a =
       let next = added_here mid new (depth + 1) x a in
       let ends = added_extends mid new (depth + 1) x a in
@@ -124,7 +124,7 @@ module _ (quiet : QuietStays) (v : Visible) where
 
   -- both operands are evaluated
   pub binary_emits : (old mid most new : Code) (depth : ℕ) (o : BinaryOperator) (x : Operation) (a b : ExprTree) → binary_operation o ≡ Some x
-      → EmitsExpression v old depth a mid → EmitsExpression v mid (depth + 1) b most → Adds most (depth + 1 + 1) x new → EmitsExpression v old depth (tree.Binary o a b) new
+      → EmitsExpression v old depth 1 a mid → EmitsExpression v mid (depth + 1) 1 b most → Adds most (depth + 1 + 1) x new → EmitsExpression v old depth 1 (tree.Binary o a b) new
   binary_emits old mid most new depth o x a b is first second added =
       let next = added_here most new (depth + 1 + 1) x added in
       let ends = added_extends most new (depth + 1 + 1) x added in
@@ -145,10 +145,10 @@ module _ (quiet : QuietStays) (v : Visible) where
       }
 
   pub unary_at : (old mid new : Code) (depth one place : ℕ) (o : UnaryOperator) (x : Operation) (e : ExprTree) → one ≡ depth + 1 → unary_operation o ≡ Some x
-      → EmitsExpression v old depth e mid → Adds mid one x new → EmitsExpression v old depth (tree.Unary o place e) new
+      → EmitsExpression v old depth 1 e mid → Adds mid one x new → EmitsExpression v old depth 1 (tree.Unary o place e) new
   unary_at old mid new depth one place o x e p is h a = unary_emits old mid new depth place o x e is h (subst (λ n. Adds mid n x new) p a)
 
   -- an operator without an instruction
-  pub sign_emits : (old new : Code) (depth place : ℕ) (o : UnaryOperator) (e : ExprTree) → unary_operation o ≡ None → EmitsExpression v old depth e new → EmitsExpression v old depth (tree.Unary o place e) new
+  pub sign_emits : (old new : Code) (depth place : ℕ) (o : UnaryOperator) (e : ExprTree) → unary_operation o ≡ None → EmitsExpression v old depth 1 e new → EmitsExpression v old depth 1 (tree.Unary o place e) new
   sign_emits old new depth place unary.Plus e is h = plus_emits old new depth place e h
   sign_emits old new depth place o e is h = absurd cc

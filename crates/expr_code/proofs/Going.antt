@@ -1,6 +1,6 @@
 -- Code along a path from the address of an object to that of a part: one selector, one behind the other, and the load of what stands there.
-use Rattle.std.proofs.Common.{◌≡◌, ℕ, zero, suc, ◌+◌, ◌<◌, ◌≤◌, ◌++◌, ℤ, pos, List, [], ◌∷◌, length, map, take, drop, Bool, true, false, Option, Some, None, refl, sym, ap, ◌∙◌, subst, arith, inl, inr}
-use Rattle.std.specs.Prelude.{bytes_eq, cond, get_or, is_some, not, option_map, slice_get}
+use Rattle.std.proofs.Common.{◌≡◌, ℕ, zero, suc, ◌+◌, ◌<◌, ◌≤◌, ◌++◌, ℤ, pos, List, [], ◌∷◌, length, map, take, drop, Bool, true, false, Option, Some, None, refl, rules, sym, ap, ◌∙◌, subst, arith, inl, inr}
+use Rattle.std.specs.Prelude.{bytes_eq, cond, get_or, is_some, nat_le, not, option_map, slice_get, ◌&&◌}
 use Rattle.std.proofs.Math.Seq.{take-suc}
 use Rattle.base.specs.declared.faults.TheConstants.{NAME_NOT_VISIBLE}
 use Rattle.base.specs.declared.limits.TheConstants.{WORDS}
@@ -13,6 +13,7 @@ use Rattle.ada_tree.specs.declared.expression.Selector.{Selector}
 use Rattle.ada_tree.specs.ExpressionTree as tree
 use Rattle.ada_tree.specs.ExpressionTree.{argument_trees, Arguments, bare_name, Component, expr_tree, ExprTree, MoreArguments, MoreSelectors, NoArguments, NoSelectors, SelectorTree, SelectorTrees, selector_tree, selector_trees}
 use Rattle.ada_tree.specs.Size.{selectors_size}
+use Rattle.image.specs.Rules.{is_block}
 use Rattle.image.specs.Sections.{Sections}
 use Rattle.image.specs.declared.instruction.Operation.TheVariants as op
 use Rattle.types.specs.declared.entity.RecordComponent.{RecordComponent}
@@ -369,16 +370,16 @@ selected_all : (all : List Selector) → selected (map selector_tree all) NoSele
 selected_all [] = refl
 selected_all (x ∷ all) = ap (MoreSelectors (selector_tree x)) (selected_all all)
 
-module _ (quiet : QuietStays) (sized : ValuesHaveWords) (places : PartsHavePlaces) (v : Visible) (old low mid new : Code) (depth one : ℕ) (first : Identifier) (selectors : List Selector) (r : Role) (t last : Subtype)
+module _ (quiet : QuietStays) (sized : ValuesHaveWords) (places : PartsHavePlaces) (v : Visible) (old low mid new : Code) (depth one size : ℕ) (first : Identifier) (selectors : List Selector) (r : Role) (t last : Subtype)
     (slot : Slot) (w : ℤ) (p : one ≡ depth + 1) (z : w ≡ pos slot.offset) (legal : IsLegal v.scope (tree.Named first (selector_trees selectors)))
     (stands : stands_first v.scope (number_of v.scope first.name) ≡ standing.Part r t) (valueless : fixed_value (standing_of v.scope first (selector_trees selectors)) ≡ None)
-    (there : slot_of v first.name ≡ Some slot) (parts : bare_name (tree.Named first (selector_trees selectors)) ≡ None) (single : words_of v.scope last ≡ 1) (ax : Adds old depth (op.Push w) low) (path : EmitsPath v low depth t (map selector_tree selectors) last mid)
-    (ay : Adds mid one (op.LoadBlock slot.region 1) new) where
+    (there : slot_of v first.name ≡ Some slot) (parts : bare_name (tree.Named first (selector_trees selectors)) ≡ None) (many : words_of v.scope last ≡ size) (block : is_block size ≡ true) (ax : Adds old depth (op.Push w) low) (path : EmitsPath v low depth t (map selector_tree selectors) last mid)
+    (ay : Adds mid one (op.LoadBlock slot.region size) new) where
   pushes : Adds old depth (op.Push (pos slot.offset)) low
   pushes = subst (λ y. Adds old depth (op.Push y) low) z ax
 
-  loads : Adds mid (depth + 1) (op.LoadBlock slot.region 1) new
-  loads = subst (λ n. Adds mid n (op.LoadBlock slot.region 1) new) p ay
+  loads : Adds mid (depth + 1) (op.LoadBlock slot.region size) new
+  loads = subst (λ n. Adds mid n (op.LoadBlock slot.region size) new) p ay
 
   stored : (unit : Package) → NamesStored (Sees unit v) first (selector_trees selectors) t (shape_of v.scope t) slot.region slot.offset
   stored unit pl view sees = by_part here_.denotes
@@ -403,12 +404,12 @@ module _ (quiet : QuietStays) (sized : ValuesHaveWords) (places : PartsHavePlace
         sees.unit.small slot.region,
       )
 
-  pub part_emits : EmitsExpression v old depth (tree.Named first (selector_trees selectors)) new
+  pub part_emits : EmitsExpression v old depth size (tree.Named first (selector_trees selectors)) new
   part_emits =
       let a = added_here old low depth (op.Push (pos slot.offset)) pushes in
-      let b = added_here mid new (depth + 1) (op.LoadBlock slot.region 1) loads in
+      let b = added_here mid new (depth + 1) (op.LoadBlock slot.region size) loads in
       let ea = added_extends old low depth (op.Push (pos slot.offset)) pushes in
-      let eb = added_extends mid new (depth + 1) (op.LoadBlock slot.region 1) loads in
+      let eb = added_extends mid new (depth + 1) (op.LoadBlock slot.region size) loads in
       let up = path.extends.longer in
       let next : here low ≡ here old + 1 = omega (arith, a) in
       let whole = extends_trans low mid new path.extends eb in
@@ -426,12 +427,12 @@ module _ (quiet : QuietStays) (sized : ValuesHaveWords) (places : PartsHavePlace
             (added_at old low depth (op.Push (pos slot.offset)) pushes i (here old) (omega arith) (holds_before i (here old) low mid path.extends in_mid))
             (subst (λ xs. IsPath i (library_of unit) (Sees unit v) (here old + 1) (here mid) t (shape_of v.scope t) xs last (shape_of v.scope last)) all
             (subst (λ n. IsPath i (library_of unit) (Sees unit v) n (here mid) t (shape_of v.scope t) (selected (map selector_tree selectors) NoSelectors) last (shape_of v.scope last)) next along))
-            (subst (λ n. At i (here mid) (op.LoadBlock slot.region n)) (sym single) (added_at mid new (depth + 1) (op.LoadBlock slot.region 1) loads i (here old) (omega (arith, a, up)) h)));
-        flows = flows_then (Suits v) old low new depth (depth + 1) (depth + 1) ea whole
+            (subst (λ n. At i (here mid) (op.LoadBlock slot.region n)) (sym many) (added_at mid new (depth + 1) (op.LoadBlock slot.region size) loads i (here old) (omega (arith, a, up)) h)));
+        flows = flows_then (Suits v) old low new depth (depth + 1) (depth + size) ea whole
             (instruction_flows (Suits v) old low depth (depth + 1) (op.Push (pos slot.offset)) pushes (pushes_word v depth (pos slot.offset)))
-            (flows_then (Suits v) low mid new (depth + 1) (depth + 1) (depth + 1) path.extends eb path.flows
-            (instruction_flows (Suits v) mid new (depth + 1) (depth + 1) (op.LoadBlock slot.region 1) loads
-            (record { operands = refl; names = λ i s g. g.region first.name slot there; takes = λ i s g. omega arith; leaves = λ i s g. omega arith; stays = refl; is_none = refl })));
+            (flows_then (Suits v) low mid new (depth + 1) (depth + 1) (depth + size) path.extends eb path.flows
+            (instruction_flows (Suits v) mid new (depth + 1) (depth + size) (op.LoadBlock slot.region size) loads
+            (record { operands = block; names = λ i s g. g.region first.name slot there; takes = λ i s g. omega arith; leaves = λ i s g. omega arith; stays = refl; is_none = refl })));
       }
     where
       path_counts : (all : List Selector) → path_size (map selector_tree all) ≡ selectors_size (selector_trees all)
@@ -448,6 +449,17 @@ one_argument (a ∷ b ∷ all) e x more less is form = absurd (omega (arith, les
 -- a number of words that is told, and not more than a program may have, is the real one
 pub uncapped_words : (told n : ℕ) → told ≡ capped n → told ≤ WORDS → told ≡ n
 uncapped_words told n e le = omega (arith, e, le)
+
+-- the words of a block, told as a number that is not more
+pub block_words : (told n : ℕ) → told ≡ capped n → is_block told ≡ true → n ≡ told
+block_words told n e block = sym (uncapped_words told n e (by_test told WORDS (second (nat_le 1 told) (nat_le told WORDS) block)))
+  where
+    second : (a b : Bool) → (a && b) ≡ true → b ≡ true
+    second true b h = h
+    second false b h = cc
+
+    by_test : (a b : ℕ) → nat_le a b ≡ true → a ≤ b
+    by_test a b h = search rules
 
 pub uncapped : (o : Option ℕ) (n : ℕ) → option_map capped o ≡ Some n → n ≤ WORDS → o ≡ Some n
 uncapped (Some m) n e le = ap Some (sym (uncapped_words n m (sym (same_some (capped m) n e)) le))

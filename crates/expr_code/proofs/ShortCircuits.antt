@@ -44,7 +44,7 @@ at_one i s to = record { operands = refl; names = refl; takes = refl; gives = re
 -- the code that stands behind the left operand
 module _ (v : Visible) (old copied jumped dropped done new : Code) (depth : ℕ) (x y : Operation) (b : ExprTree)
     (copy : Adds old (depth + 1) op.Duplicate copied) (jump : Adds copied (depth + 1 + 1) x jumped) (drop : Adds jumped (depth + 1) op.Drop dropped)
-    (right : EmitsExpression v dropped depth b done) (patch : Patches done (here copied) y new) where
+    (right : EmitsExpression v dropped depth 1 b done) (patch : Patches done (here copied) y new) where
   one : here copied ≡ suc (here old)
   one = added_here old copied (depth + 1) op.Duplicate copy
 
@@ -131,10 +131,10 @@ module _ (v : Visible) (old copied jumped dropped done new : Code) (depth : ℕ)
         copied_deep = omega (arith, jumped_extends.deeper, ap (λ n. n) patch.deepest)
 
     -- ---- the whole
-    module _ (quiet : QuietStays) (start : Code) (a : ExprTree) (o : BinaryOperator) (left : EmitsExpression v start depth a old)
+    module _ (quiet : QuietStays) (start : Code) (a : ExprTree) (o : BinaryOperator) (left : EmitsExpression v start depth 1 a old)
         (makes : (i : Sections) (unit : Package) → Computes i (library_of unit) (Sees unit v) (here start) (here old) a → At i (here old) op.Duplicate → At i (here old + 1) y → At i (here old + 2) op.Drop
         → Computes i (library_of unit) (Sees unit v) (here old + 3) (here new) b → Computes i (library_of unit) (Sees unit v) (here start) (here new) (tree.Binary o a b)) where
-      pub short_emits : EmitsExpression v start depth (tree.Binary o a b) new
+      pub short_emits : EmitsExpression v start depth 1 (tree.Binary o a b) new
       short_emits = record {
         extends = extends_trans start old new left.extends old_extends;
         sized = omega (arith, left.sized, right.sized, one, two, three, end);
@@ -155,8 +155,8 @@ module _ (v : Visible) (old copied jumped dropped done new : Code) (depth : ℕ)
 -- ---- the two operators
 
 module _ (quiet : QuietStays) (laws : ExpressionsAreTyped) (v : Visible) (start old copied jumped dropped done new : Code) (depth n : ℕ) (x : Operation) (a b : ExprTree)
-    (left : EmitsExpression v start depth a old) (copy : Adds old (depth + 1) op.Duplicate copied) (jump : Adds copied (depth + 1 + 1) x jumped) (drop : Adds jumped (depth + 1) op.Drop dropped)
-    (right : EmitsExpression v dropped depth b done) (end : n ≡ here done) where
+    (left : EmitsExpression v start depth 1 a old) (copy : Adds old (depth + 1) op.Duplicate copied) (jump : Adds copied (depth + 1 + 1) x jumped) (drop : Adds jumped (depth + 1) op.Drop dropped)
+    (right : EmitsExpression v dropped depth 1 b done) (end : n ≡ here done) where
   ends : (y : Operation) → Patches done (here copied) y new → n ≡ here new
   ends y patch = end ∙ sym (patched_here done new (here copied) y patch)
 
@@ -167,7 +167,7 @@ module _ (quiet : QuietStays) (laws : ExpressionsAreTyped) (v : Visible) (start 
       let three = added_here jumped dropped (depth + 1) op.Drop drop in
       omega (arith, one, two, three, right.extends.longer, patched_here done new (here copied) y patch)
 
-  pub and_then_emits : IsLegal v.scope (tree.Binary binary.AndThen a b) → Patches done (here copied) (op.JumpIfZero n) new → EmitsExpression v start depth (tree.Binary binary.AndThen a b) new
+  pub and_then_emits : IsLegal v.scope (tree.Binary binary.AndThen a b) → Patches done (here copied) (op.JumpIfZero n) new → EmitsExpression v start depth 1 (tree.Binary binary.AndThen a b) new
   and_then_emits legal patch =
       let to = ends (op.JumpIfZero n) patch in
       short_emits v old copied jumped dropped done new depth x (op.JumpIfZero n) b copy jump drop right patch
@@ -176,7 +176,7 @@ module _ (quiet : QuietStays) (laws : ExpressionsAreTyped) (v : Visible) (start 
       computes_and_then quiet i (library_of unit) (Sees unit v) (here start) (here old) (here new) a b left.extends.longer (long (op.JumpIfZero n) patch) first
       (left_truth laws i v unit binary.AndThen a b refl legal) at_copy (subst (λ m. At i (here old + 1) (op.JumpIfZero m)) to at_jump) at_drop second)
 
-  pub or_else_emits : IsLegal v.scope (tree.Binary binary.OrElse a b) → Patches done (here copied) (op.JumpIfNotZero n) new → EmitsExpression v start depth (tree.Binary binary.OrElse a b) new
+  pub or_else_emits : IsLegal v.scope (tree.Binary binary.OrElse a b) → Patches done (here copied) (op.JumpIfNotZero n) new → EmitsExpression v start depth 1 (tree.Binary binary.OrElse a b) new
   or_else_emits legal patch =
       let to = ends (op.JumpIfNotZero n) patch in
       short_emits v old copied jumped dropped done new depth x (op.JumpIfNotZero n) b copy jump drop right patch

@@ -45,18 +45,18 @@ pub record Joins (i : Sections) (from : ℕ) (waiting : List ℕ) (end depth : �
   pub jumps : (k : ℕ) → is_among waiting k ≡ true → slice_get i.instructions k ≡ Some (record { depth = depth; operation = op.Jump end })
 
 -- the code that was added is that of the branches, in every image that joins them to what stands behind it
-pub record EmitsBranches (v : Visible) (old : Code) (depth : ℕ) (all : List Branch) (waiting : List ℕ) (new : Code) : Type 0 where
+pub record EmitsBranches (v : Visible) (old : Code) (depth width : ℕ) (all : List Branch) (waiting : List ℕ) (new : Code) : Type 0 where
   pub extends : Extends old new
   pub sized : here new ≤ here old + 20 * branches_size all
-  -- the waiting jumps stand in this code, above one word more
+  -- the waiting jumps stand in this code, above the words of a value
   pub inside : (k : ℕ) → is_among waiting k ≡ true → (here old ≤ k) × (k < here new)
-  pub waits : (k : ℕ) → is_among waiting k ≡ true → slice_get new.instructions.items k ≡ Some (record { depth = depth + 1; operation = op.Jump 0 })
-  pub computes : (i : Sections) (end : ℕ) → here new ≤ end → Joins i (here old) waiting end (depth + 1) new
+  pub waits : (k : ℕ) → is_among waiting k ≡ true → slice_get new.instructions.items k ≡ Some (record { depth = depth + width; operation = op.Jump 0 })
+  pub computes : (i : Sections) (end : ℕ) → here new ≤ end → Joins i (here old) waiting end (depth + width) new
       → (g : Package) (rest : ElsifValueTrees) (e : ExprTree)
       → ComputesElse i (library_of g) (Sees g v) (here new) end rest e
       → ComputesElse i (library_of g) (Sees g v) (here old) end (in_front all rest) e
-  pub flows : (i : Sections) (s : Subprogram) (end : ℕ) → here new ≤ end → Joins i (here old) waiting end (depth + 1) new → Suits v i s → new.deepest ≤ s.stack → depth + 1 ≤ s.stack
-      → has_depth i end (depth + 1) ≡ true → has_depth i (here new) depth ≡ true → AreKept i s (here old) end (here old) (here new) depth
+  pub flows : (i : Sections) (s : Subprogram) (end : ℕ) → here new ≤ end → Joins i (here old) waiting end (depth + width) new → Suits v i s → new.deepest ≤ s.stack → depth + width ≤ s.stack
+      → has_depth i end (depth + width) ≡ true → has_depth i (here new) depth ≡ true → AreKept i s (here old) end (here old) (here new) depth
 
 -- the jumps at these places lead to `end`, and nothing else changes
 pub record Rejoins (old : Code) (places : List ℕ) (end : ℕ) (new : Code) : Type 0 where
@@ -66,14 +66,14 @@ pub record Rejoins (old : Code) (places : List ℕ) (end : ℕ) (new : Code) : T
   pub deepest : new.deepest ≡ old.deepest
 
 -- a jump was added whose place waits, and the test leads behind it
-pub record Closes (old : Code) (depth test : ℕ) (before after : List ℕ) (new : Code) : Type 0 where
+pub record Closes (old : Code) (height test : ℕ) (before after : List ℕ) (new : Code) : Type 0 where
   pub closed : Code
   pub waits : after ≡ before ++ here old ∷ []
-  pub adds : Adds old (depth + 1) (op.Jump 0) closed
+  pub adds : Adds old height (op.Jump 0) closed
   pub patches : Patches closed test (op.JumpIfZero (here closed)) new
 
 -- code of these branches was added, and the places of their jumps to what waits
-pub record AddsBranches (v : Visible) (old : Code) (depth : ℕ) (all : List Branch) (before : List ℕ) (after : List ℕ) (new : Code) : Type 0 where
+pub record AddsBranches (v : Visible) (old : Code) (depth width : ℕ) (all : List Branch) (before : List ℕ) (after : List ℕ) (new : Code) : Type 0 where
   pub waiting : List ℕ
   pub after_is : after ≡ before ++ waiting
-  pub emits : EmitsBranches v old depth all waiting new
+  pub emits : EmitsBranches v old depth width all waiting new

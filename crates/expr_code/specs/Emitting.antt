@@ -49,12 +49,13 @@ AreLegal s [] = ⊤
 AreLegal s (o ∷ rest) = IsLegal s (expr_tree o.value) × AreLegal s rest
 
 -- The code that was added computes the expression, in every image that holds it and wherever a frame stands for the place of evaluation; it keeps the rules
--- of images; and it has at most 20 instructions for each part of the expression. It finds so many words on the operand stack, and leaves one more.
-pub record EmitsExpression (v : Visible) (old : Code) (depth : ℕ) (e : ExprTree) (new : Code) : Type 0 where
+-- of images; and it has at most 20 instructions for each part of the expression. It finds so many words on the operand stack, and leaves those of the value, so
+-- many, above them.
+pub record EmitsExpression (v : Visible) (old : Code) (depth width : ℕ) (e : ExprTree) (new : Code) : Type 0 where
   pub extends : Extends old new
   pub sized : here new ≤ here old + 20 * expr_size e
   pub computes : (i : Sections) → Holds i (here old) new → (g : Package) → Computes i (library_of g) (Sees g v) (here old) (here new) e
-  pub flows : Flows (Suits v) old depth new (depth + 1)
+  pub flows : Flows (Suits v) old depth new (depth + width)
 
 -- ... and checks its value against a subtype, one of single words
 pub record EmitsChecked (v : Visible) (old : Code) (depth : ℕ) (t : Subtype) (e : ExprTree) (new : Code) : Type 0 where
@@ -67,6 +68,6 @@ pub record EmitsChecked (v : Visible) (old : Code) (depth : ℕ) (t : Subtype) (
   -- its value, where there is one, is of the subtype's type
   pub typed : (calls : Calls) (p : Place) → Agrees v.scope p → CallsAnswer calls p → (x : Value) → value_with calls p e ≡ Gives x → has_shape (shape_of v.scope t) x ≡ true
 
--- The code that was added makes of an expression's value, computed by the code before it, that of the operators and operands behind it.
+-- The code that was added makes of an expression's value of one word, computed by the code before it, that of the operators and operands behind it.
 pub record EmitsOperands (v : Visible) (old : Code) (depth : ℕ) (all : List Operand) (new : Code) : Type 0 where
-  pub emits : (start : Code) (left : ExprTree) → EmitsExpression v start depth left old → IsLegal v.scope (chain_tree left all) → EmitsExpression v start depth (chain_tree left all) new
+  pub emits : (start : Code) (left : ExprTree) → EmitsExpression v start depth 1 left old → IsLegal v.scope (chain_tree left all) → EmitsExpression v start depth 1 (chain_tree left all) new

@@ -30,7 +30,7 @@ impl Code {
     ) -> Result<(), Refusal>
         requires names { NamesProfile visible.now.scope first.now.name (profile_value profile.now) }
         requires legal { IsLegal visible.now.scope (Named first.now (MoreSelectors (Arguments (argument_trees arguments.now)) NoSelectors)) }
-        ensures emits { OnOk result (EmitsExpression visible.now self.old depth (Named first.now (MoreSelectors (Arguments (argument_trees arguments.now)) NoSelectors)) self.new) }
+        ensures emits { OnOk result (EmitsExpression visible.now self.old depth 1 (Named first.now (MoreSelectors (Arguments (argument_trees arguments.now)) NoSelectors)) self.new) }
     {
         quiet_stays();
         let height = self.actuals(visible, depth, &profile.formals, arguments)?;
@@ -47,7 +47,7 @@ impl Code {
     ) -> Result<(), Refusal>
         requires names { NamesProfile visible.now.scope first.now.name (profile_value profile.now) }
         requires legal { IsLegal visible.now.scope (Named first.now NoSelectors) }
-        ensures emits { OnOk result (EmitsExpression visible.now self.old depth (Named first.now NoSelectors) self.new) }
+        ensures emits { OnOk result (EmitsExpression visible.now self.old depth 1 (Named first.now NoSelectors) self.new) }
     {
         quiet_stays();
         self.invoke(visible, depth, first, profile)

@@ -29,7 +29,7 @@ impl Code {
         quiet_stays();
         expressions_are_typed();
         values_have_words();
-        self.expression(visible, depth, e)?;
+        self.of_width(visible, depth, 1, e)?;
         match visible.scope.form(subtype.type_number) {
             Some(TypeForm::Integer) => {
                 let one = above(depth)?;

@@ -21,6 +21,18 @@ pub(crate) fn above(depth: u16) -> Result<u16, Refusal>
     Ok(depth + 1)
 }
 
+/// So many words more on the operand stack.
+pub(crate) fn raised(depth: u16, words: u16) -> Result<u16, Refusal>
+    ensures more { IfOk result (λ more. more ≡ depth + words) }
+    ensures within { IfOk result (λ more. more ≤ FRAME_WORDS) }
+    ensures refused { IfErr result (λ why. FRAME_WORDS < depth + words) }
+{
+    match depth.checked_add(words) {
+        Some(more) if usize::from(more) <= FRAME_WORDS => Ok(more),
+        _ => Err(Refusal::Limit),
+    }
+}
+
 /// Instructions that are put together one by one.
 #[derive(Drop)]
 pub struct Code {

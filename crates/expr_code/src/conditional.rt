@@ -5,7 +5,7 @@ ghost use Rattle.expr_code.specs.Branches.{AddsBranches, AreLegalBranches, branc
 ghost use Rattle.expr_code.specs.Code.{Adds, here};
 ghost use Rattle.image.specs.declared.instruction.Operation.TheVariants.{JumpIfZero};
 
-use crate::code::{Code, above};
+use crate::code::{Code, above, raised};
 use crate::refusal::Refusal;
 use crate::visible::Visible;
 use ada_tree::ElsifValue;
@@ -22,40 +22,42 @@ impl Code {
         Ok(place)
     }
 
-    /// Adds a jump behind the value above `depth` words, whose place waits for the end, and makes the test lead behind it.
+    /// Adds a jump behind a value, which finds `height` words on the operand stack with those of the value, and whose place waits for the end; and makes the
+    /// test lead behind it.
     pub(crate) fn close(
         &mut self,
-        depth: u16,
+        height: u16,
         test: usize,
         waiting: &mut Vec<usize>,
     ) -> Result<(), Refusal>
         requires there { test < here self.old }
-        ensures closes { OnOk result (Closes self.old depth test waiting.old.items waiting.new.items self.new) }
+        ensures closes { OnOk result (Closes self.old height test waiting.old.items waiting.new.items self.new) }
     {
         waiting.push(self.instructions.len())?;
-        self.emit(above(depth)?, Operation::Jump(0))?;
+        self.emit(height, Operation::Jump(0))?;
         let next = self.end()?;
         self.patch(test, Operation::JumpIfZero(next));
         Ok(())
     }
 
-    /// Adds the code of all parts behind the first one.
+    /// Adds the code of all parts behind the first one, whose values take so many words.
     #[cycle(expression)]
     pub(crate) fn elsifs(
         &mut self,
         visible: &Visible,
         depth: u16,
+        width: u16,
         elsifs: &[ElsifValue],
         waiting: &mut Vec<usize>,
     ) -> Result<(), Refusal>
         requires legal { AreLegalBranches visible.now.scope (map branch_of elsifs.now) }
-        ensures adds { OnOk result (AddsBranches visible.now self.old depth (map branch_of elsifs.now) waiting.old.items waiting.new.items self.new) }
+        ensures adds { OnOk result (AddsBranches visible.now self.old depth width (map branch_of elsifs.now) waiting.old.items waiting.new.items self.new) }
     {
         for elsif in elsifs {
-            self.expression(visible, depth, &elsif.condition)?;
+            self.of_width(visible, depth, 1, &elsif.condition)?;
             let test = self.test(depth)?;
-            self.expression(visible, depth, &elsif.value)?;
-            self.close(depth, test, waiting)?;
+            self.of_width(visible, depth, width, &elsif.value)?;
+            self.close(raised(depth, width)?, test, waiting)?;
         }
         Ok(())
     }

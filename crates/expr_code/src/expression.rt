@@ -1,10 +1,10 @@
 //! The code of expressions (RM 4.4).
-ghost use Rattle.std.specs.Prelude.{◌≡◌, ◌∷◌, [], None, OnOk};
+ghost use Rattle.std.specs.Prelude.{◌≡◌, ◌∷◌, [], None, IfOk, OnOk};
 ghost use Rattle.ada_tree.specs.ExpressionTree.{chain_tree, expr_tree};
 ghost use Rattle.expr_code.specs.Emitting.{AreLegal, EmitsExpression, EmitsOperands, IsLegal};
 ghost use Rattle.expr_code.specs.OperatorCode.{binary_operation};
 
-use crate::code::{Code, above};
+use crate::code::{Code, above, raised};
 use crate::operation::{binary_operation, unary_operation};
 use crate::refusal::Refusal;
 use crate::visible::Visible;
@@ -15,43 +15,70 @@ use kernel::laws::quiet_stays;
 use well_typed::laws::expressions_are_typed;
 
 impl Code {
-    /// Adds the code of an expression, where its names are visible. It finds `depth` words on the operand stack, and leaves its value above them.
+    /// Adds the code of an expression, where its names are visible, and tells how many words its value takes. It finds `depth` words on the operand stack, and
+    /// leaves the value above them.
     #[cycle(expression)]
-    pub fn expression(&mut self, visible: &Visible, depth: u16, e: &Expr) -> Result<(), Refusal>
+    pub fn expression(&mut self, visible: &Visible, depth: u16, e: &Expr) -> Result<u16, Refusal>
         requires legal { IsLegal visible.now.scope (expr_tree e.now) }
-        ensures emits { OnOk result (EmitsExpression visible.now self.old depth (expr_tree e.now) self.new) }
+        ensures emits { IfOk result (λ width. EmitsExpression visible.now self.old depth width (expr_tree e.now) self.new) }
     {
         quiet_stays();
         chains_by_parts();
         conditional_by_parts();
         names_by_parts();
         match e {
-            Expr::Number(value, _) => self.emit(depth, Operation::Push(*value)),
+            Expr::Number(value, _) => {
+                self.emit(depth, Operation::Push(*value))?;
+                Ok(1)
+            }
             Expr::Name(name) => self.name(visible, depth, name),
             Expr::Parenthesized(_, inner) => self.expression(visible, depth, inner),
             Expr::Unary(operator, _, operand) => {
-                self.expression(visible, depth, operand)?;
+                self.of_width(visible, depth, 1, operand)?;
                 match unary_operation(*operator) {
-                    Some(operation) => self.emit(above(depth)?, operation),
-                    None => Ok(()),
+                    Some(operation) => {
+                        self.emit(above(depth)?, operation)?;
+                        Ok(1)
+                    }
+                    None => Ok(1),
                 }
             }
             Expr::Chain(first, second, more) => {
-                self.expression(visible, depth, first)?;
+                self.of_width(visible, depth, 1, first)?;
                 self.operand(visible, depth, second)?;
-                self.operands(visible, depth, more)
+                self.operands(visible, depth, more)?;
+                Ok(1)
             }
             Expr::Conditional(_, condition, value, elsifs, last) => {
                 let mut waiting = Vec::new(self.alloc);
-                self.expression(visible, depth, condition)?;
+                self.of_width(visible, depth, 1, condition)?;
                 let test = self.test(depth)?;
-                self.expression(visible, depth, value)?;
-                self.close(depth, test, &mut waiting)?;
-                self.elsifs(visible, depth, elsifs, &mut waiting)?;
-                self.expression(visible, depth, last)?;
-                self.rejoin(&waiting)
+                let width = self.expression(visible, depth, value)?;
+                self.close(raised(depth, width)?, test, &mut waiting)?;
+                self.elsifs(visible, depth, width, elsifs, &mut waiting)?;
+                self.of_width(visible, depth, width, last)?;
+                self.rejoin(&waiting)?;
+                Ok(width)
             }
         }
+    }
+
+    /// Adds that of an expression whose value takes so many words.
+    #[cycle(expression)]
+    pub(crate) fn of_width(
+        &mut self,
+        visible: &Visible,
+        depth: u16,
+        width: u16,
+        e: &Expr,
+    ) -> Result<(), Refusal>
+        requires legal { IsLegal visible.now.scope (expr_tree e.now) }
+        ensures emits { OnOk result (EmitsExpression visible.now self.old depth width (expr_tree e.now) self.new) }
+    {
+        if self.expression(visible, depth, e)? != width {
+            return Err(Refusal::Outside);
+        }
+        Ok(())
     }
 
     // Adds the code of an operator and the operand behind it, which finds its left operand's value above `depth` words.
@@ -64,7 +91,7 @@ impl Code {
         match binary_operation(operand.operator) {
             Some(operation) => {
                 let second = above(depth)?;
-                self.expression(visible, second, &operand.value)?;
+                self.of_width(visible, second, 1, &operand.value)?;
                 self.emit(above(second)?, operation)
             }
             None => self.short_circuit(visible, depth, operand),
@@ -90,7 +117,7 @@ impl Code {
         let jump = self.instructions.len();
         self.emit(above(one)?, Operation::JumpIfZero(0))?;
         self.emit(one, Operation::Drop)?;
-        self.expression(visible, depth, &operand.value)?;
+        self.of_width(visible, depth, 1, &operand.value)?;
         let end = self.end()?;
         match operand.operator {
             BinaryOperator::OrElse => self.patch(jump, Operation::JumpIfNotZero(end)),

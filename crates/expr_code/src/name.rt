@@ -1,18 +1,24 @@
 //! The code of names (RM 4.1): values that are known, and objects.
-ghost use Rattle.std.specs.Prelude.{◌≡◌, None, OnOk};
+ghost use Rattle.std.specs.Prelude.{◌≡◌, None, Some, true, IfOk, OnOk};
+ghost use Rattle.image.specs.Rules.{is_block};
+ghost use Rattle.image.specs.declared.instruction.Operation.TheVariants.{LoadBlock};
 ghost use Rattle.ada_tree.specs.ExpressionTree.{argument_trees, Arguments, bare_name, MoreSelectors, Named, name_tree, NoSelectors, selector_trees};
+ghost use Rattle.types.specs.declared.entity.Role.{Role};
 ghost use Rattle.types.specs.Evaluating.{fixed_value};
 ghost use Rattle.types.specs.Scopes.{number_of};
 ghost use Rattle.types.specs.Standings.{standing_of, stands_first};
 ghost use Rattle.types.specs.declared.standing.Standing.TheVariants as standing;
+ghost use Rattle.expr_code.specs.Code.{Adds};
 ghost use Rattle.expr_code.specs.Emitting.{EmitsExpression, IsLegal};
 ghost use Rattle.expr_code.specs.Naming.{load_operation, scalar_word};
+ghost use Rattle.expr_code.specs.Seeing.{slot_of};
 
-use crate::code::Code;
+use crate::code::{Code, above};
 use crate::refusal::Refusal;
 use crate::visible::{Slot, Visible};
 use ada_tree::laws::arguments_by_parts;
 use ada_tree::{Argument, Identifier, NameExpr, Selector};
+use base::limits::WORDS;
 use image::{Operation, Region};
 use kernel::laws::quiet_stays;
 use types::laws::values_have_words;
@@ -52,20 +58,23 @@ fn load_operation(slot: Slot) -> Operation
 }
 
 impl Code {
-    /// Adds the code of a name.
+    /// Adds the code of a name, and tells how many words its value takes.
     #[cycle(expression)]
     pub(crate) fn name(
         &mut self,
         visible: &Visible,
         depth: u16,
         name: &NameExpr,
-    ) -> Result<(), Refusal>
+    ) -> Result<u16, Refusal>
         requires legal { IsLegal visible.now.scope (Named (name_tree name.now).first (name_tree name.now).selectors) }
-        ensures emits { OnOk result (EmitsExpression visible.now self.old depth (Named (name_tree name.now).first (name_tree name.now).selectors) self.new) }
+        ensures emits { IfOk result (λ width. EmitsExpression visible.now self.old depth width (Named (name_tree name.now).first (name_tree name.now).selectors) self.new) }
     {
         quiet_stays();
         match fixed_value(visible.scope.standing(name)) {
-            Some(value) => self.emit(depth, Operation::Push(scalar_word(value))),
+            Some(value) => {
+                self.emit(depth, Operation::Push(scalar_word(value)))?;
+                Ok(1)
+            }
             None => match name.bare() {
                 Some(identifier) => self.bare(visible, depth, identifier),
                 None => self.named(visible, depth, &name.first, &name.selectors),
@@ -81,11 +90,33 @@ impl Code {
         depth: u16,
         first: &Identifier,
         selectors: &[Selector],
-    ) -> Result<(), Refusal>
+    ) -> Result<u16, Refusal>
         requires legal { IsLegal visible.now.scope (Named first.now (selector_trees selectors.now)) }
         requires valueless { fixed_value (standing_of visible.now.scope first.now (selector_trees selectors.now)) ≡ None }
         requires parts { bare_name (Named first.now (selector_trees selectors.now)) ≡ None }
-        ensures emits { OnOk result (EmitsExpression visible.now self.old depth (Named first.now (selector_trees selectors.now)) self.new) }
+        ensures emits { IfOk result (λ width. EmitsExpression visible.now self.old depth width (Named first.now (selector_trees selectors.now)) self.new) }
+    {
+        if let Standing::Part(_, subtype) = visible.scope.stands_first(first) {
+            return match visible.slot(&first.name) {
+                Some(slot) => self.part(visible, depth, slot, subtype, first, selectors),
+                None => Err(Refusal::Outside),
+            };
+        }
+        self.applied(visible, depth, first, selectors)?;
+        Ok(1)
+    }
+
+    // Adds that of a conversion or call, of one word.
+    #[cycle(expression)]
+    fn applied(
+        &mut self,
+        visible: &Visible,
+        depth: u16,
+        first: &Identifier,
+        selectors: &[Selector],
+    ) -> Result<(), Refusal>
+        requires legal { IsLegal visible.now.scope (Named first.now (selector_trees selectors.now)) }
+        ensures emits { OnOk result (EmitsExpression visible.now self.old depth 1 (Named first.now (selector_trees selectors.now)) self.new) }
     {
         arguments_by_parts();
         match visible.scope.stands_first(first) {
@@ -94,10 +125,6 @@ impl Code {
                     self.conversion(visible, depth, subtype, first, arguments)
                 }
                 _ => Err(Refusal::Outside),
-            },
-            Standing::Part(_, subtype) => match visible.slot(&first.name) {
-                Some(slot) => self.part(visible, depth, slot, subtype, first, selectors),
-                None => Err(Refusal::Outside),
             },
             Standing::Callee(_) => match (visible.profile(&first.name), selectors) {
                 (Some(profile), [Selector::Arguments(arguments)]) => {
@@ -121,7 +148,7 @@ impl Code {
     ) -> Result<(), Refusal>
         requires stands { stands_first visible.now.scope (number_of visible.now.scope first.now.name) ≡ standing.Named subtype }
         requires legal { IsLegal visible.now.scope (Named first.now (MoreSelectors (Arguments (argument_trees arguments.now)) NoSelectors)) }
-        ensures emits { OnOk result (EmitsExpression visible.now self.old depth (Named first.now (MoreSelectors (Arguments (argument_trees arguments.now)) NoSelectors)) self.new) }
+        ensures emits { OnOk result (EmitsExpression visible.now self.old depth 1 (Named first.now (MoreSelectors (Arguments (argument_trees arguments.now)) NoSelectors)) self.new) }
     {
         quiet_stays();
         let [argument] = arguments else {
@@ -133,25 +160,66 @@ impl Code {
         }
     }
 
-    // Adds that of an object as a whole, of one word, or of a call without parameters.
-    fn bare(&mut self, visible: &Visible, depth: u16, name: &Identifier) -> Result<(), Refusal>
+    // Adds that of an object as a whole, or of a call without parameters.
+    fn bare(&mut self, visible: &Visible, depth: u16, name: &Identifier) -> Result<u16, Refusal>
         requires legal { IsLegal visible.now.scope (Named name.now NoSelectors) }
-        ensures emits { OnOk result (EmitsExpression visible.now self.old depth (Named name.now NoSelectors) self.new) }
+        ensures emits { IfOk result (λ width. EmitsExpression visible.now self.old depth width (Named name.now NoSelectors) self.new) }
     {
-        quiet_stays();
-        values_have_words();
         match visible.scope.stands_first(name) {
-            Standing::Part(_, subtype) if visible.scope.words(subtype) == 1 => {
-                match visible.slot(&name.name) {
-                    Some(slot) => self.emit(depth, load_operation(slot)),
-                    None => Err(Refusal::Outside),
-                }
-            }
+            Standing::Part(_, subtype) => match visible.slot(&name.name) {
+                Some(slot) => self.object(visible, depth, slot, subtype, name),
+                None => Err(Refusal::Outside),
+            },
             Standing::Callee(_) => match visible.profile(&name.name) {
-                Some(profile) => self.call_alone(visible, depth, name, profile),
+                Some(profile) => {
+                    self.call_alone(visible, depth, name, profile)?;
+                    Ok(1)
+                }
                 None => Err(Refusal::Outside),
             },
             _ => Err(Refusal::Outside),
         }
+    }
+
+    // Adds that of an object as a whole, whose words stand there, and tells how many they are.
+    fn object(
+        &mut self,
+        visible: &Visible,
+        depth: u16,
+        slot: Slot,
+        subtype: Subtype,
+        name: &Identifier,
+    ) -> Result<u16, Refusal>
+        requires legal { IsLegal visible.now.scope (Named name.now NoSelectors) }
+        requires stands { (r : Role) × (stands_first visible.now.scope (number_of visible.now.scope name.now.name) ≡ standing.Part r subtype) }
+        requires there { slot_of visible.now name.now.name ≡ Some slot }
+        ensures emits { IfOk result (λ width. EmitsExpression visible.now self.old depth width (Named name.now NoSelectors) self.new) }
+    {
+        quiet_stays();
+        values_have_words();
+        let words = visible.scope.words(subtype);
+        if words == 1 {
+            self.emit(depth, load_operation(slot))?;
+        } else {
+            self.emit(depth, Operation::Push(i64::from(slot.offset)))?;
+            self.load_block(above(depth)?, slot.region, words)?;
+        }
+        Ok(words)
+    }
+
+    /// Adds the instruction that loads these words of a region from the address above which it finds the operand stack `height` words high.
+    pub(crate) fn load_block(
+        &mut self,
+        height: u16,
+        region: Region,
+        words: u16,
+    ) -> Result<(), Refusal>
+        ensures adds { OnOk result (Adds self.old height (LoadBlock region words) self.new) }
+        ensures block { OnOk result (is_block words ≡ true) }
+    {
+        if words == 0 || WORDS < usize::from(words) {
+            return Err(Refusal::Limit);
+        }
+        self.emit(height, Operation::LoadBlock { region, words })
     }
 }

@@ -24,7 +24,7 @@ use types::{Subtype, TypeForm};
 use well_typed::laws::expressions_are_typed;
 
 impl Code {
-    /// Adds the code of a part of the object with this name, subtype and words, which has one word.
+    /// Adds the code of a part of the object with this name, subtype and words, and tells how many words it takes.
     #[cycle(expression)]
     pub(crate) fn part(
         &mut self,
@@ -34,13 +34,13 @@ impl Code {
         subtype: Subtype,
         first: &Identifier,
         selectors: &[Selector],
-    ) -> Result<(), Refusal>
+    ) -> Result<u16, Refusal>
         requires legal { IsLegal visible.now.scope (Named first.now (selector_trees selectors.now)) }
         requires stands { (r : Role) × (stands_first visible.now.scope (number_of visible.now.scope first.now.name) ≡ standing.Part r subtype) }
         requires valueless { fixed_value (standing_of visible.now.scope first.now (selector_trees selectors.now)) ≡ None }
         requires there { slot_of visible.now first.now.name ≡ Some slot }
         requires parts { bare_name (Named first.now (selector_trees selectors.now)) ≡ None }
-        ensures emits { OnOk result (EmitsExpression visible.now self.old depth (Named first.now (selector_trees selectors.now)) self.new) }
+        ensures emits { IfOk result (λ width. EmitsExpression visible.now self.old depth width (Named first.now (selector_trees selectors.now)) self.new) }
     {
         quiet_stays();
         values_have_words();
@@ -48,16 +48,9 @@ impl Code {
         let address = above(depth)?;
         self.emit(depth, Operation::Push(i64::from(slot.offset)))?;
         let last = self.path(visible, depth, subtype, selectors)?;
-        match visible.scope.words(last) {
-            1 => self.emit(
-                address,
-                Operation::LoadBlock {
-                    region: slot.region,
-                    words: 1,
-                },
-            ),
-            _ => Err(Refusal::Outside),
-        }
+        let words = visible.scope.words(last);
+        self.load_block(address, slot.region, words)?;
+        Ok(words)
     }
 
     // Adds what goes from the address above `depth` words to that of the part behind these selectors, and tells the part's subtype.

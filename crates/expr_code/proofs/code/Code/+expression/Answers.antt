@@ -1,19 +1,19 @@
 use Rattle.std.proofs.Common.{length, ltb-true, map, take, rules, refl, sym, ap, ◌∙◌, ◌≤◌, ◌∷◌, [], subst}
 use Rattle.std.specs.Prelude.{IfOk}
-use Rattle.std.proofs.lemmas.Result.{on_ok_weaker}
+use Rattle.std.proofs.lemmas.Result.{IfOk-weaker, on_ok_weaker}
 use Rattle.ada_tree.specs.declared.expression.Expr as expressions
 use Rattle.ada_tree.specs.ExpressionTree.{argument_tree, argument_trees, Arguments, expr_tree, MoreSelectors, Named, NoSelectors, selector_tree, selector_trees}
 use Rattle.expr_code.specs.Branches.{AddsBranches, AreLegalBranches, branch_of}
 use Rattle.expr_code.specs.Emitting.{AreLegal, EmitsExpression, IsLegal}
 use Rattle.expr_code.specs.Going.{EmitsPath, IsLegalPart, IsLegalPath}
-use Rattle.expr_code.proofs.Branching.{all_branches, branch_closed, branches_next, conditional_legal, whole_at}
+use Rattle.expr_code.proofs.Branching.{adds_none, all_branches, branch_closed, branches_next, conditional_legal, whole_at}
 use Rattle.expr_code.proofs.Checking.{checked_emits, unchecked_emits}
 use Rattle.expr_code.proofs.Chains.{and_then_at, chain_emits, first_legal, legal_at, more_legal, one_emitted, operand_at, or_else_at, second_legal}
 use Rattle.expr_code.proofs.Emitted.{number_emits, parenthesized_emits, sign_emits, unary_at}
 use Rattle.types.specs.Evaluating.{fixed_value}
 use Rattle.expr_code.proofs.Conversions.{conversion_emits}
-use Rattle.expr_code.proofs.Names.{fixed_emits, one_word}
-use Rattle.expr_code.proofs.Going.{drop_at, element_goes, first_part, further_path, goes_next, one_argument, part_emits, uncapped_words, whole_path}
+use Rattle.expr_code.proofs.Names.{fixed_emits}
+use Rattle.expr_code.proofs.Going.{block_words, drop_at, element_goes, first_part, further_path, goes_next, one_argument, part_emits, uncapped_words, whole_path}
 use Rattle.expr_code.proofs.Legal.{legal_branch}
 use Rattle.well_typed.specs.Agreeing.{parameter_subtype}
 use Rattle.expr_code.specs.Actuals.{ArePassedLegally, EmitsActuals}
@@ -22,8 +22,8 @@ use Rattle.expr_code.proofs.code.Code.+expression.Goals as goal
 
 -- ---- chains of operators
 
-pub expression-expression-requires-in-Chain : goal.expression-expression-requires-in-Chain
-expression-expression-requires-in-Chain t c =
+pub expression-of_width-requires-in-Chain : goal.expression-of_width-requires-in-Chain
+expression-of_width-requires-in-Chain t c =
     let tree = ap expr_tree c.in-Chain.is ∙ c.chains_by_parts.ensures c.in-Chain.first c.in-Chain.second c.in-Chain.more in
     (search (rules, expressions.the_lemmas), subst (λ e. IsLegal c.args.visible.now.scope (expr_tree e)) (sym c.deref-in-Chain.ensures) (first_legal c.args.visible.now _ _ c.in-Chain.second.value c.in-Chain.more.items tree c.requires.legal))
 
@@ -37,12 +37,12 @@ expression-operands-requires t c =
     let tree = ap expr_tree c.in-Chain.is ∙ c.chains_by_parts.ensures c.in-Chain.first c.in-Chain.second c.in-Chain.more in
     (search (rules, expressions.the_lemmas), subst (λ all. AreLegal c.args.visible.now.scope all) (sym c.deref-in-Chain-3.ensures.value) (more_legal c.args.visible.now _ _ c.in-Chain.second.value c.in-Chain.more.items tree c.requires.legal))
 
-pub expression-returns-in_ok-operand-in-Chain : goal.expression-returns-in_ok-operand-in-Chain
-expression-returns-in_ok-operand-in-Chain t c =
+pub expression-returns-in_ok-operands-in-Chain : goal.expression-returns-in_ok-operands-in-Chain
+expression-returns-in_ok-operands-in-Chain t c =
     let tree = ap expr_tree c.in-Chain.is ∙ c.chains_by_parts.ensures c.in-Chain.first c.in-Chain.second c.in-Chain.more in
     record {
-      emits = on_ok_weaker _ (λ p. chain_emits c.args.visible.now _ _ c.in-Chain.second.value c.in-Chain.more.items tree c.requires.legal _ _ _ _ c.args.depth
-          (rw c.deref-in-Chain.ensures at c.in_ok-expression-in-Chain.ensures.emits) (rw c.deref-in-Chain-2.ensures at c.in_ok-operand-in-Chain.ensures.emits) (rw c.deref-in-Chain-3.ensures.value at p)) c.operands.ensures.emits;
+      emits = chain_emits c.args.visible.now _ _ c.in-Chain.second.value c.in-Chain.more.items tree c.requires.legal _ _ _ _ c.args.depth (rw c.deref-in-Chain.ensures at c.in_ok-of_width-in-Chain.ensures.emits)
+          (rw c.deref-in-Chain-2.ensures at c.in_ok-operand-in-Chain.ensures.emits) (rw c.deref-in-Chain-3.ensures.value at c.in_ok-operands-in-Chain.ensures.emits);
     }
 
 pub operands-operand-requires : goal.operands-operand-requires
@@ -56,52 +56,58 @@ operands-loop-operand-preserved t c = one_emitted c.args.visible.now _ _ _ _ _ _
 pub operand-returns-in_ok-above-in-Some : goal.operand-returns-in_ok-above-in-Some
 operand-returns-in_ok-above-in-Some t c = record {
   emits = on_ok_weaker _ (λ p. operand_at c.quiet_stays.ensures c.args.visible.now _ _ _ c.args.depth _ _ c.args.operand.now _ c.in_ok-second-in-Some.ensures.more c.in_ok-above-in-Some.ensures.more
-      (sym c.binary_operation.ensures ∙ c.in-Some.is) c.in_ok-expression-in-Some.ensures.emits p) c.emit.ensures.adds;
+      (sym c.binary_operation.ensures ∙ c.in-Some.is) c.in_ok-of_width-in-Some.ensures.emits p) c.emit.ensures.adds;
 }
 
 pub short_circuit-returns-in-OrElse : goal.short_circuit-returns-in-OrElse
 short_circuit-returns-in-OrElse t c = record {
   emits = or_else_at c.quiet_stays.ensures c.expressions_are_typed.ensures c.args.visible.now _ _ _ _ _ _ c.args.depth _ _ _ _ _ c.args.operand.now c.in_ok-one.ensures.more c.in_ok-above.ensures.more (search rules)
-      c.in_ok-emit.ensures.adds c.in_ok-emit-2.ensures.adds c.in_ok-emit-3.ensures.adds c.in_ok-expression.ensures.emits c.in_ok-end.ensures.end c.in-OrElse.is c.patch.ensures.patches;
+      c.in_ok-emit.ensures.adds c.in_ok-emit-2.ensures.adds c.in_ok-emit-3.ensures.adds c.in_ok-of_width.ensures.emits c.in_ok-end.ensures.end c.in-OrElse.is c.patch.ensures.patches;
 }
 
 pub short_circuit-returns-in_default : goal.short_circuit-returns-in_default
 short_circuit-returns-in_default t c = record {
   emits = and_then_at c.quiet_stays.ensures c.expressions_are_typed.ensures c.args.visible.now _ _ _ _ _ _ c.args.depth _ _ _ _ _ c.args.operand.now c.in_ok-one.ensures.more c.in_ok-above.ensures.more (search rules)
-      c.in_ok-emit.ensures.adds c.in_ok-emit-2.ensures.adds c.in_ok-emit-3.ensures.adds c.in_ok-expression.ensures.emits c.in_ok-end.ensures.end c.requires.short c.in_default.not-OrElse c.patch-in_default.ensures.patches;
+      c.in_ok-emit.ensures.adds c.in_ok-emit-2.ensures.adds c.in_ok-emit-3.ensures.adds c.in_ok-of_width.ensures.emits c.in_ok-end.ensures.end c.requires.short c.in_default.not-OrElse c.patch-in_default.ensures.patches;
 }
 
 -- ---- others
 
-pub expression-returns-in-Number : goal.expression-returns-in-Number
-expression-returns-in-Number t c = record { emits = rw c.in-Number.is (on_ok_weaker _ (λ p. number_emits c.quiet_stays.ensures c.args.visible.now _ _ _ _ _ c.in-Number.value (search rules) p) c.emit.ensures.adds) }
+pub expression-returns-in_ok-emit-in-Number : goal.expression-returns-in_ok-emit-in-Number
+expression-returns-in_ok-emit-in-Number t c = record { emits = rw c.in-Number.is (number_emits c.quiet_stays.ensures c.args.visible.now _ _ _ _ _ c.in-Number.value (search rules) c.in_ok-emit-in-Number.ensures.adds) }
 
 pub expression-returns-in-Parenthesized : goal.expression-returns-in-Parenthesized
-expression-returns-in-Parenthesized t c = record { emits = rw c.in-Parenthesized.is (on_ok_weaker _ (λ p. parenthesized_emits c.quiet_stays.ensures c.args.visible.now _ _ _ _ _ p) (rw c.deref.ensures at c.expression.ensures.emits)) }
+expression-returns-in-Parenthesized t c = record { emits = rw c.in-Parenthesized.is (IfOk-weaker _ _ _ (λ w p. parenthesized_emits c.quiet_stays.ensures c.args.visible.now _ _ _ w _ _ p) (rw c.deref.ensures at c.expression.ensures.emits)) }
 
-pub expression-returns-in_ok-above-in-Some : goal.expression-returns-in_ok-above-in-Some
-expression-returns-in_ok-above-in-Some t c = record {
-  emits = rw c.in-Unary.is (on_ok_weaker _ (λ p. unary_at c.quiet_stays.ensures c.args.visible.now _ _ _ c.args.depth _ _ c.in-Unary.operator _ _ c.in_ok-above-in-Some.ensures.more (sym c.unary_operation.ensures ∙ c.in-Some.is)
-      (rw c.deref-in-Unary.ensures at c.in_ok-expression-in-Unary.ensures.emits) p) c.emit-in-Some.ensures.adds);
+pub expression-returns-in_ok-emit-in-Some : goal.expression-returns-in_ok-emit-in-Some
+expression-returns-in_ok-emit-in-Some t c = record {
+  emits = rw c.in-Unary.is (unary_at c.quiet_stays.ensures c.args.visible.now _ _ _ c.args.depth _ _ c.in-Unary.operator _ _ c.in_ok-above-in-Some.ensures.more (sym c.unary_operation.ensures ∙ c.in-Some.is)
+      (rw c.deref-in-Unary.ensures at c.in_ok-of_width-in-Unary.ensures.emits) c.in_ok-emit-in-Some.ensures.adds);
 }
 
 pub expression-returns-in-None : goal.expression-returns-in-None
 expression-returns-in-None t c = record {
   emits = rw c.in-Unary.is (sign_emits c.quiet_stays.ensures c.args.visible.now _ _ c.args.depth _ c.in-Unary.operator _ (sym c.unary_operation.ensures ∙ c.in-None.is)
-      (rw c.deref-in-Unary.ensures at c.in_ok-expression-in-Unary.ensures.emits));
+      (rw c.deref-in-Unary.ensures at c.in_ok-of_width-in-Unary.ensures.emits));
+}
+
+-- the words that were told are those that were wanted
+pub of_width-returns : goal.of_width-returns
+of_width-returns t c = record {
+  emits = subst (λ n. EmitsExpression c.args.visible.now c.args.self.now c.args.depth n (expr_tree c.args.e.now) c.expression.new.self) c.if-branch-width.false c.in_ok-expression.ensures.emits;
 }
 
 -- ---- if expressions
 
-pub expression-expression-requires-in-Conditional : goal.expression-expression-requires-in-Conditional
-expression-expression-requires-in-Conditional t c =
+pub expression-of_width-requires-in-Conditional : goal.expression-of_width-requires-in-Conditional
+expression-of_width-requires-in-Conditional t c =
     let s = c.args.visible.now.scope in
     let tree = ap expr_tree c.in-Conditional.is ∙ c.conditional_by_parts.ensures c.in-Conditional.field-0 c.in-Conditional.condition c.in-Conditional.value c.in-Conditional.elsifs c.in-Conditional.last in
     let parts = conditional_legal s _ c.in-Conditional.field-0 _ _ c.in-Conditional.elsifs.items _ tree c.requires.legal in
     (search (rules, expressions.the_lemmas), subst (λ e. IsLegal s (expr_tree e)) (sym c.deref-in-Conditional.ensures) parts.condition)
 
-pub expression-expression-requires-in-Conditional-2 : goal.expression-expression-requires-in-Conditional-2
-expression-expression-requires-in-Conditional-2 t c =
+pub expression-expression-requires-in-Conditional : goal.expression-expression-requires-in-Conditional
+expression-expression-requires-in-Conditional t c =
     let s = c.args.visible.now.scope in
     let tree = ap expr_tree c.in-Conditional.is ∙ c.conditional_by_parts.ensures c.in-Conditional.field-0 c.in-Conditional.condition c.in-Conditional.value c.in-Conditional.elsifs c.in-Conditional.last in
     let parts = conditional_legal s _ c.in-Conditional.field-0 _ _ c.in-Conditional.elsifs.items _ tree c.requires.legal in
@@ -114,75 +120,79 @@ expression-elsifs-requires t c =
     let parts = conditional_legal s _ c.in-Conditional.field-0 _ _ c.in-Conditional.elsifs.items _ tree c.requires.legal in
     (search (rules, expressions.the_lemmas), subst (λ all. AreLegalBranches s (map branch_of all)) (sym c.deref-in-Conditional-3.ensures.value) parts.elsifs)
 
-pub expression-expression-requires-in-Conditional-3 : goal.expression-expression-requires-in-Conditional-3
-expression-expression-requires-in-Conditional-3 t c =
+pub expression-of_width-requires-in-Conditional-2 : goal.expression-of_width-requires-in-Conditional-2
+expression-of_width-requires-in-Conditional-2 t c =
     let s = c.args.visible.now.scope in
     let tree = ap expr_tree c.in-Conditional.is ∙ c.conditional_by_parts.ensures c.in-Conditional.field-0 c.in-Conditional.condition c.in-Conditional.value c.in-Conditional.elsifs c.in-Conditional.last in
     let parts = conditional_legal s _ c.in-Conditional.field-0 _ _ c.in-Conditional.elsifs.items _ tree c.requires.legal in
     (search (rules, expressions.the_lemmas), subst (λ e. IsLegal s (expr_tree e)) (sym c.deref-in-Conditional-4.ensures) parts.last)
 
-pub expression-returns-in_ok-expression-in-Conditional-3 : goal.expression-returns-in_ok-expression-in-Conditional-3
-expression-returns-in_ok-expression-in-Conditional-3 t c =
+pub expression-returns-in_ok-rejoin-in-Conditional : goal.expression-returns-in_ok-rejoin-in-Conditional
+expression-returns-in_ok-rejoin-in-Conditional t c =
     let v = c.args.visible.now in
     let depth = c.args.depth in
+    let width = c.in_ok-width-in-Conditional.width in
     let tree = ap expr_tree c.in-Conditional.is ∙ c.conditional_by_parts.ensures c.in-Conditional.field-0 c.in-Conditional.condition c.in-Conditional.value c.in-Conditional.elsifs c.in-Conditional.last in
-    let first = branch_closed v depth _ _ _ _ _ _ _ _ _ _ c.in_ok-test-in-Conditional.ensures.place
-    (subst (λ e. EmitsExpression v c.args.self.now depth (expr_tree e) c.expression-in-Conditional.new.self) c.deref-in-Conditional.ensures c.in_ok-expression-in-Conditional.ensures.emits)
+    let first = branch_closed v depth width _ _ _ _ _ _ _ _ _ _ _ c.in_ok-raised-in-Conditional.ensures.more c.in_ok-test-in-Conditional.ensures.place
+    (subst (λ e. EmitsExpression v c.args.self.now depth 1 (expr_tree e) c.of_width-in-Conditional.new.self) c.deref-in-Conditional.ensures c.in_ok-of_width-in-Conditional.ensures.emits)
     c.in_ok-test-in-Conditional.ensures.adds
-    (subst (λ e. EmitsExpression v c.test.new.self depth (expr_tree e) c.expression-in-Conditional-2.new.self) c.deref-in-Conditional-2.ensures c.in_ok-expression-in-Conditional-2.ensures.emits)
+    (subst (λ e. EmitsExpression v c.test.new.self depth width (expr_tree e) c.expression-in-Conditional.new.self) c.deref-in-Conditional-2.ensures c.in_ok-width-in-Conditional.ensures.emits)
     c.in_ok-close-in-Conditional.ensures.closes in
-    let others = subst (λ all. AddsBranches v c.close.new.self depth (map branch_of all) c.close.new.waiting.items c.elsifs.new.waiting.items c.elsifs.new.self) c.deref-in-Conditional-3.ensures.value c.in_ok-elsifs-in-Conditional.ensures.adds in
-    let last = subst (λ e. EmitsExpression v c.elsifs.new.self depth (expr_tree e) c.expression-in-Conditional-3.new.self) c.deref-in-Conditional-4.ensures c.in_ok-expression-in-Conditional-3.ensures.emits in
+    let others = subst (λ all. AddsBranches v c.close.new.self depth width (map branch_of all) c.close.new.waiting.items c.elsifs.new.waiting.items c.elsifs.new.self) c.deref-in-Conditional-3.ensures.value c.in_ok-elsifs-in-Conditional.ensures.adds in
+    let last = subst (λ e. EmitsExpression v c.elsifs.new.self depth width (expr_tree e) c.of_width-in-Conditional-2.new.self) c.deref-in-Conditional-4.ensures c.in_ok-of_width-in-Conditional-2.ensures.emits in
     record {
-      emits = on_ok_weaker _ (λ r.
-          subst (λ e. EmitsExpression v c.args.self.now depth e c.rejoin.new.self) (sym tree)
-          (whole_at v depth _ _ _ _ _ _ _ _ _ _ _ _ _ c.deref-in-Conditional-5.result.now c.new-waiting.ensures.items c.deref-in-Conditional-5.ensures.value first others last c.quiet_stays.ensures refl r c.in-Conditional.field-0))
-          c.rejoin.ensures.rejoins;
+      emits = subst (λ e. EmitsExpression v c.args.self.now depth width e c.rejoin.new.self) (sym tree)
+          (whole_at v depth width _ _ _ _ _ _ _ _ _ _ _ _ _ c.deref-in-Conditional-5.result.now c.new-waiting.ensures.items c.deref-in-Conditional-5.ensures.value first others last c.quiet_stays.ensures refl
+          c.in_ok-rejoin-in-Conditional.ensures.rejoins c.in-Conditional.field-0);
     }
 
-pub elsifs-expression-requires : goal.elsifs-expression-requires
-elsifs-expression-requires t c = (search (rules, expressions.the_lemmas), (legal_branch c.args.visible.now.scope c.args.elsifs.now _ _ c.loop-elsif-test.true c.elsif-item.is c.requires.legal).0)
+pub elsifs-of_width-requires : goal.elsifs-of_width-requires
+elsifs-of_width-requires t c = (search (rules, expressions.the_lemmas), (legal_branch c.args.visible.now.scope c.args.elsifs.now _ _ c.loop-elsif-test.true c.elsif-item.is c.requires.legal).0)
 
-pub elsifs-expression-requires-in-loop-elsif : goal.elsifs-expression-requires-in-loop-elsif
-elsifs-expression-requires-in-loop-elsif t c = (search (rules, expressions.the_lemmas), (legal_branch c.args.visible.now.scope c.args.elsifs.now _ _ c.loop-elsif-test.true c.elsif-item.is c.requires.legal).1)
+pub elsifs-of_width-requires-in-loop-elsif : goal.elsifs-of_width-requires-in-loop-elsif
+elsifs-of_width-requires-in-loop-elsif t c = (search (rules, expressions.the_lemmas), (legal_branch c.args.visible.now.scope c.args.elsifs.now _ _ c.loop-elsif-test.true c.elsif-item.is c.requires.legal).1)
 
 pub elsifs-loop-elsif-preserved : goal.elsifs-loop-elsif-preserved
 elsifs-loop-elsif-preserved t c =
-    branches_next c.args.visible.now _ _ _ c.args.depth c.args.elsifs.now _ c.elsif-item.result _ _ _ c.loop-elsif-test.true c.elsif-item.is c.loop-elsif.invariant
-    (branch_closed c.args.visible.now c.args.depth _ _ _ _ _ _ _ _ _ _ c.in_ok-test.ensures.place c.in_ok-expression.ensures.emits c.in_ok-test.ensures.adds c.in_ok-expression-2.ensures.emits c.in_ok-close.ensures.closes)
+    branches_next c.args.visible.now _ _ _ c.args.depth c.args.width c.args.elsifs.now _ c.elsif-item.result _ _ _ c.loop-elsif-test.true c.elsif-item.is c.loop-elsif.invariant
+    (branch_closed c.args.visible.now c.args.depth c.args.width _ _ _ _ _ _ _ _ _ _ _ c.in_ok-raised.ensures.more c.in_ok-test.ensures.place c.in_ok-of_width.ensures.emits c.in_ok-test.ensures.adds
+    c.in_ok-of_width-2.ensures.emits c.in_ok-close.ensures.closes)
+
+pub elsifs-loop-elsif-init : goal.elsifs-loop-elsif-init
+elsifs-loop-elsif-init t c = adds_none c.args.visible.now c.args.self.now c.args.depth c.args.width c.args.waiting.now.items
 
 pub elsifs-returns : goal.elsifs-returns
-elsifs-returns t c = record { adds = all_branches c.args.visible.now _ _ c.args.depth c.args.elsifs.now _ _ _ c.loop-elsif-test.false c.loop-elsif.invariant }
+elsifs-returns t c = record { adds = all_branches c.args.visible.now _ _ c.args.depth c.args.width c.args.elsifs.now _ _ _ c.loop-elsif-test.false c.loop-elsif.invariant }
 
 -- ---- checks and conversions
 
 pub checked-returns-in_ok-above-in-Some-Integer : goal.checked-returns-in_ok-above-in-Some-Integer
 checked-returns-in_ok-above-in-Some-Integer t c = record {
-  emits = on_ok_weaker _ (λ p. checked_emits c.quiet_stays.ensures c.expressions_are_typed.ensures c.values_have_words.ensures c.args.visible.now _ _ c.args.depth c.args.subtype _ c.requires.fit c.in_ok-expression.ensures.emits
+  emits = on_ok_weaker _ (λ p. checked_emits c.quiet_stays.ensures c.expressions_are_typed.ensures c.values_have_words.ensures c.args.visible.now _ _ c.args.depth c.args.subtype _ c.requires.fit c.in_ok-of_width.ensures.emits
       _ _ _ _ _ _ _ _ c.in_ok-one-in-Some-Integer.ensures.more c.in_ok-two-in-Some-Integer.ensures.more c.in_ok-above-in-Some-Integer.ensures.more (search rules) (search rules)
       c.in_ok-emit-in-Some-Integer.ensures.adds c.in_ok-emit-in-Some-Integer-2.ensures.adds p (search rules)) c.emit-in-Some-Integer-2.ensures.adds;
 }
 
 pub checked-returns-in-Some-Boolean : goal.checked-returns-in-Some-Boolean
 checked-returns-in-Some-Boolean t c = record {
-  emits = unchecked_emits c.quiet_stays.ensures c.expressions_are_typed.ensures c.values_have_words.ensures c.args.visible.now _ _ c.args.depth c.args.subtype _ c.requires.fit c.in_ok-expression.ensures.emits (search rules);
+  emits = unchecked_emits c.quiet_stays.ensures c.expressions_are_typed.ensures c.values_have_words.ensures c.args.visible.now _ _ c.args.depth c.args.subtype _ c.requires.fit c.in_ok-of_width.ensures.emits (search rules);
 }
 
 pub conversion-returns-in-Expr : goal.conversion-returns-in-Expr
 conversion-returns-in-Expr t c =
     let one = one_argument c.args.arguments.now c.in-Expr.e c.argument-item.result c.in-len1.len_at_least c.in-len1.len_below c.argument-item.is c.in-Expr.is in
     record {
-      emits = on_ok_weaker _ (λ p. subst (λ all. EmitsExpression c.args.visible.now c.args.self.now c.args.depth (Named c.args.first.now (MoreSelectors (Arguments all) NoSelectors)) c.checked.new.self) (sym one)
+      emits = on_ok_weaker _ (λ p. subst (λ all. EmitsExpression c.args.visible.now c.args.self.now c.args.depth 1 (Named c.args.first.now (MoreSelectors (Arguments all) NoSelectors)) c.checked.new.self) (sym one)
           (conversion_emits c.quiet_stays.ensures c.args.visible.now _ _ c.args.depth c.args.first.now (expr_tree c.in-Expr.e) c.args.subtype c.requires.stands
           (subst (λ all. IsLegal c.args.visible.now.scope (Named c.args.first.now (MoreSelectors (Arguments all) NoSelectors))) one c.requires.legal) p)) c.checked.ensures.emits;
     }
 
 -- ---- names
 
-pub name-returns-in-Some : goal.name-returns-in-Some
-name-returns-in-Some t c = record {
-  emits = on_ok_weaker _ (λ p. fixed_emits c.quiet_stays.ensures c.args.visible.now _ _ c.args.depth c.args.name.now.first _ _ c.in-Some.value (search rules) c.requires.legal
-      (sym (ap fixed_value c.standing.ensures) ∙ sym c.fixed_value.ensures ∙ c.in-Some.is) p) c.emit.ensures.adds;
+pub name-returns-in_ok-emit-in-Some : goal.name-returns-in_ok-emit-in-Some
+name-returns-in_ok-emit-in-Some t c = record {
+  emits = fixed_emits c.quiet_stays.ensures c.args.visible.now _ _ c.args.depth c.args.name.now.first _ _ c.in-Some.value (search rules) c.requires.legal
+      (sym (ap fixed_value c.standing.ensures) ∙ sym c.fixed_value.ensures ∙ c.in-Some.is) c.in_ok-emit-in-Some.ensures.adds;
 }
 
 -- ---- parts of objects
@@ -198,11 +208,11 @@ element-returns-clause-emits t c =
     (subst (λ all. IsLegalPart v.scope c.args.subtype (Arguments all)) one c.requires.legal)
     few (uncapped_words _ _ c.words-words.ensures (search rules)) c.in_ok-checked.ensures.emits c.in_ok-offset.ensures.adds)
 
-pub part-returns-in-1 : goal.part-returns-in-1
-part-returns-in-1 t c = record {
-  emits = on_ok_weaker _ (λ p. part_emits c.quiet_stays.ensures c.values_have_words.ensures c.parts_have_places.ensures c.args.visible.now _ _ _ _ c.args.depth _ c.args.first.now c.args.selectors.now
+pub part-returns : goal.part-returns
+part-returns t c = record {
+  emits = part_emits c.quiet_stays.ensures c.values_have_words.ensures c.parts_have_places.ensures c.args.visible.now _ _ _ _ c.args.depth _ c.words-words.result c.args.first.now c.args.selectors.now
       c.requires.stands.0 c.args.subtype c.in_ok-last.last c.args.slot _ c.in_ok-address.ensures.more (search rules) c.requires.legal c.requires.stands.1 c.requires.valueless c.requires.there c.requires.parts
-      (one_word _ (sym c.words.ensures ∙ c.in-1.is)) c.in_ok-emit.ensures.adds c.in_ok-last.ensures.emits p) c.emit-in-1.ensures.adds;
+      (block_words _ _ c.words-words.ensures c.in_ok-load_block.ensures.block) c.in_ok-load_block.ensures.block c.in_ok-emit.ensures.adds c.in_ok-last.ensures.emits c.in_ok-load_block.ensures.adds;
 }
 
 pub path-select-requires : goal.path-select-requires

@@ -8,7 +8,7 @@ use Rattle.expr_code.specs.Going.{EmitsPath, IsLegalPath}
 use Rattle.expr_code.proofs.code.Code.+expression.Given as goal
 
 abbrev pub invariant-elsifs-loop-elsif : goal.invariant-elsifs-loop-elsif
-invariant-elsifs-loop-elsif l = AddsBranches l.visible l.fn.self l.depth (map branch_of (take l.elsif-index l.elsifs)) l.fn.waiting.items l.waiting.items l.self
+invariant-elsifs-loop-elsif l = AddsBranches l.visible l.fn.self l.depth l.width (map branch_of (take l.elsif-index l.elsifs)) l.fn.waiting.items l.waiting.items l.self
 
 abbrev pub invariant-actuals-loop-index : goal.invariant-actuals-loop-index
 invariant-actuals-loop-index l =

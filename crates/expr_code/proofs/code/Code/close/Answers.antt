@@ -1,6 +1,6 @@
 use Rattle.std.proofs.Common.{rules, subst}
 use Rattle.image.specs.declared.instruction.Operation.TheVariants as op
-use Rattle.expr_code.specs.Code.{Adds, Patches}
+use Rattle.expr_code.specs.Code.{Patches}
 use Rattle.expr_code.proofs.code.Code.close.Goals as goal
 
 pub returns : goal.returns
@@ -8,7 +8,7 @@ returns c = record {
   closes = record {
     closed = c.emit.new.self;
     waits = search rules;
-    adds = subst (λ n. Adds c.args.self.now n (op.Jump 0) c.emit.new.self) c.in_ok-above.ensures.more c.in_ok-emit.ensures.adds;
+    adds = c.in_ok-emit.ensures.adds;
     patches = subst (λ n. Patches c.emit.new.self c.args.test (op.JumpIfZero n) c.patch.new.self) c.in_ok-next.ensures.end c.patch.ensures.patches;
   };
 }
