@@ -1,8 +1,8 @@
-mod Coming
+pub mod Coming
 mod Operators
 mod Expressions
 mod Passing
-mod Calling
+pub mod Calling
 mod Naming
 mod Locating
 mod Paths

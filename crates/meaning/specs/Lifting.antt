@@ -10,7 +10,7 @@ use Rattle.kernel.specs.PutLaws.{same_or_not, put_same, put_other, put_self}
 use Rattle.kernel.specs.RunLaws.{run_plus, step_running, solo_back, back_back, among_alone, unseen_trans, unseen_run}
 use Rattle.meaning.specs.Same.{ShowSame}
 use Rattle.meaning.specs.Following.{Follows, Waits, Steps, Paced, steps_for, follows_paced, paced_same}
-use Rattle.meaning.specs.Meeting.{Relation, Takes, Last, OwnStep, Over, Within, spent, taken, Counted, Idle, Busy, received, Met, Still, Moves, Owed, Meets, Related}
+use Rattle.meaning.specs.Meeting.{Relation, Takes, Last, OwnStep, Over, Within, spent, taken, Counted, Idle, Busy, Begun, received, Met, Still, Moves, Walks, Owed, Meets, Related}
 
 -- Counted steps are steps
 
@@ -172,6 +172,23 @@ module _ {M S G N T H : Type 0} (f : Behaviour M S G) (g : Behaviour N T H) (rel
             let keeps = subst Keeps to_end (kept_run (suc x.0) other r.keeps) in
             Steps x.0 (Busy t n s runs takes low (sym x.1))
             (subst (λ v. Rel v (run (among g) (suc x.0) other)) (sym ef) (subst (λ w. Rel (record { kernel = after t a.effect k; rest = (among f k t c).rest }) w) (sym to_end) (record { same = refl; keeps = keeps; shared = sh; stands = stand })))
+
+        met_next (Walks j n s takes many low q sh st) =
+            let p = (f.act k t (solo_of t c)).solo in
+            let e = (f.act k t (solo_of t c)).effect in
+            let calm = (meets.runner other t r.keeps runs).calm in
+            let stays : after t e k ≡ k = ap (λ x. after t x k) q ∙ quiet k t calm in
+            let there : step (among f) one ≡ record { kernel = k; rest = put_back t c p } =
+            step_running (among f) k t c runs ∙ (λ i. record { kernel = stays i; rest = among_alone f t k c (ap (λ x. ending k t x) q) i }) in
+            let x = taken_unseen g t frames limit takes in
+            let count : x.0 ≡ suc j = omega (arith, x.1, many) in
+            let end : World (Tasks N T) = record { kernel = k; rest = put_back t d s } in
+            let to_end : run (among g) (suc j) other ≡ end = unseen_run g t (suc j) d k k s (subst (λ m. Unseen g t m k (solo_of t d) k s) count x.2) in
+            let stand : (u : ℕ) → rel.stands k u (put t p.task c.tasks u) (put t s.task d.tasks u) =
+            λ u. put_at (rel.stands k u) t u p.task s.task c.tasks d.tasks (λ same. subst (λ m. rel.stands k m p.task s.task) (sym same) st) (λ ne. r.stands u) in
+            let keeps = subst Keeps to_end (kept_run (suc j) other r.keeps) in
+            Steps j (Begun t n s runs takes low (sym many))
+            (subst (λ v. Rel v (run (among g) (suc j) other)) (sym there) (subst (λ w. Rel (record { kernel = k; rest = put_back t c p }) w) (sym to_end) (record { same = refl; keeps = keeps; shared = sh; stands = stand })))
 
       next_at : (o : Option Outcome) (u : Option ℕ) → k.outcome ≡ o → k.running ≡ u → Rel one other → Next one other
       next_at (Some o) u e h r = idle r (λ t runs. cc (e, runs.on)) (ap (λ x. step_of (among f) k c x k.running) e) (ap (λ x. step_of (among g) k d x k.running) e)

@@ -63,6 +63,14 @@ pub data Counted {N T H : Type 0} (g : Behaviour N T H) (frames limit : T → �
       → n ≤ limit (w.rest.tasks t)
       → j ≡ taken g t frames limit all
       → Counted g frames limit w j
+  -- the same without the last one
+  Begun :
+      (t n : ℕ) (s : Solo N T)
+      → IsRunner w.kernel t
+      → (all : Takes g t frames limit (frames (w.rest.tasks t)) n w.kernel (solo_of t w.rest) w.kernel s)
+      → n ≤ limit (w.rest.tasks t)
+      → suc j ≡ taken g t frames limit all
+      → Counted g frames limit w j
 
 -- what is known of the running task t
 pub record Runner (k : Kernel) (t : ℕ) : Type 0 where
@@ -100,6 +108,16 @@ module _ {M S G N T H : Type 0} (f : Behaviour M S G) (g : Behaviour N T H) (rel
         → (g.act k t c).effect ≡ (f.act k t a).effect
         → rel.shares (f.act k t a).solo.memory (g.act k t c).solo.memory
         → rel.leaves k t (f.act k t a).effect (f.act k t a).solo.task (g.act k t c).solo.task (f.act k t a).given (g.act k t c).given
+        → Met k t a b
+    -- a quiet step, by some steps that no other task notices, up to one that is still to be taken
+    Walks :
+        (j n : ℕ) (c : Solo N T)
+        → (all : Takes g t frames limit (frames b.task) n k b k c)
+        → taken g t frames limit all ≡ suc (suc j)
+        → n ≤ limit b.task
+        → (f.act k t a).effect ≡ Quiet
+        → rel.shares (f.act k t a).solo.memory c.memory
+        → rel.stands k t (f.act k t a).solo.task c.task
         → Met k t a b
 
   -- what stands once the effect has reached the others: the task itself, the caller that it takes over or has served, and every other one

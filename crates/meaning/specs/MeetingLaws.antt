@@ -6,7 +6,7 @@ use Rattle.kernel.specs.Worlds.{Solo, Act, Behaviour, ending}
 use Rattle.kernel.specs.Calm.{IsRunner, Calm}
 use Rattle.kernel.specs.Counting.{Alone, Spends, Done, Own, Calls, next_kernel, next_solo}
 use Rattle.kernel.specs.Laws.{QuietStays}
-use Rattle.meaning.specs.Meeting.{Relation, Takes, Last, OwnStep, Over, Within, Met, Still, Moves}
+use Rattle.meaning.specs.Meeting.{Relation, Takes, Last, OwnStep, Over, Within, taken, Met, Still, Moves, Walks}
 
 module _ {N T H : Type 0} (g : Behaviour N T H) (t : ℕ) (frames limit : T → ℕ) where
   pub takes_more : {d n : ℕ} {k l : Kernel} {s r : Solo N T} (m : ℕ) → n ≤ m → Takes g t frames limit d n k s l r → Takes g t frames limit d m k s l r
@@ -99,3 +99,17 @@ module _ {M S G N T H : Type 0} (f : Behaviour M S G) (g : Behaviour N T H) (rel
       (ap (λ z. z.effect) there ∙ (e ∙ sym (ap (λ z. z.effect) is)))
       (subst (λ z. rel.shares z.solo.memory (g.act k t c).solo.memory) (sym is) (subst (λ z. rel.shares x.solo.memory z.solo.memory) (sym there) sh))
       (subst (λ z. rel.leaves k t z.effect z.solo.task (g.act k t c).solo.task z.given (g.act k t c).given) (sym is) (subst (λ z. rel.leaves k t x.effect x.solo.task z.solo.task x.given z.given) (sym there) leaves))
+
+  -- ... up to a step that is still to be taken
+  pub walks_by :
+      (j n : ℕ) (c : Solo N T) (x : Act M S G)
+      → f.act k t a ≡ x
+      → (all : Takes g t frames limit (frames b.task) n k b k c)
+      → taken g t frames limit all ≡ suc (suc j)
+      → n ≤ limit b.task
+      → x.effect ≡ Quiet
+      → rel.shares x.solo.memory c.memory
+      → rel.stands k t x.solo.task c.task
+      → Met f g rel frames limit k t a b
+  walks_by j n c x is all many low e sh st =
+      Walks j n c all many low (ap (λ y. y.effect) is ∙ e) (subst (λ y. rel.shares y.solo.memory c.memory) (sym is) sh) (subst (λ y. rel.stands k t y.solo.task c.task) (sym is) st)

@@ -1,0 +1,5 @@
+mod Going
+mod Sizes
+mod Scenes
+mod Turning
+mod Matching

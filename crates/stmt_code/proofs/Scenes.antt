@@ -1,0 +1,660 @@
+-- A step of a task and the frame that stands for its work: how steps meet, exceptions on their way, items without code, ways out.
+use Rattle.std.proofs.Common.{◌≡◌, ℕ, suc, ◌+◌, ◌-◌, ◌<◌, ◌≤◌, ◌⊎◌, inl, inr, ⊎_elim, ℤ, List, [], ◌∷◌, length, map, Option, Some, None, refl, sym, ap, ◌∙◌, subst, arith}
+use Rattle.std.specs.Prelude.{◌++◌}
+use Rattle.base.specs.declared.schedule.ScheduleLine.{ScheduleLine}
+use Rattle.base.specs.declared.limits.TheConstants.{FRAMES}
+use Rattle.kernel.specs.State.{Kernel, Outcome}
+use Rattle.kernel.specs.State as kernels
+use Rattle.kernel.specs.Effects.{Quiet, Finishes, Dies, after}
+use Rattle.kernel.specs.Worlds.{Solo}
+use Rattle.kernel.specs.Calm.{Calm}
+use Rattle.kernel.specs.Counting.{Spends, Done}
+use Rattle.kernel.specs.Laws.{QuietStays}
+use Rattle.kernel.specs.RunLaws.{spends_trans, spends_more}
+use Rattle.handlers.specs.Innermost.{handler_of}
+use Rattle.image.specs.Sections.{Sections}
+use Rattle.image.specs.Frames.{Words, Frame, TaskState, object_words, own_object}
+use Rattle.image.specs.Steps as steps
+use Rattle.image.specs.Steps.{act, behaviour, caught, does_operation, removed, unwind}
+use Rattle.image.specs.declared.instruction.Operation.{Operation}
+use Rattle.image.specs.declared.instruction.Operation.TheVariants as op
+use Rattle.image.specs.declared.instruction.Region.TheVariants as regions
+use Rattle.ada_tree.specs.StatementTree.{DeclarationTree, Null, Exit, Return, Block, StmtTrees, HandlerTrees, NoHandlers}
+use Rattle.types.specs.Evaluations.{Val, Gives, Raises, Meaningless}
+use Rattle.types.specs.Evaluating.{Calls, call}
+use Rattle.types.specs.Places.{Place}
+use Rattle.meaning.specs.Meeting.{Takes, Last, OwnStep, Over, Within, taken, spent, Met}
+use Rattle.meaning.specs.MeetingLaws.{spends_takes, still_by, moves_by, walks_by}
+use Rattle.meaning.specs.Lifting.{taken_unseen}
+use Rattle.meaning.specs.Programs.{Program}
+use Rattle.meaning.specs.SameMeaning.{frames_of}
+use Rattle.meaning.specs.SourceSteps as source
+use Rattle.meaning.specs.SourceSteps.{here_of, place_of, program_behaviour, with_value, work_step}
+use Rattle.meaning.specs.Works.{Item, Declares, DeclaresParameter, Sequence, Does, DoesMain, Repeats, RepeatsWhile, RepeatsFor, Handles, EndsHandler, EndsCall, EndsAction, EndsServed, Queued, Goes, Raising, Activation, Store, Target, TaskWork, ends_of_calls, frames_left}
+use Rattle.sound_steps.specs.Holding.{IsSoundStep, IsSoundStore, IsSoundTask, waits_after}
+use Rattle.sound_steps.specs.Laws.{Premises, StepsAreSound}
+use Rattle.sound_steps.specs.Opened.{opened_in}
+use Rattle.expr_code.specs.Views.{At, in_frame, placed, view_of}
+use Rattle.expr_code.specs.Coming.{Comes, Throws, most_steps, size_of}
+use Rattle.expr_code.specs.Computing.{Everywhere}
+use Rattle.expr_code.specs.Seeing.{Package, Sees, SeesPackage, library_of}
+use Rattle.expr_code.specs.declared.visible.Visible.{Visible}
+use Rattle.expr_code.proofs.Coming.{acts, after_first}
+use Rattle.expr_code.proofs.Coming as coming
+use Rattle.stmt_code.specs.Resting.{IsSmall, Narrows, Rests, StandsFor}
+use Rattle.stmt_code.specs.Statements.{Numbers}
+use Rattle.stmt_code.specs.Standing.{AreInner, Around, CodeStands, Follows, Going, Here, Inside, IsGoing, IsSound, Jumps, Leads, Over as Ended, with_visible, Raised, Shares, There, Unhandled, WorkStands, items_size, relation, work_size}
+use Rattle.stmt_code.specs.Laws.{HasCode, TasksStaySound}
+use Rattle.stmt_code.proofs.Going.{before_ends, before_follows, before_unhandled, declares_end, declares_follow, declares_unhandled, earlier, jumps_up, narrows_both, narrows_same, way_back, way_out}
+use Rattle.stmt_code.proofs.Sizes.{before_size, declares_size, item_counts}
+
+-- what is known where a task takes a step: of the image, of the program, and of both sides
+pub record Scene : Type 0 where
+  pub quiet : QuietStays
+  pub sound_steps : StepsAreSound
+  pub i : Sections
+  pub program : Program
+  pub g : Package
+  pub numbers : Numbers
+  pub has : HasCode i program g numbers
+  pub premises : Premises program
+  pub stay : TasksStaySound program
+  pub schedule : List ScheduleLine
+  pub k : Kernel
+  pub t : ℕ
+  pub calm : Calm k t
+  pub store : Store
+  pub m : Words
+  pub shares : Shares i program g numbers store m
+  pub w : TaskWork
+  pub sound : IsSound i program g numbers w
+
+module _ (this : Scene) where
+  abbrev quiet : QuietStays
+  quiet = this.quiet
+
+  abbrev sound_steps : StepsAreSound
+  sound_steps = this.sound_steps
+
+  abbrev i : Sections
+  i = this.i
+
+  abbrev program : Program
+  program = this.program
+
+  abbrev g : Package
+  g = this.g
+
+  abbrev numbers : Numbers
+  numbers = this.numbers
+
+  abbrev has : HasCode i program g numbers
+  has = this.has
+
+  abbrev premises : Premises program
+  premises = this.premises
+
+  abbrev stay : TasksStaySound program
+  stay = this.stay
+
+  abbrev schedule : List ScheduleLine
+  schedule = this.schedule
+
+  abbrev k : Kernel
+  k = this.k
+
+  abbrev t : ℕ
+  t = this.t
+
+  abbrev calm : Calm k t
+  calm = this.calm
+
+  abbrev store : Store
+  store = this.store
+
+  abbrev m : Words
+  m = this.m
+
+  abbrev shares : Shares i program g numbers store m
+  shares = this.shares
+
+  abbrev w : TaskWork
+  w = this.w
+
+  abbrev sound : IsSound i program g numbers w
+  sound = this.sound
+
+  abbrev pub now : source.Here
+  now = here_of program schedule k t (record { memory = store; task = w })
+
+  abbrev pub Meet : TaskState → Type 0
+  Meet s = Met (program_behaviour program schedule) (behaviour i schedule) (relation i program g numbers) frames_of (most_steps i) k t
+      (record { memory = store; task = w }) (record { memory = m; task = s })
+
+  abbrev pub Setting : Type 0
+  Setting = Around i program g numbers
+
+  abbrev pub seeing : Visible → Setting → Setting
+  seeing v a = with_visible i program g numbers v a
+
+  abbrev pub In : ℕ → ℕ → Type 0
+  In n place = Inside i program g numbers n place
+
+  abbrev pub Follow : Setting → (n from : ℕ) → List Item → List Frame → List Activation → Type 0
+  Follow a n from items above waiting = Follows i program g numbers a n from items above waiting
+
+  abbrev pub Removable : Frame → List Frame → Type 0
+  Removable f fs = AreInner i program g numbers f fs
+
+  -- ---- the step of the source is sound
+
+  pub step_sound : IsSoundStep now (opened_in (source.items_of w.work)) (work_step now w.work)
+  step_sound = sound_steps program schedule k t (record { memory = store; task = w }) premises shares.sound (sound store shares.sound)
+
+  module _ (x : source.Stepped) (is : work_step now w.work ≡ x) where
+    step_is : IsSoundStep now (opened_in (source.items_of w.work)) x
+    step_is = subst (λ y. IsSoundStep now (opened_in (source.items_of w.work)) y) is step_sound
+
+    store_after : IsSoundStore program x.solo.memory
+    store_after = step_is.store.sound
+
+    task_after : waits_after x.effect ≡ None → IsSound i program g numbers x.solo.task
+    task_after none m' s' = stay x.solo.memory m' x.solo.task store_after s' (subst (λ q. IsSoundTask program x.solo.memory q x.solo.task) none step_is.task)
+
+  -- no step of a sound task is without meaning
+  pub has_meaning : (items : List Item) → work_step now w.work ≡ source.means_nothing now items → ⊥
+  has_meaning items is = let e = (step_is (source.means_nothing now items) is).effect.3 in omega (arith, e)
+
+  -- ---- what is seen
+
+  pub is_small : (f : Frame) → length f.locals ≤ 65536 → (fs : List Frame) → IsSmall (view_of i schedule k m f fs)
+  is_small f small fs regions.Locals = small
+  is_small f small fs regions.Plain = shares.stands.plain
+  is_small f small fs regions.Object = of_object (own_object i f)
+    where
+      of_object : (o : Option ℕ) → length (object_words o m) ≤ 65536
+      of_object None = omega arith
+      of_object (Some o) = shares.stands.objects o
+
+  pub sees_package : (items : List Item) (f : Frame) (fs : List Frame) → length f.locals ≤ 65536
+      → SeesPackage g (place_of now items) (view_of i schedule k m f fs)
+  sees_package items f fs small =
+      shares.stands.shared (place_of now items) (view_of i schedule k m f fs)
+      (record { scope = refl; functions = refl; variables = refl; components = refl }) refl refl refl refl (is_small f small fs)
+      (shares.sound.functions (place_of now items))
+
+  pub sees_here : (v : Visible) (items : List Item) (f : Frame) (fs : List Frame) → Rests g v w.own f.locals
+      → Sees g v (place_of now items) (view_of i schedule k m f fs)
+  sees_here v items f fs rests = rests.sees (place_of now items) (view_of i schedule k m f fs) (sees_package items f fs rests.small) refl refl refl
+
+  -- what code computes, the frame comes to
+  pub evaluates : {A : Type 0} (v : Visible) (from to : ℕ) (stack : List ℤ → A → List ℤ) (value : Calls → Place
+      → Val A) (items : List Item) (f : Frame) (fs : List Frame)
+      → Everywhere i (library_of g) (Sees g v) from to stack value → Rests g v w.own f.locals → length fs ≡ ends_of_calls items
+      → Comes i schedule k t m (placed f from []) fs (to - from) to (stack []) (value (call (frames_left items)) (place_of now items))
+  evaluates v from to stack value items f fs h rests depth =
+      h (call (frames_left items)) (frames_left items) (has.functions (frames_left items)) schedule k t m f fs (place_of now items) [] calm
+      (sees_here v items f fs rests)
+      (ap (λ n. FRAMES - suc n) (sym depth))
+
+  -- ---- steps of code
+
+  -- steps up to one that is to be taken: none before it, or some
+  pub begun : {d n : ℕ} {k' l : Kernel} {s r : Solo Words TaskState} (x : Takes (behaviour i schedule) t frames_of (most_steps i) d n k' s l r)
+      → (s ≡ r) ⊎ ((j : ℕ) × (taken (behaviour i schedule) t frames_of (most_steps i) x ≡ suc (suc j)))
+  begun (Last here) = inl refl
+  begun (OwnStep alone here rest) = let x = taken_unseen (behaviour i schedule) t frames_of (most_steps i) rest in inr (x.0, ap suc x.1)
+  begun (Over alone here above low rest) =
+      let x = taken_unseen (behaviour i schedule) t frames_of (most_steps i) rest in
+      let j = spent (behaviour i schedule) t frames_of (most_steps i) above in
+      let e = x.1 in
+      inr (j + x.0, ap suc (plus j (taken (behaviour i schedule) t frames_of (most_steps i) rest) x.0 e))
+    where
+      plus : (j a b : ℕ) → a ≡ suc b → j + a ≡ suc (j + b)
+      plus j a b e = omega (arith, e)
+  begun (Within alone here above low) = let x = taken_unseen (behaviour i schedule) t frames_of (most_steps i) above in inr (x.0, ap suc x.1)
+
+  -- forward jumps, and then what comes
+  pub jumps_spend : (f : Frame) (fs : List Frame) (a b : ℕ) → Jumps i program g numbers a b
+      → Spends (behaviour i schedule) t frames_of (most_steps i) (suc (length fs)) (b - a) k (in_frame m (placed f a []) fs) k (in_frame m (placed f b []) fs)
+  jumps_spend f fs a b Here = Done
+  jumps_spend f fs a b (There {b = c} here le rest) =
+      let up = jumps_up i program g numbers c b rest in
+      let e : 1 + (b - c) ≤ b - a = omega (arith, le, up) in
+      spends_more (behaviour i schedule) t frames_of (most_steps i) (b - a) e
+      (spends_trans (behaviour i schedule) t frames_of (most_steps i) (b - c) k (in_frame m (placed f b []) fs)
+      (coming.steps quiet i schedule k t m calm (placed f a []) (placed f c []) fs (acts quiet i a (op.Jump c) here schedule k t m f fs []))
+      (jumps_spend f fs c b rest))
+
+  -- jumps, one of which may lead back to the head of a loop
+  abbrev pub Reaching : Frame → List Frame → (n from to : ℕ) → Type 0
+  Reaching f fs n from to = Spends (behaviour i schedule) t frames_of (most_steps i) (suc (length fs)) n k (in_frame m (placed f from []) fs) k
+      (in_frame m (placed f to []) fs)
+
+  -- ---- how steps meet
+
+  -- what code stands for after a step of the source with this effect
+  pub record Meets (x : source.Stepped) (y : steps.Stepped) : Type 0 where
+    pub effect : y.effect ≡ x.effect
+    pub waits : waits_after x.effect ≡ None
+    pub code : CodeStands i program g numbers (after t x.effect k) x.solo.task y.solo.task
+    pub words : StandsFor program g x.solo.memory y.solo.memory
+
+  pub inner_placed : (f : Frame) (fs : List Frame) (place : ℕ) (stack : List ℤ) → Removable f fs → Removable (placed f place stack) fs
+  inner_placed f [] place stack h = tt
+  inner_placed f (c ∷ fs) place stack h = h
+
+  -- a step of the source that evaluates, and is then met by the code's last instruction
+  pub met_comes : {A : Type 0} (f : Frame) (fs : List Frame) (n from n' to : ℕ) (stack : A → List ℤ) (v : Val A) (items : List Item) (go : A → source.Stepped)
+      → Reaching f fs n f.place from
+      → Comes i schedule k t m (placed f from []) fs n' to stack v
+      → n + n' ≤ size_of i f.subprogram + size_of i f.subprogram
+      → work_step now w.work ≡ with_value now v items go
+      → items_size items < work_size w.work
+      → Removable f fs
+      → Unhandled items
+      → ((x : A) → v ≡ Gives x → (y : steps.Stepped) × (act i schedule k t (in_frame m (placed f to (stack x)) fs) ≡ y) × Meets (go x) y)
+      → Meet (in_frame m (placed f f.place []) fs).task
+  met_comes f fs n from n' to stack (Gives x) items go first comes low is less inner unhandled last =
+      let y = last x refl in
+      let meets = y.2 in
+      moves_by (program_behaviour program schedule) (behaviour i schedule) (relation i program g numbers) frames_of (most_steps i) k t
+      (record { memory = store; task = w }) (in_frame m (placed f f.place []) fs)
+      (n + (n' + 1)) (in_frame m (placed f to (stack x)) fs) (go x) y.0 is y.1
+      (spends_takes (behaviour i schedule) t frames_of (most_steps i) (n' + 1) k (in_frame m (placed f to (stack x)) fs) first
+      (spends_takes (behaviour i schedule) t frames_of (most_steps i) 1 k (in_frame m (placed f to (stack x)) fs) comes (Last refl)))
+      (omega (arith, low)) meets.effect
+      (record { sound = store_after (go x) is; stands = meets.words })
+      (record { sound = task_after (go x) is meets.waits; code = meets.code })
+  met_comes f fs n from n' to stack (Raises x) items go first comes low is less inner unhandled last =
+      let place = comes.1 in
+      let left = comes.2 in
+      let f' = placed f place left in
+      let raised = source.raises now x items in
+      let all = spends_takes (behaviour i schedule) t frames_of (most_steps i) n' k (record { memory = m; task = comes.0 }) first comes.3 in
+      let stands : (s : TaskState) → Throws i x s f' fs → WorkStands i program g numbers k raised.solo.task s =
+      λ s throws. record { sound = task_after raised is refl; code = Raised x items f' fs refl throws (inner_placed f fs place left inner) unhandled } in
+      let sh : Shares i program g numbers raised.solo.memory m = record { sound = store_after raised is; stands = shares.stands } in
+      ⊎_elim
+      (λ e. still_by (program_behaviour program schedule) (behaviour i schedule) (relation i program g numbers) frames_of (most_steps i) k t
+      (record { memory = store; task = w }) (in_frame m (placed f f.place []) fs)
+      raised is refl sh (stands (in_frame m (placed f f.place []) fs).task (subst (λ s. Throws i x s.task f' fs) (sym e) comes.6)) less)
+      (λ j. walks_by (program_behaviour program schedule) (behaviour i schedule) (relation i program g numbers) frames_of (most_steps i) k t
+      (record { memory = store; task = w }) (in_frame m (placed f f.place []) fs)
+      j.0 (n + n') (record { memory = m; task = comes.0 }) raised is all j.1 (omega (arith, low)) refl sh (stands comes.0 comes.6))
+      (begun all)
+  met_comes f fs n from n' to stack Meaningless items go first comes low is less inner unhandled last = absurd (has_meaning items is)
+
+  -- no step of code, and what is left to do is less
+  pub met_still : (s : TaskState) (x : source.Stepped) → work_step now w.work ≡ x → x.effect ≡ Quiet → x.solo.memory ≡ store
+      → CodeStands i program g numbers k x.solo.task s
+      → work_size x.solo.task.work < work_size w.work
+      → Meet s
+  met_still s x is e same stands less =
+      still_by (program_behaviour program schedule) (behaviour i schedule) (relation i program g numbers) frames_of (most_steps i) k t
+      (record { memory = store; task = w }) (record { memory = m; task = s })
+      x is e
+      (record { sound = store_after x is; stands = subst (λ q. StandsFor program g q m) (sym same) shares.stands })
+      (record { sound = task_after x is (ap waits_after e); code = stands })
+      less
+
+  -- ---- raising
+
+  pub unwound : (x : ℕ) (f : Frame) (fs : List Frame) → Removable f fs → (unwind i m x f fs).effect ≡ Dies x
+  unwound x f [] h = ap (λ rows. (caught i m x (handler_of rows f.place x) f [] (steps.does (Dies x) m (record f { stack = [] }) [] (Some x) None)).effect)
+      has.rows
+  unwound x f (c ∷ fs) h =
+      ap (λ rows. (caught i m x (handler_of rows f.place x) f (c ∷ fs) (removed i m x f.role c fs (unwind i m x c fs))).effect) has.rows
+      ∙ ap (λ r. (removed i m x r c fs (unwind i m x c fs)).effect) h.0
+      ∙ unwound x c fs h.1
+
+  pub unwound_words : (x : ℕ) (f : Frame) (fs : List Frame) → Removable f fs → (unwind i m x f fs).solo.memory ≡ m
+  unwound_words x f [] h = ap (λ rows.
+      (caught i m x (handler_of rows f.place x) f [] (steps.does (Dies x) m (record f { stack = [] }) [] (Some x) None)).solo.memory) has.rows
+  unwound_words x f (c ∷ fs) h =
+      ap (λ rows. (caught i m x (handler_of rows f.place x) f (c ∷ fs) (removed i m x f.role c fs (unwind i m x c fs))).solo.memory) has.rows
+      ∙ ap (λ r. (removed i m x r c fs (unwind i m x c fs)).solo.memory) h.0
+      ∙ unwound_words x c fs h.1
+
+  -- where an item is dropped
+  pub met_dropped : (s : TaskState) (x : ℕ) (i' : Item) (items : List Item) (f : Frame) (fs : List Frame) → w.work ≡ Raising x (i' ∷ items)
+      → work_step now w.work ≡ source.raises now x items
+      → Throws i x s f fs → Removable f fs → Unhandled items → Meet s
+  met_dropped s x i' items f fs is step throws inner unhandled =
+      met_still s (source.raises now x items) step refl refl (Raised x items f fs refl throws inner unhandled)
+      (subst (λ q. items_size items < work_size q) (sym is) (item_counts i' items))
+
+  pub met_left : (s : TaskState) (x : ℕ) (names : List (List ℕ)) (opened : Option ℕ) (xs : List Target) (items : List Item) (f : Frame) (fs : List Frame)
+      (cs : List Activation)
+      → w.work ≡ Raising x (EndsCall names opened xs ∷ items) → work_step now w.work ≡ source.leaves now Quiet cs (Raising x items) None
+      → Throws i x s f fs → Removable f fs → Unhandled items → Meet s
+  met_left s x names opened xs items f fs [] is step throws inner unhandled =
+      met_still s (source.leaves now Quiet [] (Raising x items) None) step refl refl (Raised x items f fs refl throws inner unhandled)
+      (subst (λ q. items_size items < work_size q) (sym is) (item_counts (EndsCall names opened xs) items))
+  met_left s x names opened xs items f fs (c ∷ cs) is step throws inner unhandled =
+      met_still s (source.leaves now Quiet (c ∷ cs) (Raising x items) None) step refl refl (Raised x items f fs refl throws inner unhandled)
+      (subst (λ q. items_size items < work_size q) (sym is) (item_counts (EndsCall names opened xs) items))
+
+  pub met_raised : (s : TaskState) (x : ℕ) (items : List Item) (f : Frame) (fs : List Frame) → w.work ≡ Raising x items → Throws i x s f fs → Removable f fs
+      → Unhandled items → Meet s
+  met_raised s x [] f fs is throws inner unhandled =
+      let y = act i schedule k t (record { memory = m; task = s }) in
+      let there = throws.throws schedule k t m in
+      let dies = source.works now (Dies x) (Goes []) in
+      let step = ap (λ q. work_step now q) is in
+      moves_by (program_behaviour program schedule) (behaviour i schedule) (relation i program g numbers) frames_of (most_steps i) k t
+      (record { memory = store; task = w }) (record { memory = m; task = s })
+      1 (record { memory = m; task = s }) dies y step refl (Last refl) (omega arith)
+      (ap (λ y. y.effect) there ∙ unwound x f fs inner)
+      (record {
+        sound = store_after dies step;
+        stands = subst (λ q. StandsFor program g store q)
+            (sym (ap (λ y. y.solo.memory) there ∙ unwound_words x f fs inner)) shares.stands;
+      })
+      (record { sound = task_after dies step refl; code = Ended (kernels.Unhandled x t) refl })
+  met_raised s x (Declares d ∷ items) f fs is throws inner u = met_dropped s x (Declares d) items f fs is (ap (λ q. work_step now q) is) throws inner u
+  met_raised s x (DeclaresParameter p ∷ items) f fs is throws inner u = met_dropped s x (DeclaresParameter p) items f fs is (ap (λ q. work_step now q) is)
+      throws inner u
+  met_raised s x (Sequence body hs ∷ items) f fs is throws inner u = met_dropped s x (Sequence body hs) items f fs is (ap (λ q. work_step now q) is) throws
+      inner u
+  met_raised s x (Does st ∷ items) f fs is throws inner u = met_dropped s x (Does st) items f fs is (ap (λ q. work_step now q) is) throws inner u
+  met_raised s x (DoesMain st ∷ items) f fs is throws inner u = met_dropped s x (DoesMain st) items f fs is (ap (λ q. work_step now q) is) throws inner u
+  met_raised s x (Repeats body ∷ items) f fs is throws inner u = met_dropped s x (Repeats body) items f fs is (ap (λ q. work_step now q) is) throws inner u
+  met_raised s x (RepeatsWhile e body ∷ items) f fs is throws inner u = met_dropped s x (RepeatsWhile e body) items f fs is (ap (λ q. work_step now q) is)
+      throws inner u
+  met_raised s x (RepeatsFor p r a b body ∷ items) f fs is throws inner u = met_dropped s x (RepeatsFor p r a b body) items f fs is
+      (ap (λ q. work_step now q) is) throws inner u
+  met_raised s x (Handles hs ∷ items) f fs is throws inner u =
+      met_dropped s x (Handles hs) items f fs is
+      (ap (λ q. work_step now q) is ∙ ap (λ q. source.handled now x (source.handler_for program x q) items) u.0) throws inner u.1
+  met_raised s x (EndsHandler y ∷ items) f fs is throws inner u = met_dropped s x (EndsHandler y) items f fs is (ap (λ q. work_step now q) is) throws inner u
+  met_raised s x (EndsCall names opened xs ∷ items) f fs is throws inner u =
+      met_left s x names opened xs items f fs w.callers is
+      (ap (λ q. work_step now q) is ∙ ap (λ q. source.leaves now Quiet w.callers (source.call_raised x q items) None) u.0) throws inner u.1
+  met_raised s x (EndsAction o completion ∷ items) f fs is throws inner u = met_dropped s x (EndsAction o completion) items f fs is
+      (ap (λ q. work_step now q) is) throws inner u
+  met_raised s x (EndsServed o names completion ∷ items) f fs is throws inner u = absurd u
+  met_raised s x (Queued q vs xs ∷ items) f fs is throws inner u = met_dropped s x (Queued q vs xs) items f fs is (ap (λ q. work_step now q) is) throws inner u
+
+  -- ---- going on
+
+  pub going_is : (s : TaskState) → s.frame.stack ≡ [] → s.raising ≡ None → s ≡ (in_frame m (placed s.frame s.frame.place []) s.callers).task
+  going_is s stack going = λ j. record { frame = placed s.frame s.frame.place (stack j); callers = s.callers; raising = going j }
+
+  -- the frame at another place with these locals
+  abbrev pub goes_at : Frame → ℕ → List ℤ → Frame
+  goes_at f place locals = record { subprogram = f.subprogram; place = place; locals = locals; stack = []; role = f.role }
+
+  pub inner_at : (f : Frame) (fs : List Frame) (place : ℕ) (locals : List ℤ) → Removable f fs → Removable (goes_at f place locals) fs
+  inner_at f [] place locals h = tt
+  inner_at f (c ∷ fs) place locals h = h
+
+  module _ (s : TaskState) where
+    abbrev pub f : Frame
+    f = s.frame
+
+    abbrev pub fs : List Frame
+    fs = s.callers
+
+    abbrev pub IsAtItems : List Item → Type 0
+    IsAtItems items = IsGoing i program g numbers items w.own w.callers s
+
+    -- the same frame goes on elsewhere
+    pub goes_on : (items : List Item) (own : Activation) (a : Setting) (place : ℕ) (locals : List ℤ) → Follow a f.subprogram place items fs w.callers
+        → Rests g a.visible own locals
+        → own.within ≡ None → length fs ≡ ends_of_calls items → Removable f fs → Unhandled items
+        → IsGoing i program g numbers items own w.callers (record { frame = goes_at f place locals; callers = fs; raising = None })
+    goes_on items own a place locals follows rests outside depth inner unhandled =
+        record {
+          around = a;
+          follows = follows;
+          rests = rests;
+          outside = outside;
+          stack = refl;
+          going = refl;
+          depth = depth;
+          inner = inner_at f fs place
+              locals inner;
+          unhandled = unhandled;
+        }
+
+    pub narrowed : (a b : Visible) (own : Activation) (locals : List ℤ) → Narrows g a b → Rests g a own locals → Rests g b own locals
+    narrowed a b own locals nar rests = record {
+      small = rests.small;
+      sees = λ p view shared one two three. nar p view
+          (rests.sees p view shared one two three);
+    }
+
+    -- a step without a value: jumps, and one instruction
+    pub met_plain : (o : Operation) (x : source.Stepped) (y : steps.Stepped) (at : ℕ) (items : List Item) → work_step now w.work ≡ x → s.frame.stack ≡ []
+        → s.raising ≡ None
+        → Jumps i program g numbers f.place at → In f.subprogram f.place → In f.subprogram (suc at)
+        → At i at o
+        → does_operation i schedule k t m (placed f at []) fs o ≡ y
+        → Meets x y
+        → Meet s
+    met_plain o x y at items is stack going jumps a b here there meets =
+        let up = jumps_up i program g numbers f.place at jumps in
+        subst Meet (sym (going_is s stack going))
+        (moves_by (program_behaviour program schedule) (behaviour i schedule) (relation i program g numbers) frames_of (most_steps i) k t
+        (record { memory = store; task = w }) (in_frame m (placed f f.place []) fs)
+        ((at - f.place) + 1) (in_frame m (placed f at []) fs) x y is (acts quiet i at o here schedule k t m f fs [] ∙ there)
+        (spends_takes (behaviour i schedule) t frames_of (most_steps i) 1 k (in_frame m (placed f at []) fs) (jumps_spend f fs f.place at jumps) (Last refl))
+        (omega (arith, a.0, b.1, up)) meets.effect
+        (record { sound = store_after x is; stands = meets.words })
+        (record { sound = task_after x is meets.waits; code = meets.code }))
+
+    -- it goes on with other items at a place, and nothing else changes
+    pub goes_to : (items : List Item) (a : Setting) (place : ℕ) → Follow a f.subprogram place items fs w.callers → Rests g a.visible w.own f.locals
+        → w.own.within ≡ None → length fs ≡ ends_of_calls items → Removable f fs → Unhandled items
+        → Meets (source.goes now items) (steps.does Quiet m (goes_at f place f.locals) fs None None)
+    goes_to items a place follows rests outside depth inner unhandled = record {
+      effect = refl;
+      waits = refl;
+      code = Going items refl (goes_on items w.own a place f.locals follows rests outside depth inner unhandled);
+      words = shares.stands;
+    }
+
+    pub met_end : w.work ≡ Goes [] → (h : IsAtItems []) → Meet s
+    met_end is h =
+        let r = h.follows in
+        let out = r.0 in
+        let at = out.at in
+        let up = jumps_up i program g numbers f.place at out.jumps in
+        let x = out.from_inside in
+        let y = out.to_inside in
+        met_plain op.Return (source.works now Finishes (Goes [])) (steps.does Finishes m (goes_at f at f.locals) [] None None) at []
+        (ap (λ q. work_step now q) is) h.stack h.going out.jumps x y out.return
+        (ap (λ n. steps.returns i schedule k t m (placed f at []) fs n) out.results ∙ ap
+        (λ q. steps.returns_to i schedule k t m (placed f at []) q q f.role []) r.2)
+        (record {
+          effect = refl;
+          waits = refl;
+          code = Going [] refl (record {
+            around = h.around;
+            follows = (
+              (record {
+                at = at;
+                jumps = Here;
+                return = out.return;
+                results = out.results;
+                exit = out.exit;
+                from_inside =
+                    (omega (arith, x.0, up), omega (arith, y.1));
+                to_inside = y;
+              }),
+              r.1,
+              refl,
+            );
+            rests = h.rests;
+            outside = h.outside;
+            stack = refl;
+            going = refl;
+            depth = refl;
+            inner = tt;
+            unhandled = tt;
+          });
+          words = shares.stands;
+        })
+
+    -- items without code
+    pub met_handles : (hs : HandlerTrees) (items : List Item) → w.work ≡ Goes (Handles hs ∷ items) → (h : IsAtItems (Handles hs ∷ items)) → Meet s
+    met_handles hs items is h =
+        met_still s (source.goes now items) (ap (λ q. work_step now q) is) refl refl
+        (Going items refl (record {
+          around = h.around;
+          follows = h.follows.1;
+          rests = h.rests;
+          outside = h.outside;
+          stack = h.stack;
+          going = h.going;
+          depth
+              = h.depth;
+          inner = h.inner;
+          unhandled = h.unhandled.1;
+        }))
+        (subst (λ q. suc (items_size items) < work_size q) (sym is) (omega arith))
+
+    -- the code of the next items is reached by jumps
+    pub reached : (a : Setting) (from at to : ℕ) (now' : Visible) (items : List Item) → Leads i program g numbers a f.subprogram from at to now'
+        → Follow (seeing now' a) f.subprogram at items fs w.callers
+        → Follow (seeing a.visible a) f.subprogram from items fs w.callers
+    reached a from at to now' items leads follows = earlier i program g numbers items (seeing now' a) a.visible f.subprogram from at fs w.callers
+        leads.jumps leads.narrows leads.from_inside follows
+
+    -- nothing but what is left to do changes
+    pub met_items : (x : source.Stepped) (items : List Item) → work_step now w.work ≡ source.goes now items → suc (items_size items) < work_size w.work
+        → s.frame.stack ≡ [] → s.raising ≡ None
+        → (a : Setting) → Follow a f.subprogram f.place items fs w.callers → Rests g a.visible w.own f.locals → w.own.within ≡ None
+        → length fs ≡ ends_of_calls items
+        → Removable f fs → Unhandled items → Meet s
+    met_items x items is less stack going a follows rests outside depth inner unhandled =
+        met_still s (source.goes now items) is refl refl
+        (Going items refl (record {
+          around = a;
+          follows = follows;
+          rests = rests;
+          outside = outside;
+          stack = stack;
+          going = going;
+          depth = depth;
+          inner =
+              inner;
+          unhandled = unhandled;
+        })) less
+
+    pub met_null : (place : ℕ) (items : List Item) → w.work ≡ Goes (Does (Null place) ∷ items) → (h : IsAtItems (Does (Null place) ∷ items)) → Meet s
+    met_null place items is h =
+        let r = h.follows in
+        met_items (source.goes now items) items (ap (λ q. work_step now q) is) (subst (λ q. suc (items_size items) < work_size q) (sym is) (omega arith))
+        h.stack h.going
+        (seeing h.around.visible h.around)
+        (reached h.around f.place r.0 r.1 r.2 items r.3 (subst (λ q. Follow (seeing r.2 h.around) f.subprogram q items fs w.callers) (sym r.4) r.5))
+        h.rests h.outside h.depth h.inner h.unhandled
+
+    pub met_sequence : (body : StmtTrees) (hs : HandlerTrees) (items : List Item) → w.work ≡ Goes (Sequence body hs ∷ items)
+        → (h : IsAtItems (Sequence body hs ∷ items)) → Meet s
+    met_sequence body hs items is h =
+        let r = h.follows in
+        let leads = r.4 in
+        let e = before_size body (Handles hs ∷ items) in
+        let x = leads.from_inside in
+        let y = leads.to_inside in
+        let up = jumps_up i program g numbers f.place r.0 leads.jumps in
+        let le = leads.up in
+        met_items (source.goes now (source.before body (Handles hs ∷ items))) (source.before body (Handles hs ∷ items)) (ap (λ q. work_step now q) is)
+        (subst (λ q. suc (items_size (source.before body (Handles hs ∷ items))) < work_size q) (sym is) (omega (arith, e))) h.stack h.going
+        (seeing h.around.visible h.around)
+        (reached h.around f.place r.0 r.1 r.2 (source.before body (Handles hs ∷ items)) leads
+        (before_follows i program g numbers body h.around r.2 f.subprogram r.0 r.1 (Handles hs ∷ items) fs w.callers r.5 le
+        (omega (arith, x.0, up), omega (arith, y.1, le)) y leads.reaches (r.3, r.6)))
+        h.rests h.outside (h.depth ∙ sym (before_ends i program g numbers body (Handles hs ∷ items))) h.inner
+        (before_unhandled i program g numbers body (Handles hs ∷ items) (r.3, h.unhandled))
+
+    pub met_block : (place : ℕ) (ds : List DeclarationTree) (body : StmtTrees) (items : List Item)
+        → w.work ≡ Goes (Does (Block place ds body NoHandlers) ∷ items)
+        → (h : IsAtItems (Does (Block place ds body NoHandlers) ∷ items)) → Meet s
+    met_block place ds body items is h =
+        let r = h.follows in
+        let leads = r.3 in
+        let code = r.4 in
+        let all = Sequence body NoHandlers ∷ items in
+        let e = declares_size ds all in
+        let x = leads.from_inside in
+        let y = leads.to_inside in
+        let up = jumps_up i program g numbers f.place r.0 leads.jumps in
+        let one = code.2 in
+        let two = code.3 in
+        let at_in : In f.subprogram r.0 = (omega (arith, x.0, up), omega (arith, y.1, one, two)) in
+        let mid_in : In f.subprogram code.0 = (omega (arith, x.0, up, one), omega (arith, y.1, two)) in
+        met_items (source.goes now (map Declares ds ++ all)) (map Declares ds ++ all) (ap (λ q. work_step now q) is)
+        (subst (λ q. suc (items_size (map Declares ds ++ all)) < work_size q) (sym is) (omega (arith, e))) h.stack h.going
+        (seeing h.around.visible h.around)
+        (reached h.around f.place r.0 r.1 r.2 (map Declares ds ++ all) leads
+        (declares_follow i program g numbers ds h.around r.2 code.1 f.subprogram r.0 code.0 all fs w.callers code.4 one at_in mid_in leads.reaches
+        (λ nar. (
+          code.0,
+          r.1,
+          code.1,
+          refl,
+          (record {
+            jumps = Here;
+            narrows = narrows_same g code.1;
+            reaches = (narrows_both g code.1 r.2 h.around.behind nar leads.reaches.0, narrows_both g code.1 r.2 h.around.ending nar leads.reaches.1);
+            from_inside = mid_in;
+            up = two;
+            to_inside = y;
+          }),
+          code.5,
+          earlier i program g numbers items (seeing r.2 h.around) code.1 f.subprogram r.1 r.1 fs w.callers Here nar y r.5,
+        ))))
+        h.rests h.outside (h.depth ∙ sym (declares_end i program g numbers ds all)) h.inner
+        (declares_unhandled i program g numbers ds all h.unhandled)
+
+    -- ---- ways out
+
+    -- what is visible behind the innermost loop, where the frame goes on there
+    pub behind_rests : (a outer : Setting) (now' : Visible) → Rests g a.visible w.own f.locals → Narrows g a.visible now' → Narrows g now' a.behind
+        → a.behind ≡ outer.visible → Rests g outer.visible w.own f.locals
+    behind_rests a outer now' rests one two e = subst (λ q. Rests g q w.own f.locals) e
+        (narrowed a.visible a.behind w.own f.locals (narrows_both g a.visible now' a.behind one two) rests)
+
+    pub ending_rests : (a end : Setting) (now' : Visible) → Rests g a.visible w.own f.locals → Narrows g a.visible now' → Narrows g now' a.ending
+        → a.ending ≡ end.visible → Rests g end.visible w.own f.locals
+    ending_rests a end now' rests one two e = subst (λ q. Rests g q w.own f.locals) e
+        (narrowed a.visible a.ending w.own f.locals (narrows_both g a.visible now' a.ending one two) rests)
+
+    pub met_exit : (place : ℕ) (items : List Item) → w.work ≡ Goes (Does (Exit place None) ∷ items) → (h : IsAtItems (Does (Exit place None) ∷ items)) → Meet s
+    met_exit place items is h =
+        let r = h.follows in
+        let leads = r.3 in
+        let code = r.4 in
+        let e = code.0 in
+        let out = way_out i program g numbers items (seeing r.2 h.around) f.subprogram r.1 e fs w.callers r.5 code.1 in
+        let x = leads.from_inside in
+        let y = leads.to_inside in
+        let up = jumps_up i program g numbers f.place r.0 leads.jumps in
+        let end = code.3 in
+        met_plain (op.Jump e) (source.goes now (source.behind_loop items)) (steps.does Quiet m (goes_at f e f.locals) fs None None) r.0 items
+        (ap (λ q. work_step now q) is) h.stack h.going
+        leads.jumps x (omega (arith, x.0, up), omega (arith, y.1, end)) code.2 refl
+        (goes_to (source.behind_loop items) out.0 e out.2 (behind_rests h.around out.0 r.2 h.rests leads.narrows leads.reaches.0 out.1) h.outside
+        (h.depth ∙ sym out.3) h.inner (out.4 h.unhandled))
+
+    pub met_return : (place : ℕ) (items : List Item) → w.work ≡ Goes (Does (Return place None) ∷ items) → (h : IsAtItems (Does (Return place None) ∷ items))
+        → Meet s
+    met_return place items is h =
+        let r = h.follows in
+        let leads = r.3 in
+        let code = r.4 in
+        let e = code.0 in
+        let out = way_back i program g numbers items (seeing r.2 h.around) f.subprogram r.1 e fs w.callers r.5 code.1 in
+        let x = leads.from_inside in
+        let y = leads.to_inside in
+        let up = jumps_up i program g numbers f.place r.0 leads.jumps in
+        let end = code.3 in
+        met_plain (op.Jump e) (source.goes now (source.end_of_body items)) (steps.does Quiet m (goes_at f e f.locals) fs None None) r.0 items
+        (ap (λ q. work_step now q) is) h.stack h.going
+        leads.jumps x (omega (arith, x.0, up), omega (arith, y.1, end)) code.2 refl
+        (goes_to (source.end_of_body items) out.0 e out.2 (ending_rests h.around out.0 r.2 h.rests leads.narrows leads.reaches.1 out.1) h.outside
+        (h.depth ∙ sym out.3) h.inner (out.4 h.unhandled))

@@ -1,0 +1,5 @@
+pub mod Resting
+pub mod Storing
+pub mod Statements
+pub mod Standing
+pub mod Laws

@@ -1,0 +1,47 @@
+-- When the words of an image stand for the objects of a program, between steps: those of the package for the store, those of a frame for an activation.
+use Rattle.std.specs.Prelude.{◌≡◌, ◌≤◌, ℕ, ℤ, List, length}
+use Rattle.image.specs.Frames.{Words}
+use Rattle.image.specs.declared.instruction.Region.{Region}
+use Rattle.image.specs.declared.instruction.Region.TheVariants as regions
+use Rattle.types.specs.Places.{Place}
+use Rattle.well_typed.specs.Answers.{FunctionsAreSound}
+use Rattle.meaning.specs.Programs.{Program}
+use Rattle.meaning.specs.Works.{Activation, Store}
+use Rattle.expr_code.specs.Views.{View}
+use Rattle.expr_code.specs.Seeing.{Package, Sees, SeesPackage}
+use Rattle.expr_code.specs.declared.visible.Visible.{Visible}
+
+-- a place where expressions of the program are evaluated, with the objects of this store
+pub record IsAt (program : Program) (store : Store) (p : Place) : Type 0 where
+  pub scope : p.scope ≡ program.scope
+  pub functions : p.functions ≡ program.functions
+  pub variables : p.variables ≡ store.variables
+  pub components : p.components ≡ store.components
+
+-- no region has more words than addresses tell
+abbrev pub IsSmall : View → Type 0
+IsSmall view = (r : Region) → length (view.words r) ≤ 65536
+
+-- The shared words stand for the store: whatever task evaluates, and whatever frame of code does it.
+pub record StandsFor (program : Program) (g : Package) (store : Store) (m : Words) : Type 0 where
+  pub shared : (p : Place) (view : View)
+      → IsAt program store p
+      → p.now ≡ view.now
+      → p.schedule ≡ view.schedule
+      → view.memory ≡ m
+      → view.words regions.Plain ≡ m.plain
+      → IsSmall view
+      → FunctionsAreSound p
+      → SeesPackage g p view
+  pub plain : length m.plain ≤ 65536
+  pub objects : (o : ℕ) → length (m.objects o) ≤ 65536
+
+-- The locals of a frame stand for those of an activation where these names are visible, whatever the store and the shared words are, as long as these stand for
+-- one another: so they do while the frame waits for the end of a call.
+pub record Rests (g : Package) (v : Visible) (a : Activation) (locals : List ℤ) : Type 0 where
+  pub small : length locals ≤ 65536
+  pub sees : (p : Place) (view : View) → SeesPackage g p view → p.locals ≡ a.locals → p.within ≡ a.within → view.words regions.Locals ≡ locals → Sees g v p view
+
+-- what is visible later is among what is visible now
+abbrev pub Narrows : Package → (now later : Visible) → Type 0
+Narrows g now later = (p : Place) (view : View) → Sees g now p view → Sees g later p view

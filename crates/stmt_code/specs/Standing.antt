@@ -1,0 +1,194 @@
+-- Which frames of code stand for which work of a task.
+use Rattle.std.specs.Prelude.{◌≡◌, ◌≤◌, ℕ, suc, ◌+◌, ◌*◌, List, [], ◌∷◌, length, Some, None}
+use Rattle.ada_tree.specs.Size.{declaration_size, stmt_size, stmts_size}
+use Rattle.ada_tree.specs.StatementTree.{NoHandlers}
+use Rattle.kernel.specs.State.{Kernel, Outcome}
+use Rattle.kernel.specs.Effects.{after}
+use Rattle.image.specs.Sections.{Sections, first_place}
+use Rattle.image.specs.Operations.{called, results_of}
+use Rattle.image.specs.Frames.{Inner, Frame, TaskState, Words}
+use Rattle.image.specs.Steps as steps
+use Rattle.image.specs.declared.instruction.Operation.TheVariants as op
+use Rattle.meaning.specs.Meeting.{Relation}
+use Rattle.meaning.specs.Programs.{Program}
+use Rattle.meaning.specs.Works.{Item, Declares, Sequence, Does, DoesMain, Repeats, RepeatsWhile, Handles, EndsCall, EndsServed, Work, Goes, Copies, Raising, Activation, Given, Store, TaskWork, ends_of_calls}
+use Rattle.sound_steps.specs.Holding.{IsSoundStore, IsSoundTask}
+use Rattle.expr_code.specs.Views.{At}
+use Rattle.expr_code.specs.Coming.{Throws, size_of}
+use Rattle.expr_code.specs.Seeing.{Package}
+use Rattle.expr_code.specs.declared.visible.Visible.{Visible}
+use Rattle.stmt_code.specs.Resting.{Narrows, Rests, StandsFor}
+use Rattle.stmt_code.specs.Statements.{AreStatements, IsDeclared, IsForever, IsMainStatement, IsStatement, IsWhile, Numbers, Ways, within_loop}
+
+-- ---- what is left to do, as a size that falls where no code is run
+
+abbrev item_size : Item → ℕ
+item_size (Declares d) = 4 * declaration_size d
+item_size (Sequence body hs) = 4 * stmts_size body + 2
+item_size (Does s) = 4 * stmt_size s
+item_size i = 1
+
+abbrev pub items_size : List Item → ℕ
+items_size [] = 0
+items_size (i ∷ items) = item_size i + items_size items
+
+abbrev pub work_size : Work → ℕ
+work_size (Goes items) = suc (items_size items)
+work_size (Copies vs xs items) = suc (items_size items)
+work_size (Raising x items) = items_size items
+
+-- an exception passes all of them
+abbrev pub Unhandled : List Item → Type 0
+Unhandled [] = Unit {0}
+Unhandled (Handles hs ∷ items) = (hs ≡ NoHandlers) × Unhandled items
+Unhandled (EndsCall names opened xs ∷ items) = (opened ≡ None) × Unhandled items
+Unhandled (EndsServed o names completion ∷ items) = ⊥
+Unhandled (i ∷ items) = Unhandled items
+
+module _ (i : Sections) (program : Program) (g : Package) (numbers : Numbers) where
+  -- forward jumps that lead from one place to another
+  pub data Jumps : ℕ → ℕ → Type 0 where
+    Here : {a : ℕ} → Jumps a a
+    There : {a b c : ℕ} → At i a (op.Jump b) → suc a ≤ b → Jumps b c → Jumps a c
+
+  -- places of the subprogram's code
+  abbrev pub Inside : ℕ → ℕ → Type 0
+  Inside n place = (first_place i n ≤ place) × (place ≤ first_place i n + size_of i n)
+
+  -- what is visible now, the ways out, and what is visible behind the innermost loop and at the end of the body
+  pub record Around : Type 0 where
+    pub visible : Visible
+    pub ways : Ways
+    pub behind : Visible
+    pub ending : Visible
+
+  abbrev pub with_visible : Visible → Around → Around
+  with_visible v a = record a { visible = v }
+
+  -- in the statements of a loop with this way out, of which this is around
+  abbrev pub in_loop : ℕ → Visible → Around → Around
+  in_loop exit v outer = record { visible = v; ways = within_loop exit outer.ways; behind = outer.visible; ending = outer.ending }
+
+  -- what is visible at the ways out is visible here
+  abbrev pub Reaches : Around → Visible → Type 0
+  Reaches a v = Narrows g v a.behind × Narrows g v a.ending
+
+  -- the part of the subprogram's code between two places, to which forward jumps lead
+  pub record Leads (a : Around) (n from at to : ℕ) (now : Visible) : Type 0 where
+    pub jumps : Jumps from at
+    pub narrows : Narrows g a.visible now
+    pub reaches : Reaches a now
+    pub from_inside : Inside n from
+    pub up : at ≤ to
+    pub to_inside : Inside n to
+
+  -- the jump back to the head of a loop, whose code ends behind it
+  pub record LeadsBack (a : Around) (n from head to : ℕ) (outer : Around) : Type 0 where
+    pub back : ℕ
+    pub jumps : Jumps from back
+    pub jump : At i back (op.Jump (head + 2))
+    pub end : to ≡ suc back
+    pub up : head ≤ back
+    pub loop : a ≡ in_loop (head + 1) a.visible outer
+    pub narrows : Narrows g a.visible outer.visible
+    pub reaches : Narrows g outer.visible outer.ending
+    pub from_inside : Inside n from
+    pub head_inside : Inside n head
+    pub to_inside : Inside n to
+
+  -- the return of a body without results, to which the way out leads too
+  pub record LeadsOut (a : Around) (n from : ℕ) : Type 0 where
+    pub at : ℕ
+    pub jumps : Jumps from at
+    pub return : At i at op.Return
+    pub results : results_of (called i n) ≡ 0
+    pub exit : a.ways.exit ≡ None
+    pub from_inside : Inside n from
+    pub to_inside : Inside n (suc at)
+
+  -- the frame and the activation that wait for the end of the call, and go on behind it
+  pub record WaitsFor (outer : Around) (c : Frame) (o : Activation) : Type 0 where
+    pub outside : o.within ≡ None
+    pub rests : Rests g outer.visible o c.locals
+    pub stack : c.stack ≡ []
+    pub here : Inside c.subprogram c.place
+    pub next : Inside c.subprogram (suc c.place)
+
+  -- The code at a place of the subprogram goes on with the items, above these frames and activations.
+  abbrev pub Follows : Around → (n from : ℕ) → List Item → List Frame → List Activation → Type 0
+  Follows a n from [] fs os = LeadsOut a n from × (a.ways.return ≡ None) × (fs ≡ [])
+  Follows a n from (Declares d ∷ items) fs os =
+      (at : ℕ) × (to : ℕ) × (now : Visible) × (later : Visible) × Leads a n from at to now × Narrows g later now
+      × IsDeclared i program g numbers now at to later d
+      × Follows (with_visible later a) n to items fs os
+  Follows a n from (Sequence body hs ∷ items) fs os =
+      (at : ℕ) × (to : ℕ) × (now : Visible) × (hs ≡ NoHandlers) × Leads a n from at to now
+      × AreStatements i program g numbers now a.ways at to body
+      × Follows (with_visible now a) n to items fs os
+  Follows a n from (Does s ∷ items) fs os =
+      (at : ℕ) × (to : ℕ) × (now : Visible) × Leads a n from at to now
+      × IsStatement i program g numbers now a.ways at to s
+      × Follows (with_visible now a) n to items fs os
+  Follows a n from (DoesMain s ∷ items) fs os =
+      (at : ℕ) × (to : ℕ) × (now : Visible) × Leads a n from at to now
+      × IsMainStatement i program g numbers at to s
+      × Follows (with_visible now a) n to items fs os
+  Follows a n from (Handles hs ∷ items) fs os = (hs ≡ NoHandlers) × Follows a n from items fs os
+  Follows a n from (Repeats body ∷ items) fs os =
+      (head : ℕ) × (to : ℕ) × (outer : Around) × LeadsBack a n from head to outer
+      × IsForever i program g numbers head to (λ exit x y. AreStatements i program g numbers outer.visible (within_loop exit outer.ways) x y body)
+      × Follows outer n to items fs os
+  Follows a n from (RepeatsWhile e body ∷ items) fs os =
+      (head : ℕ) × (to : ℕ) × (outer : Around) × LeadsBack a n from head to outer
+      × IsWhile i program g numbers outer.visible head to e (λ exit x y. AreStatements i program g numbers outer.visible (within_loop exit outer.ways) x y body)
+      × Follows outer n to items fs os
+  Follows a n from (EndsCall names opened xs ∷ items) fs os =
+      (ret : ℕ) × (c : Frame) × (below : List Frame) × (o : Activation) × (older : List Activation) × (outer : Around)
+      × (names ≡ []) × (opened ≡ None) × (xs ≡ [])
+      × LeadsOut a n from × (a.ways.return ≡ Some ret) × LeadsOut a n ret
+      × (fs ≡ c ∷ below) × (os ≡ o ∷ older) × WaitsFor outer c o
+      × Follows outer c.subprogram (suc c.place) items below older
+  Follows a n from (i ∷ items) fs os = ⊥
+
+  -- frames that an exception removes one by one
+  abbrev pub AreInner : Frame → List Frame → Type 0
+  AreInner f [] = Unit {0}
+  AreInner f (c ∷ fs) = (f.role ≡ Inner) × AreInner c fs
+
+  pub record IsGoing (items : List Item) (own : Activation) (os : List Activation) (s : TaskState) : Type 0 where
+    pub around : Around
+    pub follows : Follows around s.frame.subprogram s.frame.place items s.callers os
+    pub rests : Rests g around.visible own s.frame.locals
+    pub outside : own.within ≡ None
+    pub stack : s.frame.stack ≡ []
+    pub going : s.raising ≡ None
+    pub depth : length s.callers ≡ ends_of_calls items
+    pub inner : AreInner s.frame s.callers
+    pub unhandled : Unhandled items
+
+  pub data CodeStands (k : Kernel) (w : TaskWork) (s : TaskState) : Type 0 where
+    Going : (items : List Item) → w.work ≡ Goes items → IsGoing items w.own w.callers s → CodeStands k w s
+    Raised : (x : ℕ) (items : List Item) (f : Frame) (fs : List Frame) → w.work ≡ Raising x items → Throws i x s f fs → AreInner f fs → Unhandled items
+        → CodeStands k w s
+    Over : (o : Outcome) → k.outcome ≡ Some o → CodeStands k w s
+
+  -- the task's work breaks no rule, whatever the store is
+  abbrev pub IsSound : TaskWork → Type 0
+  IsSound w = (m : Store) → IsSoundStore program m → IsSoundTask program m None w
+
+  pub record WorkStands (k : Kernel) (w : TaskWork) (s : TaskState) : Type 0 where
+    pub sound : IsSound w
+    pub code : CodeStands k w s
+
+  pub record Shares (store : Store) (m : Words) : Type 0 where
+    pub sound : IsSoundStore program store
+    pub stands : StandsFor program g store m
+
+  abbrev pub relation : Relation Store TaskWork Given Words TaskState steps.Given
+  relation = record {
+    shares = Shares;
+    stands = λ k t w s. WorkStands k w s;
+    leaves = λ k t e w s p q. WorkStands (after t e k) w s;
+    size = λ w. work_size
+        w.work;
+  }

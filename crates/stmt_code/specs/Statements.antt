@@ -1,0 +1,211 @@
+-- Which code is that of a statement, of a sequence of statements, and of the body of a procedure (RM 5, 6.3).
+use Rattle.std.specs.Prelude.{◌≡◌, ◌≤◌, ℕ, suc, ◌+◌, ◌-◌, ℤ, List, [], ◌∷◌, ◌++◌, length, map, Option, Some, None, ⊤}
+use Rattle.image.specs.Sections.{Sections, first_place}
+use Rattle.image.specs.Operations.{called}
+use Rattle.image.specs.Texts.{text_at}
+use Rattle.image.specs.declared.instruction.Operation.TheVariants as op
+use Rattle.image.specs.declared.subprograms.Subprogram.{Subprogram}
+use Rattle.ada_tree.specs.declared.declaration.Mode.TheVariants as mode
+use Rattle.ada_tree.specs.declared.program.MainStatement.{MainStatement}
+use Rattle.ada_tree.specs.declared.program.MainStatement.TheVariants as main
+use Rattle.ada_tree.specs.ExpressionTree.{ExprTree, SelectorTrees, NoSelectors, MoreSelectors, Arguments, MoreArguments, NoArguments, NameTree, Text, Value}
+use Rattle.ada_tree.specs.StatementTree.{DeclarationTree, LocalObject, Forever, While, StmtTree, Null, Assignment, Call, Exit, Return, If, Loop, Block, StmtTrees, NoStmts, MoreStmts, ElsifTrees, NoElsifs, MoreElsifs, NoHandlers}
+use Rattle.types.specs.declared.entity.Subtype.{Subtype}
+use Rattle.types.specs.Entities.{Put}
+use Rattle.types.specs.Layouts.{words_of}
+use Rattle.types.specs.Places.{Place}
+use Rattle.types.specs.Values as values
+use Rattle.types.specs.Evaluations.{Gives}
+use Rattle.types.specs.Evaluating.{Calls, actuals_with}
+use Rattle.type_rules.specs.SubtypeNames.{named_entity}
+use Rattle.meaning.specs.Programs.{Parameter, Procedure, Program}
+use Rattle.meaning.specs.Calls.{Callee, activation_of, callee_by, procedure_here}
+use Rattle.sound_steps.specs.Objects.{AreOf}
+use Rattle.expr_code.specs.Views.{At, View}
+use Rattle.expr_code.specs.Coming.{all_words}
+use Rattle.expr_code.specs.Computing.{ArePassed, Computes, ComputesAll}
+use Rattle.expr_code.specs.Seeing.{library_of, Package, Sees}
+use Rattle.expr_code.specs.declared.visible.Visible.{Visible}
+use Rattle.stmt_code.specs.Resting.{Narrows, Rests}
+use Rattle.stmt_code.specs.Storing.{Stores, assigned, declared, object_declared}
+use Rattle.meaning.specs.Targets.{activation_with, store_with}
+
+-- the ways out of a statement: behind the innermost loop, and to the end of the body
+pub record Ways : Type 0 where
+  pub exit : Option ℕ
+  pub return : Option ℕ
+
+abbrev pub within_loop : ℕ → Ways → Ways
+within_loop exit w = record w { exit = Some exit }
+
+-- ---- parameters
+
+abbrev pub parameter_subtype : Parameter → Subtype
+parameter_subtype f = f.subtype
+
+abbrev pub parameter_type : Parameter → ℕ
+parameter_type f = f.subtype.type_number
+
+-- all are copied in alone
+abbrev pub AreIn : List Parameter → Type 0
+AreIn [] = ⊤
+AreIn (f ∷ fs) = (f.mode ≡ mode.In) × AreIn fs
+
+-- the procedures that code may call: which subprogram is whose
+abbrev pub Numbers : Type 0
+Numbers = Procedure → Option ℕ
+
+module _ (i : Sections) (program : Program) (g : Package) (numbers : Numbers) where
+  abbrev pub sizes_of : Procedure → List ℕ
+  sizes_of q = map (words_of g.scope) (map parameter_subtype q.parameters)
+
+  abbrev pub IsValue : Visible → (from to : ℕ) → ExprTree → Type 0
+  IsValue v from to e = Computes i (library_of g) (Sees g v) from to e
+
+  -- ---- statements without others within
+
+  -- the value of a line and the instruction that writes it
+  abbrev pub IsPut : Visible → (from to : ℕ) → SelectorTrees → Type 0
+  IsPut v from to (MoreSelectors (Arguments (MoreArguments (Text label at) (MoreArguments (Value e) NoArguments))) NoSelectors) =
+      (mid : ℕ) × (number : ℕ) × (from ≤ mid) × IsValue v from mid e × At i mid (op.PutLine number) × (text_at i.labels number ≡ label) × (to ≡ suc mid)
+  IsPut v from to s = ⊥
+
+  -- the actual parameters and the call
+  pub record IsCall (v : Visible) (from to : ℕ) (c : Callee) : Type 0 where
+    pub number : ℕ
+    pub numbered : numbers c.procedure ≡ Some number
+    pub outside : c.through ≡ None
+    pub plain : c.procedure.barrier ≡ None
+    pub copied : AreIn c.procedure.parameters
+    pub mid : ℕ
+    pub up : from ≤ mid
+    pub end : to ≡ suc mid
+    pub computes : ComputesAll i (library_of g) (Sees g v) from mid (map parameter_subtype c.procedure.parameters) c.arguments
+    pub calls : At i mid (op.Call number)
+    -- what is passed has the words, and is of the types, of the parameters
+    pub passes : (calls : Calls) (p : Place) (view : View) (vs : List values.Value) → (library_of g).sound calls → Sees g v p view
+        → actuals_with calls p c.arguments (map parameter_subtype c.procedure.parameters) ≡ Gives vs
+        → ArePassed (sizes_of c.procedure) vs × AreOf program.scope (map parameter_type c.procedure.parameters) vs
+
+  -- a statement of main, which calls a procedure of the package without parameters (RM 10.2)
+  abbrev pub IsMainStatement : (from to : ℕ) → MainStatement → Type 0
+  IsMainStatement from to (main.Null place) = from ≡ to
+  IsMainStatement from to (main.Call package_ procedure) =
+      (q : Procedure) × (number : ℕ) × (procedure_here program None procedure.name ≡ Some q) × (numbers q ≡ Some number) × (q.parameters ≡ []) × At i from
+      (op.Call number) × (to ≡ suc from)
+
+  abbrev pub IsCalled : Visible → (from to : ℕ) → NameTree → Option Callee → Type 0
+  IsCalled v from to name (Some c) = IsCall v from to c
+  IsCalled v from to name None = (named_entity program.scope name.first ≡ Some Put) × IsPut v from to name.selectors
+
+  abbrev pub IsAssigned : Visible → (from to : ℕ) → NameTree → ExprTree → Type 0
+  IsAssigned v from to name e = Stores i program g v v from to (assigned name e) (λ x m. store_with x.target x.value m)
+      (λ x a. activation_with x.target x.value a)
+
+  -- a jump to one of the ways out
+  abbrev pub IsJump : Option ℕ → (from to : ℕ) → Type 0
+  IsJump way from to = (place : ℕ) × (way ≡ Some place) × At i from (op.Jump place) × (to ≡ suc from)
+
+  abbrev pub IsConditionalExit : Visible → Option ℕ → (from to : ℕ) → ExprTree → Type 0
+  IsConditionalExit v way from to e = (place : ℕ) × (mid : ℕ) × (way ≡ Some place) × (from ≤ mid) × IsValue v from mid e × At i mid (op.JumpIfNotZero place)
+      × (to ≡ suc mid)
+
+  -- ---- declarations
+
+  abbrev pub IsDeclared : (v : Visible) → (from to : ℕ) → (later : Visible) → DeclarationTree → Type 0
+  IsDeclared v from to later (LocalObject d) =
+      Stores i program g v later from to (declared program.scope d) (λ x m. m) (λ x a. record a { locals = object_declared program.scope d x ∷ a.locals })
+  IsDeclared v from to later d = ⊥
+
+  abbrev pub AreDeclared : (v : Visible) → (from to : ℕ) → (later : Visible) → List DeclarationTree → Type 0
+  AreDeclared v from to later [] = (from ≡ to) × (later ≡ v)
+  AreDeclared v from to later (d ∷ ds) =
+      (mid : ℕ) × (next : Visible) × (from ≤ mid) × (mid ≤ to) × IsDeclared v from mid next d × Narrows g next v × AreDeclared next mid to later ds
+
+  -- ---- statements by their parts
+
+  -- a condition, a jump behind the statements for it where it does not hold, and a jump to the end behind them
+  abbrev pub IsBranch : Visible → (from to : ℕ) → ExprTree → (holds fails : ℕ → ℕ → Type 0) → Type 0
+  IsBranch v from to e holds fails =
+      (mid : ℕ) × (joint : ℕ) × (from ≤ mid) × (suc mid ≤ joint) × (suc joint ≤ to) × IsValue v from mid e × At i mid (op.JumpIfZero (suc joint))
+      × holds (suc mid) joint
+      × At i joint (op.Jump to)
+      × fails (suc joint) to
+
+  -- a jump over the way out, the way out, the statements of a turn, and a jump back to them
+  abbrev pub IsForever : (from to : ℕ) → (turn : (exit from to : ℕ) → Type 0) → Type 0
+  IsForever from to turn =
+      (back : ℕ) × (from + 2 ≤ back) × At i from (op.Jump (from + 2)) × At i (from + 1) (op.Jump to)
+      × turn (from + 1) (from + 2) back
+      × At i back (op.Jump (from + 2))
+      × (to ≡ suc back)
+
+  -- a jump over the way out, the way out, the condition, a jump to the end where it does not hold, the statements of a turn, and a jump back to the condition
+  abbrev pub IsWhile : Visible → (from to : ℕ) → ExprTree → (turn : (exit from to : ℕ) → Type 0) → Type 0
+  IsWhile v from to e turn =
+      (mid : ℕ) × (back : ℕ) × (from + 2 ≤ mid) × (suc mid ≤ back) × At i from (op.Jump (from + 2)) × At i (from + 1) (op.Jump to)
+      × IsValue v (from + 2) mid e
+      × At i mid (op.JumpIfZero to)
+      × turn (from + 1) (suc mid) back
+      × At i back (op.Jump (from + 2))
+      × (to ≡ suc back)
+
+  -- declarations, and statements that see them
+  abbrev pub IsBlock : Visible → (from to : ℕ) → List DeclarationTree → (body : Visible → ℕ → ℕ → Type 0) → Type 0
+  IsBlock v from to ds body = (mid : ℕ) × (later : Visible) × (from ≤ mid) × (mid ≤ to) × AreDeclared v from mid later ds × body later mid to
+
+  abbrev mutual
+    pub IsStatement : Visible → Ways → (from to : ℕ) → StmtTree → Type 0
+    IsStatement v w from to (Null place) = from ≡ to
+    IsStatement v w from to (Assignment name e) = IsAssigned v from to name e
+    IsStatement v w from to (Call name) = IsCalled v from to name (callee_by program None name.first name.selectors)
+    IsStatement v w from to (Exit place None) = IsJump w.exit from to
+    IsStatement v w from to (Exit place (Some e)) = IsConditionalExit v w.exit from to e
+    IsStatement v w from to (Return place None) = IsJump w.return from to
+    IsStatement v w from to (If place e body elsifs others) =
+        IsBranch v from to e (λ a b. AreStatements v w a b body) (λ a b. IsOtherwise v w a b elsifs (λ x y. AreStatements v w x y others))
+    IsStatement v w from to (Loop place Forever body) = IsForever from to (λ exit a b. AreStatements v (within_loop exit w) a b body)
+    IsStatement v w from to (Loop place (While e) body) = IsWhile v from to e (λ exit a b. AreStatements v (within_loop exit w) a b body)
+    IsStatement v w from to (Block place ds body NoHandlers) = IsBlock v from to ds (λ later a b. AreStatements later w a b body)
+    IsStatement v w from to s = ⊥
+
+    pub AreStatements : Visible → Ways → (from to : ℕ) → StmtTrees → Type 0
+    AreStatements v w from to NoStmts = from ≡ to
+    AreStatements v w from to (MoreStmts s rest) = (mid : ℕ) × (from ≤ mid) × (mid ≤ to) × IsStatement v w from mid s × AreStatements v w mid to rest
+
+    -- the parts of an `if` behind its first statements
+    pub IsOtherwise : Visible → Ways → (from to : ℕ) → ElsifTrees → (last : ℕ → ℕ → Type 0) → Type 0
+    IsOtherwise v w from to NoElsifs last = last from to
+    IsOtherwise v w from to (MoreElsifs e body rest) last = IsBranch v from to e (λ a b. AreStatements v w a b body) (λ a b. IsOtherwise v w a b rest last)
+
+  -- ---- bodies
+
+  -- the code of a procedure of the package: its declarations, its statements, and a return
+  pub record IsProcedure (q : Procedure) (number : ℕ) : Type 0 where
+    pub s : Subprogram
+    pub there : called i number ≡ Some s
+    pub outside : q.object ≡ None
+    pub copied : AreIn q.parameters
+    pub unhandled : q.body.handlers ≡ NoHandlers
+    pub parameters : (args : List values.Value) → ArePassed (sizes_of q) args → length (all_words args) ≡ s.parameters
+    pub results : s.results ≡ 0
+    -- what is visible in front of its declarations, and behind them
+    pub begins : Visible
+    pub later : Visible
+    pub start : ℕ
+    pub stop : ℕ
+    pub up : first_place i number ≤ start
+    pub over : start ≤ stop
+    pub within : suc stop ≤ s.end_
+    pub declared : AreDeclared begins (first_place i number) start later q.body.declarations
+    pub statements : AreStatements later (record { exit = None; return = Some stop }) start stop q.body.statements
+    pub return : At i stop op.Return
+    -- what the frame sees when it is entered
+    pub enters : (args : List values.Value) (locals : List ℤ)
+        → ArePassed (sizes_of q) args
+        → AreOf program.scope (map parameter_type q.parameters) args
+        → length locals ≡ s.locals - s.parameters
+        → Rests g begins (activation_of q args) (all_words args ++ locals)
+
+  abbrev pub HasProcedures : Type 0
+  HasProcedures = (q : Procedure) (number : ℕ) → numbers q ≡ Some number → IsProcedure q number

@@ -1,0 +1,13 @@
+//! The laws of code that stands for work, each what a function without work ensures.
+ghost use Rattle.stmt_code.specs.Laws.{StepsAreMet};
+
+use kernel::laws::quiet_stays;
+use sound_steps::laws::steps_are_sound;
+
+/// Each step of a task is met by the code that stands for its work.
+pub fn steps_are_met()
+    ensures { StepsAreMet }
+{
+    quiet_stays();
+    steps_are_sound();
+}

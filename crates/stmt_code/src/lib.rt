@@ -1,0 +1,4 @@
+//! The code of statements.
+#![tactic(auto)]
+
+pub mod laws;
