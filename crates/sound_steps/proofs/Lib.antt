@@ -17,4 +17,5 @@ mod Callees
 mod Elaborating
 mod Stepping
 mod Serving
+mod Alike
 mod Owing

@@ -55,6 +55,12 @@ OthersStaySound = (program : Program) (within waits : Option ℕ) (before after 
     → IsSoundTask program before waits t
     → IsSoundTask program after waits t
 
+-- What holds of a task with the objects of one store holds with those of each other one that is sound: it speaks of types, not of values.
+abbrev pub StoresAreAlike : Type 0
+StoresAreAlike = (program : Program) (waits : Option ℕ) (one other : Store) (t : TaskWork) → IsSoundStore program one → IsSoundStore program other
+    → IsSoundTask program one waits t
+    → IsSoundTask program other waits t
+
 -- A task that has ended its action may run the entry body for the queued caller (RM 9.5.3).
 abbrev pub ServersAreSound : Type 0
 ServersAreSound = (program : Program) (m : Store) (o : ℕ) (caller t : TaskWork) → IsSoundStore program m → IsSoundTask program m (Some o) caller

@@ -36,7 +36,7 @@ use Rattle.meaning.specs.Targets.{named_target, target_value}
 use Rattle.meaning.specs.SourceSteps as source
 use Rattle.meaning.specs.SourceSteps.{here_of, place_of, program_behaviour, with_value, work_step}
 use Rattle.meaning.specs.Works.{Item, Declares, DeclaresParameter, Sequence, Does, DoesMain, Repeats, RepeatsWhile, Handles, EndsCall, Goes, Activation, Store, Target, TaskWork, ends_of_calls, frames_left}
-use Rattle.sound_steps.specs.Laws.{StepsAreSound}
+use Rattle.sound_steps.specs.Laws.{StepsAreSound, StoresAreAlike}
 use Rattle.sound_steps.specs.Objects.{AreOf}
 use Rattle.expr_code.specs.Views.{At, in_frame, placed, view_of}
 use Rattle.expr_code.specs.Coming.{Comes, all_on, all_words, size_of}
@@ -566,8 +566,8 @@ module _ (this : Scene) where
   met_by s (Raised x items g' gs is throws inner unhandled) = scene.met_raised this s x items g' gs is throws inner unhandled
   met_by s (Ended o h) = let e = calm.runs.on in absurd cc
 
-pub steps_are_met : QuietStays → StepsAreSound → StepsAreMet
-steps_are_met quiet sound_steps i program g numbers has premises stay schedule k t calm store m w s shares stands =
+pub steps_are_met : QuietStays → StepsAreSound → StoresAreAlike → StepsAreMet
+steps_are_met quiet sound_steps alike i program g numbers has premises schedule k t calm store m w s shares stands =
     met_by (record {
       quiet = quiet;
       sound_steps = sound_steps;
@@ -577,8 +577,7 @@ steps_are_met quiet sound_steps i program g numbers has premises stay schedule k
       numbers = numbers;
       has = has;
       premises = premises;
-      stay =
-          stay;
+      alike = alike;
       schedule = schedule;
       k = k;
       t = t;

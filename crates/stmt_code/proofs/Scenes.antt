@@ -32,7 +32,7 @@ use Rattle.meaning.specs.SourceSteps as source
 use Rattle.meaning.specs.SourceSteps.{here_of, place_of, program_behaviour, with_value, work_step}
 use Rattle.meaning.specs.Works.{Item, Declares, DeclaresParameter, Sequence, Does, DoesMain, Repeats, RepeatsWhile, RepeatsFor, Handles, EndsHandler, EndsCall, EndsAction, EndsServed, Queued, Goes, Raising, Activation, Store, Target, TaskWork, ends_of_calls, frames_left}
 use Rattle.sound_steps.specs.Holding.{IsSoundStep, IsSoundStore, IsSoundTask, waits_after}
-use Rattle.sound_steps.specs.Laws.{Premises, StepsAreSound}
+use Rattle.sound_steps.specs.Laws.{Premises, StepsAreSound, StoresAreAlike}
 use Rattle.sound_steps.specs.Opened.{opened_in}
 use Rattle.expr_code.specs.Views.{At, in_frame, placed, view_of}
 use Rattle.expr_code.specs.Coming.{Comes, Throws, most_steps, size_of}
@@ -44,7 +44,7 @@ use Rattle.expr_code.proofs.Coming as coming
 use Rattle.stmt_code.specs.Resting.{IsSmall, Narrows, Rests, StandsFor}
 use Rattle.stmt_code.specs.Statements.{Numbers}
 use Rattle.stmt_code.specs.Standing.{AreInner, Around, CodeStands, Follows, Going, Here, Inside, IsGoing, IsSound, Jumps, Leads, Over as Ended, with_visible, Raised, Shares, There, Unhandled, WorkStands, items_size, relation, work_size}
-use Rattle.stmt_code.specs.Laws.{HasCode, TasksStaySound}
+use Rattle.stmt_code.specs.Laws.{HasCode}
 use Rattle.stmt_code.proofs.Going.{before_ends, before_follows, before_unhandled, declares_end, declares_follow, declares_unhandled, earlier, jumps_up, narrows_both, narrows_same, way_back, way_out}
 use Rattle.stmt_code.proofs.Sizes.{before_size, declares_size, item_counts}
 
@@ -58,7 +58,7 @@ pub record Scene : Type 0 where
   pub numbers : Numbers
   pub has : HasCode i program g numbers
   pub premises : Premises program
-  pub stay : TasksStaySound program
+  pub alike : StoresAreAlike
   pub schedule : List ScheduleLine
   pub k : Kernel
   pub t : ℕ
@@ -94,8 +94,8 @@ module _ (this : Scene) where
   abbrev premises : Premises program
   premises = this.premises
 
-  abbrev stay : TasksStaySound program
-  stay = this.stay
+  abbrev alike : StoresAreAlike
+  alike = this.alike
 
   abbrev schedule : List ScheduleLine
   schedule = this.schedule
@@ -159,7 +159,7 @@ module _ (this : Scene) where
     store_after = step_is.store.sound
 
     task_after : waits_after x.effect ≡ None → IsSound i program g numbers x.solo.task
-    task_after none m' s' = stay x.solo.memory m' x.solo.task store_after s' (subst (λ q. IsSoundTask program x.solo.memory q x.solo.task) none step_is.task)
+    task_after none m' s' = alike program None x.solo.memory m' x.solo.task store_after s' (subst (λ q. IsSoundTask program x.solo.memory q x.solo.task) none step_is.task)
 
   -- no step of a sound task is without meaning
   pub has_meaning : (items : List Item) → work_step now w.work ≡ source.means_nothing now items → ⊥

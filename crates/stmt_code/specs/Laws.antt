@@ -1,5 +1,5 @@
 -- What is proved of code that stands for work, as a statement; it is the contract of a public function.
-use Rattle.std.specs.Prelude.{◌≡◌, ℕ, List, [], None}
+use Rattle.std.specs.Prelude.{◌≡◌, ℕ, List, []}
 use Rattle.base.specs.declared.schedule.ScheduleLine.{ScheduleLine}
 use Rattle.kernel.specs.State.{Kernel}
 use Rattle.kernel.specs.Calm.{Calm}
@@ -12,18 +12,12 @@ use Rattle.meaning.specs.Programs.{Program}
 use Rattle.meaning.specs.SameMeaning.{frames_of}
 use Rattle.meaning.specs.SourceSteps.{program_behaviour}
 use Rattle.meaning.specs.Works.{Store, TaskWork}
-use Rattle.sound_steps.specs.Holding.{IsSoundStore, IsSoundTask}
 use Rattle.sound_steps.specs.Laws.{Premises}
 use Rattle.expr_code.specs.Coming.{most_steps}
 use Rattle.expr_code.specs.Computing.{Answers}
 use Rattle.expr_code.specs.Seeing.{library_of, Package}
 use Rattle.stmt_code.specs.Statements.{HasProcedures, Numbers}
 use Rattle.stmt_code.specs.Standing.{Shares, WorkStands, relation}
-
--- a task's work breaks no rule whatever the store is, if it breaks none with one store
-abbrev pub TasksStaySound : Program → Type 0
-TasksStaySound program = (one other : Store) (w : TaskWork) → IsSoundStore program one → IsSoundStore program other → IsSoundTask program one None w →
-    IsSoundTask program other None w
 
 -- an image that has the code of a program's functions and procedures
 pub record HasCode (i : Sections) (program : Program) (g : Package) (numbers : Numbers) : Type 0 where
@@ -34,7 +28,7 @@ pub record HasCode (i : Sections) (program : Program) (g : Package) (numbers : N
 -- Each step of a task is met by the frames that stand for its work.
 abbrev pub StepsAreMet : Type 0
 StepsAreMet =
-    (i : Sections) (program : Program) (g : Package) (numbers : Numbers) → HasCode i program g numbers → Premises program → TasksStaySound program
+    (i : Sections) (program : Program) (g : Package) (numbers : Numbers) → HasCode i program g numbers → Premises program
     → (schedule : List ScheduleLine) (k : Kernel) (t : ℕ) → Calm k t → (store : Store) (m : Words) (w : TaskWork) (s : TaskState)
     → Shares i program g numbers store m
     → WorkStands i program g numbers k w s

@@ -2,7 +2,7 @@
 ghost use Rattle.stmt_code.specs.Laws.{StepsAreMet};
 
 use kernel::laws::quiet_stays;
-use sound_steps::laws::steps_are_sound;
+use sound_steps::laws::{steps_are_sound, stores_are_alike};
 
 /// Each step of a task is met by the code that stands for its work.
 pub fn steps_are_met()
@@ -10,4 +10,5 @@ pub fn steps_are_met()
 {
     quiet_stays();
     steps_are_sound();
+    stores_are_alike();
 }

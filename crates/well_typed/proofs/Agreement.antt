@@ -38,15 +38,15 @@ abbrev stands_by : Option Object → Option Function → Option Object → Optio
 stands_by own f outer g last = object_stands own (function_stands f (object_stands outer (function_stands g last)))
 
 -- what is found is what was found, or an object of the same subtype with a value of its shape
-record IsNewer (s : Scope) (old new : Option Object) : Type 0 where
-  before : Object
-  after : Object
-  found : old ≡ Some before
-  stored : new ≡ Some after
-  same : after.subtype ≡ before.subtype
-  suited : has_shape (shape_of s after.subtype) after.value ≡ true
+pub record IsNewer (s : Scope) (old new : Option Object) : Type 0 where
+  pub before : Object
+  pub after : Object
+  pub found : old ≡ Some before
+  pub stored : new ≡ Some after
+  pub same : after.subtype ≡ before.subtype
+  pub suited : has_shape (shape_of s after.subtype) after.value ≡ true
 
-abbrev IsAlike : Scope → Option Object → Option Object → Type 0
+abbrev pub IsAlike : Scope → Option Object → Option Object → Type 0
 IsAlike s old new = (new ≡ old) ⊎ IsNewer s old new
 
 record IsStored (s : Scope) (old new : Meaning) : Type 0 where
@@ -104,7 +104,7 @@ stands_alike s f g o p q r last h k =
 -- ---- a place whose objects have changed
 
 -- the place with other objects, at another time
-abbrev changed : Place → List ScheduleLine → ℤ → List Object → (ℕ → List Object) → List Object → List ℕ → ℕ → ℕ → Place
+abbrev pub changed : Place → List ScheduleLine → ℤ → List Object → (ℕ → List Object) → List Object → List ℕ → ℕ → ℕ → Place
 changed p schedule now variables components locals actions priority frames_left =
     record p {
       schedule = schedule;
@@ -130,7 +130,7 @@ object_subtype : (t : Subtype) (v : Value) (m : Meaning) (x : Object) → m ≡ 
 object_subtype t v m x h k = let f : Meaning → Subtype = λ m. elim m [ IsObject u v ↦ u | n ↦ t ] in ap f (sym h ∙ k)
 
 module _ (s : Scope) (p : Place) (agrees : Agrees s p) (schedule : List ScheduleLine) (now : ℤ) (variables : List Object) (components : ℕ → List Object) (locals : List Object) (actions : List ℕ) (priority frames_left : ℕ) where
-  abbrev later : Place
+  abbrev pub later : Place
   later = changed p schedule now variables components locals actions priority frames_left
 
   abbrev Kept : List ℕ → Type 0
@@ -205,7 +205,7 @@ module _ (s : Scope) (p : Place) (agrees : Agrees s p) (schedule : List Schedule
       by_entity LibraryUnit at h = tt
       by_entity Doubtful at h = tt
 
-  changed_agrees : ((name : List ℕ) → IsAlike p.scope (own_object p name) (own_object later name))
+  pub changed_agrees : ((name : List ℕ) → IsAlike p.scope (own_object p name) (own_object later name))
       → ((name : List ℕ) → IsAlike p.scope (package_object p name) (package_object later name)) → Agrees s later
   changed_agrees own outer =
       record {
@@ -231,7 +231,7 @@ either_alike s o p q (inl e) = inl (ap (λ x. or_else x q) e)
 either_alike s o p q (inr n) =
     inr (record { before = n.before; after = n.after; found = ap (λ x. or_else x q) n.found; stored = ap (λ x. or_else x q) n.stored; same = n.same; suited = n.suited })
 
-second_alike : (s : Scope) (o p q : Option Object) → IsAlike s p q → IsAlike s (or_else o p) (or_else o q)
+pub second_alike : (s : Scope) (o p q : Option Object) → IsAlike s p q → IsAlike s (or_else o p) (or_else o q)
 second_alike s (Some x) p q h = inl refl
 second_alike s None p q h = h
 

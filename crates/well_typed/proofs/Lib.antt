@@ -3,7 +3,7 @@ pub mod Parts
 pub mod Goods
 pub mod Growing
 pub mod Hiding
-mod Agreement
+pub mod Agreement
 pub mod FixedNames
 mod Elements
 pub mod Denoting
