@@ -1,0 +1,3 @@
+pub use Rattle.sound_steps.specs.Starting
+pub mod Fronts
+pub mod Laws
