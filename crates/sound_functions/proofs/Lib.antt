@@ -1,0 +1,4 @@
+mod Returned
+mod Entering
+mod OfObjects
+mod Gathered

@@ -1,0 +1,2 @@
+pub use Rattle.well_typed.specs.Answers
+pub mod Laws
