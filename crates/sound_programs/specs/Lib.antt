@@ -1,0 +1,2 @@
+pub use Rattle.sound_steps.specs.Starting
+pub mod Laws
