@@ -2,4 +2,5 @@ mod Going
 mod Sizes
 mod Scenes
 mod Turning
+mod Choosing
 mod Matching

@@ -55,6 +55,7 @@ use Rattle.stmt_code.proofs.Sizes.{item_counts}
 use Rattle.stmt_code.proofs.Scenes.{Scene}
 use Rattle.stmt_code.proofs.Scenes as scene
 use Rattle.stmt_code.proofs.Turning as turn
+use Rattle.stmt_code.proofs.Choosing as choose
 
 module _ (this : Scene) where
   abbrev quiet : QuietStays
@@ -542,6 +543,7 @@ module _ (this : Scene) where
     met_statement (Exit place (Some e)) items is h = turn.met_exit_when this s place e items is h
     met_statement (Return place None) items is h = scene.met_return this s place items is h
     met_statement (If place e body elsifs others) items is h = turn.met_if this s place e body elsifs others items is h
+    met_statement (Case place e all) items is h = choose.met_case this s place e all items is h
     met_statement (Loop place Forever body) items is h = turn.met_forever this s place body items is h
     met_statement (Loop place (While e) body) items is h = turn.met_while this s place e body items is h
     met_statement (Block place ds body NoHandlers) items is h = scene.met_block this s place ds body items is h

@@ -158,8 +158,9 @@ module _ (this : Scene) where
     store_after : IsSoundStore program x.solo.memory
     store_after = step_is.store.sound
 
-    task_after : waits_after x.effect ≡ None → IsSound i program g numbers x.solo.task
-    task_after none m' s' = alike program None x.solo.memory m' x.solo.task store_after s' (subst (λ q. IsSoundTask program x.solo.memory q x.solo.task) none step_is.task)
+    pub task_after : waits_after x.effect ≡ None → IsSound i program g numbers x.solo.task
+    task_after none m' s' = alike program None x.solo.memory m' x.solo.task store_after s'
+        (subst (λ q. IsSoundTask program x.solo.memory q x.solo.task) none step_is.task)
 
   -- no step of a sound task is without meaning
   pub has_meaning : (items : List Item) → work_step now w.work ≡ source.means_nothing now items → ⊥
@@ -244,7 +245,55 @@ module _ (this : Scene) where
   inner_placed f [] place stack h = tt
   inner_placed f (c ∷ fs) place stack h = h
 
-  -- a step of the source that evaluates, and is then met by the code's last instruction
+  -- a quiet step, met by steps up to one that is still to be taken, if there are any
+  pub met_quiet : (f : Frame) (fs : List Frame) (n : ℕ) (c : TaskState) (x : source.Stepped) → work_step now w.work ≡ x → x.effect ≡ Quiet
+      → x.solo.memory ≡ store
+      → (all : Takes (behaviour i schedule) t frames_of (most_steps i) (suc (length fs)) n k (in_frame m (placed f f.place []) fs) k
+      (record { memory = m; task = c }))
+      → n ≤ most_steps i (in_frame m f fs).task
+      → ((s : TaskState) → s ≡ c → WorkStands i program g numbers k x.solo.task s)
+      → work_size x.solo.task.work < work_size w.work
+      → Meet (in_frame m (placed f f.place []) fs).task
+  met_quiet f fs n c x is e same all low stands less =
+      let sh : Shares i program g numbers x.solo.memory m = record
+      { sound = store_after x is; stands = subst (λ q. StandsFor program g q m) (sym same) shares.stands } in
+      ⊎_elim
+      (λ stays. still_by (program_behaviour program schedule) (behaviour i schedule) (relation i program g numbers) frames_of (most_steps i) k t
+      (record { memory = store; task = w }) (in_frame m (placed f f.place []) fs)
+      x is e sh (stands (in_frame m (placed f f.place []) fs).task (ap (λ q. q.task) stays)) less)
+      (λ j. walks_by (program_behaviour program schedule) (behaviour i schedule) (relation i program g numbers) frames_of (most_steps i) k t
+      (record { memory = store; task = w }) (in_frame m (placed f f.place []) fs)
+      j.0 n (record { memory = m; task = c }) x is all j.1 low e sh (stands c refl))
+      (begun all)
+
+  -- a step of the source that evaluates: what raises is met, and what has no meaning is excluded
+  pub met_value : {A : Type 0} (f : Frame) (fs : List Frame) (n from n' to : ℕ) (stack : A → List ℤ) (v : Val A) (items : List Item) (go : A → source.Stepped)
+      → Reaching f fs n f.place from
+      → Comes i schedule k t m (placed f from []) fs n' to stack v
+      → n + n' ≤ size_of i f.subprogram + size_of i f.subprogram
+      → work_step now w.work ≡ with_value now v items go
+      → items_size items < work_size w.work
+      → Removable f fs
+      → Unhandled items
+      → ((x : A) → v ≡ Gives x → work_step now w.work ≡ go x
+      → Spends (behaviour i schedule) t frames_of (most_steps i) (suc (length fs)) (n + n') k (in_frame m (placed f f.place []) fs) k
+      (in_frame m (placed f to (stack x)) fs)
+      → Meet (in_frame m (placed f f.place []) fs).task)
+      → Meet (in_frame m (placed f f.place []) fs).task
+  met_value f fs n from n' to stack (Gives x) items go first comes low is less inner unhandled last =
+      last x refl is (spends_trans (behaviour i schedule) t frames_of (most_steps i) n' k (in_frame m (placed f to (stack x)) fs) first comes)
+  met_value f fs n from n' to stack (Raises x) items go first comes low is less inner unhandled last =
+      let place = comes.1 in
+      let left = comes.2 in
+      let f' = placed f place left in
+      let raised = source.raises now x items in
+      let all = spends_takes (behaviour i schedule) t frames_of (most_steps i) n' k (record { memory = m; task = comes.0 }) first comes.3 in
+      let stands : (s : TaskState) → Throws i x s f' fs → WorkStands i program g numbers k raised.solo.task s =
+      λ s throws. record { sound = task_after raised is refl; code = Raised x items f' fs refl throws (inner_placed f fs place left inner) unhandled } in
+      met_quiet f fs (n + n') comes.0 raised is refl refl all (omega (arith, low)) (λ s e. stands s (subst (λ q. Throws i x q f' fs) (sym e) comes.6)) less
+  met_value f fs n from n' to stack Meaningless items go first comes low is less inner unhandled last = absurd (has_meaning items is)
+
+  -- ... and is then met by the code's last instruction
   pub met_comes : {A : Type 0} (f : Frame) (fs : List Frame) (n from n' to : ℕ) (stack : A → List ℤ) (v : Val A) (items : List Item) (go : A → source.Stepped)
       → Reaching f fs n f.place from
       → Comes i schedule k t m (placed f from []) fs n' to stack v
@@ -255,35 +304,18 @@ module _ (this : Scene) where
       → Unhandled items
       → ((x : A) → v ≡ Gives x → (y : steps.Stepped) × (act i schedule k t (in_frame m (placed f to (stack x)) fs) ≡ y) × Meets (go x) y)
       → Meet (in_frame m (placed f f.place []) fs).task
-  met_comes f fs n from n' to stack (Gives x) items go first comes low is less inner unhandled last =
-      let y = last x refl in
+  met_comes f fs n from n' to stack v items go first comes low is less inner unhandled last =
+      met_value f fs n from n' to stack v items go first comes low is less inner unhandled
+      (λ x ev there spends.
+      let y = last x ev in
       let meets = y.2 in
       moves_by (program_behaviour program schedule) (behaviour i schedule) (relation i program g numbers) frames_of (most_steps i) k t
       (record { memory = store; task = w }) (in_frame m (placed f f.place []) fs)
-      (n + (n' + 1)) (in_frame m (placed f to (stack x)) fs) (go x) y.0 is y.1
-      (spends_takes (behaviour i schedule) t frames_of (most_steps i) (n' + 1) k (in_frame m (placed f to (stack x)) fs) first
-      (spends_takes (behaviour i schedule) t frames_of (most_steps i) 1 k (in_frame m (placed f to (stack x)) fs) comes (Last refl)))
+      ((n + n') + 1) (in_frame m (placed f to (stack x)) fs) (go x) y.0 there y.1
+      (spends_takes (behaviour i schedule) t frames_of (most_steps i) 1 k (in_frame m (placed f to (stack x)) fs) spends (Last refl))
       (omega (arith, low)) meets.effect
-      (record { sound = store_after (go x) is; stands = meets.words })
-      (record { sound = task_after (go x) is meets.waits; code = meets.code })
-  met_comes f fs n from n' to stack (Raises x) items go first comes low is less inner unhandled last =
-      let place = comes.1 in
-      let left = comes.2 in
-      let f' = placed f place left in
-      let raised = source.raises now x items in
-      let all = spends_takes (behaviour i schedule) t frames_of (most_steps i) n' k (record { memory = m; task = comes.0 }) first comes.3 in
-      let stands : (s : TaskState) → Throws i x s f' fs → WorkStands i program g numbers k raised.solo.task s =
-      λ s throws. record { sound = task_after raised is refl; code = Raised x items f' fs refl throws (inner_placed f fs place left inner) unhandled } in
-      let sh : Shares i program g numbers raised.solo.memory m = record { sound = store_after raised is; stands = shares.stands } in
-      ⊎_elim
-      (λ e. still_by (program_behaviour program schedule) (behaviour i schedule) (relation i program g numbers) frames_of (most_steps i) k t
-      (record { memory = store; task = w }) (in_frame m (placed f f.place []) fs)
-      raised is refl sh (stands (in_frame m (placed f f.place []) fs).task (subst (λ s. Throws i x s.task f' fs) (sym e) comes.6)) less)
-      (λ j. walks_by (program_behaviour program schedule) (behaviour i schedule) (relation i program g numbers) frames_of (most_steps i) k t
-      (record { memory = store; task = w }) (in_frame m (placed f f.place []) fs)
-      j.0 (n + n') (record { memory = m; task = comes.0 }) raised is all j.1 (omega (arith, low)) refl sh (stands comes.0 comes.6))
-      (begun all)
-  met_comes f fs n from n' to stack Meaningless items go first comes low is less inner unhandled last = absurd (has_meaning items is)
+      (record { sound = store_after (go x) there; stands = meets.words })
+      (record { sound = task_after (go x) there meets.waits; code = meets.code }))
 
   -- no step of code, and what is left to do is less
   pub met_still : (s : TaskState) (x : source.Stepped) → work_step now w.work ≡ x → x.effect ≡ Quiet → x.solo.memory ≡ store

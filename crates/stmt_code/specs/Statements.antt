@@ -1,6 +1,14 @@
 -- Which code is that of a statement, of a sequence of statements, and of the body of a procedure (RM 5, 6.3).
-use Rattle.std.specs.Prelude.{◌≡◌, ◌≤◌, ℕ, suc, ◌+◌, ◌-◌, ℤ, List, [], ◌∷◌, ◌++◌, length, map, Option, Some, None, ⊤}
+use Rattle.std.specs.Prelude.{◌≡◌, ◌≤◌, ℕ, suc, ◌+◌, ◌-◌, ℤ, List, [], ◌∷◌, ◌++◌, length, map, Option, Some, None, if◌then◌else◌, ⊤}
+use Rattle.base.specs.declared.schedule.ScheduleLine.{ScheduleLine}
+use Rattle.kernel.specs.State.{Kernel}
+use Rattle.kernel.specs.Calm.{Calm}
+use Rattle.kernel.specs.Counting.{Spends}
 use Rattle.image.specs.Sections.{Sections, first_place}
+use Rattle.image.specs.Frames.{Frame, Words}
+use Rattle.image.specs.Steps.{behaviour}
+use Rattle.meaning.specs.SameMeaning.{frames_of}
+use Rattle.meaning.specs.SourceSteps.{chooses}
 use Rattle.image.specs.Operations.{called}
 use Rattle.image.specs.Texts.{text_at}
 use Rattle.image.specs.declared.instruction.Operation.TheVariants as op
@@ -9,20 +17,20 @@ use Rattle.ada_tree.specs.declared.declaration.Mode.TheVariants as mode
 use Rattle.ada_tree.specs.declared.program.MainStatement.{MainStatement}
 use Rattle.ada_tree.specs.declared.program.MainStatement.TheVariants as main
 use Rattle.ada_tree.specs.ExpressionTree.{ExprTree, SelectorTrees, NoSelectors, MoreSelectors, Arguments, MoreArguments, NoArguments, NameTree, Text, Value}
-use Rattle.ada_tree.specs.StatementTree.{DeclarationTree, LocalObject, Forever, While, StmtTree, Null, Assignment, Call, Exit, Return, If, Loop, Block, StmtTrees, NoStmts, MoreStmts, ElsifTrees, NoElsifs, MoreElsifs, NoHandlers}
+use Rattle.ada_tree.specs.StatementTree.{DeclarationTree, LocalObject, Forever, While, StmtTree, Null, Assignment, Call, Exit, Return, If, Case, Loop, Block, ChoicesTree, AlternativeTrees, NoAlternatives, MoreAlternatives, StmtTrees, NoStmts, MoreStmts, ElsifTrees, NoElsifs, MoreElsifs, NoHandlers}
 use Rattle.types.specs.declared.entity.Subtype.{Subtype}
 use Rattle.types.specs.Entities.{Put}
 use Rattle.types.specs.Layouts.{words_of}
 use Rattle.types.specs.Places.{Place}
 use Rattle.types.specs.Values as values
 use Rattle.types.specs.Evaluations.{Gives}
-use Rattle.types.specs.Evaluating.{Calls, actuals_with}
+use Rattle.types.specs.Evaluating.{Calls, actuals_with, val}
 use Rattle.type_rules.specs.SubtypeNames.{named_entity}
 use Rattle.meaning.specs.Programs.{Parameter, Procedure, Program}
 use Rattle.meaning.specs.Calls.{Callee, activation_of, callee_by, procedure_here}
 use Rattle.sound_steps.specs.Objects.{AreOf}
-use Rattle.expr_code.specs.Views.{At, View}
-use Rattle.expr_code.specs.Coming.{all_words}
+use Rattle.expr_code.specs.Views.{At, View, in_frame, placed, view_of}
+use Rattle.expr_code.specs.Coming.{all_words, most_steps, on}
 use Rattle.expr_code.specs.Computing.{ArePassed, Computes, ComputesAll}
 use Rattle.expr_code.specs.Seeing.{library_of, Package, Sees}
 use Rattle.expr_code.specs.declared.visible.Visible.{Visible}
@@ -154,6 +162,16 @@ module _ (i : Sections) (program : Program) (g : Package) (numbers : Numbers) wh
   abbrev pub IsBlock : Visible → (from to : ℕ) → List DeclarationTree → (body : Visible → ℕ → ℕ → Type 0) → Type 0
   IsBlock v from to ds body = (mid : ℕ) × (later : Visible) × (from ≤ mid) × (mid ≤ to) × AreDeclared v from mid later ds × body later mid to
 
+  -- The words of the expression's value stand on the operand stack, and are compared with choices: where one of them chooses it, the frame goes on at `start`
+  -- with an empty operand stack, and else at `next` as it is.
+  pub record IsChoice (v : Visible) (e : ExprTree) (from start next : ℕ) (choices : ChoicesTree) : Type 0 where
+    pub tests : (schedule : List ScheduleLine) (k : Kernel) (t : ℕ) (m : Words) (f : Frame) (fs : List Frame) (p : Place) (x : values.Value)
+        → Calm k t
+        → Sees g v p (view_of i schedule k m f fs)
+        → val p e ≡ Gives x
+        → Spends (behaviour i schedule) t frames_of (most_steps i) (suc (length fs)) (next - from) k (in_frame m (placed f from (on [] x)) fs) k
+        (in_frame m (if chooses p choices x then placed f start [] else placed f next (on [] x)) fs)
+
   abbrev mutual
     pub IsStatement : Visible → Ways → (from to : ℕ) → StmtTree → Type 0
     IsStatement v w from to (Null place) = from ≡ to
@@ -164,6 +182,7 @@ module _ (i : Sections) (program : Program) (g : Package) (numbers : Numbers) wh
     IsStatement v w from to (Return place None) = IsJump w.return from to
     IsStatement v w from to (If place e body elsifs others) =
         IsBranch v from to e (λ a b. AreStatements v w a b body) (λ a b. IsOtherwise v w a b elsifs (λ x y. AreStatements v w x y others))
+    IsStatement v w from to (Case place e all) = (mid : ℕ) × (from ≤ mid) × (mid ≤ to) × IsValue v from mid e × AreAlternatives v w mid to e all
     IsStatement v w from to (Loop place Forever body) = IsForever from to (λ exit a b. AreStatements v (within_loop exit w) a b body)
     IsStatement v w from to (Loop place (While e) body) = IsWhile v from to e (λ exit a b. AreStatements v (within_loop exit w) a b body)
     IsStatement v w from to (Block place ds body NoHandlers) = IsBlock v from to ds (λ later a b. AreStatements later w a b body)
@@ -172,6 +191,15 @@ module _ (i : Sections) (program : Program) (g : Package) (numbers : Numbers) wh
     pub AreStatements : Visible → Ways → (from to : ℕ) → StmtTrees → Type 0
     AreStatements v w from to NoStmts = from ≡ to
     AreStatements v w from to (MoreStmts s rest) = (mid : ℕ) × (from ≤ mid) × (mid ≤ to) × IsStatement v w from mid s × AreStatements v w mid to rest
+
+    -- each alternative: its choices, its statements, and a jump to the end; behind the last one no value is left to be chosen
+    pub AreAlternatives : Visible → Ways → (from to : ℕ) → ExprTree → AlternativeTrees → Type 0
+    AreAlternatives v w from to e NoAlternatives = ⊤
+    AreAlternatives v w from to e (MoreAlternatives at choices body rest) =
+        (start : ℕ) × (joint : ℕ) × (from ≤ start) × (start ≤ joint) × (suc joint ≤ to) × IsChoice v e from start (suc joint) choices
+        × AreStatements v w start joint body
+        × At i joint (op.Jump to)
+        × AreAlternatives v w (suc joint) to e rest
 
     -- the parts of an `if` behind its first statements
     pub IsOtherwise : Visible → Ways → (from to : ℕ) → ElsifTrees → (last : ℕ → ℕ → Type 0) → Type 0
