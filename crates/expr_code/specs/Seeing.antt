@@ -9,7 +9,7 @@ use Rattle.image.specs.declared.instruction.Region.TheVariants as regions
 use Rattle.image.specs.declared.subprograms.Subprogram as code
 use Rattle.types.specs.Values.{Value}
 use Rattle.types.specs.declared.entity.Subtype.{Subtype}
-use Rattle.types.specs.Entities.{Profile, Subprogram}
+use Rattle.types.specs.Entities.{Entity, Profile, Subprogram}
 use Rattle.types.specs.Places.{Function, IsFunction, IsObject, Place, function_of, meaning_of}
 use Rattle.types.specs.Evaluating.{formal_subtype}
 use Rattle.types.specs.Scopes.{Scope, entity_at, number_of}
@@ -33,6 +33,14 @@ slot_of v name = told_of v.scope v.slots.items name
 -- the number of the subprogram of the function with this name
 abbrev pub subprogram_of : Visible → List ℕ → Option ℕ
 subprogram_of v name = told_of v.scope v.subprograms.items name
+
+-- the profile of the subprogram with this name, if it is one; a procedure, function or entry of the language has none here
+abbrev pub subprogram_profile : Option Entity → Option Profile
+subprogram_profile (Some (Subprogram p)) = Some p
+subprogram_profile e = None
+
+abbrev pub profile_named : Scope → (name : List ℕ) → Option Profile
+profile_named s name = elim (number_of s name) [ None ↦ None | Some n ↦ subprogram_profile (entity_at s n) ]
 
 -- the name is that of a subprogram with this profile
 pub record NamesProfile (s : Scope) (name : List ℕ) (profile : Profile) : Type 0 where

@@ -1,7 +1,7 @@
 //! What is visible to code: names, where the words of objects stand, and which subprograms functions have.
-ghost use Rattle.std.specs.Prelude.{◌≡◌, IfSome};
+ghost use Rattle.std.specs.Prelude.{◌≡◌, option_map, IfSome};
 ghost use Rattle.types.specs.Entities.{profile_value};
-ghost use Rattle.expr_code.specs.Seeing.{NamesProfile, slot_of, subprogram_of};
+ghost use Rattle.expr_code.specs.Seeing.{NamesProfile, profile_named, slot_of, subprogram_of};
 
 use image::Region;
 use lexer::Text;
@@ -48,7 +48,8 @@ impl Visible {
 
     /// The profile of the subprogram of this name, if it is one.
     pub fn profile(&self, name: &Text) -> Option<&Profile>
-        ensures { IfSome result (λ profile. NamesProfile self.now.scope name.now (profile_value profile.now)) }
+        ensures is { option_map (λ p. profile_value p.now) result ≡ profile_named self.now.scope name.now }
+        ensures names { IfSome result (λ profile. NamesProfile self.now.scope name.now (profile_value profile.now)) }
     {
         let number = self.scope.number_of(name)?;
         match self.scope.entity(number) {
