@@ -28,7 +28,7 @@ use Rattle.expr_code.specs.declared.visible.Visible.{Visible}
 use Rattle.expr_code.proofs.Naming.{computes_conversion}
 use Rattle.expr_code.proofs.Names.{legal_here}
 
-abbrev with_argument : ExprTree → SelectorTrees
+abbrev pub with_argument : ExprTree → SelectorTrees
 with_argument e = MoreSelectors (Arguments (MoreArguments (tree.Value e) NoArguments)) NoSelectors
 
 -- only integer types are converted to

@@ -18,3 +18,5 @@ mod Checking
 mod Conversions
 mod Going
 mod Actuals
+mod Widths
+mod Selecting

@@ -9,7 +9,7 @@ use Rattle.types.specs.declared.entity.Subtype.{Subtype}
 use Rattle.types.specs.declared.standing.Standing.TheVariants as standing
 use Rattle.types.specs.Scopes.{Scope}
 use Rattle.types.specs.Shapes.{Shape, shape_of}
-use Rattle.types.specs.Standings.{object_select}
+use Rattle.types.specs.Standings.{object_select, select_all}
 use Rattle.expr_rules.specs.ExpressionRules.{selector_faults, selectors_faults}
 use Rattle.expr_code.specs.Code.{Adds, here, Extends, Holds}
 use Rattle.expr_code.specs.Flows.{Flows}
@@ -37,6 +37,10 @@ Selects s t x last = (r : Role) → object_select s r t x ≡ standing.Part r la
 abbrev pub selected : List SelectorTree → SelectorTrees → SelectorTrees
 selected [] rest = rest
 selected (x ∷ all) rest = MoreSelectors x (selected all rest)
+
+-- ... with these parts more, whatever stands behind them
+abbrev pub SelectsAll : Scope → Subtype → List SelectorTree → Subtype → Type 0
+SelectsAll s t all last = (r : Role) (rest : SelectorTrees) → select_all s (standing.Part r t) (selected all rest) ≡ select_all s (standing.Part r last) rest
 
 abbrev pub path_size : List SelectorTree → ℕ
 path_size [] = 0

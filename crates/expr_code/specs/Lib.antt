@@ -11,3 +11,4 @@ pub mod Branches
 pub mod Locating
 pub mod Going
 pub mod Actuals
+pub mod Widths

@@ -6,6 +6,8 @@ ghost use Rattle.well_typed.specs.Agreeing.{parameter_subtype};
 ghost use Rattle.expr_code.specs.Emitting.{EmitsExpression, IsLegal};
 ghost use Rattle.expr_code.specs.Actuals.{AddsCall, ArePassedLegally, EmitsActual, EmitsActuals, IsPassedLegally};
 ghost use Rattle.expr_code.specs.Seeing.{NamesProfile};
+ghost use Rattle.expr_code.specs.Widths.{width_of};
+ghost use Rattle.well_typed.specs.SoundScopes.{SoundScope};
 
 use crate::code::{Code, above};
 use crate::refusal::Refusal;
@@ -28,8 +30,10 @@ impl Code {
         profile: &Profile,
         arguments: &[Argument],
     ) -> Result<(), Refusal>
+        requires sound { SoundScope visible.now.scope }
         requires names { NamesProfile visible.now.scope first.now.name (profile_value profile.now) }
         requires legal { IsLegal visible.now.scope (Named first.now (MoreSelectors (Arguments (argument_trees arguments.now)) NoSelectors)) }
+        ensures width { OnOk result (width_of visible.now.scope (Named first.now (MoreSelectors (Arguments (argument_trees arguments.now)) NoSelectors)) ≡ 1) }
         ensures emits { OnOk result (EmitsExpression visible.now self.old depth 1 (Named first.now (MoreSelectors (Arguments (argument_trees arguments.now)) NoSelectors)) self.new) }
     {
         quiet_stays();
@@ -47,6 +51,7 @@ impl Code {
     ) -> Result<(), Refusal>
         requires names { NamesProfile visible.now.scope first.now.name (profile_value profile.now) }
         requires legal { IsLegal visible.now.scope (Named first.now NoSelectors) }
+        ensures width { OnOk result (width_of visible.now.scope (Named first.now NoSelectors) ≡ 1) }
         ensures emits { OnOk result (EmitsExpression visible.now self.old depth 1 (Named first.now NoSelectors) self.new) }
     {
         quiet_stays();
@@ -83,6 +88,7 @@ impl Code {
         formals: &[FormalParameter],
         arguments: &[Argument],
     ) -> Result<u16, Refusal>
+        requires sound { SoundScope visible.now.scope }
         requires legal { ArePassedLegally visible.now.scope formals.now (map argument_tree arguments.now) }
         ensures emits { IfOk result (λ height. EmitsActuals visible.now self.old depth (map parameter_subtype (take (length arguments.now) formals.now)) (map argument_tree arguments.now) height self.new) }
     {
@@ -108,6 +114,7 @@ impl Code {
         formal: &FormalParameter,
         argument: &Argument,
     ) -> Result<(), Refusal>
+        requires sound { SoundScope visible.now.scope }
         requires legal { IsPassedLegally visible.now.scope formal.now (argument_tree argument.now) }
         ensures emits { OnOk result (EmitsActual visible.now self.old depth formal.now.subtype (argument_tree argument.now) self.new) }
     {

@@ -2,6 +2,7 @@
 ghost use Rattle.std.specs.Prelude.{◌≡◌, OnOk};
 ghost use Rattle.ada_tree.specs.ExpressionTree.{expr_tree};
 ghost use Rattle.expr_code.specs.Emitting.{EmitsChecked, IsFit};
+ghost use Rattle.well_typed.specs.SoundScopes.{SoundScope};
 
 use crate::code::{Code, above};
 use crate::refusal::Refusal;
@@ -23,22 +24,23 @@ impl Code {
         subtype: Subtype,
         e: &Expr,
     ) -> Result<(), Refusal>
+        requires sound { SoundScope visible.now.scope }
         requires fit { IsFit visible.now.scope subtype (expr_tree e.now) }
         ensures emits { OnOk result (EmitsChecked visible.now self.old depth subtype (expr_tree e.now) self.new) }
     {
         quiet_stays();
         expressions_are_typed();
         values_have_words();
-        self.of_width(visible, depth, 1, e)?;
         match visible.scope.form(subtype.type_number) {
             Some(TypeForm::Integer) => {
+                self.of_width(visible, depth, 1, e)?;
                 let one = above(depth)?;
                 let two = above(one)?;
                 self.emit(one, Operation::Push(subtype.first))?;
                 self.emit(two, Operation::Push(subtype.last))?;
                 self.emit(above(two)?, Operation::CheckRange)
             }
-            Some(TypeForm::Boolean) => Ok(()),
+            Some(TypeForm::Boolean) => self.of_width(visible, depth, 1, e),
             _ => Err(Refusal::Outside),
         }
     }

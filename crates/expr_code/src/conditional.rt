@@ -3,6 +3,8 @@ ghost use Rattle.std.specs.Prelude.{◌≡◌, ◌+◌, ◌<◌, map, true, ℕ,
 ghost use Rattle.types.specs.Places.{is_among};
 ghost use Rattle.expr_code.specs.Branches.{AddsBranches, AreLegalBranches, branch_of, Closes, Rejoins};
 ghost use Rattle.expr_code.specs.Code.{Adds, here};
+ghost use Rattle.expr_code.specs.Widths.{AreWide};
+ghost use Rattle.well_typed.specs.SoundScopes.{SoundScope};
 ghost use Rattle.image.specs.declared.instruction.Operation.TheVariants.{JumpIfZero};
 
 use crate::code::{Code, above, raised};
@@ -50,7 +52,9 @@ impl Code {
         elsifs: &[ElsifValue],
         waiting: &mut Vec<usize>,
     ) -> Result<(), Refusal>
+        requires sound { SoundScope visible.now.scope }
         requires legal { AreLegalBranches visible.now.scope (map branch_of elsifs.now) }
+        requires wide { AreWide visible.now.scope width (map branch_of elsifs.now) }
         ensures adds { OnOk result (AddsBranches visible.now self.old depth width (map branch_of elsifs.now) waiting.old.items waiting.new.items self.new) }
     {
         for elsif in elsifs {

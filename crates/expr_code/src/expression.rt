@@ -3,6 +3,8 @@ ghost use Rattle.std.specs.Prelude.{◌≡◌, ◌∷◌, [], None, IfOk, OnOk};
 ghost use Rattle.ada_tree.specs.ExpressionTree.{chain_tree, expr_tree};
 ghost use Rattle.expr_code.specs.Emitting.{AreLegal, EmitsExpression, EmitsOperands, IsLegal};
 ghost use Rattle.expr_code.specs.OperatorCode.{binary_operation};
+ghost use Rattle.expr_code.specs.Widths.{AreSingle, width_of};
+ghost use Rattle.well_typed.specs.SoundScopes.{SoundScope};
 
 use crate::code::{Code, above, raised};
 use crate::operation::{binary_operation, unary_operation};
@@ -15,11 +17,13 @@ use kernel::laws::quiet_stays;
 use well_typed::laws::expressions_are_typed;
 
 impl Code {
-    /// Adds the code of an expression, where its names are visible, and tells how many words its value takes. It finds `depth` words on the operand stack, and
-    /// leaves the value above them.
+    /// Adds the code of an expression, where its names are visible, and tells how many words its value takes, as its own type says. It finds `depth` words on
+    /// the operand stack, and leaves the value above them. All visible names are to be known, as legal declarations make them.
     #[cycle(expression)]
     pub fn expression(&mut self, visible: &Visible, depth: u16, e: &Expr) -> Result<u16, Refusal>
+        requires sound { SoundScope visible.now.scope }
         requires legal { IsLegal visible.now.scope (expr_tree e.now) }
+        ensures width { IfOk result (λ width. width ≡ width_of visible.now.scope (expr_tree e.now)) }
         ensures emits { IfOk result (λ width. EmitsExpression visible.now self.old depth width (expr_tree e.now) self.new) }
     {
         quiet_stays();
@@ -63,7 +67,7 @@ impl Code {
         }
     }
 
-    /// Adds that of an expression whose value takes so many words.
+    /// Adds that of an expression whose value takes so many words, as is known of its type.
     #[cycle(expression)]
     pub(crate) fn of_width(
         &mut self,
@@ -72,19 +76,21 @@ impl Code {
         width: u16,
         e: &Expr,
     ) -> Result<(), Refusal>
+        requires sound { SoundScope visible.now.scope }
         requires legal { IsLegal visible.now.scope (expr_tree e.now) }
+        requires wide { width_of visible.now.scope (expr_tree e.now) ≡ width }
         ensures emits { OnOk result (EmitsExpression visible.now self.old depth width (expr_tree e.now) self.new) }
     {
-        if self.expression(visible, depth, e)? != width {
-            return Err(Refusal::Outside);
-        }
+        self.expression(visible, depth, e)?;
         Ok(())
     }
 
     // Adds the code of an operator and the operand behind it, which finds its left operand's value above `depth` words.
     #[cycle(expression)]
     fn operand(&mut self, visible: &Visible, depth: u16, operand: &Operand) -> Result<(), Refusal>
+        requires sound { SoundScope visible.now.scope }
         requires legal { IsLegal visible.now.scope (expr_tree operand.now.value) }
+        requires single { width_of visible.now.scope (expr_tree operand.now.value) ≡ 1 }
         ensures emits { OnOk result (EmitsOperands visible.now self.old depth (operand.now ∷ []) self.new) }
     {
         quiet_stays();
@@ -106,7 +112,9 @@ impl Code {
         depth: u16,
         operand: &Operand,
     ) -> Result<(), Refusal>
+        requires sound { SoundScope visible.now.scope }
         requires legal { IsLegal visible.now.scope (expr_tree operand.now.value) }
+        requires single { width_of visible.now.scope (expr_tree operand.now.value) ≡ 1 }
         requires short { binary_operation operand.now.operator ≡ None }
         ensures emits { OnOk result (EmitsOperands visible.now self.old depth (operand.now ∷ []) self.new) }
     {
@@ -129,7 +137,9 @@ impl Code {
     // Adds the code of operators and the operands behind them, which finds the first one's left operand's value above `depth` words.
     #[cycle(expression)]
     fn operands(&mut self, visible: &Visible, depth: u16, all: &[Operand]) -> Result<(), Refusal>
+        requires sound { SoundScope visible.now.scope }
         requires legal { AreLegal visible.now.scope all.now }
+        requires single { AreSingle visible.now.scope all.now }
         ensures emits { OnOk result (EmitsOperands visible.now self.old depth all.now self.new) }
     {
         for operand in all {

@@ -12,6 +12,8 @@ ghost use Rattle.expr_code.specs.Code.{Adds};
 ghost use Rattle.expr_code.specs.Emitting.{EmitsExpression, IsLegal};
 ghost use Rattle.expr_code.specs.Naming.{load_operation, scalar_word};
 ghost use Rattle.expr_code.specs.Seeing.{slot_of};
+ghost use Rattle.expr_code.specs.Widths.{width_of};
+ghost use Rattle.well_typed.specs.SoundScopes.{SoundScope};
 
 use crate::code::{Code, above};
 use crate::refusal::Refusal;
@@ -66,7 +68,9 @@ impl Code {
         depth: u16,
         name: &NameExpr,
     ) -> Result<u16, Refusal>
+        requires sound { SoundScope visible.now.scope }
         requires legal { IsLegal visible.now.scope (Named (name_tree name.now).first (name_tree name.now).selectors) }
+        ensures width { IfOk result (λ width. width ≡ width_of visible.now.scope (Named (name_tree name.now).first (name_tree name.now).selectors)) }
         ensures emits { IfOk result (λ width. EmitsExpression visible.now self.old depth width (Named (name_tree name.now).first (name_tree name.now).selectors) self.new) }
     {
         quiet_stays();
@@ -91,47 +95,76 @@ impl Code {
         first: &Identifier,
         selectors: &[Selector],
     ) -> Result<u16, Refusal>
+        requires sound { SoundScope visible.now.scope }
         requires legal { IsLegal visible.now.scope (Named first.now (selector_trees selectors.now)) }
         requires valueless { fixed_value (standing_of visible.now.scope first.now (selector_trees selectors.now)) ≡ None }
         requires parts { bare_name (Named first.now (selector_trees selectors.now)) ≡ None }
+        ensures width { IfOk result (λ width. width ≡ width_of visible.now.scope (Named first.now (selector_trees selectors.now))) }
         ensures emits { IfOk result (λ width. EmitsExpression visible.now self.old depth width (Named first.now (selector_trees selectors.now)) self.new) }
     {
-        if let Standing::Part(_, subtype) = visible.scope.stands_first(first) {
-            return match visible.slot(&first.name) {
+        match visible.scope.stands_first(first) {
+            Standing::Part(_, subtype) => match visible.slot(&first.name) {
                 Some(slot) => self.part(visible, depth, slot, subtype, first, selectors),
                 None => Err(Refusal::Outside),
-            };
+            },
+            Standing::Named(subtype) => self.converted(visible, depth, subtype, first, selectors),
+            Standing::Callee(_) => self.called(visible, depth, first, selectors),
+            _ => Err(Refusal::Outside),
         }
-        self.applied(visible, depth, first, selectors)?;
-        Ok(1)
     }
 
-    // Adds that of a conversion or call, of one word.
+    // Adds that of a type's name with what is converted behind it, and tells its one word.
     #[cycle(expression)]
-    fn applied(
+    fn converted(
+        &mut self,
+        visible: &Visible,
+        depth: u16,
+        subtype: Subtype,
+        first: &Identifier,
+        selectors: &[Selector],
+    ) -> Result<u16, Refusal>
+        requires sound { SoundScope visible.now.scope }
+        requires stands { stands_first visible.now.scope (number_of visible.now.scope first.now.name) ≡ standing.Named subtype }
+        requires legal { IsLegal visible.now.scope (Named first.now (selector_trees selectors.now)) }
+        ensures width { IfOk result (λ width. width ≡ width_of visible.now.scope (Named first.now (selector_trees selectors.now))) }
+        ensures emits { IfOk result (λ width. EmitsExpression visible.now self.old depth width (Named first.now (selector_trees selectors.now)) self.new) }
+    {
+        arguments_by_parts();
+        match selectors {
+            [Selector::Arguments(arguments)] => {
+                self.conversion(visible, depth, subtype, first, arguments)?;
+                Ok(1)
+            }
+            _ => Err(Refusal::Outside),
+        }
+    }
+
+    // Adds that of a function's name with its actual parameters, and tells the one word of its result.
+    #[cycle(expression)]
+    fn called(
         &mut self,
         visible: &Visible,
         depth: u16,
         first: &Identifier,
         selectors: &[Selector],
-    ) -> Result<(), Refusal>
+    ) -> Result<u16, Refusal>
+        requires sound { SoundScope visible.now.scope }
         requires legal { IsLegal visible.now.scope (Named first.now (selector_trees selectors.now)) }
-        ensures emits { OnOk result (EmitsExpression visible.now self.old depth 1 (Named first.now (selector_trees selectors.now)) self.new) }
+        ensures width { IfOk result (λ width. width ≡ width_of visible.now.scope (Named first.now (selector_trees selectors.now))) }
+        ensures emits { IfOk result (λ width. EmitsExpression visible.now self.old depth width (Named first.now (selector_trees selectors.now)) self.new) }
     {
         arguments_by_parts();
-        match visible.scope.stands_first(first) {
-            Standing::Named(subtype) => match selectors {
-                [Selector::Arguments(arguments)] => {
-                    self.conversion(visible, depth, subtype, first, arguments)
-                }
-                _ => Err(Refusal::Outside),
-            },
-            Standing::Callee(_) => match (visible.profile(&first.name), selectors) {
-                (Some(profile), [Selector::Arguments(arguments)]) => {
-                    self.call(visible, depth, first, profile, arguments)
-                }
-                _ => Err(Refusal::Outside),
-            },
+        let Some(profile) = visible.profile(&first.name) else {
+            return Err(Refusal::Outside);
+        };
+        let [selector] = selectors else {
+            return Err(Refusal::Outside);
+        };
+        match selector {
+            Selector::Arguments(arguments) => {
+                self.call(visible, depth, first, profile, arguments)?;
+                Ok(1)
+            }
             _ => Err(Refusal::Outside),
         }
     }
@@ -146,8 +179,10 @@ impl Code {
         first: &Identifier,
         arguments: &[Argument],
     ) -> Result<(), Refusal>
+        requires sound { SoundScope visible.now.scope }
         requires stands { stands_first visible.now.scope (number_of visible.now.scope first.now.name) ≡ standing.Named subtype }
         requires legal { IsLegal visible.now.scope (Named first.now (MoreSelectors (Arguments (argument_trees arguments.now)) NoSelectors)) }
+        ensures width { OnOk result (width_of visible.now.scope (Named first.now (MoreSelectors (Arguments (argument_trees arguments.now)) NoSelectors)) ≡ 1) }
         ensures emits { OnOk result (EmitsExpression visible.now self.old depth 1 (Named first.now (MoreSelectors (Arguments (argument_trees arguments.now)) NoSelectors)) self.new) }
     {
         quiet_stays();
@@ -163,6 +198,7 @@ impl Code {
     // Adds that of an object as a whole, or of a call without parameters.
     fn bare(&mut self, visible: &Visible, depth: u16, name: &Identifier) -> Result<u16, Refusal>
         requires legal { IsLegal visible.now.scope (Named name.now NoSelectors) }
+        ensures width { IfOk result (λ width. width ≡ width_of visible.now.scope (Named name.now NoSelectors)) }
         ensures emits { IfOk result (λ width. EmitsExpression visible.now self.old depth width (Named name.now NoSelectors) self.new) }
     {
         match visible.scope.stands_first(name) {
@@ -193,6 +229,7 @@ impl Code {
         requires legal { IsLegal visible.now.scope (Named name.now NoSelectors) }
         requires stands { (r : Role) × (stands_first visible.now.scope (number_of visible.now.scope name.now.name) ≡ standing.Part r subtype) }
         requires there { slot_of visible.now name.now.name ≡ Some slot }
+        ensures width { IfOk result (λ width. width ≡ width_of visible.now.scope (Named name.now NoSelectors)) }
         ensures emits { IfOk result (λ width. EmitsExpression visible.now self.old depth width (Named name.now NoSelectors) self.new) }
     {
         quiet_stays();

@@ -8,8 +8,10 @@ ghost use Rattle.types.specs.Evaluating.{fixed_value};
 ghost use Rattle.types.specs.Scopes.{form_at, number_of};
 ghost use Rattle.types.specs.Standings.{standing_of, stands_first};
 ghost use Rattle.expr_code.specs.Emitting.{EmitsExpression, IsLegal};
-ghost use Rattle.expr_code.specs.Going.{AddsOffset, EmitsPath, IsLegalPart, IsLegalPath, Selects};
+ghost use Rattle.expr_code.specs.Going.{AddsOffset, EmitsPath, IsLegalPart, IsLegalPath, Selects, SelectsAll};
 ghost use Rattle.expr_code.specs.Seeing.{slot_of};
+ghost use Rattle.expr_code.specs.Widths.{width_of};
+ghost use Rattle.well_typed.specs.SoundScopes.{SoundScope};
 
 use crate::code::{Code, above};
 use crate::refusal::Refusal;
@@ -35,11 +37,13 @@ impl Code {
         first: &Identifier,
         selectors: &[Selector],
     ) -> Result<u16, Refusal>
+        requires sound { SoundScope visible.now.scope }
         requires legal { IsLegal visible.now.scope (Named first.now (selector_trees selectors.now)) }
         requires stands { (r : Role) × (stands_first visible.now.scope (number_of visible.now.scope first.now.name) ≡ standing.Part r subtype) }
         requires valueless { fixed_value (standing_of visible.now.scope first.now (selector_trees selectors.now)) ≡ None }
         requires there { slot_of visible.now first.now.name ≡ Some slot }
         requires parts { bare_name (Named first.now (selector_trees selectors.now)) ≡ None }
+        ensures width { IfOk result (λ width. width ≡ width_of visible.now.scope (Named first.now (selector_trees selectors.now))) }
         ensures emits { IfOk result (λ width. EmitsExpression visible.now self.old depth width (Named first.now (selector_trees selectors.now)) self.new) }
     {
         quiet_stays();
@@ -62,7 +66,9 @@ impl Code {
         subtype: Subtype,
         selectors: &[Selector],
     ) -> Result<Subtype, Refusal>
+        requires sound { SoundScope visible.now.scope }
         requires legal { IsLegalPath visible.now.scope subtype (selector_trees selectors.now) }
+        ensures stands { IfOk result (λ last. SelectsAll visible.now.scope subtype (map selector_tree selectors.now) last) }
         ensures emits { IfOk result (λ last. EmitsPath visible.now self.old depth subtype (map selector_tree selectors.now) last self.new) }
     {
         let mut last = subtype;
@@ -81,6 +87,7 @@ impl Code {
         subtype: Subtype,
         selector: &Selector,
     ) -> Result<Subtype, Refusal>
+        requires sound { SoundScope visible.now.scope }
         requires legal { IsLegalPart visible.now.scope subtype (selector_tree selector.now) }
         ensures stands { IfOk result (λ last. Selects visible.now.scope subtype (selector_tree selector.now) last) }
         ensures emits { IfOk result (λ last. EmitsPath visible.now self.old depth subtype (selector_tree selector.now ∷ []) last self.new) }
@@ -134,6 +141,7 @@ impl Code {
         subtype: Subtype,
         arguments: &[Argument],
     ) -> Result<Subtype, Refusal>
+        requires sound { SoundScope visible.now.scope }
         requires legal { IsLegalPart visible.now.scope subtype (Arguments (argument_trees arguments.now)) }
         ensures stands { IfOk result (λ last. Selects visible.now.scope subtype (Arguments (argument_trees arguments.now)) last) }
         ensures emits { IfOk result (λ last. EmitsPath visible.now self.old depth subtype (Arguments (argument_trees arguments.now) ∷ []) last self.new) }

@@ -1,4 +1,4 @@
-use Rattle.std.proofs.Common.{length, ltb-true, map, take, rules, refl, sym, ap, ◌∙◌, ◌≤◌, ◌∷◌, [], subst}
+use Rattle.std.proofs.Common.{length, ltb-true, map, take, rules, refl, sym, ap, ◌∙◌, ◌≤◌, ◌∷◌, [], subst, ◌≡◌}
 use Rattle.std.specs.Prelude.{IfOk}
 use Rattle.std.proofs.lemmas.Result.{IfOk-weaker, on_ok_weaker}
 use Rattle.ada_tree.specs.declared.expression.Expr as expressions
@@ -7,17 +7,20 @@ use Rattle.expr_code.specs.Branches.{AddsBranches, AreLegalBranches, branch_of}
 use Rattle.expr_code.specs.Emitting.{AreLegal, EmitsExpression, IsLegal}
 use Rattle.expr_code.specs.Going.{EmitsPath, IsLegalPart, IsLegalPath}
 use Rattle.expr_code.proofs.Branching.{adds_none, all_branches, branch_closed, branches_next, conditional_legal, whole_at}
-use Rattle.expr_code.proofs.Checking.{checked_emits, unchecked_emits}
+use Rattle.expr_code.proofs.Checking.{checked_emits, fit_legal, unchecked_emits}
 use Rattle.expr_code.proofs.Chains.{and_then_at, chain_emits, first_legal, legal_at, more_legal, one_emitted, operand_at, or_else_at, second_legal}
 use Rattle.expr_code.proofs.Emitted.{number_emits, parenthesized_emits, sign_emits, unary_at}
 use Rattle.types.specs.Evaluating.{fixed_value}
 use Rattle.expr_code.proofs.Conversions.{conversion_emits}
 use Rattle.expr_code.proofs.Names.{fixed_emits}
 use Rattle.expr_code.proofs.Going.{block_words, drop_at, element_goes, first_part, further_path, goes_next, one_argument, part_emits, uncapped_words, whole_path}
-use Rattle.expr_code.proofs.Legal.{legal_branch}
+use Rattle.expr_code.proofs.Legal.{legal_branch, legal_operand}
 use Rattle.well_typed.specs.Agreeing.{parameter_subtype}
 use Rattle.expr_code.specs.Actuals.{ArePassedLegally, EmitsActuals}
 use Rattle.expr_code.proofs.Actuals.{actuals_next, all_actuals, all_legal, call_emits, got, mapped}
+use Rattle.expr_code.specs.Widths.{AreSingle, AreWide, width_of}
+use Rattle.expr_code.proofs.Selecting.{one_selector, selects_next, whole_selects}
+use Rattle.expr_code.proofs.Widths.{call_width, chain_words, conditional_words, conversion_width, booleans_fit_width, fixed_width, integers_fit_width, part_width, single_at, unary_width, wide_at}
 use Rattle.expr_code.proofs.code.Code.+expression.Goals as goal
 
 -- ---- chains of operators
@@ -25,28 +28,66 @@ use Rattle.expr_code.proofs.code.Code.+expression.Goals as goal
 pub expression-of_width-requires-in-Chain : goal.expression-of_width-requires-in-Chain
 expression-of_width-requires-in-Chain t c =
     let tree = ap expr_tree c.in-Chain.is ∙ c.chains_by_parts.ensures c.in-Chain.first c.in-Chain.second c.in-Chain.more in
-    (search (rules, expressions.the_lemmas), subst (λ e. IsLegal c.args.visible.now.scope (expr_tree e)) (sym c.deref-in-Chain.ensures) (first_legal c.args.visible.now _ _ c.in-Chain.second.value c.in-Chain.more.items tree c.requires.legal))
+    let words = chain_words c.args.visible.now.scope c.requires.sound _ _ c.in-Chain.second.value c.in-Chain.more.items tree c.requires.legal in (
+      search (rules, expressions.the_lemmas),
+      (
+        c.requires.sound,
+        (
+          subst (λ e. IsLegal c.args.visible.now.scope (expr_tree e)) (sym c.deref-in-Chain.ensures) (first_legal c.args.visible.now _ _ c.in-Chain.second.value c.in-Chain.more.items tree c.requires.legal),
+          subst (λ e. width_of c.args.visible.now.scope (expr_tree e) ≡ 1) (sym c.deref-in-Chain.ensures) words.first,
+        ),
+      ),
+    )
 
 pub expression-operand-requires : goal.expression-operand-requires
 expression-operand-requires t c =
     let tree = ap expr_tree c.in-Chain.is ∙ c.chains_by_parts.ensures c.in-Chain.first c.in-Chain.second c.in-Chain.more in
-    (search (rules, expressions.the_lemmas), subst (λ o. IsLegal c.args.visible.now.scope (expr_tree o.value)) (sym c.deref-in-Chain-2.ensures) (second_legal c.args.visible.now _ _ c.in-Chain.second.value c.in-Chain.more.items tree c.requires.legal))
+    let words = chain_words c.args.visible.now.scope c.requires.sound _ _ c.in-Chain.second.value c.in-Chain.more.items tree c.requires.legal in (
+      search (rules, expressions.the_lemmas),
+      (
+        c.requires.sound,
+        (
+          subst (λ o. IsLegal c.args.visible.now.scope (expr_tree o.value)) (sym c.deref-in-Chain-2.ensures) (second_legal c.args.visible.now _ _ c.in-Chain.second.value c.in-Chain.more.items tree c.requires.legal),
+          subst (λ o. width_of c.args.visible.now.scope (expr_tree o.value) ≡ 1) (sym c.deref-in-Chain-2.ensures) words.others.0,
+        ),
+      ),
+    )
 
 pub expression-operands-requires : goal.expression-operands-requires
 expression-operands-requires t c =
     let tree = ap expr_tree c.in-Chain.is ∙ c.chains_by_parts.ensures c.in-Chain.first c.in-Chain.second c.in-Chain.more in
-    (search (rules, expressions.the_lemmas), subst (λ all. AreLegal c.args.visible.now.scope all) (sym c.deref-in-Chain-3.ensures.value) (more_legal c.args.visible.now _ _ c.in-Chain.second.value c.in-Chain.more.items tree c.requires.legal))
+    let words = chain_words c.args.visible.now.scope c.requires.sound _ _ c.in-Chain.second.value c.in-Chain.more.items tree c.requires.legal in (
+      search (rules, expressions.the_lemmas),
+      (
+        c.requires.sound,
+        (
+          subst (λ all. AreLegal c.args.visible.now.scope all) (sym c.deref-in-Chain-3.ensures.value) (more_legal c.args.visible.now _ _ c.in-Chain.second.value c.in-Chain.more.items tree c.requires.legal),
+          subst (λ all. AreSingle c.args.visible.now.scope all) (sym c.deref-in-Chain-3.ensures.value) words.others.1,
+        ),
+      ),
+    )
 
 pub expression-returns-in_ok-operands-in-Chain : goal.expression-returns-in_ok-operands-in-Chain
 expression-returns-in_ok-operands-in-Chain t c =
     let tree = ap expr_tree c.in-Chain.is ∙ c.chains_by_parts.ensures c.in-Chain.first c.in-Chain.second c.in-Chain.more in
+    let words = chain_words c.args.visible.now.scope c.requires.sound _ _ c.in-Chain.second.value c.in-Chain.more.items tree c.requires.legal in
     record {
+      width = sym (ap (width_of c.args.visible.now.scope) tree ∙ words.whole);
       emits = chain_emits c.args.visible.now _ _ c.in-Chain.second.value c.in-Chain.more.items tree c.requires.legal _ _ _ _ c.args.depth (rw c.deref-in-Chain.ensures at c.in_ok-of_width-in-Chain.ensures.emits)
           (rw c.deref-in-Chain-2.ensures at c.in_ok-operand-in-Chain.ensures.emits) (rw c.deref-in-Chain-3.ensures.value at c.in_ok-operands-in-Chain.ensures.emits);
     }
 
 pub operands-operand-requires : goal.operands-operand-requires
-operands-operand-requires t c = (search (rules, expressions.the_lemmas), legal_at c.args.visible.now.scope c.args.all.now _ _ c.loop-operand-test.true c.operand-item.is c.requires.legal)
+operands-operand-requires t c = (
+  search (rules, expressions.the_lemmas),
+  (
+    c.requires.sound,
+    (
+      legal_at c.args.visible.now.scope c.args.all.now _ _ c.loop-operand-test.true c.operand-item.is c.requires.legal,
+      single_at c.args.visible.now.scope c.args.all.now _ _ c.loop-operand-test.true c.operand-item.is c.requires.single,
+    ),
+  ),
+)
 
 pub operands-loop-operand-preserved : goal.operands-loop-operand-preserved
 operands-loop-operand-preserved t c = one_emitted c.args.visible.now _ _ _ _ _ _ _ c.loop-operand-test.true c.operand-item.is c.loop-operand.invariant c.in_ok-operand.ensures.emits
@@ -74,19 +115,24 @@ short_circuit-returns-in_default t c = record {
 -- ---- others
 
 pub expression-returns-in_ok-emit-in-Number : goal.expression-returns-in_ok-emit-in-Number
-expression-returns-in_ok-emit-in-Number t c = record { emits = rw c.in-Number.is (number_emits c.quiet_stays.ensures c.args.visible.now _ _ _ _ _ c.in-Number.value (search rules) c.in_ok-emit-in-Number.ensures.adds) }
+expression-returns-in_ok-emit-in-Number t c = record { width = rw c.in-Number.is refl; emits = rw c.in-Number.is (number_emits c.quiet_stays.ensures c.args.visible.now _ _ _ _ _ c.in-Number.value (search rules) c.in_ok-emit-in-Number.ensures.adds) }
 
 pub expression-returns-in-Parenthesized : goal.expression-returns-in-Parenthesized
-expression-returns-in-Parenthesized t c = record { emits = rw c.in-Parenthesized.is (IfOk-weaker _ _ _ (λ w p. parenthesized_emits c.quiet_stays.ensures c.args.visible.now _ _ _ w _ _ p) (rw c.deref.ensures at c.expression.ensures.emits)) }
+expression-returns-in-Parenthesized t c = record {
+  width = rw c.in-Parenthesized.is (rw c.deref.ensures at c.expression.ensures.width);
+  emits = rw c.in-Parenthesized.is (IfOk-weaker _ _ _ (λ w p. parenthesized_emits c.quiet_stays.ensures c.args.visible.now _ _ _ w _ _ p) (rw c.deref.ensures at c.expression.ensures.emits));
+}
 
 pub expression-returns-in_ok-emit-in-Some : goal.expression-returns-in_ok-emit-in-Some
 expression-returns-in_ok-emit-in-Some t c = record {
+  width = rw c.in-Unary.is (sym (unary_width c.args.visible.now.scope c.requires.sound _ _ _ (rw c.in-Unary.is at c.requires.legal)).right);
   emits = rw c.in-Unary.is (unary_at c.quiet_stays.ensures c.args.visible.now _ _ _ c.args.depth _ _ c.in-Unary.operator _ _ c.in_ok-above-in-Some.ensures.more (sym c.unary_operation.ensures ∙ c.in-Some.is)
       (rw c.deref-in-Unary.ensures at c.in_ok-of_width-in-Unary.ensures.emits) c.in_ok-emit-in-Some.ensures.adds);
 }
 
 pub expression-returns-in-None : goal.expression-returns-in-None
 expression-returns-in-None t c = record {
+  width = rw c.in-Unary.is (sym (unary_width c.args.visible.now.scope c.requires.sound _ _ _ (rw c.in-Unary.is at c.requires.legal)).right);
   emits = rw c.in-Unary.is (sign_emits c.quiet_stays.ensures c.args.visible.now _ _ c.args.depth _ c.in-Unary.operator _ (sym c.unary_operation.ensures ∙ c.in-None.is)
       (rw c.deref-in-Unary.ensures at c.in_ok-of_width-in-Unary.ensures.emits));
 }
@@ -94,8 +140,22 @@ expression-returns-in-None t c = record {
 -- the words that were told are those that were wanted
 pub of_width-returns : goal.of_width-returns
 of_width-returns t c = record {
-  emits = subst (λ n. EmitsExpression c.args.visible.now c.args.self.now c.args.depth n (expr_tree c.args.e.now) c.expression.new.self) c.if-branch-width.false c.in_ok-expression.ensures.emits;
+  emits = subst (λ n. EmitsExpression c.args.visible.now c.args.self.now c.args.depth n (expr_tree c.args.e.now) c.expression.new.self) (c.in_ok-expression.ensures.width ∙ c.requires.wide) c.in_ok-expression.ensures.emits;
 }
+
+pub expression-of_width-requires : goal.expression-of_width-requires
+expression-of_width-requires t c =
+    let s = c.args.visible.now.scope in
+    let legal = rw c.in-Unary.is at c.requires.legal in (
+      search (rules, expressions.the_lemmas),
+      (
+        c.requires.sound,
+        (
+          subst (λ e. IsLegal s (expr_tree e)) (sym c.deref-in-Unary.ensures) (legal_operand s _ _ _ legal),
+          subst (λ e. width_of s (expr_tree e) ≡ 1) (sym c.deref-in-Unary.ensures) (unary_width s c.requires.sound _ _ _ legal).left,
+        ),
+      ),
+    )
 
 -- ---- if expressions
 
@@ -104,28 +164,49 @@ expression-of_width-requires-in-Conditional t c =
     let s = c.args.visible.now.scope in
     let tree = ap expr_tree c.in-Conditional.is ∙ c.conditional_by_parts.ensures c.in-Conditional.field-0 c.in-Conditional.condition c.in-Conditional.value c.in-Conditional.elsifs c.in-Conditional.last in
     let parts = conditional_legal s _ c.in-Conditional.field-0 _ _ c.in-Conditional.elsifs.items _ tree c.requires.legal in
-    (search (rules, expressions.the_lemmas), subst (λ e. IsLegal s (expr_tree e)) (sym c.deref-in-Conditional.ensures) parts.condition)
+    let words = conditional_words s c.requires.sound _ c.in-Conditional.field-0 _ _ c.in-Conditional.elsifs.items _ tree c.requires.legal in
+    (search (rules, expressions.the_lemmas), (c.requires.sound, (subst (λ e. IsLegal s (expr_tree e)) (sym c.deref-in-Conditional.ensures) parts.condition, subst (λ e. width_of s (expr_tree e) ≡ 1) (sym c.deref-in-Conditional.ensures) words.condition)))
 
 pub expression-expression-requires-in-Conditional : goal.expression-expression-requires-in-Conditional
 expression-expression-requires-in-Conditional t c =
     let s = c.args.visible.now.scope in
     let tree = ap expr_tree c.in-Conditional.is ∙ c.conditional_by_parts.ensures c.in-Conditional.field-0 c.in-Conditional.condition c.in-Conditional.value c.in-Conditional.elsifs c.in-Conditional.last in
     let parts = conditional_legal s _ c.in-Conditional.field-0 _ _ c.in-Conditional.elsifs.items _ tree c.requires.legal in
-    (search (rules, expressions.the_lemmas), subst (λ e. IsLegal s (expr_tree e)) (sym c.deref-in-Conditional-2.ensures) parts.value)
+    (search (rules, expressions.the_lemmas), (c.requires.sound, subst (λ e. IsLegal s (expr_tree e)) (sym c.deref-in-Conditional-2.ensures) parts.value))
 
 pub expression-elsifs-requires : goal.expression-elsifs-requires
 expression-elsifs-requires t c =
     let s = c.args.visible.now.scope in
     let tree = ap expr_tree c.in-Conditional.is ∙ c.conditional_by_parts.ensures c.in-Conditional.field-0 c.in-Conditional.condition c.in-Conditional.value c.in-Conditional.elsifs c.in-Conditional.last in
     let parts = conditional_legal s _ c.in-Conditional.field-0 _ _ c.in-Conditional.elsifs.items _ tree c.requires.legal in
-    (search (rules, expressions.the_lemmas), subst (λ all. AreLegalBranches s (map branch_of all)) (sym c.deref-in-Conditional-3.ensures.value) parts.elsifs)
+    let words = conditional_words s c.requires.sound _ c.in-Conditional.field-0 _ _ c.in-Conditional.elsifs.items _ tree c.requires.legal in
+    let told = c.in_ok-width-in-Conditional.ensures.width ∙ ap (λ e. width_of s (expr_tree e)) c.deref-in-Conditional-2.ensures in (
+      search (rules, expressions.the_lemmas),
+      (
+        c.requires.sound,
+        (
+          subst (λ all. AreLegalBranches s (map branch_of all)) (sym c.deref-in-Conditional-3.ensures.value) parts.elsifs,
+          subst (λ all. AreWide s c.in_ok-width-in-Conditional.width (map branch_of all)) (sym c.deref-in-Conditional-3.ensures.value) (subst (λ n. AreWide s n (map branch_of c.in-Conditional.elsifs.items)) (sym told) words.elsifs),
+        ),
+      ),
+    )
 
 pub expression-of_width-requires-in-Conditional-2 : goal.expression-of_width-requires-in-Conditional-2
 expression-of_width-requires-in-Conditional-2 t c =
     let s = c.args.visible.now.scope in
     let tree = ap expr_tree c.in-Conditional.is ∙ c.conditional_by_parts.ensures c.in-Conditional.field-0 c.in-Conditional.condition c.in-Conditional.value c.in-Conditional.elsifs c.in-Conditional.last in
     let parts = conditional_legal s _ c.in-Conditional.field-0 _ _ c.in-Conditional.elsifs.items _ tree c.requires.legal in
-    (search (rules, expressions.the_lemmas), subst (λ e. IsLegal s (expr_tree e)) (sym c.deref-in-Conditional-4.ensures) parts.last)
+    let words = conditional_words s c.requires.sound _ c.in-Conditional.field-0 _ _ c.in-Conditional.elsifs.items _ tree c.requires.legal in
+    let told = c.in_ok-width-in-Conditional.ensures.width ∙ ap (λ e. width_of s (expr_tree e)) c.deref-in-Conditional-2.ensures in (
+      search (rules, expressions.the_lemmas),
+      (
+        c.requires.sound,
+        (
+          subst (λ e. IsLegal s (expr_tree e)) (sym c.deref-in-Conditional-4.ensures) parts.last,
+          subst (λ e. width_of s (expr_tree e) ≡ c.in_ok-width-in-Conditional.width) (sym c.deref-in-Conditional-4.ensures) (words.last ∙ sym told),
+        ),
+      ),
+    )
 
 pub expression-returns-in_ok-rejoin-in-Conditional : goal.expression-returns-in_ok-rejoin-in-Conditional
 expression-returns-in_ok-rejoin-in-Conditional t c =
@@ -140,17 +221,38 @@ expression-returns-in_ok-rejoin-in-Conditional t c =
     c.in_ok-close-in-Conditional.ensures.closes in
     let others = subst (λ all. AddsBranches v c.close.new.self depth width (map branch_of all) c.close.new.waiting.items c.elsifs.new.waiting.items c.elsifs.new.self) c.deref-in-Conditional-3.ensures.value c.in_ok-elsifs-in-Conditional.ensures.adds in
     let last = subst (λ e. EmitsExpression v c.elsifs.new.self depth width (expr_tree e) c.of_width-in-Conditional-2.new.self) c.deref-in-Conditional-4.ensures c.in_ok-of_width-in-Conditional-2.ensures.emits in
+    let words = conditional_words v.scope c.requires.sound _ c.in-Conditional.field-0 _ _ c.in-Conditional.elsifs.items _ tree c.requires.legal in
+    let told = c.in_ok-width-in-Conditional.ensures.width ∙ ap (λ e. width_of v.scope (expr_tree e)) c.deref-in-Conditional-2.ensures in
     record {
+      width = told ∙ words.whole;
       emits = subst (λ e. EmitsExpression v c.args.self.now depth width e c.rejoin.new.self) (sym tree)
           (whole_at v depth width _ _ _ _ _ _ _ _ _ _ _ _ _ c.deref-in-Conditional-5.result.now c.new-waiting.ensures.items c.deref-in-Conditional-5.ensures.value first others last c.quiet_stays.ensures refl
           c.in_ok-rejoin-in-Conditional.ensures.rejoins c.in-Conditional.field-0);
     }
 
 pub elsifs-of_width-requires : goal.elsifs-of_width-requires
-elsifs-of_width-requires t c = (search (rules, expressions.the_lemmas), (legal_branch c.args.visible.now.scope c.args.elsifs.now _ _ c.loop-elsif-test.true c.elsif-item.is c.requires.legal).0)
+elsifs-of_width-requires t c = (
+  search (rules, expressions.the_lemmas),
+  (
+    c.requires.sound,
+    (
+      (legal_branch c.args.visible.now.scope c.args.elsifs.now _ _ c.loop-elsif-test.true c.elsif-item.is c.requires.legal).0,
+      (wide_at c.args.visible.now.scope c.args.width c.args.elsifs.now _ _ c.loop-elsif-test.true c.elsif-item.is c.requires.wide).0,
+    ),
+  ),
+)
 
 pub elsifs-of_width-requires-in-loop-elsif : goal.elsifs-of_width-requires-in-loop-elsif
-elsifs-of_width-requires-in-loop-elsif t c = (search (rules, expressions.the_lemmas), (legal_branch c.args.visible.now.scope c.args.elsifs.now _ _ c.loop-elsif-test.true c.elsif-item.is c.requires.legal).1)
+elsifs-of_width-requires-in-loop-elsif t c = (
+  search (rules, expressions.the_lemmas),
+  (
+    c.requires.sound,
+    (
+      (legal_branch c.args.visible.now.scope c.args.elsifs.now _ _ c.loop-elsif-test.true c.elsif-item.is c.requires.legal).1,
+      (wide_at c.args.visible.now.scope c.args.width c.args.elsifs.now _ _ c.loop-elsif-test.true c.elsif-item.is c.requires.wide).1,
+    ),
+  ),
+)
 
 pub elsifs-loop-elsif-preserved : goal.elsifs-loop-elsif-preserved
 elsifs-loop-elsif-preserved t c =
@@ -166,22 +268,41 @@ elsifs-returns t c = record { adds = all_branches c.args.visible.now _ _ c.args.
 
 -- ---- checks and conversions
 
+pub checked-of_width-requires : goal.checked-of_width-requires
+checked-of_width-requires t c =
+    let s = c.args.visible.now.scope in (
+      search (rules, expressions.the_lemmas),
+      (c.requires.sound, (fit_legal s c.args.subtype _ c.requires.fit, integers_fit_width s c.requires.sound c.args.subtype _ c.requires.fit (search rules))),
+    )
+
+pub checked-of_width-requires-in-Some-Boolean : goal.checked-of_width-requires-in-Some-Boolean
+checked-of_width-requires-in-Some-Boolean t c =
+    let s = c.args.visible.now.scope in (
+      search (rules, expressions.the_lemmas),
+      (c.requires.sound, (fit_legal s c.args.subtype _ c.requires.fit, booleans_fit_width s c.requires.sound c.args.subtype _ c.requires.fit (search rules))),
+    )
+
 pub checked-returns-in_ok-above-in-Some-Integer : goal.checked-returns-in_ok-above-in-Some-Integer
 checked-returns-in_ok-above-in-Some-Integer t c = record {
-  emits = on_ok_weaker _ (λ p. checked_emits c.quiet_stays.ensures c.expressions_are_typed.ensures c.values_have_words.ensures c.args.visible.now _ _ c.args.depth c.args.subtype _ c.requires.fit c.in_ok-of_width.ensures.emits
+  emits = on_ok_weaker _ (λ p. checked_emits c.quiet_stays.ensures c.expressions_are_typed.ensures c.values_have_words.ensures c.args.visible.now _ _ c.args.depth c.args.subtype _ c.requires.fit c.in_ok-of_width-in-Some-Integer.ensures.emits
       _ _ _ _ _ _ _ _ c.in_ok-one-in-Some-Integer.ensures.more c.in_ok-two-in-Some-Integer.ensures.more c.in_ok-above-in-Some-Integer.ensures.more (search rules) (search rules)
       c.in_ok-emit-in-Some-Integer.ensures.adds c.in_ok-emit-in-Some-Integer-2.ensures.adds p (search rules)) c.emit-in-Some-Integer-2.ensures.adds;
 }
 
 pub checked-returns-in-Some-Boolean : goal.checked-returns-in-Some-Boolean
 checked-returns-in-Some-Boolean t c = record {
-  emits = unchecked_emits c.quiet_stays.ensures c.expressions_are_typed.ensures c.values_have_words.ensures c.args.visible.now _ _ c.args.depth c.args.subtype _ c.requires.fit c.in_ok-of_width.ensures.emits (search rules);
+  emits = on_ok_weaker _ (λ p. unchecked_emits c.quiet_stays.ensures c.expressions_are_typed.ensures c.values_have_words.ensures c.args.visible.now _ _ c.args.depth c.args.subtype _ c.requires.fit p (search rules)) c.of_width-in-Some-Boolean.ensures.emits;
 }
 
 pub conversion-returns-in-Expr : goal.conversion-returns-in-Expr
 conversion-returns-in-Expr t c =
     let one = one_argument c.args.arguments.now c.in-Expr.e c.argument-item.result c.in-len1.len_at_least c.in-len1.len_below c.argument-item.is c.in-Expr.is in
+    let s = c.args.visible.now.scope in
+    let words : width_of s (Named c.args.first.now (MoreSelectors (Arguments (argument_trees c.args.arguments.now)) NoSelectors)) ≡ 1 =
+    ap (λ all. width_of s (Named c.args.first.now (MoreSelectors (Arguments all) NoSelectors))) one
+    ∙ conversion_width s c.args.first.now (expr_tree c.in-Expr.e) c.args.subtype c.requires.stands (subst (λ all. IsLegal s (Named c.args.first.now (MoreSelectors (Arguments all) NoSelectors))) one c.requires.legal) in
     record {
+      width = on_ok_weaker _ (λ p. words) c.checked.ensures.emits;
       emits = on_ok_weaker _ (λ p. subst (λ all. EmitsExpression c.args.visible.now c.args.self.now c.args.depth 1 (Named c.args.first.now (MoreSelectors (Arguments all) NoSelectors)) c.checked.new.self) (sym one)
           (conversion_emits c.quiet_stays.ensures c.args.visible.now _ _ c.args.depth c.args.first.now (expr_tree c.in-Expr.e) c.args.subtype c.requires.stands
           (subst (λ all. IsLegal c.args.visible.now.scope (Named c.args.first.now (MoreSelectors (Arguments all) NoSelectors))) one c.requires.legal) p)) c.checked.ensures.emits;
@@ -191,9 +312,16 @@ conversion-returns-in-Expr t c =
 
 pub name-returns-in_ok-emit-in-Some : goal.name-returns-in_ok-emit-in-Some
 name-returns-in_ok-emit-in-Some t c = record {
+  width = sym (fixed_width c.args.visible.now.scope c.requires.sound c.args.name.now.first _ c.in-Some.value c.requires.legal (sym (ap fixed_value c.standing.ensures) ∙ sym c.fixed_value.ensures ∙ c.in-Some.is));
   emits = fixed_emits c.quiet_stays.ensures c.args.visible.now _ _ c.args.depth c.args.name.now.first _ _ c.in-Some.value (search rules) c.requires.legal
       (sym (ap fixed_value c.standing.ensures) ∙ sym c.fixed_value.ensures ∙ c.in-Some.is) c.in_ok-emit-in-Some.ensures.adds;
 }
+
+pub called-returns-in_ok-call-in-Arguments-clause-emits : goal.called-returns-in_ok-call-in-Arguments-clause-emits
+called-returns-in_ok-call-in-Arguments-clause-emits t c =
+    let tree = ap selector_tree c.in-Arguments.is ∙ c.arguments_by_parts.ensures c.in-Arguments.arguments ∙ ap (λ l. Arguments (argument_trees l)) (sym c.deref.ensures.value) in
+    let same = one_selector c.args.selectors.now c.selector-item.result _ c.in-len1.len_at_least c.in-len1.len_below c.selector-item.is tree in
+    subst (λ x. EmitsExpression c.args.visible.now c.args.self.now c.args.depth 1 (Named c.args.first.now x) c.call.new.self) (sym same) c.in_ok-call-in-Arguments.ensures.emits
 
 -- ---- parts of objects
 
@@ -210,6 +338,10 @@ element-returns-clause-emits t c =
 
 pub part-returns : goal.part-returns
 part-returns t c = record {
+  width =
+      sym (part_width c.args.visible.now.scope c.args.first.now (selector_trees c.args.selectors.now) c.requires.stands.0 c.args.subtype c.in_ok-last.last c.requires.stands.1
+      (whole_selects c.args.visible.now.scope c.requires.stands.0 c.args.subtype c.in_ok-last.last c.args.selectors.now c.in_ok-last.ensures.stands)
+      ∙ block_words _ _ c.words-words.ensures c.in_ok-load_block.ensures.block);
   emits = part_emits c.quiet_stays.ensures c.values_have_words.ensures c.parts_have_places.ensures c.args.visible.now _ _ _ _ c.args.depth _ c.words-words.result c.args.first.now c.args.selectors.now
       c.requires.stands.0 c.args.subtype c.in_ok-last.last c.args.slot _ c.in_ok-address.ensures.more (search rules) c.requires.legal c.requires.stands.1 c.requires.valueless c.requires.there c.requires.parts
       (block_words _ _ c.words-words.ensures c.in_ok-load_block.ensures.block) c.in_ok-load_block.ensures.block c.in_ok-emit.ensures.adds c.in_ok-last.ensures.emits c.in_ok-load_block.ensures.adds;
@@ -220,7 +352,7 @@ path-select-requires t c =
     let s = c.args.visible.now.scope in
     let rest = drop_at c.args.selectors.now c.loop-selector.selector-index c.selector-item.result c.loop-selector-test.true c.selector-item.is in (
       search (rules, expressions.the_lemmas),
-      first_part s c.loop-selector.last _ _ (subst (λ l. IsLegalPath s c.loop-selector.last (selector_trees l)) rest c.loop-selector.invariant.1),
+      (c.requires.sound, first_part s c.loop-selector.last _ _ (subst (λ l. IsLegalPath s c.loop-selector.last (selector_trees l)) rest c.loop-selector.invariant.1)),
     )
 
 pub path-loop-selector-preserved : goal.path-loop-selector-preserved
@@ -230,12 +362,14 @@ path-loop-selector-preserved t c =
       goes_next c.args.visible.now _ _ _ c.args.depth c.args.subtype _ _ c.args.selectors.now c.loop-selector.selector-index c.selector-item.result c.loop-selector-test.true c.selector-item.is
           c.loop-selector.invariant.0 c.in_ok-last.ensures.emits,
       further_path s c.loop-selector.last c.in_ok-last.last _ _ (subst (λ l. IsLegalPath s c.loop-selector.last (selector_trees l)) rest c.loop-selector.invariant.1) c.in_ok-last.ensures.stands,
+      selects_next s c.args.subtype c.loop-selector.last c.in_ok-last.last c.args.selectors.now c.loop-selector.selector-index c.selector-item.result c.loop-selector-test.true c.selector-item.is
+          c.loop-selector.invariant.2 c.in_ok-last.ensures.stands,
     )
 
 pub select-element-requires : goal.select-element-requires
 select-element-requires t c =
     let tree = ap selector_tree c.in-Arguments.is ∙ c.arguments_by_parts.ensures c.in-Arguments.arguments ∙ ap (λ l. Arguments (argument_trees l)) (sym c.deref.ensures.value) in
-    (search (rules, expressions.the_lemmas), subst (λ x. IsLegalPart c.args.visible.now.scope c.args.subtype x) tree c.requires.legal)
+    (search (rules, expressions.the_lemmas), (c.requires.sound, subst (λ x. IsLegalPart c.args.visible.now.scope c.args.subtype x) tree c.requires.legal))
 
 pub select-returns-in-Arguments-clause-emits : goal.select-returns-in-Arguments-clause-emits
 select-returns-in-Arguments-clause-emits t c =
@@ -247,12 +381,16 @@ select-returns-in-Arguments-clause-emits t c =
 pub call-actuals-requires : goal.call-actuals-requires
 call-actuals-requires t c = (
   search (rules, expressions.the_lemmas),
-  subst (λ l. ArePassedLegally c.args.visible.now.scope l (map argument_tree c.args.arguments.now)) (sym c.deref.ensures.value)
-      (all_legal c.args.visible.now c.args.first.now _ c.requires.names c.args.arguments.now c.requires.legal),
+  (
+    c.requires.sound,
+    subst (λ l. ArePassedLegally c.args.visible.now.scope l (map argument_tree c.args.arguments.now)) (sym c.deref.ensures.value)
+        (all_legal c.args.visible.now c.args.first.now _ c.requires.names c.args.arguments.now c.requires.legal),
+  ),
 )
 
 pub call-returns : goal.call-returns
 call-returns t c = record {
+  width = on_ok_weaker _ (λ p. call_width c.args.visible.now.scope c.args.first.now _ p.result c.requires.names p.is p.single (argument_trees c.args.arguments.now)) c.invoke.ensures.adds;
   emits = on_ok_weaker _ (λ p. call_emits c.args.visible.now c.args.first.now _ c.requires.names c.quiet_stays.ensures c.args.arguments.now c.requires.legal _ _ _ c.args.depth _
       (subst (λ l. EmitsActuals c.args.visible.now c.args.self.now c.args.depth (map parameter_subtype (take (length c.args.arguments.now) l)) (map argument_tree c.args.arguments.now) c.in_ok-height.height c.actuals.new.self)
       c.deref.ensures.value c.in_ok-height.ensures.emits) p) c.invoke.ensures.adds;
@@ -268,8 +406,11 @@ pub actuals-actual-requires : goal.actuals-actual-requires
 actuals-actual-requires t c =
     let formal = got c.args.formals.now c.loop-index.index c.in-Some.formal.now (ltb-true c.loop-index.index (length c.args.formals.now) (sym c.in-Some.ensures.lookup.0)) c.in-Some.ensures.lookup.1 in (
       search (rules, expressions.the_lemmas),
-      c.requires.legal c.loop-index.index c.in-Some.formal.now _ formal
-          (mapped argument_tree c.args.arguments.now c.loop-index.index _ (got c.args.arguments.now c.loop-index.index _ c.loop-index-test.true c.index-arguments-index.is)),
+      (
+        c.requires.sound,
+        c.requires.legal c.loop-index.index c.in-Some.formal.now _ formal
+            (mapped argument_tree c.args.arguments.now c.loop-index.index _ (got c.args.arguments.now c.loop-index.index _ c.loop-index-test.true c.index-arguments-index.is)),
+      ),
     )
 
 pub actuals-loop-index-preserved : goal.actuals-loop-index-preserved
@@ -283,5 +424,5 @@ actuals-loop-index-preserved t c =
 pub part-path-requires : goal.part-path-requires
 part-path-requires t c = (
   search (rules, expressions.the_lemmas),
-  whole_path c.args.visible.now.scope c.args.first.now _ c.requires.stands.0 c.args.subtype c.requires.legal c.requires.stands.1,
+  (c.requires.sound, whole_path c.args.visible.now.scope c.args.first.now _ c.requires.stands.0 c.args.subtype c.requires.legal c.requires.stands.1),
 )

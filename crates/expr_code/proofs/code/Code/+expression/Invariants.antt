@@ -4,7 +4,7 @@ use Rattle.well_typed.specs.Agreeing.{parameter_subtype}
 use Rattle.expr_code.specs.Actuals.{EmitsActuals}
 use Rattle.expr_code.specs.Branches.{AddsBranches, branch_of}
 use Rattle.expr_code.specs.Emitting.{EmitsOperands}
-use Rattle.expr_code.specs.Going.{EmitsPath, IsLegalPath}
+use Rattle.expr_code.specs.Going.{EmitsPath, IsLegalPath, SelectsAll}
 use Rattle.expr_code.proofs.code.Code.+expression.Given as goal
 
 abbrev pub invariant-elsifs-loop-elsif : goal.invariant-elsifs-loop-elsif
@@ -21,3 +21,4 @@ abbrev pub invariant-path-loop-selector : goal.invariant-path-loop-selector
 invariant-path-loop-selector l =
     EmitsPath l.visible l.fn.self l.depth l.fn.subtype (map selector_tree (take l.selector-index l.selectors)) l.last l.self
     × IsLegalPath l.visible.scope l.last (selector_trees (drop l.selector-index l.selectors))
+    × SelectsAll l.visible.scope l.fn.subtype (map selector_tree (take l.selector-index l.selectors)) l.last
