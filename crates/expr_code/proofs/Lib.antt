@@ -20,3 +20,4 @@ mod Going
 mod Actuals
 mod Widths
 mod Selecting
+mod Refusals

@@ -12,3 +12,4 @@ pub mod Locating
 pub mod Going
 pub mod Actuals
 pub mod Widths
+pub mod Refusing

@@ -1,8 +1,8 @@
 //! The instructions of a program as they are put together.
-ghost use Rattle.std.specs.Prelude.{◌≡◌, ◌⊎◌, ◌+◌, ◌<◌, ◌≤◌, [], max, IfErr, IfOk, OnOk};
+ghost use Rattle.std.specs.Prelude.{◌≡◌, ◌+◌, ◌<◌, ◌≤◌, [], false, max, IfErr, IfOk, OnOk};
 ghost use Rattle.base.specs.declared.limits.TheConstants.{FRAME_WORDS, INSTRUCTIONS};
 ghost use Rattle.expr_code.specs.Code.{Adds, here, Patches};
-ghost use Rattle.expr_code.specs.declared.refusal.Refusal.TheVariants.{Memory};
+ghost use Rattle.expr_code.specs.Refusing.{IsRefused};
 
 use crate::refusal::Refusal;
 use base::limits::{FRAME_WORDS, INSTRUCTIONS};
@@ -13,7 +13,7 @@ use std::alloc::Global;
 pub(crate) fn above(depth: u16) -> Result<u16, Refusal>
     ensures more { IfOk result (λ more. more ≡ depth + 1) }
     ensures within { IfOk result (λ more. more ≤ FRAME_WORDS) }
-    ensures refused { IfErr result (λ why. FRAME_WORDS < depth + 1) }
+    ensures refused { IfErr result (λ why. IsRefused 0 (depth + 1) false why) }
 {
     if FRAME_WORDS <= usize::from(depth) {
         return Err(Refusal::Limit);
@@ -25,7 +25,7 @@ pub(crate) fn above(depth: u16) -> Result<u16, Refusal>
 pub(crate) fn raised(depth: u16, words: u16) -> Result<u16, Refusal>
     ensures more { IfOk result (λ more. more ≡ depth + words) }
     ensures within { IfOk result (λ more. more ≤ FRAME_WORDS) }
-    ensures refused { IfErr result (λ why. FRAME_WORDS < depth + words) }
+    ensures refused { IfErr result (λ why. IsRefused 0 (depth + words) false why) }
 {
     match depth.checked_add(words) {
         Some(more) if usize::from(more) <= FRAME_WORDS => Ok(more),
@@ -61,7 +61,7 @@ impl Code {
         ensures few { OnOk result (here self.new ≤ INSTRUCTIONS) }
         ensures shallow { OnOk result (depth ≤ FRAME_WORDS) }
         ensures deepest { OnOk result (self.new.deepest ≡ max self.old.deepest depth) }
-        ensures refused { IfErr result (λ why. (why ≡ Memory) ⊎ ((INSTRUCTIONS < here self.old + 1) ⊎ (FRAME_WORDS < depth))) }
+        ensures refused { IfErr result (λ why. IsRefused (here self.old + 1) depth false why) }
     {
         if FRAME_WORDS < usize::from(depth) || INSTRUCTIONS <= self.instructions.len() {
             return Err(Refusal::Limit);
@@ -74,7 +74,7 @@ impl Code {
     /// The place behind all instructions.
     pub(crate) fn end(&self) -> Result<u16, Refusal>
         ensures end { IfOk result (λ end. end ≡ here self.now) }
-        ensures refused { IfErr result (λ why. INSTRUCTIONS < here self.now) }
+        ensures refused { IfErr result (λ why. IsRefused (here self.now) 0 false why) }
     {
         u16::try_from(self.instructions.len()).map_err(|_| Refusal::Limit)
     }

@@ -1,8 +1,9 @@
 //! The code of if expressions (RM 4.5.7): each condition, a jump behind its value where it does not hold, the value, a jump to the end.
-ghost use Rattle.std.specs.Prelude.{◌≡◌, ◌+◌, ◌<◌, map, true, ℕ, IfOk, OnOk};
+ghost use Rattle.std.specs.Prelude.{◌≡◌, ◌+◌, ◌<◌, false, map, true, ℕ, IfErr, IfOk, OnOk};
 ghost use Rattle.types.specs.Places.{is_among};
 ghost use Rattle.expr_code.specs.Branches.{AddsBranches, AreLegalBranches, branch_of, Closes, Rejoins};
 ghost use Rattle.expr_code.specs.Code.{Adds, here};
+ghost use Rattle.expr_code.specs.Refusing.{IsRefused, RefusesBranches};
 ghost use Rattle.expr_code.specs.Widths.{AreWide};
 ghost use Rattle.well_typed.specs.SoundScopes.{SoundScope};
 ghost use Rattle.image.specs.declared.instruction.Operation.TheVariants.{JumpIfZero};
@@ -16,6 +17,7 @@ use image::Operation;
 impl Code {
     /// Adds a jump where the condition above `depth` words does not hold, and tells its place; where it leads is not known yet.
     pub(crate) fn test(&mut self, depth: u16) -> Result<usize, Refusal>
+        ensures refused { IfErr result (λ why. IsRefused (here self.old + 1) (depth + 1) false why) }
         ensures place { IfOk result (λ place. place ≡ here self.old) }
         ensures adds { OnOk result (Adds self.old (depth + 1) (JumpIfZero 0) self.new) }
     {
@@ -33,6 +35,7 @@ impl Code {
         waiting: &mut Vec<usize>,
     ) -> Result<(), Refusal>
         requires there { test < here self.old }
+        ensures refused { IfErr result (λ why. IsRefused (here self.old + 1) height false why) }
         ensures closes { OnOk result (Closes self.old height test waiting.old.items waiting.new.items self.new) }
     {
         waiting.push(self.instructions.len())?;
@@ -55,6 +58,7 @@ impl Code {
         requires sound { SoundScope visible.now.scope }
         requires legal { AreLegalBranches visible.now.scope (map branch_of elsifs.now) }
         requires wide { AreWide visible.now.scope width (map branch_of elsifs.now) }
+        ensures refused { IfErr result (λ why. RefusesBranches visible.now self.old depth width (map branch_of elsifs.now) why) }
         ensures adds { OnOk result (AddsBranches visible.now self.old depth width (map branch_of elsifs.now) waiting.old.items waiting.new.items self.new) }
     {
         for elsif in elsifs {
@@ -69,6 +73,7 @@ impl Code {
     /// Makes the jumps at these places lead to the end of the code.
     pub(crate) fn rejoin(&mut self, places: &[usize]) -> Result<(), Refusal>
         requires there { (k : ℕ) → is_among places.now k ≡ true → k < here self.old }
+        ensures refused { IfErr result (λ why. IsRefused (here self.old) 0 false why) }
         ensures rejoins { OnOk result (Rejoins self.old places.now (here self.old) self.new) }
     {
         let end = self.end()?;

@@ -1,8 +1,10 @@
 //! The code of expressions (RM 4.4).
-ghost use Rattle.std.specs.Prelude.{◌≡◌, ◌∷◌, [], None, IfOk, OnOk};
+ghost use Rattle.std.specs.Prelude.{◌≡◌, ◌+◌, ◌*◌, ◌≤◌, ◌∷◌, [], None, IfErr, IfOk, OnOk};
 ghost use Rattle.ada_tree.specs.ExpressionTree.{chain_tree, expr_tree};
 ghost use Rattle.expr_code.specs.Emitting.{AreLegal, EmitsExpression, EmitsOperands, IsLegal};
 ghost use Rattle.expr_code.specs.OperatorCode.{binary_operation};
+ghost use Rattle.expr_code.specs.Code.{here};
+ghost use Rattle.expr_code.specs.Refusing.{operands_size, RefusesExpression, RefusesOperands};
 ghost use Rattle.expr_code.specs.Widths.{AreSingle, width_of};
 ghost use Rattle.well_typed.specs.SoundScopes.{SoundScope};
 
@@ -24,6 +26,7 @@ impl Code {
         requires sound { SoundScope visible.now.scope }
         requires legal { IsLegal visible.now.scope (expr_tree e.now) }
         ensures width { IfOk result (λ width. width ≡ width_of visible.now.scope (expr_tree e.now)) }
+        ensures refused { IfErr result (λ why. RefusesExpression visible.now self.old depth (expr_tree e.now) why) }
         ensures emits { IfOk result (λ width. EmitsExpression visible.now self.old depth width (expr_tree e.now) self.new) }
     {
         quiet_stays();
@@ -79,6 +82,7 @@ impl Code {
         requires sound { SoundScope visible.now.scope }
         requires legal { IsLegal visible.now.scope (expr_tree e.now) }
         requires wide { width_of visible.now.scope (expr_tree e.now) ≡ width }
+        ensures refused { IfErr result (λ why. RefusesExpression visible.now self.old depth (expr_tree e.now) why) }
         ensures emits { OnOk result (EmitsExpression visible.now self.old depth width (expr_tree e.now) self.new) }
     {
         self.expression(visible, depth, e)?;
@@ -91,6 +95,8 @@ impl Code {
         requires sound { SoundScope visible.now.scope }
         requires legal { IsLegal visible.now.scope (expr_tree operand.now.value) }
         requires single { width_of visible.now.scope (expr_tree operand.now.value) ≡ 1 }
+        ensures refused { IfErr result (λ why. RefusesOperands visible.now self.old depth (operand.now ∷ []) why) }
+        ensures sized { OnOk result (here self.new ≤ here self.old + 20 * operands_size (operand.now ∷ [])) }
         ensures emits { OnOk result (EmitsOperands visible.now self.old depth (operand.now ∷ []) self.new) }
     {
         quiet_stays();
@@ -116,6 +122,8 @@ impl Code {
         requires legal { IsLegal visible.now.scope (expr_tree operand.now.value) }
         requires single { width_of visible.now.scope (expr_tree operand.now.value) ≡ 1 }
         requires short { binary_operation operand.now.operator ≡ None }
+        ensures refused { IfErr result (λ why. RefusesOperands visible.now self.old depth (operand.now ∷ []) why) }
+        ensures sized { OnOk result (here self.new ≤ here self.old + 20 * operands_size (operand.now ∷ [])) }
         ensures emits { OnOk result (EmitsOperands visible.now self.old depth (operand.now ∷ []) self.new) }
     {
         quiet_stays();
@@ -140,6 +148,8 @@ impl Code {
         requires sound { SoundScope visible.now.scope }
         requires legal { AreLegal visible.now.scope all.now }
         requires single { AreSingle visible.now.scope all.now }
+        ensures refused { IfErr result (λ why. RefusesOperands visible.now self.old depth all.now why) }
+        ensures sized { OnOk result (here self.new ≤ here self.old + 20 * operands_size all.now) }
         ensures emits { OnOk result (EmitsOperands visible.now self.old depth all.now self.new) }
     {
         for operand in all {

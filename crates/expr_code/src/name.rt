@@ -1,5 +1,5 @@
 //! The code of names (RM 4.1): values that are known, and objects.
-ghost use Rattle.std.specs.Prelude.{◌≡◌, None, Some, true, IfOk, OnOk};
+ghost use Rattle.std.specs.Prelude.{◌≡◌, ◌+◌, None, not, Some, true, IfErr, IfOk, OnOk};
 ghost use Rattle.image.specs.Rules.{is_block};
 ghost use Rattle.image.specs.declared.instruction.Operation.TheVariants.{LoadBlock};
 ghost use Rattle.ada_tree.specs.ExpressionTree.{argument_trees, Arguments, bare_name, MoreSelectors, Named, name_tree, NoSelectors, selector_trees};
@@ -8,10 +8,11 @@ ghost use Rattle.types.specs.Evaluating.{fixed_value};
 ghost use Rattle.types.specs.Scopes.{number_of};
 ghost use Rattle.types.specs.Standings.{standing_of, stands_first};
 ghost use Rattle.types.specs.declared.standing.Standing.TheVariants as standing;
-ghost use Rattle.expr_code.specs.Code.{Adds};
+ghost use Rattle.expr_code.specs.Code.{Adds, here};
 ghost use Rattle.expr_code.specs.Emitting.{EmitsExpression, IsLegal};
 ghost use Rattle.expr_code.specs.Naming.{load_operation, scalar_word};
 ghost use Rattle.expr_code.specs.Seeing.{slot_of};
+ghost use Rattle.expr_code.specs.Refusing.{IsRefused, RefusesExpression};
 ghost use Rattle.expr_code.specs.Widths.{width_of};
 ghost use Rattle.well_typed.specs.SoundScopes.{SoundScope};
 
@@ -71,6 +72,7 @@ impl Code {
         requires sound { SoundScope visible.now.scope }
         requires legal { IsLegal visible.now.scope (Named (name_tree name.now).first (name_tree name.now).selectors) }
         ensures width { IfOk result (λ width. width ≡ width_of visible.now.scope (Named (name_tree name.now).first (name_tree name.now).selectors)) }
+        ensures refused { IfErr result (λ why. RefusesExpression visible.now self.old depth (Named (name_tree name.now).first (name_tree name.now).selectors) why) }
         ensures emits { IfOk result (λ width. EmitsExpression visible.now self.old depth width (Named (name_tree name.now).first (name_tree name.now).selectors) self.new) }
     {
         quiet_stays();
@@ -198,7 +200,9 @@ impl Code {
     // Adds that of an object as a whole, or of a call without parameters.
     fn bare(&mut self, visible: &Visible, depth: u16, name: &Identifier) -> Result<u16, Refusal>
         requires legal { IsLegal visible.now.scope (Named name.now NoSelectors) }
+        requires valueless { fixed_value (standing_of visible.now.scope name.now NoSelectors) ≡ None }
         ensures width { IfOk result (λ width. width ≡ width_of visible.now.scope (Named name.now NoSelectors)) }
+        ensures refused { IfErr result (λ why. RefusesExpression visible.now self.old depth (Named name.now NoSelectors) why) }
         ensures emits { IfOk result (λ width. EmitsExpression visible.now self.old depth width (Named name.now NoSelectors) self.new) }
     {
         match visible.scope.stands_first(name) {
@@ -228,8 +232,10 @@ impl Code {
     ) -> Result<u16, Refusal>
         requires legal { IsLegal visible.now.scope (Named name.now NoSelectors) }
         requires stands { (r : Role) × (stands_first visible.now.scope (number_of visible.now.scope name.now.name) ≡ standing.Part r subtype) }
+        requires valueless { fixed_value (standing_of visible.now.scope name.now NoSelectors) ≡ None }
         requires there { slot_of visible.now name.now.name ≡ Some slot }
         ensures width { IfOk result (λ width. width ≡ width_of visible.now.scope (Named name.now NoSelectors)) }
+        ensures refused { IfErr result (λ why. RefusesExpression visible.now self.old depth (Named name.now NoSelectors) why) }
         ensures emits { IfOk result (λ width. EmitsExpression visible.now self.old depth width (Named name.now NoSelectors) self.new) }
     {
         quiet_stays();
@@ -251,6 +257,7 @@ impl Code {
         region: Region,
         words: u16,
     ) -> Result<(), Refusal>
+        ensures refused { IfErr result (λ why. IsRefused (here self.old + 1) height (not (is_block words)) why) }
         ensures adds { OnOk result (Adds self.old height (LoadBlock region words) self.new) }
         ensures block { OnOk result (is_block words ≡ true) }
     {

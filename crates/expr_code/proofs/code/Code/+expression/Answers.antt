@@ -1,4 +1,4 @@
-use Rattle.std.proofs.Common.{length, ltb-true, map, take, rules, refl, sym, ap, ◌∙◌, ◌≤◌, ◌∷◌, [], subst, ◌≡◌}
+use Rattle.std.proofs.Common.{◌+◌, ◌*◌, arith, length, ltb-true, map, take, rules, refl, sym, ap, ◌∙◌, ◌≤◌, ◌∷◌, [], subst, ◌≡◌}
 use Rattle.std.specs.Prelude.{IfOk}
 use Rattle.std.proofs.lemmas.Result.{IfOk-weaker, on_ok_weaker}
 use Rattle.ada_tree.specs.declared.expression.Expr as expressions
@@ -8,7 +8,7 @@ use Rattle.expr_code.specs.Emitting.{AreLegal, EmitsExpression, IsLegal}
 use Rattle.expr_code.specs.Going.{EmitsPath, IsLegalPart, IsLegalPath}
 use Rattle.expr_code.proofs.Branching.{adds_none, all_branches, branch_closed, branches_next, conditional_legal, whole_at}
 use Rattle.expr_code.proofs.Checking.{checked_emits, fit_legal, unchecked_emits}
-use Rattle.expr_code.proofs.Chains.{and_then_at, chain_emits, first_legal, legal_at, more_legal, one_emitted, operand_at, or_else_at, second_legal}
+use Rattle.expr_code.proofs.Chains.{all_emitted, and_then_at, chain_emits, first_legal, legal_at, more_legal, none_emitted, one_emitted, operand_at, or_else_at, second_legal}
 use Rattle.expr_code.proofs.Emitted.{number_emits, parenthesized_emits, sign_emits, unary_at}
 use Rattle.types.specs.Evaluating.{fixed_value}
 use Rattle.expr_code.proofs.Conversions.{conversion_emits}
@@ -19,6 +19,10 @@ use Rattle.well_typed.specs.Agreeing.{parameter_subtype}
 use Rattle.expr_code.specs.Actuals.{ArePassedLegally, EmitsActuals}
 use Rattle.expr_code.proofs.Actuals.{actuals_next, all_actuals, all_legal, call_emits, got, mapped}
 use Rattle.expr_code.specs.Widths.{AreSingle, AreWide, width_of}
+use Rattle.expr_code.specs.Code.{here}
+use Rattle.expr_code.specs.Refusing.{operands_size, RefusesBranches, RefusesExpression, RefusesOperands}
+use Rattle.expr_code.proofs.Growing.{added_here}
+use Rattle.expr_code.proofs.Refusals.{between_refused, closed_here, condition_refused, else_refused, first_refused, jump_refused, more_refused, operand_refused, others_refused, second_refused, second_word_refused, sized_all, sized_next, value_refused, word_refused}
 use Rattle.expr_code.proofs.Selecting.{one_selector, selects_next, whole_selects}
 use Rattle.expr_code.proofs.Widths.{call_width, chain_words, conditional_words, conversion_width, booleans_fit_width, fixed_width, integers_fit_width, part_width, single_at, unary_width, wide_at}
 use Rattle.expr_code.proofs.code.Code.+expression.Goals as goal
@@ -33,7 +37,8 @@ expression-of_width-requires-in-Chain t c =
       (
         c.requires.sound,
         (
-          subst (λ e. IsLegal c.args.visible.now.scope (expr_tree e)) (sym c.deref-in-Chain.ensures) (first_legal c.args.visible.now _ _ c.in-Chain.second.value c.in-Chain.more.items tree c.requires.legal),
+          subst (λ e. IsLegal c.args.visible.now.scope (expr_tree e)) (sym c.deref-in-Chain.ensures)
+              (first_legal c.args.visible.now _ _ c.in-Chain.second.value c.in-Chain.more.items tree c.requires.legal),
           subst (λ e. width_of c.args.visible.now.scope (expr_tree e) ≡ 1) (sym c.deref-in-Chain.ensures) words.first,
         ),
       ),
@@ -47,7 +52,8 @@ expression-operand-requires t c =
       (
         c.requires.sound,
         (
-          subst (λ o. IsLegal c.args.visible.now.scope (expr_tree o.value)) (sym c.deref-in-Chain-2.ensures) (second_legal c.args.visible.now _ _ c.in-Chain.second.value c.in-Chain.more.items tree c.requires.legal),
+          subst (λ o. IsLegal c.args.visible.now.scope (expr_tree o.value)) (sym c.deref-in-Chain-2.ensures)
+              (second_legal c.args.visible.now _ _ c.in-Chain.second.value c.in-Chain.more.items tree c.requires.legal),
           subst (λ o. width_of c.args.visible.now.scope (expr_tree o.value) ≡ 1) (sym c.deref-in-Chain-2.ensures) words.others.0,
         ),
       ),
@@ -61,21 +67,27 @@ expression-operands-requires t c =
       (
         c.requires.sound,
         (
-          subst (λ all. AreLegal c.args.visible.now.scope all) (sym c.deref-in-Chain-3.ensures.value) (more_legal c.args.visible.now _ _ c.in-Chain.second.value c.in-Chain.more.items tree c.requires.legal),
+          subst (λ all. AreLegal c.args.visible.now.scope all) (sym c.deref-in-Chain-3.ensures.value)
+              (more_legal c.args.visible.now _ _ c.in-Chain.second.value c.in-Chain.more.items tree c.requires.legal),
           subst (λ all. AreSingle c.args.visible.now.scope all) (sym c.deref-in-Chain-3.ensures.value) words.others.1,
         ),
       ),
     )
 
-pub expression-returns-in_ok-operands-in-Chain : goal.expression-returns-in_ok-operands-in-Chain
-expression-returns-in_ok-operands-in-Chain t c =
+pub expression-returns-in_ok-operands-in-Chain-clause-width : goal.expression-returns-in_ok-operands-in-Chain-clause-width
+expression-returns-in_ok-operands-in-Chain-clause-width t c =
     let tree = ap expr_tree c.in-Chain.is ∙ c.chains_by_parts.ensures c.in-Chain.first c.in-Chain.second c.in-Chain.more in
     let words = chain_words c.args.visible.now.scope c.requires.sound _ _ c.in-Chain.second.value c.in-Chain.more.items tree c.requires.legal in
-    record {
-      width = sym (ap (width_of c.args.visible.now.scope) tree ∙ words.whole);
-      emits = chain_emits c.args.visible.now _ _ c.in-Chain.second.value c.in-Chain.more.items tree c.requires.legal _ _ _ _ c.args.depth (rw c.deref-in-Chain.ensures at c.in_ok-of_width-in-Chain.ensures.emits)
-          (rw c.deref-in-Chain-2.ensures at c.in_ok-operand-in-Chain.ensures.emits) (rw c.deref-in-Chain-3.ensures.value at c.in_ok-operands-in-Chain.ensures.emits);
-    }
+    sym (ap (width_of c.args.visible.now.scope) tree ∙ words.whole)
+
+pub expression-returns-in_ok-operands-in-Chain-clause-emits : goal.expression-returns-in_ok-operands-in-Chain-clause-emits
+expression-returns-in_ok-operands-in-Chain-clause-emits t c =
+    let tree = ap expr_tree c.in-Chain.is ∙ c.chains_by_parts.ensures c.in-Chain.first c.in-Chain.second c.in-Chain.more in
+    let words = chain_words c.args.visible.now.scope c.requires.sound _ _ c.in-Chain.second.value c.in-Chain.more.items tree c.requires.legal in
+    chain_emits c.args.visible.now _ _ c.in-Chain.second.value c.in-Chain.more.items tree c.requires.legal _ _ _ _ c.args.depth
+    (rw c.deref-in-Chain.ensures at c.in_ok-of_width-in-Chain.ensures.emits)
+    (rw c.deref-in-Chain-2.ensures at c.in_ok-operand-in-Chain.ensures.emits)
+    (rw c.deref-in-Chain-3.ensures.value at c.in_ok-operands-in-Chain.ensures.emits)
 
 pub operands-operand-requires : goal.operands-operand-requires
 operands-operand-requires t c = (
@@ -90,58 +102,269 @@ operands-operand-requires t c = (
 )
 
 pub operands-loop-operand-preserved : goal.operands-loop-operand-preserved
-operands-loop-operand-preserved t c = one_emitted c.args.visible.now _ _ _ _ _ _ _ c.loop-operand-test.true c.operand-item.is c.loop-operand.invariant c.in_ok-operand.ensures.emits
+operands-loop-operand-preserved t c = (
+  one_emitted c.args.visible.now _ _ _ _ _ _ _ c.loop-operand-test.true c.operand-item.is c.loop-operand.invariant.0 c.in_ok-operand.ensures.emits,
+  sized_next c.args.visible.now c.args.self.now c.loop-operand.self c.operand.new.self c.args.all.now _ c.operand-item.result c.loop-operand-test.true
+      c.operand-item.is c.loop-operand.invariant.1 c.in_ok-operand.ensures.sized,
+)
+
+pub operands-loop-operand-init : goal.operands-loop-operand-init
+operands-loop-operand-init t c = (none_emitted c.args.visible.now c.args.self.now c.args.depth, omega arith)
+
+pub operands-returns-clause-sized : goal.operands-returns-clause-sized
+operands-returns-clause-sized t c = sized_all c.args.visible.now c.args.self.now c.loop-operand.self c.args.all.now _ c.loop-operand-test.false
+    c.loop-operand.invariant.1
+
+pub operands-returns-clause-emits : goal.operands-returns-clause-emits
+operands-returns-clause-emits t c = all_emitted c.args.visible.now c.args.self.now _ c.args.depth c.args.all.now _ c.loop-operand-test.false
+    c.loop-operand.invariant.0
+
+pub operands-returns-in_err-operand-clause-refused : goal.operands-returns-in_err-operand-clause-refused
+operands-returns-in_err-operand-clause-refused t c =
+    let whole = operand_refused c.args.visible.now c.args.self.now c.loop-operand.self c.args.depth c.args.all.now _ c.operand-item.result
+    c.in_err-operand.field-0.0 c.loop-operand-test.true c.operand-item.is c.loop-operand.invariant.1 c.in_err-operand.ensures.refused in
+    search (rules, whole)
 
 -- ---- one operand
 
-pub operand-returns-in_ok-above-in-Some : goal.operand-returns-in_ok-above-in-Some
-operand-returns-in_ok-above-in-Some t c = record {
-  emits = on_ok_weaker _ (λ p. operand_at c.quiet_stays.ensures c.args.visible.now _ _ _ c.args.depth _ _ c.args.operand.now _ c.in_ok-second-in-Some.ensures.more c.in_ok-above-in-Some.ensures.more
-      (sym c.binary_operation.ensures ∙ c.in-Some.is) c.in_ok-of_width-in-Some.ensures.emits p) c.emit.ensures.adds;
-}
+pub operand-returns-in_ok-above-in-Some-clause-emits : goal.operand-returns-in_ok-above-in-Some-clause-emits
+operand-returns-in_ok-above-in-Some-clause-emits t c =
+    on_ok_weaker _ (λ p. operand_at c.quiet_stays.ensures c.args.visible.now _ _ _ c.args.depth _ _ c.args.operand.now _ c.in_ok-second-in-Some.ensures.more
+    c.in_ok-above-in-Some.ensures.more
+    (sym c.binary_operation.ensures ∙ c.in-Some.is) c.in_ok-of_width-in-Some.ensures.emits p) c.emit.ensures.adds
 
-pub short_circuit-returns-in-OrElse : goal.short_circuit-returns-in-OrElse
-short_circuit-returns-in-OrElse t c = record {
-  emits = or_else_at c.quiet_stays.ensures c.expressions_are_typed.ensures c.args.visible.now _ _ _ _ _ _ c.args.depth _ _ _ _ _ c.args.operand.now c.in_ok-one.ensures.more c.in_ok-above.ensures.more (search rules)
-      c.in_ok-emit.ensures.adds c.in_ok-emit-2.ensures.adds c.in_ok-emit-3.ensures.adds c.in_ok-of_width.ensures.emits c.in_ok-end.ensures.end c.in-OrElse.is c.patch.ensures.patches;
-}
+pub short_circuit-returns-in-OrElse-clause-emits : goal.short_circuit-returns-in-OrElse-clause-emits
+short_circuit-returns-in-OrElse-clause-emits t c =
+    or_else_at c.quiet_stays.ensures c.expressions_are_typed.ensures c.args.visible.now _ _ _ _ _ _ c.args.depth _ _ _ _ _ c.args.operand.now
+    c.in_ok-one.ensures.more c.in_ok-above.ensures.more (search rules)
+    c.in_ok-emit.ensures.adds c.in_ok-emit-2.ensures.adds c.in_ok-emit-3.ensures.adds c.in_ok-of_width.ensures.emits c.in_ok-end.ensures.end
+    c.in-OrElse.is c.patch.ensures.patches
 
-pub short_circuit-returns-in_default : goal.short_circuit-returns-in_default
-short_circuit-returns-in_default t c = record {
-  emits = and_then_at c.quiet_stays.ensures c.expressions_are_typed.ensures c.args.visible.now _ _ _ _ _ _ c.args.depth _ _ _ _ _ c.args.operand.now c.in_ok-one.ensures.more c.in_ok-above.ensures.more (search rules)
-      c.in_ok-emit.ensures.adds c.in_ok-emit-2.ensures.adds c.in_ok-emit-3.ensures.adds c.in_ok-of_width.ensures.emits c.in_ok-end.ensures.end c.requires.short c.in_default.not-OrElse c.patch-in_default.ensures.patches;
-}
+pub short_circuit-returns-in_default-clause-emits : goal.short_circuit-returns-in_default-clause-emits
+short_circuit-returns-in_default-clause-emits t c =
+    and_then_at c.quiet_stays.ensures c.expressions_are_typed.ensures c.args.visible.now _ _ _ _ _ _ c.args.depth _ _ _ _ _ c.args.operand.now
+    c.in_ok-one.ensures.more c.in_ok-above.ensures.more (search rules)
+    c.in_ok-emit.ensures.adds c.in_ok-emit-2.ensures.adds c.in_ok-emit-3.ensures.adds c.in_ok-of_width.ensures.emits c.in_ok-end.ensures.end
+    c.requires.short c.in_default.not-OrElse c.patch-in_default.ensures.patches
+
+pub operand-returns-in_err-above-in-Some-clause-refused : goal.operand-returns-in_err-above-in-Some-clause-refused
+operand-returns-in_err-above-in-Some-clause-refused t c =
+    let whole = second_word_refused c.args.visible.now c.args.operand.now _ c.args.self.now c.args.depth _ _ _ c.in_err-above-in-Some.field-0.0
+    (sym c.binary_operation.ensures ∙ c.in-Some.is) c.in_ok-second-in-Some.ensures.more (omega arith) (omega arith)
+    c.in_err-above-in-Some.ensures.refused in
+    search (rules, whole)
+
+-- ---- refusals
+
+pub expression-returns-in_err-above-in-Some-clause-refused : goal.expression-returns-in_err-above-in-Some-clause-refused
+expression-returns-in_err-above-in-Some-clause-refused t c =
+    let whole = word_refused c.args.visible.now (expr_tree c.args.e.now) c.args.self.now c.args.depth _ _ c.in_err-above-in-Some.field-0.0 (omega arith)
+    (omega arith) c.in_err-above-in-Some.ensures.refused in
+    search (rules, whole)
+
+pub expression-returns-in_err-of_width-in-Chain-clause-refused : goal.expression-returns-in_err-of_width-in-Chain-clause-refused
+expression-returns-in_err-of_width-in-Chain-clause-refused t c =
+    let v = c.args.visible.now in
+    let tree = ap expr_tree c.in-Chain.is ∙ c.chains_by_parts.ensures c.in-Chain.first c.in-Chain.second c.in-Chain.more in
+    let whole = first_refused v (expr_tree c.args.e.now) _ c.in-Chain.second.value c.in-Chain.more.items tree c.args.self.now c.args.depth
+    c.in_err-of_width-in-Chain.field-0.0 (subst
+    (λ e. RefusesExpression v c.args.self.now c.args.depth (expr_tree e) c.in_err-of_width-in-Chain.field-0.0) c.deref-in-Chain.ensures
+    c.in_err-of_width-in-Chain.ensures.refused) in
+    search (rules, whole)
+
+pub expression-returns-in_err-operand-in-Chain-clause-refused : goal.expression-returns-in_err-operand-in-Chain-clause-refused
+expression-returns-in_err-operand-in-Chain-clause-refused t c =
+    let v = c.args.visible.now in
+    let tree = ap expr_tree c.in-Chain.is ∙ c.chains_by_parts.ensures c.in-Chain.first c.in-Chain.second c.in-Chain.more in
+    let first = subst (λ e. EmitsExpression v c.args.self.now c.args.depth 1 (expr_tree e) c.of_width-in-Chain.new.self) c.deref-in-Chain.ensures
+    c.in_ok-of_width-in-Chain.ensures.emits in
+    let whole = second_refused v (expr_tree c.args.e.now) _ c.in-Chain.second.value c.in-Chain.more.items tree c.args.self.now c.args.depth
+    c.in_err-operand-in-Chain.field-0.0 c.of_width-in-Chain.new.self first.sized
+    (subst (λ o. RefusesOperands v c.of_width-in-Chain.new.self c.args.depth (o ∷ []) c.in_err-operand-in-Chain.field-0.0) c.deref-in-Chain-2.ensures
+    c.in_err-operand-in-Chain.ensures.refused) in
+    search (rules, whole)
+
+pub expression-returns-in_err-operands-in-Chain-clause-refused : goal.expression-returns-in_err-operands-in-Chain-clause-refused
+expression-returns-in_err-operands-in-Chain-clause-refused t c =
+    let v = c.args.visible.now in
+    let tree = ap expr_tree c.in-Chain.is ∙ c.chains_by_parts.ensures c.in-Chain.first c.in-Chain.second c.in-Chain.more in
+    let first = subst (λ e. EmitsExpression v c.args.self.now c.args.depth 1 (expr_tree e) c.of_width-in-Chain.new.self) c.deref-in-Chain.ensures
+    c.in_ok-of_width-in-Chain.ensures.emits in
+    let second = subst (λ o. here c.operand.new.self ≤ here c.of_width-in-Chain.new.self + 20 * operands_size (o ∷ [])) c.deref-in-Chain-2.ensures
+    c.in_ok-operand-in-Chain.ensures.sized in
+    let whole = more_refused v (expr_tree c.args.e.now) _ c.in-Chain.second.value c.in-Chain.more.items tree c.args.self.now c.args.depth
+    c.in_err-operands-in-Chain.field-0.0 c.of_width-in-Chain.new.self c.operand.new.self first.sized second
+    (subst (λ all. RefusesOperands v c.operand.new.self c.args.depth all c.in_err-operands-in-Chain.field-0.0) c.deref-in-Chain-3.ensures.value
+    c.in_err-operands-in-Chain.ensures.refused) in
+    search (rules, whole)
+
+pub expression-returns-in_err-test-in-Conditional-clause-refused : goal.expression-returns-in_err-test-in-Conditional-clause-refused
+expression-returns-in_err-test-in-Conditional-clause-refused t c =
+    let v = c.args.visible.now in
+    let tree = ap expr_tree c.in-Conditional.is ∙ c.conditional_by_parts.ensures c.in-Conditional.field-0 c.in-Conditional.condition c.in-Conditional.value
+    c.in-Conditional.elsifs c.in-Conditional.last in
+    let first = subst (λ e. EmitsExpression v c.args.self.now c.args.depth 1 (expr_tree e) c.of_width-in-Conditional.new.self)
+    c.deref-in-Conditional.ensures c.in_ok-of_width-in-Conditional.ensures.emits in
+    let sized = first.sized in
+    let whole = between_refused v (expr_tree c.args.e.now) c.in-Conditional.field-0 _ _ c.in-Conditional.elsifs.items _ tree c.args.self.now c.args.depth
+    (width_of v.scope (expr_tree c.args.e.now)) _ _ c.in_err-test-in-Conditional.field-0.0 refl (omega (arith, sized)) (omega arith)
+    c.in_err-test-in-Conditional.ensures.refused in
+    search (rules, whole)
+
+pub expression-returns-in_err-raised-in-Conditional-clause-refused : goal.expression-returns-in_err-raised-in-Conditional-clause-refused
+expression-returns-in_err-raised-in-Conditional-clause-refused t c =
+    let v = c.args.visible.now in
+    let tree = ap expr_tree c.in-Conditional.is ∙ c.conditional_by_parts.ensures c.in-Conditional.field-0 c.in-Conditional.condition c.in-Conditional.value
+    c.in-Conditional.elsifs c.in-Conditional.last in
+    let words = conditional_words v.scope c.requires.sound _ c.in-Conditional.field-0 _ _ c.in-Conditional.elsifs.items _ tree c.requires.legal in
+    let told = c.in_ok-width-in-Conditional.ensures.width ∙ ap (λ e. width_of v.scope (expr_tree e)) c.deref-in-Conditional-2.ensures ∙ words.whole in
+    let whole = between_refused v (expr_tree c.args.e.now) c.in-Conditional.field-0 _ _ c.in-Conditional.elsifs.items _ tree c.args.self.now c.args.depth
+    c.in_ok-width-in-Conditional.width _ _ c.in_err-raised-in-Conditional.field-0.0 told (omega arith) (omega arith)
+    c.in_err-raised-in-Conditional.ensures.refused in
+    search (rules, whole)
+
+pub expression-returns-in_err-elsifs-in-Conditional-clause-refused : goal.expression-returns-in_err-elsifs-in-Conditional-clause-refused
+expression-returns-in_err-elsifs-in-Conditional-clause-refused t c =
+    let v = c.args.visible.now in
+    let depth = c.args.depth in
+    let width = c.in_ok-width-in-Conditional.width in
+    let tree = ap expr_tree c.in-Conditional.is ∙ c.conditional_by_parts.ensures c.in-Conditional.field-0 c.in-Conditional.condition c.in-Conditional.value
+    c.in-Conditional.elsifs c.in-Conditional.last in
+    let words = conditional_words v.scope c.requires.sound _ c.in-Conditional.field-0 _ _ c.in-Conditional.elsifs.items _ tree c.requires.legal in
+    let told = c.in_ok-width-in-Conditional.ensures.width ∙ ap (λ e. width_of v.scope (expr_tree e)) c.deref-in-Conditional-2.ensures ∙ words.whole in
+    let first = (subst (λ e. EmitsExpression v c.args.self.now depth 1 (expr_tree e) c.of_width-in-Conditional.new.self) c.deref-in-Conditional.ensures
+    c.in_ok-of_width-in-Conditional.ensures.emits).sized in
+    let jump = added_here _ _ _ _ c.in_ok-test-in-Conditional.ensures.adds in
+    let second = (subst (λ e. EmitsExpression v c.test.new.self depth width (expr_tree e) c.expression-in-Conditional.new.self)
+    c.deref-in-Conditional-2.ensures c.in_ok-width-in-Conditional.ensures.emits).sized in
+    let closed = closed_here _ _ _ _ _ _ c.in_ok-close-in-Conditional.ensures.closes in
+    let whole = others_refused v (expr_tree c.args.e.now) c.in-Conditional.field-0 _ _ c.in-Conditional.elsifs.items _ tree c.args.self.now depth width
+    c.close.new.self c.in_err-elsifs-in-Conditional.field-0.0 told (omega (arith, first, jump, second, closed))
+    (subst (λ all. RefusesBranches v c.close.new.self depth width (map branch_of all) c.in_err-elsifs-in-Conditional.field-0.0)
+    c.deref-in-Conditional-3.ensures.value c.in_err-elsifs-in-Conditional.ensures.refused) in
+    search (rules, whole)
+
+pub expression-returns-in_err-of_width-in-Conditional-2-clause-refused : goal.expression-returns-in_err-of_width-in-Conditional-2-clause-refused
+expression-returns-in_err-of_width-in-Conditional-2-clause-refused t c =
+    let v = c.args.visible.now in
+    let depth = c.args.depth in
+    let width = c.in_ok-width-in-Conditional.width in
+    let tree = ap expr_tree c.in-Conditional.is ∙ c.conditional_by_parts.ensures c.in-Conditional.field-0 c.in-Conditional.condition c.in-Conditional.value
+    c.in-Conditional.elsifs c.in-Conditional.last in
+    let first = (subst (λ e. EmitsExpression v c.args.self.now depth 1 (expr_tree e) c.of_width-in-Conditional.new.self) c.deref-in-Conditional.ensures
+    c.in_ok-of_width-in-Conditional.ensures.emits).sized in
+    let jump = added_here _ _ _ _ c.in_ok-test-in-Conditional.ensures.adds in
+    let second = (subst (λ e. EmitsExpression v c.test.new.self depth width (expr_tree e) c.expression-in-Conditional.new.self)
+    c.deref-in-Conditional-2.ensures c.in_ok-width-in-Conditional.ensures.emits).sized in
+    let closed = closed_here _ _ _ _ _ _ c.in_ok-close-in-Conditional.ensures.closes in
+    let others = (subst (λ all. AddsBranches v c.close.new.self depth width (map branch_of all) c.close.new.waiting.items c.elsifs.new.waiting.items
+    c.elsifs.new.self) c.deref-in-Conditional-3.ensures.value c.in_ok-elsifs-in-Conditional.ensures.adds).emits.sized in
+    let whole = else_refused v (expr_tree c.args.e.now) c.in-Conditional.field-0 _ _ c.in-Conditional.elsifs.items _ tree c.args.self.now depth
+    c.elsifs.new.self c.in_err-of_width-in-Conditional-2.field-0.0 (omega (arith, first, jump, second, closed, others))
+    (subst (λ e. RefusesExpression v c.elsifs.new.self depth (expr_tree e) c.in_err-of_width-in-Conditional-2.field-0.0)
+    c.deref-in-Conditional-4.ensures c.in_err-of_width-in-Conditional-2.ensures.refused) in
+    search (rules, whole)
+
+pub expression-returns-in_err-rejoin-in-Conditional-clause-refused : goal.expression-returns-in_err-rejoin-in-Conditional-clause-refused
+expression-returns-in_err-rejoin-in-Conditional-clause-refused t c =
+    let v = c.args.visible.now in
+    let depth = c.args.depth in
+    let width = c.in_ok-width-in-Conditional.width in
+    let tree = ap expr_tree c.in-Conditional.is ∙ c.conditional_by_parts.ensures c.in-Conditional.field-0 c.in-Conditional.condition c.in-Conditional.value
+    c.in-Conditional.elsifs c.in-Conditional.last in
+    let first = (subst (λ e. EmitsExpression v c.args.self.now depth 1 (expr_tree e) c.of_width-in-Conditional.new.self) c.deref-in-Conditional.ensures
+    c.in_ok-of_width-in-Conditional.ensures.emits).sized in
+    let jump = added_here _ _ _ _ c.in_ok-test-in-Conditional.ensures.adds in
+    let second = (subst (λ e. EmitsExpression v c.test.new.self depth width (expr_tree e) c.expression-in-Conditional.new.self)
+    c.deref-in-Conditional-2.ensures c.in_ok-width-in-Conditional.ensures.emits).sized in
+    let closed = closed_here _ _ _ _ _ _ c.in_ok-close-in-Conditional.ensures.closes in
+    let others = (subst (λ all. AddsBranches v c.close.new.self depth width (map branch_of all) c.close.new.waiting.items c.elsifs.new.waiting.items
+    c.elsifs.new.self) c.deref-in-Conditional-3.ensures.value c.in_ok-elsifs-in-Conditional.ensures.adds).emits.sized in
+    let last = (subst (λ e. EmitsExpression v c.elsifs.new.self depth width (expr_tree e) c.of_width-in-Conditional-2.new.self)
+    c.deref-in-Conditional-4.ensures c.in_ok-of_width-in-Conditional-2.ensures.emits).sized in
+    let whole = between_refused v (expr_tree c.args.e.now) c.in-Conditional.field-0 _ _ c.in-Conditional.elsifs.items _ tree c.args.self.now depth
+    (width_of v.scope (expr_tree c.args.e.now)) _ _ c.in_err-rejoin-in-Conditional.field-0.0 refl
+    (omega (arith, first, jump, second, closed, others, last)) (omega arith) c.in_err-rejoin-in-Conditional.ensures.refused in
+    search (rules, whole)
+
+pub elsifs-returns-in_err-of_width-clause-refused : goal.elsifs-returns-in_err-of_width-clause-refused
+elsifs-returns-in_err-of_width-clause-refused t c =
+    let whole = condition_refused c.args.visible.now c.args.self.now c.loop-elsif.self c.args.depth c.args.width c.args.elsifs.now _ c.elsif-item.result
+    c.in_err-of_width.field-0.0 c.loop-elsif-test.true c.elsif-item.is c.loop-elsif.invariant.emits.sized c.in_err-of_width.ensures.refused in
+    search (rules, whole)
+
+pub elsifs-returns-in_err-test-clause-refused : goal.elsifs-returns-in_err-test-clause-refused
+elsifs-returns-in_err-test-clause-refused t c =
+    let first = c.in_ok-of_width.ensures.emits.sized in
+    let whole = jump_refused c.args.visible.now c.args.self.now c.loop-elsif.self c.args.depth c.args.width c.args.elsifs.now _ c.elsif-item.result
+    c.in_err-test.field-0.0 c.loop-elsif-test.true c.elsif-item.is c.loop-elsif.invariant.emits.sized _ _ (omega (arith, first)) (omega arith)
+    c.in_err-test.ensures.refused in
+    search (rules, whole)
+
+pub elsifs-returns-in_err-of_width-2-clause-refused : goal.elsifs-returns-in_err-of_width-2-clause-refused
+elsifs-returns-in_err-of_width-2-clause-refused t c =
+    let first = c.in_ok-of_width.ensures.emits.sized in
+    let jump = added_here _ _ _ _ c.in_ok-test.ensures.adds in
+    let whole = value_refused c.args.visible.now c.args.self.now c.loop-elsif.self c.args.depth c.args.width c.args.elsifs.now _ c.elsif-item.result
+    c.in_err-of_width-2.field-0.0 c.loop-elsif-test.true c.elsif-item.is c.loop-elsif.invariant.emits.sized c.test.new.self (omega (arith, first, jump))
+    c.in_err-of_width-2.ensures.refused in
+    search (rules, whole)
+
+pub elsifs-returns-in_err-close-clause-refused : goal.elsifs-returns-in_err-close-clause-refused
+elsifs-returns-in_err-close-clause-refused t c =
+    let first = c.in_ok-of_width.ensures.emits.sized in
+    let jump = added_here _ _ _ _ c.in_ok-test.ensures.adds in
+    let second = c.in_ok-of_width-2.ensures.emits.sized in
+    let high = c.in_ok-raised.ensures.more in
+    let whole = jump_refused c.args.visible.now c.args.self.now c.loop-elsif.self c.args.depth c.args.width c.args.elsifs.now _ c.elsif-item.result
+    c.in_err-close.field-0.0 c.loop-elsif-test.true c.elsif-item.is c.loop-elsif.invariant.emits.sized _ _ (omega (arith, first, jump, second))
+    (omega (arith, high)) c.in_err-close.ensures.refused in
+    search (rules, whole)
 
 -- ---- others
 
-pub expression-returns-in_ok-emit-in-Number : goal.expression-returns-in_ok-emit-in-Number
-expression-returns-in_ok-emit-in-Number t c = record { width = rw c.in-Number.is refl; emits = rw c.in-Number.is (number_emits c.quiet_stays.ensures c.args.visible.now _ _ _ _ _ c.in-Number.value (search rules) c.in_ok-emit-in-Number.ensures.adds) }
+pub expression-returns-in_ok-emit-in-Number-clause-width : goal.expression-returns-in_ok-emit-in-Number-clause-width
+expression-returns-in_ok-emit-in-Number-clause-width t c =
+    rw c.in-Number.is refl
 
-pub expression-returns-in-Parenthesized : goal.expression-returns-in-Parenthesized
-expression-returns-in-Parenthesized t c = record {
-  width = rw c.in-Parenthesized.is (rw c.deref.ensures at c.expression.ensures.width);
-  emits = rw c.in-Parenthesized.is (IfOk-weaker _ _ _ (λ w p. parenthesized_emits c.quiet_stays.ensures c.args.visible.now _ _ _ w _ _ p) (rw c.deref.ensures at c.expression.ensures.emits));
-}
+pub expression-returns-in_ok-emit-in-Number-clause-emits : goal.expression-returns-in_ok-emit-in-Number-clause-emits
+expression-returns-in_ok-emit-in-Number-clause-emits t c =
+    rw c.in-Number.is (number_emits c.quiet_stays.ensures c.args.visible.now _ _ _ _ _ c.in-Number.value (search rules) c.in_ok-emit-in-Number.ensures.adds)
 
-pub expression-returns-in_ok-emit-in-Some : goal.expression-returns-in_ok-emit-in-Some
-expression-returns-in_ok-emit-in-Some t c = record {
-  width = rw c.in-Unary.is (sym (unary_width c.args.visible.now.scope c.requires.sound _ _ _ (rw c.in-Unary.is at c.requires.legal)).right);
-  emits = rw c.in-Unary.is (unary_at c.quiet_stays.ensures c.args.visible.now _ _ _ c.args.depth _ _ c.in-Unary.operator _ _ c.in_ok-above-in-Some.ensures.more (sym c.unary_operation.ensures ∙ c.in-Some.is)
-      (rw c.deref-in-Unary.ensures at c.in_ok-of_width-in-Unary.ensures.emits) c.in_ok-emit-in-Some.ensures.adds);
-}
+pub expression-returns-in-Parenthesized-clause-width : goal.expression-returns-in-Parenthesized-clause-width
+expression-returns-in-Parenthesized-clause-width t c =
+    rw c.in-Parenthesized.is (rw c.deref.ensures at c.expression.ensures.width)
 
-pub expression-returns-in-None : goal.expression-returns-in-None
-expression-returns-in-None t c = record {
-  width = rw c.in-Unary.is (sym (unary_width c.args.visible.now.scope c.requires.sound _ _ _ (rw c.in-Unary.is at c.requires.legal)).right);
-  emits = rw c.in-Unary.is (sign_emits c.quiet_stays.ensures c.args.visible.now _ _ c.args.depth _ c.in-Unary.operator _ (sym c.unary_operation.ensures ∙ c.in-None.is)
-      (rw c.deref-in-Unary.ensures at c.in_ok-of_width-in-Unary.ensures.emits));
-}
+pub expression-returns-in-Parenthesized-clause-emits : goal.expression-returns-in-Parenthesized-clause-emits
+expression-returns-in-Parenthesized-clause-emits t c =
+    rw c.in-Parenthesized.is (IfOk-weaker _ _ _ (λ w p. parenthesized_emits c.quiet_stays.ensures c.args.visible.now _ _ _ w _ _ p)
+    (rw c.deref.ensures at c.expression.ensures.emits))
+
+pub expression-returns-in_ok-emit-in-Some-clause-width : goal.expression-returns-in_ok-emit-in-Some-clause-width
+expression-returns-in_ok-emit-in-Some-clause-width t c =
+    rw c.in-Unary.is (sym (unary_width c.args.visible.now.scope c.requires.sound _ _ _ (rw c.in-Unary.is at c.requires.legal)).right)
+
+pub expression-returns-in_ok-emit-in-Some-clause-emits : goal.expression-returns-in_ok-emit-in-Some-clause-emits
+expression-returns-in_ok-emit-in-Some-clause-emits t c =
+    rw c.in-Unary.is (unary_at c.quiet_stays.ensures c.args.visible.now _ _ _ c.args.depth _ _ c.in-Unary.operator _ _ c.in_ok-above-in-Some.ensures.more
+    (sym c.unary_operation.ensures ∙ c.in-Some.is)
+    (rw c.deref-in-Unary.ensures at c.in_ok-of_width-in-Unary.ensures.emits) c.in_ok-emit-in-Some.ensures.adds)
+
+pub expression-returns-in-None-clause-width : goal.expression-returns-in-None-clause-width
+expression-returns-in-None-clause-width t c =
+    rw c.in-Unary.is (sym (unary_width c.args.visible.now.scope c.requires.sound _ _ _ (rw c.in-Unary.is at c.requires.legal)).right)
+
+pub expression-returns-in-None-clause-emits : goal.expression-returns-in-None-clause-emits
+expression-returns-in-None-clause-emits t c =
+    rw c.in-Unary.is (sign_emits c.quiet_stays.ensures c.args.visible.now _ _ c.args.depth _ c.in-Unary.operator _
+    (sym c.unary_operation.ensures ∙ c.in-None.is)
+    (rw c.deref-in-Unary.ensures at c.in_ok-of_width-in-Unary.ensures.emits))
 
 -- the words that were told are those that were wanted
-pub of_width-returns : goal.of_width-returns
-of_width-returns t c = record {
-  emits = subst (λ n. EmitsExpression c.args.visible.now c.args.self.now c.args.depth n (expr_tree c.args.e.now) c.expression.new.self) (c.in_ok-expression.ensures.width ∙ c.requires.wide) c.in_ok-expression.ensures.emits;
-}
+pub of_width-returns-clause-emits : goal.of_width-returns-clause-emits
+of_width-returns-clause-emits t c =
+    subst (λ n. EmitsExpression c.args.visible.now c.args.self.now c.args.depth n (expr_tree c.args.e.now) c.expression.new.self)
+    (c.in_ok-expression.ensures.width ∙ c.requires.wide) c.in_ok-expression.ensures.emits
 
 pub expression-of_width-requires : goal.expression-of_width-requires
 expression-of_width-requires t c =
@@ -162,22 +385,34 @@ expression-of_width-requires t c =
 pub expression-of_width-requires-in-Conditional : goal.expression-of_width-requires-in-Conditional
 expression-of_width-requires-in-Conditional t c =
     let s = c.args.visible.now.scope in
-    let tree = ap expr_tree c.in-Conditional.is ∙ c.conditional_by_parts.ensures c.in-Conditional.field-0 c.in-Conditional.condition c.in-Conditional.value c.in-Conditional.elsifs c.in-Conditional.last in
+    let tree = ap expr_tree c.in-Conditional.is ∙ c.conditional_by_parts.ensures c.in-Conditional.field-0 c.in-Conditional.condition c.in-Conditional.value
+    c.in-Conditional.elsifs c.in-Conditional.last in
     let parts = conditional_legal s _ c.in-Conditional.field-0 _ _ c.in-Conditional.elsifs.items _ tree c.requires.legal in
-    let words = conditional_words s c.requires.sound _ c.in-Conditional.field-0 _ _ c.in-Conditional.elsifs.items _ tree c.requires.legal in
-    (search (rules, expressions.the_lemmas), (c.requires.sound, (subst (λ e. IsLegal s (expr_tree e)) (sym c.deref-in-Conditional.ensures) parts.condition, subst (λ e. width_of s (expr_tree e) ≡ 1) (sym c.deref-in-Conditional.ensures) words.condition)))
+    let words = conditional_words s c.requires.sound _ c.in-Conditional.field-0 _ _ c.in-Conditional.elsifs.items _ tree c.requires.legal in (
+      search (rules, expressions.the_lemmas),
+      (
+        c.requires.sound,
+        (
+          subst (λ e. IsLegal s (expr_tree e)) (sym c.deref-in-Conditional.ensures) parts.condition,
+          subst (λ e. width_of s (expr_tree e) ≡ 1)
+              (sym c.deref-in-Conditional.ensures) words.condition,
+        ),
+      ),
+    )
 
 pub expression-expression-requires-in-Conditional : goal.expression-expression-requires-in-Conditional
 expression-expression-requires-in-Conditional t c =
     let s = c.args.visible.now.scope in
-    let tree = ap expr_tree c.in-Conditional.is ∙ c.conditional_by_parts.ensures c.in-Conditional.field-0 c.in-Conditional.condition c.in-Conditional.value c.in-Conditional.elsifs c.in-Conditional.last in
+    let tree = ap expr_tree c.in-Conditional.is ∙ c.conditional_by_parts.ensures c.in-Conditional.field-0 c.in-Conditional.condition c.in-Conditional.value
+    c.in-Conditional.elsifs c.in-Conditional.last in
     let parts = conditional_legal s _ c.in-Conditional.field-0 _ _ c.in-Conditional.elsifs.items _ tree c.requires.legal in
     (search (rules, expressions.the_lemmas), (c.requires.sound, subst (λ e. IsLegal s (expr_tree e)) (sym c.deref-in-Conditional-2.ensures) parts.value))
 
 pub expression-elsifs-requires : goal.expression-elsifs-requires
 expression-elsifs-requires t c =
     let s = c.args.visible.now.scope in
-    let tree = ap expr_tree c.in-Conditional.is ∙ c.conditional_by_parts.ensures c.in-Conditional.field-0 c.in-Conditional.condition c.in-Conditional.value c.in-Conditional.elsifs c.in-Conditional.last in
+    let tree = ap expr_tree c.in-Conditional.is ∙ c.conditional_by_parts.ensures c.in-Conditional.field-0 c.in-Conditional.condition c.in-Conditional.value
+    c.in-Conditional.elsifs c.in-Conditional.last in
     let parts = conditional_legal s _ c.in-Conditional.field-0 _ _ c.in-Conditional.elsifs.items _ tree c.requires.legal in
     let words = conditional_words s c.requires.sound _ c.in-Conditional.field-0 _ _ c.in-Conditional.elsifs.items _ tree c.requires.legal in
     let told = c.in_ok-width-in-Conditional.ensures.width ∙ ap (λ e. width_of s (expr_tree e)) c.deref-in-Conditional-2.ensures in (
@@ -186,7 +421,8 @@ expression-elsifs-requires t c =
         c.requires.sound,
         (
           subst (λ all. AreLegalBranches s (map branch_of all)) (sym c.deref-in-Conditional-3.ensures.value) parts.elsifs,
-          subst (λ all. AreWide s c.in_ok-width-in-Conditional.width (map branch_of all)) (sym c.deref-in-Conditional-3.ensures.value) (subst (λ n. AreWide s n (map branch_of c.in-Conditional.elsifs.items)) (sym told) words.elsifs),
+          subst (λ all. AreWide s c.in_ok-width-in-Conditional.width (map branch_of all)) (sym c.deref-in-Conditional-3.ensures.value)
+              (subst (λ n. AreWide s n (map branch_of c.in-Conditional.elsifs.items)) (sym told) words.elsifs),
         ),
       ),
     )
@@ -194,7 +430,8 @@ expression-elsifs-requires t c =
 pub expression-of_width-requires-in-Conditional-2 : goal.expression-of_width-requires-in-Conditional-2
 expression-of_width-requires-in-Conditional-2 t c =
     let s = c.args.visible.now.scope in
-    let tree = ap expr_tree c.in-Conditional.is ∙ c.conditional_by_parts.ensures c.in-Conditional.field-0 c.in-Conditional.condition c.in-Conditional.value c.in-Conditional.elsifs c.in-Conditional.last in
+    let tree = ap expr_tree c.in-Conditional.is ∙ c.conditional_by_parts.ensures c.in-Conditional.field-0 c.in-Conditional.condition c.in-Conditional.value
+    c.in-Conditional.elsifs c.in-Conditional.last in
     let parts = conditional_legal s _ c.in-Conditional.field-0 _ _ c.in-Conditional.elsifs.items _ tree c.requires.legal in
     let words = conditional_words s c.requires.sound _ c.in-Conditional.field-0 _ _ c.in-Conditional.elsifs.items _ tree c.requires.legal in
     let told = c.in_ok-width-in-Conditional.ensures.width ∙ ap (λ e. width_of s (expr_tree e)) c.deref-in-Conditional-2.ensures in (
@@ -208,27 +445,52 @@ expression-of_width-requires-in-Conditional-2 t c =
       ),
     )
 
-pub expression-returns-in_ok-rejoin-in-Conditional : goal.expression-returns-in_ok-rejoin-in-Conditional
-expression-returns-in_ok-rejoin-in-Conditional t c =
+pub expression-returns-in_ok-rejoin-in-Conditional-clause-width : goal.expression-returns-in_ok-rejoin-in-Conditional-clause-width
+expression-returns-in_ok-rejoin-in-Conditional-clause-width t c =
     let v = c.args.visible.now in
     let depth = c.args.depth in
     let width = c.in_ok-width-in-Conditional.width in
-    let tree = ap expr_tree c.in-Conditional.is ∙ c.conditional_by_parts.ensures c.in-Conditional.field-0 c.in-Conditional.condition c.in-Conditional.value c.in-Conditional.elsifs c.in-Conditional.last in
+    let tree = ap expr_tree c.in-Conditional.is ∙ c.conditional_by_parts.ensures c.in-Conditional.field-0 c.in-Conditional.condition c.in-Conditional.value
+    c.in-Conditional.elsifs c.in-Conditional.last in
     let first = branch_closed v depth width _ _ _ _ _ _ _ _ _ _ _ c.in_ok-raised-in-Conditional.ensures.more c.in_ok-test-in-Conditional.ensures.place
-    (subst (λ e. EmitsExpression v c.args.self.now depth 1 (expr_tree e) c.of_width-in-Conditional.new.self) c.deref-in-Conditional.ensures c.in_ok-of_width-in-Conditional.ensures.emits)
+    (subst (λ e. EmitsExpression v c.args.self.now depth 1 (expr_tree e) c.of_width-in-Conditional.new.self) c.deref-in-Conditional.ensures
+    c.in_ok-of_width-in-Conditional.ensures.emits)
     c.in_ok-test-in-Conditional.ensures.adds
-    (subst (λ e. EmitsExpression v c.test.new.self depth width (expr_tree e) c.expression-in-Conditional.new.self) c.deref-in-Conditional-2.ensures c.in_ok-width-in-Conditional.ensures.emits)
+    (subst (λ e. EmitsExpression v c.test.new.self depth width (expr_tree e) c.expression-in-Conditional.new.self) c.deref-in-Conditional-2.ensures
+    c.in_ok-width-in-Conditional.ensures.emits)
     c.in_ok-close-in-Conditional.ensures.closes in
-    let others = subst (λ all. AddsBranches v c.close.new.self depth width (map branch_of all) c.close.new.waiting.items c.elsifs.new.waiting.items c.elsifs.new.self) c.deref-in-Conditional-3.ensures.value c.in_ok-elsifs-in-Conditional.ensures.adds in
-    let last = subst (λ e. EmitsExpression v c.elsifs.new.self depth width (expr_tree e) c.of_width-in-Conditional-2.new.self) c.deref-in-Conditional-4.ensures c.in_ok-of_width-in-Conditional-2.ensures.emits in
+    let others = subst (λ all. AddsBranches v c.close.new.self depth width (map branch_of all) c.close.new.waiting.items c.elsifs.new.waiting.items
+    c.elsifs.new.self) c.deref-in-Conditional-3.ensures.value c.in_ok-elsifs-in-Conditional.ensures.adds in
+    let last = subst (λ e. EmitsExpression v c.elsifs.new.self depth width (expr_tree e) c.of_width-in-Conditional-2.new.self)
+    c.deref-in-Conditional-4.ensures c.in_ok-of_width-in-Conditional-2.ensures.emits in
     let words = conditional_words v.scope c.requires.sound _ c.in-Conditional.field-0 _ _ c.in-Conditional.elsifs.items _ tree c.requires.legal in
     let told = c.in_ok-width-in-Conditional.ensures.width ∙ ap (λ e. width_of v.scope (expr_tree e)) c.deref-in-Conditional-2.ensures in
-    record {
-      width = told ∙ words.whole;
-      emits = subst (λ e. EmitsExpression v c.args.self.now depth width e c.rejoin.new.self) (sym tree)
-          (whole_at v depth width _ _ _ _ _ _ _ _ _ _ _ _ _ c.deref-in-Conditional-5.result.now c.new-waiting.ensures.items c.deref-in-Conditional-5.ensures.value first others last c.quiet_stays.ensures refl
-          c.in_ok-rejoin-in-Conditional.ensures.rejoins c.in-Conditional.field-0);
-    }
+    told ∙ words.whole
+
+pub expression-returns-in_ok-rejoin-in-Conditional-clause-emits : goal.expression-returns-in_ok-rejoin-in-Conditional-clause-emits
+expression-returns-in_ok-rejoin-in-Conditional-clause-emits t c =
+    let v = c.args.visible.now in
+    let depth = c.args.depth in
+    let width = c.in_ok-width-in-Conditional.width in
+    let tree = ap expr_tree c.in-Conditional.is ∙ c.conditional_by_parts.ensures c.in-Conditional.field-0 c.in-Conditional.condition c.in-Conditional.value
+    c.in-Conditional.elsifs c.in-Conditional.last in
+    let first = branch_closed v depth width _ _ _ _ _ _ _ _ _ _ _ c.in_ok-raised-in-Conditional.ensures.more c.in_ok-test-in-Conditional.ensures.place
+    (subst (λ e. EmitsExpression v c.args.self.now depth 1 (expr_tree e) c.of_width-in-Conditional.new.self) c.deref-in-Conditional.ensures
+    c.in_ok-of_width-in-Conditional.ensures.emits)
+    c.in_ok-test-in-Conditional.ensures.adds
+    (subst (λ e. EmitsExpression v c.test.new.self depth width (expr_tree e) c.expression-in-Conditional.new.self) c.deref-in-Conditional-2.ensures
+    c.in_ok-width-in-Conditional.ensures.emits)
+    c.in_ok-close-in-Conditional.ensures.closes in
+    let others = subst (λ all. AddsBranches v c.close.new.self depth width (map branch_of all) c.close.new.waiting.items c.elsifs.new.waiting.items
+    c.elsifs.new.self) c.deref-in-Conditional-3.ensures.value c.in_ok-elsifs-in-Conditional.ensures.adds in
+    let last = subst (λ e. EmitsExpression v c.elsifs.new.self depth width (expr_tree e) c.of_width-in-Conditional-2.new.self)
+    c.deref-in-Conditional-4.ensures c.in_ok-of_width-in-Conditional-2.ensures.emits in
+    let words = conditional_words v.scope c.requires.sound _ c.in-Conditional.field-0 _ _ c.in-Conditional.elsifs.items _ tree c.requires.legal in
+    let told = c.in_ok-width-in-Conditional.ensures.width ∙ ap (λ e. width_of v.scope (expr_tree e)) c.deref-in-Conditional-2.ensures in
+    subst (λ e. EmitsExpression v c.args.self.now depth width e c.rejoin.new.self) (sym tree)
+    (whole_at v depth width _ _ _ _ _ _ _ _ _ _ _ _ _ c.deref-in-Conditional-5.result.now c.new-waiting.ensures.items
+    c.deref-in-Conditional-5.ensures.value first others last c.quiet_stays.ensures refl
+    c.in_ok-rejoin-in-Conditional.ensures.rejoins c.in-Conditional.field-0)
 
 pub elsifs-of_width-requires : goal.elsifs-of_width-requires
 elsifs-of_width-requires t c = (
@@ -256,15 +518,18 @@ elsifs-of_width-requires-in-loop-elsif t c = (
 
 pub elsifs-loop-elsif-preserved : goal.elsifs-loop-elsif-preserved
 elsifs-loop-elsif-preserved t c =
-    branches_next c.args.visible.now _ _ _ c.args.depth c.args.width c.args.elsifs.now _ c.elsif-item.result _ _ _ c.loop-elsif-test.true c.elsif-item.is c.loop-elsif.invariant
-    (branch_closed c.args.visible.now c.args.depth c.args.width _ _ _ _ _ _ _ _ _ _ _ c.in_ok-raised.ensures.more c.in_ok-test.ensures.place c.in_ok-of_width.ensures.emits c.in_ok-test.ensures.adds
+    branches_next c.args.visible.now _ _ _ c.args.depth c.args.width c.args.elsifs.now _ c.elsif-item.result _ _ _ c.loop-elsif-test.true c.elsif-item.is
+    c.loop-elsif.invariant
+    (branch_closed c.args.visible.now c.args.depth c.args.width _ _ _ _ _ _ _ _ _ _ _ c.in_ok-raised.ensures.more c.in_ok-test.ensures.place
+    c.in_ok-of_width.ensures.emits c.in_ok-test.ensures.adds
     c.in_ok-of_width-2.ensures.emits c.in_ok-close.ensures.closes)
 
 pub elsifs-loop-elsif-init : goal.elsifs-loop-elsif-init
 elsifs-loop-elsif-init t c = adds_none c.args.visible.now c.args.self.now c.args.depth c.args.width c.args.waiting.now.items
 
-pub elsifs-returns : goal.elsifs-returns
-elsifs-returns t c = record { adds = all_branches c.args.visible.now _ _ c.args.depth c.args.width c.args.elsifs.now _ _ _ c.loop-elsif-test.false c.loop-elsif.invariant }
+pub elsifs-returns-clause-adds : goal.elsifs-returns-clause-adds
+elsifs-returns-clause-adds t c =
+    all_branches c.args.visible.now _ _ c.args.depth c.args.width c.args.elsifs.now _ _ _ c.loop-elsif-test.false c.loop-elsif.invariant
 
 -- ---- checks and conversions
 
@@ -284,14 +549,17 @@ checked-of_width-requires-in-Some-Boolean t c =
 
 pub checked-returns-in_ok-above-in-Some-Integer : goal.checked-returns-in_ok-above-in-Some-Integer
 checked-returns-in_ok-above-in-Some-Integer t c = record {
-  emits = on_ok_weaker _ (λ p. checked_emits c.quiet_stays.ensures c.expressions_are_typed.ensures c.values_have_words.ensures c.args.visible.now _ _ c.args.depth c.args.subtype _ c.requires.fit c.in_ok-of_width-in-Some-Integer.ensures.emits
-      _ _ _ _ _ _ _ _ c.in_ok-one-in-Some-Integer.ensures.more c.in_ok-two-in-Some-Integer.ensures.more c.in_ok-above-in-Some-Integer.ensures.more (search rules) (search rules)
+  emits = on_ok_weaker _ (λ p. checked_emits c.quiet_stays.ensures c.expressions_are_typed.ensures c.values_have_words.ensures c.args.visible.now _ _
+      c.args.depth c.args.subtype _ c.requires.fit c.in_ok-of_width-in-Some-Integer.ensures.emits
+      _ _ _ _ _ _ _ _ c.in_ok-one-in-Some-Integer.ensures.more c.in_ok-two-in-Some-Integer.ensures.more c.in_ok-above-in-Some-Integer.ensures.more
+      (search rules) (search rules)
       c.in_ok-emit-in-Some-Integer.ensures.adds c.in_ok-emit-in-Some-Integer-2.ensures.adds p (search rules)) c.emit-in-Some-Integer-2.ensures.adds;
 }
 
 pub checked-returns-in-Some-Boolean : goal.checked-returns-in-Some-Boolean
 checked-returns-in-Some-Boolean t c = record {
-  emits = on_ok_weaker _ (λ p. unchecked_emits c.quiet_stays.ensures c.expressions_are_typed.ensures c.values_have_words.ensures c.args.visible.now _ _ c.args.depth c.args.subtype _ c.requires.fit p (search rules)) c.of_width-in-Some-Boolean.ensures.emits;
+  emits = on_ok_weaker _ (λ p. unchecked_emits c.quiet_stays.ensures c.expressions_are_typed.ensures c.values_have_words.ensures c.args.visible.now _ _
+      c.args.depth c.args.subtype _ c.requires.fit p (search rules)) c.of_width-in-Some-Boolean.ensures.emits;
 }
 
 pub conversion-returns-in-Expr : goal.conversion-returns-in-Expr
@@ -300,28 +568,37 @@ conversion-returns-in-Expr t c =
     let s = c.args.visible.now.scope in
     let words : width_of s (Named c.args.first.now (MoreSelectors (Arguments (argument_trees c.args.arguments.now)) NoSelectors)) ≡ 1 =
     ap (λ all. width_of s (Named c.args.first.now (MoreSelectors (Arguments all) NoSelectors))) one
-    ∙ conversion_width s c.args.first.now (expr_tree c.in-Expr.e) c.args.subtype c.requires.stands (subst (λ all. IsLegal s (Named c.args.first.now (MoreSelectors (Arguments all) NoSelectors))) one c.requires.legal) in
+    ∙ conversion_width s c.args.first.now (expr_tree c.in-Expr.e) c.args.subtype c.requires.stands
+    (subst (λ all. IsLegal s (Named c.args.first.now (MoreSelectors (Arguments all) NoSelectors))) one c.requires.legal) in
     record {
       width = on_ok_weaker _ (λ p. words) c.checked.ensures.emits;
-      emits = on_ok_weaker _ (λ p. subst (λ all. EmitsExpression c.args.visible.now c.args.self.now c.args.depth 1 (Named c.args.first.now (MoreSelectors (Arguments all) NoSelectors)) c.checked.new.self) (sym one)
+      emits = on_ok_weaker _ (λ p. subst
+          (λ all. EmitsExpression c.args.visible.now c.args.self.now c.args.depth 1 (Named c.args.first.now (MoreSelectors (Arguments all) NoSelectors))
+          c.checked.new.self) (sym one)
           (conversion_emits c.quiet_stays.ensures c.args.visible.now _ _ c.args.depth c.args.first.now (expr_tree c.in-Expr.e) c.args.subtype c.requires.stands
-          (subst (λ all. IsLegal c.args.visible.now.scope (Named c.args.first.now (MoreSelectors (Arguments all) NoSelectors))) one c.requires.legal) p)) c.checked.ensures.emits;
+          (subst (λ all. IsLegal c.args.visible.now.scope (Named c.args.first.now (MoreSelectors (Arguments all) NoSelectors))) one c.requires.legal) p))
+          c.checked.ensures.emits;
     }
 
 -- ---- names
 
-pub name-returns-in_ok-emit-in-Some : goal.name-returns-in_ok-emit-in-Some
-name-returns-in_ok-emit-in-Some t c = record {
-  width = sym (fixed_width c.args.visible.now.scope c.requires.sound c.args.name.now.first _ c.in-Some.value c.requires.legal (sym (ap fixed_value c.standing.ensures) ∙ sym c.fixed_value.ensures ∙ c.in-Some.is));
-  emits = fixed_emits c.quiet_stays.ensures c.args.visible.now _ _ c.args.depth c.args.name.now.first _ _ c.in-Some.value (search rules) c.requires.legal
-      (sym (ap fixed_value c.standing.ensures) ∙ sym c.fixed_value.ensures ∙ c.in-Some.is) c.in_ok-emit-in-Some.ensures.adds;
-}
+pub name-returns-in_ok-emit-in-Some-clause-width : goal.name-returns-in_ok-emit-in-Some-clause-width
+name-returns-in_ok-emit-in-Some-clause-width t c =
+    sym (fixed_width c.args.visible.now.scope c.requires.sound c.args.name.now.first _ c.in-Some.value c.requires.legal
+    (sym (ap fixed_value c.standing.ensures) ∙ sym c.fixed_value.ensures ∙ c.in-Some.is))
+
+pub name-returns-in_ok-emit-in-Some-clause-emits : goal.name-returns-in_ok-emit-in-Some-clause-emits
+name-returns-in_ok-emit-in-Some-clause-emits t c =
+    fixed_emits c.quiet_stays.ensures c.args.visible.now _ _ c.args.depth c.args.name.now.first _ _ c.in-Some.value (search rules) c.requires.legal
+    (sym (ap fixed_value c.standing.ensures) ∙ sym c.fixed_value.ensures ∙ c.in-Some.is) c.in_ok-emit-in-Some.ensures.adds
 
 pub called-returns-in_ok-call-in-Arguments-clause-emits : goal.called-returns-in_ok-call-in-Arguments-clause-emits
 called-returns-in_ok-call-in-Arguments-clause-emits t c =
-    let tree = ap selector_tree c.in-Arguments.is ∙ c.arguments_by_parts.ensures c.in-Arguments.arguments ∙ ap (λ l. Arguments (argument_trees l)) (sym c.deref.ensures.value) in
+    let tree = ap selector_tree c.in-Arguments.is ∙ c.arguments_by_parts.ensures c.in-Arguments.arguments ∙ ap (λ l. Arguments (argument_trees l))
+    (sym c.deref.ensures.value) in
     let same = one_selector c.args.selectors.now c.selector-item.result _ c.in-len1.len_at_least c.in-len1.len_below c.selector-item.is tree in
-    subst (λ x. EmitsExpression c.args.visible.now c.args.self.now c.args.depth 1 (Named c.args.first.now x) c.call.new.self) (sym same) c.in_ok-call-in-Arguments.ensures.emits
+    subst (λ x. EmitsExpression c.args.visible.now c.args.self.now c.args.depth 1 (Named c.args.first.now x) c.call.new.self) (sym same)
+    c.in_ok-call-in-Arguments.ensures.emits
 
 -- ---- parts of objects
 
@@ -331,7 +608,8 @@ element-returns-clause-emits t c =
     let one = one_argument c.args.arguments.now c.in-Expr.e c.argument-item.result c.in-len1.len_at_least c.in-len1.len_below c.argument-item.is c.in-Expr.is in
     let few : c.in-Some-Array.many ≤ 65536 = search rules in
     subst (λ all. EmitsPath v c.args.self.now c.args.depth c.args.subtype (Arguments all ∷ []) c.in-Some-Array.last c.offset.new.self) (sym one)
-    (element_goes c.quiet_stays.ensures c.expressions_are_typed.ensures v c.args.self.now c.checked.new.self c.offset.new.self c.args.depth _ _ c.args.subtype c.in-Some-Array.index c.in-Some-Array.last c.in-Some-Array.many (expr_tree c.in-Expr.e) c.words-words.result
+    (element_goes c.quiet_stays.ensures c.expressions_are_typed.ensures v c.args.self.now c.checked.new.self c.offset.new.self c.args.depth _ _
+    c.args.subtype c.in-Some-Array.index c.in-Some-Array.last c.in-Some-Array.many (expr_tree c.in-Expr.e) c.words-words.result
     c.in_ok-address.ensures.more c.in_ok-above.ensures.more (search rules) _ (search rules)
     (subst (λ all. IsLegalPart v.scope c.args.subtype (Arguments all)) one c.requires.legal)
     few (uncapped_words _ _ c.words-words.ensures (search rules)) c.in_ok-checked.ensures.emits c.in_ok-offset.ensures.adds)
@@ -339,12 +617,16 @@ element-returns-clause-emits t c =
 pub part-returns : goal.part-returns
 part-returns t c = record {
   width =
-      sym (part_width c.args.visible.now.scope c.args.first.now (selector_trees c.args.selectors.now) c.requires.stands.0 c.args.subtype c.in_ok-last.last c.requires.stands.1
+      sym (part_width c.args.visible.now.scope c.args.first.now (selector_trees c.args.selectors.now) c.requires.stands.0 c.args.subtype c.in_ok-last.last
+      c.requires.stands.1
       (whole_selects c.args.visible.now.scope c.requires.stands.0 c.args.subtype c.in_ok-last.last c.args.selectors.now c.in_ok-last.ensures.stands)
       ∙ block_words _ _ c.words-words.ensures c.in_ok-load_block.ensures.block);
-  emits = part_emits c.quiet_stays.ensures c.values_have_words.ensures c.parts_have_places.ensures c.args.visible.now _ _ _ _ c.args.depth _ c.words-words.result c.args.first.now c.args.selectors.now
-      c.requires.stands.0 c.args.subtype c.in_ok-last.last c.args.slot _ c.in_ok-address.ensures.more (search rules) c.requires.legal c.requires.stands.1 c.requires.valueless c.requires.there c.requires.parts
-      (block_words _ _ c.words-words.ensures c.in_ok-load_block.ensures.block) c.in_ok-load_block.ensures.block c.in_ok-emit.ensures.adds c.in_ok-last.ensures.emits c.in_ok-load_block.ensures.adds;
+  emits = part_emits c.quiet_stays.ensures c.values_have_words.ensures c.parts_have_places.ensures c.args.visible.now _ _ _ _ c.args.depth _
+      c.words-words.result c.args.first.now c.args.selectors.now
+      c.requires.stands.0 c.args.subtype c.in_ok-last.last c.args.slot _ c.in_ok-address.ensures.more (search rules) c.requires.legal c.requires.stands.1
+      c.requires.valueless c.requires.there c.requires.parts
+      (block_words _ _ c.words-words.ensures c.in_ok-load_block.ensures.block) c.in_ok-load_block.ensures.block c.in_ok-emit.ensures.adds
+      c.in_ok-last.ensures.emits c.in_ok-load_block.ensures.adds;
 }
 
 pub path-select-requires : goal.path-select-requires
@@ -352,29 +634,39 @@ path-select-requires t c =
     let s = c.args.visible.now.scope in
     let rest = drop_at c.args.selectors.now c.loop-selector.selector-index c.selector-item.result c.loop-selector-test.true c.selector-item.is in (
       search (rules, expressions.the_lemmas),
-      (c.requires.sound, first_part s c.loop-selector.last _ _ (subst (λ l. IsLegalPath s c.loop-selector.last (selector_trees l)) rest c.loop-selector.invariant.1)),
+      (
+        c.requires.sound,
+        first_part s c.loop-selector.last _ _ (subst (λ l. IsLegalPath s c.loop-selector.last (selector_trees l)) rest
+            c.loop-selector.invariant.1),
+      ),
     )
 
 pub path-loop-selector-preserved : goal.path-loop-selector-preserved
 path-loop-selector-preserved t c =
     let s = c.args.visible.now.scope in
     let rest = drop_at c.args.selectors.now c.loop-selector.selector-index c.selector-item.result c.loop-selector-test.true c.selector-item.is in (
-      goes_next c.args.visible.now _ _ _ c.args.depth c.args.subtype _ _ c.args.selectors.now c.loop-selector.selector-index c.selector-item.result c.loop-selector-test.true c.selector-item.is
+      goes_next c.args.visible.now _ _ _ c.args.depth c.args.subtype _ _ c.args.selectors.now c.loop-selector.selector-index c.selector-item.result
+          c.loop-selector-test.true c.selector-item.is
           c.loop-selector.invariant.0 c.in_ok-last.ensures.emits,
-      further_path s c.loop-selector.last c.in_ok-last.last _ _ (subst (λ l. IsLegalPath s c.loop-selector.last (selector_trees l)) rest c.loop-selector.invariant.1) c.in_ok-last.ensures.stands,
-      selects_next s c.args.subtype c.loop-selector.last c.in_ok-last.last c.args.selectors.now c.loop-selector.selector-index c.selector-item.result c.loop-selector-test.true c.selector-item.is
+      further_path s c.loop-selector.last c.in_ok-last.last _ _ (subst (λ l. IsLegalPath s c.loop-selector.last (selector_trees l)) rest
+          c.loop-selector.invariant.1) c.in_ok-last.ensures.stands,
+      selects_next s c.args.subtype c.loop-selector.last c.in_ok-last.last c.args.selectors.now c.loop-selector.selector-index c.selector-item.result
+          c.loop-selector-test.true c.selector-item.is
           c.loop-selector.invariant.2 c.in_ok-last.ensures.stands,
     )
 
 pub select-element-requires : goal.select-element-requires
 select-element-requires t c =
-    let tree = ap selector_tree c.in-Arguments.is ∙ c.arguments_by_parts.ensures c.in-Arguments.arguments ∙ ap (λ l. Arguments (argument_trees l)) (sym c.deref.ensures.value) in
+    let tree = ap selector_tree c.in-Arguments.is ∙ c.arguments_by_parts.ensures c.in-Arguments.arguments ∙ ap (λ l. Arguments (argument_trees l))
+    (sym c.deref.ensures.value) in
     (search (rules, expressions.the_lemmas), (c.requires.sound, subst (λ x. IsLegalPart c.args.visible.now.scope c.args.subtype x) tree c.requires.legal))
 
 pub select-returns-in-Arguments-clause-emits : goal.select-returns-in-Arguments-clause-emits
 select-returns-in-Arguments-clause-emits t c =
-    let tree = ap selector_tree c.in-Arguments.is ∙ c.arguments_by_parts.ensures c.in-Arguments.arguments ∙ ap (λ l. Arguments (argument_trees l)) (sym c.deref.ensures.value) in
-    subst (λ x. IfOk c.element.result (λ last. EmitsPath c.args.visible.now c.args.self.now c.args.depth c.args.subtype (x ∷ []) last c.element.new.self)) (sym tree) c.element.ensures.emits
+    let tree = ap selector_tree c.in-Arguments.is ∙ c.arguments_by_parts.ensures c.in-Arguments.arguments ∙ ap (λ l. Arguments (argument_trees l))
+    (sym c.deref.ensures.value) in
+    subst (λ x. IfOk c.element.result (λ last. EmitsPath c.args.visible.now c.args.self.now c.args.depth c.args.subtype (x ∷ []) last c.element.new.self))
+    (sym tree) c.element.ensures.emits
 
 -- ---- calls
 
@@ -390,34 +682,43 @@ call-actuals-requires t c = (
 
 pub call-returns : goal.call-returns
 call-returns t c = record {
-  width = on_ok_weaker _ (λ p. call_width c.args.visible.now.scope c.args.first.now _ p.result c.requires.names p.is p.single (argument_trees c.args.arguments.now)) c.invoke.ensures.adds;
-  emits = on_ok_weaker _ (λ p. call_emits c.args.visible.now c.args.first.now _ c.requires.names c.quiet_stays.ensures c.args.arguments.now c.requires.legal _ _ _ c.args.depth _
-      (subst (λ l. EmitsActuals c.args.visible.now c.args.self.now c.args.depth (map parameter_subtype (take (length c.args.arguments.now) l)) (map argument_tree c.args.arguments.now) c.in_ok-height.height c.actuals.new.self)
+  width = on_ok_weaker _ (λ p. call_width c.args.visible.now.scope c.args.first.now _ p.result c.requires.names p.is p.single
+      (argument_trees c.args.arguments.now)) c.invoke.ensures.adds;
+  emits = on_ok_weaker _ (λ p. call_emits c.args.visible.now c.args.first.now _ c.requires.names c.quiet_stays.ensures c.args.arguments.now c.requires.legal
+      _ _ _ c.args.depth _
+      (subst (λ l. EmitsActuals c.args.visible.now c.args.self.now c.args.depth (map parameter_subtype (take (length c.args.arguments.now) l))
+      (map argument_tree c.args.arguments.now) c.in_ok-height.height c.actuals.new.self)
       c.deref.ensures.value c.in_ok-height.ensures.emits) p) c.invoke.ensures.adds;
 }
 
 pub actuals-returns : goal.actuals-returns
 actuals-returns t c = record {
-  emits = all_actuals c.args.visible.now c.args.self.now c.loop-index.self c.args.depth c.loop-index.height c.args.formals.now c.args.arguments.now c.loop-index.index c.loop-index.auto.index-end c.loop-index-test.false
+  emits = all_actuals c.args.visible.now c.args.self.now c.loop-index.self c.args.depth c.loop-index.height c.args.formals.now c.args.arguments.now
+      c.loop-index.index c.loop-index.auto.index-end c.loop-index-test.false
       c.loop-index.invariant;
 }
 
 pub actuals-actual-requires : goal.actuals-actual-requires
 actuals-actual-requires t c =
-    let formal = got c.args.formals.now c.loop-index.index c.in-Some.formal.now (ltb-true c.loop-index.index (length c.args.formals.now) (sym c.in-Some.ensures.lookup.0)) c.in-Some.ensures.lookup.1 in (
+    let formal = got c.args.formals.now c.loop-index.index c.in-Some.formal.now
+    (ltb-true c.loop-index.index (length c.args.formals.now) (sym c.in-Some.ensures.lookup.0)) c.in-Some.ensures.lookup.1 in (
       search (rules, expressions.the_lemmas),
       (
         c.requires.sound,
         c.requires.legal c.loop-index.index c.in-Some.formal.now _ formal
-            (mapped argument_tree c.args.arguments.now c.loop-index.index _ (got c.args.arguments.now c.loop-index.index _ c.loop-index-test.true c.index-arguments-index.is)),
+            (mapped argument_tree c.args.arguments.now c.loop-index.index _
+            (got c.args.arguments.now c.loop-index.index _ c.loop-index-test.true c.index-arguments-index.is)),
       ),
     )
 
 pub actuals-loop-index-preserved : goal.actuals-loop-index-preserved
 actuals-loop-index-preserved t c =
-    let formal = got c.args.formals.now c.loop-index.index c.in-Some.formal.now (ltb-true c.loop-index.index (length c.args.formals.now) (sym c.in-Some.ensures.lookup.0)) c.in-Some.ensures.lookup.1 in
-    actuals_next c.quiet_stays.ensures c.values_have_words.ensures c.args.visible.now c.args.self.now _ _ c.args.depth _ _ c.args.formals.now c.args.arguments.now c.loop-index.index c.in-Some.formal.now _ formal
-    (got c.args.arguments.now c.loop-index.index _ c.loop-index-test.true c.index-arguments-index.is) c.in_ok-height.ensures.more c.loop-index.invariant c.in_ok-actual.ensures.emits
+    let formal = got c.args.formals.now c.loop-index.index c.in-Some.formal.now
+    (ltb-true c.loop-index.index (length c.args.formals.now) (sym c.in-Some.ensures.lookup.0)) c.in-Some.ensures.lookup.1 in
+    actuals_next c.quiet_stays.ensures c.values_have_words.ensures c.args.visible.now c.args.self.now _ _ c.args.depth _ _ c.args.formals.now
+    c.args.arguments.now c.loop-index.index c.in-Some.formal.now _ formal
+    (got c.args.arguments.now c.loop-index.index _ c.loop-index-test.true c.index-arguments-index.is) c.in_ok-height.ensures.more c.loop-index.invariant
+    c.in_ok-actual.ensures.emits
 
 -- ---- parts
 

@@ -1,9 +1,11 @@
-use Rattle.std.proofs.Common.{drop, map, take}
+use Rattle.std.proofs.Common.{drop, map, take, ◌≤◌, ◌+◌, ◌*◌}
 use Rattle.ada_tree.specs.ExpressionTree.{argument_tree, selector_tree, selector_trees}
 use Rattle.well_typed.specs.Agreeing.{parameter_subtype}
 use Rattle.expr_code.specs.Actuals.{EmitsActuals}
 use Rattle.expr_code.specs.Branches.{AddsBranches, branch_of}
+use Rattle.expr_code.specs.Code.{here}
 use Rattle.expr_code.specs.Emitting.{EmitsOperands}
+use Rattle.expr_code.specs.Refusing.{operands_size}
 use Rattle.expr_code.specs.Going.{EmitsPath, IsLegalPath, SelectsAll}
 use Rattle.expr_code.proofs.code.Code.+expression.Given as goal
 
@@ -15,7 +17,8 @@ invariant-actuals-loop-index l =
     EmitsActuals l.visible l.fn.self l.depth (map parameter_subtype (take l.index l.formals)) (map argument_tree (take l.index l.arguments)) l.height l.self
 
 abbrev pub invariant-operands-loop-operand : goal.invariant-operands-loop-operand
-invariant-operands-loop-operand l = EmitsOperands l.visible l.fn.self l.depth (take l.operand-index l.all) l.self
+invariant-operands-loop-operand l =
+    EmitsOperands l.visible l.fn.self l.depth (take l.operand-index l.all) l.self × (here l.self ≤ here l.fn.self + 20 * operands_size (take l.operand-index l.all))
 
 abbrev pub invariant-path-loop-selector : goal.invariant-path-loop-selector
 invariant-path-loop-selector l =

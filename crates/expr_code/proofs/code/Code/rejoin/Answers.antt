@@ -11,5 +11,6 @@ patch-requires c =
 pub loop-place-preserved : goal.loop-place-preserved
 loop-place-preserved c = rejoined_next _ _ _ c.args.places.now _ _ _ c.loop-place-test.true refl c.loop-place.invariant c.patch.ensures.patches
 
-pub returns : goal.returns
-returns c = record { rejoins = subst (λ n. Rejoins c.args.self.now c.args.places.now n c.loop-place.self) c.in_ok-end.ensures.end (all_rejoined _ _ c.args.places.now _ _ c.loop-place-test.false c.loop-place.invariant) }
+pub returns-clause-rejoins : goal.returns-clause-rejoins
+returns-clause-rejoins c =
+    subst (λ n. Rejoins c.args.self.now c.args.places.now n c.loop-place.self) c.in_ok-end.ensures.end (all_rejoined _ _ c.args.places.now _ _ c.loop-place-test.false c.loop-place.invariant)
