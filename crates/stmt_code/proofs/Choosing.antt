@@ -29,7 +29,7 @@ use Rattle.meaning.specs.Works.{Item, Does, Goes, Activation, Store, TaskWork}
 use Rattle.expr_code.specs.Views.{At, in_frame, placed, view_of}
 use Rattle.expr_code.specs.Coming.{most_steps, on}
 use Rattle.expr_code.specs.Seeing.{Package, Sees}
-use Rattle.expr_code.specs.declared.visible.Visible.{Visible}
+use Rattle.stmt_code.specs.Resting.{Framed}
 use Rattle.stmt_code.specs.Statements.{AreAlternatives, AreStatements, Numbers, Ways}
 use Rattle.stmt_code.specs.Standing.{CodeStands, Going, Here, Shares, There, items_size, work_size}
 use Rattle.stmt_code.proofs.Going.{before_ends, before_follows, before_unhandled, earlier, jumps_up, narrows_same}
@@ -89,7 +89,7 @@ module _ (this : Scene) where
   abbrev Setting : Type 0
   Setting = scene.Setting this
 
-  abbrev seeing : Visible → Setting → Setting
+  abbrev seeing : Framed → Setting → Setting
   seeing v a = scene.seeing this v a
 
   abbrev In : ℕ → ℕ → Type 0
@@ -117,7 +117,8 @@ module _ (this : Scene) where
     abbrev IsAtItems : List Item → Type 0
     IsAtItems items = scene.IsAtItems this s items
 
-    module _ (v : Visible) (ways : Ways) (e : ExprTree) (p : Place) (x : Value) (sees : Sees g v p (view_of i schedule k m f fs)) (ev : val p e ≡ Gives x) where
+    module _ (v : Framed) (ways : Ways) (e : ExprTree) (p : Place) (x : Value) (sees : Sees g v.names p (view_of i schedule k m f fs))
+        (ev : val p e ≡ Gives x) where
       -- where the statements of the alternative stand that is chosen
       record IsTaken (from to : ℕ) (body : StmtTrees) : Type 0 where
         start : ℕ
@@ -245,7 +246,8 @@ module _ (this : Scene) where
             let y = leads.to_inside in
             let up = jumps_up i program g numbers f.place r.0 leads.jumps in
             let rests = scene.narrowed this s h.around.visible r.2 w.own f.locals leads.narrows h.rests in
-            let taken = taken_from r.2 h.around.ways e (place_of now items) v (scene.sees_here this r.2 items f fs rests) ev all mid r.1 body code.4 found in
+            let taken = taken_from r.2 h.around.ways e (place_of now items) v (scene.sees_here this r.2 items f fs rests).sees ev all mid r.1 body code.4
+            found in
             let start = taken.start in
             let joint = taken.joint in
             let u1 = taken.up in

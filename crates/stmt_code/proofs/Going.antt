@@ -7,22 +7,21 @@ use Rattle.meaning.specs.Programs.{Program}
 use Rattle.meaning.specs.Works.{Item, Declares, Sequence, Does, DoesMain, Repeats, RepeatsWhile, Handles, EndsCall, Activation, ends_of_calls}
 use Rattle.meaning.specs.SourceSteps.{before, behind_loop, end_of_body}
 use Rattle.expr_code.specs.Seeing.{Package}
-use Rattle.expr_code.specs.declared.visible.Visible.{Visible}
-use Rattle.stmt_code.specs.Resting.{Narrows}
+use Rattle.stmt_code.specs.Resting.{Framed, Narrows}
 use Rattle.stmt_code.specs.Statements.{AreDeclared, AreStatements, Numbers}
 use Rattle.stmt_code.specs.Standing.{Around, Follows, Here, Inside, Jumps, Leads, LeadsBack, LeadsOut, Reaches, There, Unhandled, with_visible}
 
-pub narrows_same : (g : Package) (v : Visible) → Narrows g v v
+pub narrows_same : (g : Package) (v : Framed) → Narrows g v v
 narrows_same g v p view h = h
 
-pub narrows_both : (g : Package) (a b c : Visible) → Narrows g a b → Narrows g b c → Narrows g a c
+pub narrows_both : (g : Package) (a b c : Framed) → Narrows g a b → Narrows g b c → Narrows g a c
 narrows_both g a b c x y p view h = y p view (x p view h)
 
 module _ (i : Sections) (program : Program) (g : Package) (numbers : Numbers) where
   abbrev Setting : Type 0
   Setting = Around i program g numbers
 
-  abbrev seeing : Visible → Setting → Setting
+  abbrev seeing : Framed → Setting → Setting
   seeing v a = with_visible i program g numbers v a
 
   abbrev In : ℕ → ℕ → Type 0
@@ -44,7 +43,7 @@ module _ (i : Sections) (program : Program) (g : Package) (numbers : Numbers) wh
 
   -- from an earlier place, with more visible
 
-  earlier_leads : (a : Setting) (more : Visible) (n x y at to : ℕ) (now : Visible) → Jump x y → Narrows g more a.visible → In n x
+  earlier_leads : (a : Setting) (more : Framed) (n x y at to : ℕ) (now : Framed) → Jump x y → Narrows g more a.visible → In n x
       → Leads i program g numbers a n y at to now → Leads i program g numbers (seeing more a) n x at to now
   earlier_leads a more n x y at to now j nar ins h = record {
     jumps = jumps_both j h.jumps;
@@ -55,7 +54,7 @@ module _ (i : Sections) (program : Program) (g : Package) (numbers : Numbers) wh
     to_inside = h.to_inside;
   }
 
-  earlier_out : (a : Setting) (more : Visible) (n x y : ℕ) → Jump x y → In n x → LeadsOut i program g numbers a n y
+  earlier_out : (a : Setting) (more : Framed) (n x y : ℕ) → Jump x y → In n x → LeadsOut i program g numbers a n y
       → LeadsOut i program g numbers (seeing more a) n x
   earlier_out a more n x y j ins h = record {
     at = h.at;
@@ -68,7 +67,7 @@ module _ (i : Sections) (program : Program) (g : Package) (numbers : Numbers) wh
     to_inside = h.to_inside;
   }
 
-  earlier_back : (a : Setting) (more : Visible) (n x y head to : ℕ) (outer : Setting) → Jump x y → Narrows g more a.visible
+  earlier_back : (a : Setting) (more : Framed) (n x y head to : ℕ) (outer : Setting) → Jump x y → Narrows g more a.visible
       → In n x → LeadsBack i program g numbers a n y head to outer → LeadsBack i program g numbers (seeing more a) n x head to outer
   earlier_back a more n x y head to outer j nar ins h = record {
     back = h.back;
@@ -84,7 +83,7 @@ module _ (i : Sections) (program : Program) (g : Package) (numbers : Numbers) wh
     to_inside = h.to_inside;
   }
 
-  pub earlier : (items : List Item) (a : Setting) (more : Visible) (n x y : ℕ) (fs : List Frame) (os : List Activation)
+  pub earlier : (items : List Item) (a : Setting) (more : Framed) (n x y : ℕ) (fs : List Frame) (os : List Activation)
       → Jump x y → Narrows g more a.visible → In n x → Follow a n y items fs os → Follow (seeing more a) n x items fs os
   earlier [] a more n x y fs os j nar ins h = (earlier_out a more n x y j ins h.0, h.1, h.2)
   earlier (Declares d ∷ items) a more n x y fs os j nar ins h = (h.0, h.1, h.2, h.3, earlier_leads a more n x y h.0 h.1 h.2 j nar ins h.4, h.5, h.6, h.7)
@@ -125,7 +124,7 @@ module _ (i : Sections) (program : Program) (g : Package) (numbers : Numbers) wh
   earlier (i' ∷ items) a more n x y fs os j nar ins h = absurd h
 
   -- statements, and then the items
-  pub before_follows : (stmts : StmtTrees) (a : Setting) (now : Visible) (n from to : ℕ) (items : List Item) (fs : List Frame) (os : List Activation)
+  pub before_follows : (stmts : StmtTrees) (a : Setting) (now : Framed) (n from to : ℕ) (items : List Item) (fs : List Frame) (os : List Activation)
       → AreStatements i program g numbers now a.ways from to stmts → from ≤ to → In n from → In n to → Reaches i program g numbers a now
       → Follow (seeing now a) n to items fs os
       → Follow (seeing now a) n from (before stmts items) fs os
@@ -152,7 +151,7 @@ module _ (i : Sections) (program : Program) (g : Package) (numbers : Numbers) wh
   before_unhandled (MoreStmts s rest) items h = before_unhandled rest items h
 
   -- declarations, and then the items
-  pub declares_follow : (ds : List DeclarationTree) (a : Setting) (now later : Visible) (n from to : ℕ) (items : List Item) (fs : List Frame)
+  pub declares_follow : (ds : List DeclarationTree) (a : Setting) (now later : Framed) (n from to : ℕ) (items : List Item) (fs : List Frame)
       (os : List Activation)
       → AreDeclared i program g numbers now from to later ds → from ≤ to → In n from → In n to → Reaches i program g numbers a now
       → (Narrows g later now → Follow (seeing later a) n to items fs os)

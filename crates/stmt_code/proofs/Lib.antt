@@ -4,3 +4,12 @@ mod Scenes
 mod Turning
 mod Choosing
 mod Matching
+mod Words
+mod Names
+mod Placing
+mod Variables
+mod StoringCode
+mod Declaring
+mod Assigning
+mod Narrowing
+mod Laying

@@ -42,11 +42,10 @@ use Rattle.expr_code.specs.Views.{At, in_frame, placed, view_of}
 use Rattle.expr_code.specs.Coming.{Comes, all_on, all_words, size_of}
 use Rattle.expr_code.specs.Computing.{ArePassed}
 use Rattle.expr_code.specs.Seeing.{Package}
-use Rattle.expr_code.specs.declared.visible.Visible.{Visible}
 use Rattle.expr_code.proofs.Coming.{acts, after_first}
 use Rattle.expr_code.proofs.Coming as coming
 use Rattle.expr_code.proofs.Calling.{enters, inner as callee, refused, replicated}
-use Rattle.stmt_code.specs.Resting.{Narrows, Rests}
+use Rattle.stmt_code.specs.Resting.{Framed, Narrows, Rests}
 use Rattle.stmt_code.specs.Statements.{AreIn, IsCall, IsCalled, IsProcedure, IsPut, Numbers, parameter_subtype, parameter_type, sizes_of}
 use Rattle.stmt_code.specs.Standing.{CodeStands, Going, Here, Leads, LeadsOut, Over as Ended, WaitsFor, Raised, Shares, Unhandled, items_size, work_size}
 use Rattle.stmt_code.specs.Laws.{HasCode, StepsAreMet}
@@ -112,7 +111,7 @@ module _ (this : Scene) where
   abbrev Setting : Type 0
   Setting = scene.Setting this
 
-  abbrev seeing : Visible → Setting → Setting
+  abbrev seeing : Framed → Setting → Setting
   seeing v a = scene.seeing this v a
 
   abbrev In : ℕ → ℕ → Type 0
@@ -203,7 +202,7 @@ module _ (this : Scene) where
 
     -- the call of a procedure, where the values of its parameters are computed
     met_procedure : (i' : Item) (items : List Item) → w.work ≡ Goes (i' ∷ items) → s.frame.stack ≡ [] → s.raising ≡ None
-        → (a : Setting) (now' : Visible) (at mid to : ℕ) (q : Procedure) (number : ℕ) (v : Val (List Value))
+        → (a : Setting) (now' : Framed) (at mid to : ℕ) (q : Procedure) (number : ℕ) (v : Val (List Value))
         → source.item_step now i' items ≡ with_value now v items (λ vs. source.plain_call now q (record { values = vs; targets = [] }) items)
         → Leads i program g numbers a f.subprogram f.place at to now'
         → at ≤ mid
@@ -421,7 +420,7 @@ module _ (this : Scene) where
         (scene.evaluates this r.2 r.0 code.mid all_on (λ calls p. actuals_with calls p c.arguments (map parameter_subtype c.procedure.parameters)) items f
         fs code.computes rests h.depth)
         (λ vs ev. code.passes (call (frames_left items)) place (view_of i schedule k m f fs) vs (has.functions (frames_left items)).sound
-        (scene.sees_here this r.2 items f fs rests) ev)
+        (scene.sees_here this r.2 items f fs rests).sees ev)
         r.5 h.rests h.outside h.depth h.inner h.unhandled
       where
         by_values : (v : Val (List Value))

@@ -38,10 +38,9 @@ use Rattle.expr_code.specs.Views.{At, in_frame, placed, view_of}
 use Rattle.expr_code.specs.Coming.{Comes, Throws, most_steps, size_of}
 use Rattle.expr_code.specs.Computing.{Everywhere}
 use Rattle.expr_code.specs.Seeing.{Package, Sees, SeesPackage, library_of}
-use Rattle.expr_code.specs.declared.visible.Visible.{Visible}
 use Rattle.expr_code.proofs.Coming.{acts, after_first}
 use Rattle.expr_code.proofs.Coming as coming
-use Rattle.stmt_code.specs.Resting.{IsSmall, Narrows, Rests, StandsFor}
+use Rattle.stmt_code.specs.Resting.{Framed, IsSmall, Knows, Narrows, Rests, StandsFor}
 use Rattle.stmt_code.specs.Statements.{Numbers}
 use Rattle.stmt_code.specs.Standing.{AreInner, Around, CodeStands, Follows, Going, Here, Inside, IsGoing, IsSound, Jumps, Leads, Over as Ended, with_visible, Raised, Shares, There, Unhandled, WorkStands, items_size, relation, work_size}
 use Rattle.stmt_code.specs.Laws.{HasCode}
@@ -134,7 +133,7 @@ module _ (this : Scene) where
   abbrev pub Setting : Type 0
   Setting = Around i program g numbers
 
-  abbrev pub seeing : Visible → Setting → Setting
+  abbrev pub seeing : Framed → Setting → Setting
   seeing v a = with_visible i program g numbers v a
 
   abbrev pub In : ℕ → ℕ → Type 0
@@ -184,18 +183,18 @@ module _ (this : Scene) where
       (record { scope = refl; functions = refl; variables = refl; components = refl }) refl refl refl refl (is_small f small fs)
       (shares.sound.functions (place_of now items))
 
-  pub sees_here : (v : Visible) (items : List Item) (f : Frame) (fs : List Frame) → Rests g v w.own f.locals
-      → Sees g v (place_of now items) (view_of i schedule k m f fs)
+  pub sees_here : (v : Framed) (items : List Item) (f : Frame) (fs : List Frame) → Rests g v w.own f.locals
+      → Knows g v (place_of now items) (view_of i schedule k m f fs)
   sees_here v items f fs rests = rests.sees (place_of now items) (view_of i schedule k m f fs) (sees_package items f fs rests.small) refl refl refl
 
   -- what code computes, the frame comes to
-  pub evaluates : {A : Type 0} (v : Visible) (from to : ℕ) (stack : List ℤ → A → List ℤ) (value : Calls → Place
+  pub evaluates : {A : Type 0} (v : Framed) (from to : ℕ) (stack : List ℤ → A → List ℤ) (value : Calls → Place
       → Val A) (items : List Item) (f : Frame) (fs : List Frame)
-      → Everywhere i (library_of g) (Sees g v) from to stack value → Rests g v w.own f.locals → length fs ≡ ends_of_calls items
+      → Everywhere i (library_of g) (Sees g v.names) from to stack value → Rests g v w.own f.locals → length fs ≡ ends_of_calls items
       → Comes i schedule k t m (placed f from []) fs (to - from) to (stack []) (value (call (frames_left items)) (place_of now items))
   evaluates v from to stack value items f fs h rests depth =
       h (call (frames_left items)) (frames_left items) (has.functions (frames_left items)) schedule k t m f fs (place_of now items) [] calm
-      (sees_here v items f fs rests)
+      (sees_here v items f fs rests).sees
       (ap (λ n. FRAMES - suc n) (sym depth))
 
   -- ---- steps of code
@@ -450,7 +449,7 @@ module _ (this : Scene) where
           unhandled = unhandled;
         }
 
-    pub narrowed : (a b : Visible) (own : Activation) (locals : List ℤ) → Narrows g a b → Rests g a own locals → Rests g b own locals
+    pub narrowed : (a b : Framed) (own : Activation) (locals : List ℤ) → Narrows g a b → Rests g a own locals → Rests g b own locals
     narrowed a b own locals nar rests = record {
       small = rests.small;
       sees = λ p view shared one two three. nar p view
@@ -548,7 +547,7 @@ module _ (this : Scene) where
         (subst (λ q. suc (items_size items) < work_size q) (sym is) (omega arith))
 
     -- the code of the next items is reached by jumps
-    pub reached : (a : Setting) (from at to : ℕ) (now' : Visible) (items : List Item) → Leads i program g numbers a f.subprogram from at to now'
+    pub reached : (a : Setting) (from at to : ℕ) (now' : Framed) (items : List Item) → Leads i program g numbers a f.subprogram from at to now'
         → Follow (seeing now' a) f.subprogram at items fs w.callers
         → Follow (seeing a.visible a) f.subprogram from items fs w.callers
     reached a from at to now' items leads follows = earlier i program g numbers items (seeing now' a) a.visible f.subprogram from at fs w.callers
@@ -646,12 +645,12 @@ module _ (this : Scene) where
     -- ---- ways out
 
     -- what is visible behind the innermost loop, where the frame goes on there
-    pub behind_rests : (a outer : Setting) (now' : Visible) → Rests g a.visible w.own f.locals → Narrows g a.visible now' → Narrows g now' a.behind
+    pub behind_rests : (a outer : Setting) (now' : Framed) → Rests g a.visible w.own f.locals → Narrows g a.visible now' → Narrows g now' a.behind
         → a.behind ≡ outer.visible → Rests g outer.visible w.own f.locals
     behind_rests a outer now' rests one two e = subst (λ q. Rests g q w.own f.locals) e
         (narrowed a.visible a.behind w.own f.locals (narrows_both g a.visible now' a.behind one two) rests)
 
-    pub ending_rests : (a end : Setting) (now' : Visible) → Rests g a.visible w.own f.locals → Narrows g a.visible now' → Narrows g now' a.ending
+    pub ending_rests : (a end : Setting) (now' : Framed) → Rests g a.visible w.own f.locals → Narrows g a.visible now' → Narrows g now' a.ending
         → a.ending ≡ end.visible → Rests g end.visible w.own f.locals
     ending_rests a end now' rests one two e = subst (λ q. Rests g q w.own f.locals) e
         (narrowed a.visible a.ending w.own f.locals (narrows_both g a.visible now' a.ending one two) rests)

@@ -31,10 +31,9 @@ use Rattle.meaning.specs.Works.{Item, Declares, Does, Repeats, RepeatsWhile, Goe
 use Rattle.expr_code.specs.Views.{At, in_frame, placed}
 use Rattle.expr_code.specs.Coming.{Comes, most_steps, on, size_of}
 use Rattle.expr_code.specs.Seeing.{Package}
-use Rattle.expr_code.specs.declared.visible.Visible.{Visible}
 use Rattle.expr_code.proofs.Coming.{acts, after_first}
 use Rattle.expr_code.proofs.Coming as coming
-use Rattle.stmt_code.specs.Resting.{Narrows, Rests}
+use Rattle.stmt_code.specs.Resting.{Framed, Narrows, Rests}
 use Rattle.stmt_code.specs.Storing.{Assigned, Stores, assigned, assigned_to, declared, declared_from, object_declared}
 use Rattle.stmt_code.specs.Statements.{AreStatements, IsOtherwise, IsPut, IsWhile, Numbers, within_loop}
 use Rattle.stmt_code.specs.Standing.{Going, Here, Jumps, Leads, Reaches, in_loop, Shares, There, Unhandled, items_size, work_size}
@@ -95,7 +94,7 @@ module _ (this : Scene) where
   abbrev Setting : Type 0
   Setting = scene.Setting this
 
-  abbrev seeing : Visible → Setting → Setting
+  abbrev seeing : Framed → Setting → Setting
   seeing v a = scene.seeing this v a
 
   abbrev In : ℕ → ℕ → Type 0
@@ -137,7 +136,7 @@ module _ (this : Scene) where
 
     -- a condition is evaluated, and one of two lists of items is done: the one where the frame jumps from its next place, the other behind it
     pub met_test : (o : Operation) (jumps_on : Bool) (items when_jumps when_not : List Item) → s.frame.stack ≡ [] → s.raising ≡ None
-        → (v : Visible) (from mid n target : ℕ) (e : ExprTree)
+        → (v : Framed) (from mid n target : ℕ) (e : ExprTree)
         → work_step now w.work ≡ with_value now (source.condition now items e) items
         (λ holds. source.goes now (if holds then (if jumps_on then when_jumps else when_not) else (if jumps_on then when_not else when_jumps)))
         → items_size items < work_size w.work
@@ -212,7 +211,7 @@ module _ (this : Scene) where
         rests h.outside h.depth h.inner h.unhandled)
 
     -- the parts of an `if` behind its first statements
-    pub otherwise_follows : (place : ℕ) (elsifs : ElsifTrees) (others : StmtTrees) (a : Setting) (now' : Visible) (from to : ℕ) (items : List Item)
+    pub otherwise_follows : (place : ℕ) (elsifs : ElsifTrees) (others : StmtTrees) (a : Setting) (now' : Framed) (from to : ℕ) (items : List Item)
         → IsOtherwise i program g numbers now' a.ways from to elsifs (λ x y. AreStatements i program g numbers now' a.ways x y others) → from ≤ to
         → In f.subprogram from → In f.subprogram to → Reaches i program g numbers a now'
         → Follow (seeing now' a) f.subprogram to items fs w.callers
@@ -483,7 +482,7 @@ module _ (this : Scene) where
     -- ---- values that are stored
 
     pub met_stores : {A : Type 0} (i' : Item) (items : List Item) → w.work ≡ Goes (i' ∷ items) → s.frame.stack ≡ [] → s.raising ≡ None
-        → (v later : Visible) (at to : ℕ) (value : Calls → Place → Val A) (store_after' : A → Store → Store) (own_after : A → Activation → Activation)
+        → (v later : Framed) (at to : ℕ) (value : Calls → Place → Val A) (store_after' : A → Store → Store) (own_after : A → Activation → Activation)
         → source.item_step now i' items ≡ with_value now (value (call (frames_left items)) (place_of now items)) items
         (λ x. record {
           effect = Quiet;
@@ -494,17 +493,18 @@ module _ (this : Scene) where
           };
           given = None;
         })
-        → (a : Setting) (now' : Visible)
+        → (a : Setting) (now' : Framed)
         → Leads i program g numbers a f.subprogram f.place at to now'
         → Stores i program g now' later at to value store_after' own_after
         → Follow (seeing later a) f.subprogram to items fs w.callers
         → Rests g a.visible w.own f.locals
+        → w.own.within ≡ None
         → ((x : A) → (own_after x w.own).within ≡ None)
         → length fs ≡ ends_of_calls items
         → Removable f fs
         → Unhandled items
         → Meet s
-    met_stores i' items is stack going v later at to value store_after' own_after same a now' leads code rest rests outside depth inner unhandled =
+    met_stores i' items is stack going v later at to value store_after' own_after same a now' leads code rest rests before outside depth inner unhandled =
         let mid = code.mid in
         let le = code.up in
         let end = code.end in
@@ -529,7 +529,7 @@ module _ (this : Scene) where
         (λ z ez.
         let put = code.puts schedule k t m f fs store w.own (place_of now items) z
         (record { scope = refl; functions = refl; variables = refl; components = refl }) refl refl shares.stands here
-        (scene.sees_here this now' items f fs here) ez in (
+        (scene.sees_here this now' items f fs here) before ez in (
           steps.does Quiet put.words (goes_at f to put.locals) fs None None,
           put.acts ∙ ap (λ q. steps.does Quiet put.words (goes_at f q put.locals) fs None None) (sym end),
           record {
@@ -547,7 +547,7 @@ module _ (this : Scene) where
         let r = h.follows in
         met_stores (Declares (LocalObject d)) items is h.stack h.going r.2 r.3 r.0 r.1 (declared program.scope d) (λ x m. m)
         (λ x a. record a { locals = object_declared program.scope d x ∷ a.locals })
-        (by_value d d.value) h.around r.2 r.4 r.6 r.7 h.rests (λ x. h.outside) h.depth h.inner h.unhandled
+        (by_value d d.value) h.around r.2 r.4 r.6 r.7 h.rests h.outside (λ x. h.outside) h.depth h.inner h.unhandled
       where
         by_value : (d : ObjectTree) (e : Option ExprTree)
             → with_value now (source.declared_value now items d e) items (λ v. source.with_object now (object_declared program.scope d v) items)
@@ -571,7 +571,7 @@ module _ (this : Scene) where
         met_stores (Does (Assignment name e)) items is h.stack h.going r.2 r.2 r.0 r.1 (assigned name e) (λ x m. store_with x.target x.value m)
         (λ x a. activation_with x.target x.value a)
         (by_target (target (place_of now items) name.first.name name.selectors)) h.around r.2 r.3 r.4 r.5 h.rests
-        (λ x. same_object x.target x.value w.own ∙ h.outside) h.depth h.inner h.unhandled
+        h.outside (λ x. same_object x.target x.value w.own ∙ h.outside) h.depth h.inner h.unhandled
       where
         go : Assigned → source.Stepped
         go x = record {

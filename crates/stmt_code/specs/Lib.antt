@@ -1,5 +1,6 @@
 pub mod Resting
 pub mod Storing
+pub mod Layout
 pub mod Statements
 pub mod Standing
 pub mod Laws

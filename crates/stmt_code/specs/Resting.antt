@@ -1,14 +1,15 @@
 -- When the words of an image stand for the objects of a program, between steps: those of the package for the store, those of a frame for an activation.
-use Rattle.std.specs.Prelude.{◌≡◌, ◌≤◌, ℕ, ℤ, List, length}
+use Rattle.std.specs.Prelude.{◌≡◌, ◌≤◌, ℕ, ℤ, true, List, length, Option, Some, None, is_some}
 use Rattle.image.specs.Frames.{Words}
 use Rattle.image.specs.declared.instruction.Region.{Region}
 use Rattle.image.specs.declared.instruction.Region.TheVariants as regions
-use Rattle.types.specs.Places.{Place}
+use Rattle.types.specs.Places.{Object, Place, object_of}
 use Rattle.well_typed.specs.Answers.{FunctionsAreSound}
 use Rattle.meaning.specs.Programs.{Program}
 use Rattle.meaning.specs.Works.{Activation, Store}
 use Rattle.expr_code.specs.Views.{View}
-use Rattle.expr_code.specs.Seeing.{Package, Sees, SeesPackage}
+use Rattle.expr_code.specs.Seeing.{Package, Sees, SeesPackage, slot_of}
+use Rattle.expr_code.specs.declared.visible.Slot.{Slot}
 use Rattle.expr_code.specs.declared.visible.Visible.{Visible}
 
 -- a place where expressions of the program are evaluated, with the objects of this store
@@ -36,12 +37,30 @@ pub record StandsFor (program : Program) (g : Package) (store : Store) (m : Word
   pub plain : length m.plain ≤ 65536
   pub objects : (o : ℕ) → length (m.objects o) ≤ 65536
 
+-- the names that are visible to a frame, and how many words of its own it has at least
+pub record Framed : Type 0 where
+  pub names : Visible
+  pub room : ℕ
+
+-- an object with words of this region is one of the running activation, or none of them
+abbrev pub IsAtHome : Region → Option Object → Type 0
+IsAtHome regions.Locals o = is_some o ≡ true
+IsAtHome regions.Plain o = o ≡ None
+IsAtHome regions.Object o = o ≡ None
+
+-- The frame stands for the place of evaluation, has its words, and has among them those of objects of the running activation alone.
+pub record Knows (g : Package) (v : Framed) (p : Place) (view : View) : Type 0 where
+  pub sees : Sees g v.names p view
+  pub room : v.room ≤ length (view.words regions.Locals)
+  pub homes : (name : List ℕ) (slot : Slot) → slot_of v.names name ≡ Some slot → IsAtHome slot.region (object_of p.locals name)
+
 -- The locals of a frame stand for those of an activation where these names are visible, whatever the store and the shared words are, as long as these stand for
 -- one another: so they do while the frame waits for the end of a call.
-pub record Rests (g : Package) (v : Visible) (a : Activation) (locals : List ℤ) : Type 0 where
+pub record Rests (g : Package) (v : Framed) (a : Activation) (locals : List ℤ) : Type 0 where
   pub small : length locals ≤ 65536
-  pub sees : (p : Place) (view : View) → SeesPackage g p view → p.locals ≡ a.locals → p.within ≡ a.within → view.words regions.Locals ≡ locals → Sees g v p view
+  pub sees : (p : Place) (view : View) → SeesPackage g p view → p.locals ≡ a.locals → p.within ≡ a.within → view.words regions.Locals ≡ locals
+      → Knows g v p view
 
 -- what is visible later is among what is visible now
-abbrev pub Narrows : Package → (now later : Visible) → Type 0
-Narrows g now later = (p : Place) (view : View) → Sees g now p view → Sees g later p view
+abbrev pub Narrows : Package → (now later : Framed) → Type 0
+Narrows g now later = (p : Place) (view : View) → Knows g now p view → Knows g later p view

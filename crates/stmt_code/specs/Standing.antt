@@ -16,8 +16,7 @@ use Rattle.sound_steps.specs.Holding.{IsSoundStore, IsSoundTask}
 use Rattle.expr_code.specs.Views.{At}
 use Rattle.expr_code.specs.Coming.{Throws, size_of}
 use Rattle.expr_code.specs.Seeing.{Package}
-use Rattle.expr_code.specs.declared.visible.Visible.{Visible}
-use Rattle.stmt_code.specs.Resting.{Narrows, Rests, StandsFor}
+use Rattle.stmt_code.specs.Resting.{Framed, Narrows, Rests, StandsFor}
 use Rattle.stmt_code.specs.Statements.{AreStatements, IsDeclared, IsForever, IsMainStatement, IsStatement, IsWhile, Numbers, Ways, within_loop}
 
 -- ---- what is left to do, as a size that falls where no code is run
@@ -57,24 +56,24 @@ module _ (i : Sections) (program : Program) (g : Package) (numbers : Numbers) wh
 
   -- what is visible now, the ways out, and what is visible behind the innermost loop and at the end of the body
   pub record Around : Type 0 where
-    pub visible : Visible
+    pub visible : Framed
     pub ways : Ways
-    pub behind : Visible
-    pub ending : Visible
+    pub behind : Framed
+    pub ending : Framed
 
-  abbrev pub with_visible : Visible → Around → Around
+  abbrev pub with_visible : Framed → Around → Around
   with_visible v a = record a { visible = v }
 
   -- in the statements of a loop with this way out, of which this is around
-  abbrev pub in_loop : ℕ → Visible → Around → Around
+  abbrev pub in_loop : ℕ → Framed → Around → Around
   in_loop exit v outer = record { visible = v; ways = within_loop exit outer.ways; behind = outer.visible; ending = outer.ending }
 
   -- what is visible at the ways out is visible here
-  abbrev pub Reaches : Around → Visible → Type 0
+  abbrev pub Reaches : Around → Framed → Type 0
   Reaches a v = Narrows g v a.behind × Narrows g v a.ending
 
   -- the part of the subprogram's code between two places, to which forward jumps lead
-  pub record Leads (a : Around) (n from at to : ℕ) (now : Visible) : Type 0 where
+  pub record Leads (a : Around) (n from at to : ℕ) (now : Framed) : Type 0 where
     pub jumps : Jumps from at
     pub narrows : Narrows g a.visible now
     pub reaches : Reaches a now
@@ -118,19 +117,19 @@ module _ (i : Sections) (program : Program) (g : Package) (numbers : Numbers) wh
   abbrev pub Follows : Around → (n from : ℕ) → List Item → List Frame → List Activation → Type 0
   Follows a n from [] fs os = LeadsOut a n from × (a.ways.return ≡ None) × (fs ≡ [])
   Follows a n from (Declares d ∷ items) fs os =
-      (at : ℕ) × (to : ℕ) × (now : Visible) × (later : Visible) × Leads a n from at to now × Narrows g later now
+      (at : ℕ) × (to : ℕ) × (now : Framed) × (later : Framed) × Leads a n from at to now × Narrows g later now
       × IsDeclared i program g numbers now at to later d
       × Follows (with_visible later a) n to items fs os
   Follows a n from (Sequence body hs ∷ items) fs os =
-      (at : ℕ) × (to : ℕ) × (now : Visible) × (hs ≡ NoHandlers) × Leads a n from at to now
+      (at : ℕ) × (to : ℕ) × (now : Framed) × (hs ≡ NoHandlers) × Leads a n from at to now
       × AreStatements i program g numbers now a.ways at to body
       × Follows (with_visible now a) n to items fs os
   Follows a n from (Does s ∷ items) fs os =
-      (at : ℕ) × (to : ℕ) × (now : Visible) × Leads a n from at to now
+      (at : ℕ) × (to : ℕ) × (now : Framed) × Leads a n from at to now
       × IsStatement i program g numbers now a.ways at to s
       × Follows (with_visible now a) n to items fs os
   Follows a n from (DoesMain s ∷ items) fs os =
-      (at : ℕ) × (to : ℕ) × (now : Visible) × Leads a n from at to now
+      (at : ℕ) × (to : ℕ) × (now : Framed) × Leads a n from at to now
       × IsMainStatement i program g numbers at to s
       × Follows (with_visible now a) n to items fs os
   Follows a n from (Handles hs ∷ items) fs os = (hs ≡ NoHandlers) × Follows a n from items fs os

@@ -33,8 +33,7 @@ use Rattle.expr_code.specs.Views.{At, View, in_frame, placed, view_of}
 use Rattle.expr_code.specs.Coming.{all_words, most_steps, on}
 use Rattle.expr_code.specs.Computing.{ArePassed, Computes, ComputesAll}
 use Rattle.expr_code.specs.Seeing.{library_of, Package, Sees}
-use Rattle.expr_code.specs.declared.visible.Visible.{Visible}
-use Rattle.stmt_code.specs.Resting.{Narrows, Rests}
+use Rattle.stmt_code.specs.Resting.{Framed, Narrows, Rests}
 use Rattle.stmt_code.specs.Storing.{Stores, assigned, declared, object_declared}
 use Rattle.meaning.specs.Targets.{activation_with, store_with}
 
@@ -67,19 +66,19 @@ module _ (i : Sections) (program : Program) (g : Package) (numbers : Numbers) wh
   abbrev pub sizes_of : Procedure → List ℕ
   sizes_of q = map (words_of g.scope) (map parameter_subtype q.parameters)
 
-  abbrev pub IsValue : Visible → (from to : ℕ) → ExprTree → Type 0
-  IsValue v from to e = Computes i (library_of g) (Sees g v) from to e
+  abbrev pub IsValue : Framed → (from to : ℕ) → ExprTree → Type 0
+  IsValue v from to e = Computes i (library_of g) (Sees g v.names) from to e
 
   -- ---- statements without others within
 
   -- the value of a line and the instruction that writes it
-  abbrev pub IsPut : Visible → (from to : ℕ) → SelectorTrees → Type 0
+  abbrev pub IsPut : Framed → (from to : ℕ) → SelectorTrees → Type 0
   IsPut v from to (MoreSelectors (Arguments (MoreArguments (Text label at) (MoreArguments (Value e) NoArguments))) NoSelectors) =
       (mid : ℕ) × (number : ℕ) × (from ≤ mid) × IsValue v from mid e × At i mid (op.PutLine number) × (text_at i.labels number ≡ label) × (to ≡ suc mid)
   IsPut v from to s = ⊥
 
   -- the actual parameters and the call
-  pub record IsCall (v : Visible) (from to : ℕ) (c : Callee) : Type 0 where
+  pub record IsCall (v : Framed) (from to : ℕ) (c : Callee) : Type 0 where
     pub number : ℕ
     pub numbered : numbers c.procedure ≡ Some number
     pub outside : c.through ≡ None
@@ -88,10 +87,10 @@ module _ (i : Sections) (program : Program) (g : Package) (numbers : Numbers) wh
     pub mid : ℕ
     pub up : from ≤ mid
     pub end : to ≡ suc mid
-    pub computes : ComputesAll i (library_of g) (Sees g v) from mid (map parameter_subtype c.procedure.parameters) c.arguments
+    pub computes : ComputesAll i (library_of g) (Sees g v.names) from mid (map parameter_subtype c.procedure.parameters) c.arguments
     pub calls : At i mid (op.Call number)
     -- what is passed has the words, and is of the types, of the parameters
-    pub passes : (calls : Calls) (p : Place) (view : View) (vs : List values.Value) → (library_of g).sound calls → Sees g v p view
+    pub passes : (calls : Calls) (p : Place) (view : View) (vs : List values.Value) → (library_of g).sound calls → Sees g v.names p view
         → actuals_with calls p c.arguments (map parameter_subtype c.procedure.parameters) ≡ Gives vs
         → ArePassed (sizes_of c.procedure) vs × AreOf program.scope (map parameter_type c.procedure.parameters) vs
 
@@ -102,11 +101,11 @@ module _ (i : Sections) (program : Program) (g : Package) (numbers : Numbers) wh
       (q : Procedure) × (number : ℕ) × (procedure_here program None procedure.name ≡ Some q) × (numbers q ≡ Some number) × (q.parameters ≡ []) × At i from
       (op.Call number) × (to ≡ suc from)
 
-  abbrev pub IsCalled : Visible → (from to : ℕ) → NameTree → Option Callee → Type 0
+  abbrev pub IsCalled : Framed → (from to : ℕ) → NameTree → Option Callee → Type 0
   IsCalled v from to name (Some c) = IsCall v from to c
   IsCalled v from to name None = (named_entity program.scope name.first ≡ Some Put) × IsPut v from to name.selectors
 
-  abbrev pub IsAssigned : Visible → (from to : ℕ) → NameTree → ExprTree → Type 0
+  abbrev pub IsAssigned : Framed → (from to : ℕ) → NameTree → ExprTree → Type 0
   IsAssigned v from to name e = Stores i program g v v from to (assigned name e) (λ x m. store_with x.target x.value m)
       (λ x a. activation_with x.target x.value a)
 
@@ -114,26 +113,26 @@ module _ (i : Sections) (program : Program) (g : Package) (numbers : Numbers) wh
   abbrev pub IsJump : Option ℕ → (from to : ℕ) → Type 0
   IsJump way from to = (place : ℕ) × (way ≡ Some place) × At i from (op.Jump place) × (to ≡ suc from)
 
-  abbrev pub IsConditionalExit : Visible → Option ℕ → (from to : ℕ) → ExprTree → Type 0
+  abbrev pub IsConditionalExit : Framed → Option ℕ → (from to : ℕ) → ExprTree → Type 0
   IsConditionalExit v way from to e = (place : ℕ) × (mid : ℕ) × (way ≡ Some place) × (from ≤ mid) × IsValue v from mid e × At i mid (op.JumpIfNotZero place)
       × (to ≡ suc mid)
 
   -- ---- declarations
 
-  abbrev pub IsDeclared : (v : Visible) → (from to : ℕ) → (later : Visible) → DeclarationTree → Type 0
+  abbrev pub IsDeclared : (v : Framed) → (from to : ℕ) → (later : Framed) → DeclarationTree → Type 0
   IsDeclared v from to later (LocalObject d) =
       Stores i program g v later from to (declared program.scope d) (λ x m. m) (λ x a. record a { locals = object_declared program.scope d x ∷ a.locals })
   IsDeclared v from to later d = ⊥
 
-  abbrev pub AreDeclared : (v : Visible) → (from to : ℕ) → (later : Visible) → List DeclarationTree → Type 0
+  abbrev pub AreDeclared : (v : Framed) → (from to : ℕ) → (later : Framed) → List DeclarationTree → Type 0
   AreDeclared v from to later [] = (from ≡ to) × (later ≡ v)
   AreDeclared v from to later (d ∷ ds) =
-      (mid : ℕ) × (next : Visible) × (from ≤ mid) × (mid ≤ to) × IsDeclared v from mid next d × Narrows g next v × AreDeclared next mid to later ds
+      (mid : ℕ) × (next : Framed) × (from ≤ mid) × (mid ≤ to) × IsDeclared v from mid next d × Narrows g next v × AreDeclared next mid to later ds
 
   -- ---- statements by their parts
 
   -- a condition, a jump behind the statements for it where it does not hold, and a jump to the end behind them
-  abbrev pub IsBranch : Visible → (from to : ℕ) → ExprTree → (holds fails : ℕ → ℕ → Type 0) → Type 0
+  abbrev pub IsBranch : Framed → (from to : ℕ) → ExprTree → (holds fails : ℕ → ℕ → Type 0) → Type 0
   IsBranch v from to e holds fails =
       (mid : ℕ) × (joint : ℕ) × (from ≤ mid) × (suc mid ≤ joint) × (suc joint ≤ to) × IsValue v from mid e × At i mid (op.JumpIfZero (suc joint))
       × holds (suc mid) joint
@@ -149,7 +148,7 @@ module _ (i : Sections) (program : Program) (g : Package) (numbers : Numbers) wh
       × (to ≡ suc back)
 
   -- a jump over the way out, the way out, the condition, a jump to the end where it does not hold, the statements of a turn, and a jump back to the condition
-  abbrev pub IsWhile : Visible → (from to : ℕ) → ExprTree → (turn : (exit from to : ℕ) → Type 0) → Type 0
+  abbrev pub IsWhile : Framed → (from to : ℕ) → ExprTree → (turn : (exit from to : ℕ) → Type 0) → Type 0
   IsWhile v from to e turn =
       (mid : ℕ) × (back : ℕ) × (from + 2 ≤ mid) × (suc mid ≤ back) × At i from (op.Jump (from + 2)) × At i (from + 1) (op.Jump to)
       × IsValue v (from + 2) mid e
@@ -159,21 +158,21 @@ module _ (i : Sections) (program : Program) (g : Package) (numbers : Numbers) wh
       × (to ≡ suc back)
 
   -- declarations, and statements that see them
-  abbrev pub IsBlock : Visible → (from to : ℕ) → List DeclarationTree → (body : Visible → ℕ → ℕ → Type 0) → Type 0
-  IsBlock v from to ds body = (mid : ℕ) × (later : Visible) × (from ≤ mid) × (mid ≤ to) × AreDeclared v from mid later ds × body later mid to
+  abbrev pub IsBlock : Framed → (from to : ℕ) → List DeclarationTree → (body : Framed → ℕ → ℕ → Type 0) → Type 0
+  IsBlock v from to ds body = (mid : ℕ) × (later : Framed) × (from ≤ mid) × (mid ≤ to) × AreDeclared v from mid later ds × body later mid to
 
   -- The words of the expression's value stand on the operand stack, and are compared with choices: where one of them chooses it, the frame goes on at `start`
   -- with an empty operand stack, and else at `next` as it is.
-  pub record IsChoice (v : Visible) (e : ExprTree) (from start next : ℕ) (choices : ChoicesTree) : Type 0 where
+  pub record IsChoice (v : Framed) (e : ExprTree) (from start next : ℕ) (choices : ChoicesTree) : Type 0 where
     pub tests : (schedule : List ScheduleLine) (k : Kernel) (t : ℕ) (m : Words) (f : Frame) (fs : List Frame) (p : Place) (x : values.Value)
         → Calm k t
-        → Sees g v p (view_of i schedule k m f fs)
+        → Sees g v.names p (view_of i schedule k m f fs)
         → val p e ≡ Gives x
         → Spends (behaviour i schedule) t frames_of (most_steps i) (suc (length fs)) (next - from) k (in_frame m (placed f from (on [] x)) fs) k
         (in_frame m (if chooses p choices x then placed f start [] else placed f next (on [] x)) fs)
 
   abbrev mutual
-    pub IsStatement : Visible → Ways → (from to : ℕ) → StmtTree → Type 0
+    pub IsStatement : Framed → Ways → (from to : ℕ) → StmtTree → Type 0
     IsStatement v w from to (Null place) = from ≡ to
     IsStatement v w from to (Assignment name e) = IsAssigned v from to name e
     IsStatement v w from to (Call name) = IsCalled v from to name (callee_by program None name.first name.selectors)
@@ -188,12 +187,12 @@ module _ (i : Sections) (program : Program) (g : Package) (numbers : Numbers) wh
     IsStatement v w from to (Block place ds body NoHandlers) = IsBlock v from to ds (λ later a b. AreStatements later w a b body)
     IsStatement v w from to s = ⊥
 
-    pub AreStatements : Visible → Ways → (from to : ℕ) → StmtTrees → Type 0
+    pub AreStatements : Framed → Ways → (from to : ℕ) → StmtTrees → Type 0
     AreStatements v w from to NoStmts = from ≡ to
     AreStatements v w from to (MoreStmts s rest) = (mid : ℕ) × (from ≤ mid) × (mid ≤ to) × IsStatement v w from mid s × AreStatements v w mid to rest
 
     -- each alternative: its choices, its statements, and a jump to the end; behind the last one no value is left to be chosen
-    pub AreAlternatives : Visible → Ways → (from to : ℕ) → ExprTree → AlternativeTrees → Type 0
+    pub AreAlternatives : Framed → Ways → (from to : ℕ) → ExprTree → AlternativeTrees → Type 0
     AreAlternatives v w from to e NoAlternatives = ⊤
     AreAlternatives v w from to e (MoreAlternatives at choices body rest) =
         (start : ℕ) × (joint : ℕ) × (from ≤ start) × (start ≤ joint) × (suc joint ≤ to) × IsChoice v e from start (suc joint) choices
@@ -202,7 +201,7 @@ module _ (i : Sections) (program : Program) (g : Package) (numbers : Numbers) wh
         × AreAlternatives v w (suc joint) to e rest
 
     -- the parts of an `if` behind its first statements
-    pub IsOtherwise : Visible → Ways → (from to : ℕ) → ElsifTrees → (last : ℕ → ℕ → Type 0) → Type 0
+    pub IsOtherwise : Framed → Ways → (from to : ℕ) → ElsifTrees → (last : ℕ → ℕ → Type 0) → Type 0
     IsOtherwise v w from to NoElsifs last = last from to
     IsOtherwise v w from to (MoreElsifs e body rest) last = IsBranch v from to e (λ a b. AreStatements v w a b body) (λ a b. IsOtherwise v w a b rest last)
 
@@ -218,8 +217,8 @@ module _ (i : Sections) (program : Program) (g : Package) (numbers : Numbers) wh
     pub parameters : (args : List values.Value) → ArePassed (sizes_of q) args → length (all_words args) ≡ s.parameters
     pub results : s.results ≡ 0
     -- what is visible in front of its declarations, and behind them
-    pub begins : Visible
-    pub later : Visible
+    pub begins : Framed
+    pub later : Framed
     pub start : ℕ
     pub stop : ℕ
     pub up : first_place i number ≤ start

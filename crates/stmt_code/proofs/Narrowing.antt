@@ -1,0 +1,52 @@
+-- Where the names of a block go out of sight: what is seen with one name more is seen without it.
+use Rattle.std.proofs.Common.{◌≡◌, ℕ, List, [], ◌∷◌, ◌++◌, length, cond, Some, None, ap, ◌∙◌, arith}
+use Rattle.std.specs.Prelude.{take}
+use Rattle.std.proofs.Math.Seq.{take-append_seam}
+use Rattle.types.specs.declared.entity.Role.{Role}
+use Rattle.types.specs.declared.entity.Subtype.{Subtype}
+use Rattle.types.specs.Entities as entity
+use Rattle.types.specs.Scopes.{Named}
+use Rattle.declaring.specs.Laws.{StandsFirst}
+use Rattle.well_typed.specs.Laws.{AgreementIsKept}
+use Rattle.well_typed.specs.SoundScopes.{SoundScope}
+use Rattle.expr_code.specs.Seeing.{Package, slot_of, subprogram_of, told_of}
+use Rattle.expr_code.specs.declared.visible.Slot.{Slot}
+use Rattle.stmt_code.specs.Layout.{Widens}
+use Rattle.stmt_code.specs.Resting.{Framed, Narrows}
+use Rattle.stmt_code.proofs.Names.{told_more}
+
+module _ (kept : AgreementIsKept) (g : Package) (v later : Framed) (name : List ℕ) (r : Role) (t : Subtype) (slot : Slot)
+    (widens : Widens v name r t slot later)
+    (sound : SoundScope v.names.scope) where
+  abbrev named : Named
+  named = record { name = name; entity = entity.Object r t }
+
+  scope_is : later.names.scope ≡ v.names.scope ++ named ∷ []
+  scope_is = widens.scope ∙ ap (λ b. cond b v.names.scope (v.names.scope ++ named ∷ [])) widens.hidden
+
+  stands_first : StandsFirst v.names.scope later.names.scope
+  stands_first = ap (take (length v.names.scope)) scope_is ∙ take-append_seam v.names.scope (named ∷ [])
+
+  slot_more : (other : List ℕ) (s : Slot) → slot_of v.names other ≡ Some s → slot_of later.names other ≡ Some s
+  slot_more other s h =
+      ap (λ q. told_of q later.names.slots.items other) scope_is ∙ ap (λ l. told_of (v.names.scope ++ named ∷ []) l other) widens.slots
+      ∙ told_more v.names.scope named v.names.slots.items (Some slot) other s h
+
+  number_more : (other : List ℕ) (n : ℕ) → subprogram_of v.names other ≡ Some n → subprogram_of later.names other ≡ Some n
+  number_more other n h =
+      ap (λ q. told_of q later.names.subprograms.items other) scope_is ∙ ap (λ l. told_of (v.names.scope ++ named ∷ []) l other) widens.subprograms
+      ∙ told_more v.names.scope named v.names.subprograms.items None other n h
+
+  pub narrows_wider : Narrows g later v
+  narrows_wider p view knows = record {
+    sees = record {
+      unit = knows.sees.unit;
+      names = record {
+        agrees = kept.narrowed v.names.scope later.names.scope p stands_first sound knows.sees.names.agrees;
+        objects = λ other s u w told means. knows.sees.names.objects other s u w (slot_more other s told) means;
+      };
+      functions = λ other n f told means. knows.sees.functions other n f (number_more other n told) means;
+    };
+    room = (let k = knows.room in let e = widens.room in omega (arith, k, e));
+    homes = λ other s told. knows.homes other s (slot_more other s told);
+  }
