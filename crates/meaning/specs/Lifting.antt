@@ -172,7 +172,6 @@ module _ {M S G N T H : Type 0} (f : Behaviour M S G) (g : Behaviour N T H) (rel
             let keeps = subst Keeps to_end (kept_run (suc x.0) other r.keeps) in
             Steps x.0 (Busy t n s runs takes low (sym x.1))
             (subst (λ v. Rel v (run (among g) (suc x.0) other)) (sym ef) (subst (λ w. Rel (record { kernel = after t a.effect k; rest = (among f k t c).rest }) w) (sym to_end) (record { same = refl; keeps = keeps; shared = sh; stands = stand })))
-
         met_next (Walks j n s takes many low q sh st) =
             let p = (f.act k t (solo_of t c)).solo in
             let e = (f.act k t (solo_of t c)).effect in
