@@ -26,7 +26,7 @@ use Rattle.meaning.specs.Programs.{Procedure, subtype_named}
 use Rattle.meaning.specs.Works.{Target, Item, Declares, DeclaresParameter, Sequence, Does, DoesMain, Repeats, RepeatsWhile, RepeatsFor, Handles, EndsHandler, EndsCall, EndsAction, EndsServed, Queued, Work, Goes, Copies, Raising, Activation, TaskWork, Store, Given, frames_left}
 use Rattle.meaning.specs.Targets.{target}
 use Rattle.meaning.specs.Calls.{Callee, Actuals, actuals, is_open, procedure_here, callee_by}
-use Rattle.meaning.specs.SourceSteps.{Here, Stepped, here_of, before, behind_loop, otherwise, alternative_for, handler_for, place_of, evaluate, goes, with_object, stores, leaves as gone, with_value, declared_value, declare, condition, for_turn, for_range, begin_loop, if_frame_left, run_body, plain_call, unless_refused, external_call, queue_call, entry_call, with_actuals_of, procedure_call, entry_call_of, call_of, put_line, put_call, call_or_put, raise_number, raise_named, delay_until, alternative, statement_step, main_call, main_step, item_step, copying, copy_step, handled, raise_step, work_step}
+use Rattle.meaning.specs.SourceSteps.{Here, Stepped, here_of, before, behind_loop, otherwise, alternative_for, handler_for, place_of, evaluate, goes, with_object, stores, leaves as gone, with_value, declared_value, declare, condition, for_turn, for_range, begin_loop, next_number, if_frame_left, run_body, plain_call, unless_refused, external_call, queue_call, entry_call, with_actuals_of, procedure_call, entry_call_of, call_of, put_line, put_call, call_or_put, raise_number, raise_named, delay_until, alternative, statement_step, main_call, main_step, item_step, copying, copy_step, handled, raise_step, work_step}
 use Rattle.meaning.specs.Source.{partition_of, source_behaviour, source_start}
 use Rattle.meaning.specs.Programs.{program_of}
 use Rattle.meaning.specs.Laws.{SourceNeverFaults, MeaningNeverFaults}
@@ -263,7 +263,9 @@ module _ (h : Here) where
   item_fine (DoesMain s) items = main_fine s items
   item_fine (Repeats body) items = IsQuiet
   item_fine (RepeatsWhile e body) items = loop_fine (statements.While e) body items
-  item_fine (RepeatsFor parameter reversed now last body) items = either Fine _ (goes h items) _ IsQuiet IsQuiet
+  item_fine (RepeatsFor parameter reversed now last body) items =
+      either Fine _ (goes h items) _ IsQuiet
+      (value_fine (next_number h reversed now) items (λ next. for_turn h parameter reversed next last body items) (λ next. IsQuiet))
   item_fine (Handles hs) items = IsQuiet
   item_fine (EndsHandler x) items = IsQuiet
   item_fine (EndsCall names opened xs) items = gone_fine Quiet h.callers _ None IsQuiet

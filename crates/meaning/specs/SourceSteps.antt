@@ -1,5 +1,6 @@
 -- One step of a task: its first item is done, a result is copied back, or, where an exception is raised, the first item is dropped.
-use Rattle.std.specs.Prelude.{ℕ, zero, suc, ℤ, ◌+ℤ◌, ◌-ℤ◌, pos, int_lt, List, [], ◌∷◌, ◌++◌, map, Option, Some, None, Bool, true, false, ◌||◌, bytes_eq, if◌then◌else◌}
+use Rattle.std.specs.Prelude.{ℕ, zero, suc, ℤ, pos, int_lt, Ok, Err, List, [], ◌∷◌, ◌++◌, map, Option, Some, None, Bool, true, false, ◌||◌, bytes_eq, if◌then◌else◌}
+use Rattle.base.specs.Arithmetic.{Checked, difference_of, sum_of}
 use Rattle.base.specs.Exceptions.{number_of}
 use Rattle.base.specs.declared.schedule.ScheduleLine.{ScheduleLine}
 use Rattle.base.specs.declared.exceptions.PredefinedException.{PredefinedException}
@@ -21,7 +22,7 @@ use Rattle.types.specs.Scopes.{integer}
 use Rattle.types.specs.Shapes.{initial}
 use Rattle.types.specs.Values as values
 use Rattle.types.specs.Values.{Value}
-use Rattle.types.specs.Evaluations.{Val, Gives, Raises, Meaningless, and_then}
+use Rattle.types.specs.Evaluations.{Val, Gives, Raises, Meaningless, and_then, raise}
 use Rattle.types.specs.Operators.{are_same, same_truth}
 use Rattle.types.specs.Places.{Object, Place}
 use Rattle.types.specs.Evaluating.{passed, truth_of, val}
@@ -135,6 +136,11 @@ pub record Here : Type 0 where
   pub own : Activation
   pub callers : List Activation
 
+-- a number that was computed, or its exception
+abbrev pub number_computed : Checked → Val ℤ
+number_computed (Ok z) = Gives z
+number_computed (Err x) = raise x
+
 module _ (h : Here) where
   -- where the task evaluates, with these items behind (RM 4)
   abbrev pub place_of : List Item → Place
@@ -244,11 +250,15 @@ module _ (h : Here) where
   begin_loop (For parameter reversed range) body items =
       with_value (evaluate items range.first) items (λ v. with_value (evaluate items range.last) items (λ w. for_range parameter reversed body items v w))
 
+  -- the value of the next turn, one more or one less, as the operators give it (RM 4.5.3)
+  abbrev pub next_number : Bool → ℤ → Val ℤ
+  next_number reversed now = number_computed (if reversed then difference_of now (pos 1) else sum_of now (pos 1))
+
   -- the next turn, unless this was the last one
   abbrev pub next_turn : List ℕ → Bool → (now last : ℤ) → StmtTrees → List Item → Stepped
   next_turn parameter reversed now last body items =
       if are_same now last then goes items
-      else for_turn parameter reversed (if reversed then now -ℤ pos 1 else now +ℤ pos 1) last body items
+      else with_value (next_number reversed now) items (λ next. for_turn parameter reversed next last body items)
 
   -- ---- calls (RM 6.4, 9.5.1, 9.5.3): the refusals in their order
 

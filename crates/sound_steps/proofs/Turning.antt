@@ -1,6 +1,7 @@
 -- Loops: their first turn, their further turns, their ends (RM 5.5).
-use Rattle.std.proofs.Common.{◌≡◌, ℕ, ℤ, pos, ◌+ℤ◌, ◌-ℤ◌, List, [], ◌∷◌, ◌++◌, Bool, true, false, not, Option, Some, None, cond, refl, sym, ap, subst}
+use Rattle.std.proofs.Common.{◌≡◌, ℕ, ℤ, pos, List, [], ◌∷◌, ◌++◌, Bool, true, false, not, Option, Some, None, Ok, Err, cond, refl, sym, ap, subst}
 use Rattle.std.specs.Prelude.{int_lt}
+use Rattle.base.specs.Arithmetic.{Checked, difference_of, sum_of}
 use Rattle.ada_tree.specs.declared.expression.Identifier.{Identifier}
 use Rattle.ada_tree.specs.ExpressionTree.{ExprTree}
 use Rattle.ada_tree.specs.StatementTree.{IterationTree, Forever, While, For, RangeTree, StmtTrees}
@@ -25,14 +26,15 @@ use Rattle.stmt_rules.specs.StatementRules.{in_loop, iteration_faults, iteration
 use Rattle.ravenscar.specs.BodyRules as profile
 use Rattle.meaning.specs.Programs.{Program}
 use Rattle.meaning.specs.Works.{Item, EndsAction, Repeats, RepeatsWhile, RepeatsFor, Activation}
-use Rattle.meaning.specs.SourceSteps.{Here, before, begin_loop, condition, evaluate, for_range, for_turn, goes, next_turn, while_turn, with_object, with_value}
-use Rattle.sound_steps.specs.Objects.{IsOf}
+use Rattle.meaning.specs.SourceSteps.{Here, before, begin_loop, condition, evaluate, for_range, for_turn, goes, next_number, next_turn, number_computed, while_turn, with_object, with_value}
+use Rattle.sound_steps.specs.Objects.{Comes, IsOf}
 use Rattle.sound_steps.specs.Fitting.{Fits, Narrows}
 use Rattle.sound_steps.specs.Opened.{IsHeld, opened_in}
 use Rattle.sound_steps.specs.Judged.{AreLegal, Begins, IsLoopParameter, IsReady, Judged, Waiting, turn_scope}
 use Rattle.sound_steps.specs.Holding.{IsSoundStep, inside}
 use Rattle.sound_steps.specs.Laws.{Premises}
 use Rattle.sound_steps.proofs.Sights.{fits_fewer, fits_turn, narrows_same, narrows_then}
+use Rattle.sound_steps.proofs.Raising.{exception_positive}
 use Rattle.sound_steps.proofs.Going.{At, Behind, Current, agrees_here, at_chosen, at_goes, at_value, before_judged, opened_before, ready_of, same_store, went}
 use Rattle.sound_steps.proofs.Valued.{IsNumber, condition_comes, fitting_own, number_comes}
 
@@ -113,10 +115,19 @@ module _ (h : Here) (s : Scope) (outer : List Waiting) (laws : Premises h.progra
     pub next_sound : (parameter : List ℕ) (reversed : Bool) (now last : ℤ) (body : StmtTrees) → Judged h.program s outer a (RepeatsFor parameter reversed now last body ∷ items)
         → IsSoundStep h (opened_in items) (next_turn h parameter reversed now last body items)
     next_sound parameter reversed now last body j =
-        let next = cond reversed (now -ℤ pos 1) (now +ℤ pos 1) in
-        at_chosen h s outer a items (are_same now last) (goes h items) (for_turn h parameter reversed next last body items)
-        (λ e. went h s outer c (record a { in_loop = j.7 }) items items held (j.6, narrows_then h.program s j.0 j.6 j.2 j.8, j.9) refl)
-        (λ e. turn_sound a items parameter reversed next last body j.0 j.1 j.7 held j.2 j.3 j.4 j.5 (j.6, j.8, j.9))
+        let behind : Behind h.program s outer (record a { in_loop = j.7 }) items = (j.6, narrows_then h.program s j.0 j.6 j.2 j.8, j.9) in
+        at_chosen h s outer a items (are_same now last) (goes h items)
+        (with_value h (next_number h reversed now) items (λ next. for_turn h parameter reversed next last body items))
+        (λ e. went h s outer c (record a { in_loop = j.7 }) items items held behind refl)
+        (λ e. at_value h s outer (record a { in_loop = j.7 }) items (λ next. Unit {0}) (record { current = c; held = held; behind = behind })
+        (next_number h reversed now)
+        (λ next. for_turn h parameter reversed next last body items)
+        (next_comes (cond reversed (difference_of now (pos 1)) (sum_of now (pos 1))))
+        (λ next u. turn_sound a items parameter reversed next last body j.0 j.1 j.7 held j.2 j.3 j.4 j.5 (j.6, j.8, j.9)))
+      where
+        next_comes : (r : Checked) → Comes (λ (next : ℤ). Unit {0}) (number_computed r)
+        next_comes (Ok z) = tt
+        next_comes (Err x) = exception_positive x
 
   -- ---- loop statements
 
