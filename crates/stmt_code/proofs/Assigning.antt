@@ -31,7 +31,7 @@ use Rattle.expr_code.specs.Computing.{ComputesChecked, Everywhere}
 use Rattle.expr_code.specs.Seeing.{Package, Sees, library_of, slot_of}
 use Rattle.expr_code.specs.Views.{At, View, placed, view_of}
 use Rattle.expr_code.specs.declared.visible.Slot.{Slot}
-use Rattle.stmt_code.specs.Layout.{IsLaidOut, IsVariable, NamesObject}
+use Rattle.stmt_code.specs.Layout.{IsLaidOut, IsVariable, NamesObject, IsFree}
 use Rattle.stmt_code.specs.Resting.{Framed, IsAt, IsAtHome, Knows, Rests, StandsFor}
 use Rattle.stmt_code.specs.Statements.{IsAssigned, Numbers}
 use Rattle.stmt_code.specs.Storing.{Assigned, Puts, assigned}
@@ -40,7 +40,7 @@ use Rattle.stmt_code.proofs.Names.{found_meant, meant_width, object_subtype, sam
 use Rattle.stmt_code.proofs.Placing.{stored_knows}
 use Rattle.stmt_code.proofs.StoringCode.{NamesWhole, StoresLocally, StoresPlainly, assigned_is, block_locally, block_plainly, comes_assigned, computes_above, given_value, local_named, named_whole, package_meant, package_named, whole_of, whole_there, word_locally, word_plainly}
 use Rattle.stmt_code.proofs.Variables.{variable_stands}
-use Rattle.stmt_code.proofs.Words.{lies_within, with_words, written}
+use Rattle.stmt_code.proofs.Words.{lies_within, with_words, written, others_kept}
 
 object_name : (objects : List Object) (name : List ℕ) (x : Object) → object_of objects name ≡ Some x → x.name ≡ name
 object_name [] name x h = cc
@@ -117,6 +117,7 @@ module _ (kept : AgreementIsKept) (sized : ValuesHaveWords) (calls : CallsAreTyp
       mid = mid;
       up = up;
       end = refl;
+      same = refl;
       stack = λ base y. on (stack base) y.value;
       computes = computes_assigned from mid stack computes;
       puts = puts;
@@ -127,7 +128,7 @@ module _ (kept : AgreementIsKept) (sized : ValuesHaveWords) (calls : CallsAreTyp
             → IsAt program store p → p.locals ≡ a.locals → p.within ≡ a.within → StandsFor program g store m → Rests g v a f.locals
             → Knows g v p (view_of i schedule k m f fs) → a.within ≡ None
             → assigned name e (call p.frames_left) p ≡ Gives y
-            → Puts i program g schedule k task m f fs mid (on (stack []) y.value) v (store_with y.target y.value store) (activation_with y.target y.value a)
+            → Puts i program g schedule k task m f fs mid (on (stack []) y.value) [] v (store_with y.target y.value store) (activation_with y.target y.value a)
         puts schedule k task m f fs store a p y is_at locals within stands rests knows outside gives =
             let view = view_of i schedule k m f fs in
             let own = found_some (object_of p.locals name.first.name)
@@ -148,7 +149,7 @@ module _ (kept : AgreementIsKept) (sized : ValuesHaveWords) (calls : CallsAreTyp
             let after = with_words slot.offset (value_words z) f.locals in
             let put = written f.locals slot.offset z (omega (arith, room, wide)) in
             subst
-            (λ (w : Assigned). Puts i program g schedule k task m f fs mid (on (stack []) w.value) v (store_with w.target w.value store)
+            (λ (w : Assigned). Puts i program g schedule k task m f fs mid (on (stack []) w.value) [] v (store_with w.target w.value store)
             (activation_with w.target w.value a))
             given.2
             (record {
@@ -166,6 +167,8 @@ module _ (kept : AgreementIsKept) (sized : ValuesHaveWords) (calls : CallsAreTyp
                         old here refl
                         (suited_outside p view knows.sees old meant z given.1) wide;
                   });
+              keeps = others_kept v.reserved slot.offset (value_words z) f.locals (omega (arith, room, wide))
+                  (subst (λ n. IsFree v.reserved slot.offset n) (sym wide) (laid.free name.first.name slot r t there region named variable));
             })
 
     -- a single word: its code, and STL
@@ -194,6 +197,7 @@ module _ (kept : AgreementIsKept) (sized : ValuesHaveWords) (calls : CallsAreTyp
       mid = mid;
       up = up;
       end = refl;
+      same = refl;
       stack = λ base y. on (stack base) y.value;
       computes = computes_assigned from mid stack computes;
       puts = puts;
@@ -204,7 +208,7 @@ module _ (kept : AgreementIsKept) (sized : ValuesHaveWords) (calls : CallsAreTyp
             → IsAt program store p → p.locals ≡ a.locals → p.within ≡ a.within → StandsFor program g store m → Rests g v a f.locals
             → Knows g v p (view_of i schedule k m f fs) → a.within ≡ None
             → assigned name e (call p.frames_left) p ≡ Gives y
-            → Puts i program g schedule k task m f fs mid (on (stack []) y.value) v (store_with y.target y.value store) (activation_with y.target y.value a)
+            → Puts i program g schedule k task m f fs mid (on (stack []) y.value) [] v (store_with y.target y.value store) (activation_with y.target y.value a)
         puts schedule k task m f fs store a p y is_at locals within stands rests knows outside gives =
             let view = view_of i schedule k m f fs in
             let none : object_of p.locals name.first.name ≡ None =
@@ -231,7 +235,7 @@ module _ (kept : AgreementIsKept) (sized : ValuesHaveWords) (calls : CallsAreTyp
             let after = with_words slot.offset (value_words z) m.plain in
             let put = written m.plain slot.offset z (omega (arith, room, wide)) in
             subst
-            (λ (w : Assigned). Puts i program g schedule k task m f fs mid (on (stack []) w.value) v (store_with w.target w.value store)
+            (λ (w : Assigned). Puts i program g schedule k task m f fs mid (on (stack []) w.value) [] v (store_with w.target w.value store)
             (activation_with w.target w.value a))
             given.2
             (record {
@@ -246,6 +250,7 @@ module _ (kept : AgreementIsKept) (sized : ValuesHaveWords) (calls : CallsAreTyp
                   (suited_outside p view knows.sees old meant z given.1) (wide ∙ sym old_wide) slot
                   (subst (λ q. g.slots q ≡ Some slot) called (laid.shared name.first.name slot there region)) after put);
               rests = rests;
+              keeps = λ n among. refl;
             })
 
     -- a single word: its code, and STG

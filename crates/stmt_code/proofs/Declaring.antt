@@ -36,13 +36,13 @@ use Rattle.expr_code.specs.Views.{At, View, in_frame, placed, view_of}
 use Rattle.expr_code.specs.declared.visible.Slot.{Slot}
 use Rattle.expr_code.specs.declared.visible.Visible.{Visible}
 use Rattle.expr_code.proofs.Coming.{pushes}
-use Rattle.stmt_code.specs.Layout.{IsLaidOut, Widens}
-use Rattle.stmt_code.specs.Resting.{Framed, IsAt, Knows, Rests, StandsFor}
+use Rattle.stmt_code.specs.Layout.{IsLaidOut, Widens, IsFree, Spares}
+use Rattle.stmt_code.specs.Resting.{Framed, IsAt, Knows, Rests, StandsFor, AreKept}
 use Rattle.stmt_code.specs.Statements.{IsDeclared, Numbers}
 use Rattle.stmt_code.specs.Storing.{Puts, declared, declared_from, object_declared}
 use Rattle.stmt_code.proofs.Placing.{declared_knows}
 use Rattle.stmt_code.proofs.StoringCode.{StoresLocally, block_locally, computes_above, passed_same, word_locally}
-use Rattle.stmt_code.proofs.Words.{with_words, written}
+use Rattle.stmt_code.proofs.Words.{with_words, written, others_kept}
 
 -- what is known of an expression whose value is stored, beside its code: its value is of the subtype's type
 pub record IsTypedAs (v : Visible) (t : Subtype) (e : ExprTree) : Type 0 where
@@ -66,15 +66,17 @@ module _ (kept : AgreementIsKept) (sized : ValuesHaveWords) (quiet : QuietStays)
 
   -- the code computes the value, and an instruction stores its words
   pub declares_by : (v later : Framed) (d : ObjectTree) (r : Role) (slot : Slot) (from mid : ℕ)
-      → IsLaidOut g v → Widens v d.name.name r (subtype_named program.scope d.subtype) slot later → slot.region ≡ regions.Locals
+      → IsLaidOut g v → Widens v d.name.name r (subtype_named program.scope d.subtype) slot later
+      → Spares v (subtype_named program.scope d.subtype) slot later → slot.region ≡ regions.Locals
       → from ≤ mid → (stack : List ℤ → Value → List ℤ) → Everywhere i (library_of g) (Sees g v.names) from mid stack (declared program.scope d)
       → Suits v d
       → StoresLocally i mid slot.offset (words_of v.names.scope (subtype_named program.scope d.subtype)) (stack [])
       → IsDeclared i program g numbers v from (suc mid) later (LocalObject d)
-  declares_by v later d r slot from mid laid widens region up stack computes suits stores = record {
+  declares_by v later d r slot from mid laid widens spares region up stack computes suits stores = record {
     mid = mid;
     up = up;
     end = refl;
+    same = spares.reserved;
     stack = stack;
     computes = computes;
     puts = puts;
@@ -88,7 +90,7 @@ module _ (kept : AgreementIsKept) (sized : ValuesHaveWords) (quiet : QuietStays)
           → IsAt program store p → p.locals ≡ a.locals → p.within ≡ a.within → StandsFor program g store m → Rests g v a f.locals
           → Knows g v p (view_of i schedule k m f fs) → a.within ≡ None
           → declared program.scope d (call p.frames_left) p ≡ Gives x
-          → Puts i program g schedule k task m f fs mid (stack [] x) later store (record a { locals = object_declared program.scope d x ∷ a.locals })
+          → Puts i program g schedule k task m f fs mid (stack [] x) [] later store (record a { locals = object_declared program.scope d x ∷ a.locals })
       puts schedule k task m f fs store a p x is_at locals within stands rests knows outside gives =
           let suited = suits p (view_of i schedule k m f fs) knows.sees (is_at.scope) x gives in
           let many : length (value_words x) ≡ words_of v.names.scope t = (sized (shape_of v.names.scope t) x suited).sized in
@@ -107,11 +109,14 @@ module _ (kept : AgreementIsKept) (sized : ValuesHaveWords) (quiet : QuietStays)
                   declared_knows kept sized g v laid a f.locals (with_words slot.offset (value_words x) f.locals) rests (object_declared program.scope d x)
                   slot.offset put p' view' sees' locals' within' words' r slot later widens region refl suited;
             };
+            keeps = subst (λ z. AreKept z f.locals (with_words slot.offset (value_words x) f.locals)) (sym spares.reserved)
+                (others_kept v.reserved slot.offset (value_words x) f.locals enough (subst (λ n. IsFree v.reserved slot.offset n) (sym many) spares.free));
           }
 
   -- ---- with an initial value
   module _ (calls : CallsAreTyped) (v later : Framed) (d : ObjectTree) (e : ExprTree) (r : Role) (t : Subtype) (slot : Slot) (valued : d.value ≡ Some e)
       (named : subtype_named program.scope d.subtype ≡ t) (laid : IsLaidOut g v) (widens : Widens v d.name.name r t slot later)
+      (spares : Spares v t slot later)
       (region : slot.region ≡ regions.Locals)
       (typed : IsTypedAs v.names t e) where
     declares_with : (from mid : ℕ) → from ≤ mid → (stack : List ℤ → Value → List ℤ)
@@ -119,7 +124,8 @@ module _ (kept : AgreementIsKept) (sized : ValuesHaveWords) (quiet : QuietStays)
         → StoresLocally i mid slot.offset (words_of v.names.scope t) (stack [])
         → IsDeclared i program g numbers v from (suc mid) later (LocalObject d)
     declares_with from mid up stack computes stores =
-        declares_by v later d r slot from mid laid (subst (λ u. Widens v d.name.name r u slot later) (sym named) widens) region up stack
+        declares_by v later d r slot from mid laid (subst (λ u. Widens v d.name.name r u slot later) (sym named) widens)
+        (subst (λ u. Spares v u slot later) (sym named) spares) region up stack
         (subst (λ o. Everywhere i (library_of g) (Sees g v.names) from mid stack (λ c p. declared_from program.scope d o c p)) (sym valued)
         (subst (λ u. Everywhere i (library_of g) (Sees g v.names) from mid stack (λ c p. and_then (value_with c p e) (passed u))) (sym named) computes))
         (λ p view sees scope x h.
@@ -148,12 +154,13 @@ module _ (kept : AgreementIsKept) (sized : ValuesHaveWords) (quiet : QuietStays)
   -- ---- without one: a word is put on the stack
   pub declares_initial : InitialValuesHaveShape → (v later : Framed) (d : ObjectTree) (r : Role) (t : Subtype) (slot : Slot) (w : ℤ) (from : ℕ)
       → d.value ≡ None → subtype_named program.scope d.subtype ≡ t
-      → IsLaidOut g v → Widens v d.name.name r t slot later → slot.region ≡ regions.Locals → words_of v.names.scope t ≡ 1
+      → IsLaidOut g v → Widens v d.name.name r t slot later → Spares v t slot later → slot.region ≡ regions.Locals → words_of v.names.scope t ≡ 1
       → IsKnown v.names.scope t → value_words (initial program.scope t) ≡ w ∷ []
       → At i from (op.Push w) → At i (suc from) (op.StoreLocal slot.offset)
       → IsDeclared i program g numbers v from (suc (suc from)) later (LocalObject d)
-  declares_initial shaped v later d r t slot w from valued named laid widens region single known word push here =
-      declares_by v later d r slot from (suc from) laid (subst (λ u. Widens v d.name.name r u slot later) (sym named) widens) region (omega arith) on
+  declares_initial shaped v later d r t slot w from valued named laid widens spares region single known word push here =
+      declares_by v later d r slot from (suc from) laid (subst (λ u. Widens v d.name.name r u slot later) (sym named) widens)
+      (subst (λ u. Spares v u slot later) (sym named) spares) region (omega arith) on
       (subst (λ o. Everywhere i (library_of g) (Sees g v.names) from (suc from) on (λ c p. declared_from program.scope d o c p)) (sym valued)
       (subst (λ u. Everywhere i (library_of g) (Sees g v.names) from (suc from) on (λ c p. Gives (initial program.scope u))) (sym named) computes))
       (λ p view sees scope x h.

@@ -1,21 +1,30 @@
 -- Where code goes on.
-use Rattle.std.proofs.Common.{◌≡◌, ℕ, ◌+◌, ◌≤◌, List, [], ◌∷◌, map, ◌++◌, Some, refl, sym, ap, ◌∙◌, subst, arith}
+use Rattle.std.proofs.Common.{◌≡◌, ℕ, ℤ, ◌+◌, ◌≤◌, List, [], ◌∷◌, map, ◌++◌, Bool, Some, refl, sym, ap, ◌∙◌, subst, arith}
 use Rattle.image.specs.Sections.{Sections}
 use Rattle.image.specs.Frames.{Frame}
 use Rattle.ada_tree.specs.StatementTree.{DeclarationTree, StmtTrees, NoStmts, MoreStmts}
-use Rattle.meaning.specs.Programs.{Program}
-use Rattle.meaning.specs.Works.{Item, Declares, Sequence, Does, DoesMain, Repeats, RepeatsWhile, Handles, EndsCall, Activation, ends_of_calls}
+use Rattle.meaning.specs.Programs.{Parameter, Program}
+use Rattle.meaning.specs.Works.{Item, Declares, DeclaresParameter, Sequence, Does, DoesMain, Repeats, RepeatsWhile, RepeatsFor, Handles, EndsCall, Activation, ends_of_calls}
 use Rattle.meaning.specs.SourceSteps.{before, behind_loop, end_of_body}
 use Rattle.expr_code.specs.Seeing.{Package}
-use Rattle.stmt_code.specs.Resting.{Framed, Narrows}
-use Rattle.stmt_code.specs.Statements.{AreDeclared, AreStatements, Numbers}
-use Rattle.stmt_code.specs.Standing.{Around, Follows, Here, Inside, Jumps, Leads, LeadsBack, LeadsOut, Reaches, There, Unhandled, with_visible}
+use Rattle.stmt_code.specs.Resting.{AreHeld, Framed, Narrows, Shows, held_offset}
+use Rattle.stmt_code.specs.Copying.{addresses_of}
+use Rattle.stmt_code.specs.Counting.{IsCounted, in_turn}
+use Rattle.stmt_code.specs.Statements.{AreDeclared, AreParametersDeclared, AreStatements, Numbers}
+use Rattle.stmt_code.specs.Standing.{Around, Follows, Here, Inside, Jumps, Leads, LeadsBack, LeadsEnd, LeadsInto, LeadsNext, LeadsOut, Reaches, There, Unhandled, with_visible}
 
 pub narrows_same : (g : Package) (v : Framed) → Narrows g v v
-narrows_same g v p view h = h
+narrows_same g v = record { shows = λ p view h. h; reserved = refl }
+
+pub shows_then : (g : Package) (a b c : Framed) → Narrows g a b → Shows g b c → Shows g a c
+shows_then g a b c x y p view h = y p view (x.shows p view h)
 
 pub narrows_both : (g : Package) (a b c : Framed) → Narrows g a b → Narrows g b c → Narrows g a c
-narrows_both g a b c x y p view h = y p view (x p view h)
+narrows_both g a b c x y = record { shows = shows_then g a b c x y.shows; reserved = x.reserved ∙ y.reserved }
+
+abbrev pub rest_of : {A : Type 0} → List A → List A
+rest_of [] = []
+rest_of (x ∷ xs) = xs
 
 module _ (i : Sections) (program : Program) (g : Package) (numbers : Numbers) where
   abbrev Setting : Type 0
@@ -54,6 +63,20 @@ module _ (i : Sections) (program : Program) (g : Package) (numbers : Numbers) wh
     to_inside = h.to_inside;
   }
 
+  earlier_into : (v more : Framed) (n x y at to : ℕ) (now : Framed) → Jump x y → Narrows g more v → In n x
+      → LeadsInto i program g numbers v n y at to now → LeadsInto i program g numbers more n x at to now
+  earlier_into v more n x y at to now j nar ins h = record {
+    jumps = jumps_both j h.jumps;
+    narrows = narrows_both g more v now nar h.narrows;
+    from_inside = ins;
+    up = h.up;
+    to_inside = h.to_inside;
+  }
+
+  pub into : (a : Setting) (n from at to : ℕ) (now : Framed) → Leads i program g numbers a n from at to now
+      → LeadsInto i program g numbers a.visible n from at to now
+  into a n from at to now h = record { jumps = h.jumps; narrows = h.narrows; from_inside = h.from_inside; up = h.up; to_inside = h.to_inside }
+
   earlier_out : (a : Setting) (more : Framed) (n x y : ℕ) → Jump x y → In n x → LeadsOut i program g numbers a n y
       → LeadsOut i program g numbers (seeing more a) n x
   earlier_out a more n x y j ins h = record {
@@ -64,6 +87,50 @@ module _ (i : Sections) (program : Program) (g : Package) (numbers : Numbers) wh
     exit = h.exit;
     from_inside =
         ins;
+    to_inside = h.to_inside;
+  }
+
+  abbrev LeadEnd : Setting → (n from : ℕ) → Framed → List (List ℕ) → List ℕ → Type 0
+  LeadEnd a n from now names addresses = LeadsEnd i program g numbers a n from now names addresses
+
+  earlier_end : (a : Setting) (more now : Framed) (n x y : ℕ) (names : List (List ℕ)) (addresses : List ℕ) → Jump x y → Narrows g now a.visible → In n x
+      → LeadEnd a n y a.visible names addresses → LeadEnd (seeing more a) n x now names addresses
+  earlier_end a more now n x y names addresses j nar ins h = record {
+    at = h.at;
+    last = h.last;
+    jumps = jumps_both j h.jumps;
+    narrows = narrows_both g now a.visible h.last nar h.narrows;
+    gives = h.gives;
+    held = h.held;
+    exit = h.exit;
+    from_inside = ins;
+    to_inside = h.to_inside;
+  }
+
+  pub same_end : (a : Setting) (more now : Framed) (n x : ℕ) (names : List (List ℕ)) (addresses : List ℕ) → LeadEnd a n x now names addresses
+      → LeadEnd (seeing more a) n x now names addresses
+  same_end a more now n x names addresses h = record {
+    at = h.at;
+    last = h.last;
+    jumps = h.jumps;
+    narrows = h.narrows;
+    gives = h.gives;
+    held = h.held;
+    exit = h.exit;
+    from_inside = h.from_inside;
+    to_inside = h.to_inside;
+  }
+
+  earlier_next : (a : Setting) (more : Framed) (n x y head to back counter limit : ℕ) (now last : ℤ) (inner : Framed) (outer : Setting) → Jump x y
+      → Narrows g more a.visible → In n x → LeadsNext i program g numbers a n y head to back counter limit now last inner outer
+      → LeadsNext i program g numbers (seeing more a) n x head to back counter limit now last inner outer
+  earlier_next a more n x y head to back counter limit now last inner outer j nar ins h = record {
+    jumps = jumps_both j h.jumps;
+    loop = ap (λ q. seeing more q) h.loop;
+    narrows = narrows_both g more a.visible inner nar h.narrows;
+    reaches = h.reaches;
+    from_inside = ins;
+    head_inside = h.head_inside;
     to_inside = h.to_inside;
   }
 
@@ -87,14 +154,27 @@ module _ (i : Sections) (program : Program) (g : Package) (numbers : Numbers) wh
       → Jump x y → Narrows g more a.visible → In n x → Follow a n y items fs os → Follow (seeing more a) n x items fs os
   earlier [] a more n x y fs os j nar ins h = (earlier_out a more n x y j ins h.0, h.1, h.2)
   earlier (Declares d ∷ items) a more n x y fs os j nar ins h = (h.0, h.1, h.2, h.3, earlier_leads a more n x y h.0 h.1 h.2 j nar ins h.4, h.5, h.6, h.7)
+  earlier (DeclaresParameter d ∷ items) a more n x y fs os j nar ins h =
+      (h.0, h.1, h.2, h.3, earlier_into a.visible more n x y h.0 h.1 h.2 j nar ins h.4, h.5, h.6, h.7)
   earlier (Sequence body hs ∷ items) a more n x y fs os j nar ins h = (h.0, h.1, h.2, h.3, earlier_leads a more n x y h.0 h.1 h.2 j nar ins h.4, h.5, h.6)
   earlier (Does s ∷ items) a more n x y fs os j nar ins h = (h.0, h.1, h.2, earlier_leads a more n x y h.0 h.1 h.2 j nar ins h.3, h.4, h.5)
   earlier (DoesMain s ∷ items) a more n x y fs os j nar ins h = (h.0, h.1, h.2, earlier_leads a more n x y h.0 h.1 h.2 j nar ins h.3, h.4, h.5)
   earlier (Handles hs ∷ items) a more n x y fs os j nar ins h = (h.0, earlier items a more n x y fs os j nar ins h.1)
   earlier (Repeats body ∷ items) a more n x y fs os j nar ins h = (h.0, h.1, h.2, earlier_back a more n x y h.0 h.1 h.2 j nar ins h.3, h.4, h.5)
   earlier (RepeatsWhile e body ∷ items) a more n x y fs os j nar ins h = (h.0, h.1, h.2, earlier_back a more n x y h.0 h.1 h.2 j nar ins h.3, h.4, h.5)
+  earlier (RepeatsFor parameter reversed now last body ∷ items) a more n x y fs os j nar ins h =
+      let c = h.3 in (
+        h.0,
+        h.1,
+        h.2,
+        h.3,
+        earlier_next a more n x y h.0 h.1 c.back c.counter c.limit now last c.inner h.2 j nar ins h.4,
+        h.5,
+        h.6,
+      )
   earlier (EndsCall names opened xs ∷ items) a more n x y fs os j nar ins h =
-      let out = h.11 in (
+      let outer = h.5 in
+      let addresses = addresses_of outer.visible.names xs in (
         h.0,
         h.1,
         h.2,
@@ -104,22 +184,19 @@ module _ (i : Sections) (program : Program) (g : Package) (numbers : Numbers) wh
         h.6,
         h.7,
         h.8,
-        earlier_out a more n x y j ins h.9,
+        earlier_end a more more n x y names addresses j nar ins h.9,
         h.10,
-        (record {
-          at = out.at;
-          jumps = out.jumps;
-          return = out.return;
-          results = out.results;
-          exit = out.exit;
-          from_inside = out.from_inside;
-          to_inside =
-              out.to_inside;
-        }),
-        h.12,
+        nar.reserved ∙ h.11,
+        same_end a more a.ending n h.0 names addresses h.12,
         h.13,
         h.14,
         h.15,
+        h.16,
+        h.17,
+        h.18,
+        h.19,
+        h.20,
+        h.21,
       )
   earlier (i' ∷ items) a more n x y fs os j nar ins h = absurd h
 
@@ -165,7 +242,7 @@ module _ (i : Sections) (program : Program) (g : Package) (numbers : Numbers) wh
       let u = code.2 in
       let v = code.3 in
       let inside : In n mid = (omega (arith, x.0, u), omega (arith, y.1, v)) in
-      let further : Reaches i program g numbers a next = (narrows_both g next now a.behind code.5 reach.0, narrows_both g next now a.ending code.5 reach.1) in (
+      let further : Reaches i program g numbers a next = (shows_then g next now a.behind code.5 reach.0, shows_then g next now a.ending code.5 reach.1) in (
         from,
         mid,
         now,
@@ -176,6 +253,38 @@ module _ (i : Sections) (program : Program) (g : Package) (numbers : Numbers) wh
         declares_follow ds a next later n mid to items fs os code.6 v inside y further (λ nar. rest (narrows_both g later next now nar code.5)),
       )
 
+  -- `out` parameters, and then the items
+  pub parameters_follow : (ps : List Parameter) (a : Setting) (now later : Framed) (n from to : ℕ) (items : List Item) (fs : List Frame) (os : List Activation)
+      → AreParametersDeclared i program g numbers now from to later ps → from ≤ to → In n from → In n to
+      → (Narrows g later now → Follow (seeing later a) n to items fs os)
+      → Follow (seeing now a) n from (map DeclaresParameter ps ++ items) fs os
+  parameters_follow [] a now later n from to items fs os code le x y rest =
+      subst (λ q. Follow (seeing now a) n q items fs os) (sym code.0)
+      (subst (λ q. Follow (seeing q a) n to items fs os) code.1 (rest (subst (λ q. Narrows g q now) (sym code.1) (narrows_same g now))))
+  parameters_follow (f ∷ ps) a now later n from to items fs os code le x y rest =
+      let mid = code.0 in
+      let next = code.1 in
+      let u = code.2 in
+      let v = code.3 in
+      let inside : In n mid = (omega (arith, x.0, u), omega (arith, y.1, v)) in (
+        from,
+        mid,
+        now,
+        next,
+        (record { jumps = Here; narrows = narrows_same g now; from_inside = x; up = u; to_inside = inside }),
+        code.5,
+        code.4,
+        parameters_follow ps a next later n mid to items fs os code.6 v inside y (λ nar. rest (narrows_both g later next now nar code.5)),
+      )
+
+  pub parameters_end : (ps : List Parameter) (items : List Item) → ends_of_calls (map DeclaresParameter ps ++ items) ≡ ends_of_calls items
+  parameters_end [] items = refl
+  parameters_end (f ∷ ps) items = parameters_end ps items
+
+  pub parameters_unhandled : (ps : List Parameter) (items : List Item) → Unhandled items → Unhandled (map DeclaresParameter ps ++ items)
+  parameters_unhandled [] items h = h
+  parameters_unhandled (f ∷ ps) items h = parameters_unhandled ps items h
+
   pub declares_end : (ds : List DeclarationTree) (items : List Item) → ends_of_calls (map Declares ds ++ items) ≡ ends_of_calls items
   declares_end [] items = refl
   declares_end (d ∷ ds) items = declares_end ds items
@@ -184,16 +293,67 @@ module _ (i : Sections) (program : Program) (g : Package) (numbers : Numbers) wh
   declares_unhandled [] items h = h
   declares_unhandled (d ∷ ds) items h = declares_unhandled ds items h
 
-  -- the way out of the innermost loop
+  -- what is held at the one point is held at the other, where all that is held is reserved
+  pub record Drops (a b : Setting) : Type 0 where
+    pub held : (locals : List ℤ) → AreHeld locals a.held → AreHeld locals b.held
+    pub apart : map held_offset a.held ≡ a.visible.reserved → map held_offset b.held ≡ b.visible.reserved
+
+  drops_seeing : (a : Setting) (v : Framed) (b : Setting) → a.visible.reserved ≡ v.reserved → Drops (seeing v a) b → Drops a b
+  drops_seeing a v b e d = record { held = d.held; apart = λ h. d.apart (h ∙ e) }
+
+  drops_loop : (a : Setting) (n from head to : ℕ) (outer : Setting) → LeadsBack i program g numbers a n from head to outer → Drops a outer
+  drops_loop a n from head to outer back =
+      let same : a.held ≡ outer.held = ap (λ q. q.held) back.loop in record {
+        held = λ locals h. subst (λ q. AreHeld locals q) same h;
+        apart = λ h. ap (λ q. map held_offset q) (sym same) ∙ h ∙ back.narrows.reserved;
+      }
+
+  drops_turn : (a : Setting) (n from head to : ℕ) (parameter : List ℕ) (reversed : Bool) (now last : ℤ) (outer : Setting)
+      (c : IsCounted i g outer.visible head to parameter reversed)
+      → LeadsNext i program g numbers a n from head to c.back c.counter c.limit now last c.inner outer → Drops a outer
+  drops_turn a n from head to parameter reversed now last outer c next =
+      let same : a.held ≡ in_turn c.counter c.limit now last outer.held = ap (λ q. q.held) next.loop in record {
+        held = λ locals h. (subst (λ q. AreHeld locals q) same h).1.1;
+        apart = λ h. ap (λ l. rest_of (rest_of l)) (ap (λ q. map held_offset q) (sym same) ∙ h ∙ next.narrows.reserved ∙ c.reserved);
+      }
+
+  -- where the frame goes on behind the innermost loop
+  pub record IsOut (a : Setting) (n e : ℕ) (items : List Item) (fs : List Frame) (os : List Activation) : Type 0 where
+    pub outer : Setting
+    pub visible : a.behind ≡ outer.visible
+    pub follows : Follow outer n e (behind_loop items) fs os
+    pub ends : ends_of_calls (behind_loop items) ≡ ends_of_calls items
+    pub unhandled : Unhandled items → Unhandled (behind_loop items)
+    pub drops : Drops a outer
+
+  out_seeing : (a : Setting) (v : Framed) (n e : ℕ) (items : List Item) (i' : Item) (fs : List Frame) (os : List Activation) → a.visible.reserved ≡ v.reserved
+      → behind_loop (i' ∷ items) ≡ behind_loop items → ends_of_calls (i' ∷ items) ≡ ends_of_calls items → (Unhandled (i' ∷ items) → Unhandled items)
+      → IsOut (seeing v a) n e items fs os → IsOut a n e (i' ∷ items) fs os
+  out_seeing a v n e items i' fs os same behind ends handled r = record {
+    outer = r.outer;
+    visible = r.visible;
+    follows = subst (λ q. Follow r.outer n e q fs os) (sym behind) r.follows;
+    ends = ap ends_of_calls behind ∙ r.ends ∙ sym ends;
+    unhandled = λ u. subst Unhandled (sym behind) (r.unhandled (handled u));
+    drops = drops_seeing a v r.outer same r.drops;
+  }
+
   pub way_out : (items : List Item) (a : Setting) (n from e : ℕ) (fs : List Frame) (os : List Activation) → Follow a n from items fs os → a.ways.exit ≡ Some e
-      → (outer : Setting) × (a.behind ≡ outer.visible) × Follow outer n e (behind_loop items) fs os ×
-      (ends_of_calls (behind_loop items) ≡ ends_of_calls items) × (Unhandled items → Unhandled (behind_loop items))
+      → IsOut a n e items fs os
   way_out [] a n from e fs os h is = let none = h.0.exit in absurd cc
-  way_out (Declares d ∷ items) a n from e fs os h is = let r = way_out items (seeing h.3 a) n h.1 e fs os h.7 is in (r.0, r.1, r.2, r.3, r.4)
-  way_out (Sequence body hs ∷ items) a n from e fs os h is = let r = way_out items (seeing h.2 a) n h.1 e fs os h.6 is in (r.0, r.1, r.2, r.3, r.4)
-  way_out (Does s ∷ items) a n from e fs os h is = let r = way_out items (seeing h.2 a) n h.1 e fs os h.5 is in (r.0, r.1, r.2, r.3, r.4)
-  way_out (DoesMain s ∷ items) a n from e fs os h is = let r = way_out items (seeing h.2 a) n h.1 e fs os h.5 is in (r.0, r.1, r.2, r.3, r.4)
-  way_out (Handles hs ∷ items) a n from e fs os h is = let r = way_out items a n from e fs os h.1 is in (r.0, r.1, r.2, r.3, λ u. r.4 u.1)
+  way_out (Declares d ∷ items) a n from e fs os h is =
+      out_seeing a h.3 n e items (Declares d) fs os (h.4.narrows.reserved ∙ sym h.5.reserved) refl refl (λ u. u) (way_out items (seeing h.3 a) n h.1 e fs os h.7 is)
+  way_out (DeclaresParameter f ∷ items) a n from e fs os h is =
+      out_seeing a h.3 n e items (DeclaresParameter f) fs os (h.4.narrows.reserved ∙ sym h.5.reserved) refl refl (λ u. u)
+      (way_out items (seeing h.3 a) n h.1 e fs os h.7 is)
+  way_out (Sequence body hs ∷ items) a n from e fs os h is =
+      out_seeing a h.2 n e items (Sequence body hs) fs os h.4.narrows.reserved refl refl (λ u. u) (way_out items (seeing h.2 a) n h.1 e fs os h.6 is)
+  way_out (Does s ∷ items) a n from e fs os h is =
+      out_seeing a h.2 n e items (Does s) fs os h.3.narrows.reserved refl refl (λ u. u) (way_out items (seeing h.2 a) n h.1 e fs os h.5 is)
+  way_out (DoesMain s ∷ items) a n from e fs os h is =
+      out_seeing a h.2 n e items (DoesMain s) fs os h.3.narrows.reserved refl refl (λ u. u) (way_out items (seeing h.2 a) n h.1 e fs os h.5 is)
+  way_out (Handles hs ∷ items) a n from e fs os h is =
+      out_seeing a a.visible n e items (Handles hs) fs os refl refl refl (λ u. u.1) (way_out items a n from e fs os h.1 is)
   way_out (Repeats body ∷ items) a n from e fs os h is =
       let head = h.0 in
       let to = h.1 in
@@ -205,15 +365,16 @@ module _ (i : Sections) (program : Program) (g : Package) (numbers : Numbers) wh
       let x = back.head_inside in
       let y = back.to_inside in
       let up = code.1 in
-      let end = code.6 in (
-        outer,
-        ap (λ q. q.behind) back.loop,
-        subst (λ q. Follow outer n q items fs os) same
+      let end = code.6 in record {
+        outer = outer;
+        visible = ap (λ q. q.behind) back.loop;
+        follows = subst (λ q. Follow outer n q items fs os) same
             (earlier items outer outer.visible n (head + 1) to fs os (There code.3 (omega (arith, up, end)) Here) (narrows_same g outer.visible)
-            (omega (arith, x.0), omega (arith, y.1, up, end)) h.5),
-        refl,
-        λ u. u,
-      )
+            (omega (arith, x.0), omega (arith, y.1, up, end)) h.5);
+        ends = refl;
+        unhandled = λ u. u;
+        drops = drops_loop a n from head to outer back;
+      }
   way_out (RepeatsWhile c body ∷ items) a n from e fs os h is =
       let head = h.0 in
       let to = h.1 in
@@ -226,41 +387,112 @@ module _ (i : Sections) (program : Program) (g : Package) (numbers : Numbers) wh
       let y = back.to_inside in
       let up = code.2 in
       let over = code.3 in
-      let end = code.10 in (
-        outer,
-        ap (λ q. q.behind) back.loop,
-        subst (λ q. Follow outer n q items fs os) same
+      let end = code.10 in record {
+        outer = outer;
+        visible = ap (λ q. q.behind) back.loop;
+        follows = subst (λ q. Follow outer n q items fs os) same
             (earlier items outer outer.visible n (head + 1) to fs os (There code.5 (omega (arith, up, over, end)) Here) (narrows_same g outer.visible)
-            (omega (arith, x.0), omega (arith, y.1, up, over, end)) h.5),
-        refl,
-        λ u. u,
-      )
+            (omega (arith, x.0), omega (arith, y.1, up, over, end)) h.5);
+        ends = refl;
+        unhandled = λ u. u;
+        drops = drops_loop a n from head to outer back;
+      }
+  way_out (RepeatsFor parameter reversed now last body ∷ items) a n from e fs os h is =
+      let head = h.0 in
+      let to = h.1 in
+      let outer = h.2 in
+      let c = h.3 in
+      let next = h.4 in
+      let there : Some (head + 1) ≡ Some e = sym (ap (λ q. q.ways.exit) next.loop) ∙ is in
+      let same : head + 1 ≡ e = cc in
+      let x = next.head_inside in
+      let y = next.to_inside in
+      let up = c.up in
+      let over = c.over in
+      let on = c.on in
+      let end = c.end in record {
+        outer = outer;
+        visible = ap (λ q. q.behind) next.loop;
+        follows = subst (λ q. Follow outer n q items fs os) same
+            (earlier items outer outer.visible n (head + 1) to fs os (There c.out (omega (arith, up, over, on, end)) Here) (narrows_same g outer.visible)
+            (omega (arith, x.0), omega (arith, y.1, up, over, on, end)) h.6);
+        ends = refl;
+        unhandled = λ u. u;
+        drops = drops_turn a n from head to parameter reversed now last outer c next;
+      }
   way_out (EndsCall names opened xs ∷ items) a n from e fs os h is = let none = h.9.exit in absurd cc
   way_out (i' ∷ items) a n from e fs os h is = absurd h
 
-  -- the way to the end of the body
+  -- where it goes on at the end of the body
+  pub record IsBack (a : Setting) (n e : ℕ) (items : List Item) (fs : List Frame) (os : List Activation) : Type 0 where
+    pub end : Setting
+    pub visible : a.ending ≡ end.visible
+    pub follows : Follow end n e (end_of_body items) fs os
+    pub ends : ends_of_calls (end_of_body items) ≡ ends_of_calls items
+    pub unhandled : Unhandled items → Unhandled (end_of_body items)
+    pub drops : Drops a end
+
+  back_seeing : (a : Setting) (v : Framed) (n e : ℕ) (items : List Item) (i' : Item) (fs : List Frame) (os : List Activation) → a.visible.reserved ≡ v.reserved
+      → end_of_body (i' ∷ items) ≡ end_of_body items → ends_of_calls (i' ∷ items) ≡ ends_of_calls items → (Unhandled (i' ∷ items) → Unhandled items)
+      → IsBack (seeing v a) n e items fs os → IsBack a n e (i' ∷ items) fs os
+  back_seeing a v n e items i' fs os same behind ends handled r = record {
+    end = r.end;
+    visible = r.visible;
+    follows = subst (λ q. Follow r.end n e q fs os) (sym behind) r.follows;
+    ends = ap ends_of_calls behind ∙ r.ends ∙ sym ends;
+    unhandled = λ u. subst Unhandled (sym behind) (r.unhandled (handled u));
+    drops = drops_seeing a v r.end same r.drops;
+  }
+
+  -- from a loop, of which this is around
+  back_outer : (a outer : Setting) (n e : ℕ) (items : List Item) (i' : Item) (fs : List Frame) (os : List Activation) → a.ending ≡ outer.ending → Drops a outer
+      → end_of_body (i' ∷ items) ≡ end_of_body items → ends_of_calls (i' ∷ items) ≡ ends_of_calls items → (Unhandled (i' ∷ items) → Unhandled items)
+      → IsBack outer n e items fs os → IsBack a n e (i' ∷ items) fs os
+  back_outer a outer n e items i' fs os same d behind ends handled r = record {
+    end = r.end;
+    visible = same ∙ r.visible;
+    follows = subst (λ q. Follow r.end n e q fs os) (sym behind) r.follows;
+    ends = ap ends_of_calls behind ∙ r.ends ∙ sym ends;
+    unhandled = λ u. subst Unhandled (sym behind) (r.unhandled (handled u));
+    drops = record { held = λ locals h. r.drops.held locals (d.held locals h); apart = λ h. r.drops.apart (d.apart h) };
+  }
+
   pub way_back : (items : List Item) (a : Setting) (n from e : ℕ) (fs : List Frame) (os : List Activation) → Follow a n from items fs os
       → a.ways.return ≡ Some e
-      → (end : Setting) × (a.ending ≡ end.visible) × Follow end n e (end_of_body items) fs os × (ends_of_calls (end_of_body items) ≡ ends_of_calls items) ×
-      (Unhandled items → Unhandled (end_of_body items))
+      → IsBack a n e items fs os
   way_back [] a n from e fs os h is = let none = h.1 in absurd cc
-  way_back (Declares d ∷ items) a n from e fs os h is = let r = way_back items (seeing h.3 a) n h.1 e fs os h.7 is in (r.0, r.1, r.2, r.3, r.4)
-  way_back (Sequence body hs ∷ items) a n from e fs os h is = let r = way_back items (seeing h.2 a) n h.1 e fs os h.6 is in (r.0, r.1, r.2, r.3, r.4)
-  way_back (Does s ∷ items) a n from e fs os h is = let r = way_back items (seeing h.2 a) n h.1 e fs os h.5 is in (r.0, r.1, r.2, r.3, r.4)
-  way_back (DoesMain s ∷ items) a n from e fs os h is = let r = way_back items (seeing h.2 a) n h.1 e fs os h.5 is in (r.0, r.1, r.2, r.3, r.4)
-  way_back (Handles hs ∷ items) a n from e fs os h is = let r = way_back items a n from e fs os h.1 is in (r.0, r.1, r.2, r.3, λ u. r.4 u.1)
+  way_back (Declares d ∷ items) a n from e fs os h is =
+      back_seeing a h.3 n e items (Declares d) fs os (h.4.narrows.reserved ∙ sym h.5.reserved) refl refl (λ u. u)
+      (way_back items (seeing h.3 a) n h.1 e fs os h.7 is)
+  way_back (DeclaresParameter f ∷ items) a n from e fs os h is =
+      back_seeing a h.3 n e items (DeclaresParameter f) fs os (h.4.narrows.reserved ∙ sym h.5.reserved) refl refl (λ u. u)
+      (way_back items (seeing h.3 a) n h.1 e fs os h.7 is)
+  way_back (Sequence body hs ∷ items) a n from e fs os h is =
+      back_seeing a h.2 n e items (Sequence body hs) fs os h.4.narrows.reserved refl refl (λ u. u) (way_back items (seeing h.2 a) n h.1 e fs os h.6 is)
+  way_back (Does s ∷ items) a n from e fs os h is =
+      back_seeing a h.2 n e items (Does s) fs os h.3.narrows.reserved refl refl (λ u. u) (way_back items (seeing h.2 a) n h.1 e fs os h.5 is)
+  way_back (DoesMain s ∷ items) a n from e fs os h is =
+      back_seeing a h.2 n e items (DoesMain s) fs os h.3.narrows.reserved refl refl (λ u. u) (way_back items (seeing h.2 a) n h.1 e fs os h.5 is)
+  way_back (Handles hs ∷ items) a n from e fs os h is =
+      back_seeing a a.visible n e items (Handles hs) fs os refl refl refl (λ u. u.1) (way_back items a n from e fs os h.1 is)
   way_back (Repeats body ∷ items) a n from e fs os h is =
-      let r = way_back items h.2 n h.1 e fs os h.5 (sym (ap (λ q. q.ways.return) h.3.loop) ∙ is) in (r.0, ap (λ q. q.ending) h.3.loop ∙ r.1, r.2, r.3, r.4)
+      back_outer a h.2 n e items (Repeats body) fs os (ap (λ q. q.ending) h.3.loop) (drops_loop a n from h.0 h.1 h.2 h.3) refl refl (λ u. u)
+      (way_back items h.2 n h.1 e fs os h.5 (sym (ap (λ q. q.ways.return) h.3.loop) ∙ is))
   way_back (RepeatsWhile c body ∷ items) a n from e fs os h is =
-      let r = way_back items h.2 n h.1 e fs os h.5 (sym (ap (λ q. q.ways.return) h.3.loop) ∙ is) in (r.0, ap (λ q. q.ending) h.3.loop ∙ r.1, r.2, r.3, r.4)
+      back_outer a h.2 n e items (RepeatsWhile c body) fs os (ap (λ q. q.ending) h.3.loop) (drops_loop a n from h.0 h.1 h.2 h.3) refl refl (λ u. u)
+      (way_back items h.2 n h.1 e fs os h.5 (sym (ap (λ q. q.ways.return) h.3.loop) ∙ is))
+  way_back (RepeatsFor parameter reversed now last body ∷ items) a n from e fs os h is =
+      back_outer a h.2 n e items (RepeatsFor parameter reversed now last body) fs os (ap (λ q. q.ending) h.4.loop)
+      (drops_turn a n from h.0 h.1 parameter reversed now last h.2 h.3 h.4) refl refl (λ u. u)
+      (way_back items h.2 n h.1 e fs os h.6 (sym (ap (λ q. q.ways.return) h.4.loop) ∙ is))
   way_back (EndsCall names opened xs ∷ items) a n from e fs os h is =
       let there : Some h.0 ≡ Some e = sym h.10 ∙ is in
       let same : h.0 ≡ e = cc in
-      let out = h.11 in
-      let x = h.9 in (
-        seeing a.ending a,
-        refl,
-        subst (λ q. Follow (seeing a.ending a) n q (EndsCall names opened xs ∷ items) fs os) same (
+      let outer = h.5 in
+      let addresses = addresses_of outer.visible.names xs in record {
+        end = seeing a.ending a;
+        visible = refl;
+        follows = subst (λ q. Follow (seeing a.ending a) n q (EndsCall names opened xs ∷ items) fs os) same (
           h.0,
           h.1,
           h.2,
@@ -270,33 +502,22 @@ module _ (i : Sections) (program : Program) (g : Package) (numbers : Numbers) wh
           h.6,
           h.7,
           h.8,
-          (record {
-            at = out.at;
-            jumps = out.jumps;
-            return = out.return;
-            results = out.results;
-            exit = out.exit;
-            from_inside = out.from_inside;
-            to_inside =
-                out.to_inside;
-          }),
+          same_end a a.ending a.ending n h.0 names addresses h.12,
           h.10,
-          (record {
-            at = out.at;
-            jumps = out.jumps;
-            return = out.return;
-            results = out.results;
-            exit = out.exit;
-            from_inside = out.from_inside;
-            to_inside =
-                out.to_inside;
-          }),
-          h.12,
+          refl,
+          same_end a a.ending a.ending n h.0 names addresses h.12,
           h.13,
           h.14,
           h.15,
-        ),
-        refl,
-        λ u. u,
-      )
+          h.16,
+          h.17,
+          h.18,
+          h.19,
+          h.20,
+          h.21,
+        );
+        ends = refl;
+        unhandled = λ u. u;
+        drops = record { held = λ locals x. x; apart = λ x. x ∙ h.11 };
+      }
   way_back (i' ∷ items) a n from e fs os h is = absurd h

@@ -15,7 +15,7 @@ use Rattle.well_typed.proofs.Goods.{object_known}
 use Rattle.well_typed.proofs.Positions.{entity_kept, entity_number, item_added, number_added, number_kept, same_some}
 use Rattle.expr_code.specs.Seeing.{Package, slot_of, told_of}
 use Rattle.expr_code.specs.declared.visible.Slot.{Slot}
-use Rattle.stmt_code.specs.Layout.{AreApart, EndsBy, IsLaid, IsLaidOut, NamesObject, Widens}
+use Rattle.stmt_code.specs.Layout.{AreApart, EndsBy, IsLaid, IsLaidOut, NamesObject, Widens, AreFree, IsFree, Spares}
 use Rattle.stmt_code.specs.Resting.{Framed}
 use Rattle.stmt_code.proofs.Names.{WasTold, is_told, same_name, told_of_more}
 
@@ -198,11 +198,26 @@ module _ (stay : ShapesStay) (g : Package) (v later : Framed) (name : List ℕ) 
   was_told : (other : List ℕ) (x : Slot) → slot_of later.names other ≡ Some x → told_of wider entries other ≡ Some x
   was_told other x h = sym (ap (λ z. told_of z later.names.slots.items other) scope_is ∙ ap (λ l. told_of wider l other) widens.slots) ∙ h
 
+  -- no word of a variable is one that statements leave alone, the new one's among them
+  pub free_wider : Spares v t slot later → AreFree later
+  free_wider spares other x q u told local n variable =
+      let n' = subst (λ z. NamesObject z other q u) scope_is n in
+      subst (λ z. IsFree z x.offset (words_of later.names.scope u)) (sym spares.reserved)
+      (subst (λ z. IsFree v.reserved x.offset (words_of z u)) (sym scope_is)
+      (elim (was other x (was_told other x told)) [
+        | inl w ↦ (let m = named_before other w.number q u w.numbered n' in
+            subst (λ k. IsFree v.reserved x.offset k) (sym (object_words other q u m)) (laid.free other x q u w.told local m variable))
+        | inr e ↦ (let o : slot ≡ x = same_some slot x e.1 in
+            subst (λ z. IsFree v.reserved z.offset (words_of wider u)) o
+            (subst (λ k. IsFree v.reserved slot.offset k) (sym (sym (ap (words_of wider) (new_subtype other q u e.0 n')) ∙ new_words)) spares.free))
+      ]))
+
   -- the places are laid out as before, with one more
-  pub laid_wider : IsLaidOut g later
-  laid_wider = record {
+  pub laid_wider : AreFree later → IsLaidOut g later
+  laid_wider free = record {
     unit = laid.unit;
     laid = is_laid;
+    free = free;
     shared = λ other x h plain. elim (was other x (was_told other x h)) [
       | inl w ↦ laid.shared other x w.told plain
       | inr e ↦ (let k = sym region ∙ ap (λ z. z.region) (same_some slot x e.1) ∙ plain in cc)

@@ -1,8 +1,12 @@
 mod Going
 mod Sizes
+mod Holding
 mod Scenes
 mod Turning
 mod Choosing
+mod Copying
+mod Calling
+mod Counting
 mod Matching
 mod Words
 mod Names

@@ -12,7 +12,7 @@ use Rattle.well_typed.specs.SoundScopes.{SoundScope}
 use Rattle.expr_code.specs.Seeing.{Package, slot_of, subprogram_of, told_of}
 use Rattle.expr_code.specs.declared.visible.Slot.{Slot}
 use Rattle.stmt_code.specs.Layout.{Widens}
-use Rattle.stmt_code.specs.Resting.{Framed, Narrows}
+use Rattle.stmt_code.specs.Resting.{Framed, Narrows, Shows}
 use Rattle.stmt_code.proofs.Names.{told_more}
 
 module _ (kept : AgreementIsKept) (g : Package) (v later : Framed) (name : List ℕ) (r : Role) (t : Subtype) (slot : Slot)
@@ -37,8 +37,8 @@ module _ (kept : AgreementIsKept) (g : Package) (v later : Framed) (name : List 
       ap (λ q. told_of q later.names.subprograms.items other) scope_is ∙ ap (λ l. told_of (v.names.scope ++ named ∷ []) l other) widens.subprograms
       ∙ told_more v.names.scope named v.names.subprograms.items None other n h
 
-  pub narrows_wider : Narrows g later v
-  narrows_wider p view knows = record {
+  pub shows_wider : Shows g later v
+  shows_wider p view knows = record {
     sees = record {
       unit = knows.sees.unit;
       names = record {
@@ -50,3 +50,6 @@ module _ (kept : AgreementIsKept) (g : Package) (v later : Framed) (name : List 
     room = (let k = knows.room in let e = widens.room in omega (arith, k, e));
     homes = λ other s told. knows.homes other s (slot_more other s told);
   }
+
+  pub narrows_wider : later.reserved ≡ v.reserved → Narrows g later v
+  narrows_wider same = record { shows = shows_wider; reserved = same }

@@ -40,11 +40,11 @@ use Rattle.expr_code.specs.Computing.{Everywhere}
 use Rattle.expr_code.specs.Seeing.{Package, Sees, SeesPackage, library_of}
 use Rattle.expr_code.proofs.Coming.{acts, after_first}
 use Rattle.expr_code.proofs.Coming as coming
-use Rattle.stmt_code.specs.Resting.{Framed, IsSmall, Knows, Narrows, Rests, StandsFor}
+use Rattle.stmt_code.specs.Resting.{Framed, Held, IsSmall, Knows, Narrows, Rests, RestsWith, Shows, StandsFor}
 use Rattle.stmt_code.specs.Statements.{Numbers}
-use Rattle.stmt_code.specs.Standing.{AreInner, Around, CodeStands, Follows, Going, Here, Inside, IsGoing, IsSound, Jumps, Leads, Over as Ended, with_visible, Raised, Shares, There, Unhandled, WorkStands, items_size, relation, work_size}
+use Rattle.stmt_code.specs.Standing.{AreInner, Around, CodeStands, Follows, Going, Here, Inside, IsGoing, IsSound, Jumps, Leads, Over as Ended, with_visible, Raised, Shares, StaysAlone, There, Unhandled, WorkStands, items_size, relation, work_size}
 use Rattle.stmt_code.specs.Laws.{HasCode}
-use Rattle.stmt_code.proofs.Going.{before_ends, before_follows, before_unhandled, declares_end, declares_follow, declares_unhandled, earlier, jumps_up, narrows_both, narrows_same, way_back, way_out}
+use Rattle.stmt_code.proofs.Going.{before_ends, before_follows, before_unhandled, declares_end, declares_follow, declares_unhandled, Drops, earlier, jumps_up, narrows_same, shows_then, way_back, way_out}
 use Rattle.stmt_code.proofs.Sizes.{before_size, declares_size, item_counts}
 
 -- what is known where a task takes a step: of the image, of the program, and of both sides
@@ -154,7 +154,7 @@ module _ (this : Scene) where
     step_is : IsSoundStep now (opened_in (source.items_of w.work)) x
     step_is = subst (λ y. IsSoundStep now (opened_in (source.items_of w.work)) y) is step_sound
 
-    store_after : IsSoundStore program x.solo.memory
+    pub store_after : IsSoundStore program x.solo.memory
     store_after = step_is.store.sound
 
     pub task_after : waits_after x.effect ≡ None → IsSound i program g numbers x.solo.task
@@ -183,14 +183,15 @@ module _ (this : Scene) where
       (record { scope = refl; functions = refl; variables = refl; components = refl }) refl refl refl refl (is_small f small fs)
       (shares.sound.functions (place_of now items))
 
-  pub sees_here : (v : Framed) (items : List Item) (f : Frame) (fs : List Frame) → Rests g v w.own f.locals
+  pub sees_here : {held : List Held} (v : Framed) (items : List Item) (f : Frame) (fs : List Frame) → RestsWith g v held w.own f.locals
       → Knows g v (place_of now items) (view_of i schedule k m f fs)
-  sees_here v items f fs rests = rests.sees (place_of now items) (view_of i schedule k m f fs) (sees_package items f fs rests.small) refl refl refl
+  sees_here v items f fs rests =
+      rests.rests.sees (place_of now items) (view_of i schedule k m f fs) (sees_package items f fs rests.rests.small) refl refl refl
 
   -- what code computes, the frame comes to
-  pub evaluates : {A : Type 0} (v : Framed) (from to : ℕ) (stack : List ℤ → A → List ℤ) (value : Calls → Place
+  pub evaluates : {A : Type 0} {held : List Held} (v : Framed) (from to : ℕ) (stack : List ℤ → A → List ℤ) (value : Calls → Place
       → Val A) (items : List Item) (f : Frame) (fs : List Frame)
-      → Everywhere i (library_of g) (Sees g v.names) from to stack value → Rests g v w.own f.locals → length fs ≡ ends_of_calls items
+      → Everywhere i (library_of g) (Sees g v.names) from to stack value → RestsWith g v held w.own f.locals → length fs ≡ ends_of_calls items
       → Comes i schedule k t m (placed f from []) fs (to - from) to (stack []) (value (call (frames_left items)) (place_of now items))
   evaluates v from to stack value items f fs h rests depth =
       h (call (frames_left items)) (frames_left items) (has.functions (frames_left items)) schedule k t m f fs (place_of now items) [] calm
@@ -237,6 +238,7 @@ module _ (this : Scene) where
   pub record Meets (x : source.Stepped) (y : steps.Stepped) : Type 0 where
     pub effect : y.effect ≡ x.effect
     pub waits : waits_after x.effect ≡ None
+    pub alone : StaysAlone x.effect
     pub code : CodeStands i program g numbers (after t x.effect k) x.solo.task y.solo.task
     pub words : StandsFor program g x.solo.memory y.solo.memory
 
@@ -245,6 +247,80 @@ module _ (this : Scene) where
   inner_placed f (c ∷ fs) place stack h = h
 
   -- a quiet step, met by steps up to one that is still to be taken, if there are any
+  pub met_quiet_on : (base : List ℤ) (f : Frame) (fs : List Frame) (n : ℕ) (c : TaskState) (x : source.Stepped) → work_step now w.work ≡ x → x.effect ≡ Quiet
+      → x.solo.memory ≡ store
+      → (all : Takes (behaviour i schedule) t frames_of (most_steps i) (suc (length fs)) n k (in_frame m (placed f f.place base) fs) k
+      (record { memory = m; task = c }))
+      → n ≤ most_steps i (in_frame m f fs).task
+      → ((s : TaskState) → s ≡ c → WorkStands i program g numbers k x.solo.task s)
+      → work_size x.solo.task.work < work_size w.work
+      → Meet (in_frame m (placed f f.place base) fs).task
+  met_quiet_on base f fs n c x is e same all low stands less =
+      let sh : Shares i program g numbers x.solo.memory m = record
+      { sound = store_after x is; stands = subst (λ q. StandsFor program g q m) (sym same) shares.stands } in
+      ⊎_elim
+      (λ stays. still_by (program_behaviour program schedule) (behaviour i schedule) (relation i program g numbers) frames_of (most_steps i) k t
+      (record { memory = store; task = w }) (in_frame m (placed f f.place base) fs)
+      x is e sh (stands (in_frame m (placed f f.place base) fs).task (ap (λ q. q.task) stays)) less)
+      (λ j. walks_by (program_behaviour program schedule) (behaviour i schedule) (relation i program g numbers) frames_of (most_steps i) k t
+      (record { memory = store; task = w }) (in_frame m (placed f f.place base) fs)
+      j.0 n (record { memory = m; task = c }) x is all j.1 low e sh (stands c refl))
+      (begun all)
+
+  -- a step of the source that evaluates: what raises is met, and what has no meaning is excluded
+  pub met_value_on : {A : Type 0} (base start : List ℤ) (f : Frame) (fs : List Frame) (n from n' to : ℕ) (stack : A → List ℤ) (v : Val A) (items : List Item) (go : A → source.Stepped)
+      → Spends (behaviour i schedule) t frames_of (most_steps i) (suc (length fs)) n k (in_frame m (placed f f.place base) fs) k
+      (in_frame m (placed f from start) fs)
+      → Comes i schedule k t m (placed f from start) fs n' to stack v
+      → n + n' ≤ size_of i f.subprogram + size_of i f.subprogram
+      → work_step now w.work ≡ with_value now v items go
+      → items_size items < work_size w.work
+      → Removable f fs
+      → Unhandled items
+      → ((x : A) → v ≡ Gives x → work_step now w.work ≡ go x
+      → Spends (behaviour i schedule) t frames_of (most_steps i) (suc (length fs)) (n + n') k (in_frame m (placed f f.place base) fs) k
+      (in_frame m (placed f to (stack x)) fs)
+      → Meet (in_frame m (placed f f.place base) fs).task)
+      → Meet (in_frame m (placed f f.place base) fs).task
+  met_value_on base start f fs n from n' to stack (Gives x) items go first comes low is less inner unhandled last =
+      last x refl is (spends_trans (behaviour i schedule) t frames_of (most_steps i) n' k (in_frame m (placed f to (stack x)) fs) first comes)
+  met_value_on base start f fs n from n' to stack (Raises x) items go first comes low is less inner unhandled last =
+      let place = comes.1 in
+      let left = comes.2 in
+      let f' = placed f place left in
+      let raised = source.raises now x items in
+      let all = spends_takes (behaviour i schedule) t frames_of (most_steps i) n' k (record { memory = m; task = comes.0 }) first comes.3 in
+      let stands : (s : TaskState) → Throws i x s f' fs → WorkStands i program g numbers k raised.solo.task s =
+      λ s throws. record { sound = task_after raised is refl; code = Raised x items f' fs refl throws (inner_placed f fs place left inner) unhandled } in
+      met_quiet_on base f fs (n + n') comes.0 raised is refl refl all (omega (arith, low)) (λ s e. stands s (subst (λ q. Throws i x q f' fs) (sym e) comes.6)) less
+  met_value_on base start f fs n from n' to stack Meaningless items go first comes low is less inner unhandled last = absurd (has_meaning items is)
+
+  -- ... and is then met by the code's last instruction
+  pub met_comes_on : {A : Type 0} (base start : List ℤ) (f : Frame) (fs : List Frame) (n from n' to : ℕ) (stack : A → List ℤ) (v : Val A) (items : List Item) (go : A → source.Stepped)
+      → Spends (behaviour i schedule) t frames_of (most_steps i) (suc (length fs)) n k (in_frame m (placed f f.place base) fs) k
+      (in_frame m (placed f from start) fs)
+      → Comes i schedule k t m (placed f from start) fs n' to stack v
+      → n + n' ≤ size_of i f.subprogram + size_of i f.subprogram
+      → work_step now w.work ≡ with_value now v items go
+      → items_size items < work_size w.work
+      → Removable f fs
+      → Unhandled items
+      → ((x : A) → v ≡ Gives x → (y : steps.Stepped) × (act i schedule k t (in_frame m (placed f to (stack x)) fs) ≡ y) × Meets (go x) y)
+      → Meet (in_frame m (placed f f.place base) fs).task
+  met_comes_on base start f fs n from n' to stack v items go first comes low is less inner unhandled last =
+      met_value_on base start f fs n from n' to stack v items go first comes low is less inner unhandled
+      (λ x ev there spends.
+      let y = last x ev in
+      let meets = y.2 in
+      moves_by (program_behaviour program schedule) (behaviour i schedule) (relation i program g numbers) frames_of (most_steps i) k t
+      (record { memory = store; task = w }) (in_frame m (placed f f.place base) fs)
+      ((n + n') + 1) (in_frame m (placed f to (stack x)) fs) (go x) y.0 there y.1
+      (spends_takes (behaviour i schedule) t frames_of (most_steps i) 1 k (in_frame m (placed f to (stack x)) fs) spends (Last refl))
+      (omega (arith, low)) meets.effect
+      (record { sound = store_after (go x) there; stands = meets.words })
+      (record { alone = meets.alone; stands = record { sound = task_after (go x) there meets.waits; code = meets.code } }))
+
+  -- ... from an empty operand stack
   pub met_quiet : (f : Frame) (fs : List Frame) (n : ℕ) (c : TaskState) (x : source.Stepped) → work_step now w.work ≡ x → x.effect ≡ Quiet
       → x.solo.memory ≡ store
       → (all : Takes (behaviour i schedule) t frames_of (most_steps i) (suc (length fs)) n k (in_frame m (placed f f.place []) fs) k
@@ -253,19 +329,8 @@ module _ (this : Scene) where
       → ((s : TaskState) → s ≡ c → WorkStands i program g numbers k x.solo.task s)
       → work_size x.solo.task.work < work_size w.work
       → Meet (in_frame m (placed f f.place []) fs).task
-  met_quiet f fs n c x is e same all low stands less =
-      let sh : Shares i program g numbers x.solo.memory m = record
-      { sound = store_after x is; stands = subst (λ q. StandsFor program g q m) (sym same) shares.stands } in
-      ⊎_elim
-      (λ stays. still_by (program_behaviour program schedule) (behaviour i schedule) (relation i program g numbers) frames_of (most_steps i) k t
-      (record { memory = store; task = w }) (in_frame m (placed f f.place []) fs)
-      x is e sh (stands (in_frame m (placed f f.place []) fs).task (ap (λ q. q.task) stays)) less)
-      (λ j. walks_by (program_behaviour program schedule) (behaviour i schedule) (relation i program g numbers) frames_of (most_steps i) k t
-      (record { memory = store; task = w }) (in_frame m (placed f f.place []) fs)
-      j.0 n (record { memory = m; task = c }) x is all j.1 low e sh (stands c refl))
-      (begun all)
+  met_quiet f fs n c x = met_quiet_on [] f fs n c x
 
-  -- a step of the source that evaluates: what raises is met, and what has no meaning is excluded
   pub met_value : {A : Type 0} (f : Frame) (fs : List Frame) (n from n' to : ℕ) (stack : A → List ℤ) (v : Val A) (items : List Item) (go : A → source.Stepped)
       → Reaching f fs n f.place from
       → Comes i schedule k t m (placed f from []) fs n' to stack v
@@ -279,20 +344,8 @@ module _ (this : Scene) where
       (in_frame m (placed f to (stack x)) fs)
       → Meet (in_frame m (placed f f.place []) fs).task)
       → Meet (in_frame m (placed f f.place []) fs).task
-  met_value f fs n from n' to stack (Gives x) items go first comes low is less inner unhandled last =
-      last x refl is (spends_trans (behaviour i schedule) t frames_of (most_steps i) n' k (in_frame m (placed f to (stack x)) fs) first comes)
-  met_value f fs n from n' to stack (Raises x) items go first comes low is less inner unhandled last =
-      let place = comes.1 in
-      let left = comes.2 in
-      let f' = placed f place left in
-      let raised = source.raises now x items in
-      let all = spends_takes (behaviour i schedule) t frames_of (most_steps i) n' k (record { memory = m; task = comes.0 }) first comes.3 in
-      let stands : (s : TaskState) → Throws i x s f' fs → WorkStands i program g numbers k raised.solo.task s =
-      λ s throws. record { sound = task_after raised is refl; code = Raised x items f' fs refl throws (inner_placed f fs place left inner) unhandled } in
-      met_quiet f fs (n + n') comes.0 raised is refl refl all (omega (arith, low)) (λ s e. stands s (subst (λ q. Throws i x q f' fs) (sym e) comes.6)) less
-  met_value f fs n from n' to stack Meaningless items go first comes low is less inner unhandled last = absurd (has_meaning items is)
+  met_value f fs n from n' to stack v items go = met_value_on [] [] f fs n from n' to stack v items go
 
-  -- ... and is then met by the code's last instruction
   pub met_comes : {A : Type 0} (f : Frame) (fs : List Frame) (n from n' to : ℕ) (stack : A → List ℤ) (v : Val A) (items : List Item) (go : A → source.Stepped)
       → Reaching f fs n f.place from
       → Comes i schedule k t m (placed f from []) fs n' to stack v
@@ -303,18 +356,7 @@ module _ (this : Scene) where
       → Unhandled items
       → ((x : A) → v ≡ Gives x → (y : steps.Stepped) × (act i schedule k t (in_frame m (placed f to (stack x)) fs) ≡ y) × Meets (go x) y)
       → Meet (in_frame m (placed f f.place []) fs).task
-  met_comes f fs n from n' to stack v items go first comes low is less inner unhandled last =
-      met_value f fs n from n' to stack v items go first comes low is less inner unhandled
-      (λ x ev there spends.
-      let y = last x ev in
-      let meets = y.2 in
-      moves_by (program_behaviour program schedule) (behaviour i schedule) (relation i program g numbers) frames_of (most_steps i) k t
-      (record { memory = store; task = w }) (in_frame m (placed f f.place []) fs)
-      ((n + n') + 1) (in_frame m (placed f to (stack x)) fs) (go x) y.0 there y.1
-      (spends_takes (behaviour i schedule) t frames_of (most_steps i) 1 k (in_frame m (placed f to (stack x)) fs) spends (Last refl))
-      (omega (arith, low)) meets.effect
-      (record { sound = store_after (go x) there; stands = meets.words })
-      (record { sound = task_after (go x) there meets.waits; code = meets.code }))
+  met_comes f fs n from n' to stack v items go = met_comes_on [] [] f fs n from n' to stack v items go
 
   -- no step of code, and what is left to do is less
   pub met_still : (s : TaskState) (x : source.Stepped) → work_step now w.work ≡ x → x.effect ≡ Quiet → x.solo.memory ≡ store
@@ -382,7 +424,7 @@ module _ (this : Scene) where
         stands = subst (λ q. StandsFor program g store q)
             (sym (ap (λ y. y.solo.memory) there ∙ unwound_words x f fs inner)) shares.stands;
       })
-      (record { sound = task_after dies step refl; code = Ended (kernels.Unhandled x t) refl })
+      (record { alone = tt; stands = record { sound = task_after dies step refl; code = Ended (kernels.Unhandled x t) refl } })
   met_raised s x (Declares d ∷ items) f fs is throws inner u = met_dropped s x (Declares d) items f fs is (ap (λ q. work_step now q) is) throws inner u
   met_raised s x (DeclaresParameter p ∷ items) f fs is throws inner u = met_dropped s x (DeclaresParameter p) items f fs is (ap (λ q. work_step now q) is)
       throws inner u
@@ -432,7 +474,7 @@ module _ (this : Scene) where
 
     -- the same frame goes on elsewhere
     pub goes_on : (items : List Item) (own : Activation) (a : Setting) (place : ℕ) (locals : List ℤ) → Follow a f.subprogram place items fs w.callers
-        → Rests g a.visible own locals
+        → RestsWith g a.visible a.held own locals
         → own.within ≡ None → length fs ≡ ends_of_calls items → Removable f fs → Unhandled items
         → IsGoing i program g numbers items own w.callers (record { frame = goes_at f place locals; callers = fs; raising = None })
     goes_on items own a place locals follows rests outside depth inner unhandled =
@@ -449,11 +491,19 @@ module _ (this : Scene) where
           unhandled = unhandled;
         }
 
-    pub narrowed : (a b : Framed) (own : Activation) (locals : List ℤ) → Narrows g a b → Rests g a own locals → Rests g b own locals
-    narrowed a b own locals nar rests = record {
+    pub shown : (a b : Framed) (own : Activation) (locals : List ℤ) → Shows g a b → Rests g a own locals → Rests g b own locals
+    shown a b own locals shows rests = record {
       small = rests.small;
-      sees = λ p view shared one two three. nar p view
+      sees = λ p view shared one two three. shows p view
           (rests.sees p view shared one two three);
+    }
+
+    pub narrowed : {held : List Held} (a b : Framed) (own : Activation) (locals : List ℤ) → Narrows g a b → RestsWith g a held own locals
+        → RestsWith g b held own locals
+    narrowed a b own locals nar rests = record {
+      rests = shown a b own locals nar.shows rests.rests;
+      held = rests.held;
+      apart = rests.apart ∙ nar.reserved;
     }
 
     -- a step without a value: jumps, and one instruction
@@ -473,15 +523,16 @@ module _ (this : Scene) where
         (spends_takes (behaviour i schedule) t frames_of (most_steps i) 1 k (in_frame m (placed f at []) fs) (jumps_spend f fs f.place at jumps) (Last refl))
         (omega (arith, a.0, b.1, up)) meets.effect
         (record { sound = store_after x is; stands = meets.words })
-        (record { sound = task_after x is meets.waits; code = meets.code }))
+        (record { alone = meets.alone; stands = record { sound = task_after x is meets.waits; code = meets.code } }))
 
     -- it goes on with other items at a place, and nothing else changes
-    pub goes_to : (items : List Item) (a : Setting) (place : ℕ) → Follow a f.subprogram place items fs w.callers → Rests g a.visible w.own f.locals
-        → w.own.within ≡ None → length fs ≡ ends_of_calls items → Removable f fs → Unhandled items
+    pub goes_to : (items : List Item) (a : Setting) (place : ℕ) → Follow a f.subprogram place items fs w.callers
+        → RestsWith g a.visible a.held w.own f.locals → w.own.within ≡ None → length fs ≡ ends_of_calls items → Removable f fs → Unhandled items
         → Meets (source.goes now items) (steps.does Quiet m (goes_at f place f.locals) fs None None)
     goes_to items a place follows rests outside depth inner unhandled = record {
       effect = refl;
       waits = refl;
+      alone = tt;
       code = Going items refl (goes_on items w.own a place f.locals follows rests outside depth inner unhandled);
       words = shares.stands;
     }
@@ -501,6 +552,7 @@ module _ (this : Scene) where
         (record {
           effect = refl;
           waits = refl;
+          alone = tt;
           code = Going [] refl (record {
             around = h.around;
             follows = (
@@ -556,7 +608,7 @@ module _ (this : Scene) where
     -- nothing but what is left to do changes
     pub met_items : (x : source.Stepped) (items : List Item) → work_step now w.work ≡ source.goes now items → suc (items_size items) < work_size w.work
         → s.frame.stack ≡ [] → s.raising ≡ None
-        → (a : Setting) → Follow a f.subprogram f.place items fs w.callers → Rests g a.visible w.own f.locals → w.own.within ≡ None
+        → (a : Setting) → Follow a f.subprogram f.place items fs w.callers → RestsWith g a.visible a.held w.own f.locals → w.own.within ≡ None
         → length fs ≡ ends_of_calls items
         → Removable f fs → Unhandled items → Meet s
     met_items x items is less stack going a follows rests outside depth inner unhandled =
@@ -631,7 +683,7 @@ module _ (this : Scene) where
           (record {
             jumps = Here;
             narrows = narrows_same g code.1;
-            reaches = (narrows_both g code.1 r.2 h.around.behind nar leads.reaches.0, narrows_both g code.1 r.2 h.around.ending nar leads.reaches.1);
+            reaches = (shows_then g code.1 r.2 h.around.behind nar leads.reaches.0, shows_then g code.1 r.2 h.around.ending nar leads.reaches.1);
             from_inside = mid_in;
             up = two;
             to_inside = y;
@@ -644,16 +696,14 @@ module _ (this : Scene) where
 
     -- ---- ways out
 
-    -- what is visible behind the innermost loop, where the frame goes on there
-    pub behind_rests : (a outer : Setting) (now' : Framed) → Rests g a.visible w.own f.locals → Narrows g a.visible now' → Narrows g now' a.behind
-        → a.behind ≡ outer.visible → Rests g outer.visible w.own f.locals
-    behind_rests a outer now' rests one two e = subst (λ q. Rests g q w.own f.locals) e
-        (narrowed a.visible a.behind w.own f.locals (narrows_both g a.visible now' a.behind one two) rests)
-
-    pub ending_rests : (a end : Setting) (now' : Framed) → Rests g a.visible w.own f.locals → Narrows g a.visible now' → Narrows g now' a.ending
-        → a.ending ≡ end.visible → Rests g end.visible w.own f.locals
-    ending_rests a end now' rests one two e = subst (λ q. Rests g q w.own f.locals) e
-        (narrowed a.visible a.ending w.own f.locals (narrows_both g a.visible now' a.ending one two) rests)
+    -- what is visible at a way out, and what is held there, where the frame goes on there
+    pub way_rests : (a outer : Setting) (now' last : Framed) → RestsWith g a.visible a.held w.own f.locals → Narrows g a.visible now' → Shows g now' last
+        → last ≡ outer.visible → Drops i program g numbers (seeing now' a) outer → RestsWith g outer.visible outer.held w.own f.locals
+    way_rests a outer now' last rests one two e drops = record {
+      rests = subst (λ q. Rests g q w.own f.locals) e (shown a.visible last w.own f.locals (shows_then g a.visible now' last one two) rests.rests);
+      held = drops.held f.locals rests.held;
+      apart = drops.apart (rests.apart ∙ one.reserved);
+    }
 
     pub met_exit : (place : ℕ) (items : List Item) → w.work ≡ Goes (Does (Exit place None) ∷ items) → (h : IsAtItems (Does (Exit place None) ∷ items)) → Meet s
     met_exit place items is h =
@@ -669,8 +719,9 @@ module _ (this : Scene) where
         met_plain (op.Jump e) (source.goes now (source.behind_loop items)) (steps.does Quiet m (goes_at f e f.locals) fs None None) r.0 items
         (ap (λ q. work_step now q) is) h.stack h.going
         leads.jumps x (omega (arith, x.0, up), omega (arith, y.1, end)) code.2 refl
-        (goes_to (source.behind_loop items) out.0 e out.2 (behind_rests h.around out.0 r.2 h.rests leads.narrows leads.reaches.0 out.1) h.outside
-        (h.depth ∙ sym out.3) h.inner (out.4 h.unhandled))
+        (goes_to (source.behind_loop items) out.outer e out.follows
+        (way_rests h.around out.outer r.2 h.around.behind h.rests leads.narrows leads.reaches.0 out.visible out.drops) h.outside
+        (h.depth ∙ sym out.ends) h.inner (out.unhandled h.unhandled))
 
     pub met_return : (place : ℕ) (items : List Item) → w.work ≡ Goes (Does (Return place None) ∷ items) → (h : IsAtItems (Does (Return place None) ∷ items))
         → Meet s
@@ -687,5 +738,6 @@ module _ (this : Scene) where
         met_plain (op.Jump e) (source.goes now (source.end_of_body items)) (steps.does Quiet m (goes_at f e f.locals) fs None None) r.0 items
         (ap (λ q. work_step now q) is) h.stack h.going
         leads.jumps x (omega (arith, x.0, up), omega (arith, y.1, end)) code.2 refl
-        (goes_to (source.end_of_body items) out.0 e out.2 (ending_rests h.around out.0 r.2 h.rests leads.narrows leads.reaches.1 out.1) h.outside
-        (h.depth ∙ sym out.3) h.inner (out.4 h.unhandled))
+        (goes_to (source.end_of_body items) out.end e out.follows
+        (way_rests h.around out.end r.2 h.around.ending h.rests leads.narrows leads.reaches.1 out.visible out.drops) h.outside
+        (h.depth ∙ sym out.ends) h.inner (out.unhandled h.unhandled))

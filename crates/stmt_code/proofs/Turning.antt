@@ -16,28 +16,29 @@ use Rattle.image.specs.declared.instruction.Operation.TheVariants as op
 use Rattle.ada_tree.specs.StatementTree.{ObjectTree, DeclarationTree, LocalObject, LocalTask, LocalProtected, StmtTree, Null, Assignment, Exit, Return, Raise, Delay, DelayUntil, If, Case, Loop, Block, Abort, Requeue, Accept, Select, StmtTrees, NoStmts, MoreStmts, ElsifTrees, NoElsifs, MoreElsifs, Forever, While, HandlerTrees, NoHandlers}
 use Rattle.types.specs.Evaluations.{Val, Gives, Raises, Meaningless, and_then}
 use Rattle.types.specs.Evaluating.{Calls, call, passed, truth_of, value_with}
-use Rattle.types.specs.Shapes.{word_of}
+use Rattle.types.specs.Shapes.{initial, word_of}
 use Rattle.types.specs.Values.{Value, Number, Truth, Array, Record}
 use Rattle.ada_tree.specs.ExpressionTree.{ArgumentTrees, Arguments, ExprTree, MoreArguments, MoreSelectors, NameTree, NoArguments, NoSelectors, SelectorTrees, Text}
 use Rattle.ada_tree.specs.ExpressionTree as expressions
 use Rattle.ada_tree.specs.StatementTree as tree
 use Rattle.types.specs.Places.{Place}
-use Rattle.meaning.specs.Programs.{Program}
+use Rattle.meaning.specs.Programs.{Parameter, Program}
 use Rattle.meaning.specs.Targets.{activation_with, store_with, stored_in, target}
 use Rattle.meaning.specs.SameMeaning.{frames_of}
 use Rattle.meaning.specs.SourceSteps as source
 use Rattle.meaning.specs.SourceSteps.{here_of, place_of, program_behaviour, with_value, work_step}
-use Rattle.meaning.specs.Works.{Item, Declares, Does, Repeats, RepeatsWhile, Goes, Activation, Home, InActivation, InObject, InPackage, Store, Target, TaskWork, ends_of_calls, frames_left}
+use Rattle.meaning.specs.Works.{Item, Declares, DeclaresParameter, Does, Repeats, RepeatsWhile, Goes, Activation, Home, InActivation, InObject, InPackage, Store, Target, TaskWork, ends_of_calls, frames_left}
 use Rattle.expr_code.specs.Views.{At, in_frame, placed}
 use Rattle.expr_code.specs.Coming.{Comes, most_steps, on, size_of}
 use Rattle.expr_code.specs.Seeing.{Package}
 use Rattle.expr_code.proofs.Coming.{acts, after_first}
 use Rattle.expr_code.proofs.Coming as coming
-use Rattle.stmt_code.specs.Resting.{Framed, Narrows, Rests}
-use Rattle.stmt_code.specs.Storing.{Assigned, Stores, assigned, assigned_to, declared, declared_from, object_declared}
+use Rattle.stmt_code.specs.Resting.{Framed, Held, RestsWith, Shows}
+use Rattle.stmt_code.proofs.Holding.{held_kept}
+use Rattle.stmt_code.specs.Storing.{Assigned, Puts, Stores, assigned, assigned_to, declared, declared_from, object_declared}
 use Rattle.stmt_code.specs.Statements.{AreStatements, IsOtherwise, IsPut, IsWhile, Numbers, within_loop}
-use Rattle.stmt_code.specs.Standing.{Going, Here, Jumps, Leads, Reaches, in_loop, Shares, There, Unhandled, items_size, work_size}
-use Rattle.stmt_code.proofs.Going.{before_ends, before_follows, before_unhandled, earlier, jumps_up, narrows_same, way_out}
+use Rattle.stmt_code.specs.Standing.{Going, Here, Jumps, LeadsInto, Reaches, in_loop, Shares, There, Unhandled, items_size, work_size}
+use Rattle.stmt_code.proofs.Going.{before_ends, before_follows, before_unhandled, earlier, into, jumps_up, narrows_same, way_out}
 use Rattle.stmt_code.proofs.Sizes.{item_counts}
 use Rattle.stmt_code.proofs.Scenes.{Scene}
 use Rattle.stmt_code.proofs.Scenes as scene
@@ -204,9 +205,9 @@ module _ (this : Scene) where
         (scene.jumps_spend this f fs f.place r.0 leads.jumps) (scene.evaluates this r.2 r.0 mid on (λ calls p. value_with calls p e) items f fs code.4 rests
         h.depth)
         (omega (arith, x.0, y.1, up, le, end)) code.5 (on_one mid target)
-        (scene.goes_to this s (source.behind_loop items) out.0 target out.2
-        (scene.behind_rests this s h.around out.0 r.2 h.rests leads.narrows leads.reaches.0 out.1) h.outside (h.depth ∙ sym out.3) h.inner
-        (out.4 h.unhandled))
+        (scene.goes_to this s (source.behind_loop items) out.outer target out.follows
+        (scene.way_rests this s h.around out.outer r.2 h.around.behind h.rests leads.narrows leads.reaches.0 out.visible out.drops) h.outside
+        (h.depth ∙ sym out.ends) h.inner (out.unhandled h.unhandled))
         (scene.goes_to this s items (seeing r.2 h.around) (mid + 1) (subst (λ q. Follow (seeing r.2 h.around) f.subprogram q items fs w.callers) next r.5)
         rests h.outside h.depth h.inner h.unhandled)
 
@@ -297,7 +298,7 @@ module _ (this : Scene) where
         leads.jumps x (omega (arith, x.0, up), omega (arith, y.1, le, end)) code.2 refl
         (scene.goes_to this s all inner (at + 2)
         (before_follows i program g numbers body inner r.2 f.subprogram (at + 2) back (Repeats body ∷ items) fs w.callers code.4 le turn_in back_in
-        (narrows_same g r.2, leads.reaches.1) (
+        ((narrows_same g r.2).shows, leads.reaches.1) (
           at,
           r.1,
           outer,
@@ -320,6 +321,10 @@ module _ (this : Scene) where
         rests h.outside (h.depth ∙ sym (before_ends i program g numbers body (Repeats body ∷ items))) h.inner
         (before_unhandled i program g numbers body (Repeats body ∷ items) h.unhandled))
 
+    -- a loop holds the same words as what is around it
+    turned : (v : Framed) (one other : List Held) → one ≡ other → RestsWith g v one w.own f.locals → RestsWith g v other w.own f.locals
+    turned v one other same rests = subst (λ q. RestsWith g v q w.own f.locals) same rests
+
     pub met_repeats : (body : StmtTrees) (items : List Item) → w.work ≡ Goes (Repeats body ∷ items) → (h : IsAtItems (Repeats body ∷ items)) → Meet s
     met_repeats body items is h =
         let r = h.follows in
@@ -335,7 +340,8 @@ module _ (this : Scene) where
         let z = leads.head_inside in
         let there = leads.end in
         let up = jumps_up i program g numbers f.place leads.back leads.jumps in
-        let rests = scene.narrowed this s h.around.visible outer.visible w.own f.locals leads.narrows h.rests in
+        let rests = turned outer.visible h.around.held outer.held (ap (λ q. q.held) leads.loop)
+        (scene.narrowed this s h.around.visible outer.visible w.own f.locals leads.narrows h.rests) in
         let inner = in_loop i program g numbers (head + 1) outer.visible outer in
         let all = source.before body (Repeats body ∷ items) in
         let turn_in : In f.subprogram (head + 2) = (omega (arith, z.0), omega (arith, y.1, le, end)) in
@@ -345,7 +351,7 @@ module _ (this : Scene) where
         leads.jumps x (omega (arith, x.0, up), omega (arith, y.1, there)) leads.jump refl
         (scene.goes_to this s all inner (head + 2)
         (before_follows i program g numbers body inner outer.visible f.subprogram (head + 2) last (Repeats body ∷ items) fs w.callers code.4 le turn_in
-        back_in (narrows_same g outer.visible, leads.reaches) (
+        back_in ((narrows_same g outer.visible).shows, leads.reaches) (
           head,
           r.1,
           outer,
@@ -375,9 +381,9 @@ module _ (this : Scene) where
         → (head to n : ℕ) (outer : Setting)
         → (code : IsWhile i program g numbers outer.visible head to e
         (λ exit x y. AreStatements i program g numbers outer.visible (within_loop exit outer.ways) x y body))
-        → Narrows g outer.visible outer.ending
+        → Shows g outer.visible outer.ending
         → Follow outer f.subprogram to items fs w.callers
-        → Rests g outer.visible w.own f.locals
+        → RestsWith g outer.visible outer.held w.own f.locals
         → w.own.within ≡ None
         → length fs ≡ ends_of_calls items
         → Removable f fs
@@ -406,7 +412,7 @@ module _ (this : Scene) where
         (scene.goes_to this s all loop (mid + 1)
         (before_follows i program g numbers body loop outer.visible f.subprogram (mid + 1) back (RepeatsWhile e body ∷ items) fs w.callers
         (subst (λ q. AreStatements i program g numbers outer.visible (within_loop (head + 1) outer.ways) q back body) one code.8) (omega (arith, between))
-        turn_in back_in (narrows_same g outer.visible, reaches) (
+        turn_in back_in ((narrows_same g outer.visible).shows, reaches) (
           head,
           to,
           outer,
@@ -475,7 +481,8 @@ module _ (this : Scene) where
         let there = leads.end in
         let up = jumps_up i program g numbers f.place leads.back leads.jumps in
         met_turn (RepeatsWhile e body) e body items is refl h.stack h.going r.0 r.1 ((leads.back - f.place) + 1) r.2 code leads.reaches r.5
-        (scene.narrowed this s h.around.visible r.2.visible w.own f.locals leads.narrows h.rests) h.outside h.depth h.inner h.unhandled z y
+        (turned r.2.visible h.around.held r.2.held (ap (λ q. q.held) leads.loop)
+        (scene.narrowed this s h.around.visible r.2.visible w.own f.locals leads.narrows h.rests)) h.outside h.depth h.inner h.unhandled z y
         (reaches_head leads.back r.0 leads.jumps leads.jump)
         (omega (arith, x.0, y.1, z.0, up, le, between, end, there))
 
@@ -494,10 +501,10 @@ module _ (this : Scene) where
           given = None;
         })
         → (a : Setting) (now' : Framed)
-        → Leads i program g numbers a f.subprogram f.place at to now'
+        → LeadsInto i program g numbers a.visible f.subprogram f.place at to now'
         → Stores i program g now' later at to value store_after' own_after
         → Follow (seeing later a) f.subprogram to items fs w.callers
-        → Rests g a.visible w.own f.locals
+        → RestsWith g a.visible a.held w.own f.locals
         → w.own.within ≡ None
         → ((x : A) → (own_after x w.own).within ≡ None)
         → length fs ≡ ends_of_calls items
@@ -512,6 +519,13 @@ module _ (this : Scene) where
         let y = leads.to_inside in
         let up = jumps_up i program g numbers f.place at leads.jumps in
         let here = scene.narrowed this s a.visible now' w.own f.locals leads.narrows rests in
+        let kept : (z : _) (put : Puts i program g schedule k t m f fs mid (code.stack [] z) [] later (store_after' z store) (own_after z w.own))
+        → RestsWith g later a.held (own_after z w.own) put.locals =
+        λ z put. record {
+          rests = put.rests;
+          held = held_kept a.held later.reserved f.locals put.locals (here.apart ∙ sym code.same) put.keeps here.held;
+          apart = here.apart ∙ sym code.same;
+        } in
         let v = value (call (frames_left items)) (place_of now items) in
         let go : _ → source.Stepped = λ x. record {
           effect = Quiet;
@@ -528,18 +542,28 @@ module _ (this : Scene) where
         (subst (λ q. items_size items < work_size q) (sym is) (let c = item_counts i' items in omega (arith, c))) inner unhandled
         (λ z ez.
         let put = code.puts schedule k t m f fs store w.own (place_of now items) z
-        (record { scope = refl; functions = refl; variables = refl; components = refl }) refl refl shares.stands here
+        (record { scope = refl; functions = refl; variables = refl; components = refl }) refl refl shares.stands here.rests
         (scene.sees_here this now' items f fs here) before ez in (
           steps.does Quiet put.words (goes_at f to put.locals) fs None None,
           put.acts ∙ ap (λ q. steps.does Quiet put.words (goes_at f q put.locals) fs None None) (sym end),
           record {
             effect = refl;
             waits = refl;
-            code = Going items refl (scene.goes_on this s items (own_after z w.own) (seeing later a) to put.locals rest put.rests (outside z) depth inner
+            alone = tt;
+            code = Going items refl (scene.goes_on this s items (own_after z w.own) (seeing later a) to put.locals rest (kept z put) (outside z) depth inner
                 unhandled);
             words = put.shared;
           },
         )))
+
+    -- an `out` parameter
+    pub met_parameter : (p : Parameter) (items : List Item) → w.work ≡ Goes (DeclaresParameter p ∷ items) → (h : IsAtItems (DeclaresParameter p ∷ items))
+        → Meet s
+    met_parameter p items is h =
+        let r = h.follows in
+        met_stores (DeclaresParameter p) items is h.stack h.going r.2 r.3 r.0 r.1 (λ calls q. Gives (initial program.scope p.subtype)) (λ x m. m)
+        (λ x a. record a { locals = record { name = p.name; subtype = p.subtype; value = x } ∷ a.locals })
+        refl h.around r.2 r.4 r.6 r.7 h.rests h.outside (λ x. h.outside) h.depth h.inner h.unhandled
 
     pub met_declares : (d : ObjectTree) (items : List Item) → w.work ≡ Goes (Declares (LocalObject d) ∷ items)
         → (h : IsAtItems (Declares (LocalObject d) ∷ items)) → Meet s
@@ -547,7 +571,7 @@ module _ (this : Scene) where
         let r = h.follows in
         met_stores (Declares (LocalObject d)) items is h.stack h.going r.2 r.3 r.0 r.1 (declared program.scope d) (λ x m. m)
         (λ x a. record a { locals = object_declared program.scope d x ∷ a.locals })
-        (by_value d d.value) h.around r.2 r.4 r.6 r.7 h.rests h.outside (λ x. h.outside) h.depth h.inner h.unhandled
+        (by_value d d.value) h.around r.2 (into i program g numbers h.around f.subprogram f.place r.0 r.1 r.2 r.4) r.6 r.7 h.rests h.outside (λ x. h.outside) h.depth h.inner h.unhandled
       where
         by_value : (d : ObjectTree) (e : Option ExprTree)
             → with_value now (source.declared_value now items d e) items (λ v. source.with_object now (object_declared program.scope d v) items)
@@ -570,7 +594,7 @@ module _ (this : Scene) where
         let r = h.follows in
         met_stores (Does (Assignment name e)) items is h.stack h.going r.2 r.2 r.0 r.1 (assigned name e) (λ x m. store_with x.target x.value m)
         (λ x a. activation_with x.target x.value a)
-        (by_target (target (place_of now items) name.first.name name.selectors)) h.around r.2 r.3 r.4 r.5 h.rests
+        (by_target (target (place_of now items) name.first.name name.selectors)) h.around r.2 (into i program g numbers h.around f.subprogram f.place r.0 r.1 r.2 r.3) r.4 r.5 h.rests
         h.outside (λ x. same_object x.target x.value w.own ∙ h.outside) h.depth h.inner h.unhandled
       where
         go : Assigned → source.Stepped
@@ -646,6 +670,7 @@ module _ (this : Scene) where
           record {
             effect = refl;
             waits = refl;
+            alone = tt;
             code = Going items refl (scene.goes_on this s items w.own (seeing r.2 h.around) r.1 f.locals r.5 rests h.outside h.depth h.inner h.unhandled);
             words = shares.stands;
           },

@@ -1,12 +1,13 @@
 -- Words that others are put among: those that are put stand there, all others stay.
 use Rattle.std.proofs.Common.{◌≡◌, ℕ, zero, suc, ◌+◌, ◌<◌, ◌≤◌, inl, inr, ℤ, List, [], ◌∷◌, ◌++◌, length, cond, Some, None, Bool, true, false, refl, sym, ap, ◌∙◌, arith, rules}
-use Rattle.std.specs.Prelude.{pos, nat_le, nat_lt, take, drop, slice_set}
+use Rattle.std.specs.Prelude.{pos, nat_le, nat_lt, take, drop, slice_set, slice_get}
 use Rattle.std.proofs.Math.Seq.{take-append_seam}
 use Rattle.image.specs.Frames.{word_put, words_put}
 use Rattle.types.specs.Shapes.{value_words}
 use Rattle.types.specs.Values.{Value}
 use Rattle.expr_code.specs.Naming.{Lies}
-use Rattle.stmt_code.specs.Layout.{AreApart}
+use Rattle.stmt_code.specs.Layout.{AreApart, IsFree}
+use Rattle.stmt_code.specs.Resting.{AreKept}
 
 -- the words with others put from an address on
 abbrev pub with_words : ℕ → List ℤ → List ℤ → List ℤ
@@ -100,6 +101,31 @@ with_behind (suc a) new [] b le up = absurd (omega (arith, le))
 with_behind (suc a) new (w ∷ words) zero le up = absurd (omega (arith, up))
 with_behind (suc a) new (w ∷ words) (suc b) le up =
     ap (drop (suc b)) (next a new w words) ∙ with_behind a new words b (omega (arith, le)) (omega (arith, up))
+
+-- each word outside
+with_outside : (a : ℕ) (new words : List ℤ) (n : ℕ) → a + length new ≤ length words → AreApart n 1 a (length new)
+    → slice_get (with_words a new words) n ≡ slice_get words n
+with_outside zero new words n le (inl down) = absurd (omega (arith, down))
+with_outside zero new words n le (inr up) = ap (λ l. slice_get l n) (first new words) ∙ behind_new new words n (omega (arith, up)) (omega (arith, le))
+  where
+    behind_new : (new words : List ℤ) (n : ℕ) → length new ≤ n → length new ≤ length words → slice_get (new ++ drop (length new) words) n ≡ slice_get words n
+    behind_new [] words n up le = refl
+    behind_new (x ∷ new) [] n up le = absurd (omega (arith, le))
+    behind_new (x ∷ new) (w ∷ words) zero up le = absurd (omega (arith, up))
+    behind_new (x ∷ new) (w ∷ words) (suc n) up le = behind_new new words n (omega (arith, up)) (omega (arith, le))
+with_outside (suc a) new [] n le apart = absurd (omega (arith, le))
+with_outside (suc a) new (w ∷ words) zero le apart = ap (λ l. slice_get l 0) (next a new w words)
+with_outside (suc a) new (w ∷ words) (suc n) le apart =
+    ap (λ l. slice_get l (suc n)) (next a new w words) ∙ with_outside a new words n (omega (arith, le)) (lower apart)
+  where
+    lower : AreApart (suc n) 1 (suc a) (length new) → AreApart n 1 a (length new)
+    lower (inl down) = inl (omega (arith, down))
+    lower (inr up) = inr (omega (arith, up))
+
+-- words at places among which no new one stands are still the same
+pub others_kept : (places : List ℕ) (a : ℕ) (new words : List ℤ) → a + length new ≤ length words → IsFree places a (length new)
+    → AreKept places words (with_words a new words)
+others_kept places a new words le free n among = with_outside a new words n le (free n among)
 
 -- ---- values among words
 

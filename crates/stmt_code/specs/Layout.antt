@@ -1,11 +1,12 @@
 -- Where the words of objects stand: what a method that adds code keeps of the places that it gives to the names of a body (docs/CODEGEN.md).
-use Rattle.std.specs.Prelude.{◌≡◌, ◌≢◌, ◌+◌, ◌≤◌, ◌⊎◌, ℕ, false, List, [], ◌∷◌, ◌++◌, length, Option, Some, None, ⊤}
+use Rattle.std.specs.Prelude.{◌≡◌, ◌≢◌, ◌+◌, ◌≤◌, ◌⊎◌, ℕ, true, false, List, [], ◌∷◌, ◌++◌, length, Option, Some, None, ⊤}
 use Rattle.image.specs.declared.instruction.Region.TheVariants as regions
 use Rattle.types.specs.declared.entity.Role.{Role}
 use Rattle.types.specs.declared.entity.Role.TheVariants as role
 use Rattle.types.specs.declared.entity.Subtype.{Subtype}
 use Rattle.types.specs.Entities.{Object}
 use Rattle.types.specs.Layouts.{words_of}
+use Rattle.types.specs.Places.{is_among}
 use Rattle.types.specs.Scopes.{Scope, entity_at, is_visible, number_of, with_name}
 use Rattle.well_typed.specs.SoundScopes.{IsSoundObject}
 use Rattle.expr_code.specs.Seeing.{Package, slot_of}
@@ -34,11 +35,27 @@ pub record IsLaidPackage (g : Package) : Type 0 where
   pub laid : IsLaid g.scope g.slots
   pub plain : (name : List ℕ) (x : Slot) → g.slots name ≡ Some x → x.region ≡ regions.Plain
 
+-- what may be stored in: a loop parameter may not (RM 5.5)
+abbrev pub IsVariable : Role → Type 0
+IsVariable role.LoopParameter = ⊥
+IsVariable r = ⊤
+
+-- so many words from an address on are none of these places
+abbrev pub IsFree : (places : List ℕ) → (offset many : ℕ) → Type 0
+IsFree places offset many = (n : ℕ) → is_among places n ≡ true → AreApart n 1 offset many
+
+-- no word of a variable in the frame is one that statements leave alone
+abbrev pub AreFree : Framed → Type 0
+AreFree v = (name : List ℕ) (x : Slot) (r : Role) (t : Subtype) → slot_of v.names name ≡ Some x → x.region ≡ regions.Locals → NamesObject v.names.scope name r t
+    → IsVariable r
+    → IsFree v.reserved x.offset (words_of v.names.scope t)
+
 -- The places that are visible in a body: those of the package's variables are the package's, and there are as many entries as names.
 pub record IsLaidOut (g : Package) (v : Framed) : Type 0 where
   pub unit : IsLaidPackage g
   pub laid : IsLaid v.names.scope (slot_of v.names)
   pub shared : (name : List ℕ) (x : Slot) → slot_of v.names name ≡ Some x → x.region ≡ regions.Plain → g.slots name ≡ Some x
+  pub free : AreFree v
   pub slots : length v.names.slots.items ≡ length v.names.scope
   pub subprograms : length v.names.subprograms.items ≡ length v.names.scope
 
@@ -60,7 +77,7 @@ pub record Widens (v : Framed) (name : List ℕ) (r : Role) (t : Subtype) (slot 
       → NamesObject v.names.scope other q u → AreApart slot.offset (words_of v.names.scope t) x.offset (words_of v.names.scope u)
   pub fits : slot.offset + words_of v.names.scope t ≤ v.room
 
--- what may be stored in: a loop parameter may not (RM 5.5)
-abbrev pub IsVariable : Role → Type 0
-IsVariable role.LoopParameter = ⊥
-IsVariable r = ⊤
+-- the words of the new object are none of those that statements leave alone, which stay the same
+pub record Spares (v : Framed) (t : Subtype) (slot : Slot) (later : Framed) : Type 0 where
+  pub reserved : later.reserved ≡ v.reserved
+  pub free : IsFree v.reserved slot.offset (words_of v.names.scope t)

@@ -1,6 +1,9 @@
 pub mod Resting
 pub mod Storing
 pub mod Layout
+pub mod Parts
+pub mod Copying
+pub mod Counting
 pub mod Statements
 pub mod Standing
 pub mod Laws

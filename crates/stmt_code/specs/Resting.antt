@@ -1,9 +1,9 @@
 -- When the words of an image stand for the objects of a program, between steps: those of the package for the store, those of a frame for an activation.
-use Rattle.std.specs.Prelude.{◌≡◌, ◌≤◌, ℕ, ℤ, true, List, length, Option, Some, None, is_some}
+use Rattle.std.specs.Prelude.{◌≡◌, ◌≤◌, ℕ, ℤ, true, List, [], ◌∷◌, length, map, Option, Some, None, is_some, slice_get, ⊤}
 use Rattle.image.specs.Frames.{Words}
 use Rattle.image.specs.declared.instruction.Region.{Region}
 use Rattle.image.specs.declared.instruction.Region.TheVariants as regions
-use Rattle.types.specs.Places.{Object, Place, object_of}
+use Rattle.types.specs.Places.{Object, Place, is_among, object_of}
 use Rattle.well_typed.specs.Answers.{FunctionsAreSound}
 use Rattle.meaning.specs.Programs.{Program}
 use Rattle.meaning.specs.Works.{Activation, Store}
@@ -37,10 +37,11 @@ pub record StandsFor (program : Program) (g : Package) (store : Store) (m : Word
   pub plain : length m.plain ≤ 65536
   pub objects : (o : ℕ) → length (m.objects o) ≤ 65536
 
--- the names that are visible to a frame, and how many words of its own it has at least
+-- the names that are visible to a frame, how many words of its own it has at least, and which of these statements leave alone
 pub record Framed : Type 0 where
   pub names : Visible
   pub room : ℕ
+  pub reserved : List ℕ
 
 -- an object with words of this region is one of the running activation, or none of them
 abbrev pub IsAtHome : Region → Option Object → Type 0
@@ -61,6 +62,33 @@ pub record Rests (g : Package) (v : Framed) (a : Activation) (locals : List ℤ)
   pub sees : (p : Place) (view : View) → SeesPackage g p view → p.locals ≡ a.locals → p.within ≡ a.within → view.words regions.Locals ≡ locals
       → Knows g v p view
 
--- what is visible later is among what is visible now
-abbrev pub Narrows : Package → (now later : Framed) → Type 0
-Narrows g now later = (p : Place) (view : View) → Knows g now p view → Knows g later p view
+-- a word of a frame that statements leave alone, as long as a loop over a range, or the end of the body, goes by it
+pub record Held : Type 0 where
+  pub offset : ℕ
+  pub word : ℤ
+
+abbrev pub held_offset : Held → ℕ
+held_offset h = h.offset
+
+abbrev pub AreHeld : List ℤ → List Held → Type 0
+AreHeld locals [] = ⊤
+AreHeld locals (h ∷ hs) = (slice_get locals h.offset ≡ Some h.word) × AreHeld locals hs
+
+-- the words at these places are still the same
+abbrev pub AreKept : (places : List ℕ) → (before after : List ℤ) → Type 0
+AreKept places before after = (n : ℕ) → is_among places n ≡ true → slice_get after n ≡ slice_get before n
+
+-- ... and the words that are held are those that statements leave alone
+pub record RestsWith (g : Package) (v : Framed) (words : List Held) (a : Activation) (locals : List ℤ) : Type 0 where
+  pub rests : Rests g v a locals
+  pub held : AreHeld locals words
+  pub apart : map held_offset words ≡ v.reserved
+
+-- what a frame knows later it knows now
+abbrev pub Shows : Package → (now later : Framed) → Type 0
+Shows g now later = (p : Place) (view : View) → Knows g now p view → Knows g later p view
+
+-- what is visible later is among what is visible now, and statements leave the same words alone
+pub record Narrows (g : Package) (now later : Framed) : Type 0 where
+  pub shows : Shows g now later
+  pub reserved : now.reserved ≡ later.reserved

@@ -1,23 +1,26 @@
 -- Which frames of code stand for which work of a task.
-use Rattle.std.specs.Prelude.{◌≡◌, ◌≤◌, ℕ, suc, ◌+◌, ◌*◌, List, [], ◌∷◌, length, Some, None}
+use Rattle.std.specs.Prelude.{◌≡◌, ◌≤◌, ℕ, suc, ◌+◌, ◌*◌, ℤ, List, [], ◌∷◌, length, Some, None, ⊤}
 use Rattle.ada_tree.specs.Size.{declaration_size, stmt_size, stmts_size}
 use Rattle.ada_tree.specs.StatementTree.{NoHandlers}
 use Rattle.kernel.specs.State.{Kernel, Outcome}
-use Rattle.kernel.specs.Effects.{after}
+use Rattle.kernel.specs.Effects.{Effect, Quiet, Says, Finishes, Dies, after}
 use Rattle.image.specs.Sections.{Sections, first_place}
 use Rattle.image.specs.Operations.{called, results_of}
 use Rattle.image.specs.Frames.{Inner, Frame, TaskState, Words}
 use Rattle.image.specs.Steps as steps
 use Rattle.image.specs.declared.instruction.Operation.TheVariants as op
+use Rattle.types.specs.Values.{Value}
 use Rattle.meaning.specs.Meeting.{Relation}
 use Rattle.meaning.specs.Programs.{Program}
-use Rattle.meaning.specs.Works.{Item, Declares, Sequence, Does, DoesMain, Repeats, RepeatsWhile, Handles, EndsCall, EndsServed, Work, Goes, Copies, Raising, Activation, Given, Store, TaskWork, ends_of_calls}
+use Rattle.meaning.specs.Works.{Item, Declares, DeclaresParameter, Sequence, Does, DoesMain, Repeats, RepeatsWhile, RepeatsFor, Handles, EndsCall, EndsServed, Work, Goes, Copies, Raising, Activation, Given, Store, Target, TaskWork, ends_of_calls}
 use Rattle.sound_steps.specs.Holding.{IsSoundStore, IsSoundTask}
 use Rattle.expr_code.specs.Views.{At}
 use Rattle.expr_code.specs.Coming.{Throws, size_of}
 use Rattle.expr_code.specs.Seeing.{Package}
-use Rattle.stmt_code.specs.Resting.{Framed, Narrows, Rests, StandsFor}
-use Rattle.stmt_code.specs.Statements.{AreStatements, IsDeclared, IsForever, IsMainStatement, IsStatement, IsWhile, Numbers, Ways, within_loop}
+use Rattle.stmt_code.specs.Resting.{Framed, Held, Narrows, RestsWith, Shows, StandsFor}
+use Rattle.stmt_code.specs.Copying.{AreCopies, ArePlaced, Destination, GivesBack, addresses_of, copies_on, held_at}
+use Rattle.stmt_code.specs.Counting.{IsCounted, in_turn}
+use Rattle.stmt_code.specs.Statements.{AreStatements, IsDeclared, IsForever, IsMainStatement, IsParameterDeclared, IsStatement, IsWhile, Numbers, Ways, within_loop}
 
 -- ---- what is left to do, as a size that falls where no code is run
 
@@ -33,7 +36,7 @@ items_size (i ∷ items) = item_size i + items_size items
 
 abbrev pub work_size : Work → ℕ
 work_size (Goes items) = suc (items_size items)
-work_size (Copies vs xs items) = suc (items_size items)
+work_size (Copies vs xs items) = suc (suc (items_size items))
 work_size (Raising x items) = items_size items
 
 -- an exception passes all of them
@@ -43,6 +46,14 @@ Unhandled (Handles hs ∷ items) = (hs ≡ NoHandlers) × Unhandled items
 Unhandled (EndsCall names opened xs ∷ items) = (opened ≡ None) × Unhandled items
 Unhandled (EndsServed o names completion ∷ items) = ⊥
 Unhandled (i ∷ items) = Unhandled items
+
+-- what a task does alone, so that no other task, queue or action notices it
+abbrev pub StaysAlone : Effect → Type 0
+StaysAlone Quiet = ⊤
+StaysAlone (Says label value) = ⊤
+StaysAlone Finishes = ⊤
+StaysAlone (Dies x) = ⊤
+StaysAlone e = ⊥
 
 module _ (i : Sections) (program : Program) (g : Package) (numbers : Numbers) where
   -- forward jumps that lead from one place to another
@@ -54,10 +65,11 @@ module _ (i : Sections) (program : Program) (g : Package) (numbers : Numbers) wh
   abbrev pub Inside : ℕ → ℕ → Type 0
   Inside n place = (first_place i n ≤ place) × (place ≤ first_place i n + size_of i n)
 
-  -- what is visible now, the ways out, and what is visible behind the innermost loop and at the end of the body
+  -- what is visible now, the ways out, the words that are held, and what is visible behind the innermost loop and at the end of the body
   pub record Around : Type 0 where
     pub visible : Framed
     pub ways : Ways
+    pub held : List Held
     pub behind : Framed
     pub ending : Framed
 
@@ -66,13 +78,31 @@ module _ (i : Sections) (program : Program) (g : Package) (numbers : Numbers) wh
 
   -- in the statements of a loop with this way out, of which this is around
   abbrev pub in_loop : ℕ → Framed → Around → Around
-  in_loop exit v outer = record { visible = v; ways = within_loop exit outer.ways; behind = outer.visible; ending = outer.ending }
+  in_loop exit v outer = record { visible = v; ways = within_loop exit outer.ways; held = outer.held; behind = outer.visible; ending = outer.ending }
+
+  -- ... in those of a turn of a loop over a range
+  abbrev pub in_range : (exit counter limit : ℕ) → (now last : ℤ) → Framed → Around → Around
+  in_range exit counter limit now last v outer = record {
+    visible = v;
+    ways = within_loop exit outer.ways;
+    held = in_turn counter limit now last outer.held;
+    behind = outer.visible;
+    ending = outer.ending;
+  }
 
   -- what is visible at the ways out is visible here
   abbrev pub Reaches : Around → Framed → Type 0
-  Reaches a v = Narrows g v a.behind × Narrows g v a.ending
+  Reaches a v = Shows g v a.behind × Shows g v a.ending
 
-  -- the part of the subprogram's code between two places, to which forward jumps lead
+  -- the part of the subprogram's code between two places, to which forward jumps lead, in front of all statements
+  pub record LeadsInto (v : Framed) (n from at to : ℕ) (now : Framed) : Type 0 where
+    pub jumps : Jumps from at
+    pub narrows : Narrows g v now
+    pub from_inside : Inside n from
+    pub up : at ≤ to
+    pub to_inside : Inside n to
+
+  -- ... from which ways out may lead
   pub record Leads (a : Around) (n from at to : ℕ) (now : Framed) : Type 0 where
     pub jumps : Jumps from at
     pub narrows : Narrows g a.visible now
@@ -90,12 +120,22 @@ module _ (i : Sections) (program : Program) (g : Package) (numbers : Numbers) wh
     pub up : head ≤ back
     pub loop : a ≡ in_loop (head + 1) a.visible outer
     pub narrows : Narrows g a.visible outer.visible
-    pub reaches : Narrows g outer.visible outer.ending
+    pub reaches : Shows g outer.visible outer.ending
     pub from_inside : Inside n from
     pub head_inside : Inside n head
     pub to_inside : Inside n to
 
-  -- the return of a body without results, to which the way out leads too
+  -- forward jumps to the end of a turn of a loop over a range
+  pub record LeadsNext (a : Around) (n from head to back counter limit : ℕ) (now last : ℤ) (inner : Framed) (outer : Around) : Type 0 where
+    pub jumps : Jumps from back
+    pub loop : a ≡ in_range (head + 1) counter limit now last a.visible outer
+    pub narrows : Narrows g a.visible inner
+    pub reaches : Shows g outer.visible outer.ending
+    pub from_inside : Inside n from
+    pub head_inside : Inside n head
+    pub to_inside : Inside n to
+
+  -- the return of a body without results
   pub record LeadsOut (a : Around) (n from : ℕ) : Type 0 where
     pub at : ℕ
     pub jumps : Jumps from at
@@ -105,10 +145,22 @@ module _ (i : Sections) (program : Program) (g : Package) (numbers : Numbers) wh
     pub from_inside : Inside n from
     pub to_inside : Inside n (suc at)
 
+  -- the end of a body that gives back the values of these objects, each with one of these addresses, which are held meanwhile
+  pub record LeadsEnd (a : Around) (n from : ℕ) (now : Framed) (names : List (List ℕ)) (addresses : List ℕ) : Type 0 where
+    pub at : ℕ
+    pub last : Framed
+    pub jumps : Jumps from at
+    pub narrows : Narrows g now last
+    pub gives : GivesBack i program g last names n at
+    pub held : a.held ≡ held_at last.reserved addresses
+    pub exit : a.ways.exit ≡ None
+    pub from_inside : Inside n from
+    pub to_inside : Inside n (suc gives.back)
+
   -- the frame and the activation that wait for the end of the call, and go on behind it
   pub record WaitsFor (outer : Around) (c : Frame) (o : Activation) : Type 0 where
     pub outside : o.within ≡ None
-    pub rests : Rests g outer.visible o c.locals
+    pub rests : RestsWith g outer.visible outer.held o c.locals
     pub stack : c.stack ≡ []
     pub here : Inside c.subprogram c.place
     pub next : Inside c.subprogram (suc c.place)
@@ -119,6 +171,10 @@ module _ (i : Sections) (program : Program) (g : Package) (numbers : Numbers) wh
   Follows a n from (Declares d ∷ items) fs os =
       (at : ℕ) × (to : ℕ) × (now : Framed) × (later : Framed) × Leads a n from at to now × Narrows g later now
       × IsDeclared i program g numbers now at to later d
+      × Follows (with_visible later a) n to items fs os
+  Follows a n from (DeclaresParameter f ∷ items) fs os =
+      (at : ℕ) × (to : ℕ) × (now : Framed) × (later : Framed) × LeadsInto a.visible n from at to now × Narrows g later now
+      × IsParameterDeclared i program g numbers now at to later f
       × Follows (with_visible later a) n to items fs os
   Follows a n from (Sequence body hs ∷ items) fs os =
       (at : ℕ) × (to : ℕ) × (now : Framed) × (hs ≡ NoHandlers) × Leads a n from at to now
@@ -141,12 +197,21 @@ module _ (i : Sections) (program : Program) (g : Package) (numbers : Numbers) wh
       (head : ℕ) × (to : ℕ) × (outer : Around) × LeadsBack a n from head to outer
       × IsWhile i program g numbers outer.visible head to e (λ exit x y. AreStatements i program g numbers outer.visible (within_loop exit outer.ways) x y body)
       × Follows outer n to items fs os
+  Follows a n from (RepeatsFor parameter reversed now last body ∷ items) fs os =
+      (head : ℕ) × (to : ℕ) × (outer : Around) × (c : IsCounted i g outer.visible head to parameter reversed)
+      × LeadsNext a n from head to c.back c.counter c.limit now last c.inner outer
+      × AreStatements i program g numbers c.inner (within_loop (head + 1) outer.ways) c.start c.back body
+      × Follows outer n to items fs os
   Follows a n from (EndsCall names opened xs ∷ items) fs os =
-      (ret : ℕ) × (c : Frame) × (below : List Frame) × (o : Activation) × (older : List Activation) × (outer : Around)
-      × (names ≡ []) × (opened ≡ None) × (xs ≡ [])
-      × LeadsOut a n from × (a.ways.return ≡ Some ret) × LeadsOut a n ret
+      (ret : ℕ) × (c : Frame) × (below : List Frame) × (o : Activation) × (older : List Activation) × (outer : Around) × (ds : List Destination) × (to : ℕ)
+      × (opened ≡ None)
+      × LeadsEnd a n from a.visible names (addresses_of outer.visible.names xs)
+      × (a.ways.return ≡ Some ret) × (a.visible.reserved ≡ a.ending.reserved)
+      × LeadsEnd a n ret a.ending names (addresses_of outer.visible.names xs)
       × (fs ≡ c ∷ below) × (os ≡ o ∷ older) × WaitsFor outer c o
-      × Follows outer c.subprogram (suc c.place) items below older
+      × (length ds ≡ length names) × ArePlaced outer.visible.names ds xs
+      × (suc c.place ≤ to) × Inside c.subprogram to × AreCopies i program g outer.visible (suc c.place) to ds
+      × Follows outer c.subprogram to items below older
   Follows a n from (i ∷ items) fs os = ⊥
 
   -- frames that an exception removes one by one
@@ -157,7 +222,7 @@ module _ (i : Sections) (program : Program) (g : Package) (numbers : Numbers) wh
   pub record IsGoing (items : List Item) (own : Activation) (os : List Activation) (s : TaskState) : Type 0 where
     pub around : Around
     pub follows : Follows around s.frame.subprogram s.frame.place items s.callers os
-    pub rests : Rests g around.visible own s.frame.locals
+    pub rests : RestsWith g around.visible around.held own s.frame.locals
     pub outside : own.within ≡ None
     pub stack : s.frame.stack ≡ []
     pub going : s.raising ≡ None
@@ -165,8 +230,29 @@ module _ (i : Sections) (program : Program) (g : Package) (numbers : Numbers) wh
     pub inner : AreInner s.frame s.callers
     pub unhandled : Unhandled items
 
+  -- The results of a call stand on the operand stack, each above its address; the code stores them, and goes on with the items.
+  pub record IsCopying (vs : List Value) (xs : List Target) (items : List Item) (own : Activation) (os : List Activation) (s : TaskState) : Type 0 where
+    pub around : Around
+    pub destinations : List Destination
+    pub to : ℕ
+    pub placed : ArePlaced around.visible.names destinations xs
+    pub many : length vs ≡ length xs
+    pub up : s.frame.place ≤ to
+    pub copies : AreCopies i program g around.visible s.frame.place to destinations
+    pub from_inside : Inside s.frame.subprogram s.frame.place
+    pub to_inside : Inside s.frame.subprogram to
+    pub follows : Follows around s.frame.subprogram to items s.callers os
+    pub rests : RestsWith g around.visible around.held own s.frame.locals
+    pub outside : own.within ≡ None
+    pub stack : s.frame.stack ≡ copies_on vs (addresses_of around.visible.names xs) []
+    pub going : s.raising ≡ None
+    pub depth : length s.callers ≡ ends_of_calls items
+    pub inner : AreInner s.frame s.callers
+    pub unhandled : Unhandled items
+
   pub data CodeStands (k : Kernel) (w : TaskWork) (s : TaskState) : Type 0 where
     Going : (items : List Item) → w.work ≡ Goes items → IsGoing items w.own w.callers s → CodeStands k w s
+    Copying : (vs : List Value) (xs : List Target) (items : List Item) → w.work ≡ Copies vs xs items → IsCopying vs xs items w.own w.callers s → CodeStands k w s
     Raised : (x : ℕ) (items : List Item) (f : Frame) (fs : List Frame) → w.work ≡ Raising x items → Throws i x s f fs → AreInner f fs → Unhandled items
         → CodeStands k w s
     Over : (o : Outcome) → k.outcome ≡ Some o → CodeStands k w s
@@ -179,6 +265,10 @@ module _ (i : Sections) (program : Program) (g : Package) (numbers : Numbers) wh
     pub sound : IsSound w
     pub code : CodeStands k w s
 
+  pub record Left (k : Kernel) (e : Effect) (w : TaskWork) (s : TaskState) : Type 0 where
+    pub alone : StaysAlone e
+    pub stands : WorkStands k w s
+
   pub record Shares (store : Store) (m : Words) : Type 0 where
     pub sound : IsSoundStore program store
     pub stands : StandsFor program g store m
@@ -187,7 +277,7 @@ module _ (i : Sections) (program : Program) (g : Package) (numbers : Numbers) wh
   relation = record {
     shares = Shares;
     stands = λ k t w s. WorkStands k w s;
-    leaves = λ k t e w s p q. WorkStands (after t e k) w s;
+    leaves = λ k t e w s p q. Left (after t e k) e w s;
     size = λ w. work_size
         w.work;
   }

@@ -13,27 +13,30 @@ use Rattle.image.specs.Operations.{called}
 use Rattle.image.specs.Texts.{text_at}
 use Rattle.image.specs.declared.instruction.Operation.TheVariants as op
 use Rattle.image.specs.declared.subprograms.Subprogram.{Subprogram}
-use Rattle.ada_tree.specs.declared.declaration.Mode.TheVariants as mode
 use Rattle.ada_tree.specs.declared.program.MainStatement.{MainStatement}
 use Rattle.ada_tree.specs.declared.program.MainStatement.TheVariants as main
 use Rattle.ada_tree.specs.ExpressionTree.{ExprTree, SelectorTrees, NoSelectors, MoreSelectors, Arguments, MoreArguments, NoArguments, NameTree, Text, Value}
-use Rattle.ada_tree.specs.StatementTree.{DeclarationTree, LocalObject, Forever, While, StmtTree, Null, Assignment, Call, Exit, Return, If, Case, Loop, Block, ChoicesTree, AlternativeTrees, NoAlternatives, MoreAlternatives, StmtTrees, NoStmts, MoreStmts, ElsifTrees, NoElsifs, MoreElsifs, NoHandlers}
+use Rattle.ada_tree.specs.StatementTree.{DeclarationTree, LocalObject, Forever, While, For, StmtTree, Null, Assignment, Call, Exit, Return, If, Case, Loop, Block, ChoicesTree, AlternativeTrees, NoAlternatives, MoreAlternatives, StmtTrees, NoStmts, MoreStmts, ElsifTrees, NoElsifs, MoreElsifs, NoHandlers}
 use Rattle.types.specs.declared.entity.Subtype.{Subtype}
 use Rattle.types.specs.Entities.{Put}
 use Rattle.types.specs.Layouts.{words_of}
 use Rattle.types.specs.Places.{Place}
+use Rattle.types.specs.Shapes.{initial}
 use Rattle.types.specs.Values as values
 use Rattle.types.specs.Evaluations.{Gives}
-use Rattle.types.specs.Evaluating.{Calls, actuals_with, val}
+use Rattle.types.specs.Evaluating.{Calls, val}
 use Rattle.type_rules.specs.SubtypeNames.{named_entity}
 use Rattle.meaning.specs.Programs.{Parameter, Procedure, Program}
-use Rattle.meaning.specs.Calls.{Callee, activation_of, callee_by, procedure_here}
+use Rattle.meaning.specs.Calls.{Actuals, Callee, activation_of, callee_by, procedure_here, results}
+use Rattle.sound_steps.specs.Fitting.{taken_types}
 use Rattle.sound_steps.specs.Objects.{AreOf}
 use Rattle.expr_code.specs.Views.{At, View, in_frame, placed, view_of}
-use Rattle.expr_code.specs.Coming.{all_words, most_steps, on}
-use Rattle.expr_code.specs.Computing.{ArePassed, Computes, ComputesAll}
+use Rattle.expr_code.specs.Coming.{most_steps, on}
+use Rattle.expr_code.specs.Computing.{ArePassed, Computes, Everywhere}
 use Rattle.expr_code.specs.Seeing.{library_of, Package, Sees}
-use Rattle.stmt_code.specs.Resting.{Framed, Narrows, Rests}
+use Rattle.stmt_code.specs.Resting.{Framed, Knows, Narrows, RestsWith}
+use Rattle.stmt_code.specs.Copying.{AreCopies, ArePlaced, Destination, GivesBack, actuals_on, held_at, left_out, passed_actuals, passed_words, taken}
+use Rattle.stmt_code.specs.Counting.{IsCounted, IsRange}
 use Rattle.stmt_code.specs.Storing.{Stores, assigned, declared, object_declared}
 use Rattle.meaning.specs.Targets.{activation_with, store_with}
 
@@ -53,18 +56,14 @@ parameter_subtype f = f.subtype
 abbrev pub parameter_type : Parameter → ℕ
 parameter_type f = f.subtype.type_number
 
--- all are copied in alone
-abbrev pub AreIn : List Parameter → Type 0
-AreIn [] = ⊤
-AreIn (f ∷ fs) = (f.mode ≡ mode.In) × AreIn fs
-
 -- the procedures that code may call: which subprogram is whose
 abbrev pub Numbers : Type 0
 Numbers = Procedure → Option ℕ
 
 module _ (i : Sections) (program : Program) (g : Package) (numbers : Numbers) where
+  -- the words of the parameters that are copied in
   abbrev pub sizes_of : Procedure → List ℕ
-  sizes_of q = map (words_of g.scope) (map parameter_subtype q.parameters)
+  sizes_of q = map (words_of g.scope) (map parameter_subtype (taken q.parameters))
 
   abbrev pub IsValue : Framed → (from to : ℕ) → ExprTree → Type 0
   IsValue v from to e = Computes i (library_of g) (Sees g v.names) from to e
@@ -77,22 +76,26 @@ module _ (i : Sections) (program : Program) (g : Package) (numbers : Numbers) wh
       (mid : ℕ) × (number : ℕ) × (from ≤ mid) × IsValue v from mid e × At i mid (op.PutLine number) × (text_at i.labels number ≡ label) × (to ≡ suc mid)
   IsPut v from to s = ⊥
 
-  -- the actual parameters and the call
+  -- the actual parameters, the call, and what is copied back
   pub record IsCall (v : Framed) (from to : ℕ) (c : Callee) : Type 0 where
     pub number : ℕ
     pub numbered : numbers c.procedure ≡ Some number
     pub outside : c.through ≡ None
     pub plain : c.procedure.barrier ≡ None
-    pub copied : AreIn c.procedure.parameters
     pub mid : ℕ
     pub up : from ≤ mid
-    pub end : to ≡ suc mid
-    pub computes : ComputesAll i (library_of g) (Sees g v.names) from mid (map parameter_subtype c.procedure.parameters) c.arguments
+    pub over : suc mid ≤ to
+    pub computes : Everywhere i (library_of g) (Sees g v.names) from mid (actuals_on v.names c.procedure.parameters)
+        (λ calls p. passed_actuals calls p c.procedure.parameters c.arguments)
     pub calls : At i mid (op.Call number)
-    -- what is passed has the words, and is of the types, of the parameters
-    pub passes : (calls : Calls) (p : Place) (view : View) (vs : List values.Value) → (library_of g).sound calls → Sees g v.names p view
-        → actuals_with calls p c.arguments (map parameter_subtype c.procedure.parameters) ≡ Gives vs
-        → ArePassed (sizes_of c.procedure) vs × AreOf program.scope (map parameter_type c.procedure.parameters) vs
+    pub destinations : List Destination
+    pub many : length destinations ≡ length (results c.procedure.parameters)
+    pub copies : AreCopies i program g v (suc mid) to destinations
+    -- what is passed has the words, and is of the types, of the parameters; and the targets are placed where it is copied back to
+    pub passes : (calls : Calls) (p : Place) (view : View) (a : Actuals) → (library_of g).sound calls → Knows g v p view
+        → passed_actuals calls p c.procedure.parameters c.arguments ≡ Gives a
+        → ArePassed (sizes_of c.procedure) a.values × AreOf program.scope (taken_types c.procedure.parameters) a.values
+        × ArePlaced v.names destinations a.targets
 
   -- a statement of main, which calls a procedure of the package without parameters (RM 10.2)
   abbrev pub IsMainStatement : (from to : ℕ) → MainStatement → Type 0
@@ -128,6 +131,18 @@ module _ (i : Sections) (program : Program) (g : Package) (numbers : Numbers) wh
   AreDeclared v from to later [] = (from ≡ to) × (later ≡ v)
   AreDeclared v from to later (d ∷ ds) =
       (mid : ℕ) × (next : Framed) × (from ≤ mid) × (mid ≤ to) × IsDeclared v from mid next d × Narrows g next v × AreDeclared next mid to later ds
+
+  -- an `out` parameter, which begins as an object without initial value (RM 6.4.1)
+  abbrev pub IsParameterDeclared : (v : Framed) → (from to : ℕ) → (later : Framed) → Parameter → Type 0
+  IsParameterDeclared v from to later f =
+      Stores i program g v later from to (λ calls p. Gives (initial program.scope f.subtype)) (λ x m. m)
+      (λ x a. record a { locals = record { name = f.name; subtype = f.subtype; value = x } ∷ a.locals })
+
+  abbrev pub AreParametersDeclared : (v : Framed) → (from to : ℕ) → (later : Framed) → List Parameter → Type 0
+  AreParametersDeclared v from to later [] = (from ≡ to) × (later ≡ v)
+  AreParametersDeclared v from to later (f ∷ fs) =
+      (mid : ℕ) × (next : Framed) × (from ≤ mid) × (mid ≤ to) × IsParameterDeclared v from mid next f × Narrows g next v
+      × AreParametersDeclared next mid to later fs
 
   -- ---- statements by their parts
 
@@ -184,6 +199,10 @@ module _ (i : Sections) (program : Program) (g : Package) (numbers : Numbers) wh
     IsStatement v w from to (Case place e all) = (mid : ℕ) × (from ≤ mid) × (mid ≤ to) × IsValue v from mid e × AreAlternatives v w mid to e all
     IsStatement v w from to (Loop place Forever body) = IsForever from to (λ exit a b. AreStatements v (within_loop exit w) a b body)
     IsStatement v w from to (Loop place (While e) body) = IsWhile v from to e (λ exit a b. AreStatements v (within_loop exit w) a b body)
+    IsStatement v w from to (Loop place (For parameter reversed range) body) =
+        (c : IsCounted i g v from to parameter.name reversed)
+        × IsRange i g v c.inner c.counter c.limit (from + 2) c.start to parameter.name reversed range
+        × AreStatements c.inner (within_loop (from + 1) w) c.start c.back body
     IsStatement v w from to (Block place ds body NoHandlers) = IsBlock v from to ds (λ later a b. AreStatements later w a b body)
     IsStatement v w from to s = ⊥
 
@@ -207,32 +226,39 @@ module _ (i : Sections) (program : Program) (g : Package) (numbers : Numbers) wh
 
   -- ---- bodies
 
-  -- the code of a procedure of the package: its declarations, its statements, and a return
+  -- the code of a procedure of the package: its `out` parameters, its declarations, its statements, and what it gives back
   pub record IsProcedure (q : Procedure) (number : ℕ) : Type 0 where
     pub s : Subprogram
     pub there : called i number ≡ Some s
     pub outside : q.object ≡ None
-    pub copied : AreIn q.parameters
     pub unhandled : q.body.handlers ≡ NoHandlers
-    pub parameters : (args : List values.Value) → ArePassed (sizes_of q) args → length (all_words args) ≡ s.parameters
-    pub results : s.results ≡ 0
-    -- what is visible in front of its declarations, and behind them
+    pub parameters : (args : List values.Value) (addresses : List ℕ) → ArePassed (sizes_of q) args → length addresses ≡ length (results q.parameters)
+        → length (passed_words q.parameters args addresses) ≡ s.parameters
+    -- what is visible in front of its `out` parameters and behind them; in front of its declarations, where its parameters stand in the order of the text; and
+    -- behind its declarations
     pub begins : Framed
+    pub begun : Framed
+    pub middle : Framed
     pub later : Framed
+    pub first : ℕ
     pub start : ℕ
     pub stop : ℕ
-    pub up : first_place i number ≤ start
+    pub down : first_place i number ≤ first
+    pub up : first ≤ start
     pub over : start ≤ stop
-    pub within : suc stop ≤ s.end_
-    pub declared : AreDeclared begins (first_place i number) start later q.body.declarations
+    pub ready : AreParametersDeclared begins (first_place i number) first begun (left_out q.parameters)
+    pub orders : Narrows g begun middle
+    pub declared : AreDeclared middle first start later q.body.declarations
     pub statements : AreStatements later (record { exit = None; return = Some stop }) start stop q.body.statements
-    pub return : At i stop op.Return
+    pub gives : GivesBack i program g middle (results q.parameters) number stop
+    pub within : suc gives.back ≤ s.end_
     -- what the frame sees when it is entered
-    pub enters : (args : List values.Value) (locals : List ℤ)
+    pub enters : (args : List values.Value) (addresses : List ℕ) (locals : List ℤ)
         → ArePassed (sizes_of q) args
-        → AreOf program.scope (map parameter_type q.parameters) args
+        → AreOf program.scope (taken_types q.parameters) args
+        → length addresses ≡ length (results q.parameters)
         → length locals ≡ s.locals - s.parameters
-        → Rests g begins (activation_of q args) (all_words args ++ locals)
+        → RestsWith g begins (held_at begins.reserved addresses) (activation_of q args) (passed_words q.parameters args addresses ++ locals)
 
   abbrev pub HasProcedures : Type 0
   HasProcedures = (q : Procedure) (number : ℕ) → numbers q ≡ Some number → IsProcedure q number

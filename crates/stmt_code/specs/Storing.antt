@@ -20,7 +20,7 @@ use Rattle.meaning.specs.Targets.{all_selected, object_named, target_or_nothing}
 use Rattle.expr_code.specs.Views.{in_frame, placed, view_of}
 use Rattle.expr_code.specs.Computing.{Everywhere}
 use Rattle.expr_code.specs.Seeing.{library_of, Package, Sees}
-use Rattle.stmt_code.specs.Resting.{Framed, IsAt, Knows, Rests, StandsFor}
+use Rattle.stmt_code.specs.Resting.{AreKept, Framed, IsAt, Knows, Rests, StandsFor}
 
 -- ---- what is stored
 
@@ -50,15 +50,17 @@ object_declared s d v = record { name = d.name.name; subtype = subtype_named s d
 -- ---- code that stores
 
 module _ (i : Sections) (program : Program) (g : Package) where
-  -- The instruction at a place takes these words off the operand stack and stores them: the words stand for this store then, and the locals for this activation.
-  pub record Puts (schedule : List ScheduleLine) (k : Kernel) (t : ℕ) (m : Words) (f : Frame) (fs : List Frame) (place : ℕ) (stack : List ℤ)
+  -- The instruction at a place takes words off this operand stack, leaves the others on it, and stores them: the words stand for this store then, and the locals
+  -- for this activation.
+  pub record Puts (schedule : List ScheduleLine) (k : Kernel) (t : ℕ) (m : Words) (f : Frame) (fs : List Frame) (place : ℕ) (stack left : List ℤ)
       (later : Framed) (store : Store) (a : Activation) : Type 0 where
     pub words : Words
     pub locals : List ℤ
-    pub acts : act i schedule k t (in_frame m (placed f place stack) fs) ≡ does Quiet words (record f { place = suc place; locals = locals; stack = [] }) fs
+    pub acts : act i schedule k t (in_frame m (placed f place stack) fs) ≡ does Quiet words (record f { place = suc place; locals = locals; stack = left }) fs
         None None
     pub shared : StandsFor program g store words
     pub rests : Rests g later a locals
+    pub keeps : AreKept later.reserved f.locals locals
 
   -- The code between two places computes what is to be stored, and its last instruction stores it.
   pub record Stores {A : Type 0} (v later : Framed) (from to : ℕ) (value : Calls → Place → Val A) (store_after : A → Store → Store)
@@ -66,6 +68,7 @@ module _ (i : Sections) (program : Program) (g : Package) where
     pub mid : ℕ
     pub up : from ≤ mid
     pub end : to ≡ suc mid
+    pub same : later.reserved ≡ v.reserved
     pub stack : List ℤ → A → List ℤ
     pub computes : Everywhere i (library_of g) (Sees g v.names) from mid stack value
     pub puts : (schedule : List ScheduleLine) (k : Kernel) (t : ℕ) (m : Words) (f : Frame) (fs : List Frame) (store : Store) (a : Activation) (p : Place)
@@ -78,4 +81,4 @@ module _ (i : Sections) (program : Program) (g : Package) where
         → Knows g v p (view_of i schedule k m f fs)
         → a.within ≡ None
         → value (call p.frames_left) p ≡ Gives x
-        → Puts schedule k t m f fs mid (stack [] x) later (store_after x store) (own_after x a)
+        → Puts schedule k t m f fs mid (stack [] x) [] later (store_after x store) (own_after x a)
