@@ -1,0 +1,2 @@
+mod Single
+mod Meaning
