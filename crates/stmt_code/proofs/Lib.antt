@@ -17,3 +17,7 @@ mod Declaring
 mod Assigning
 mod Narrowing
 mod Laying
+mod Entering
+mod Beginning
+mod Bodies
+mod Actuals

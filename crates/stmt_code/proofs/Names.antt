@@ -100,7 +100,7 @@ name_is a b h = (bytes_eq-Decides a b).1 h
 
 -- ---- what a name means, by the object of the activation
 
-abbrev meant_by : Place → List ℕ → Option Object → Meaning
+abbrev pub meant_by : Place → List ℕ → Option Object → Meaning
 meant_by p name o =
     meaning_or
     (or_else (object_meaning (or_else o (object_of (own_components p p.within) name))) (function_meaning (own_function p name)))
