@@ -26,7 +26,7 @@ use Rattle.types.specs.Laws.{ValuesHaveWords}
 use Rattle.types.specs.Layouts.{words_of}
 use Rattle.types.specs.Places.{meaning_of}
 use Rattle.types.specs.Scopes.{is_visible, number_of, profile_at, profile_of}
-use Rattle.types.specs.Shapes.{shape_of}
+use Rattle.types.specs.Shapes.{has_shape, shape_of}
 use Rattle.types.specs.Standings.{call_stands, count, result_stands, select, select_all, standing_of, stands_first, stands_for}
 use Rattle.types.specs.Values as values
 use Rattle.types.specs.Values.{fits}
@@ -37,7 +37,7 @@ use Rattle.expr_rules.proofs.TypedLaw.{back_empty, front_empty}
 use Rattle.well_typed.specs.Agreeing.{MeansFunction, parameter_subtype}
 use Rattle.well_typed.proofs.Applying.{one_count}
 use Rattle.well_typed.proofs.Parts.{same_values}
-use Rattle.expr_code.specs.Actuals.{AddsCall, ArePassedLegally, arguments_in_front, EmitsActual, EmitsActuals, IsPassedLegally, TakeWords}
+use Rattle.expr_code.specs.Actuals.{AddsCall, ArePassedLegally, arguments_in_front, EmitsActual, EmitsActuals, IsPassedLegally, TakeShapes}
 use Rattle.expr_code.specs.Code.{here}
 use Rattle.expr_code.specs.Computing.{AlwaysNames, ArePassed, ArePassedWell, Computes, ComputesAll}
 use Rattle.expr_code.specs.Emitting.{EmitsChecked, EmitsExpression, IsLegal}
@@ -111,21 +111,21 @@ both_given (Raises n) b vs e = cc
 both_given Meaningless b vs e = cc
 
 module _ (words : ValuesHaveWords) (v : Visible) where
-  takes_one : (old new : Code) (depth : ℕ) (t : Subtype) (e : ExprTree) → EmitsChecked v old depth t e new → TakeWords v (t ∷ []) (Value e ∷ [])
-  takes_one old new depth t e h g calls p view us rest sizes sound sees others vs is =
+  takes_one : (old new : Code) (depth : ℕ) (t : Subtype) (e : ExprTree) → EmitsChecked v old depth t e new → TakeShapes v (t ∷ []) (Value e ∷ [])
+  takes_one old new depth t e h g calls p view us rest shapes sound sees others vs is =
       let two = both_given (and_then (value_with calls p e) (passed t)) (actuals_with calls p rest us) vs is in
       let x = two.0 in
       let shaped = h.typed calls p sees.names.agrees (sound p sees.unit.sound) x (passed_same t (value_with calls p e) x two.2) in
       let there = sym (same_values v.scope p.scope t x (sym (sees.names.agrees.shapes t.type_number h.known.0 h.known.1))) ∙ shaped in
-      let size = (words (shape_of p.scope t) x there).sized ∙ ap (λ s. words_of s t) sees.unit.scope in
-      subst (λ l. ArePassed (words_of g.scope t ∷ sizes) l) two.4 (size, others two.1 two.3)
+      let fit = subst (λ s. has_shape (shape_of s t) x ≡ true) sees.unit.scope there in
+      subst (λ l. ArePassed (shape_of g.scope t ∷ shapes) l) two.4 (fit, others two.1 two.3)
 
-takes_then : (v : Visible) (ts us : List Subtype) (one two : List ArgumentTree) → TakeWords v ts one → TakeWords v us two → TakeWords v (ts ++ us) (one ++ two)
-takes_then v ts us one two p q g calls place view ws rest sizes sound sees others vs is =
-    let f = words_of g.scope in
-    let first = p g calls place view (us ++ ws) (arguments_in_front two rest) (map f us ++ sizes) sound sees (q g calls place view ws rest sizes sound sees others) vs
+takes_then : (v : Visible) (ts us : List Subtype) (one two : List ArgumentTree) → TakeShapes v ts one → TakeShapes v us two → TakeShapes v (ts ++ us) (one ++ two)
+takes_then v ts us one two p q g calls place view ws rest shapes sound sees others vs is =
+    let f = shape_of g.scope in
+    let first = p g calls place view (us ++ ws) (arguments_in_front two rest) (map f us ++ shapes) sound sees (q g calls place view ws rest shapes sound sees others) vs
     ((λ j. actuals_with calls place (sym (in_front_then one two rest) j) (sym (append_assoc ts us ws) j)) ∙ is) in
-    subst (λ l. ArePassed l vs) (sym (append_assoc (map f ts) (map f us) sizes) ∙ ap (λ l. l ++ sizes) (sym (map_then f ts us))) first
+    subst (λ l. ArePassed l vs) (sym (append_assoc (map f ts) (map f us) shapes) ∙ ap (λ l. l ++ shapes) (sym (map_then f ts us))) first
 
 -- ---- actual parameters
 
@@ -301,9 +301,9 @@ module _ (v : Visible) (first : Identifier) (profile : Profile) (names : NamesPr
 
     passed_well : (g : Package) (i : Sections) → ArePassedWell i (library_of g) (Sees g v) ts (argument_trees arguments)
     passed_well g i calls place view function vs sound sees formals is =
-        let sizes = all.takes g calls place view [] NoArguments [] sound sees (λ ws e. none ws e) vs
+        let shapes = all.takes g calls place view [] NoArguments [] sound sees (λ ws e. none ws e) vs
         ((λ j. actuals_with calls place (trees_are arguments j) (nothing_behind ts j)) ∙ is) in
-        subst (λ l. ArePassed l vs) (nothing_behind (map (words_of g.scope) ts) ∙ ap (map (words_of g.scope)) (sym formals)) sizes
+        subst (λ l. ArePassed l vs) (nothing_behind (map (shape_of g.scope) ts) ∙ ap (map (shape_of g.scope)) (sym formals)) shapes
       where
         none : (ws : List values.Value) → Gives [] ≡ Gives ws → ArePassed [] ws
         none [] e = tt
@@ -353,7 +353,7 @@ module _ (v : Visible) (first : Identifier) (profile : Profile) (names : NamesPr
               subst (λ n. Computes i (library_of g) (Sees g v) (here old) n (tree.Named first NoSelectors)) (sym next)
               (computes_call_alone quiet i (library_of g) (Sees g v) (here old) added.number first
               (subst (λ l. AlwaysNames i (library_of g) (Sees g v) first NoSelectors added.number (map parameter_subtype l)) no_formals (named old new depth added g NoSelectors legal valueless i))
-              (λ calls place view function vs sound sees formals is. subst (λ l. ArePassed (map (words_of g.scope) l) vs) (sym formals) (none vs is))
+              (λ calls place view function vs sound sees formals is. subst (λ l. ArePassed (map (shape_of g.scope) l) vs) (sym formals) (none vs is))
               (added_at old new depth call added.adds i (here old) (omega arith) h));
           flows = instruction_flows (Suits v) old new depth (depth + 1) call added.adds (changes old new depth added depth high);
         }

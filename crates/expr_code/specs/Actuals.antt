@@ -10,6 +10,7 @@ use Rattle.types.specs.Entities.{Profile}
 use Rattle.types.specs.Evaluations.{Gives}
 use Rattle.types.specs.Evaluating.{Calls, actuals_with}
 use Rattle.types.specs.Layouts.{words_of}
+use Rattle.types.specs.Shapes.{Shape, shape_of}
 use Rattle.types.specs.Places.{Place}
 use Rattle.types.specs.Scopes.{Scope}
 use Rattle.expr_rules.specs.ExpressionRules.{argument_faults}
@@ -36,14 +37,14 @@ abbrev pub arguments_in_front : List ArgumentTree → ArgumentTrees → Argument
 arguments_in_front [] rest = rest
 arguments_in_front (a ∷ all) rest = MoreArguments a (arguments_in_front all rest)
 
--- the values take the words of their subtypes, wherever those of the arguments behind them take so many
-abbrev pub TakeWords : Visible → List Subtype → List ArgumentTree → Type 0
-TakeWords v ts all =
-    (g : Package) (calls : Calls) (p : Place) (view : View) (us : List Subtype) (rest : ArgumentTrees) (sizes : List ℕ)
+-- the values have the shapes of their subtypes, wherever those of the arguments behind them have these
+abbrev pub TakeShapes : Visible → List Subtype → List ArgumentTree → Type 0
+TakeShapes v ts all =
+    (g : Package) (calls : Calls) (p : Place) (view : View) (us : List Subtype) (rest : ArgumentTrees) (shapes : List Shape)
     → (library_of g).sound calls
     → Sees g v p view
-    → ((vs : _) → actuals_with calls p rest us ≡ Gives vs → ArePassed sizes vs)
-    → (vs : _) → actuals_with calls p (arguments_in_front all rest) (ts ++ us) ≡ Gives vs → ArePassed (map (words_of g.scope) ts ++ sizes) vs
+    → ((vs : _) → actuals_with calls p rest us ≡ Gives vs → ArePassed shapes vs)
+    → (vs : _) → actuals_with calls p (arguments_in_front all rest) (ts ++ us) ≡ Gives vs → ArePassed (map (shape_of g.scope) ts ++ shapes) vs
 
 -- The code that was added computes the actual parameters from left to right, each checked against its subtype, in front of those behind them.
 pub record EmitsActuals (v : Visible) (old : Code) (depth : ℕ) (ts : List Subtype) (all : List ArgumentTree) (height : ℕ) (new : Code) : Type 0 where
@@ -52,7 +53,7 @@ pub record EmitsActuals (v : Visible) (old : Code) (depth : ℕ) (ts : List Subt
   pub computes : (i : Sections) → Holds i (here old) new → (g : Package) (to : ℕ) (us : List Subtype) (rest : ArgumentTrees) → here new ≤ to
       → ComputesAll i (library_of g) (Sees g v) (here new) to us rest
       → ComputesAll i (library_of g) (Sees g v) (here old) to (ts ++ us) (arguments_in_front all rest)
-  pub takes : TakeWords v ts all
+  pub takes : TakeShapes v ts all
   pub high : height ≡ depth + total (words_of v.scope) ts
   pub flows : Flows (Suits v) old depth new height
 

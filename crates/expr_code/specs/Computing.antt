@@ -1,5 +1,5 @@
 -- What it is that code computes an expression, and the expressions in parentheses behind a name, wherever a part of a program sees enough of what they name.
-use Rattle.std.specs.Prelude.{◌≡◌, ℕ, suc, ◌-◌, ◌+◌, ◌≤◌, ℤ, Bool, List, [], ◌∷◌, ◌++◌, length, map, Some, None}
+use Rattle.std.specs.Prelude.{◌≡◌, ℕ, suc, ◌-◌, ◌+◌, ◌≤◌, ℤ, Bool, true, List, [], ◌∷◌, ◌++◌, length, map, Some, None}
 use Rattle.base.specs.declared.schedule.ScheduleLine.{ScheduleLine}
 use Rattle.kernel.specs.State.{Kernel}
 use Rattle.kernel.specs.Calm.{Calm}
@@ -14,26 +14,26 @@ use Rattle.image.specs.declared.instruction.Region.TheVariants as regions
 use Rattle.image.specs.declared.subprograms.Subprogram.{Subprogram}
 use Rattle.types.specs.declared.entity.Subtype.{Subtype}
 use Rattle.types.specs.Values.{Value, Number, Truth}
-use Rattle.types.specs.Shapes.{value_words}
+use Rattle.types.specs.Shapes.{Shape, has_shape, value_words}
 use Rattle.types.specs.Evaluations.{Val, Gives, and_then}
 use Rattle.types.specs.Places.{Function, IsFunction, Place, meaning_of}
 use Rattle.types.specs.Evaluating.{Calls, actuals_with, entered, fixed_name, formal_subtype, passed, value_with}
 use Rattle.expr_code.specs.Views.{At, placed, frames_above, Sight, View, view_of}
 use Rattle.expr_code.specs.Coming.{all_on, all_words, Comes, on}
 
--- each value takes as many words as are told
-abbrev pub ArePassed : List ℕ → List Value → Type 0
+-- each value has the shape that is told
+abbrev pub ArePassed : List Shape → List Value → Type 0
 ArePassed [] [] = Unit {0}
-ArePassed (n ∷ ns) (v ∷ vs) = (length (value_words v) ≡ n) × ArePassed ns vs
-ArePassed ns vs = ⊥
+ArePassed (x ∷ xs) (v ∷ vs) = (has_shape x v ≡ true) × ArePassed xs vs
+ArePassed xs vs = ⊥
 
 -- the functions that code may call
 pub record Library : Type 1 where
   -- what all bodies of the program see
   pub shared : Sight
-  -- the function has the subprogram with this number; and its parameters have so many words each
+  -- the function has the subprogram with this number; and its parameters have these shapes
   pub coded : Function → ℕ → Type 0
-  pub sizes : Function → List ℕ
+  pub shapes : Function → List Shape
   -- what is known of the values of calls: that they are of the types of the results
   pub sound : Calls → Type 0
 
@@ -49,7 +49,7 @@ module _ (i : Sections) (library : Library) where
         → library.shared p (view_of i schedule k m f fs)
         → library.coded function number
         → At i place (op.Call number)
-        → ArePassed (library.sizes function) args
+        → ArePassed (library.shapes function) args
         → left ≡ frames_above fs
         → Comes i schedule k t m (placed f place (all_on base args)) fs 1 (suc place) (on base) (calls p function args)
 
@@ -119,7 +119,7 @@ module _ (i : Sections) (library : Library) where
   abbrev pub AlwaysNames : Sight → Identifier → SelectorTrees → (number : ℕ) → List Subtype → Type 0
   AlwaysNames sight first selectors number ts = (p : Place) (view : View) → sight p view → NamesFunction first selectors number ts p view
 
-  -- the actual parameters have the words of the formals of each function that has these subtypes of formals
+  -- the actual parameters have the shapes of the formals of each function that has these subtypes of formals
   abbrev pub ArePassedWell : Sight → List Subtype → ArgumentTrees → Type 0
   ArePassedWell sight ts arguments =
       (calls : Calls) (p : Place) (view : View) (function : Function) (vs : List Value)
@@ -127,13 +127,13 @@ module _ (i : Sections) (library : Library) where
       → sight p view
       → map formal_subtype function.formals ≡ ts
       → actuals_with calls p arguments ts ≡ Gives vs
-      → ArePassed (library.sizes function) vs
+      → ArePassed (library.shapes function) vs
 
   -- the code of a function: its value, checked, and a return. It handles nothing, and sees what all bodies see and its formals
   pub record IsFunctionCode (function : Function) (number : ℕ) : Type 1 where
     pub s : Subprogram
     pub there : called i number ≡ Some s
-    pub parameters : (args : List Value) → ArePassed (library.sizes function) args → length (all_words args) ≡ s.parameters
+    pub parameters : (args : List Value) → ArePassed (library.shapes function) args → length (all_words args) ≡ s.parameters
     pub sight : Sight
     pub mid : ℕ
     pub behind : first_place i number ≤ mid
@@ -146,7 +146,7 @@ module _ (i : Sections) (library : Library) where
     -- what it sees when it is entered
     pub enters : (p : Place) (view inner : View) (args : List Value) (left : ℕ) (locals : List ℤ)
         → library.shared p view
-        → ArePassed (library.sizes function) args
+        → ArePassed (library.shapes function) args
         → inner.schedule ≡ view.schedule
         → inner.now ≡ view.now
         → inner.memory ≡ view.memory

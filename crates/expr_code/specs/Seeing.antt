@@ -14,6 +14,7 @@ use Rattle.types.specs.Places.{Function, IsFunction, IsObject, Place, function_o
 use Rattle.types.specs.Evaluating.{formal_subtype}
 use Rattle.types.specs.Scopes.{Scope, entity_at, number_of}
 use Rattle.types.specs.Layouts.{words_of}
+use Rattle.types.specs.Shapes.{shape_of}
 use Rattle.well_typed.specs.Answers.{CallsAnswer, FunctionsAreSound}
 use Rattle.well_typed.specs.Agreeing.{Agrees, parameter_subtype}
 use Rattle.expr_code.specs.Views.{View}
@@ -118,6 +119,6 @@ abbrev pub library_of : Package → Library
 library_of g = record {
   shared = SeesPackage g;
   coded = IsCoded g;
-  sizes = λ f. map (words_of g.scope) (map formal_subtype f.formals);
+  shapes = λ f. map (shape_of g.scope) (map formal_subtype f.formals);
   sound = λ calls. (p : Place) → FunctionsAreSound p → CallsAnswer calls p;
 }

@@ -22,7 +22,7 @@ use Rattle.types.specs.Evaluations.{Val, Gives, Raises, Meaningless, and_then}
 use Rattle.types.specs.Evaluating.{call}
 use Rattle.ada_tree.specs.declared.program.MainStatement.TheVariants as main
 use Rattle.ada_tree.specs.ExpressionTree.{ArgumentTrees, ExprTree, MoreArguments, Named, NameTree, NoArguments, Text}
-use Rattle.types.specs.Layouts.{words_of}
+use Rattle.types.specs.Shapes.{shape_of}
 use Rattle.ada_tree.specs.ExpressionTree as expressions
 use Rattle.ada_tree.specs.StatementTree as tree
 use Rattle.meaning.specs.Meeting.{Last}
@@ -45,7 +45,7 @@ use Rattle.expr_code.proofs.Calling.{enters, inner as callee, refused, replicate
 use Rattle.expr_code.specs.declared.visible.Visible.{Visible}
 use Rattle.stmt_code.specs.Resting.{AreHeld, Framed, Narrows, RestsWith}
 use Rattle.stmt_code.specs.Copying.{AreCopies, ArePlaced, Destination, actuals_on, addresses_of, copies_on, held_at, left_out, passed_actuals, passed_expression, passed_words, taken}
-use Rattle.stmt_code.specs.Statements.{IsCall, IsProcedure, Numbers, parameter_subtype, sizes_of}
+use Rattle.stmt_code.specs.Statements.{IsCall, IsProcedure, Numbers, parameter_subtype, shapes_of}
 use Rattle.stmt_code.specs.Standing.{Going, Here, Leads, LeadsEnd, Shares, Unhandled, WaitsFor, items_size, relation, work_size}
 use Rattle.stmt_code.specs.Laws.{HasCode}
 use Rattle.stmt_code.proofs.Going.{declares_end, declares_follow, declares_unhandled, earlier, jumps_up, narrows_same, parameters_end, parameters_follow, parameters_unhandled, same_end}
@@ -198,7 +198,7 @@ module _ (this : Scene) where
         → Comes i schedule k t m (placed f at []) fs (mid - at) mid (actuals_on now'.names q.parameters []) v
         → length ds ≡ length (results q.parameters)
         → AreCopies i program g now' (suc mid) to ds
-        → ((x : Actuals) → v ≡ Gives x → ArePassed (sizes_of i program g numbers q) x.values × AreOf program.scope (taken_types q.parameters) x.values
+        → ((x : Actuals) → v ≡ Gives x → ArePassed (shapes_of i program g numbers q) x.values × AreOf program.scope (taken_types q.parameters) x.values
         × ArePlaced now'.names ds x.targets)
         → Follow (seeing now' a) f.subprogram to items fs w.callers
         → RestsWith g a.visible a.held w.own f.locals
@@ -460,9 +460,9 @@ module _ (this : Scene) where
         subst (λ n. Comes i schedule k t m (placed f r.0 []) fs n r.0 (actuals_on r.2.names code.0.parameters []) (Gives nothing)) (sym e)
         (subst (λ ps. Comes i schedule k t m (placed f r.0 []) fs 0 r.0 (actuals_on r.2.names ps []) (Gives nothing)) (sym code.4) Done))
         (subst (λ ps. length {A = Destination} [] ≡ length (results ps)) (sym code.4) refl) (sym end)
-        (λ z ez. subst (λ y. ArePassed (sizes_of i program g numbers code.0) y.values × AreOf program.scope (taken_types code.0.parameters) y.values
+        (λ z ez. subst (λ y. ArePassed (shapes_of i program g numbers code.0) y.values × AreOf program.scope (taken_types code.0.parameters) y.values
         × ArePlaced r.2.names [] y.targets) (given z ez)
-        (subst (λ ps. ArePassed (map (words_of g.scope) (map parameter_subtype (taken ps))) [] × AreOf program.scope (taken_types ps) [] × ⊤) (sym code.4) (tt, tt, tt)))
+        (subst (λ ps. ArePassed (map (shape_of g.scope) (map parameter_subtype (taken ps))) [] × AreOf program.scope (taken_types ps) [] × ⊤) (sym code.4) (tt, tt, tt)))
         r.5 h.rests h.outside h.depth h.inner h.unhandled
       where
         nothing : Actuals

@@ -19,9 +19,8 @@ use Rattle.ada_tree.specs.ExpressionTree.{ExprTree, SelectorTrees, NoSelectors, 
 use Rattle.ada_tree.specs.StatementTree.{DeclarationTree, LocalObject, Forever, While, For, StmtTree, Null, Assignment, Call, Exit, Return, If, Case, Loop, Block, ChoicesTree, AlternativeTrees, NoAlternatives, MoreAlternatives, StmtTrees, NoStmts, MoreStmts, ElsifTrees, NoElsifs, MoreElsifs, NoHandlers}
 use Rattle.types.specs.declared.entity.Subtype.{Subtype}
 use Rattle.types.specs.Entities.{Put}
-use Rattle.types.specs.Layouts.{words_of}
 use Rattle.types.specs.Places.{Place}
-use Rattle.types.specs.Shapes.{initial}
+use Rattle.types.specs.Shapes.{Shape, initial, shape_of}
 use Rattle.types.specs.Values as values
 use Rattle.types.specs.Evaluations.{Gives}
 use Rattle.types.specs.Evaluating.{Calls, val}
@@ -61,9 +60,9 @@ abbrev pub Numbers : Type 0
 Numbers = Procedure → Option ℕ
 
 module _ (i : Sections) (program : Program) (g : Package) (numbers : Numbers) where
-  -- the words of the parameters that are copied in
-  abbrev pub sizes_of : Procedure → List ℕ
-  sizes_of q = map (words_of g.scope) (map parameter_subtype (taken q.parameters))
+  -- the shapes of the parameters that are copied in
+  abbrev pub shapes_of : Procedure → List Shape
+  shapes_of q = map (shape_of g.scope) (map parameter_subtype (taken q.parameters))
 
   abbrev pub IsValue : Framed → (from to : ℕ) → ExprTree → Type 0
   IsValue v from to e = Computes i (library_of g) (Sees g v.names) from to e
@@ -91,10 +90,10 @@ module _ (i : Sections) (program : Program) (g : Package) (numbers : Numbers) wh
     pub destinations : List Destination
     pub many : length destinations ≡ length (results c.procedure.parameters)
     pub copies : AreCopies i program g v (suc mid) to destinations
-    -- what is passed has the words, and is of the types, of the parameters; and the targets are placed where it is copied back to
+    -- what is passed has the shapes, and is of the types, of the parameters; and the targets are placed where it is copied back to
     pub passes : (calls : Calls) (p : Place) (view : View) (a : Actuals) → (library_of g).sound calls → Knows g v p view
         → passed_actuals calls p c.procedure.parameters c.arguments ≡ Gives a
-        → ArePassed (sizes_of c.procedure) a.values × AreOf program.scope (taken_types c.procedure.parameters) a.values
+        → ArePassed (shapes_of c.procedure) a.values × AreOf program.scope (taken_types c.procedure.parameters) a.values
         × ArePlaced v.names destinations a.targets
 
   -- a statement of main, which calls a procedure of the package without parameters (RM 10.2)
@@ -232,7 +231,7 @@ module _ (i : Sections) (program : Program) (g : Package) (numbers : Numbers) wh
     pub there : called i number ≡ Some s
     pub outside : q.object ≡ None
     pub unhandled : q.body.handlers ≡ NoHandlers
-    pub parameters : (args : List values.Value) (addresses : List ℕ) → ArePassed (sizes_of q) args → length addresses ≡ length (results q.parameters)
+    pub parameters : (args : List values.Value) (addresses : List ℕ) → ArePassed (shapes_of q) args → length addresses ≡ length (results q.parameters)
         → length (passed_words q.parameters args addresses) ≡ s.parameters
     -- what is visible in front of its `out` parameters and behind them; in front of its declarations, where its parameters stand in the order of the text; and
     -- behind its declarations
@@ -254,7 +253,7 @@ module _ (i : Sections) (program : Program) (g : Package) (numbers : Numbers) wh
     pub within : suc gives.back ≤ s.end_
     -- what the frame sees when it is entered
     pub enters : (args : List values.Value) (addresses : List ℕ) (locals : List ℤ)
-        → ArePassed (sizes_of q) args
+        → ArePassed (shapes_of q) args
         → AreOf program.scope (taken_types q.parameters) args
         → length addresses ≡ length (results q.parameters)
         → length locals ≡ s.locals - s.parameters
