@@ -76,7 +76,7 @@ module _ (kept : AgreementIsKept) (sized : ValuesHaveWords) (program : Program) 
   Resting v l = Rests g v (record { within = within; locals = l }) words
 
   -- one of them more
-  value_begins : (v next : Framed) (f : Parameter) (x : Value) (front more : List ℤ) (l : List Object) → Begins program g v f (length front) next
+  pub value_begins : (v next : Framed) (f : Parameter) (x : Value) (front more : List ℤ) (l : List Object) → Begins program g v f (length front) next
       → IsOf program.scope f.subtype.type_number x → words ≡ front ++ (value_words x ++ more) → Resting v l
       → Resting next (record { name = f.name; subtype = f.subtype; value = x } ∷ l)
   value_begins v next f x front more l b of is rests =
@@ -85,7 +85,7 @@ module _ (kept : AgreementIsKept) (sized : ValuesHaveWords) (program : Program) 
       (subst (λ o. Lies words o x) (sym b.at) (subst (λ q. Lies q (length front) x) (sym is) (lies_at front x more)))
 
   -- a value takes the words of its subtype
-  width : (v next : Framed) (f : Parameter) (x : Value) (offset : ℕ) → Begins program g v f offset next → IsOf program.scope f.subtype.type_number x
+  pub width : (v next : Framed) (f : Parameter) (x : Value) (offset : ℕ) → Begins program g v f offset next → IsOf program.scope f.subtype.type_number x
       → length (value_words x) ≡ words_of v.names.scope f.subtype
   width v next f x offset b of = (sized (shape_of v.names.scope f.subtype) x (b.suits x of)).sized
 

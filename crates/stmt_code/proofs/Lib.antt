@@ -21,3 +21,4 @@ mod Entering
 mod Beginning
 mod Bodies
 mod Actuals
+mod Functions

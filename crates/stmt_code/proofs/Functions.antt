@@ -1,0 +1,109 @@
+-- What a frame sees when the body of a function of the package is entered: the names in front of it, and its formals with their values (RM 6.4).
+use Rattle.std.proofs.Common.{◌≡◌, ℕ, ◌+◌, ◌≤◌, ℤ, List, [], ◌∷◌, ◌++◌, length, map, append_assoc, Option, None, Some, true, refl, sym, ap, ◌∙◌, subst, arith}
+use Rattle.std.proofs.lemmas.List.{length-append}
+use Rattle.ada_tree.specs.declared.declaration.Mode.TheVariants as mode
+use Rattle.image.specs.Frames.{object_words}
+use Rattle.image.specs.declared.instruction.Region.{Region}
+use Rattle.image.specs.declared.instruction.Region.TheVariants as regions
+use Rattle.types.specs.Laws.{ValuesHaveWords}
+use Rattle.types.specs.Evaluating.{bound, entered, formal_subtype}
+use Rattle.types.specs.Layouts.{words_of}
+use Rattle.types.specs.Places.{Formal, Function, IsObject, Object, Place, meaning_of}
+use Rattle.types.specs.Shapes.{has_shape, shape_of, value_words}
+use Rattle.types.specs.Values.{Value}
+use Rattle.types.specs.declared.entity.Subtype.{Subtype}
+use Rattle.expr_rules.specs.Laws.{type_shape}
+use Rattle.well_typed.specs.Laws.{AgreementIsKept}
+use Rattle.well_typed.proofs.Parts.{subtype_values}
+use Rattle.meaning.specs.Programs.{Parameter, Program}
+use Rattle.sound_steps.specs.Objects.{IsOf}
+use Rattle.expr_code.specs.Coming.{all_words}
+use Rattle.expr_code.specs.Computing.{ArePassed}
+use Rattle.expr_code.specs.Naming.{Lies}
+use Rattle.expr_code.specs.Seeing.{Package, Sees, SeesPackage}
+use Rattle.expr_code.specs.Views.{View}
+use Rattle.expr_code.specs.declared.visible.Slot.{Slot}
+use Rattle.stmt_code.specs.Layout.{IsLaidPackage}
+use Rattle.stmt_code.specs.Resting.{Framed, Rests}
+use Rattle.stmt_code.proofs.Beginning.{Begins, value_begins, width}
+use Rattle.stmt_code.proofs.Entering.{IsOfPackage, rests_package}
+
+-- a formal of a function, which is copied in
+abbrev pub as_parameter : Formal → Parameter
+as_parameter f = record { name = f.name; mode = mode.In; subtype = f.subtype }
+
+-- the formals become visible one after another, the words of each behind those of the one before
+abbrev pub EntersFormals : (program : Program) (g : Package) (v : Framed) (from : ℕ) → List Formal → (last : Framed) → Type 0
+EntersFormals program g v from [] last = last ≡ v
+EntersFormals program g v from (f ∷ fs) last =
+    (next : Framed) × Begins program g v (as_parameter f) from next × EntersFormals program g next (from + words_of v.names.scope f.subtype) fs last
+
+module _ (kept : AgreementIsKept) (sized : ValuesHaveWords) (program : Program) (g : Package) (same : g.scope ≡ program.scope) where
+  is_of : (t : Subtype) (x : Value) → has_shape (shape_of g.scope t) x ≡ true → IsOf program.scope t.type_number x
+  is_of t x h = subst (λ s. has_shape (type_shape s t.type_number) x ≡ true) same (sym (subtype_values g.scope t x) ∙ h)
+
+  formals_begun : (words : List ℤ) (fs : List Formal) (vs : List Value) (v last : Framed) (front more : List ℤ) (l : List Object)
+      → EntersFormals program g v (length front) fs last
+      → ArePassed (map (shape_of g.scope) (map formal_subtype fs)) vs
+      → words ≡ front ++ (all_words vs ++ more)
+      → Rests g v (record { within = None; locals = l }) words
+      → Rests g last (record { within = None; locals = bound fs vs l }) words
+  formals_begun words [] [] v last front more l h passed is rests = subst (λ q. Rests g q (record { within = None; locals = l }) words) (sym h) rests
+  formals_begun words [] (x ∷ xs) v last front more l h passed is rests = absurd passed
+  formals_begun words (f ∷ fs) [] v last front more l h passed is rests = absurd passed
+  formals_begun words (f ∷ fs) (x ∷ xs) v last front more l h passed is rests =
+      let value = value_words x in
+      let of = is_of f.subtype x passed.0 in
+      let wide = width kept sized program g None words v h.0 (as_parameter f) x (length front) h.1 of in
+      let long = length-append front value in
+      let at : length front + words_of v.names.scope f.subtype ≡ length (front ++ value) = omega (arith, wide, long) in
+      let placed : words ≡ front ++ (value ++ (all_words xs ++ more)) = is ∙ ap (λ q. front ++ q) (append_assoc value (all_words xs) more) in
+      let first = value_begins kept sized program g None words v h.0 (as_parameter f) x front (all_words xs ++ more) l h.1 of placed rests in
+      formals_begun words fs xs h.0 last (front ++ value) more (record { name = f.name; subtype = f.subtype; value = x } ∷ l)
+      (subst (λ n. EntersFormals program g h.0 n fs last) at h.2) passed.1 (placed ∙ sym (append_assoc front value (all_words xs ++ more))) first
+
+  module _ (laid : IsLaidPackage g) (function : Function) (outside : function.object ≡ None) (front last : Framed) (of_package : IsOfPackage g front)
+      (formals : EntersFormals program g front 0 function.formals last) where
+    -- whatever calls it, with values of the formals' shapes
+    pub function_sees : (p : Place) (view inner : View) (args : List Value) (left : ℕ) (locals : List ℤ)
+        → SeesPackage g p view
+        → ArePassed (map (shape_of g.scope) (map formal_subtype function.formals)) args
+        → inner.schedule ≡ view.schedule
+        → inner.now ≡ view.now
+        → inner.words regions.Locals ≡ all_words args ++ locals
+        → inner.words regions.Plain ≡ view.words regions.Plain
+        → inner.words regions.Object ≡ []
+        → length (all_words args ++ locals) ≤ 65536
+        → front.room ≤ length (all_words args ++ locals)
+        → Sees g last.names (entered p function args left) inner
+    function_sees p view inner args left locals sees passed schedule now words plain object small room =
+        let all = all_words args ++ locals in
+        let bare = rests_package kept g front of_package all small room in
+        let rests = formals_begun all function.formals args front last [] locals [] formals passed refl bare in
+        (rests.sees (entered p function args left) inner package_seen refl outside words).sees
+      where
+        few : (r : Region) → length (inner.words r) ≤ 65536
+        few regions.Locals = let e = ap length words in omega (arith, e, small)
+        few regions.Plain = let e = ap length plain in let s = sees.small regions.Plain in omega (arith, e, s)
+        few regions.Object = let e = ap length object in omega (arith, e)
+
+        lies : (name : List ℕ) (slot : Slot) (t : Subtype) (u : Value) → g.slots name ≡ Some slot
+            → Lies (view.words slot.region) slot.offset u → Lies (inner.words slot.region) slot.offset u
+        lies name slot t u told h =
+            let region = laid.plain name slot told in
+            subst (λ r. Lies (inner.words r) slot.offset u) (sym region)
+            (subst (λ l. Lies l slot.offset u) (sym plain) (subst (λ r. Lies (view.words r) slot.offset u) region h))
+
+        package_seen : SeesPackage g (entered p function args left) inner
+        package_seen = record {
+          scope = sees.scope;
+          functions = sees.functions;
+          sound = sees.sound;
+          names = record {
+            agrees = kept.circumstances g.scope (record p { locals = []; within = None }) p.schedule p.now p.actions p.priority left sees.names.agrees;
+            objects = λ name slot t u told means. lies name slot t u told (sees.names.objects name slot t u told means);
+          };
+          now = sees.now ∙ sym now;
+          schedule = sees.schedule ∙ sym schedule;
+          small = few;
+        }
