@@ -1,10 +1,9 @@
 -- Actual parameters are computed from left to right, each in front of the others (RM 6.4.1).
-use Rattle.std.proofs.Common.{◌≡◌, ℕ, ◌+◌, ◌-◌, ◌≤◌, ℤ, pos, List, [], ◌∷◌, ◌++◌, length, append_assoc, reverse, refl, sym, ap, ◌∙◌, subst, arith}
+use Rattle.std.proofs.Common.{◌≡◌, ℕ, ◌+◌, ◌-◌, ◌≤◌, ℤ, List, [], ◌∷◌, ◌++◌, append_assoc, reverse, refl, sym, ap, ◌∙◌, subst, arith}
 use Rattle.std.specs.Prelude.{drop}
 use Rattle.std.proofs.lemmas.List.{append-nil, reverse-append}
 use Rattle.base.specs.declared.schedule.ScheduleLine.{ScheduleLine}
 use Rattle.kernel.specs.State.{Kernel}
-use Rattle.kernel.specs.Calm.{Calm}
 use Rattle.kernel.specs.Counting.{Done}
 use Rattle.kernel.specs.Laws.{QuietStays}
 use Rattle.ada_tree.specs.declared.declaration.Mode.{Mode}

@@ -42,7 +42,7 @@ use Rattle.stmt_code.proofs.StoringCode.{NamesWhole, StoresLocally, StoresPlainl
 use Rattle.stmt_code.proofs.Variables.{variable_stands}
 use Rattle.stmt_code.proofs.Words.{lies_within, with_words, written, others_kept}
 
-object_name : (objects : List Object) (name : List ℕ) (x : Object) → object_of objects name ≡ Some x → x.name ≡ name
+pub object_name : (objects : List Object) (name : List ℕ) (x : Object) → object_of objects name ≡ Some x → x.name ≡ name
 object_name [] name x h = cc
 object_name (y ∷ rest) name x h = by_test (bytes_eq y.name name) refl h (object_name rest name x)
   where
@@ -51,7 +51,7 @@ object_name (y ∷ rest) name x h = by_test (bytes_eq y.name name) refl h (objec
     by_test true e k later = ap (λ z. z.name) (sym (same_some y x k)) ∙ same_name y.name name e
     by_test false e k later = later k
 
-found_some : (o : Option Object) → is_some o ≡ true → (x : Object) × (o ≡ Some x)
+pub found_some : (o : Option Object) → is_some o ≡ true → (x : Object) × (o ≡ Some x)
 found_some (Some x) h = (x, refl)
 found_some None h = cc
 

@@ -1,5 +1,5 @@
 -- What a frame knows when the body of a procedure is entered: the names of the package in front of it, its parameters, and the addresses that it was passed.
-use Rattle.std.proofs.Common.{◌≡◌, ℕ, suc, ◌+◌, ◌≤◌, ℤ, List, [], ◌∷◌, ◌++◌, length, map, cond, Option, Some, None, Bool, true, false, refl, sym, ap, ◌∙◌, subst, arith}
+use Rattle.std.proofs.Common.{◌≡◌, ℕ, suc, ◌+◌, ◌≤◌, ℤ, List, [], ◌∷◌, ◌++◌, length, map, Option, Some, None, Bool, true, false, refl, sym, ap, ◌∙◌, subst, arith}
 use Rattle.std.specs.Prelude.{bytes_eq, drop, if◌then◌else◌, ⊤}
 use Rattle.std.proofs.lemmas.Slice.Eq.{bytes_eq-Decides}
 use Rattle.ada_tree.specs.declared.declaration.Mode.{Mode}
@@ -11,14 +11,13 @@ use Rattle.types.specs.Values.{Value}
 use Rattle.well_typed.specs.Laws.{AgreementIsKept}
 use Rattle.meaning.specs.Calls.{activation_of, bound, is_in, is_out, results, with_first}
 use Rattle.meaning.specs.Programs.{Parameter, Procedure, Program}
-use Rattle.meaning.specs.Works.{Activation}
 use Rattle.sound_steps.specs.Fitting.{taken_types}
 use Rattle.sound_steps.specs.Objects.{AreOf}
 use Rattle.expr_code.specs.Seeing.{Package}
 use Rattle.stmt_code.specs.Copying.{held_at, passed_words}
 use Rattle.stmt_code.specs.Layout.{IsLaidPackage}
-use Rattle.stmt_code.specs.Resting.{AreHeld, Framed, Held, Rests, RestsWith, held_offset}
-use Rattle.stmt_code.proofs.Beginning.{Begins, Enters, EntersOne, begun, entered}
+use Rattle.stmt_code.specs.Resting.{AreHeld, Framed, Rests, RestsWith, held_offset}
+use Rattle.stmt_code.proofs.Beginning.{Enters, EntersOne, begun, entered}
 use Rattle.stmt_code.proofs.Entering.{IsOfPackage, rests_alike, rests_package}
 
 -- ---- parameters of different names are found in either order
@@ -102,8 +101,8 @@ module _ (kept : AgreementIsKept) (sized : ValuesHaveWords) (program : Program) 
       → AreOf program.scope (taken_types q.parameters) vs
       → length addresses ≡ length (results q.parameters)
       → (let words = passed_words q.parameters vs addresses ++ locals in
-        length words ≤ 65536 → front.room ≤ length words
-        → RestsWith g last (held_at last.reserved addresses) (activation_of q vs) words)
+      length words ≤ 65536 → front.room ≤ length words
+      → RestsWith g last (held_at last.reserved addresses) (activation_of q vs) words)
   body_rests vs addresses locals places enters reserved of many small room =
       let words = passed_words q.parameters vs addresses ++ locals in
       let bare = rests_package kept g front of_package words small room in

@@ -1,14 +1,13 @@
 -- What a frame sees when the body of a function of the package is entered: the names in front of it, and its formals with their values (RM 6.4).
-use Rattle.std.proofs.Common.{◌≡◌, ℕ, ◌+◌, ◌≤◌, ℤ, List, [], ◌∷◌, ◌++◌, length, map, append_assoc, Option, None, Some, true, refl, sym, ap, ◌∙◌, subst, arith}
+use Rattle.std.proofs.Common.{◌≡◌, ℕ, ◌+◌, ◌≤◌, ℤ, List, [], ◌∷◌, ◌++◌, length, map, append_assoc, None, Some, true, refl, sym, ap, ◌∙◌, subst, arith}
 use Rattle.std.proofs.lemmas.List.{length-append}
 use Rattle.ada_tree.specs.declared.declaration.Mode.TheVariants as mode
-use Rattle.image.specs.Frames.{object_words}
 use Rattle.image.specs.declared.instruction.Region.{Region}
 use Rattle.image.specs.declared.instruction.Region.TheVariants as regions
 use Rattle.types.specs.Laws.{ValuesHaveWords}
 use Rattle.types.specs.Evaluating.{bound, entered, formal_subtype}
 use Rattle.types.specs.Layouts.{words_of}
-use Rattle.types.specs.Places.{Formal, Function, IsObject, Object, Place, meaning_of}
+use Rattle.types.specs.Places.{Formal, Function, Object, Place}
 use Rattle.types.specs.Shapes.{has_shape, shape_of, value_words}
 use Rattle.types.specs.Values.{Value}
 use Rattle.types.specs.declared.entity.Subtype.{Subtype}

@@ -15,7 +15,7 @@ use Rattle.well_typed.proofs.Goods.{object_known}
 use Rattle.well_typed.proofs.Positions.{entity_kept, entity_number, item_added, number_added, number_kept, same_some}
 use Rattle.expr_code.specs.Seeing.{Package, slot_of, told_of}
 use Rattle.expr_code.specs.declared.visible.Slot.{Slot}
-use Rattle.stmt_code.specs.Layout.{AreApart, EndsBy, IsLaid, IsLaidOut, NamesObject, Widens, AreFree, IsFree, Spares}
+use Rattle.stmt_code.specs.Layout.{AreApart, EndsBy, IsLaid, IsLaidOut, NamesObject, Widens, AreFree, IsFree, IsVariable, Spares}
 use Rattle.stmt_code.specs.Resting.{Framed}
 use Rattle.stmt_code.proofs.Names.{WasTold, is_told, same_name, told_of_more}
 
@@ -129,6 +129,14 @@ module _ (stay : ShapesStay) (g : Package) (v later : Framed) (name : List ℕ) 
         let same = same_some (entity.Object r t) (entity.Object q u) is in object_role (entity.Object r t) (entity.Object q u) r q t u refl same)
   ]
 
+  new_role : (other : List ℕ) (q : Role) (u : Subtype) → bytes_eq other name ≡ true → NamesObject wider other q u → r ≡ q
+  new_role other q u e n = elim (number_added s named other n.number n.numbered) [
+    | inl k ↦ absurd (never other n.number e k)
+    | inr k ↦ (let is = sym (ap entity_of (item_added s named)) ∙ ap (entity_at wider) (sym k.0) ∙ n.stands in
+        let f : Entity → Role = λ y. elim y [ entity.Object w z ↦ w | other ↦ r ] in
+        ap f (same_some (entity.Object r t) (entity.Object q u) is))
+  ]
+
   new_object : (other : List ℕ) (n : ℕ) → bytes_eq other name ≡ true → number_of wider other ≡ Some n → NamesObject wider other r t
   new_object other n e h = elim (number_added s named other n h) [
     | inl k ↦ absurd (never other n e k)
@@ -198,19 +206,28 @@ module _ (stay : ShapesStay) (g : Package) (v later : Framed) (name : List ℕ) 
   was_told : (other : List ℕ) (x : Slot) → slot_of later.names other ≡ Some x → told_of wider entries other ≡ Some x
   was_told other x h = sym (ap (λ z. told_of z later.names.slots.items other) scope_is ∙ ap (λ l. told_of wider l other) widens.slots) ∙ h
 
-  -- no word of a variable is one that statements leave alone, the new one's among them
-  pub free_wider : Spares v t slot later → AreFree later
-  free_wider spares other x q u told local n variable =
+  -- no word of a variable is one of these places: none of one that was visible, and none of the new object, if that is a variable
+  pub free_more : (places : List ℕ) → later.reserved ≡ places
+      → ((other : List ℕ) (x : Slot) (q : Role) (u : Subtype) → slot_of v.names other ≡ Some x → x.region ≡ regions.Locals → NamesObject s other q u
+      → IsVariable q → IsFree places x.offset (words_of s u))
+      → (IsVariable r → IsFree places slot.offset (words_of s t))
+      → AreFree later
+  free_more places same old new other x q u told local n variable =
       let n' = subst (λ z. NamesObject z other q u) scope_is n in
-      subst (λ z. IsFree z x.offset (words_of later.names.scope u)) (sym spares.reserved)
-      (subst (λ z. IsFree v.reserved x.offset (words_of z u)) (sym scope_is)
+      subst (λ z. IsFree z x.offset (words_of later.names.scope u)) (sym same)
+      (subst (λ z. IsFree places x.offset (words_of z u)) (sym scope_is)
       (elim (was other x (was_told other x told)) [
         | inl w ↦ (let m = named_before other w.number q u w.numbered n' in
-            subst (λ k. IsFree v.reserved x.offset k) (sym (object_words other q u m)) (laid.free other x q u w.told local m variable))
+            subst (λ k. IsFree places x.offset k) (sym (object_words other q u m)) (old other x q u w.told local m variable))
         | inr e ↦ (let o : slot ≡ x = same_some slot x e.1 in
-            subst (λ z. IsFree v.reserved z.offset (words_of wider u)) o
-            (subst (λ k. IsFree v.reserved slot.offset k) (sym (sym (ap (words_of wider) (new_subtype other q u e.0 n')) ∙ new_words)) spares.free))
+            subst (λ z. IsFree places z.offset (words_of wider u)) o
+            (subst (λ k. IsFree places slot.offset k) (sym (sym (ap (words_of wider) (new_subtype other q u e.0 n')) ∙ new_words))
+            (new (subst IsVariable (sym (new_role other q u e.0 n')) variable))))
       ]))
+
+  -- ... as after a declaration
+  pub free_wider : Spares v t slot later → AreFree later
+  free_wider spares = free_more v.reserved spares.reserved laid.free (λ variable. spares.free)
 
   -- the places are laid out as before, with one more
   pub laid_wider : AreFree later → IsLaidOut g later

@@ -22,3 +22,12 @@ mod Beginning
 mod Bodies
 mod Actuals
 mod Functions
+mod Parameters
+mod Walking
+mod Ranging
+mod Comparing
+mod PartWords
+mod Targeting
+mod AssigningParts
+mod Deciding
+mod Widening

@@ -138,7 +138,7 @@ variable_meant s here m role.LoopParameter t i h = absurd i
 variable_meant s here m r t i h = h
 
 -- a number takes one word
-single_number : ValuesHaveWords → (s : Scope) (t : Subtype) → is_integers (form_at s t.type_number) ≡ true → words_of s t ≡ 1
+pub single_number : ValuesHaveWords → (s : Scope) (t : Subtype) → is_integers (form_at s t.type_number) ≡ true → words_of s t ≡ 1
 single_number words s t integers =
     let own = Typed t.type_number in
     let has = subtype_values s t (Number (pos 0)) ∙ numeric_value s own (integral_numeric s own integers) (Number (pos 0)) in

@@ -4,14 +4,15 @@ use Rattle.std.specs.Prelude.{bytes_eq, is_some}
 use Rattle.image.specs.declared.instruction.Region.{Region}
 use Rattle.image.specs.declared.instruction.Region.TheVariants as regions
 use Rattle.types.specs.declared.entity.Role.{Role}
+use Rattle.types.specs.declared.entity.Role.TheVariants as role
 use Rattle.types.specs.declared.entity.Subtype.{Subtype}
 use Rattle.types.specs.Entities as entity
 use Rattle.types.specs.Laws.{ValuesHaveWords}
 use Rattle.types.specs.Layouts.{words_of}
 use Rattle.types.specs.Places.{Function, IsFunction, IsObject, Object, Place, meaning_of, object_of}
-use Rattle.types.specs.Scopes.{Named, Scope, is_visible, number_of, with_name}
+use Rattle.types.specs.Scopes.{Named, Scope, base_range_of, integer, is_visible, number_of, with_name}
 use Rattle.types.specs.Shapes.{has_shape, shape_of, value_words}
-use Rattle.types.specs.Values.{Value}
+use Rattle.types.specs.Values.{Number, Value}
 use Rattle.well_typed.specs.Agreeing.{Agrees}
 use Rattle.well_typed.specs.Laws.{AgreementIsKept}
 use Rattle.well_typed.proofs.Positions.{same_some}
@@ -22,7 +23,7 @@ use Rattle.expr_code.specs.Views.{View}
 use Rattle.expr_code.specs.declared.visible.Slot.{Slot}
 use Rattle.stmt_code.specs.Layout.{AreApart, IsLaidOut, IsLaidPackage, IsVariable, NamesObject, Widens}
 use Rattle.stmt_code.specs.Resting.{Framed, IsAtHome, Knows, Rests}
-use Rattle.stmt_code.proofs.Names.{WasTold, found_behind, found_first, meant_behind, meant_first, meant_width, name_is, object_value, same_name, told_of_more}
+use Rattle.stmt_code.proofs.Names.{WasTold, found_behind, found_first, meant_behind, meant_first, meant_width, name_is, object_value, same_name, single_number, told_of_more}
 use Rattle.stmt_code.proofs.Words.{IsWritten}
 
 -- ---- other words of the frame
@@ -193,12 +194,12 @@ module _ (kept : AgreementIsKept) (sized : ValuesHaveWords) (g : Package) (v : F
         homes = stored_home;
       }
 
-    -- ---- an object is declared
-    module _ (r : Role) (slot : Slot) (later : Framed) (widens : Widens v x.name r x.subtype slot later) (region : slot.region ≡ regions.Locals)
-        (at : slot.offset ≡ offset)
-        (suited : has_shape (shape_of v.names.scope x.subtype) x.value ≡ true) where
+    -- ---- one name more is visible, for the object in front
+    module _ (r : Role) (t : Subtype) (slot : Slot) (later : Framed) (widens : Widens v x.name r t slot later) (region : slot.region ≡ regions.Locals)
+        (at : slot.offset ≡ offset) (wide : length (value_words x.value) ≡ words_of v.names.scope t)
+        (agrees : Agrees (with_name v.names.scope x.name (entity.Object r t)) p) where
       abbrev named : Named
-      named = record { name = x.name; entity = entity.Object r x.subtype }
+      named = record { name = x.name; entity = entity.Object r t }
 
       abbrev wider : Scope
       wider = v.names.scope ++ named ∷ []
@@ -231,28 +232,23 @@ module _ (kept : AgreementIsKept) (sized : ValuesHaveWords) (g : Package) (v : F
       is_this : (name : List ℕ) → bytes_eq name x.name ≡ true → bytes_eq x.name name ≡ true
       is_this name e = name_is x.name name (sym (same_name name x.name e))
 
-      wide : length (value_words x.value) ≡ words_of v.names.scope x.subtype
-      wide = (sized (shape_of v.names.scope x.subtype) x.value suited).sized
+      wider_agrees : Agrees later.names.scope p
+      wider_agrees = subst (λ q. Agrees q p) (sym widens.scope) agrees
 
-      declared_agrees : Agrees later.names.scope p
-      declared_agrees = subst (λ q. Agrees q p) (sym widens.scope)
-          (subst (Agrees (with_name v.names.scope x.name (entity.Object r x.subtype))) here
-          (kept.declared v.names.scope old_place x.name r x.subtype x.value agreed widens.hidden widens.sound suited))
-
-      declared_object : (name : List ℕ) (s : Slot) (u : Subtype) (w : Value) → slot_of later.names name ≡ Some s → meaning_of p name ≡ IsObject u w
+      wider_object : (name : List ℕ) (s : Slot) (u : Subtype) (w : Value) → slot_of later.names name ≡ Some s → meaning_of p name ≡ IsObject u w
           → Lies (view.words s.region) s.offset w
-      declared_object name s u w told h = elim (slot_was name s told) [
+      wider_object name s u w told h = elim (slot_was name s told) [
         | inl e ↦ other name s u w (differs name e.number e.numbered) e.told
             (λ q y is n.
             subst (λ k. AreApart offset k s.offset (words_of v.names.scope y)) (sym wide)
-            (subst (λ k. AreApart k (words_of v.names.scope x.subtype) s.offset (words_of v.names.scope y)) at
+            (subst (λ k. AreApart k (words_of v.names.scope t) s.offset (words_of v.names.scope y)) at
             (widens.apart name s q y e.told (is ∙ sym region) n))) h
         | inr e ↦ (let one : slot ≡ s = same_some slot s e.1 in
             itself name s u w (is_this name e.0) (ap (λ y. y.region) (sym one) ∙ region) (ap (λ y. y.offset) (sym one) ∙ at) h)
       ]
 
-      declared_home : (name : List ℕ) (s : Slot) → slot_of later.names name ≡ Some s → IsAtHome s.region (object_of p.locals name)
-      declared_home name s told = subst (λ l. IsAtHome s.region (object_of l name)) (sym objects) (elim (slot_was name s told) [
+      wider_home : (name : List ℕ) (s : Slot) → slot_of later.names name ≡ Some s → IsAtHome s.region (object_of p.locals name)
+      wider_home name s told = subst (λ l. IsAtHome s.region (object_of l name)) (sym objects) (elim (slot_was name s told) [
         | inl e ↦ subst (IsAtHome s.region) (sym (found_behind x a.locals name (differs name e.number e.numbered))) (knew.homes name s e.told)
         | inr e ↦ subst (IsAtHome s.region) (sym (found_first x a.locals name (is_this name e.0)))
             (at_home s.region (ap (λ y. y.region) (sym (same_some slot s e.1)) ∙ region))
@@ -263,16 +259,38 @@ module _ (kept : AgreementIsKept) (sized : ValuesHaveWords) (g : Package) (v : F
           at_home regions.Plain e = cc
           at_home regions.Object e = cc
 
-      declared_function : (name : List ℕ) (number : ℕ) (f : Function) → subprogram_of later.names name ≡ Some number → meaning_of p name ≡ IsFunction f None
+      wider_function : (name : List ℕ) (number : ℕ) (f : Function) → subprogram_of later.names name ≡ Some number → meaning_of p name ≡ IsFunction f None
           → IsCoded g f number
-      declared_function name number f told h = elim (number_was name number told) [
+      wider_function name number f told h = elim (number_was name number told) [
         | inl e ↦ knew.sees.functions name number f e.told (sym (behind name (differs name e.number e.numbered)) ∙ h)
         | inr e ↦ (let k = e.1 in cc)
       ]
 
-      pub declared_knows : Knows g later p view
-      declared_knows = record {
-        sees = record { unit = sees; names = record { agrees = declared_agrees; objects = declared_object }; functions = declared_function };
+      pub wider_knows : Knows g later p view
+      wider_knows = record {
+        sees = record { unit = sees; names = record { agrees = wider_agrees; objects = wider_object }; functions = wider_function };
         room = (let r = room_kept in let e = widens.room in omega (arith, r, e));
-        homes = declared_home;
+        homes = wider_home;
       }
+
+    -- an object is declared
+    pub declared_knows : (r : Role) (slot : Slot) (later : Framed) → Widens v x.name r x.subtype slot later → slot.region ≡ regions.Locals
+        → slot.offset ≡ offset
+        → has_shape (shape_of v.names.scope x.subtype) x.value ≡ true → Knows g later p view
+    declared_knows r slot later widens region at suited =
+        wider_knows r x.subtype slot later widens region at (sized (shape_of v.names.scope x.subtype) x.value suited).sized
+        (subst (Agrees (with_name v.names.scope x.name (entity.Object r x.subtype))) here
+        (kept.declared v.names.scope old_place x.name r x.subtype x.value agreed widens.hidden widens.sound suited))
+
+    -- a loop over a range has its parameter: in a run an object of subtype Integer, whatever the type of the range is
+    pub parameter_knows : (n : ℕ) (z : ℤ) → x.subtype ≡ integer → x.value ≡ Number z → (slot : Slot) (later : Framed)
+        → Widens v x.name role.LoopParameter (base_range_of n) slot later → slot.region ≡ regions.Locals → slot.offset ≡ offset → Knows g later p view
+    parameter_knows n z same number slot later widens region at =
+        wider_knows role.LoopParameter (base_range_of n) slot later widens region at
+        (ap (λ y. length (value_words y)) number ∙ sym (single_number sized v.names.scope (base_range_of n) widens.sound))
+        (subst (Agrees (with_name v.names.scope x.name (entity.Object role.LoopParameter (base_range_of n)))) here
+        (subst (λ y. Agrees (with_name v.names.scope x.name (entity.Object role.LoopParameter (base_range_of n))) (with_objects (y ∷ a.locals) p)) is_this_object
+        (kept.parameter v.names.scope old_place x.name n z agreed widens.hidden widens.sound)))
+      where
+        is_this_object : (let y : Object = record { name = x.name; subtype = integer; value = Number z } in y) ≡ x
+        is_this_object = λ j. record { name = x.name; subtype = sym same j; value = sym number j }

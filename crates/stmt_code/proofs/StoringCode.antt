@@ -1,16 +1,19 @@
 -- Instructions that store: what they do to words, and what code in front of them comes to.
-use Rattle.std.proofs.Common.{◌≡◌, ℕ, suc, ◌+◌, ◌-◌, ◌≤◌, ℤ, List, [], ◌∷◌, ◌++◌, length, reverse, cond, Option, Some, None, Bool, true, false, refl, sym, ap, ◌∙◌, subst, arith}
-use Rattle.std.specs.Prelude.{pos, take, drop}
-use Rattle.std.proofs.lemmas.List.{length-reverse, reverse-reverse}
+use Rattle.std.proofs.Common.{◌≡◌, ℕ, suc, ◌+◌, ◌-◌, ◌≤◌, ℤ, List, [], ◌∷◌, ◌++◌, append_assoc, length, reverse, cond, Option, Some, None, Bool, true, false, refl, sym, ap, ◌∙◌, subst, arith}
+use Rattle.std.specs.Prelude.{pos, take, drop, ⊤}
+use Rattle.std.proofs.lemmas.List.{length-reverse, reverse-append, reverse-reverse}
 use Rattle.std.proofs.Math.Seq.{drop-append_seam, take-append_seam}
 use Rattle.base.specs.declared.exceptions.PredefinedException.TheVariants.{ConstraintError}
 use Rattle.base.specs.declared.schedule.ScheduleLine.{ScheduleLine}
 use Rattle.kernel.specs.State.{Kernel}
 use Rattle.kernel.specs.Effects.{Quiet}
+use Rattle.kernel.specs.Calm.{Calm}
+use Rattle.kernel.specs.Counting.{Done, Spends}
 use Rattle.kernel.specs.Laws.{QuietStays}
+use Rattle.kernel.specs.RunLaws.{spends_trans}
 use Rattle.image.specs.Sections.{Sections}
 use Rattle.image.specs.Frames.{Words, Frame, arguments, word_put, words_put}
-use Rattle.image.specs.Steps.{act, does, stored, stores_block, with_one}
+use Rattle.image.specs.Steps.{act, behaviour, does, stored, stores_block, with_one}
 use Rattle.image.specs.declared.instruction.Operation.TheVariants as op
 use Rattle.image.specs.declared.instruction.Region.TheVariants as regions
 use Rattle.ada_tree.specs.ExpressionTree.{ExprTree, NameTree, NoSelectors}
@@ -25,7 +28,8 @@ use Rattle.types.specs.Evaluating.{Calls, passed}
 use Rattle.well_typed.proofs.Positions.{same_some}
 use Rattle.meaning.specs.Targets.{all_selected, first_of, object_named, own_component, target_or_nothing, whole}
 use Rattle.meaning.specs.Works.{Home, InActivation, InObject, InPackage, Target}
-use Rattle.expr_code.specs.Coming.{Comes, on}
+use Rattle.meaning.specs.SameMeaning.{frames_of}
+use Rattle.expr_code.specs.Coming.{Comes, most_steps, on}
 use Rattle.expr_code.specs.Views.{At, Sight, in_frame, placed}
 use Rattle.expr_code.specs.Computing.{Everywhere, Library}
 use Rattle.expr_code.proofs.Coming.{acts, after_first, more, pushes}
@@ -44,8 +48,7 @@ taken ws base =
     ∙ ap reverse (take-append_seam (reverse ws) base)
     ∙ reverse-reverse ws
 
-module _ (quiet : QuietStays) (i : Sections) (schedule : List ScheduleLine) (k : Kernel) (t : ℕ) (m : Words) (f : Frame) (fs : List Frame)
-    (place offset : ℕ) where
+module _ (quiet : QuietStays) (i : Sections) (schedule : List ScheduleLine) (k : Kernel) (t : ℕ) (m : Words) (f : Frame) (fs : List Frame) (place offset : ℕ) where
   next : place + 1 ≡ suc place
   next = omega arith
 
@@ -75,8 +78,7 @@ module _ (quiet : QuietStays) (i : Sections) (schedule : List ScheduleLine) (k :
   store_block_local ws after here is =
       acts quiet i place (op.StoreBlock regions.Locals (length ws)) here schedule k t m f fs (above ws)
       ∙ ap (λ l. with_one i schedule k t m (placed f place (above ws)) fs l
-      (λ index stack. stores_block i schedule k t m (placed f place (above ws)) fs regions.Locals index (arguments (length ws) (above ws)) stack))
-      (popped ws (pos offset ∷ []))
+      (λ index stack. stores_block i schedule k t m (placed f place (above ws)) fs regions.Locals index (arguments (length ws) (above ws)) stack)) (popped ws (pos offset ∷ []))
       ∙ ap (λ l. stores_block i schedule k t m (placed f place (above ws)) fs regions.Locals (pos offset) l []) (taken ws (pos offset ∷ []))
       ∙ ap (λ o. stored i schedule k t m (placed f place (above ws)) fs regions.Locals o []) is
       ∙ ap (λ n. does Quiet m (record f { place = n; locals = after; stack = [] }) fs None None) next
@@ -87,8 +89,7 @@ module _ (quiet : QuietStays) (i : Sections) (schedule : List ScheduleLine) (k :
   store_block_plain ws after here is =
       acts quiet i place (op.StoreBlock regions.Plain (length ws)) here schedule k t m f fs (above ws)
       ∙ ap (λ l. with_one i schedule k t m (placed f place (above ws)) fs l
-      (λ index stack. stores_block i schedule k t m (placed f place (above ws)) fs regions.Plain index (arguments (length ws) (above ws)) stack))
-      (popped ws (pos offset ∷ []))
+      (λ index stack. stores_block i schedule k t m (placed f place (above ws)) fs regions.Plain index (arguments (length ws) (above ws)) stack)) (popped ws (pos offset ∷ []))
       ∙ ap (λ l. stores_block i schedule k t m (placed f place (above ws)) fs regions.Plain (pos offset) l []) (taken ws (pos offset ∷ []))
       ∙ ap (λ o. stored i schedule k t m (placed f place (above ws)) fs regions.Plain o []) is
       ∙ ap (λ n. does Quiet (record m { plain = after }) (record f { place = n; locals = f.locals; stack = [] }) fs None None) next
@@ -99,8 +100,7 @@ one_alone (w ∷ []) e = (w, refl)
 one_alone (w ∷ x ∷ ws) e = absurd (omega (arith, e))
 
 -- the single word of a value is stored in the frame
-word_to_local : (quiet : QuietStays) (i : Sections) (schedule : List ScheduleLine) (k : Kernel) (t : ℕ) (m : Words) (f : Frame) (fs : List Frame)
-    (place offset : ℕ)
+word_to_local : (quiet : QuietStays) (i : Sections) (schedule : List ScheduleLine) (k : Kernel) (t : ℕ) (m : Words) (f : Frame) (fs : List Frame) (place offset : ℕ)
     → At i place (op.StoreLocal offset) → (ws : List ℤ) → length ws ≡ 1 → offset + 1 ≤ length f.locals
     → act i schedule k t (in_frame m (placed f place (reverse ws ++ [])) fs)
     ≡ does Quiet m (record f { place = suc place; locals = with_words offset ws f.locals; stack = [] }) fs None None
@@ -112,8 +112,7 @@ word_to_local quiet i schedule k t m f fs place offset here ws one room =
     (sym it.1)
     (store_local quiet i schedule k t m f fs place offset it.0 (with_words offset (it.0 ∷ []) f.locals) here (one_put f.locals offset it.0 room))
 
-word_to_plain : (quiet : QuietStays) (i : Sections) (schedule : List ScheduleLine) (k : Kernel) (t : ℕ) (m : Words) (f : Frame) (fs : List Frame)
-    (place offset : ℕ)
+word_to_plain : (quiet : QuietStays) (i : Sections) (schedule : List ScheduleLine) (k : Kernel) (t : ℕ) (m : Words) (f : Frame) (fs : List Frame) (place offset : ℕ)
     → At i place (op.StorePlain offset) → (ws : List ℤ) → length ws ≡ 1 → offset + 1 ≤ length m.plain
     → act i schedule k t (in_frame m (placed f place (reverse ws ++ [])) fs)
     ≡ does Quiet (record m { plain = with_words offset ws m.plain }) (record f { place = suc place; locals = f.locals; stack = [] }) fs None None
@@ -158,20 +157,97 @@ module _ (quiet : QuietStays) (i : Sections) (place offset : ℕ) where
       store_block_plain quiet i schedule k t m f fs place offset (value_words z) (with_words offset (value_words z) m.plain)
       (subst (λ n. At i place (op.StoreBlock regions.Plain n)) (sym many) here) (block_put m.plain offset (value_words z) (omega (arith, many, room)))
 
+-- a single word above its address
+module _ (quiet : QuietStays) (i : Sections) (place offset : ℕ) where
+  after_it : place + 1 ≡ suc place
+  after_it = omega arith
+
+  indexed_local_word : (schedule : List ScheduleLine) (k : Kernel) (t : ℕ) (m : Words) (f : Frame) (fs : List Frame) → At i place (op.StoreIndexed regions.Locals)
+      → (ws : List ℤ) → length ws ≡ 1 → offset + 1 ≤ length f.locals
+      → act i schedule k t (in_frame m (placed f place (reverse ws ++ pos offset ∷ [])) fs)
+      ≡ does Quiet m (record f { place = suc place; locals = with_words offset ws f.locals; stack = [] }) fs None None
+  indexed_local_word schedule k t m f fs here ws one room =
+      let it = one_alone ws one in
+      subst
+      (λ l. act i schedule k t (in_frame m (placed f place (reverse l ++ pos offset ∷ [])) fs)
+      ≡ does Quiet m (record f { place = suc place; locals = with_words offset l f.locals; stack = [] }) fs None None)
+      (sym it.1)
+      (acts quiet i place (op.StoreIndexed regions.Locals) here schedule k t m f fs (it.0 ∷ pos offset ∷ [])
+      ∙ ap (λ o. stored i schedule k t m (placed f place (it.0 ∷ pos offset ∷ [])) fs regions.Locals o []) (one_put f.locals offset it.0 room)
+      ∙ ap (λ n. does Quiet m (record f { place = n; locals = with_words offset (it.0 ∷ []) f.locals; stack = [] }) fs None None) after_it)
+
+  indexed_plain_word : (schedule : List ScheduleLine) (k : Kernel) (t : ℕ) (m : Words) (f : Frame) (fs : List Frame) → At i place (op.StoreIndexed regions.Plain)
+      → (ws : List ℤ) → length ws ≡ 1 → offset + 1 ≤ length m.plain
+      → act i schedule k t (in_frame m (placed f place (reverse ws ++ pos offset ∷ [])) fs)
+      ≡ does Quiet (record m { plain = with_words offset ws m.plain }) (record f { place = suc place; locals = f.locals; stack = [] }) fs None None
+  indexed_plain_word schedule k t m f fs here ws one room =
+      let it = one_alone ws one in
+      subst
+      (λ l. act i schedule k t (in_frame m (placed f place (reverse l ++ pos offset ∷ [])) fs)
+      ≡ does Quiet (record m { plain = with_words offset l m.plain }) (record f { place = suc place; locals = f.locals; stack = [] }) fs None None)
+      (sym it.1)
+      (acts quiet i place (op.StoreIndexed regions.Plain) here schedule k t m f fs (it.0 ∷ pos offset ∷ [])
+      ∙ ap (λ o. stored i schedule k t m (placed f place (it.0 ∷ pos offset ∷ [])) fs regions.Plain o []) (one_put m.plain offset it.0 room)
+      ∙ ap (λ n. does Quiet (record m { plain = with_words offset (it.0 ∷ []) m.plain }) (record f { place = n; locals = f.locals; stack = [] }) fs None None) after_it)
+
+  pub indexed_locally : At i place (op.StoreIndexed regions.Locals) → StoresLocally i place offset 1 (on (pos offset ∷ []))
+  indexed_locally here schedule k t m f fs z many room = indexed_local_word schedule k t m f fs here (value_words z) many room
+
+  pub indexed_plainly : At i place (op.StoreIndexed regions.Plain) → StoresPlainly i place offset 1 (on (pos offset ∷ []))
+  indexed_plainly here schedule k t m f fs z many room = indexed_plain_word schedule k t m f fs here (value_words z) many room
+
 -- what computes a value computes it above an address that is pushed in front
-pub computes_above : (quiet : QuietStays) (i : Sections) (library : Library) (sight : Sight) (from mid offset : ℕ) (value : Calls → Place → Val Value)
-    → suc from ≤ mid
+pub computes_above : (quiet : QuietStays) (i : Sections) (library : Library) (sight : Sight) (from mid offset : ℕ) (value : Calls → Place → Val Value) → suc from ≤ mid
     → At i from (op.Push (pos offset)) → Everywhere i library sight (suc from) mid on value
     → Everywhere i library sight from mid (λ base v. on (pos offset ∷ base) v) value
 computes_above quiet i library sight from mid offset value up push computes calls left answers schedule k t m f fs p base calm sees is =
     let next : from + 1 ≡ suc from = omega arith in
-    more quiet i schedule k t m calm (placed f from base) fs (1 + (mid - suc from)) (mid - from) mid (λ v. on (pos offset ∷ base) v) (value calls p)
-    (omega (arith, up))
-    (after_first quiet i schedule k t m calm (placed f from base) fs 1 (mid - suc from) (suc from) mid (pos offset ∷ base) (λ v. on (pos offset ∷ base) v)
-    (value calls p)
+    more quiet i schedule k t m calm (placed f from base) fs (1 + (mid - suc from)) (mid - from) mid (λ v. on (pos offset ∷ base) v) (value calls p) (omega (arith, up))
+    (after_first quiet i schedule k t m calm (placed f from base) fs 1 (mid - suc from) (suc from) mid (pos offset ∷ base) (λ v. on (pos offset ∷ base) v) (value calls p)
     (omega arith)
     (pushes quiet i schedule k t m calm from (pos offset) push f fs base (suc from) next)
     (computes calls left answers schedule k t m f fs p (pos offset ∷ base) calm sees is))
+
+-- ---- words that are put on the operand stack, one by one
+
+abbrev pub ArePushed : Sections → ℕ → List ℤ → Type 0
+ArePushed i from [] = ⊤
+ArePushed i from (w ∷ ws) = At i from (op.Push w) × ArePushed i (suc from) ws
+
+one_first : (w : ℤ) (ws base : List ℤ) → reverse (w ∷ ws) ++ base ≡ reverse ws ++ (w ∷ base)
+one_first w ws base = ap (λ l. l ++ base) (reverse-append (w ∷ []) ws) ∙ append_assoc (reverse ws) (w ∷ []) base
+
+module _ (quiet : QuietStays) (i : Sections) (schedule : List ScheduleLine) (k : Kernel) (t : ℕ) (m : Words) (calm : Calm k t) (f : Frame) (fs : List Frame) where
+  all_pushed : (ws : List ℤ) (from to : ℕ) (base : List ℤ) → ArePushed i from ws → to ≡ from + length ws
+      → Spends (behaviour i schedule) t frames_of (most_steps i) (suc (length fs)) (length ws) k (in_frame m (placed f from base) fs) k
+      (in_frame m (placed f to (reverse ws ++ base)) fs)
+  all_pushed [] from to base pushed at =
+      let same : from ≡ to = omega (arith, at) in
+      subst
+      (λ q. Spends (behaviour i schedule) t frames_of (most_steps i) (suc (length fs)) 0 k (in_frame m (placed f from base) fs) k (in_frame m (placed f q base) fs))
+      same Done
+  all_pushed (w ∷ ws) from to base pushed at =
+      let next : from + 1 ≡ suc from = omega arith in
+      let one : 1 + length ws ≡ suc (length ws) = omega arith in
+      subst
+      (λ n. Spends (behaviour i schedule) t frames_of (most_steps i) (suc (length fs)) n k (in_frame m (placed f from base) fs) k
+      (in_frame m (placed f to (reverse (w ∷ ws) ++ base)) fs)) one
+      (subst
+      (λ l. Spends (behaviour i schedule) t frames_of (most_steps i) (suc (length fs)) (1 + length ws) k (in_frame m (placed f from base) fs) k
+      (in_frame m (placed f to l) fs)) (sym (one_first w ws base))
+      (spends_trans (behaviour i schedule) t frames_of (most_steps i) (length ws) k (in_frame m (placed f to (reverse ws ++ (w ∷ base))) fs)
+      (pushes quiet i schedule k t m calm from w pushed.0 f fs base (suc from) next)
+      (all_pushed ws (suc from) to (w ∷ base) pushed.1 (omega (arith, at)))))
+
+pub computes_pushed : (quiet : QuietStays) (i : Sections) (library : Library) (sight : Sight) (from mid : ℕ) (x : Value) → ArePushed i from (value_words x)
+    → mid ≡ from + length (value_words x)
+    → Everywhere i library sight from mid on (λ c p. Gives x)
+computes_pushed quiet i library sight from mid x pushed at calls left answers schedule k t m f fs p base calm sees is =
+    let n : mid - from ≡ length (value_words x) = omega (arith, at) in
+    subst
+    (λ q. Spends (behaviour i schedule) t frames_of (most_steps i) (suc (length fs)) q k (in_frame m (placed f from base) fs) k
+    (in_frame m (placed f mid (reverse (value_words x) ++ base)) fs)) (sym n)
+    (all_pushed quiet i schedule k t m calm f fs (value_words x) from mid base pushed at)
 
 -- ---- values that pass a check
 
@@ -191,6 +267,7 @@ pub record NamesWhole (p : Place) (name : List ℕ) (t : Subtype) : Type 0 where
   pub target : Target
   pub is : object_named p name ≡ Some target
   pub same : target.subtype ≡ t
+  pub parts : target.parts ≡ []
 
 -- where the components of the running body's protected object stand
 abbrev own_home : Option ℕ → Home
@@ -208,14 +285,13 @@ abbrev meant_among : Option Object → Option Object → Option Function → Opt
 meant_among own inner f outer g last =
     meaning_or (or_else (object_meaning (or_else own inner)) (function_meaning f)) (meaning_or (or_else (object_meaning outer) (function_meaning g)) last)
 
-among : (own : Option Object) (home : Home) (inner : Option Object) (f : Option Function) (outer : Option Object) (g : Option Function) (last : Meaning)
-    (t : Subtype) (u : Value)
+among : (own : Option Object) (home : Home) (inner : Option Object) (f : Option Function) (outer : Option Object) (g : Option Function) (last : Meaning) (t : Subtype) (u : Value)
     → meant_among own inner f outer g last ≡ IsObject t u → ((last ≡ IsObject t u) → ⊥)
-    → (x : Target) × (named_among own home inner outer ≡ Some x) × (x.subtype ≡ t)
-among (Some x) home inner f outer g last t u h never = (_, refl, object_subtype (IsObject x.subtype x.value) x.subtype t x.value u refl h)
-among None home (Some x) f outer g last t u h never = (_, refl, object_subtype (IsObject x.subtype x.value) x.subtype t x.value u refl h)
+    → (x : Target) × (named_among own home inner outer ≡ Some x) × (x.subtype ≡ t) × (x.parts ≡ [])
+among (Some x) home inner f outer g last t u h never = (_, refl, object_subtype (IsObject x.subtype x.value) x.subtype t x.value u refl h, refl)
+among None home (Some x) f outer g last t u h never = (_, refl, object_subtype (IsObject x.subtype x.value) x.subtype t x.value u refl h, refl)
 among None home None (Some f) outer g last t u h never = cc
-among None home None None (Some x) g last t u h never = (_, refl, object_subtype (IsObject x.subtype x.value) x.subtype t x.value u refl h)
+among None home None None (Some x) g last t u h never = (_, refl, object_subtype (IsObject x.subtype x.value) x.subtype t x.value u refl h, refl)
 among None home None None None (Some g) last t u h never = cc
 among None home None None None None last t u h never = absurd (never h)
 
@@ -237,10 +313,10 @@ named_whole p name t u h =
     (package_function p name) (meaning_in_scope p.scope (number_of p.scope name)) t u h (no_scope_object p.scope (number_of p.scope name) t u) in
     record {
       target = found.0;
-      is = ap (λ o. first_of (whole InActivation (object_of p.locals name)) (first_of o (whole InPackage (object_of p.variables name))))
-          (own_whole p p.within name)
+      is = ap (λ o. first_of (whole InActivation (object_of p.locals name)) (first_of o (whole InPackage (object_of p.variables name)))) (own_whole p p.within name)
           ∙ found.1;
       same = found.2;
+      parts = found.3;
     }
 
 abbrev pub whole_of : Home → Object → Target
@@ -249,8 +325,7 @@ whole_of home x = record { home = home; name = x.name; parts = []; subtype = x.s
 pub local_named : (p : Place) (name : List ℕ) (x : Object) → object_of p.locals name ≡ Some x → object_named p name ≡ Some (whole_of InActivation x)
 local_named p name x h = ap (λ o. first_of (whole InActivation o) (first_of (own_component p p.within name) (whole InPackage (object_of p.variables name)))) h
 
-pub package_named : (p : Place) (name : List ℕ) → object_of p.locals name ≡ None → p.within ≡ None
-    → object_named p name ≡ whole InPackage (object_of p.variables name)
+pub package_named : (p : Place) (name : List ℕ) → object_of p.locals name ≡ None → p.within ≡ None → object_named p name ≡ whole InPackage (object_of p.variables name)
 package_named p name none outside =
     ap (λ o. first_of (whole InActivation o) (first_of (own_component p p.within name) (whole InPackage (object_of p.variables name)))) none
     ∙ ap (λ o. first_of (own_component p o name) (whole InPackage (object_of p.variables name))) outside
@@ -264,8 +339,7 @@ whole_there home None x h = cc
 abbrev pub assigning : Target → Value → Assigned
 assigning x v = record { target = x; value = v }
 
-pub assigned_is : (calls : Calls) (p : Place) (name : NameTree) (e : ExprTree) (x : Target) → name.selectors ≡ NoSelectors
-    → object_named p name.first.name ≡ Some x
+pub assigned_is : (calls : Calls) (p : Place) (name : NameTree) (e : ExprTree) (x : Target) → name.selectors ≡ NoSelectors → object_named p name.first.name ≡ Some x
     → assigned name e calls p ≡ assigned_to calls p e x
 assigned_is calls p name e x whole_name is =
     ap (λ s. and_then (and_then (target_or_nothing (object_named p name.first.name)) (all_selected calls p s)) (assigned_to calls p e)) whole_name
@@ -274,24 +348,30 @@ assigned_is calls p name e x whole_name is =
 same_given : {A : Type 0} (a b : A) → Gives a ≡ Gives b → a ≡ b
 same_given {A} a b h = let f : Val A → A = λ v. elim v [ Gives y ↦ y | Raises y ↦ a | Meaningless ↦ a ] in ap f h
 
-pub given_value : (v : Val Value) (x : Target) (y : Assigned) → and_then v (λ z. Gives (assigning x z)) ≡ Gives y
-    → (z : Value) × (v ≡ Gives z) × (assigning x z ≡ y)
+pub given_value : (v : Val Value) (x : Target) (y : Assigned) → and_then v (λ z. Gives (assigning x z)) ≡ Gives y → (z : Value) × (v ≡ Gives z) × (assigning x z ≡ y)
 given_value (Gives z) x y h = (z, refl, same_given (assigning x z) y h)
 given_value (Raises e) x y h = cc
 given_value Meaningless x y h = cc
 
-pub comes_assigned : (i : Sections) (schedule : List ScheduleLine) (k : Kernel) (t : ℕ) (m : Words) (f : Frame) (fs : List Frame) (n to : ℕ) (base : List ℤ)
-    (v : Val Value) (x : Target)
+pub comes_assigned : (i : Sections) (schedule : List ScheduleLine) (k : Kernel) (t : ℕ) (m : Words) (f : Frame) (fs : List Frame) (n to : ℕ) (base : List ℤ) (v : Val Value) (x : Target)
     → Comes i schedule k t m f fs n to (on base) v
     → Comes i schedule k t m f fs n to (λ (y : Assigned). on base y.value) (and_then v (λ z. Gives (assigning x z)))
 comes_assigned i schedule k t m f fs n to base (Gives z) x h = h
 comes_assigned i schedule k t m f fs n to base (Raises e) x h = h
 comes_assigned i schedule k t m f fs n to base Meaningless x h = tt
 
+-- ... to a part whose address stands below
+pub comes_part : (i : Sections) (schedule : List ScheduleLine) (k : Kernel) (t : ℕ) (m : Words) (f : Frame) (fs : List Frame) (n to : ℕ) (base : List ℤ) (address : Target → ℕ)
+    (v : Val Value) (x : Target)
+    → Comes i schedule k t m f fs n to (on (pos (address x) ∷ base)) v
+    → Comes i schedule k t m f fs n to (λ (y : Assigned). on (pos (address y.target) ∷ base) y.value) (and_then v (λ z. Gives (assigning x z)))
+comes_part i schedule k t m f fs n to base address (Gives z) x h = h
+comes_part i schedule k t m f fs n to base address (Raises e) x h = h
+comes_part i schedule k t m f fs n to base address Meaningless x h = tt
+
 -- ---- what a name means that names a variable of the package
 
-outer_meant : (f : Option Function) (y : Object) (last : Meaning) (g : Option Function) (t : Subtype) (u : Value)
-    → meant_among None None f (Some y) g last ≡ IsObject t u
+outer_meant : (f : Option Function) (y : Object) (last : Meaning) (g : Option Function) (t : Subtype) (u : Value) → meant_among None None f (Some y) g last ≡ IsObject t u
     → meant_among None None f (Some y) g last ≡ IsObject y.subtype y.value
 outer_meant (Some f) y last g t u h = cc
 outer_meant None y last g t u h = refl
@@ -305,8 +385,6 @@ package_meant p name y found none outside t u h = same ∙ outer_meant (own_func
 
     same : meaning_of p name ≡ meant_among None None (own_function p name) (Some y) (package_function p name) last
     same =
-        ap (λ o. meant_among o (object_of (own_components p p.within) name) (own_function p name) (object_of p.variables name) (package_function p name)
-        last) none
-        ∙ ap (λ w. meant_among None (object_of (own_components p w) name) (own_function p name) (object_of p.variables name) (package_function p name) last)
-        outside
+        ap (λ o. meant_among o (object_of (own_components p p.within) name) (own_function p name) (object_of p.variables name) (package_function p name) last) none
+        ∙ ap (λ w. meant_among None (object_of (own_components p w) name) (own_function p name) (object_of p.variables name) (package_function p name) last) outside
         ∙ ap (λ o. meant_among None None (own_function p name) o (package_function p name) last) found

@@ -103,7 +103,7 @@ with_behind (suc a) new (w ∷ words) (suc b) le up =
     ap (drop (suc b)) (next a new w words) ∙ with_behind a new words b (omega (arith, le)) (omega (arith, up))
 
 -- each word outside
-with_outside : (a : ℕ) (new words : List ℤ) (n : ℕ) → a + length new ≤ length words → AreApart n 1 a (length new)
+pub with_outside : (a : ℕ) (new words : List ℤ) (n : ℕ) → a + length new ≤ length words → AreApart n 1 a (length new)
     → slice_get (with_words a new words) n ≡ slice_get words n
 with_outside zero new words n le (inl down) = absurd (omega (arith, down))
 with_outside zero new words n le (inr up) = ap (λ l. slice_get l n) (first new words) ∙ behind_new new words n (omega (arith, up)) (omega (arith, le))
@@ -143,6 +143,10 @@ below n m h = search rules
 pub lies_within : (words : List ℤ) (a : ℕ) (v : Value) → Lies words a v → a + length (value_words v) ≤ length words
 lies_within words a v h = let l = length (value_words v) in within (a + l) (length words)
     (told (nat_le (a + l) (length words)) (take l (drop a words)) (value_words v) h).0
+
+pub lies_there : (words : List ℤ) (a : ℕ) (v : Value) → Lies words a v → take (length (value_words v)) (drop a words) ≡ value_words v
+lies_there words a v h = let l = length (value_words v) in
+    (told (nat_le (a + l) (length words)) (take l (drop a words)) (value_words v) h).1
 
 -- What stands among words once a value is put from an address on: the value there, and each other value apart from it as before.
 pub record IsWritten (before after : List ℤ) (a : ℕ) (v : Value) : Type 0 where
@@ -184,7 +188,7 @@ written words a v room =
 pub block_put : (words : List ℤ) (a : ℕ) (new : List ℤ) → a + length new ≤ length words → words_put words (pos a) new ≡ Some (with_words a new words)
 block_put words a new room = ap (λ b. cond b (Some (with_words a new words)) None) (below (a + length new) (length words) room)
 
-set_is : (words : List ℤ) (a : ℕ) (w : ℤ) → a < length words → slice_set words a w ≡ with_words a (w ∷ []) words
+pub set_is : (words : List ℤ) (a : ℕ) (w : ℤ) → a < length words → slice_set words a w ≡ with_words a (w ∷ []) words
 set_is [] a w less = absurd (omega (arith, less))
 set_is (x ∷ words) zero w less = sym (first (w ∷ []) (x ∷ words))
 set_is (x ∷ words) (suc a) w less = ap (λ l. x ∷ l) (set_is words a w (omega (arith, less))) ∙ sym (next a (w ∷ []) x words)
