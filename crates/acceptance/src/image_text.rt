@@ -4,7 +4,7 @@
 //! `sub KIND OBJECT END PARAMS RESULTS LOCALS STACK`, `task NAME PRIORITY SUB`, `handler START END EXCEPTION TARGET`, and an
 //! instruction as `NAME DEPTH A K`, as in a listing. The predefined exceptions stand in front; `-` is ffff.
 use image::{Image, ImageFault};
-use image_format::load;
+use image_loading::load;
 use std::alloc::{AllocError, Global};
 
 const MNEMONICS: [&str; 46] = [

@@ -1,3 +1,1 @@
-pub mod Compiling
 pub mod Driving
-pub mod Running

@@ -9,17 +9,17 @@ use Rattle.lexer.specs.declared.fault.Fault.{Fault}
 use Rattle.image_format.specs.Bytes.{bytes_of}
 use Rattle.image.specs.Code.{code, code_text}
 use Rattle.image_format.specs.Listing.{listing_of}
-use Rattle.image_format.specs.Loaded.{IsLoaded}
-use Rattle.image_format.specs.Loading.{image_fault}
+use Rattle.image_loading.specs.Loaded.{IsLoaded}
+use Rattle.image_loading.specs.Loading.{image_fault}
 use Rattle.image.specs.Sections.{Sections}
 use Rattle.image.specs.declared.fault.ImageFault as refused
 use Rattle.machine.specs.Stands.{EndsBy}
 use Rattle.machine.specs.Written.{AppendsBeginning}
 use Rattle.machine.specs.declared.reports.Outcome.{Outcome}
 use Rattle.machine.specs.declared.reports.Outcome.TheVariants as outcomes
-use Rattle.adarun.specs.Accepted.{Compiles, RefusesText}
-use Rattle.adarun.specs.Headline.{Runs, WritesBeginning}
-use Rattle.adarun.specs.Stopping.{HasImage}
+use Rattle.compile_and_go.specs.Accepted.{Compiles, RefusesText}
+use Rattle.compile_and_go.specs.Headline.{Runs, WritesBeginning}
+use Rattle.compile_and_go.specs.Stopping.{HasImage}
 use Rattle.adarun.specs.declared.files.ReadError.{ReadError}
 use Rattle.adarun.specs.declared.files.ReadError.TheVariants as errors
 use Rattle.adarun.specs.declared.program.Status.{Status}

@@ -1,13 +1,9 @@
-//! The compiler and runtime: from a source text to its timed lines.
+//! The compiler and runtime: the program's work over any files and streams.
 #![tactic(auto)]
 
-mod compilation;
 mod files;
-mod going;
-pub mod laws;
 mod program;
 
-pub use compilation::compile;
+pub use compile_and_go::{GoFault, compile, go};
 pub use files::{FileStore, ReadError, WriteError};
-pub use going::{GoFault, go};
 pub use program::{Status, drive};

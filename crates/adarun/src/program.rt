@@ -4,14 +4,14 @@ ghost use Rattle.base.specs.declared.faults.TheConstants.{MEMORY_REFUSED};
 ghost use Rattle.adarun.specs.Driving as driving;
 ghost use Rattle.adarun.specs.Driving.{Answers, KeepsSink, LeavesCompile, LeavesGo, LeavesList, LeavesRun};
 
-use crate::compilation::compile;
 use crate::files::{FileStore, ReadError, WriteError};
-use crate::going::{GoFault, go};
 use base::faults::MEMORY_REFUSED;
 use clock::{Schedule, ScheduleFault};
 use command_line::{Request, WordsError, request_of};
+use compile_and_go::{GoFault, compile, go};
 use image::ImageFault;
-use image_format::{encode, list, load};
+use image_format::{encode, list};
+use image_loading::load;
 use itoa::Buffer;
 use lexer::Fault;
 use machine::{Outcome, RunFault, Sink, run, write_all};

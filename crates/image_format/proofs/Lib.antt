@@ -1,24 +1,5 @@
-mod Accepted
-mod AcceptedCode
-mod AcceptedSections
-mod AcceptedTables
 mod BytesExamples
-mod ComesBack
-mod Crossings
-mod DecodedBack
-mod FirstFault
-mod Images
+pub mod Images
 mod Listed
 mod ListingExamples
-mod LoadedImage
-mod LoadingExamples
-mod NoFaults
-mod Opcodes
-mod OrderExamples
-mod ReadBack
-mod ReadLoop
-mod Spelled
-mod SpelledImage
-mod SpelledRows
-mod SpelledWhole
 pub mod Written

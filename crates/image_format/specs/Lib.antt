@@ -1,10 +1,2 @@
 pub mod Bytes
-pub mod Decoding
-pub mod FaultOrder
 pub mod Listing
-pub mod Loaded
-pub mod Loading
-pub mod NumberRanges
-pub mod RawRows
-pub mod ReadResults
-pub mod Reading

@@ -103,9 +103,9 @@ pub(crate) fn opcode_of(operation: &Operation) -> u8
     }
 }
 
-/// The operand `a`, 0 where it isn't named.
+/// The operand `a` of the operation, 0 where it isn't named (docs/FORMATS.md, "Instructions").
 #[tactic(auto, unfolding(crate::specs::Bytes::address_of))]
-pub(crate) fn address_of(operation: &Operation) -> u16
+pub fn address_of(operation: &Operation) -> u16
     ensures { result ≡ address_of operation.now }
 {
     match operation {
@@ -132,9 +132,9 @@ pub(crate) fn address_of(operation: &Operation) -> u16
     }
 }
 
-/// The operand `k`, 0 where it isn't named.
+/// The operand `k` of the operation, 0 where it isn't named (docs/FORMATS.md, "Instructions").
 #[tactic(auto, unfolding(crate::specs::Bytes::constant_of))]
-pub(crate) fn constant_of(operation: &Operation) -> i64
+pub fn constant_of(operation: &Operation) -> i64
     ensures { result ≡ constant_of operation.now }
 {
     match operation {
@@ -207,8 +207,8 @@ fn put_object(out: &mut Vec<u8>, object: &Object) -> Result<(), AllocError>
     put_words(out, object.words())
 }
 
-// Its number in images.
-pub(crate) fn kind_number(kind: &Kind) -> u8
+/// The number of the kind in images (docs/FORMATS.md, "Sections").
+pub fn kind_number(kind: &Kind) -> u8
     ensures { result ≡ kind_number kind.now }
 {
     match kind {

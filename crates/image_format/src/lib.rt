@@ -1,18 +1,8 @@
 //! Images as bytes and as text.
 #![tactic(auto)]
 
-mod code_faults;
-mod decoding;
 mod encoding;
-mod fault_order;
-pub mod laws;
 mod listing;
-mod loading;
-mod number_ranges;
-mod raw_sections;
-mod reading;
-mod table_faults;
 
-pub use encoding::encode;
+pub use encoding::{address_of, constant_of, encode, kind_number};
 pub use listing::list;
-pub use loading::load;

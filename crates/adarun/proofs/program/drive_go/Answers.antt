@@ -1,7 +1,7 @@
 use Rattle.std.proofs.Common.{Err, ap, inr, subst, sym, ◌∙◌}
 use Rattle.adarun.specs.Driving.{IsRead}
-use Rattle.adarun.specs.Stopping.{Refuses}
-use Rattle.adarun.specs.declared.going.GoFault.TheVariants as faults
+use Rattle.compile_and_go.specs.Stopping.{Refuses}
+use Rattle.compile_and_go.specs.declared.going.GoFault.TheVariants as faults
 use Rattle.adarun.proofs.Driving.{failed_keeps, refused_leaves, run_leaves, schedule_leaves}
 use Rattle.adarun.proofs.program.drive_go.Goals as goal
 

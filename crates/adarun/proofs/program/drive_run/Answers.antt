@@ -1,6 +1,6 @@
 use Rattle.std.proofs.Common.{Err, ap, inr, refl, subst}
 use Rattle.clock.specs.Schedules.{IsScheduleText}
-use Rattle.image_format.specs.Loaded.{IsLoaded}
+use Rattle.image_loading.specs.Loaded.{IsLoaded}
 use Rattle.adarun.proofs.Driving.{failed_keeps, image_run_leaves}
 use Rattle.adarun.proofs.program.drive_run.Goals as goal
 

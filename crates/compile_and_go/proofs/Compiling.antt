@@ -1,0 +1,163 @@
+-- The layers of compiling, one behind another.
+use Rattle.std.proofs.Common.{◌≡◌, ◌<◌, arith, ℕ, List, [], true, Result, Ok, Err, ap, inl, inr, subst, sym}
+use Rattle.std.proofs.lemmas.List.Elements.{All-contains}
+use Rattle.std.specs.List.{Contains}
+use Rattle.std.specs.Prelude.{IfOk, IfErr, OnOk}
+use Rattle.base.specs.declared.faults.TheConstants.{LIMIT_PASSED, LOCAL_TASKING, NAME_NOT_VISIBLE, OUTSIDE_LANGUAGE, WRONG_PRAGMAS}
+use Rattle.lexer.specs.Spelling.{Spells}
+use Rattle.lexer.specs.declared.fault.Fault.{Fault}
+use Rattle.lexer.specs.declared.token.Token.{Token}
+use Rattle.parser.specs.Parsing.{Derives}
+use Rattle.image.specs.Sections.{Sections}
+use Rattle.image.specs.Rules.{IsWellFormed}
+use Rattle.ada_tree.specs.declared.program.Program.{Program}
+use Rattle.ada_tree.specs.ProgramTree.{ProgramTree, program_tree}
+use Rattle.expr_rules.specs.Faults.{Faults, IsLeast}
+use Rattle.checking.specs.ProgramRules.{IsLegal, RefusesProgram, program_faults}
+use Rattle.ravenscar.specs.ProgramRules.{IsRestricted, RefusesUnrestricted, restriction_faults}
+use Rattle.fault_numbers.specs.Numbers.{AreNumbered, GrammarNumbers, IsNumbered, LegalityNumbers, RestrictionNumbers, SpellingNumbers}
+use Rattle.meaning.specs.SameMeaning.{KeepsCount, SameMeaning}
+use Rattle.ada_link.specs.FirstLanguage.{is_first_program}
+use Rattle.ada_link.specs.Refusals.{RefusesTree}
+use Rattle.ada_link.specs.Size.{most_steps}
+use Rattle.compile_and_go.specs.Accepted.{Compiles, IsAccepted, IsGiven, IsJudged, IsLeftOut, IsTreeOf, RefusesText}
+
+-- the program that was read is the one that was checked
+pub compiles : {E : Type 0} (r : Result Sections E) (text : List ℕ) (tokens list : List Token) (read : Program)
+    → Spells text tokens → list ≡ tokens → Derives (program_tree read) list
+    → (checked : Program) → checked ≡ read → IsLegal (program_tree checked) → IsRestricted (program_tree checked)
+    → IfOk r (λ i. SameMeaning (program_tree checked) i)
+    → IfOk r (λ i. KeepsCount (program_tree checked) i (most_steps (program_tree checked)))
+    → IfOk r (λ i. IsWellFormed i)
+    → OnOk r (is_first_program (program_tree checked) ≡ true)
+    → IfOk r (λ i. Compiles text i)
+compiles (Ok i) text tokens list read spells same derives checked is legal restricted means counted well_formed first =
+    let derived = subst (λ p. Derives (program_tree p) tokens) (sym is) (subst (Derives (program_tree read)) same derives) in
+    record {
+      tree = program_tree checked;
+      accepted = record {
+        accepted = record { is_tree = record { tokens = tokens; spells = spells; derives = derived }; legal = legal; restricted = restricted };
+        is_first = first;
+      };
+      means = means;
+      counted = counted;
+      well_formed = well_formed;
+    }
+compiles (Err e) text tokens list read spells same derives checked is legal restricted means counted well_formed first = tt
+
+-- a refusal of the text's tree, where the text is of the first language
+not_outside : (tree : ProgramTree) (fault : Fault) → is_first_program tree ≡ true → RefusesTree tree fault → IsGiven tree (Err fault)
+not_outside tree fault first (inl memory) = inl memory
+not_outside tree fault first (inr (inl outside)) = let wrong = outside.1 in absurd cc
+not_outside tree fault first (inr (inr large)) = inr large
+
+pub given : (r : Result Sections Fault) (tree made : ProgramTree) → made ≡ tree → is_first_program tree ≡ true
+    → IfOk r (λ i. SameMeaning made i) → IfErr r (λ f. RefusesTree made f) → IsGiven tree r
+given (Ok i) tree made same first means refused = subst (λ t. SameMeaning t i) same means
+given (Err f) tree made same first means refused = not_outside tree f first (subst (λ t. RefusesTree t f) same refused)
+
+-- ---- where nothing is broken nothing is the least
+
+nothing_least : (faults : Faults) (fault : Fault) → faults ≡ [] → IsLeast faults fault → ⊥
+nothing_least faults fault none least =
+    let there : Contains [] fault = subst (λ fs. Contains fs fault) none least.listed in
+    let no : there.0 < 0 = there.1 in
+    omega (arith, no)
+
+-- what is legal is not refused by the check but for want of memory, and what is restricted not by the restrictions
+
+pub legal_given : (tree made : ProgramTree) (fault : Fault) → made ≡ tree → IsLegal tree → RefusesProgram made fault → IsGiven tree (Err fault)
+legal_given tree made fault same legal (inl memory) = inl memory
+legal_given tree made fault same legal (inr least) = absurd (nothing_least (program_faults tree) fault legal (subst (λ t. IsLeast (program_faults t) fault) same least))
+
+pub restricted_given : (tree made : ProgramTree) (fault : Fault) → made ≡ tree → IsRestricted tree → RefusesUnrestricted made fault → IsGiven tree (Err fault)
+restricted_given tree made fault same restricted (inl memory) = inl memory
+restricted_given tree made fault same restricted (inr least) =
+    absurd (nothing_least (restriction_faults tree) fault restricted (subst (λ t. IsLeast (restriction_faults t) fault) same least))
+
+-- ---- how a tree is judged
+
+-- what the check refuses
+pub judged : (tree made : ProgramTree) (fault : Fault) → made ≡ tree → RefusesProgram made fault → IsJudged tree (Err fault)
+judged tree made fault same (inl memory) = inl memory
+judged tree made fault same (inr least) = inr (inl (subst (λ t. IsLeast (program_faults t) fault) same least))
+
+-- what is legal and refused by a restriction
+pub judged_legal : (tree made : ProgramTree) (fault : Fault) → made ≡ tree → IsLegal made → RefusesUnrestricted made fault → IsJudged tree (Err fault)
+judged_legal tree made fault same legal (inl memory) = inl memory
+judged_legal tree made fault same legal (inr least) = inr (inr (inl (subst IsLegal same legal, subst (λ t. IsLeast (restriction_faults t) fault) same least)))
+
+-- what breaks no rule
+pub judged_accepted : (r : Result Sections Fault) (tree made : ProgramTree) → made ≡ tree → IsLegal made → IsRestricted made
+    → IfErr r (λ f. RefusesTree made f) → IsJudged tree r
+judged_accepted (Ok i) tree made same legal restricted refused = (subst IsLegal same legal, subst IsRestricted same restricted)
+judged_accepted (Err fault) tree made same legal restricted refused =
+    inr (inr (inr (subst IsLegal same legal, (subst IsRestricted same restricted, subst (λ t. RefusesTree t fault) same refused))))
+
+-- ---- texts that are not compiled
+
+-- the tree of the program that was read, of which another one is a copy
+read_tree : (text : List ℕ) (tokens list : List Token) (read copy : Program)
+    → Spells text tokens → list ≡ tokens → Derives (program_tree read) list → copy ≡ read → IsTreeOf (program_tree copy) text
+read_tree text tokens list read copy spells same derives is = record {
+  tokens = tokens;
+  spells = spells;
+  derives = subst (λ p. Derives (program_tree p) tokens) (sym is) (subst (Derives (program_tree read)) same derives);
+}
+
+-- its legal tree breaks a restriction
+pub unrestricted_text : (text : List ℕ) (tokens list : List Token) (read checked : Program) (fault : Fault)
+    → Spells text tokens → list ≡ tokens → Derives (program_tree read) list → checked ≡ read → IsLegal (program_tree read)
+    → RefusesUnrestricted (program_tree checked) fault
+    → RefusesText text fault
+unrestricted_text text tokens list read checked fault spells same derives is legal (inl memory) = inl memory
+unrestricted_text text tokens list read checked fault spells same derives is legal (inr least) =
+    inr (inr (inr (inr (inl (record {
+      tree = program_tree checked;
+      is_tree = read_tree text tokens list read checked spells same derives is;
+      legal = subst (λ p. IsLegal (program_tree p)) (sym is) legal;
+      least = least;
+    })))))
+
+-- it is accepted
+pub refused_text : {A : Type 0} (r : Result A Fault) (text : List ℕ) (tokens list : List Token) (read checked : Program)
+    → Spells text tokens → list ≡ tokens → Derives (program_tree read) list → checked ≡ read
+    → IsLegal (program_tree checked) → IsRestricted (program_tree checked)
+    → IfErr r (λ f. RefusesTree (program_tree checked) f)
+    → IfErr r (λ f. RefusesText text f)
+refused_text (Ok a) text tokens list read checked spells same derives is legal restricted refused = tt
+refused_text (Err fault) text tokens list read checked spells same derives is legal restricted refused =
+    inr (inr (inr (inr (inr (record {
+      tree = program_tree checked;
+      accepted = record { is_tree = read_tree text tokens list read checked spells same derives is; legal = legal; restricted = restricted };
+      refused = refused;
+    })))))
+
+-- ---- what is refused as outside the language of today
+
+module _ (spelling : SpellingNumbers) (grammar : GrammarNumbers) (legality : LegalityNumbers) (restrictions : RestrictionNumbers) where
+  among : (first last : ℕ) (faults : Faults) (fault : Fault) → AreNumbered first last faults → IsLeast faults fault → IsNumbered first last fault
+  among first last faults fault all least = All-contains (IsNumbered first last) faults fault all least.listed
+
+  of_tree : (text : List ℕ) (tree : ProgramTree) (fault : Fault) → IsAccepted tree text → RefusesTree tree fault → IsLeftOut text fault
+  of_tree text tree fault accepted (inl memory) = λ is. let n = ap (λ f. f.number) memory in absurd (omega (arith, n, is))
+  of_tree text tree fault accepted (inr (inl out)) = λ is. (out.0, (tree, (accepted, out.1)))
+  of_tree text tree fault accepted (inr (inr large)) = λ is. let n = ap (λ f. f.number) large.0 in absurd (omega (arith, n, is))
+
+  left_out : (text : List ℕ) (fault : Fault) → RefusesText text fault → IsLeftOut text fault
+  left_out text fault (inl memory) = λ is. let n = ap (λ f. f.number) memory in absurd (omega (arith, n, is))
+  left_out text fault (inr (inl broken)) = λ is. let n = (spelling text fault broken).1 in absurd (omega (arith, n, is))
+  left_out text fault (inr (inr (inl none))) = λ is. let n = (grammar none.tokens fault none.faulty).1 in absurd (omega (arith, n, is))
+  left_out text fault (inr (inr (inr (inl illegal)))) =
+      λ is.
+      let n = (among NAME_NOT_VISIBLE LIMIT_PASSED (program_faults illegal.tree) fault (legality illegal.tree) illegal.least).1 in
+      absurd (omega (arith, n, is))
+  left_out text fault (inr (inr (inr (inr (inl broken))))) =
+      λ is.
+      let n = (among LOCAL_TASKING WRONG_PRAGMAS (restriction_faults broken.tree) fault (restrictions broken.tree) broken.least).1 in
+      absurd (omega (arith, n, is))
+  left_out text fault (inr (inr (inr (inr (inr refused))))) = of_tree text refused.tree fault refused.accepted refused.refused
+
+  pub refused_left_out : {A : Type 0} (r : Result A Fault) (text : List ℕ) → IfErr r (λ f. RefusesText text f) → IfErr r (λ f. IsLeftOut text f)
+  refused_left_out (Ok a) text refused = tt
+  refused_left_out (Err fault) text refused = left_out text fault refused

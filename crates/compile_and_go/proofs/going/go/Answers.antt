@@ -1,0 +1,5 @@
+use Rattle.compile_and_go.proofs.Running.{runs}
+use Rattle.compile_and_go.proofs.going.go.Goals as goal
+
+pub returns-in-Ok-run-clause-runs : goal.returns-in-Ok-run-clause-runs
+returns-in-Ok-run-clause-runs g c = runs _ _ _ _ _ _ _ _ c.outcome_stays.ensures c.in-Ok.ensures.means c.in-Ok-read.ensures.read c.in-Ok-run.ensures.text c.in-Ok-run.ensures.ends

@@ -1,0 +1,4 @@
+pub mod Accepted
+pub mod Headline
+pub mod Stopping
+pub mod Joined

@@ -1,5 +1,0 @@
-use Rattle.image_format.proofs.ComesBack.{comes_back}
-use Rattle.image_format.proofs.laws.comes_back.Goals as goal
-
-pub returns : goal.returns
-returns c = comes_back c.args.image.now c.sections_fit.ensures.well_formed c.sections_fit.ensures.fit

@@ -1,6 +1,0 @@
-use Rattle.std.proofs.Common.{drop}
-use Rattle.image_format.specs.NumberRanges.{Each, InstructionFits}
-use Rattle.image_format.proofs.number_ranges.instructions_fit.Given as goal
-
-abbrev pub invariant-loop-x : goal.invariant-loop-x
-invariant-loop-x l = Each InstructionFits (drop l.x-index l.fn.instructions) → Each InstructionFits l.fn.instructions

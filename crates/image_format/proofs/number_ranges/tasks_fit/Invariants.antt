@@ -1,6 +1,0 @@
-use Rattle.std.proofs.Common.{drop}
-use Rattle.image_format.specs.NumberRanges.{Each, TaskFits}
-use Rattle.image_format.proofs.number_ranges.tasks_fit.Given as goal
-
-abbrev pub invariant-loop-task : goal.invariant-loop-task
-invariant-loop-task l = Each TaskFits (drop l.task-index l.fn.tasks) → Each TaskFits l.fn.tasks

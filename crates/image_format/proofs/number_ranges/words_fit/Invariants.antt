@@ -1,6 +1,0 @@
-use Rattle.std.proofs.Common.{drop}
-use Rattle.image_format.specs.NumberRanges.{Each, IsWord}
-use Rattle.image_format.proofs.number_ranges.words_fit.Given as goal
-
-abbrev pub invariant-loop-word : goal.invariant-loop-word
-invariant-loop-word l = Each IsWord (drop l.word-index l.fn.words) → Each IsWord l.fn.words

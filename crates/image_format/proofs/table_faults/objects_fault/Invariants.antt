@@ -1,8 +1,0 @@
-use Rattle.std.proofs.Common.{◌≡◌, drop}
-use Rattle.image_format.specs.FaultOrder.{first_of, sooner}
-use Rattle.image_format.specs.Loading.{each, behind_object, object_faults}
-use Rattle.image_format.proofs.table_faults.objects_fault.Given as goal
-
--- what was found, or what is left has, is the first of all
-abbrev pub invariant-loop-number : goal.invariant-loop-number
-invariant-loop-number l = sooner l.fault (first_of (each behind_object (object_faults l.fn.parts l.fn.subprograms) l.number l.byte (drop l.number l.fn.objects))) ≡ first_of (each behind_object (object_faults l.fn.parts l.fn.subprograms) 0 l.fn.start l.fn.objects)

@@ -1,0 +1,6 @@
+use Rattle.std.proofs.Common.{drop}
+use Rattle.image_loading.specs.NumberRanges.{Each, TaskFits}
+use Rattle.image_loading.proofs.number_ranges.tasks_fit.Given as goal
+
+abbrev pub invariant-loop-task : goal.invariant-loop-task
+invariant-loop-task l = Each TaskFits (drop l.task-index l.fn.tasks) → Each TaskFits l.fn.tasks

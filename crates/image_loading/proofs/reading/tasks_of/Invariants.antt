@@ -1,0 +1,8 @@
+use Rattle.std.proofs.Common.{◌≡◌, ◌-◌}
+use Rattle.image_loading.specs.Reading.{read_many, read_task}
+use Rattle.image_loading.proofs.ReadLoop.{with_front}
+use Rattle.image_loading.proofs.reading.tasks_of.Given as goal
+
+-- what was read, before what is still read, is the whole
+abbrev pub invariant-loop : goal.invariant-loop
+invariant-loop l = with_front l.tasks.items (read_many read_task (l.count - l.counter) l.rest) ≡ read_many read_task l.count l.bytes

@@ -1,0 +1,8 @@
+use Rattle.std.proofs.Common.{◌≡◌, drop}
+use Rattle.image_loading.specs.FaultOrder.{first_of, sooner}
+use Rattle.image_loading.specs.Loading.{each, behind_text, label_faults}
+use Rattle.image_loading.proofs.table_faults.labels_fault.Given as goal
+
+-- what was found, or what is left has, is the first of all
+abbrev pub invariant-loop-number : goal.invariant-loop-number
+invariant-loop-number l = sooner l.fault (first_of (each behind_text label_faults l.number l.byte (drop l.number l.fn.labels))) ≡ first_of (each behind_text label_faults 0 l.fn.start l.fn.labels)

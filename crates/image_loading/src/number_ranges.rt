@@ -1,0 +1,113 @@
+//! The numbers of an image fit where they stand in its bytes: each is read, and has 16 or 64 bits.
+ghost use Rattle.image.specs.Rules.{IsWellFormed};
+ghost use Rattle.image_loading.specs.NumberRanges.{Each, InstructionFits, IsWord, ObjectFits, RowFits, SectionsFit, SubprogramFits, TaskFits};
+
+use handlers::Row;
+use image::{Barrier, Image, Instr, Object, Subprogram, Task};
+use image_format::{address_of, constant_of};
+
+fn words_fit(words: &[i64])
+    ensures { Each IsWord words.now }
+{
+    for word in words {
+        let _word = *word;
+    }
+}
+
+fn object_fits(object: &Object)
+    ensures { ObjectFits object.now }
+{
+    let _entry = object.entry().unwrap_or(u16::MAX);
+    let _word = match object.barrier() {
+        Barrier::Closed | Barrier::Open => 0,
+        Barrier::Word(word) => word,
+    };
+    words_fit(object.words());
+}
+
+fn objects_fit(objects: &[Object])
+    ensures { Each ObjectFits objects.now }
+{
+    for object in objects {
+        object_fits(object);
+    }
+}
+
+fn subprogram_fits(s: &Subprogram)
+    ensures { SubprogramFits s.now }
+{
+    let _object = s.kind.object().unwrap_or(u16::MAX);
+    let _end = s.end_;
+    let _parameters = s.parameters;
+    let _results = s.results;
+    let _locals = s.locals;
+    let _stack = s.stack;
+}
+
+fn subprograms_fit(subprograms: &[Subprogram])
+    ensures { Each SubprogramFits subprograms.now }
+{
+    for s in subprograms {
+        subprogram_fits(s);
+    }
+}
+
+fn task_fits(task: &Task)
+    ensures { TaskFits task.now }
+{
+    let _subprogram = task.subprogram;
+}
+
+fn tasks_fit(tasks: &[Task])
+    ensures { Each TaskFits tasks.now }
+{
+    for task in tasks {
+        task_fits(task);
+    }
+}
+
+fn row_fits(row: &Row)
+    ensures { RowFits row.now }
+{
+    let _start = row.start;
+    let _end = row.end_;
+    let _exception = row.exception;
+    let _target = row.target;
+}
+
+fn rows_fit(rows: &[Row])
+    ensures { Each RowFits rows.now }
+{
+    for row in rows {
+        row_fits(row);
+    }
+}
+
+fn instruction_fits(x: &Instr)
+    ensures { InstructionFits x.now }
+{
+    let _depth = x.depth;
+    let _address = address_of(&x.operation);
+    let _constant = constant_of(&x.operation);
+}
+
+fn instructions_fit(instructions: &[Instr])
+    ensures { Each InstructionFits instructions.now }
+{
+    for x in instructions {
+        instruction_fits(x);
+    }
+}
+
+/// Reads the numbers of an image.
+pub(crate) fn sections_fit(image: &Image)
+    ensures fit { SectionsFit image.now }
+    ensures well_formed { IsWellFormed image.now }
+{
+    words_fit(image.plain_words());
+    objects_fit(image.objects());
+    subprograms_fit(image.subprograms());
+    tasks_fit(image.tasks());
+    rows_fit(image.rows());
+    instructions_fit(image.instructions());
+}
