@@ -4,10 +4,10 @@ mod Expressions
 mod Passing
 pub mod Calling
 mod Naming
-mod Locating
+pub mod Locating
 mod Paths
-mod Growing
-mod Flowing
+pub mod Growing
+pub mod Flowing
 mod Legal
 mod Emitted
 mod ShortCircuits
@@ -18,6 +18,6 @@ mod Checking
 mod Conversions
 mod Going
 mod Actuals
-mod Widths
+pub mod Widths
 mod Selecting
 mod Refusals

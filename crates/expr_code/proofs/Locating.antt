@@ -54,7 +54,7 @@ distance low v (negsuc n) above is = let x = ordered low v above in absurd (omeg
 small : (a b : ℕ) → a < b → nat_lt a b ≡ true
 small a b h = search rules
 
-in_base : (n : ℕ) → n < 2 ^ 63 → in_range (pos n) ≡ Ok (pos n)
+pub in_base : (n : ℕ) → n < 2 ^ 63 → in_range (pos n) ≡ Ok (pos n)
 in_base n h = ap (λ c. cond c (Ok (pos n)) constraint_error) (small n (2 ^ 63) h)
 
 times : (n size : ℕ) → pos n *ℤ pos size ≡ pos (n * size)
@@ -197,19 +197,20 @@ module _ (quiet : QuietStays) (i : Sections) (schedule : List ScheduleLine) (k :
 
 -- ---- a value, and then an address
 
-given : {A B : Type 0} (v : Val A) (go : A → Val B) (b : B) → and_then v go ≡ Gives b → (a : A) × (v ≡ Gives a) × (go a ≡ Gives b)
+pub given : {A B : Type 0} (v : Val A) (go : A → Val B) (b : B) → and_then v go ≡ Gives b → (a : A) × (v ≡ Gives a) × (go a ≡ Gives b)
 given (Gives a) go b e = (a, refl, e)
 given (Raises x) go b e = absurd cc
 given Meaningless go b e = absurd cc
 
--- a number that has passed a check against its subtype is not below the first value
-passed_number : (s : Subtype) (z : ℤ) (a : Value) → passed s (Number z) ≡ Gives a → (a ≡ Number z) × (int_le s.first z ≡ true)
-passed_number s z a e = by (int_le s.first z) (int_le z s.last) refl e
+-- a number that has passed a check against its subtype lies between the first value and the last one
+pub passed_number : (s : Subtype) (z : ℤ) (a : Value) → passed s (Number z) ≡ Gives a → (a ≡ Number z) × (int_le s.first z ≡ true) × (int_le z s.last ≡ true)
+passed_number s z a e = by (int_le s.first z) (int_le z s.last) refl refl e
   where
-    by : (b c : Bool) → int_le s.first z ≡ b → cond (b && c) (Gives (Number z)) (raise ConstraintError) ≡ Gives a → (a ≡ Number z) × (int_le s.first z ≡ true)
-    by true true is e = let same : Number z ≡ a = cc in (sym same, is)
-    by true false is e = absurd cc
-    by false c is e = absurd cc
+    by : (b c : Bool) → int_le s.first z ≡ b → int_le z s.last ≡ c → cond (b && c) (Gives (Number z)) (raise ConstraintError) ≡ Gives a
+        → (a ≡ Number z) × (int_le s.first z ≡ true) × (int_le z s.last ≡ true)
+    by true true is above e = let same : Number z ≡ a = cc in (sym same, is, above)
+    by true false is above e = absurd cc
+    by false c is above e = absurd cc
 
 module _ (quiet : QuietStays) (i : Sections) (schedule : List ScheduleLine) (k : Kernel) (t : ℕ) (m : Words) (calm : Calm k t) (fs : List Frame) (region : Region) (r : Subtype) (x : Shape) where
   -- steps, and then what finds an address

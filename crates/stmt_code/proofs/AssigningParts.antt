@@ -48,7 +48,8 @@ use Rattle.stmt_code.specs.Parts.{HasParts, part_offset, part_shape}
 use Rattle.stmt_code.proofs.PartWords.{part_fits, part_written, parts_changed}
 use Rattle.stmt_code.proofs.Placing.{stored_knows}
 use Rattle.stmt_code.proofs.StoringCode.{NamesWhole, StoresLocally, StoresPlainly, assigning, block_locally, block_plainly, comes_part, given_value, indexed_locally, indexed_plainly, local_named, named_whole, package_meant, package_named, whole_of, whole_there}
-use Rattle.stmt_code.proofs.Targeting.{IsPartly, address, given, path_comes, path_part}
+use Rattle.expr_code.proofs.Locating.{given}
+use Rattle.stmt_code.proofs.Targeting.{IsPartly, address, path_comes, path_part}
 use Rattle.stmt_code.proofs.Variables.{variable_stands}
 use Rattle.stmt_code.proofs.Words.{lies_within, others_kept, with_words}
 

@@ -41,7 +41,7 @@ use Rattle.stmt_code.specs.Resting.{Framed, IsAt, Knows, Rests, StandsFor, AreKe
 use Rattle.stmt_code.specs.Statements.{IsDeclared, Numbers}
 use Rattle.stmt_code.specs.Storing.{Puts, declared, declared_from, object_declared}
 use Rattle.stmt_code.proofs.Placing.{declared_knows}
-use Rattle.stmt_code.proofs.StoringCode.{StoresLocally, block_locally, computes_above, passed_same, word_locally}
+use Rattle.stmt_code.proofs.StoringCode.{StoresLocally, block_locally, computes_above, passed_same, same_given, word_locally}
 use Rattle.stmt_code.proofs.Words.{with_words, written, others_kept}
 
 -- what is known of an expression whose value is stored, beside its code: its value is of the subtype's type
@@ -180,9 +180,6 @@ module _ (kept : AgreementIsKept) (sized : ValuesHaveWords) (quiet : QuietStays)
           (subst
           (λ q. Spends (behaviour i schedule) task frames_of (most_steps i) (suc (length fs)) q k (in_frame m (placed f from base) fs) k
           (in_frame m (placed f (suc from) (w ∷ base)) fs)) (sym n) (pushes quiet i schedule k task m calm from w push f fs base (suc from) next))
-
-      same_given : (a b : Value) → Gives a ≡ Gives b → a ≡ b
-      same_given a b h = let f : Val Value → Value = λ o. elim o [ Gives y ↦ y | other ↦ a ] in ap f h
 
       suited : (p : Place) → Agrees v.names.scope p → p.scope ≡ program.scope → (x : Value) → Gives (initial program.scope t) ≡ Gives x
           → has_shape (shape_of v.names.scope t) x ≡ true

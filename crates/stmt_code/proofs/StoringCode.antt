@@ -345,7 +345,7 @@ assigned_is calls p name e x whole_name is =
     ap (λ s. and_then (and_then (target_or_nothing (object_named p name.first.name)) (all_selected calls p s)) (assigned_to calls p e)) whole_name
     ∙ ap (λ o. and_then (and_then (target_or_nothing o) (all_selected calls p NoSelectors)) (assigned_to calls p e)) is
 
-same_given : {A : Type 0} (a b : A) → Gives a ≡ Gives b → a ≡ b
+pub same_given : {A : Type 0} (a b : A) → Gives a ≡ Gives b → a ≡ b
 same_given {A} a b h = let f : Val A → A = λ v. elim v [ Gives y ↦ y | Raises y ↦ a | Meaningless ↦ a ] in ap f h
 
 pub given_value : (v : Val Value) (x : Target) (y : Assigned) → and_then v (λ z. Gives (assigning x z)) ≡ Gives y → (z : Value) × (v ≡ Gives z) × (assigning x z ≡ y)

@@ -39,81 +39,11 @@ use Rattle.expr_code.specs.Coming.{Comes, most_steps, on}
 use Rattle.expr_code.specs.Computing.{Answers, IsNumber, Library}
 use Rattle.expr_code.specs.Locating.{IsPath, shape_in}
 use Rattle.expr_code.proofs.Coming.{acts, after_first, more, steps, pushes, then_comes}
+use Rattle.expr_code.proofs.Locating.{distance, given, in_base, indexes, passed_number}
 use Rattle.stmt_code.specs.Parts.{HasParts, part_offset, part_shape, place_or_none}
 use Rattle.stmt_code.specs.Parts as shapes
 use Rattle.stmt_code.proofs.PartWords.{further_offset, further_part, further_shape, part_fits}
-
-ordered : (a b : ℤ) → int_le a b ≡ true → a ≤ℤ b
-ordered a b h = grind (arith, ints)
-
--- a number that is not below another one lies at a distance from it
-pub distance : (low v d : ℤ) → int_le low v ≡ true → v -ℤ low ≡ d → (n : ℕ) × (d ≡ pos n)
-distance low v (pos n) above is = (n, refl)
-distance low v (negsuc n) above is = let x = ordered low v above in absurd (omega (arith, ints, x, is))
-
-small : (a b : ℕ) → a < b → nat_lt a b ≡ true
-small a b h = search rules
-
-in_base : (n : ℕ) → n < 2 ^ 63 → in_range (pos n) ≡ Ok (pos n)
-in_base n h = ap (λ c. cond c (Ok (pos n)) constraint_error) (small n (2 ^ 63) h)
-
-times : (n size : ℕ) → pos n *ℤ pos size ≡ pos (n * size)
-times n size = grind (arith, ints)
-
-module _ (quiet : QuietStays) (i : Sections) (schedule : List ScheduleLine) (k : Kernel) (t : ℕ) (m : Words) (calm : Calm k t) (f : Frame) (fs : List Frame) where
-  -- one step to another place and stack
-  one : (from to : ℕ) (s s' : List ℤ) → act i schedule k t (in_frame m (placed f from s) fs) ≡ does Quiet m (placed f to s') fs None None
-      → Spends (behaviour i schedule) t frames_of (most_steps i) (suc (length fs)) 1 k (in_frame m (placed f from s) fs) k (in_frame m (placed f to s') fs)
-  one from to s s' h = steps quiet i schedule k t m calm (placed f from s) (placed f to s') fs h
-
-  -- above the address of an array and a checked index: the distance from the first index, the words of so many components, and the address of the component
-  pub indexes : (place : ℕ) (first z : ℤ) (size address n : ℕ) (base : List ℤ)
-      → z -ℤ first ≡ pos n → n < 2 ^ 63 → n * size < 2 ^ 63 → address + n * size < 2 ^ 63
-      → At i place (op.Push first) → At i (place + 1) op.Subtract → At i (place + 2) (op.Push (pos size)) → At i (place + 3) op.Multiply → At i (place + 4) op.Add
-      → Spends (behaviour i schedule) t frames_of (most_steps i) (suc (length fs)) 5 k (in_frame m (placed f place (z ∷ pos address ∷ base)) fs) k (in_frame m (placed f (place + 5) (pos (address + n * size) ∷ base)) fs)
-  indexes place first z size address n base far few small_product small_sum a b c d e =
-      let end = in_frame m (placed f (place + 5) (pos (address + n * size) ∷ base)) fs in
-      let s0 : List ℤ = z ∷ pos address ∷ base in
-      let s1 : List ℤ = first ∷ z ∷ pos address ∷ base in
-      let s2 : List ℤ = pos n ∷ pos address ∷ base in
-      let s3 : List ℤ = pos size ∷ pos n ∷ pos address ∷ base in
-      let s4 : List ℤ = pos (n * size) ∷ pos address ∷ base in
-      let s5 : List ℤ = pos (address + n * size) ∷ base in
-      spends_trans (behaviour i schedule) t frames_of (most_steps i) 4 k end
-      (pushes quiet i schedule k t m calm place first a f fs s0 (place + 1) refl)
-      (spends_trans (behaviour i schedule) t frames_of (most_steps i) 3 k end
-      (one (place + 1) (place + 2) s1 s2
-      (acts quiet i (place + 1) op.Subtract b schedule k t m f fs s1
-      ∙ ap (λ x. gives i schedule k t m (placed f (place + 1) s1) fs x (pos address ∷ base)) (ap in_range far ∙ in_base n few)
-      ∙ ap (λ q. does Quiet m (placed f q s2) fs None None) (next 1)))
-      (spends_trans (behaviour i schedule) t frames_of (most_steps i) 2 k end
-      (pushes quiet i schedule k t m calm (place + 2) (pos size) c f fs s2 (place + 3) (next 2))
-      (spends_trans (behaviour i schedule) t frames_of (most_steps i) 1 k end
-      (one (place + 3) (place + 4) s3 s4
-      (acts quiet i (place + 3) op.Multiply d schedule k t m f fs s3
-      ∙ ap (λ x. gives i schedule k t m (placed f (place + 3) s3) fs x (pos address ∷ base)) (ap in_range (times n size) ∙ in_base (n * size) small_product)
-      ∙ ap (λ q. does Quiet m (placed f q s4) fs None None) (next 3)))
-      (one (place + 4) (place + 5) s4 s5
-      (acts quiet i (place + 4) op.Add e schedule k t m f fs s4
-      ∙ ap (λ x. gives i schedule k t m (placed f (place + 4) s4) fs x base) (in_base (address + n * size) small_sum)
-      ∙ ap (λ q. does Quiet m (placed f q s5) fs None None) (next 4))))))
-    where
-      next : (j : ℕ) → (place + j) + 1 ≡ place + suc j
-      next j = omega arith
-
-pub given : {A B : Type 0} (v : Val A) (go : A → Val B) (b : B) → and_then v go ≡ Gives b → (a : A) × (v ≡ Gives a) × (go a ≡ Gives b)
-given (Gives a) go b e = (a, refl, e)
-given (Raises x) go b e = absurd cc
-given Meaningless go b e = absurd cc
-
--- a number that has passed a check against its subtype is not below the first value
-passed_number : (s : Subtype) (z : ℤ) (a : Value) → passed s (Number z) ≡ Gives a → (a ≡ Number z) × (int_le s.first z ≡ true) × (int_le z s.last ≡ true)
-passed_number s z a e = by (int_le s.first z) (int_le z s.last) refl refl e
-  where
-    by : (b c : Bool) → int_le s.first z ≡ b → int_le z s.last ≡ c → cond (b && c) (Gives (Number z)) (raise ConstraintError) ≡ Gives a → (a ≡ Number z) × (int_le s.first z ≡ true) × (int_le z s.last ≡ true)
-    by true true is above e = let same : Number z ≡ a = cc in (sym same, is, above)
-    by true false is above e = absurd cc
-    by false c is above e = absurd cc
+use Rattle.stmt_code.proofs.StoringCode.{same_given}
 
 -- ---- a part of a variable of this shape, itself of this subtype and shape
 
@@ -138,9 +68,6 @@ two_then : {A : Type 0} (v : Val Value) (go : List Value → Val A) (rest : A �
 two_then (Gives a) go rest = refl
 two_then (Raises x) go rest = refl
 two_then Meaningless go rest = refl
-
-same_given : {A : Type 0} (a b : A) → Gives a ≡ Gives b → a ≡ b
-same_given {A} a b h = let f : Val A → A = λ v. elim v [ Gives y ↦ y | Raises y ↦ a | Meaningless ↦ a ] in ap f h
 
 module _ (W : Shape) (offset : ℕ) where
   abbrev pub address : Target → ℕ
