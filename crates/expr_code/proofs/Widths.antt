@@ -541,6 +541,13 @@ module _ (s : Scope) where
         subst (λ x. PartsAreWide condition value (map branch_of elsifs) last x) (sym same)
         (conditional_wide place condition value (map branch_of elsifs) last (subst (IsLegal s) same h))
 
+    -- a condition, wherever one is wanted
+    pub condition_width : (e : ExprTree) → faults_of s boolean_wanted e ≡ [] → width_of s e ≡ 1
+    condition_width e h =
+        let inside = faults_in s boolean_wanted e in
+        let ends = mismatch s boolean_wanted (own_of s e) (start_of e) in
+        boolean_fits (own_of s e) (fits boolean_wanted (own_of s e) (start_of e) (known e boolean_wanted (front_empty inside ends h)) (back_empty inside ends h))
+
     -- ---- what is checked against a subtype
 
     -- a type of numbers or truth values

@@ -10,7 +10,7 @@ use image::{Instr, Operation};
 use std::alloc::Global;
 
 /// One word more on the operand stack.
-pub(crate) fn above(depth: u16) -> Result<u16, Refusal>
+pub fn above(depth: u16) -> Result<u16, Refusal>
     ensures more { IfOk result (λ more. more ≡ depth + 1) }
     ensures within { IfOk result (λ more. more ≤ FRAME_WORDS) }
     ensures refused { IfErr result (λ why. IsRefused 0 (depth + 1) false why) }
@@ -56,7 +56,7 @@ impl Code {
     }
 
     /// Adds an instruction that finds `depth` words on the operand stack.
-    pub(crate) fn emit(&mut self, depth: u16, operation: Operation) -> Result<(), Refusal>
+    pub fn emit(&mut self, depth: u16, operation: Operation) -> Result<(), Refusal>
         ensures adds { OnOk result (Adds self.old depth operation self.new) }
         ensures few { OnOk result (here self.new ≤ INSTRUCTIONS) }
         ensures shallow { OnOk result (depth ≤ FRAME_WORDS) }
@@ -72,7 +72,7 @@ impl Code {
     }
 
     /// The place behind all instructions.
-    pub(crate) fn end(&self) -> Result<u16, Refusal>
+    pub fn end(&self) -> Result<u16, Refusal>
         ensures end { IfOk result (λ end. end ≡ here self.now) }
         ensures refused { IfErr result (λ why. IsRefused (here self.now) 0 false why) }
     {
@@ -80,7 +80,7 @@ impl Code {
     }
 
     /// Puts another operation in the place of one that stands there.
-    pub(crate) fn patch(&mut self, place: usize, operation: Operation)
+    pub fn patch(&mut self, place: usize, operation: Operation)
         requires there { place < here self.old }
         ensures patches { Patches self.old place operation self.new }
     {

@@ -16,7 +16,7 @@ use image::Operation;
 
 impl Code {
     /// Adds a jump where the condition above `depth` words does not hold, and tells its place; where it leads is not known yet.
-    pub(crate) fn test(&mut self, depth: u16) -> Result<usize, Refusal>
+    pub fn test(&mut self, depth: u16) -> Result<usize, Refusal>
         ensures refused { IfErr result (λ why. IsRefused (here self.old + 1) (depth + 1) false why) }
         ensures place { IfOk result (λ place. place ≡ here self.old) }
         ensures adds { OnOk result (Adds self.old (depth + 1) (JumpIfZero 0) self.new) }
@@ -28,7 +28,7 @@ impl Code {
 
     /// Adds a jump behind a value, which finds `height` words on the operand stack with those of the value, and whose place waits for the end; and makes the
     /// test lead behind it.
-    pub(crate) fn close(
+    pub fn close(
         &mut self,
         height: u16,
         test: usize,
@@ -71,7 +71,7 @@ impl Code {
     }
 
     /// Makes the jumps at these places lead to the end of the code.
-    pub(crate) fn rejoin(&mut self, places: &[usize]) -> Result<(), Refusal>
+    pub fn rejoin(&mut self, places: &[usize]) -> Result<(), Refusal>
         requires there { (k : ℕ) → is_among places.now k ≡ true → k < here self.old }
         ensures refused { IfErr result (λ why. IsRefused (here self.old) 0 false why) }
         ensures rejoins { OnOk result (Rejoins self.old places.now (here self.old) self.new) }

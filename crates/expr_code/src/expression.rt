@@ -72,7 +72,7 @@ impl Code {
 
     /// Adds that of an expression whose value takes so many words, as is known of its type.
     #[cycle(expression)]
-    pub(crate) fn of_width(
+    pub fn of_width(
         &mut self,
         visible: &Visible,
         depth: u16,

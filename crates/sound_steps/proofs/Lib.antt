@@ -11,7 +11,7 @@ mod Turning
 mod Stating
 mod Ending
 mod Passing
-mod Naming
+pub mod Naming
 mod Calling
 mod Callees
 mod Elaborating

@@ -31,3 +31,8 @@ mod Targeting
 mod AssigningParts
 mod Deciding
 mod Widening
+mod Adding
+mod Opening
+mod Repeating
+mod Testing
+mod Putting

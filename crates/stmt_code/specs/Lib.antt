@@ -7,3 +7,5 @@ pub mod Counting
 pub mod Statements
 pub mod Standing
 pub mod Laws
+pub mod Lines
+pub mod Emitting

@@ -1,0 +1,294 @@
+-- Code of statements that was added: nothing, statements one behind another, jumps to the ways out, and lines.
+use Rattle.std.proofs.Common.{◌≡◌, ℕ, zero, suc, ◌+◌, ◌-◌, ◌<◌, ◌≤◌, ◌++◌, List, [], ◌∷◌, length, map, take, true, false, Option, Some, None, refl, sym, ap, ◌∙◌, subst, arith, rules}
+use Rattle.std.specs.Prelude.{get_or, nat_eq, slice_get}
+use Rattle.std.proofs.Math.Seq.{take-suc}
+use Rattle.ada_tree.specs.declared.statement.Stmt.{Stmt}
+use Rattle.ada_tree.specs.ExpressionTree.{ExprTree}
+use Rattle.ada_tree.specs.StatementTree as statements
+use Rattle.ada_tree.specs.StatementTree.{MoreStmts, NoHandlers, NoStmts, StmtTree, StmtTrees, stmt_tree, stmt_trees, stmts_of}
+use Rattle.ada_tree.specs.Size.{stmt_size, stmts_size}
+use Rattle.image.specs.Sections.{Sections}
+use Rattle.image.specs.Operations.{given_by, jump_target, taken_by}
+use Rattle.image.specs.Rules.{has_depth, has_operands, is_return, names_things, none_or}
+use Rattle.image.specs.declared.instruction.Operation.{Operation}
+use Rattle.image.specs.declared.instruction.Operation.TheVariants as op
+use Rattle.image.specs.declared.subprograms.Subprogram.{Subprogram}
+use Rattle.types.specs.Scopes.{Scope}
+use Rattle.types.specs.Statics.{start_of}
+use Rattle.expr_rules.specs.declared.own.Wanted.{Wanted}
+use Rattle.expr_rules.specs.ExpressionRules.{faults_in, faults_of}
+use Rattle.expr_rules.specs.NameRules.{mismatch}
+use Rattle.expr_rules.specs.Typing.{own_of}
+use Rattle.expr_rules.proofs.TypedLaw.{back_empty, front_empty}
+use Rattle.stmt_rules.specs.SimpleRules.{condition_faults, exit_rule, optional_condition_faults}
+use Rattle.stmt_rules.specs.StatementRules.{stmt_faults, stmts_faults}
+use Rattle.meaning.specs.Programs.{Program}
+use Rattle.expr_code.specs.Views.{At}
+use Rattle.expr_code.specs.Code.{Adds, Extends, Holds, StandsFrom, here}
+use Rattle.expr_code.specs.Emitting as expressions
+use Rattle.expr_code.specs.Emitting.{EmitsExpression}
+use Rattle.expr_code.specs.Flows.{AreKept}
+use Rattle.expr_code.specs.Computing.{Computes}
+use Rattle.expr_code.specs.Seeing.{Package, Sees, Suits, library_of}
+use Rattle.expr_code.specs.declared.code.Code.{Code}
+use Rattle.expr_code.specs.declared.visible.Visible.{Visible}
+use Rattle.expr_code.proofs.Flowing.{kept_one, kept_then, widened}
+use Rattle.expr_code.proofs.Growing.{added_at, added_extends, added_here, added_there, extends_self, extends_trans, holds_before, holds_later}
+use Rattle.stmt_code.specs.Emitting.{Allows, AreLegal, Emits, EmitsStatement, EmitsStatements, HasLabels, IsLegal, IsReached, Meant}
+use Rattle.stmt_code.specs.Resting.{Framed}
+use Rattle.stmt_code.specs.Statements.{AreStatements, IsStatement, Numbers, Ways}
+use Rattle.stmt_code.specs.declared.draft.Draft.{Draft}
+
+-- ---- lists
+
+pub mapped_next : {A B : Type 0} (f : A → B) (all : List A) (n : ℕ) (x : A) → n < length all → x ≡ get_or all n x
+    → map f (take (n + 1) all) ≡ map f (take n all) ++ f x ∷ []
+mapped_next f all n x less is =
+    let more : n + 1 ≡ suc n = omega arith in
+    ap (λ m. map f (take m all)) more ∙ ap (map f) (take-suc all n x less) ∙ last (take n all) (get_or all n x) ∙ ap (λ y. map f (take n all) ++ f y ∷ []) (sym is)
+  where
+    last : (xs : List _) (y : _) → map f (xs ++ y ∷ []) ≡ map f xs ++ f y ∷ []
+    last [] y = refl
+    last (z ∷ xs) y = ap (λ l. f z ∷ l) (last xs y)
+
+pub take_all : {A : Type 0} (xs : List A) (n : ℕ) → length xs ≤ n → take n xs ≡ xs
+take_all [] zero up = refl
+take_all [] (suc n) up = refl
+take_all (x ∷ xs) zero up = absurd (omega (arith, up))
+take_all (x ∷ xs) (suc n) up = ap (λ l. x ∷ l) (take_all xs n (omega (arith, up)))
+
+-- ---- labels
+
+pub labels_stay : (old new : List (List ℕ)) → new ≡ old → StandsFrom 0 old new
+labels_stay old new same = subst (λ l. StandsFrom 0 old l) (sym same) (λ k x le h. h)
+
+pub labels_before : (i : Sections) (old new : List (List ℕ)) → StandsFrom 0 old new → HasLabels i new → HasLabels i old
+labels_before i old new e h = record { labels = λ k x le is. h.labels k x le (e k x le is) }
+
+pub labels_then : (a b c : List (List ℕ)) → StandsFrom 0 a b → StandsFrom 0 b c → StandsFrom 0 a c
+labels_then a b c p q = λ k x le is. q k x le (p k x le is)
+
+-- ---- instructions of an image
+
+same_self : (n : ℕ) → nat_eq n n ≡ true
+same_self zero = refl
+same_self (suc n) = search rules
+
+pub depth_there : (i : Sections) (place depth : ℕ) (o : Operation) → slice_get i.instructions place ≡ Some (record { depth = depth; operation = o })
+    → has_depth i place depth ≡ true
+depth_there i place depth o there = ap (λ y. none_or y (λ x. nat_eq x.depth depth)) there ∙ same_self depth
+
+pub same_place : (o : Operation) (place a : ℕ) → jump_target o ≡ Some place → jump_target o ≡ Some a → a ≡ place
+same_place o place a is e = some_same a place (sym e ∙ is)
+  where
+    some_same : (x y : ℕ) → Some x ≡ Some y → x ≡ y
+    some_same x y e = cc
+
+-- a jump from an empty operand stack to a place that is reached
+pub jump_kept : (i : Sections) (s : Subprogram) (low high place to : ℕ) → slice_get i.instructions place ≡ Some (record { depth = 0; operation = op.Jump to })
+    → IsReached i low high to → AreKept i s low high place (suc place) 0
+jump_kept i s low high place to there r =
+    kept_one i s low high place 0 0 (op.Jump to) there (omega arith) (omega arith) refl refl (omega arith) (omega arith) refl (λ e. absurd cc)
+    (λ a e.
+    let same : a ≡ to = same_place (op.Jump to) to a refl e in
+    (omega (arith, same, r.down), omega (arith, same, r.up), ap (λ n. has_depth i n 0) same ∙ r.empty))
+
+module _ (v : Visible) where
+  -- ---- a value, and an instruction that takes it
+  module _ (a m c : Code) (e : ExprTree) (o : Operation) (p : EmitsExpression v a 0 1 e m) (q : Adds m 1 o c) where
+    pub value_extends : Extends a c
+    value_extends = extends_trans a m c p.extends (added_extends m c 1 o q)
+
+    pub value_kept : (i : Sections) (s : Subprogram) (low high : ℕ) → low ≤ here a → here c ≤ high → Holds i (here a) c → Suits v i s → c.deepest ≤ s.stack
+        → has_operands o ≡ true → names_things i s o ≡ true → taken_by i s.results o ≤ 1 → 1 - taken_by i s.results o + given_by i o ≡ 0 → is_return o ≡ false
+        → has_depth i (here c) 0 ≡ true
+        → ((t : ℕ) → jump_target o ≡ Some t → IsReached i low high t)
+        → AreKept i s low high (here a) (here c) 0
+    value_kept i s low high down up h suits deep operands names takes leaves is_none ends reached =
+        let next = added_here m c 1 o q in
+        let grows = added_extends m c 1 o q in
+        let within : 1 ≤ s.stack = omega (arith, q.within, deep) in
+        let last = kept_one i s low high (here m) 1 0 o (added_there m c 1 o q i (here a) p.extends.longer h) within (omega arith) operands names takes leaves is_none
+        (λ g. ap (λ n. has_depth i n 0) (sym next) ∙ ends)
+        (λ t g. let r = reached t g in (r.down, r.up, r.empty)) in
+        let first = p.flows.flows i s (holds_before i (here a) m c grows h) suits (omega (arith, grows.deeper, deep)) within last.begins in
+        kept_then i s low high (here a) (here m) (here c) 0 1
+        (widened i s (here a) (here m) low high (here a) (here m) 0 down (omega (arith, next, up)) first)
+        (subst (λ n. AreKept i s low high (here m) n 1) (sym next) last)
+
+  module _ (w : Ways) where
+    -- ---- nothing, and one behind the other
+    pub none_emits : (Is : Meant) (c : Draft) (size : ℕ)
+        → ((i : Sections) (program : Program) (g : Package) (numbers : Numbers) (f : Framed) (at : ℕ) → Is i program g numbers f at at) → Emits Is v w c size c
+    none_emits Is c size same = record {
+      extends = extends_self c.code;
+      labels = λ k x le h. h;
+      sized = omega arith;
+      stands = λ i h l program g numbers f names serves. same i program g numbers f (here c.code);
+      flows = λ i s low high down up h l suits deep ends ways.
+          record { begins = ends; shallow = omega arith; each = λ k x le less there. absurd (omega (arith, le, less)) };
+    }
+
+    pub emits_then : (P Q R : Meant) (a b c : Draft) (m n : ℕ)
+        → ((i : Sections) (program : Program) (g : Package) (numbers : Numbers) (f : Framed) (from mid to : ℕ) → from ≤ mid → mid ≤ to
+        → P i program g numbers f from mid → Q i program g numbers f mid to → R i program g numbers f from to)
+        → Emits P v w a m b → Emits Q v w b n c → Emits R v w a (m + n) c
+    emits_then P Q R a b c m n both p q = record {
+      extends = extends_trans a.code b.code c.code p.extends q.extends;
+      labels = labels_then a.labels b.labels c.labels p.labels q.labels;
+      sized = omega (arith, p.sized, q.sized);
+      stands = λ i h l program g numbers f names serves.
+          both i program g numbers f (here a.code) (here b.code) (here c.code) p.extends.longer q.extends.longer
+          (p.stands i (holds_before i (here a.code) b.code c.code q.extends h) (labels_before i b.labels c.labels q.labels l) program g numbers f names serves)
+          (q.stands i (holds_later i (here a.code) (here b.code) c.code p.extends.longer h) l program g numbers f names serves);
+      flows = λ i s low high down up h l suits deep ends ways.
+          let second = q.flows i s low high (omega (arith, down, p.extends.longer)) up (holds_later i (here a.code) (here b.code) c.code p.extends.longer h) l suits deep ends ways in
+          let first = p.flows i s low high down (omega (arith, up, q.extends.longer)) (holds_before i (here a.code) b.code c.code q.extends h)
+          (labels_before i b.labels c.labels q.labels l) suits (omega (arith, q.extends.deeper, deep)) second.begins ways in
+          kept_then i s low high (here a.code) (here b.code) (here c.code) 0 0 first second;
+    }
+
+    -- the same code, as what it also means, and with room
+    pub emits_as : (P Q : Meant) (a c : Draft) (m n : ℕ)
+        → ((i : Sections) (program : Program) (g : Package) (numbers : Numbers) (f : Framed) (from to : ℕ)
+        → P i program g numbers f from to → Q i program g numbers f from to)
+        → m ≤ n → Emits P v w a m c → Emits Q v w a n c
+    emits_as P Q a c m n means more p = record {
+      extends = p.extends;
+      labels = p.labels;
+      sized = omega (arith, p.sized, more);
+      stands = λ i h l program g numbers f names serves. means i program g numbers f (here a.code) (here c.code) (p.stands i h l program g numbers f names serves);
+      flows = p.flows;
+    }
+
+    -- ---- jumps to the ways out
+
+    jump_emits : (Is : Meant) (a c : Draft) (place size : ℕ) → 1 ≤ size
+        → ((i : Sections) (low high : ℕ) → Allows i low high w → IsReached i low high place)
+        → ((i : Sections) (program : Program) (g : Package) (numbers : Numbers) (f : Framed) (from : ℕ) → At i from (op.Jump place)
+        → Is i program g numbers f from (suc from))
+        → Adds a.code 0 (op.Jump place) c.code → c.labels ≡ a.labels → Emits Is v w a size c
+    jump_emits Is a c place size one reached means q same =
+        let next = added_here a.code c.code 0 (op.Jump place) q in
+        record {
+          extends = added_extends a.code c.code 0 (op.Jump place) q;
+          labels = labels_stay a.labels c.labels same;
+          sized = omega (arith, next, one);
+          stands = λ i h l program g numbers f names serves.
+              subst (λ n. Is i program g numbers f (here a.code) n) (sym next)
+              (means i program g numbers f (here a.code) (added_at a.code c.code 0 (op.Jump place) q i (here a.code) (omega arith) h));
+          flows = λ i s low high down up h l suits deep ends ways.
+              subst (λ n. AreKept i s low high (here a.code) n 0) (sym next)
+              (jump_kept i s low high (here a.code) place (added_there a.code c.code 0 (op.Jump place) q i (here a.code) (omega arith) h) (reached i low high ways));
+        }
+
+    pub exit_emits : (a c : Draft) (at place : ℕ) → w.exit ≡ Some place → Adds a.code 0 (op.Jump place) c.code → c.labels ≡ a.labels
+        → EmitsStatement v w a (statements.Exit at None) c
+    exit_emits a c at place way q same =
+        jump_emits (λ i program g numbers f from to. IsStatement i program g numbers f w from to (statements.Exit at None)) a c place 1 (omega arith)
+        (λ i low high ways. ways.exit place way) (λ i program g numbers f from there. (place, way, there, refl)) q same
+
+    pub return_emits : (a c : Draft) (at place : ℕ) → w.return ≡ Some place → Adds a.code 0 (op.Jump place) c.code → c.labels ≡ a.labels
+        → EmitsStatement v w a (statements.Return at None) c
+    return_emits a c at place way q same =
+        jump_emits (λ i program g numbers f from to. IsStatement i program g numbers f w from to (statements.Return at None)) a c place 1 (omega arith)
+        (λ i low high ways. ways.return place way) (λ i program g numbers f from there. (place, way, there, refl)) q same
+
+    pub exit_when_emits : (a c : Draft) (m : Code) (at place : ℕ) (e : ExprTree) → w.exit ≡ Some place → EmitsExpression v a.code 0 1 e m
+        → Adds m 1 (op.JumpIfNotZero place) c.code → c.labels ≡ a.labels → EmitsStatement v w a (statements.Exit at (Some e)) c
+    exit_when_emits a c m at place e way p q same =
+        let o = op.JumpIfNotZero place in
+        let next = added_here m c.code 1 o q in
+        let grows = added_extends m c.code 1 o q in
+        record {
+          extends = value_extends a.code m c.code e o p q;
+          labels = labels_stay a.labels c.labels same;
+          sized = omega (arith, next, p.sized);
+          stands = λ i h l program g numbers f names serves. (
+            place,
+            here m,
+            way,
+            p.extends.longer,
+            subst (λ x. Computes i (library_of g) (Sees g x) (here a.code) (here m) e) (sym names)
+                (p.computes i (holds_before i (here a.code) m c.code grows h) g),
+            added_at m c.code 1 o q i (here a.code) p.extends.longer h,
+            next,
+          );
+          flows = λ i s low high down up h l suits deep ends ways.
+              value_kept a.code m c.code e o p q i s low high down up h suits deep refl refl (omega arith) (omega arith) refl ends
+              (λ t g. subst (IsReached i low high) (sym (same_place o place t refl g)) (ways.exit place way));
+        }
+
+    -- ---- statements in a loop
+
+    statements_more : (i : Sections) (program : Program) (g : Package) (numbers : Numbers) (f : Framed) (xs : List StmtTree) (x : StmtTree) (from mid to : ℕ)
+        → from ≤ mid → mid ≤ to
+        → AreStatements i program g numbers f w from mid (stmts_of xs) → IsStatement i program g numbers f w mid to x
+        → AreStatements i program g numbers f w from to (stmts_of (xs ++ x ∷ []))
+    statements_more i program g numbers f [] x from mid to up over same last =
+        (to, omega (arith, up, over), omega arith, subst (λ n. IsStatement i program g numbers f w n to x) (sym same) last, refl)
+    statements_more i program g numbers f (y ∷ xs) x from mid to up over (at, one, two, first, rest) last =
+        (at, one, omega (arith, two, over), first, statements_more i program g numbers f xs x at mid to two over rest last)
+
+    sizes : (xs : List StmtTree) (x : StmtTree) → stmts_size (stmts_of (xs ++ x ∷ [])) ≡ stmts_size (stmts_of xs) + stmt_size x
+    sizes [] x = omega arith
+    sizes (y ∷ xs) x = let e = sizes xs x in omega (arith, e)
+
+    pub no_statements : (c : Draft) → EmitsStatements v w c NoStmts c
+    no_statements c = none_emits (λ i program g numbers f from to. AreStatements i program g numbers f w from to NoStmts) c 0 (λ i program g numbers f at. refl)
+
+    pub statements_next : (a b c : Draft) (all : List Stmt) (n : ℕ) (x : Stmt) → n < length all → x ≡ get_or all n x
+        → EmitsStatements v w a (stmt_trees (take n all)) b → EmitsStatement v w b (stmt_tree x) c → EmitsStatements v w a (stmt_trees (take (n + 1) all)) c
+    statements_next a b c all n x less is p q =
+        let front = map stmt_tree (take n all) in
+        let more = mapped_next stmt_tree all n x less is in
+        subst (λ l. EmitsStatements v w a (stmts_of l) c) (sym more)
+        (emits_as (λ i program g numbers f from to. AreStatements i program g numbers f w from to (stmts_of (front ++ stmt_tree x ∷ [])))
+        (λ i program g numbers f from to. AreStatements i program g numbers f w from to (stmts_of (front ++ stmt_tree x ∷ []))) a c
+        (stmts_size (stmts_of front) + stmt_size (stmt_tree x)) (stmts_size (stmts_of (front ++ stmt_tree x ∷ []))) (λ i program g numbers f from to h. h)
+        (let e = sizes front (stmt_tree x) in omega (arith, e))
+        (emits_then (λ i program g numbers f from to. AreStatements i program g numbers f w from to (stmts_of front))
+        (λ i program g numbers f from to. IsStatement i program g numbers f w from to (stmt_tree x))
+        (λ i program g numbers f from to. AreStatements i program g numbers f w from to (stmts_of (front ++ stmt_tree x ∷ []))) a b c
+        (stmts_size (stmts_of front)) (stmt_size (stmt_tree x))
+        (λ i program g numbers f from mid to up over one two. statements_more i program g numbers f front (stmt_tree x) from mid to up over one two) p q))
+
+    pub all_statements : (a c : Draft) (all : List Stmt) (n : ℕ) → length all ≤ n → EmitsStatements v w a (stmt_trees (take n all)) c
+        → EmitsStatements v w a (stmt_trees all) c
+    all_statements a c all n up p = subst (λ l. EmitsStatements v w a (stmt_trees l) c) (take_all all n up) p
+
+    -- ---- blocks that declare nothing and handle nothing
+    pub block_emits : (a c : Draft) (place : ℕ) (body : StmtTrees) → EmitsStatements v w a body c → EmitsStatement v w a (statements.Block place [] body NoHandlers) c
+    block_emits a c place body p = record {
+      extends = p.extends;
+      labels = p.labels;
+      sized = omega (arith, p.sized);
+      stands = λ i h l program g numbers f names serves.
+          (here a.code, f, omega arith, p.extends.longer, (refl, refl), p.stands i h l program g numbers f names serves);
+      flows = p.flows;
+    }
+
+-- ---- what is legal
+
+pub none_there : {A : Type 0} (xs : List A) → length xs ≡ 0 → xs ≡ []
+none_there [] e = refl
+none_there (x ∷ xs) e = absurd (omega (arith, e))
+
+pub wanted_legal : (s : Scope) (w : Wanted) (e : ExprTree) → faults_of s w e ≡ [] → expressions.IsLegal s e
+wanted_legal s w e h = record { wanted = w; unbroken = front_empty (faults_in s w e) (mismatch s w (own_of s e) (start_of e)) h }
+
+pub exit_condition : (s : Scope) (place : ℕ) (x : Option ExprTree) (e : ExprTree) → x ≡ Some e → IsLegal s (statements.Exit place x) → condition_faults s e ≡ []
+exit_condition s place x e is h =
+    back_empty (exit_rule h.around place) (condition_faults s e) (ap (λ y. exit_rule h.around place ++ optional_condition_faults s y) (sym is) ∙ h.unbroken)
+
+pub block_legal : (s : Scope) (place : ℕ) (body : StmtTrees) → IsLegal s (statements.Block place [] body NoHandlers) → AreLegal s body
+block_legal s place body h = record { around = h.around; unbroken = front_empty (stmts_faults s h.around body) [] h.unbroken }
+
+pub statement_legal : (s : Scope) (all : List Stmt) (n : ℕ) (x : Stmt) → n < length all → x ≡ get_or all n x → AreLegal s (stmt_trees all) → IsLegal s (stmt_tree x)
+statement_legal s all n x less is h = record { around = h.around; unbroken = at all n less is h.unbroken }
+  where
+    at : (all : List Stmt) (n : ℕ) → n < length all → x ≡ get_or all n x → stmts_faults s h.around (stmt_trees all) ≡ [] → stmt_faults s h.around (stmt_tree x) ≡ []
+    at [] n less is e = absurd (omega (arith, less))
+    at (y ∷ all) zero less is e = subst (λ z. stmt_faults s h.around (stmt_tree z) ≡ []) (sym is)
+        (front_empty (stmt_faults s h.around (stmt_tree y)) (stmts_faults s h.around (stmt_trees all)) e)
+    at (y ∷ all) (suc n) less is e = at all n (omega (arith, less)) is (back_empty (stmt_faults s h.around (stmt_tree y)) (stmts_faults s h.around (stmt_trees all)) e)

@@ -1,0 +1,484 @@
+-- Code whose jumps to its end wait for the place: parts of an `if`, one behind the other, and the whole.
+use Rattle.std.proofs.Common.{◌≡◌, ℕ, zero, suc, ◌+◌, ◌<◌, ◌≤◌, ◌++◌, List, [], ◌∷◌, length, map, take, Bool, true, false, ◌||◌, Some, refl, sym, ap, ◌∙◌, subst, arith, rules, ◌⊎◌, inl, inr}
+use Rattle.std.specs.Prelude.{get_or, nat_eq, slice_get}
+use Rattle.ada_tree.specs.declared.statement.ElsifPart.{ElsifPart}
+use Rattle.ada_tree.specs.ExpressionTree.{ExprTree, expr_tree}
+use Rattle.ada_tree.specs.StatementTree as statements
+use Rattle.ada_tree.specs.StatementTree.{ElsifTrees, MoreElsifs, NoElsifs, StmtTrees, elsif_tree, elsif_trees, elsifs_of, stmt_trees}
+use Rattle.ada_tree.specs.Size.{elsifs_size, stmt_size, stmts_size}
+use Rattle.image.specs.Sections.{Sections}
+use Rattle.image.specs.Rules.{has_depth}
+use Rattle.image.specs.declared.instruction.Instr.{Instr}
+use Rattle.image.specs.declared.instruction.Operation.{Operation}
+use Rattle.image.specs.declared.instruction.Operation.TheVariants as op
+use Rattle.types.specs.Places.{is_among}
+use Rattle.types.specs.Scopes.{Scope}
+use Rattle.expr_rules.proofs.TypedLaw.{back_empty, front_empty}
+use Rattle.stmt_rules.specs.SimpleRules.{condition_faults}
+use Rattle.stmt_rules.specs.StatementRules.{elsifs_faults, stmt_faults, stmts_faults}
+use Rattle.meaning.specs.Programs.{Program}
+use Rattle.expr_code.specs.Views.{At}
+use Rattle.expr_code.specs.Branches.{Closes, Joins, Rejoins}
+use Rattle.expr_code.specs.Code.{Adds, Extends, Holds, Patches, StandsFrom, here}
+use Rattle.expr_code.specs.Computing.{Computes}
+use Rattle.expr_code.specs.Emitting.{EmitsExpression}
+use Rattle.expr_code.specs.Flows.{AreKept}
+use Rattle.expr_code.specs.Seeing.{Package, Sees, library_of}
+use Rattle.expr_code.specs.declared.code.Code.{Code}
+use Rattle.expr_code.specs.declared.visible.Visible.{Visible}
+use Rattle.expr_code.proofs.Flowing.{kept_one, kept_then, widened}
+use Rattle.expr_code.proofs.Growing.{added_extends, added_here, extends_trans, get_last, patched_extends, patched_here, patched_other, patched_there}
+use Rattle.stmt_code.specs.Emitting.{AddsParts, AreLegal, AreLegalElsifs, AreParts, Emits, EmitsOpen, EmitsStatement, EmitsStatements, IsLegal, Meant, MeantTo, in_front}
+use Rattle.stmt_code.specs.Resting.{Framed}
+use Rattle.stmt_code.specs.Statements.{AreStatements, IsOtherwise, IsStatement, Numbers, Ways}
+use Rattle.stmt_code.specs.declared.draft.Draft.{Draft}
+use Rattle.stmt_code.proofs.Adding.{emits_as, jump_kept, labels_before, labels_stay, labels_then, mapped_next, same_place, take_all}
+
+-- ---- lists
+
+pub shorter : {X : Type 0} (xs : List X) (k : ℕ) (x : X) → slice_get xs k ≡ Some x → k < length xs
+shorter [] k x h = absurd cc
+shorter (y ∷ xs) zero x h = omega arith
+shorter (y ∷ xs) (suc k) x h = let below = shorter xs k x h in omega (arith, below)
+
+pub some_same : {X : Type 0} (x y : X) → Some x ≡ Some y → x ≡ y
+some_same x y e = cc
+
+same_nat : (a b : ℕ) → nat_eq a b ≡ true → a ≡ b
+same_nat a b e = search rules
+
+same_self : (n : ℕ) → nat_eq n n ≡ true
+same_self zero = refl
+same_self (suc n) = search rules
+
+append_again : {X : Type 0} (xs ys zs : List X) → (xs ++ ys) ++ zs ≡ xs ++ (ys ++ zs)
+append_again [] ys zs = refl
+append_again (x ∷ xs) ys zs = ap (λ l. x ∷ l) (append_again xs ys zs)
+
+append_none : {X : Type 0} (xs : List X) → xs ++ [] ≡ xs
+append_none [] = refl
+append_none (x ∷ xs) = ap (λ l. x ∷ l) (append_none xs)
+
+among_both : (a b : List ℕ) (k : ℕ) → is_among (a ++ b) k ≡ (is_among a k || is_among b k)
+among_both [] b k = refl
+among_both (n ∷ a) b k = ap (λ t. nat_eq n k || t) (among_both a b k) ∙ again (nat_eq n k) (is_among a k) (is_among b k)
+  where
+    again : (x y z : Bool) → (x || (y || z)) ≡ ((x || y) || z)
+    again true y z = refl
+    again false y z = refl
+
+one_of : (a b : Bool) → (a || b) ≡ true → (a ≡ true) ⊎ (b ≡ true)
+one_of true b e = inl refl
+one_of false b e = inr e
+
+-- the only place that waits
+alone : (n k : ℕ) → is_among (n ∷ []) k ≡ true → k ≡ n
+alone n k e = by (nat_eq n k) refl e
+  where
+    by : (t : Bool) → nat_eq n k ≡ t → (t || false) ≡ true → k ≡ n
+    by true is e = sym (same_nat n k is)
+    by false is e = absurd cc
+
+not_alone : (n k : ℕ) → k < n → is_among (n ∷ []) k ≡ false
+not_alone n k less = by (nat_eq n k) refl
+  where
+    by : (t : Bool) → nat_eq n k ≡ t → (t || false) ≡ false
+    by true e = absurd (let same : n ≡ k = same_nat n k e in omega (arith, less, same))
+    by false e = refl
+
+none_before : (waiting : List ℕ) (n k : ℕ) → ((m : ℕ) → is_among waiting m ≡ true → n ≤ m) → k < n → is_among waiting k ≡ false
+none_before waiting n k inside less = by (is_among waiting k) refl
+  where
+    by : (t : Bool) → is_among waiting k ≡ t → is_among waiting k ≡ false
+    by true e = absurd (omega (arith, less, inside k e))
+    by false e = e
+
+none_behind : (waiting : List ℕ) (n k : ℕ) → ((m : ℕ) → is_among waiting m ≡ true → m < n) → n ≤ k → is_among waiting k ≡ false
+none_behind waiting n k inside up = by (is_among waiting k) refl
+  where
+    by : (t : Bool) → is_among waiting k ≡ t → is_among waiting k ≡ false
+    by true e = absurd (omega (arith, up, inside k e))
+    by false e = e
+
+-- ---- instructions that were added or patched
+
+pub added_is : (old new : Code) (depth : ℕ) (o : Operation) → Adds old depth o new
+    → slice_get new.instructions.items (here old) ≡ Some (record { depth = depth; operation = o })
+added_is old new depth o a = ap (λ l. slice_get l (here old)) a.instructions ∙ get_last old.instructions.items _
+
+pub patched_is : (old new : Code) (place : ℕ) (o : Operation) → Patches old place o new → (x : Instr) → slice_get old.instructions.items place ≡ Some x
+    → slice_get new.instructions.items place ≡ Some (record { depth = x.depth; operation = o })
+patched_is old new place o p x there =
+    patched_there old new place o p ∙ ap (λ z. Some (record { depth = z.depth; operation = o })) (some_same p.before x (sym p.there ∙ there))
+
+module _ (v : Visible) (w : Ways) where
+  -- ---- one behind the other
+
+  pub opened : (Is : Meant) (a c : Draft) (size : ℕ) → Emits Is v w a size c
+      → EmitsOpen (λ i program g numbers f end from to. Is i program g numbers f from to) v w 0 a size [] c
+  opened Is a c size p = record {
+    extends = p.extends;
+    labels = p.labels;
+    sized = p.sized;
+    inside = λ k is. absurd cc;
+    waits = λ k is. absurd cc;
+    stands = λ i end up j l program g numbers f names serves. p.stands i (λ k x le is. j.others k x le refl is) l program g numbers f names serves;
+    flows = λ i s low high end down up over j l suits deep shallow ends next ways.
+        p.flows i s low high down (omega (arith, up, over)) (λ k x le is. j.others k x le refl is) l suits deep next ways;
+  }
+
+  module _ (P Q R : MeantTo) (depth : ℕ) (a b c : Draft) (m n : ℕ) (first second : List ℕ)
+      (both : (i : Sections) (program : Program) (g : Package) (numbers : Numbers) (f : Framed) (end from mid to : ℕ) → from ≤ mid → mid ≤ to → to ≤ end
+      → P i program g numbers f end from mid → Q i program g numbers f end mid to → R i program g numbers f end from to)
+      (p : EmitsOpen P v w depth a m first b) (q : EmitsOpen Q v w depth b n second c) where
+    joins_before : (i : Sections) (end : ℕ) → Joins i (here a.code) (first ++ second) end 0 c.code → Joins i (here a.code) first end 0 b.code
+    joins_before i end j = record {
+      others = λ k x le none is.
+          j.others k x le
+          (among_both first second k
+          ∙ (λ t. none t || none_before second (here b.code) k (λ m e. (q.inside m e).0) (shorter b.code.instructions.items k x is) t))
+          (q.extends.instructions k x (omega arith) is);
+      jumps = λ k is. j.jumps k (among_both first second k ∙ ap (λ t. t || is_among second k) is);
+    }
+
+    joins_behind : (i : Sections) (end : ℕ) → Joins i (here a.code) (first ++ second) end 0 c.code → Joins i (here b.code) second end 0 c.code
+    joins_behind i end j = record {
+      others = λ k x le none is.
+          j.others k x (omega (arith, le, p.extends.longer))
+          (among_both first second k ∙ (λ t. none_behind first (here b.code) k (λ m e. (p.inside m e).1) le t || none t)) is;
+      jumps = λ k is. j.jumps k (among_both first second k ∙ ap (λ t. is_among first k || t) is ∙ last (is_among first k));
+    }
+      where
+        last : (t : Bool) → (t || true) ≡ true
+        last true = refl
+        last false = refl
+
+    pub open_then : EmitsOpen R v w depth a (m + n) (first ++ second) c
+    open_then = record {
+      extends = extends_trans a.code b.code c.code p.extends q.extends;
+      labels = labels_then a.labels b.labels c.labels p.labels q.labels;
+      sized = omega (arith, p.sized, q.sized);
+      inside = λ k is. within k (one_of (is_among first k) (is_among second k) (sym (among_both first second k) ∙ is));
+      waits = λ k is. waiting k (one_of (is_among first k) (is_among second k) (sym (among_both first second k) ∙ is));
+      stands = λ i end up j l program g numbers f names serves.
+          both i program g numbers f end (here a.code) (here b.code) (here c.code) p.extends.longer q.extends.longer up
+          (p.stands i end (omega (arith, q.extends.longer, up)) (joins_before i end j) (labels_before i b.labels c.labels q.labels l) program g numbers f names serves)
+          (q.stands i end up (joins_behind i end j) l program g numbers f names serves);
+      flows = λ i s low high end down up over j l suits deep shallow ends next ways.
+          let more = q.flows i s low high end (omega (arith, down, p.extends.longer)) up over (joins_behind i end j) l suits deep shallow ends next ways in
+          let most = p.flows i s low high end down (omega (arith, q.extends.longer, up)) over (joins_before i end j) (labels_before i b.labels c.labels q.labels l)
+          suits (omega (arith, q.extends.deeper, deep)) shallow ends more.begins ways in
+          kept_then i s low high (here a.code) (here b.code) (here c.code) depth depth most more;
+    }
+      where
+        within : (k : ℕ) → (is_among first k ≡ true) ⊎ (is_among second k ≡ true) → (here a.code ≤ k) × (k < here c.code)
+        within k (inl e) = let x = p.inside k e in (x.0, omega (arith, x.1, q.extends.longer))
+        within k (inr e) = let x = q.inside k e in (omega (arith, x.0, p.extends.longer), x.1)
+
+        waiting : (k : ℕ) → (is_among first k ≡ true) ⊎ (is_among second k ≡ true)
+            → slice_get c.code.instructions.items k ≡ Some (record { depth = 0; operation = op.Jump 0 })
+        waiting k (inl e) = q.extends.instructions k _ (omega arith) (p.waits k e)
+        waiting k (inr e) = q.waits k e
+
+  -- ---- the end, to which the jumps lead then
+  module _ (P : MeantTo) (R : Meant) (a c d : Draft) (size : ℕ) (waiting : List ℕ)
+      (means : (i : Sections) (program : Program) (g : Package) (numbers : Numbers) (f : Framed) (from to : ℕ)
+      → P i program g numbers f to from to → R i program g numbers f from to)
+      (p : EmitsOpen P v w 0 a size waiting c) (r : Rejoins c.code waiting (here c.code) d.code) (same : d.labels ≡ c.labels) where
+    joins : (i : Sections) → Holds i (here a.code) d.code → Joins i (here a.code) waiting (here c.code) 0 c.code
+    joins i h = record {
+      others = λ k x le none is. h k x le (r.others k none ∙ is);
+      jumps = λ k is. h k _ (p.inside k is).0 (r.jumps k (record { depth = 0; operation = op.Jump 0 }) is (p.waits k is));
+    }
+
+    joined_extends : Extends a.code d.code
+    joined_extends = record {
+      instructions = λ k x le is.
+          r.others k (none_before waiting (here a.code) k (λ m e. (p.inside m e).0) (shorter a.code.instructions.items k x is)) ∙ p.extends.instructions k x le is;
+      longer = omega (arith, p.extends.longer, r.long);
+      deeper = omega (arith, p.extends.deeper, ap (λ n. n) r.deepest);
+    }
+
+    pub joined : Emits R v w a size d
+    joined = record {
+      extends = joined_extends;
+      labels = labels_then a.labels c.labels d.labels p.labels (labels_stay c.labels d.labels same);
+      sized = omega (arith, p.sized, r.long);
+      stands = λ i h l program g numbers f names serves.
+          subst (λ n. R i program g numbers f (here a.code) n) (sym r.long)
+          (means i program g numbers f (here a.code) (here c.code)
+          (p.stands i (here c.code) (omega arith) (joins i h) (labels_before i c.labels d.labels (labels_stay c.labels d.labels same) l) program g numbers f names serves));
+      flows = λ i s low high down up h l suits deep ends ways.
+          let empty = ap (λ n. has_depth i n 0) (sym r.long) ∙ ends in
+          subst (λ n. AreKept i s low high (here a.code) n 0) (sym r.long)
+          (p.flows i s low high (here c.code) down (omega arith) (omega (arith, up, r.long)) (joins i h)
+          (labels_before i c.labels d.labels (labels_stay c.labels d.labels same) l) suits
+          (omega (arith, deep, ap (λ n. n) r.deepest)) (omega arith) empty empty ways);
+    }
+
+  -- ---- a condition and the statements for it
+  module _ (start jumped valued new : Draft) (tested : Code) (e : ExprTree) (body : StmtTrees)
+      (first : EmitsExpression v start.code 0 1 e tested) (jump : Adds tested 1 (op.JumpIfZero 0) jumped.code) (same : jumped.labels ≡ start.labels)
+      (second : EmitsStatements v w jumped body valued)
+      (closed : Code) (close : Adds valued.code 0 (op.Jump 0) closed) (patch : Patches closed (here tested) (op.JumpIfZero (here closed)) new.code)
+      (still : new.labels ≡ valued.labels) where
+    abbrev n : ℕ
+    n = here closed
+
+    two : here jumped.code ≡ suc (here tested)
+    two = added_here tested jumped.code 1 (op.JumpIfZero 0) jump
+
+    four : here closed ≡ suc (here valued.code)
+    four = added_here valued.code closed 0 (op.Jump 0) close
+
+    end_is : here new.code ≡ here closed
+    end_is = patched_here closed new.code (here tested) (op.JumpIfZero n) patch
+
+    closing : Extends valued.code closed
+    closing = added_extends valued.code closed 0 (op.Jump 0) close
+
+    jumped_extends : Extends jumped.code closed
+    jumped_extends = extends_trans jumped.code valued.code closed second.extends closing
+
+    tested_extends : Extends tested new.code
+    tested_extends = patched_extends closed new.code (here tested) (op.JumpIfZero n) patch tested (omega arith)
+        (extends_trans tested jumped.code closed (added_extends tested jumped.code 1 (op.JumpIfZero 0) jump) jumped_extends)
+
+    test_there : slice_get new.code.instructions.items (here tested) ≡ Some (record { depth = 1; operation = op.JumpIfZero n })
+    test_there = patched_is closed new.code (here tested) (op.JumpIfZero n) patch (record { depth = 1; operation = op.JumpIfZero 0 })
+        (jumped_extends.instructions (here tested) _ (omega arith) (added_is tested jumped.code 1 (op.JumpIfZero 0) jump))
+
+    close_there : slice_get new.code.instructions.items (here valued.code) ≡ Some (record { depth = 0; operation = op.Jump 0 })
+    close_there = patched_other closed new.code (here tested) (op.JumpIfZero n) patch (here valued.code) (λ e. absurd (omega (arith, e, two, second.extends.longer)))
+        ∙ added_is valued.code closed 0 (op.Jump 0) close
+
+    labels_on : StandsFrom 0 start.labels valued.labels
+    labels_on = labels_then start.labels jumped.labels valued.labels (labels_stay start.labels jumped.labels same) second.labels
+
+    module _ (i : Sections) (end : ℕ) (up : here new.code ≤ end) (j : Joins i (here start.code) (here valued.code ∷ []) end 0 new.code) where
+      in_tested : Holds i (here start.code) tested
+      in_tested = λ k y le is.
+          j.others k y le (not_alone (here valued.code) k (let less = shorter tested.instructions.items k y is in omega (arith, less, two, second.extends.longer)))
+          (tested_extends.instructions k y (omega arith) is)
+
+      in_valued : Holds i (here jumped.code) valued.code
+      in_valued = λ k y le is.
+          let less = shorter valued.code.instructions.items k y is in
+          j.others k y (omega (arith, le, two, first.extends.longer)) (not_alone (here valued.code) k less)
+          (patched_other closed new.code (here tested) (op.JumpIfZero n) patch k (λ e. absurd (omega (arith, e, le, two))) ∙ closing.instructions k y (omega arith) is)
+
+      at_test : slice_get i.instructions (here tested) ≡ Some (record { depth = 1; operation = op.JumpIfZero n })
+      at_test = j.others (here tested) _ first.extends.longer (not_alone (here valued.code) (here tested) (omega (arith, two, second.extends.longer))) test_there
+
+      at_close : slice_get i.instructions (here valued.code) ≡ Some (record { depth = 0; operation = op.Jump end })
+      at_close = j.jumps (here valued.code) (ap (λ t. t || false) (same_self (here valued.code)))
+
+      up_is : n ≤ end
+      up_is = omega (arith, up, end_is)
+
+    pub branch_emits : EmitsOpen (AreParts w ((e, body) ∷ [])) v w 0 start (elsifs_size (elsifs_of ((e, body) ∷ []))) (here valued.code ∷ []) new
+    branch_emits = record {
+      extends = extends_trans start.code tested new.code first.extends tested_extends;
+      labels = labels_then start.labels valued.labels new.labels labels_on (labels_stay valued.labels new.labels still);
+      sized = omega (arith, first.sized, second.sized, two, four, end_is);
+      inside = λ k is. let at = alone (here valued.code) k is in (omega (arith, at, first.extends.longer, two, second.extends.longer), omega (arith, at, four, end_is));
+      waits = λ k is. ap (slice_get new.code.instructions.items) (alone (here valued.code) k is) ∙ close_there;
+      stands = λ i end up j l program g numbers f names serves rest others code.
+          let next : n ≡ suc (here valued.code) = four in (
+            here tested,
+            here valued.code,
+            first.extends.longer,
+            omega (arith, two, second.extends.longer),
+            omega (arith, four, up_is i end up j),
+            subst (λ x. Computes i (library_of g) (Sees g x) (here start.code) (here tested) e) (sym names) (first.computes i (in_tested i end up j) g),
+            subst (λ m. At i (here tested) (op.JumpIfZero m)) next (1, at_test i end up j),
+            subst (λ m. AreStatements i program g numbers f w m (here valued.code) body) two
+                (second.stands i (in_valued i end up j)
+                (labels_before i valued.labels new.labels (labels_stay valued.labels new.labels still) l) program g numbers f names serves),
+            (0, at_close i end up j),
+            subst (λ m. IsOtherwise i program g numbers f w m end rest (λ x y. AreStatements i program g numbers f w x y others)) (end_is ∙ four) code,
+          );
+      flows = λ i s low high end down up over j l suits deep shallow ends next ways.
+          let to : n ≡ here new.code = sym end_is in
+          let deepest : closed.deepest ≤ s.stack = omega (arith, ap (λ m. m) patch.deepest, deep) in
+          let one : 1 ≤ s.stack = omega (arith, jump.within, jumped_extends.deeper, deepest) in
+          let closes = jump_kept i s low high (here valued.code) end (at_close i end up j)
+          (record { down = omega (arith, down, up, end_is, four, second.extends.longer, two, first.extends.longer); up = over; empty = ends }) in
+          let in_body = second.flows i s low high (omega (arith, down, two, first.extends.longer)) (omega (arith, up, over, end_is, four))
+          (in_valued i end up j) (labels_before i valued.labels new.labels (labels_stay valued.labels new.labels still) l) suits
+          (omega (arith, closing.deeper, deepest)) closes.begins ways in
+          let testing = kept_one i s low high (here tested) 1 0 (op.JumpIfZero n) (at_test i end up j) one (omega arith) refl refl (omega arith) (omega arith) refl
+          (λ g. ap (λ m. has_depth i m 0) (sym two) ∙ in_body.begins)
+          (λ t g. let same : t ≡ here new.code = same_place (op.JumpIfZero n) n t refl g ∙ to in (
+            omega (arith, same, end_is, four, second.extends.longer, two, first.extends.longer, down),
+            omega (arith, same, up, over),
+            ap (λ m. has_depth i m 0) same ∙ next,
+          )) in
+          let in_test = first.flows.flows i s (in_tested i end up j) suits (omega (arith, tested_extends.deeper, deep)) one testing.begins in
+          let test_kept = widened i s (here start.code) (here tested) low high (here start.code) (here tested) 0 down
+          (omega (arith, two, second.extends.longer, four, end_is, up, over)) in_test in
+          subst (λ m. AreKept i s low high (here start.code) m 0) (sym (end_is ∙ four))
+          (kept_then i s low high (here start.code) (here valued.code) (suc (here valued.code)) 0 0
+          (kept_then i s low high (here start.code) (here jumped.code) (here valued.code) 0 0
+          (kept_then i s low high (here start.code) (here tested) (here jumped.code) 0 1 test_kept
+          (subst (λ m. AreKept i s low high (here tested) m 1) (sym two) testing)) in_body) closes);
+    }
+
+  -- ---- parts of an `if`, as methods add them
+
+  front : (xs ys : List (ExprTree × StmtTrees)) (rest : ElsifTrees) → in_front (xs ++ ys) rest ≡ in_front xs (in_front ys rest)
+  front [] ys rest = refl
+  front (x ∷ xs) ys rest = ap (MoreElsifs x.0 x.1) (front xs ys rest)
+
+  none_front : (xs : List (ExprTree × StmtTrees)) → in_front xs NoElsifs ≡ elsifs_of xs
+  none_front [] = refl
+  none_front (x ∷ xs) = ap (MoreElsifs x.0 x.1) (none_front xs)
+
+  sizes : (xs ys : List (ExprTree × StmtTrees)) → elsifs_size (elsifs_of (xs ++ ys)) ≡ elsifs_size (elsifs_of xs) + elsifs_size (elsifs_of ys)
+  sizes [] ys = omega arith
+  sizes (x ∷ xs) ys = let e = sizes xs ys in omega (arith, e)
+
+  pub no_parts : (c : Draft) (waiting : List ℕ) → AddsParts v w c [] waiting waiting c
+  no_parts c waiting = record {
+    waiting = [];
+    after_is = sym (append_none waiting);
+    emits = record {
+      extends = record { instructions = λ k x le h. h; longer = omega arith; deeper = omega arith };
+      labels = λ k x le h. h;
+      sized = omega arith;
+      inside = λ k is. absurd cc;
+      waits = λ k is. absurd cc;
+      stands = λ i end up j l program g numbers f names serves rest others code. code;
+      flows = λ i s low high end down up over j l suits deep shallow ends next ways.
+          record { begins = next; shallow = omega (arith, shallow); each = λ k x le less there. absurd (omega (arith, le, less)) };
+    };
+  }
+
+  pub parts_then : (a b c : Draft) (one two : List (ExprTree × StmtTrees)) (before mid after : List ℕ) → AddsParts v w a one before mid b → AddsParts v w b two mid after c
+      → AddsParts v w a (one ++ two) before after c
+  parts_then a b c one two before mid after p q = record {
+    waiting = p.waiting ++ q.waiting;
+    after_is = q.after_is ∙ ap (λ l. l ++ q.waiting) p.after_is ∙ append_again before p.waiting q.waiting;
+    emits = subst (λ n. EmitsOpen (AreParts w (one ++ two)) v w 0 a n (p.waiting ++ q.waiting) c) (sym (sizes one two))
+        (open_then (AreParts w one) (AreParts w two) (AreParts w (one ++ two)) 0 a b c (elsifs_size (elsifs_of one)) (elsifs_size (elsifs_of two)) p.waiting q.waiting
+        (λ i program g numbers f end from m to up over within x y rest others code.
+        subst (λ t. IsOtherwise i program g numbers f w from end t (λ x y. AreStatements i program g numbers f w x y others)) (sym (front one two rest))
+        (x (in_front two rest) others (y rest others code))) p.emits q.emits);
+  }
+
+  pub branch_closed : (start jumped valued new : Draft) (tested : Code) (e : ExprTree) (body : StmtTrees) (place : ℕ) (before after : List ℕ) → place ≡ here tested
+      → EmitsExpression v start.code 0 1 e tested → Adds tested 1 (op.JumpIfZero 0) jumped.code → jumped.labels ≡ start.labels
+      → EmitsStatements v w jumped body valued
+      → Closes valued.code 0 place before after new.code → new.labels ≡ valued.labels
+      → AddsParts v w start ((e, body) ∷ []) before after new
+  branch_closed start jumped valued new tested e body place before after there first jump same second c still = record {
+    waiting = here valued.code ∷ [];
+    after_is = c.waits;
+    emits = branch_emits start jumped valued new tested e body first jump same second c.closed c.adds
+        (subst (λ n. Patches c.closed n (op.JumpIfZero (here c.closed)) new.code) there c.patches) still;
+  }
+
+  pub parts_next : (a b c : Draft) (all : List ElsifPart) (n : ℕ) (x : ElsifPart) (before mid after : List ℕ) → n < length all → x ≡ get_or all n x
+      → AddsParts v w a (map elsif_tree (take n all)) before mid b
+      → AddsParts v w b ((expr_tree x.condition, stmt_trees x.statements.items) ∷ []) mid after c
+      → AddsParts v w a (map elsif_tree (take (n + 1) all)) before after c
+  parts_next a b c all n x before mid after less is p q =
+      subst (λ l. AddsParts v w a l before after c) (sym (mapped_next elsif_tree all n x less is))
+      (parts_then a b c (map elsif_tree (take n all)) (elsif_tree x ∷ []) before mid after p q)
+
+  pub all_parts : (a c : Draft) (all : List ElsifPart) (n : ℕ) (before after : List ℕ) → length all ≤ n → AddsParts v w a (map elsif_tree (take n all)) before after c
+      → AddsParts v w a (map elsif_tree all) before after c
+  all_parts a c all n before after up p = subst (λ l. AddsParts v w a (map elsif_tree l) before after c) (take_all all n up) p
+
+  -- ---- the whole
+  module _ (start one parted c d : Draft) (place : ℕ) (e : ExprTree) (body : StmtTrees) (elsifs : List ElsifPart) (others : StmtTrees) (none first all places : List ℕ)
+      (is_none : none ≡ []) (same : places ≡ all)
+      (p : AddsParts v w start ((e, body) ∷ []) none first one) (q : AddsParts v w one (map elsif_tree elsifs) first all parted)
+      (o : EmitsStatements v w parted others c) where
+    abbrev parts : List (ExprTree × StmtTrees)
+    parts = (e, body) ∷ map elsif_tree elsifs
+
+    both : AddsParts v w start parts [] all parted
+    both = parts_then start one parted ((e, body) ∷ []) (map elsif_tree elsifs) [] first all
+        (subst (λ l. AddsParts v w start ((e, body) ∷ []) l first one) is_none p) q
+
+    pub waiting_there : (k : ℕ) → is_among places k ≡ true → k < here c.code
+    waiting_there k is =
+        let inside = both.emits.inside k (ap (λ l. is_among l k) (sym both.after_is ∙ sym same) ∙ is) in
+        omega (arith, inside.1, o.extends.longer)
+
+    abbrev Whole : MeantTo
+    Whole i program g numbers f end from to = to ≡ end → IsStatement i program g numbers f w from end (statements.If place e body (elsif_trees elsifs) others)
+
+    ended : EmitsOpen Whole v w 0 start (elsifs_size (elsifs_of parts) + stmts_size others) (both.waiting ++ []) c
+    ended = open_then (AreParts w parts) (λ i program g numbers f end from to. AreStatements i program g numbers f w from to others) Whole 0 start parted c
+        (elsifs_size (elsifs_of parts)) (stmts_size others) both.waiting []
+        (λ i program g numbers f end from mid to up over within x y last.
+        subst (λ t. IsOtherwise i program g numbers f w from end t (λ x y. AreStatements i program g numbers f w x y others)) (none_front parts)
+        (x NoElsifs others (subst (λ m. AreStatements i program g numbers f w mid m others) last y)))
+        both.emits (opened (λ i program g numbers f from to. AreStatements i program g numbers f w from to others) parted c (stmts_size others) o)
+
+    waiting_is : both.waiting ++ [] ≡ places
+    waiting_is = append_none both.waiting ∙ sym both.after_is ∙ sym same
+
+    pub if_emits : (n : ℕ) → n ≡ here c.code → Rejoins c.code places n d.code → d.labels ≡ c.labels
+        → EmitsStatement v w start (statements.If place e body (elsif_trees elsifs) others) d
+    if_emits n n_is r still =
+        emits_as v w (λ i program g numbers f from to. IsStatement i program g numbers f w from to (statements.If place e body (elsif_trees elsifs) others))
+        (λ i program g numbers f from to. IsStatement i program g numbers f w from to (statements.If place e body (elsif_trees elsifs) others)) start d
+        (elsifs_size (elsifs_of parts) + stmts_size others) (stmt_size (statements.If place e body (elsif_trees elsifs) others))
+        (λ i program g numbers f from to h. h) (omega arith)
+        (joined Whole (λ i program g numbers f from to. IsStatement i program g numbers f w from to (statements.If place e body (elsif_trees elsifs) others)) start c d
+        (elsifs_size (elsifs_of parts) + stmts_size others) places (λ i program g numbers f from to h. h refl)
+        (subst (λ l. EmitsOpen Whole v w 0 start (elsifs_size (elsifs_of parts) + stmts_size others) l c) waiting_is ended)
+        (subst (λ m. Rejoins c.code places m d.code) n_is r) still)
+
+-- ---- what is legal
+
+module _ (s : Scope) (x : statements.StmtTree) (place : ℕ) (e : ExprTree) (body : StmtTrees) (elsifs : ElsifTrees) (others : StmtTrees)
+    (is : x ≡ statements.If place e body elsifs others) (h : IsLegal s x) where
+  whole : stmt_faults s h.around (statements.If place e body elsifs others) ≡ []
+  whole = ap (stmt_faults s h.around) (sym is) ∙ h.unbroken
+
+  three_faults : ((condition_faults s e ++ stmts_faults s h.around body) ++ elsifs_faults s h.around elsifs) ≡ []
+  three_faults = front_empty ((condition_faults s e ++ stmts_faults s h.around body) ++ elsifs_faults s h.around elsifs) (stmts_faults s h.around others) whole
+
+  two_faults : (condition_faults s e ++ stmts_faults s h.around body) ≡ []
+  two_faults = front_empty (condition_faults s e ++ stmts_faults s h.around body) (elsifs_faults s h.around elsifs) three_faults
+
+  pub if_condition : condition_faults s e ≡ []
+  if_condition = front_empty (condition_faults s e) (stmts_faults s h.around body) two_faults
+
+  pub if_body : AreLegal s body
+  if_body = record { around = h.around; unbroken = back_empty (condition_faults s e) (stmts_faults s h.around body) two_faults }
+
+  pub if_elsifs : AreLegalElsifs s elsifs
+  if_elsifs = record {
+    around = h.around;
+    unbroken = back_empty (condition_faults s e ++ stmts_faults s h.around body) (elsifs_faults s h.around elsifs) three_faults;
+  }
+
+  pub if_others : AreLegal s others
+  if_others = record {
+    around = h.around;
+    unbroken = back_empty ((condition_faults s e ++ stmts_faults s h.around body) ++ elsifs_faults s h.around elsifs) (stmts_faults s h.around others) whole;
+  }
+
+pub record PartIsLegal (s : Scope) (x : ElsifPart) : Type 0 where
+  pub condition : condition_faults s (expr_tree x.condition) ≡ []
+  pub body : AreLegal s (stmt_trees x.statements.items)
+
+pub part_legal : (s : Scope) (all : List ElsifPart) (n : ℕ) (x : ElsifPart) → n < length all → x ≡ get_or all n x → AreLegalElsifs s (elsif_trees all)
+    → PartIsLegal s x
+part_legal s all n x less is h = at all n less is h.unbroken
+  where
+    at : (all : List ElsifPart) (n : ℕ) → n < length all → x ≡ get_or all n x → elsifs_faults s h.around (elsif_trees all) ≡ [] → PartIsLegal s x
+    at [] n less is e = absurd (omega (arith, less))
+    at (y ∷ all) zero less is e =
+        let c = condition_faults s (expr_tree y.condition) in
+        let b = stmts_faults s h.around (stmt_trees y.statements.items) in
+        let two = front_empty (c ++ b) (elsifs_faults s h.around (elsif_trees all)) e in
+        subst (PartIsLegal s) (sym is) (record { condition = front_empty c b two; body = record { around = h.around; unbroken = back_empty c b two } })
+    at (y ∷ all) (suc n) less is e =
+        at all n (omega (arith, less)) is
+        (back_empty (condition_faults s (expr_tree y.condition) ++ stmts_faults s h.around (stmt_trees y.statements.items)) (elsifs_faults s h.around (elsif_trees all)) e)

@@ -1,0 +1,200 @@
+-- Code of lines: the value, and the instruction that writes it with a label.
+use Rattle.std.proofs.Common.{◌≡◌, ℕ, suc, ◌<◌, ◌≤◌, List, [], ◌∷◌, length, true, Option, Some, None, refl, sym, ap, ◌∙◌, subst, arith, rules}
+use Rattle.std.specs.Prelude.{nat_lt, slice_get}
+use Rattle.ada_tree.specs.declared.expression.Argument.{Argument}
+use Rattle.ada_tree.specs.declared.expression.Argument as arguments
+use Rattle.ada_tree.specs.declared.expression.Selector.{Selector}
+use Rattle.ada_tree.specs.declared.expression.Selector as selectors
+use Rattle.ada_tree.specs.ExpressionTree as tree
+use Rattle.ada_tree.specs.ExpressionTree.{ArgumentTrees, Arguments, Attribute, Component, ExprTree, MoreArguments, MoreSelectors, NameTree, NoArguments, NoSelectors, SelectorTrees, Text, argument_trees, selector_trees}
+use Rattle.ada_tree.specs.StatementTree as statements
+use Rattle.ada_tree.specs.Size.{selectors_size}
+use Rattle.image.specs.Sections.{Sections}
+use Rattle.image.specs.Texts.{text_or_none}
+use Rattle.image.specs.declared.instruction.Operation.TheVariants as op
+use Rattle.types.specs.Entities.{Entity, OfType, OfSubtype, Object, Constant, Literal, Exception, Subprogram as SubprogramEntity, Entry, Predefined, Put, Task, Protected, LibraryUnit, Doubtful}
+use Rattle.types.specs.Scopes.{Scope, base_range_of, integer_type, number_of}
+use Rattle.types.specs.Standings.{stands_first, stands_for}
+use Rattle.types.specs.declared.standing.Standing.TheVariants as standing
+use Rattle.expr_rules.proofs.TypedLaw.{back_empty, front_empty}
+use Rattle.expr_rules.specs.declared.own.Wanted.TheVariants.{OfType as WantsType}
+use Rattle.expr_rules.specs.ExpressionRules.{faults_of, name_faults, selectors_faults}
+use Rattle.type_rules.specs.SubtypeNames.{entity_at_or_none}
+use Rattle.meaning.specs.Calls.{callee_by, callee_with}
+use Rattle.meaning.specs.Programs.{Program}
+use Rattle.sound_steps.specs.Fitting.{entity_named}
+use Rattle.sound_steps.proofs.Naming.{put_called}
+use Rattle.expr_code.specs.Code.{Adds, Holds, StandsFrom, here}
+use Rattle.expr_code.specs.Computing.{Computes}
+use Rattle.expr_code.specs.Emitting.{EmitsExpression}
+use Rattle.expr_code.specs.Seeing.{Package, Sees, library_of}
+use Rattle.expr_code.specs.Widths.{width_of}
+use Rattle.well_typed.specs.SoundScopes.{SoundScope}
+use Rattle.expr_code.proofs.Widths.{integers_fit_width}
+use Rattle.expr_code.specs.declared.code.Code.{Code}
+use Rattle.expr_code.specs.declared.visible.Visible.{Visible}
+use Rattle.expr_code.proofs.Growing.{added_at, added_extends, added_here, holds_before}
+use Rattle.stmt_code.specs.Emitting.{EmitsStatement, HasLabels, IsLegal, Serves}
+use Rattle.stmt_code.specs.Lines.{Line, is_put, line_behind, line_in, line_of}
+use Rattle.stmt_code.specs.Resting.{Framed}
+use Rattle.stmt_code.specs.Statements.{IsCalled, Numbers, Ways}
+use Rattle.stmt_code.specs.declared.draft.Draft.{Draft}
+use Rattle.stmt_code.proofs.Adding.{value_extends, value_kept}
+use Rattle.stmt_code.proofs.Opening.{shorter}
+
+-- ---- the form
+
+pub put_is : (e : Option Entity) → is_put e ≡ true → e ≡ Some Put
+put_is (Some Put) h = refl
+put_is None h = cc
+put_is (Some (OfType form t)) h = cc
+put_is (Some (OfSubtype t)) h = cc
+put_is (Some (Object r t)) h = cc
+put_is (Some (Constant t v)) h = cc
+put_is (Some (Literal b)) h = cc
+put_is (Some Exception) h = cc
+put_is (Some (SubprogramEntity p)) h = cc
+put_is (Some (Entry p)) h = cc
+put_is (Some (Predefined o p)) h = cc
+put_is (Some (Task n)) h = cc
+put_is (Some (Protected o)) h = cc
+put_is (Some LibraryUnit) h = cc
+put_is (Some Doubtful) h = cc
+
+-- a label and a value behind a name are written so
+pub record Written (path : SelectorTrees) (label : List ℕ) (value : ExprTree) : Type 0 where
+  pub at : ℕ
+  pub is : path ≡ MoreSelectors (Arguments (MoreArguments (Text label at) (MoreArguments (tree.Value value) NoArguments))) NoSelectors
+
+some_line : (x y : Line) → Some x ≡ Some y → x ≡ y
+some_line x y e = cc
+
+pub line_written : (path : SelectorTrees) (label : List ℕ) (value : ExprTree) → line_behind path ≡ Some (record { label = label; value = value })
+    → Written path label value
+line_written (MoreSelectors (Arguments (MoreArguments (Text l at) (MoreArguments (tree.Value e) NoArguments))) NoSelectors) label value h =
+    let same = some_line (record { label = l; value = e }) (record { label = label; value = value }) h in
+    record {
+      at = at;
+      is = ap (λ x. MoreSelectors (Arguments (MoreArguments (Text x.label at) (MoreArguments (tree.Value x.value) NoArguments))) NoSelectors) same;
+    }
+line_written NoSelectors label value h = cc
+line_written (MoreSelectors (Component name) rest) label value h = cc
+line_written (MoreSelectors (Attribute name) rest) label value h = cc
+line_written (MoreSelectors x (MoreSelectors y rest)) label value h = absurd (none_behind x y rest h)
+  where
+    none_behind : (x : tree.SelectorTree) (y : tree.SelectorTree) (rest : SelectorTrees)
+        → line_behind (MoreSelectors x (MoreSelectors y rest)) ≡ Some (record { label = label; value = value }) → ⊥
+    none_behind (Component n) y rest h = cc
+    none_behind (Attribute n) y rest h = cc
+    none_behind (Arguments a) y rest h = cc
+line_written (MoreSelectors (Arguments NoArguments) NoSelectors) label value h = cc
+line_written (MoreSelectors (Arguments (MoreArguments (tree.Value e) rest)) NoSelectors) label value h = cc
+line_written (MoreSelectors (Arguments (MoreArguments (Text l at) NoArguments)) NoSelectors) label value h = cc
+line_written (MoreSelectors (Arguments (MoreArguments (Text l at) (MoreArguments (Text m there) rest))) NoSelectors) label value h = cc
+line_written (MoreSelectors (Arguments (MoreArguments (Text l at) (MoreArguments (tree.Value e) (MoreArguments x rest)))) NoSelectors) label value h = cc
+
+-- ---- what is legal
+
+module _ (s : Scope) (name : NameTree) (label : List ℕ) (value : ExprTree) (h : IsLegal s (statements.Call name)) (put : entity_named s name.first.name ≡ Some Put)
+    (written : line_of name ≡ Some (record { label = label; value = value })) where
+  faults : selectors_faults s name.first.place standing.Put name.selectors ≡ []
+  faults =
+      ap (λ w. selectors_faults s name.first.place w name.selectors) (sym (first_is (number_of s name.first.name) put))
+      ∙ back_empty _ (selectors_faults s name.first.place (stands_first s (number_of s name.first.name)) name.selectors)
+      (front_empty (name_faults s name.first name.selectors) _ h.unbroken)
+    where
+      first_is : (n : Option ℕ) → entity_at_or_none s n ≡ Some Put → stands_first s n ≡ standing.Put
+      first_is None e = cc
+      first_is (Some n) e = ap (stands_for n) e
+
+  pub line_faults : faults_of s (WantsType integer_type) value ≡ []
+  line_faults =
+      let called = put_called s name.first.place name.selectors faults in
+      let this = line_written name.selectors label value written in
+      subst (λ e. faults_of s (WantsType integer_type) e ≡ []) (same_value label called.label called.at this.at called.value value (sym called.written ∙ this.is)) called.legal
+    where
+      same_value : (l m : List ℕ) (a b : ℕ) (x y : ExprTree)
+          → MoreSelectors (Arguments (MoreArguments (Text m a) (MoreArguments (tree.Value x) NoArguments))) NoSelectors
+          ≡ MoreSelectors (Arguments (MoreArguments (Text l b) (MoreArguments (tree.Value y) NoArguments))) NoSelectors
+          → x ≡ y
+      same_value l m a b x y e = cc
+
+pub line_wide : (s : Scope) → SoundScope s → (e : ExprTree) → faults_of s (WantsType integer_type) e ≡ [] → width_of s e ≡ 1
+line_wide s sound e h =
+    integers_fit_width s sound (base_range_of integer_type) e (record { wanted = WantsType integer_type; fits = refl; unbroken = h }) sound.integer
+
+-- ---- forms that are none
+
+pub one_argument : (all : List Argument) → 1 ≤ length all → length all < 2 → None ≡ line_in (argument_trees all)
+one_argument [] le lt = absurd (omega (arith, le))
+one_argument (arguments.Expr e ∷ []) le lt = refl
+one_argument (arguments.Label l p ∷ []) le lt = refl
+one_argument (a ∷ b ∷ rest) le lt = absurd (omega (arith, lt))
+
+pub many_arguments : (all : List Argument) → 3 ≤ length all → None ≡ line_in (argument_trees all)
+many_arguments [] le = refl
+many_arguments (a ∷ []) le = absurd (omega (arith, le))
+many_arguments (a ∷ b ∷ []) le = absurd (omega (arith, le))
+many_arguments (arguments.Expr e ∷ b ∷ c ∷ rest) le = refl
+many_arguments (arguments.Label l p ∷ arguments.Expr e ∷ c ∷ rest) le = refl
+many_arguments (arguments.Label l p ∷ arguments.Label m q ∷ c ∷ rest) le = refl
+
+pub many_selectors : (all : List Selector) → 2 ≤ length all → None ≡ line_behind (selector_trees all)
+many_selectors [] le = refl
+many_selectors (a ∷ []) le = absurd (omega (arith, le))
+many_selectors (selectors.Component i ∷ b ∷ rest) le = refl
+many_selectors (selectors.Attribute i ∷ b ∷ rest) le = refl
+many_selectors (selectors.Arguments' shape row ∷ b ∷ rest) le = refl
+
+-- ---- the code
+
+module _ (v : Visible) (w : Ways) (a c : Draft) (m : Code) (name : NameTree) (label : List ℕ) (value : ExprTree) (number : ℕ)
+    (put : entity_named v.scope name.first.name ≡ Some Put) (written : line_of name ≡ Some (record { label = label; value = value }))
+    (p : EmitsExpression v a.code 0 1 value m) (q : Adds m 1 (op.PutLine number) c.code)
+    (stay : StandsFrom 0 a.labels c.labels) (there : slice_get c.labels number ≡ Some label) where
+  next : here c.code ≡ suc (here m)
+  next = added_here m c.code 1 (op.PutLine number) q
+
+  abbrev forms : SelectorTrees → Sections → Program → Package → Numbers → Framed → (from to : ℕ) → Type 0
+  forms x i program g numbers f from to =
+      IsCalled i program g numbers f from to (record { first = name.first; selectors = x }) (callee_by program None name.first x)
+
+  means : (i : Sections) → Holds i (here a.code) c.code → HasLabels i c.labels → (program : Program) (g : Package) (numbers : Numbers) (f : Framed) → f.names ≡ v
+      → Serves program f → forms name.selectors i program g numbers f (here a.code) (here c.code)
+  means i h l program g numbers f names serves =
+      let this = line_written name.selectors label value written in
+      let line = MoreArguments (Text label this.at) (MoreArguments (tree.Value value) NoArguments) in
+      let found = serves.finds name.first.name Put (ap (λ x. entity_named x.scope name.first.name) names ∙ put) in
+      subst (λ x. forms x i program g numbers f (here a.code) (here c.code)) (sym this.is)
+      (subst (λ o. IsCalled i program g numbers f (here a.code) (here c.code)
+      (record { first = name.first; selectors = MoreSelectors (Arguments line) NoSelectors }) (callee_with o None line)) (sym found.free) (
+        found.is,
+        (
+          here m,
+          number,
+          p.extends.longer,
+          subst (λ x. Computes i (library_of g) (Sees g x) (here a.code) (here m) value) (sym names)
+              (p.computes i (holds_before i (here a.code) m c.code (added_extends m c.code 1 (op.PutLine number) q) h) g),
+          added_at m c.code 1 (op.PutLine number) q i (here a.code) p.extends.longer h,
+          ap text_or_none (l.labels number label (omega arith) there),
+          next,
+        ),
+      ))
+
+  pub put_emits : EmitsStatement v w a (statements.Call name) c
+  put_emits = record {
+    extends = value_extends v a.code m c.code value (op.PutLine number) p q;
+    labels = stay;
+    sized = let size = ap selectors_size (line_written name.selectors label value written).is in omega (arith, p.sized, next, size);
+    stands = means;
+    flows = λ i s low high down up h l suits deep ends ways.
+        value_kept v a.code m c.code value (op.PutLine number) p q i s low high down up h suits deep refl
+        (lt_true number (length i.labels) (shorter i.labels number label (l.labels number label (omega arith) there))) (omega arith) (omega arith) refl ends
+        (λ t g. absurd (no_target t g));
+  }
+    where
+      lt_true : (x y : ℕ) → x < y → nat_lt x y ≡ true
+      lt_true x y less = search rules
+
+      no_target : (t : ℕ) → None ≡ Some t → ⊥
+      no_target t e = cc

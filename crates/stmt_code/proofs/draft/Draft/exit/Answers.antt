@@ -1,0 +1,36 @@
+use Rattle.std.proofs.Common.{refl, sym, ap, subst}
+use Rattle.std.proofs.lemmas.Result.{on_ok_weaker}
+use Rattle.ada_tree.specs.ExpressionTree.{expr_tree}
+use Rattle.ada_tree.specs.StatementTree.{Exit, optional_tree}
+use Rattle.stmt_code.specs.Emitting.{EmitsStatement, ways_of}
+use Rattle.expr_code.proofs.Widths.{condition_width}
+use Rattle.stmt_code.proofs.Adding.{exit_condition, exit_emits, exit_when_emits}
+use Rattle.stmt_code.proofs.draft.Draft.exit.Goals as goal
+
+pub of_width-requires-clause-wide : goal.of_width-requires-clause-wide
+of_width-requires-clause-wide c =
+    condition_width c.args.visible.now.scope c.requires.sound (expr_tree c.in-Some-condition.condition)
+    (exit_condition c.args.visible.now.scope c.args.place (optional_tree expr_tree c.args.condition.now) (expr_tree c.in-Some-condition.condition)
+    (ap (optional_tree expr_tree) c.in-Some-condition.is) c.requires.legal)
+
+pub returns-in-None : goal.returns-in-None
+returns-in-None c = record {
+  emits = on_ok_weaker _
+      (λ q.
+      subst (λ x. EmitsStatement c.args.visible.now (ways_of c.args.leaving) c.args.self.now (Exit c.args.place (optional_tree expr_tree x))
+      (record { code = c.emit.new.self; labels = c.args.self.now.labels })) (sym c.in-None.is)
+      (exit_emits c.args.visible.now (ways_of c.args.leaving) c.args.self.now (record { code = c.emit.new.self; labels = c.args.self.now.labels }) c.args.place c.in-Some.exit
+      c.in-Some.is q refl))
+      c.emit.ensures.adds;
+}
+
+pub returns-in_ok-of_width-in-Some-condition : goal.returns-in_ok-of_width-in-Some-condition
+returns-in_ok-of_width-in-Some-condition c = record {
+  emits = on_ok_weaker _
+      (λ q.
+      subst (λ x. EmitsStatement c.args.visible.now (ways_of c.args.leaving) c.args.self.now (Exit c.args.place (optional_tree expr_tree x))
+      (record { code = c.emit-in-Some-condition.new.self; labels = c.args.self.now.labels })) (sym c.in-Some-condition.is)
+      (exit_when_emits c.args.visible.now (ways_of c.args.leaving) c.args.self.now (record { code = c.emit-in-Some-condition.new.self; labels = c.args.self.now.labels })
+      c.of_width.new.self c.args.place c.in-Some.exit (expr_tree c.in-Some-condition.condition) c.in-Some.is c.in_ok-of_width-in-Some-condition.ensures.emits q refl))
+      c.emit-in-Some-condition.ensures.adds;
+}

@@ -1,0 +1,33 @@
+use Rattle.std.proofs.Common.{sym}
+use Rattle.std.proofs.lemmas.Result.{on_ok_weaker}
+use Rattle.ada_tree.specs.ExpressionTree.{expr_tree, name_tree}
+use Rattle.types.specs.Scopes.{integer_type}
+use Rattle.expr_rules.specs.declared.own.Wanted.TheVariants.{OfType}
+use Rattle.sound_steps.specs.Fitting.{entity_named}
+use Rattle.stmt_code.proofs.Adding.{wanted_legal}
+use Rattle.stmt_code.proofs.Putting.{line_faults, line_wide, put_emits, put_is}
+use Rattle.stmt_code.proofs.draft.Draft.put.Goals as goal
+
+pub of_width-requires-clause-legal : goal.of_width-requires-clause-legal
+of_width-requires-clause-legal c =
+    wanted_legal c.args.visible.now.scope (OfType integer_type) (expr_tree c.in-Some.value.now)
+    (line_faults c.args.visible.now.scope (name_tree c.args.name.now) c.in-Some.label.now (expr_tree c.in-Some.value.now) c.requires.legal
+    (put_is (entity_named c.args.visible.now.scope c.args.name.now.first.name) (sym c.if-not-is_put.ensures)) (sym c.in-Some.ensures))
+
+pub of_width-requires-clause-wide : goal.of_width-requires-clause-wide
+of_width-requires-clause-wide c =
+    line_wide c.args.visible.now.scope c.requires.sound (expr_tree c.in-Some.value.now)
+    (line_faults c.args.visible.now.scope (name_tree c.args.name.now) c.in-Some.label.now (expr_tree c.in-Some.value.now) c.requires.legal
+    (put_is (entity_named c.args.visible.now.scope c.args.name.now.first.name) (sym c.if-not-is_put.ensures)) (sym c.in-Some.ensures))
+
+pub returns-in_ok-number-in-Some : goal.returns-in_ok-number-in-Some
+returns-in_ok-number-in-Some c = record {
+  emits = λ w.
+      on_ok_weaker _
+      (λ q.
+      put_emits c.args.visible.now w c.args.self.now (record { code = c.emit.new.self; labels = c.number.new.self }) c.of_width.new.self (name_tree c.args.name.now)
+      c.in-Some.label.now (expr_tree c.in-Some.value.now) c.in_ok-number-in-Some.number
+      (put_is (entity_named c.args.visible.now.scope c.args.name.now.first.name) (sym c.if-not-is_put.ensures)) (sym c.in-Some.ensures)
+      c.in_ok-of_width-in-Some.ensures.emits q c.in_ok-number-in-Some.ensures.stay c.in_ok-number-in-Some.ensures.number)
+      c.emit.ensures.adds;
+}

@@ -1,0 +1,23 @@
+//! Where statements leave what stands around them.
+ghost use Rattle.std.specs.Prelude.{◌≡◌};
+ghost use Rattle.stmt_code.specs.Emitting.{ways_of};
+ghost use Rattle.stmt_code.specs.Statements.{within_loop};
+
+/// The ways out of a statement, as places of code: behind the innermost loop (RM 5.7), and to the end of the body (RM 6.5). Each is None where there is none.
+#[derive(Clone, Copy, PartialEq, Eq, Debug)]
+pub struct Leaving {
+    pub exit: Option<u16>,
+    pub return_: Option<u16>,
+}
+
+impl Leaving {
+    /// Those in a loop with this way out.
+    pub(crate) fn in_loop(self, exit: u16) -> Leaving
+        ensures { ways_of result ≡ within_loop exit (ways_of self) }
+    {
+        Leaving {
+            exit: Some(exit),
+            return_: self.return_,
+        }
+    }
+}

@@ -1,0 +1,187 @@
+//! The code of statements (RM 5).
+ghost use Rattle.std.specs.Prelude.{◌≡◌, ◌∷◌, [], map, OnOk};
+ghost use Rattle.ada_tree.specs.ExpressionTree.{expr_tree};
+ghost use Rattle.ada_tree.specs.StatementTree.{elsif_tree, elsif_trees, Exit, iteration_tree, Loop, optional_tree, Return, stmt_tree, stmt_trees};
+ghost use Rattle.stmt_code.specs.Emitting.{AddsParts, AreLegal, AreLegalElsifs, EmitsStatement, EmitsStatements, IsLegal, ways_of};
+ghost use Rattle.stmt_rules.specs.SimpleRules.{condition_faults};
+ghost use Rattle.well_typed.specs.SoundScopes.{SoundScope};
+
+use crate::draft::Draft;
+use crate::leaving::Leaving;
+use crate::looping::{begin_loop, end_loop};
+use ada_tree::laws::statements_by_parts;
+use ada_tree::{ElsifPart, Expr, Iteration, Stmt};
+use expr_code::{Refusal, Visible};
+use image::Operation;
+
+impl Draft {
+    // Adds the code of an exit from the innermost loop, where the condition holds, if there is one (RM 5.7).
+    fn exit(
+        &mut self,
+        visible: &Visible,
+        leaving: Leaving,
+        place: u32,
+        condition: &Option<Expr>,
+    ) -> Result<(), Refusal>
+        requires sound { SoundScope visible.now.scope }
+        requires legal { IsLegal visible.now.scope (Exit place (optional_tree expr_tree condition.now)) }
+        ensures emits { OnOk result (EmitsStatement visible.now (ways_of leaving) self.old (Exit place (optional_tree expr_tree condition.now)) self.new) }
+    {
+        let Some(exit) = leaving.exit else {
+            return Err(Refusal::Outside);
+        };
+        match condition {
+            None => self.code.emit(0, Operation::Jump(exit)),
+            Some(condition) => {
+                self.code.of_width(visible, 0, 1, condition)?;
+                self.code.emit(1, Operation::JumpIfNotZero(exit))
+            }
+        }
+    }
+
+    // Adds the code of a return without a value: a jump to the end of the body (RM 6.5).
+    fn leave(
+        &mut self,
+        visible: &Visible,
+        leaving: Leaving,
+        place: u32,
+        value: &Option<Expr>,
+    ) -> Result<(), Refusal>
+        ensures emits { OnOk result (EmitsStatement visible.now (ways_of leaving) self.old (Return place (optional_tree expr_tree value.now)) self.new) }
+    {
+        match (leaving.return_, value) {
+            (Some(end), None) => self.code.emit(0, Operation::Jump(end)),
+            _ => Err(Refusal::Outside),
+        }
+    }
+
+    /// Adds the code of a statement, where its names are visible. It finds no words on the operand stack, and leaves none there.
+    #[cycle(statement)]
+    pub fn statement(
+        &mut self,
+        visible: &Visible,
+        leaving: Leaving,
+        statement: &Stmt,
+    ) -> Result<(), Refusal>
+        requires sound { SoundScope visible.now.scope }
+        requires legal { IsLegal visible.now.scope (stmt_tree statement.now) }
+        ensures emits { OnOk result (EmitsStatement visible.now (ways_of leaving) self.old (stmt_tree statement.now) self.new) }
+    {
+        statements_by_parts();
+        match statement {
+            Stmt::Null(_) => Ok(()),
+            Stmt::Call(name) => self.put(visible, name),
+            Stmt::Exit(place, condition) => self.exit(visible, leaving, *place, condition),
+            Stmt::Return(place, value) => self.leave(visible, leaving, *place, value),
+            Stmt::If(_, condition, body, elsifs, others) => {
+                let mut waiting = Vec::new(self.code.alloc);
+                self.branch(visible, leaving, body, condition, &mut waiting)?;
+                self.elsifs(visible, leaving, elsifs, &mut waiting)?;
+                self.statements(visible, leaving, others)?;
+                self.code.rejoin(&waiting)
+            }
+            Stmt::Loop(place, iteration, body) => {
+                self.repeated(visible, leaving, *place, iteration, body)
+            }
+            Stmt::Block(_, declarations, body, handlers) => {
+                if declarations.is_empty() && handlers.is_empty() {
+                    self.statements(visible, leaving, body)
+                } else {
+                    Err(Refusal::Outside)
+                }
+            }
+            _ => Err(Refusal::Outside),
+        }
+    }
+
+    /// Adds that of statements, one behind another.
+    #[cycle(statement)]
+    pub fn statements(
+        &mut self,
+        visible: &Visible,
+        leaving: Leaving,
+        all: &[Stmt],
+    ) -> Result<(), Refusal>
+        requires sound { SoundScope visible.now.scope }
+        requires legal { AreLegal visible.now.scope (stmt_trees all.now) }
+        ensures emits { OnOk result (EmitsStatements visible.now (ways_of leaving) self.old (stmt_trees all.now) self.new) }
+    {
+        for statement in all {
+            self.statement(visible, leaving, statement)?;
+        }
+        Ok(())
+    }
+
+    // Adds a condition, a jump behind the statements for it where it doesn't hold, these statements, and a jump whose place waits for the end (RM 5.3).
+    #[cycle(statement)]
+    fn branch(
+        &mut self,
+        visible: &Visible,
+        leaving: Leaving,
+        body: &[Stmt],
+        condition: &Expr,
+        waiting: &mut Vec<usize>,
+    ) -> Result<(), Refusal>
+        requires sound { SoundScope visible.now.scope }
+        requires condition { condition_faults visible.now.scope (expr_tree condition.now) ≡ [] }
+        requires legal { AreLegal visible.now.scope (stmt_trees body.now) }
+        ensures adds { OnOk result (AddsParts visible.now (ways_of leaving) self.old ((expr_tree condition.now, stmt_trees body.now) ∷ []) waiting.old.items waiting.new.items self.new) }
+    {
+        self.code.of_width(visible, 0, 1, condition)?;
+        let test = self.code.test(0)?;
+        self.statements(visible, leaving, body)?;
+        self.code.close(0, test, waiting)
+    }
+
+    // Adds those of the parts behind the first one.
+    #[cycle(statement)]
+    fn elsifs(
+        &mut self,
+        visible: &Visible,
+        leaving: Leaving,
+        elsifs: &[ElsifPart],
+        waiting: &mut Vec<usize>,
+    ) -> Result<(), Refusal>
+        requires sound { SoundScope visible.now.scope }
+        requires legal { AreLegalElsifs visible.now.scope (elsif_trees elsifs.now) }
+        ensures adds { OnOk result (AddsParts visible.now (ways_of leaving) self.old (map elsif_tree elsifs.now) waiting.old.items waiting.new.items self.new) }
+    {
+        for part in elsifs {
+            self.branch(visible, leaving, &part.statements, &part.condition, waiting)?;
+        }
+        Ok(())
+    }
+
+    // Adds the code of a loop, without a condition or with one (RM 5.5).
+    #[cycle(statement)]
+    fn repeated(
+        &mut self,
+        visible: &Visible,
+        leaving: Leaving,
+        place: u32,
+        iteration: &Iteration,
+        body: &[Stmt],
+    ) -> Result<(), Refusal>
+        requires sound { SoundScope visible.now.scope }
+        requires legal { IsLegal visible.now.scope (Loop place (iteration_tree iteration.now) (stmt_trees body.now)) }
+        ensures emits { OnOk result (EmitsStatement visible.now (ways_of leaving) self.old (Loop place (iteration_tree iteration.now) (stmt_trees body.now)) self.new) }
+    {
+        let head = begin_loop(&mut self.code)?;
+        match iteration {
+            Iteration::Forever => {
+                self.statements(visible, leaving.in_loop(head.exit), body)?;
+                end_loop(&mut self.code, head)?;
+                Ok(())
+            }
+            Iteration::While(condition) => {
+                self.code.of_width(visible, 0, 1, condition)?;
+                let test = self.code.test(0)?;
+                self.statements(visible, leaving.in_loop(head.exit), body)?;
+                let end = end_loop(&mut self.code, head)?;
+                self.code.patch(test, Operation::JumpIfZero(end));
+                Ok(())
+            }
+            Iteration::For(..) => Err(Refusal::Outside),
+        }
+    }
+}
