@@ -1,9 +1,9 @@
 pub mod Coming
 mod Operators
 mod Expressions
-mod Passing
+pub mod Passing
 pub mod Calling
-mod Naming
+pub mod Naming
 pub mod Locating
 mod Paths
 pub mod Growing

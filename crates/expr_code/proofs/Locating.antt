@@ -86,7 +86,7 @@ take_take ws (suc l) zero le = absurd (omega (arith, le))
 take_take [] (suc l) (suc n) le = refl
 take_take (w ∷ ws) (suc l) (suc n) le = ap (λ x. w ∷ x) (take_take ws l n (omega (arith, le)))
 
-window : (ws : List ℤ) (o l n : ℕ) → o + l ≤ n → take l (drop o (take n ws)) ≡ take l (drop o ws)
+pub window : (ws : List ℤ) (o l n : ℕ) → o + l ≤ n → take l (drop o (take n ws)) ≡ take l (drop o ws)
 window ws zero l n le = take_take ws l n (omega (arith, le))
 window ws (suc o) l zero le = absurd (omega (arith, le))
 window [] (suc o) l (suc n) le = refl
@@ -115,7 +115,7 @@ fits_in sized x (MoreValues v rest) (suc n) w all there =
     let product = next_size n (words x) in
     omega (arith, size, whole, inner, product)
 
-element_shape : (x : Shape) (vs : Values) (n : ℕ) (w : Value) → all_values (has_shape x) vs ≡ true → element_at vs n ≡ Some w → has_shape x w ≡ true
+pub element_shape : (x : Shape) (vs : Values) (n : ℕ) (w : Value) → all_values (has_shape x) vs ≡ true → element_at vs n ≡ Some w → has_shape x w ≡ true
 element_shape x NoValues n w all there = absurd cc
 element_shape x (MoreValues v rest) zero w all there =
     let parts = and_parts (has_shape x v) (all_values (has_shape x) rest) all in
@@ -343,7 +343,7 @@ module _ (quiet : QuietStays) (sized : ValuesHaveWords) (places : PartsHavePlace
 -- ---- a component of a record
 
 -- a component stands within its record
-field_fits : (sized : ValuesHaveWords) (parts : Shapes) (fs : Fields) (name : List ℕ) (v : Value) (x : Shape) (place : ℕ)
+pub field_fits : (sized : ValuesHaveWords) (parts : Shapes) (fs : Fields) (name : List ℕ) (v : Value) (x : Shape) (place : ℕ)
     → have_shapes parts fs ≡ true → field_of fs name ≡ Some v → shape_in parts name ≡ Some x → field_offset parts name ≡ Some place
     → (place + length (value_words v) ≤ length (fields_words fs)) × (has_shape x v ≡ true)
 field_fits sized NoShapes NoFields name v x place all there shape offset = absurd cc

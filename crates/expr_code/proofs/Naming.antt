@@ -60,7 +60,7 @@ single (w ∷ []) e = (w, refl)
 single (w ∷ x ∷ ws) e = absurd (omega (arith, e))
 
 -- the single word of a value
-word_there : (words : List ℤ) (a : ℕ) (v : Value) (w : ℤ) → Lies words a v → value_words v ≡ w ∷ [] → word_at words (pos a) ≡ Some w
+pub word_there : (words : List ℤ) (a : ℕ) (v : Value) (w : ℤ) → Lies words a v → value_words v ≡ w ∷ [] → word_at words (pos a) ≡ Some w
 word_there words a v w lies is =
     let lie : words_at words (pos a) 1 ≡ Some (w ∷ []) = subst (λ ws. words_at words (pos a) (length ws) ≡ Some ws) is lies in
     first_word words a w (held (nat_le (a + 1) (length words)) (take 1 (drop a words)) (w ∷ []) lie)
