@@ -69,32 +69,35 @@ module _ (quiet : QuietStays) (i : Sections) (schedule : List ScheduleLine) (k :
       ∙ ap (λ o. stored i schedule k t m (placed f place (w ∷ [])) fs regions.Plain o []) is
       ∙ ap (λ n. does Quiet (record m { plain = after }) (record f { place = n; locals = f.locals; stack = [] }) fs None None) next
 
-  -- several, above their address
-  abbrev above : List ℤ → List ℤ
-  above ws = reverse ws ++ pos offset ∷ []
+  -- several, above their address; what is below it stays
+  abbrev above : List ℤ → List ℤ → List ℤ
+  above base ws = reverse ws ++ pos offset ∷ base
 
-  pub store_block_local : (ws after : List ℤ) → At i place (op.StoreBlock regions.Locals (length ws)) → words_put f.locals (pos offset) ws ≡ Some after
-      → act i schedule k t (in_frame m (placed f place (above ws)) fs) ≡ does Quiet m (record f { place = suc place; locals = after; stack = [] }) fs None None
-  store_block_local ws after here is =
-      acts quiet i place (op.StoreBlock regions.Locals (length ws)) here schedule k t m f fs (above ws)
-      ∙ ap (λ l. with_one i schedule k t m (placed f place (above ws)) fs l
-      (λ index stack. stores_block i schedule k t m (placed f place (above ws)) fs regions.Locals index (arguments (length ws) (above ws)) stack)) (popped ws (pos offset ∷ []))
-      ∙ ap (λ l. stores_block i schedule k t m (placed f place (above ws)) fs regions.Locals (pos offset) l []) (taken ws (pos offset ∷ []))
-      ∙ ap (λ o. stored i schedule k t m (placed f place (above ws)) fs regions.Locals o []) is
-      ∙ ap (λ n. does Quiet m (record f { place = n; locals = after; stack = [] }) fs None None) next
+  pub store_block_local : (base ws after : List ℤ) → At i place (op.StoreBlock regions.Locals (length ws)) → words_put f.locals (pos offset) ws ≡ Some after
+      → act i schedule k t (in_frame m (placed f place (above base ws)) fs)
+      ≡ does Quiet m (record f { place = suc place; locals = after; stack = base }) fs None None
+  store_block_local base ws after here is =
+      acts quiet i place (op.StoreBlock regions.Locals (length ws)) here schedule k t m f fs (above base ws)
+      ∙ ap (λ l. with_one i schedule k t m (placed f place (above base ws)) fs l
+      (λ index stack. stores_block i schedule k t m (placed f place (above base ws)) fs regions.Locals index (arguments (length ws) (above base ws)) stack))
+      (popped ws (pos offset ∷ base))
+      ∙ ap (λ l. stores_block i schedule k t m (placed f place (above base ws)) fs regions.Locals (pos offset) l base) (taken ws (pos offset ∷ base))
+      ∙ ap (λ o. stored i schedule k t m (placed f place (above base ws)) fs regions.Locals o base) is
+      ∙ ap (λ n. does Quiet m (record f { place = n; locals = after; stack = base }) fs None None) next
 
-  pub store_block_plain : (ws after : List ℤ) → At i place (op.StoreBlock regions.Plain (length ws)) → words_put m.plain (pos offset) ws ≡ Some after
-      → act i schedule k t (in_frame m (placed f place (above ws)) fs)
-      ≡ does Quiet (record m { plain = after }) (record f { place = suc place; locals = f.locals; stack = [] }) fs None None
-  store_block_plain ws after here is =
-      acts quiet i place (op.StoreBlock regions.Plain (length ws)) here schedule k t m f fs (above ws)
-      ∙ ap (λ l. with_one i schedule k t m (placed f place (above ws)) fs l
-      (λ index stack. stores_block i schedule k t m (placed f place (above ws)) fs regions.Plain index (arguments (length ws) (above ws)) stack)) (popped ws (pos offset ∷ []))
-      ∙ ap (λ l. stores_block i schedule k t m (placed f place (above ws)) fs regions.Plain (pos offset) l []) (taken ws (pos offset ∷ []))
-      ∙ ap (λ o. stored i schedule k t m (placed f place (above ws)) fs regions.Plain o []) is
-      ∙ ap (λ n. does Quiet (record m { plain = after }) (record f { place = n; locals = f.locals; stack = [] }) fs None None) next
+  pub store_block_plain : (base ws after : List ℤ) → At i place (op.StoreBlock regions.Plain (length ws)) → words_put m.plain (pos offset) ws ≡ Some after
+      → act i schedule k t (in_frame m (placed f place (above base ws)) fs)
+      ≡ does Quiet (record m { plain = after }) (record f { place = suc place; locals = f.locals; stack = base }) fs None None
+  store_block_plain base ws after here is =
+      acts quiet i place (op.StoreBlock regions.Plain (length ws)) here schedule k t m f fs (above base ws)
+      ∙ ap (λ l. with_one i schedule k t m (placed f place (above base ws)) fs l
+      (λ index stack. stores_block i schedule k t m (placed f place (above base ws)) fs regions.Plain index (arguments (length ws) (above base ws)) stack))
+      (popped ws (pos offset ∷ base))
+      ∙ ap (λ l. stores_block i schedule k t m (placed f place (above base ws)) fs regions.Plain (pos offset) l base) (taken ws (pos offset ∷ base))
+      ∙ ap (λ o. stored i schedule k t m (placed f place (above base ws)) fs regions.Plain o base) is
+      ∙ ap (λ n. does Quiet (record m { plain = after }) (record f { place = n; locals = f.locals; stack = base }) fs None None) next
 
-one_alone : (ws : List ℤ) → length ws ≡ 1 → (w : ℤ) × (ws ≡ w ∷ [])
+pub one_alone : (ws : List ℤ) → length ws ≡ 1 → (w : ℤ) × (ws ≡ w ∷ [])
 one_alone [] e = absurd (omega (arith, e))
 one_alone (w ∷ []) e = (w, refl)
 one_alone (w ∷ x ∷ ws) e = absurd (omega (arith, e))
@@ -124,21 +127,28 @@ word_to_plain quiet i schedule k t m f fs place offset here ws one room =
     (sym it.1)
     (store_plain quiet i schedule k t m f fs place offset it.0 (with_words offset (it.0 ∷ []) m.plain) here (one_put m.plain offset it.0 room))
 
--- ---- instructions that store a value of so many words, which stands with its stack on the operand stack
+-- ---- instructions that store a value of so many words, which stands with its stack on the operand stack, and leave what is below
 
-abbrev pub StoresLocally : Sections → (place offset size : ℕ) → (Value → List ℤ) → Type 0
-StoresLocally i place offset size stack =
+abbrev pub StoresLocallyAbove : Sections → (place offset size : ℕ) → (base : List ℤ) → (Value → List ℤ) → Type 0
+StoresLocallyAbove i place offset size base stack =
     (schedule : List ScheduleLine) (k : Kernel) (t : ℕ) (m : Words) (f : Frame) (fs : List Frame) (z : Value)
     → length (value_words z) ≡ size → offset + size ≤ length f.locals
     → act i schedule k t (in_frame m (placed f place (stack z)) fs)
-    ≡ does Quiet m (record f { place = suc place; locals = with_words offset (value_words z) f.locals; stack = [] }) fs None None
+    ≡ does Quiet m (record f { place = suc place; locals = with_words offset (value_words z) f.locals; stack = base }) fs None None
 
-abbrev pub StoresPlainly : Sections → (place offset size : ℕ) → (Value → List ℤ) → Type 0
-StoresPlainly i place offset size stack =
+abbrev pub StoresPlainlyAbove : Sections → (place offset size : ℕ) → (base : List ℤ) → (Value → List ℤ) → Type 0
+StoresPlainlyAbove i place offset size base stack =
     (schedule : List ScheduleLine) (k : Kernel) (t : ℕ) (m : Words) (f : Frame) (fs : List Frame) (z : Value)
     → length (value_words z) ≡ size → offset + size ≤ length m.plain
     → act i schedule k t (in_frame m (placed f place (stack z)) fs)
-    ≡ does Quiet (record m { plain = with_words offset (value_words z) m.plain }) (record f { place = suc place; locals = f.locals; stack = [] }) fs None None
+    ≡ does Quiet (record m { plain = with_words offset (value_words z) m.plain }) (record f { place = suc place; locals = f.locals; stack = base }) fs None None
+
+-- ... where nothing is below
+abbrev pub StoresLocally : Sections → (place offset size : ℕ) → (Value → List ℤ) → Type 0
+StoresLocally i place offset size stack = StoresLocallyAbove i place offset size [] stack
+
+abbrev pub StoresPlainly : Sections → (place offset size : ℕ) → (Value → List ℤ) → Type 0
+StoresPlainly i place offset size stack = StoresPlainlyAbove i place offset size [] stack
 
 module _ (quiet : QuietStays) (i : Sections) (place offset : ℕ) where
   pub word_locally : At i place (op.StoreLocal offset) → StoresLocally i place offset 1 (on [])
@@ -147,54 +157,70 @@ module _ (quiet : QuietStays) (i : Sections) (place offset : ℕ) where
   pub word_plainly : At i place (op.StorePlain offset) → StoresPlainly i place offset 1 (on [])
   word_plainly here schedule k t m f fs z many room = word_to_plain quiet i schedule k t m f fs place offset here (value_words z) many room
 
-  pub block_locally : (size : ℕ) → At i place (op.StoreBlock regions.Locals size) → StoresLocally i place offset size (on (pos offset ∷ []))
-  block_locally size here schedule k t m f fs z many room =
-      store_block_local quiet i schedule k t m f fs place offset (value_words z) (with_words offset (value_words z) f.locals)
+  pub block_locally_above : (base : List ℤ) (size : ℕ) → At i place (op.StoreBlock regions.Locals size)
+      → StoresLocallyAbove i place offset size base (on (pos offset ∷ base))
+  block_locally_above base size here schedule k t m f fs z many room =
+      store_block_local quiet i schedule k t m f fs place offset base (value_words z) (with_words offset (value_words z) f.locals)
       (subst (λ n. At i place (op.StoreBlock regions.Locals n)) (sym many) here) (block_put f.locals offset (value_words z) (omega (arith, many, room)))
 
-  pub block_plainly : (size : ℕ) → At i place (op.StoreBlock regions.Plain size) → StoresPlainly i place offset size (on (pos offset ∷ []))
-  block_plainly size here schedule k t m f fs z many room =
-      store_block_plain quiet i schedule k t m f fs place offset (value_words z) (with_words offset (value_words z) m.plain)
+  pub block_locally : (size : ℕ) → At i place (op.StoreBlock regions.Locals size) → StoresLocally i place offset size (on (pos offset ∷ []))
+  block_locally size here = block_locally_above [] size here
+
+  pub block_plainly_above : (base : List ℤ) (size : ℕ) → At i place (op.StoreBlock regions.Plain size)
+      → StoresPlainlyAbove i place offset size base (on (pos offset ∷ base))
+  block_plainly_above base size here schedule k t m f fs z many room =
+      store_block_plain quiet i schedule k t m f fs place offset base (value_words z) (with_words offset (value_words z) m.plain)
       (subst (λ n. At i place (op.StoreBlock regions.Plain n)) (sym many) here) (block_put m.plain offset (value_words z) (omega (arith, many, room)))
+
+  pub block_plainly : (size : ℕ) → At i place (op.StoreBlock regions.Plain size) → StoresPlainly i place offset size (on (pos offset ∷ []))
+  block_plainly size here = block_plainly_above [] size here
 
 -- a single word above its address
 module _ (quiet : QuietStays) (i : Sections) (place offset : ℕ) where
   after_it : place + 1 ≡ suc place
   after_it = omega arith
 
-  indexed_local_word : (schedule : List ScheduleLine) (k : Kernel) (t : ℕ) (m : Words) (f : Frame) (fs : List Frame) → At i place (op.StoreIndexed regions.Locals)
+  indexed_local_word : (base : List ℤ) (schedule : List ScheduleLine) (k : Kernel) (t : ℕ) (m : Words) (f : Frame) (fs : List Frame)
+      → At i place (op.StoreIndexed regions.Locals)
       → (ws : List ℤ) → length ws ≡ 1 → offset + 1 ≤ length f.locals
-      → act i schedule k t (in_frame m (placed f place (reverse ws ++ pos offset ∷ [])) fs)
-      ≡ does Quiet m (record f { place = suc place; locals = with_words offset ws f.locals; stack = [] }) fs None None
-  indexed_local_word schedule k t m f fs here ws one room =
+      → act i schedule k t (in_frame m (placed f place (reverse ws ++ pos offset ∷ base)) fs)
+      ≡ does Quiet m (record f { place = suc place; locals = with_words offset ws f.locals; stack = base }) fs None None
+  indexed_local_word base schedule k t m f fs here ws one room =
       let it = one_alone ws one in
       subst
-      (λ l. act i schedule k t (in_frame m (placed f place (reverse l ++ pos offset ∷ [])) fs)
-      ≡ does Quiet m (record f { place = suc place; locals = with_words offset l f.locals; stack = [] }) fs None None)
+      (λ l. act i schedule k t (in_frame m (placed f place (reverse l ++ pos offset ∷ base)) fs)
+      ≡ does Quiet m (record f { place = suc place; locals = with_words offset l f.locals; stack = base }) fs None None)
       (sym it.1)
-      (acts quiet i place (op.StoreIndexed regions.Locals) here schedule k t m f fs (it.0 ∷ pos offset ∷ [])
-      ∙ ap (λ o. stored i schedule k t m (placed f place (it.0 ∷ pos offset ∷ [])) fs regions.Locals o []) (one_put f.locals offset it.0 room)
-      ∙ ap (λ n. does Quiet m (record f { place = n; locals = with_words offset (it.0 ∷ []) f.locals; stack = [] }) fs None None) after_it)
+      (acts quiet i place (op.StoreIndexed regions.Locals) here schedule k t m f fs (it.0 ∷ pos offset ∷ base)
+      ∙ ap (λ o. stored i schedule k t m (placed f place (it.0 ∷ pos offset ∷ base)) fs regions.Locals o base) (one_put f.locals offset it.0 room)
+      ∙ ap (λ n. does Quiet m (record f { place = n; locals = with_words offset (it.0 ∷ []) f.locals; stack = base }) fs None None) after_it)
 
-  indexed_plain_word : (schedule : List ScheduleLine) (k : Kernel) (t : ℕ) (m : Words) (f : Frame) (fs : List Frame) → At i place (op.StoreIndexed regions.Plain)
+  indexed_plain_word : (base : List ℤ) (schedule : List ScheduleLine) (k : Kernel) (t : ℕ) (m : Words) (f : Frame) (fs : List Frame)
+      → At i place (op.StoreIndexed regions.Plain)
       → (ws : List ℤ) → length ws ≡ 1 → offset + 1 ≤ length m.plain
-      → act i schedule k t (in_frame m (placed f place (reverse ws ++ pos offset ∷ [])) fs)
-      ≡ does Quiet (record m { plain = with_words offset ws m.plain }) (record f { place = suc place; locals = f.locals; stack = [] }) fs None None
-  indexed_plain_word schedule k t m f fs here ws one room =
+      → act i schedule k t (in_frame m (placed f place (reverse ws ++ pos offset ∷ base)) fs)
+      ≡ does Quiet (record m { plain = with_words offset ws m.plain }) (record f { place = suc place; locals = f.locals; stack = base }) fs None None
+  indexed_plain_word base schedule k t m f fs here ws one room =
       let it = one_alone ws one in
       subst
-      (λ l. act i schedule k t (in_frame m (placed f place (reverse l ++ pos offset ∷ [])) fs)
-      ≡ does Quiet (record m { plain = with_words offset l m.plain }) (record f { place = suc place; locals = f.locals; stack = [] }) fs None None)
+      (λ l. act i schedule k t (in_frame m (placed f place (reverse l ++ pos offset ∷ base)) fs)
+      ≡ does Quiet (record m { plain = with_words offset l m.plain }) (record f { place = suc place; locals = f.locals; stack = base }) fs None None)
       (sym it.1)
-      (acts quiet i place (op.StoreIndexed regions.Plain) here schedule k t m f fs (it.0 ∷ pos offset ∷ [])
-      ∙ ap (λ o. stored i schedule k t m (placed f place (it.0 ∷ pos offset ∷ [])) fs regions.Plain o []) (one_put m.plain offset it.0 room)
-      ∙ ap (λ n. does Quiet (record m { plain = with_words offset (it.0 ∷ []) m.plain }) (record f { place = n; locals = f.locals; stack = [] }) fs None None) after_it)
+      (acts quiet i place (op.StoreIndexed regions.Plain) here schedule k t m f fs (it.0 ∷ pos offset ∷ base)
+      ∙ ap (λ o. stored i schedule k t m (placed f place (it.0 ∷ pos offset ∷ base)) fs regions.Plain o base) (one_put m.plain offset it.0 room)
+      ∙ ap (λ n. does Quiet (record m { plain = with_words offset (it.0 ∷ []) m.plain }) (record f { place = n; locals = f.locals; stack = base }) fs None None) after_it)
+
+  pub indexed_locally_above : (base : List ℤ) → At i place (op.StoreIndexed regions.Locals) → StoresLocallyAbove i place offset 1 base (on (pos offset ∷ base))
+  indexed_locally_above base here schedule k t m f fs z many room = indexed_local_word base schedule k t m f fs here (value_words z) many room
+
+  pub indexed_plainly_above : (base : List ℤ) → At i place (op.StoreIndexed regions.Plain) → StoresPlainlyAbove i place offset 1 base (on (pos offset ∷ base))
+  indexed_plainly_above base here schedule k t m f fs z many room = indexed_plain_word base schedule k t m f fs here (value_words z) many room
 
   pub indexed_locally : At i place (op.StoreIndexed regions.Locals) → StoresLocally i place offset 1 (on (pos offset ∷ []))
-  indexed_locally here schedule k t m f fs z many room = indexed_local_word schedule k t m f fs here (value_words z) many room
+  indexed_locally here = indexed_locally_above [] here
 
   pub indexed_plainly : At i place (op.StoreIndexed regions.Plain) → StoresPlainly i place offset 1 (on (pos offset ∷ []))
-  indexed_plainly here schedule k t m f fs z many room = indexed_plain_word schedule k t m f fs here (value_words z) many room
+  indexed_plainly here = indexed_plainly_above [] here
 
 -- what computes a value computes it above an address that is pushed in front
 pub computes_above : (quiet : QuietStays) (i : Sections) (library : Library) (sight : Sight) (from mid offset : ℕ) (value : Calls → Place → Val Value) → suc from ≤ mid
@@ -214,7 +240,7 @@ abbrev pub ArePushed : Sections → ℕ → List ℤ → Type 0
 ArePushed i from [] = ⊤
 ArePushed i from (w ∷ ws) = At i from (op.Push w) × ArePushed i (suc from) ws
 
-one_first : (w : ℤ) (ws base : List ℤ) → reverse (w ∷ ws) ++ base ≡ reverse ws ++ (w ∷ base)
+pub one_first : (w : ℤ) (ws base : List ℤ) → reverse (w ∷ ws) ++ base ≡ reverse ws ++ (w ∷ base)
 one_first w ws base = ap (λ l. l ++ base) (reverse-append (w ∷ []) ws) ∙ append_assoc (reverse ws) (w ∷ []) base
 
 module _ (quiet : QuietStays) (i : Sections) (schedule : List ScheduleLine) (k : Kernel) (t : ℕ) (m : Words) (calm : Calm k t) (f : Frame) (fs : List Frame) where
@@ -270,18 +296,18 @@ pub record NamesWhole (p : Place) (name : List ℕ) (t : Subtype) : Type 0 where
   pub parts : target.parts ≡ []
 
 -- where the components of the running body's protected object stand
-abbrev own_home : Option ℕ → Home
+abbrev pub own_home : Option ℕ → Home
 own_home (Some o) = InObject o
 own_home None = InPackage
 
-own_whole : (p : Place) (o : Option ℕ) (name : List ℕ) → own_component p o name ≡ whole (own_home o) (object_of (own_components p o) name)
+pub own_whole : (p : Place) (o : Option ℕ) (name : List ℕ) → own_component p o name ≡ whole (own_home o) (object_of (own_components p o) name)
 own_whole p (Some o) name = refl
 own_whole p None name = refl
 
-abbrev named_among : Option Object → Home → Option Object → Option Object → Option Target
+abbrev pub named_among : Option Object → Home → Option Object → Option Object → Option Target
 named_among own home inner outer = first_of (whole InActivation own) (first_of (whole home inner) (whole InPackage outer))
 
-abbrev meant_among : Option Object → Option Object → Option Function → Option Object → Option Function → Meaning → Meaning
+abbrev pub meant_among : Option Object → Option Object → Option Function → Option Object → Option Function → Meaning → Meaning
 meant_among own inner f outer g last =
     meaning_or (or_else (object_meaning (or_else own inner)) (function_meaning f)) (meaning_or (or_else (object_meaning outer) (function_meaning g)) last)
 
@@ -302,7 +328,7 @@ no_object (Some (Predefined o p)) t u h = cc
 no_object (Some (Protected o)) t u h = cc
 no_object e t u h = cc
 
-no_scope_object : (s : Scope) (n : Option ℕ) (t : Subtype) (u : Value) → meaning_in_scope s n ≡ IsObject t u → ⊥
+pub no_scope_object : (s : Scope) (n : Option ℕ) (t : Subtype) (u : Value) → meaning_in_scope s n ≡ IsObject t u → ⊥
 no_scope_object s (Some n) t u h = no_object (entity_at s n) t u h
 no_scope_object s None t u h = cc
 
