@@ -36,3 +36,4 @@ mod Opening
 mod Repeating
 mod Testing
 mod Putting
+mod PartValues

@@ -43,7 +43,7 @@ behind [] ys n le m e = let same : n ≡ m = omega (arith, e) in ap (λ q. drop 
 behind (x ∷ xs) ys zero le m e = absurd (omega (arith, le))
 behind (x ∷ xs) ys (suc n) le m e = behind xs ys n (omega (arith, le)) m (omega (arith, e))
 
-drop_twice : (n m : ℕ) (words : List ℤ) → drop m (drop n words) ≡ drop (n + m) words
+pub drop_twice : (n m : ℕ) (words : List ℤ) → drop m (drop n words) ≡ drop (n + m) words
 drop_twice zero m words = ap (λ q. drop q words) (up m)
   where
     up : (m : ℕ) → m ≡ 0 + m
@@ -67,7 +67,7 @@ with_length (suc a) new (w ∷ words) le =
     ap length (next a new w words) ∙ ap suc h
 
 -- those that were put
-with_there : (a : ℕ) (new words : List ℤ) → a + length new ≤ length words → take (length new) (drop a (with_words a new words)) ≡ new
+pub with_there : (a : ℕ) (new words : List ℤ) → a + length new ≤ length words → take (length new) (drop a (with_words a new words)) ≡ new
 with_there zero new words le = ap (λ l. take (length new) l) (first new words) ∙ take-append_seam new (drop (length new) words)
 with_there (suc a) new [] le = absurd (omega (arith, le))
 with_there (suc a) new (w ∷ words) le =
