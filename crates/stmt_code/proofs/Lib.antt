@@ -37,3 +37,5 @@ mod Repeating
 mod Testing
 mod Putting
 mod PartValues
+mod StoringParts
+mod Pointing

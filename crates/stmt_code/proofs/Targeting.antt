@@ -1,9 +1,7 @@
 -- Code that goes from the address of a variable to that of a part of it: the part is the one that the selectors behind the name name.
-use Rattle.std.proofs.Common.{◌≡◌, ℕ, suc, ◌+◌, ◌-◌, ◌*◌, ◌≤◌, ◌<◌, ℤ, List, [], ◌∷◌, ◌++◌, cond, length, None, Some, Ok, Bool, true, false, refl, sym, ap, ◌∙◌, subst, arith, rules}
+use Rattle.std.proofs.Common.{◌≡◌, ℕ, suc, ◌+◌, ◌-◌, ◌*◌, ◌≤◌, ◌<◌, ℤ, List, [], ◌∷◌, ◌++◌, length, None, Some, true, refl, sym, ap, ◌∙◌, subst, arith}
 use Rattle.std.proofs.lemmas.Int.{ints}
-use Rattle.std.specs.Prelude.{pos, negsuc, int_le, ◌-ℤ◌, ◌*ℤ◌, ◌≤ℤ◌, nat_lt, ◌^◌, ◌&&◌, unsigned_abs}
-use Rattle.base.specs.Arithmetic.{in_range, constraint_error}
-use Rattle.base.specs.declared.exceptions.PredefinedException.TheVariants.{ConstraintError}
+use Rattle.std.specs.Prelude.{pos, int_le, ◌-ℤ◌, ◌^◌, unsigned_abs}
 use Rattle.base.specs.declared.schedule.ScheduleLine.{ScheduleLine}
 use Rattle.kernel.specs.State.{Kernel}
 use Rattle.kernel.specs.Effects.{Quiet}
@@ -16,12 +14,12 @@ use Rattle.ada_tree.specs.ExpressionTree as tree
 use Rattle.ada_tree.specs.ExpressionTree.{Arguments, Component, ExprTree, MoreArguments, MoreSelectors, NoArguments, NoSelectors, SelectorTree, SelectorTrees}
 use Rattle.image.specs.Sections.{Sections}
 use Rattle.image.specs.Frames.{Words, Frame}
-use Rattle.image.specs.Steps.{act, behaviour, does, gives}
+use Rattle.image.specs.Steps.{behaviour, does, gives}
 use Rattle.image.specs.declared.instruction.Operation.TheVariants as op
 use Rattle.types.specs.declared.entity.RecordComponent.{RecordComponent}
 use Rattle.types.specs.declared.entity.Subtype.{Subtype}
 use Rattle.types.specs.Entities.{Arrays, Records}
-use Rattle.types.specs.Evaluations.{Val, Gives, Raises, Meaningless, and_then, raise}
+use Rattle.types.specs.Evaluations.{Val, Gives, Raises, Meaningless, and_then}
 use Rattle.types.specs.Evaluating.{Calls, passed, value_with}
 use Rattle.types.specs.Layouts.{field_offset}
 use Rattle.types.specs.Places.{Place}
