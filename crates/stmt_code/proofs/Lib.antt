@@ -39,3 +39,4 @@ mod Putting
 mod PartValues
 mod StoringParts
 mod Pointing
+mod CopyingBack
