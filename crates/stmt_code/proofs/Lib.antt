@@ -40,3 +40,5 @@ mod PartValues
 mod StoringParts
 mod Pointing
 mod CopyingBack
+mod Loading
+mod GivingBack
