@@ -42,3 +42,5 @@ mod Pointing
 mod CopyingBack
 mod Loading
 mod GivingBack
+mod PassingTargets
+mod PassingWell
