@@ -18,7 +18,7 @@ use Rattle.types.specs.Evaluating.{Calls, call, passed, value_with}
 use Rattle.types.specs.Evaluations.{Val, Gives, and_then}
 use Rattle.types.specs.Laws.{InitialValuesHaveShape, ValuesHaveWords}
 use Rattle.types.specs.Layouts.{words_of}
-use Rattle.types.specs.Places.{Place}
+use Rattle.types.specs.Places.{Object, Place}
 use Rattle.types.specs.Shapes.{has_shape, initial, shape_of, value_words}
 use Rattle.types.specs.Values.{Value}
 use Rattle.well_typed.specs.Agreeing.{Agrees}
@@ -39,7 +39,7 @@ use Rattle.expr_code.proofs.Coming.{pushes}
 use Rattle.stmt_code.specs.Layout.{IsLaidOut, Widens, IsFree, Spares}
 use Rattle.stmt_code.specs.Resting.{Framed, IsAt, Knows, Rests, StandsFor, AreKept}
 use Rattle.stmt_code.specs.Statements.{IsDeclared, Numbers}
-use Rattle.stmt_code.specs.Storing.{Puts, declared, declared_from, object_declared}
+use Rattle.stmt_code.specs.Storing.{Puts, Stores, declared, declared_from}
 use Rattle.stmt_code.proofs.Placing.{declared_knows}
 use Rattle.stmt_code.proofs.StoringCode.{StoresLocally, block_locally, computes_above, passed_same, same_given, word_locally}
 use Rattle.stmt_code.proofs.Words.{with_words, written, others_kept}
@@ -58,21 +58,25 @@ value_suits calls g v t e typed p view sees x h =
     (passed_same t (value_with (call p.frames_left) p e) x h)
 
 module _ (kept : AgreementIsKept) (sized : ValuesHaveWords) (quiet : QuietStays) (i : Sections) (program : Program) (g : Package) (numbers : Numbers) where
-  -- wherever the declaration has a value, it is of the declared subtype
-  abbrev pub Suits : Framed → ObjectTree → Type 0
-  Suits v d = (p : Place) (view : View) → Sees g v.names p view → p.scope ≡ program.scope → (x : Value) → declared program.scope d (call p.frames_left) p ≡
-      Gives x
-      → has_shape (shape_of v.names.scope (subtype_named program.scope d.subtype)) x ≡ true
+  -- wherever there is a value, it is of the subtype
+  abbrev pub SuitsAs : Framed → Subtype → (Calls → Place → Val Value) → Type 0
+  SuitsAs v t value = (p : Place) (view : View) → Sees g v.names p view → p.scope ≡ program.scope → (x : Value) → value (call p.frames_left) p ≡ Gives x
+      → has_shape (shape_of v.names.scope t) x ≡ true
 
-  -- the code computes the value, and an instruction stores its words
-  pub declares_by : (v later : Framed) (d : ObjectTree) (r : Role) (slot : Slot) (from mid : ℕ)
-      → IsLaidOut g v → Widens v d.name.name r (subtype_named program.scope d.subtype) slot later
-      → Spares v (subtype_named program.scope d.subtype) slot later → slot.region ≡ regions.Locals
-      → from ≤ mid → (stack : List ℤ → Value → List ℤ) → Everywhere i (library_of g) (Sees g v.names) from mid stack (declared program.scope d)
-      → Suits v d
-      → StoresLocally i mid slot.offset (words_of v.names.scope (subtype_named program.scope d.subtype)) (stack [])
-      → IsDeclared i program g numbers v from (suc mid) later (LocalObject d)
-  declares_by v later d r slot from mid laid widens spares region up stack computes suits stores = record {
+  abbrev pub Suits : Framed → ObjectTree → Type 0
+  Suits v d = SuitsAs v (subtype_named program.scope d.subtype) (declared program.scope d)
+
+  abbrev pub begun : List ℕ → Subtype → Value → Object
+  begun name t x = record { name = name; subtype = t; value = x }
+
+  -- The code computes the value of a new object of this name and subtype, and an instruction stores its words.
+  pub begins_by : (v later : Framed) (name : List ℕ) (t : Subtype) (r : Role) (slot : Slot) (from mid : ℕ)
+      → IsLaidOut g v → Widens v name r t slot later → Spares v t slot later → slot.region ≡ regions.Locals
+      → from ≤ mid → (stack : List ℤ → Value → List ℤ) (value : Calls → Place → Val Value) → Everywhere i (library_of g) (Sees g v.names) from mid stack value
+      → SuitsAs v t value
+      → StoresLocally i mid slot.offset (words_of v.names.scope t) (stack [])
+      → Stores i program g v later from (suc mid) value (λ x m. m) (λ x a. record a { locals = begun name t x ∷ a.locals })
+  begins_by v later name t r slot from mid laid widens spares region up stack value computes suits stores = record {
     mid = mid;
     up = up;
     end = refl;
@@ -82,15 +86,12 @@ module _ (kept : AgreementIsKept) (sized : ValuesHaveWords) (quiet : QuietStays)
     puts = puts;
   }
     where
-      t : Subtype
-      t = subtype_named program.scope d.subtype
-
       puts : (schedule : List ScheduleLine) (k : Kernel) (task : ℕ) (m : Words) (f : Frame) (fs : List Frame) (store : Store) (a : Activation) (p : Place)
           (x : Value)
           → IsAt program store p → p.locals ≡ a.locals → p.within ≡ a.within → StandsFor program g store m → Rests g v a f.locals
           → Knows g v p (view_of i schedule k m f fs) → a.within ≡ None
-          → declared program.scope d (call p.frames_left) p ≡ Gives x
-          → Puts i program g schedule k task m f fs mid (stack [] x) [] later store (record a { locals = object_declared program.scope d x ∷ a.locals })
+          → value (call p.frames_left) p ≡ Gives x
+          → Puts i program g schedule k task m f fs mid (stack [] x) [] later store (record a { locals = begun name t x ∷ a.locals })
       puts schedule k task m f fs store a p x is_at locals within stands rests knows outside gives =
           let suited = suits p (view_of i schedule k m f fs) knows.sees (is_at.scope) x gives in
           let many : length (value_words x) ≡ words_of v.names.scope t = (sized (shape_of v.names.scope t) x suited).sized in
@@ -106,12 +107,32 @@ module _ (kept : AgreementIsKept) (sized : ValuesHaveWords) (quiet : QuietStays)
             rests = record {
               small = (let l = put.long in let s = rests.small in omega (arith, l, s));
               sees = λ p' view' sees' locals' within' words'.
-                  declared_knows kept sized g v laid a f.locals (with_words slot.offset (value_words x) f.locals) rests (object_declared program.scope d x)
+                  declared_knows kept sized g v laid a f.locals (with_words slot.offset (value_words x) f.locals) rests (begun name t x)
                   slot.offset put p' view' sees' locals' within' words' r slot later widens region refl suited;
             };
             keeps = subst (λ z. AreKept z f.locals (with_words slot.offset (value_words x) f.locals)) (sym spares.reserved)
                 (others_kept v.reserved slot.offset (value_words x) f.locals enough (subst (λ n. IsFree v.reserved slot.offset n) (sym many) spares.free));
           }
+
+  -- ... of a declaration
+  pub declares_by : (v later : Framed) (d : ObjectTree) (r : Role) (slot : Slot) (from mid : ℕ)
+      → IsLaidOut g v → Widens v d.name.name r (subtype_named program.scope d.subtype) slot later
+      → Spares v (subtype_named program.scope d.subtype) slot later → slot.region ≡ regions.Locals
+      → from ≤ mid → (stack : List ℤ → Value → List ℤ) → Everywhere i (library_of g) (Sees g v.names) from mid stack (declared program.scope d)
+      → Suits v d
+      → StoresLocally i mid slot.offset (words_of v.names.scope (subtype_named program.scope d.subtype)) (stack [])
+      → IsDeclared i program g numbers v from (suc mid) later (LocalObject d)
+  declares_by v later d r slot from mid laid widens spares region up stack computes suits stores =
+      begins_by v later d.name.name (subtype_named program.scope d.subtype) r slot from mid laid widens spares region up stack
+      (declared program.scope d) computes suits stores
+
+  -- the initial value of a subtype is of that subtype
+  pub initial_suits : InitialValuesHaveShape → (v : Framed) (t : Subtype) → IsKnown v.names.scope t → SuitsAs v t (λ c p. Gives (initial program.scope t))
+  initial_suits shaped v t known p view sees scope x h =
+      subst (λ y. has_shape (shape_of v.names.scope t) y ≡ true) (same_given (initial program.scope t) x h)
+      (sym (place_values v.names.scope p sees.names.agrees t (initial program.scope t) known)
+      ∙ ap (λ s. has_shape (shape_of s t) (initial program.scope t)) scope
+      ∙ shaped (shape_of program.scope t))
 
   -- ---- with an initial value
   module _ (calls : CallsAreTyped) (v later : Framed) (d : ObjectTree) (e : ExprTree) (r : Role) (t : Subtype) (slot : Slot) (valued : d.value ≡ Some e)
@@ -165,7 +186,7 @@ module _ (kept : AgreementIsKept) (sized : ValuesHaveWords) (quiet : QuietStays)
       (subst (λ u. Everywhere i (library_of g) (Sees g v.names) from (suc from) on (λ c p. Gives (initial program.scope u))) (sym named) computes))
       (λ p view sees scope x h.
       subst (λ u. has_shape (shape_of v.names.scope u) x ≡ true) (sym named)
-      (suited p sees.names.agrees scope x
+      (initial_suits shaped v t known p view sees scope x
       (ap (λ u. Gives (initial program.scope u)) (sym named) ∙ ap (λ o. declared_from program.scope d o (call p.frames_left) p) (sym valued) ∙ h)))
       (subst (λ n. StoresLocally i (suc from) slot.offset n (on [])) (sym (ap (words_of v.names.scope) named ∙ single))
       (word_locally quiet i (suc from) slot.offset here))
@@ -180,11 +201,3 @@ module _ (kept : AgreementIsKept) (sized : ValuesHaveWords) (quiet : QuietStays)
           (subst
           (λ q. Spends (behaviour i schedule) task frames_of (most_steps i) (suc (length fs)) q k (in_frame m (placed f from base) fs) k
           (in_frame m (placed f (suc from) (w ∷ base)) fs)) (sym n) (pushes quiet i schedule k task m calm from w push f fs base (suc from) next))
-
-      suited : (p : Place) → Agrees v.names.scope p → p.scope ≡ program.scope → (x : Value) → Gives (initial program.scope t) ≡ Gives x
-          → has_shape (shape_of v.names.scope t) x ≡ true
-      suited p agrees scope x h =
-          subst (λ y. has_shape (shape_of v.names.scope t) y ≡ true) (same_given (initial program.scope t) x h)
-          (sym (place_values v.names.scope p agrees t (initial program.scope t) known)
-          ∙ ap (λ s. has_shape (shape_of s t) (initial program.scope t)) scope
-          ∙ shaped (shape_of program.scope t))

@@ -44,3 +44,4 @@ mod Loading
 mod GivingBack
 mod PassingTargets
 mod PassingWell
+mod DeclaringParameters
