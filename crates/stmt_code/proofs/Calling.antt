@@ -444,7 +444,7 @@ module _ (this : Scene) where
         items f fs code.computes rests h.depth)
         code.many code.copies
         (λ z ez. code.passes (call (frames_left items)) place (view_of i schedule k m f fs) z (has.functions (frames_left items)).sound
-        (scene.sees_here this r.2 items f fs rests) ez)
+        (scene.sees_here this r.2 items f fs rests) h.outside ez)
         r.5 h.rests h.outside h.depth h.inner h.unhandled
 
     -- a call that main makes

@@ -45,3 +45,4 @@ mod GivingBack
 mod PassingTargets
 mod PassingWell
 mod DeclaringParameters
+mod CodeOfCalls

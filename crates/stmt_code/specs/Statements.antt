@@ -90,8 +90,8 @@ module _ (i : Sections) (program : Program) (g : Package) (numbers : Numbers) wh
     pub destinations : List Destination
     pub many : length destinations ≡ length (results c.procedure.parameters)
     pub copies : AreCopies i program g v (suc mid) to destinations
-    -- what is passed has the shapes, and is of the types, of the parameters; and the targets are placed where it is copied back to
-    pub passes : (calls : Calls) (p : Place) (view : View) (a : Actuals) → (library_of g).sound calls → Knows g v p view
+    -- outside of protected objects what is passed has the shapes, and is of the types, of the parameters; and the targets are placed where it is copied back to
+    pub passes : (calls : Calls) (p : Place) (view : View) (a : Actuals) → (library_of g).sound calls → Knows g v p view → p.within ≡ None
         → passed_actuals calls p c.procedure.parameters c.arguments ≡ Gives a
         → ArePassed (shapes_of c.procedure) a.values × AreOf program.scope (taken_types c.procedure.parameters) a.values
         × ArePlaced v.names destinations a.targets

@@ -1,0 +1,38 @@
+-- The code of a call of a procedure: its actual parameters, CALL, and what is copied back (RM 6.4, 6.4.1).
+use Rattle.std.proofs.Common.{◌≡◌, ℕ, suc, ◌≤◌, List, length, None, Some}
+use Rattle.kernel.specs.Laws.{QuietStays}
+use Rattle.image.specs.Sections.{Sections}
+use Rattle.image.specs.declared.instruction.Operation.TheVariants as op
+use Rattle.meaning.specs.Calls.{Callee, results}
+use Rattle.meaning.specs.Programs.{Program}
+use Rattle.expr_code.specs.Seeing.{Package, Sees, library_of}
+use Rattle.expr_code.specs.Views.{At}
+use Rattle.stmt_code.specs.Copying.{AreCopies, Destination}
+use Rattle.stmt_code.specs.Resting.{Framed}
+use Rattle.stmt_code.specs.Statements.{IsCall, Numbers}
+use Rattle.stmt_code.proofs.Actuals.{ComputesActuals}
+use Rattle.stmt_code.proofs.CopyingBack.{copies_up}
+use Rattle.stmt_code.proofs.PassingWell.{PassAllWell}
+
+module _ (quiet : QuietStays) (i : Sections) (program : Program) (g : Package) (scope_is : program.scope ≡ g.scope) (numbers : Numbers) (v : Framed) (c : Callee) where
+  pub calls_procedure : (number : ℕ) → numbers c.procedure ≡ Some number → c.through ≡ None → c.procedure.barrier ≡ None
+      → (from mid to : ℕ) → from ≤ mid → ComputesActuals quiet i (library_of g) (Sees g v.names) v.names from mid c.procedure.parameters c.arguments
+      → At i mid (op.Call number)
+      → (ds : List Destination) → length ds ≡ length (results c.procedure.parameters) → AreCopies i program g v (suc mid) to ds
+      → PassAllWell program g scope_is v c.procedure.parameters c.arguments ds
+      → IsCall i program g numbers v from to c
+  calls_procedure number numbered outside plain from mid to up computes here ds many copies passes = record {
+    number = number;
+    numbered = numbered;
+    outside = outside;
+    plain = plain;
+    mid = mid;
+    up = up;
+    over = copies_up i program g v ds (suc mid) to copies;
+    computes = computes;
+    calls = here;
+    destinations = ds;
+    many = many;
+    copies = copies;
+    passes = passes;
+  }
