@@ -52,11 +52,11 @@ use Rattle.expr_code.proofs.Passing.{computes_call, computes_call_alone, compute
 
 -- ---- lists
 
-in_front_then : (one two : List ArgumentTree) (rest : ArgumentTrees) → arguments_in_front (one ++ two) rest ≡ arguments_in_front one (arguments_in_front two rest)
+pub in_front_then : (one two : List ArgumentTree) (rest : ArgumentTrees) → arguments_in_front (one ++ two) rest ≡ arguments_in_front one (arguments_in_front two rest)
 in_front_then [] two rest = refl
 in_front_then (a ∷ one) two rest = ap (MoreArguments a) (in_front_then one two rest)
 
-sum_then : {X : Type 0} (f : X → ℕ) (one two : List X) → total f (one ++ two) ≡ total f one + total f two
+pub sum_then : {X : Type 0} (f : X → ℕ) (one two : List X) → total f (one ++ two) ≡ total f one + total f two
 sum_then f [] two = omega arith
 sum_then f (a ∷ one) two = let more = sum_then f one two in omega (arith, more)
 
@@ -86,7 +86,7 @@ whole [] (suc n) e = absurd (omega (arith, e))
 whole (x ∷ l) zero e = absurd (omega (arith, e))
 whole (x ∷ l) (suc n) e = ap (λ m. x ∷ m) (whole l n (omega (arith, e)))
 
-nothing_behind : {X : Type 0} (l : List X) → l ++ [] ≡ l
+pub nothing_behind : {X : Type 0} (l : List X) → l ++ [] ≡ l
 nothing_behind [] = refl
 nothing_behind (x ∷ l) = ap (λ m. x ∷ m) (nothing_behind l)
 
@@ -189,15 +189,15 @@ all_actuals v start new depth height formals all n down up h =
 
 -- ---- the call
 
-trees_are : (all : List Argument) → arguments_in_front (map argument_tree all) NoArguments ≡ argument_trees all
+pub trees_are : (all : List Argument) → arguments_in_front (map argument_tree all) NoArguments ≡ argument_trees all
 trees_are [] = refl
 trees_are (a ∷ all) = ap (MoreArguments (argument_tree a)) (trees_are all)
 
-sizes_are : (all : List Argument) → total argument_size (map argument_tree all) ≡ arguments_size (argument_trees all)
+pub sizes_are : (all : List Argument) → total argument_size (map argument_tree all) ≡ arguments_size (argument_trees all)
 sizes_are [] = refl
 sizes_are (a ∷ all) = ap (λ n. argument_size (argument_tree a) + n) (sizes_are all)
 
-counted : (all : List Argument) → count (argument_trees all) ≡ length all
+pub counted : (all : List Argument) → count (argument_trees all) ≡ length all
 counted [] = refl
 counted (a ∷ all) = ap suc (counted all)
 
@@ -219,6 +219,21 @@ module _ (v : Visible) (first : Identifier) (profile : Profile) (names : NamesPr
       let ends = value_rule first.place (standing_of v.scope first selectors) in
       ap (λ w. selectors_faults v.scope first.place w selectors) (sym stands) ∙ back_empty hidden all (front_empty (hidden ++ all) ends legal.unbroken)
 
+  -- ... of one argument among those from a number on
+  pub actual_legal : (k : ℕ) (all : List Argument) → arguments_faults v.scope callee_of k (argument_trees all) ≡ [] → (n : ℕ) (f : FormalParameter) (a : ArgumentTree) → slice_get profile.formals (k + n) ≡ Some f
+      → slice_get (map argument_tree all) n ≡ Some a
+      → IsPassedLegally v.scope f a
+  actual_legal k [] h n f a at_formal at_argument = absurd cc
+  actual_legal k (x ∷ all) h zero f a at_formal at_argument =
+      let same : argument_tree x ≡ a = cc in
+      let more : k + 0 ≡ k = omega arith in
+      let slot : slot_at v.scope callee_of k ≡ formal_slot f = ap (λ o. call_slot o k) profiled ∙ ap formal_slot_or (ap (slice_get profile.formals) (sym more) ∙ at_formal) in
+      (λ j. argument_faults v.scope (sym slot j) (sym same j)) ∙ front_empty (argument_faults v.scope (slot_at v.scope callee_of k) (argument_tree x)) (arguments_faults v.scope callee_of (suc k) (argument_trees all)) h
+  actual_legal k (x ∷ all) h (suc n) f a at_formal at_argument =
+      let more : k + suc n ≡ suc k + n = omega arith in
+      actual_legal (suc k) all (back_empty (argument_faults v.scope (slot_at v.scope callee_of k) (argument_tree x)) (arguments_faults v.scope callee_of (suc k) (argument_trees all)) h) n f a
+      (ap (slice_get profile.formals) (sym more) ∙ at_formal) at_argument
+
   module _ (arguments : List Argument) (legal : IsLegal v.scope (tree.Named first (MoreSelectors (Arguments (argument_trees arguments)) NoSelectors))) where
     abbrev given : ArgumentTrees
     given = argument_trees arguments
@@ -232,22 +247,8 @@ module _ (v : Visible) (first : Identifier) (profile : Profile) (names : NamesPr
         ∙ one_count first.place (count given) (length profile.formals)
         (ap (λ o. count_rule first.place (count given) (length (profile_formals o))) (sym profiled) ∙ front_empty _ (arguments_faults v.scope callee_of 0 given) one)
 
-    each : (k : ℕ) (all : List Argument) → arguments_faults v.scope callee_of k (argument_trees all) ≡ [] → (n : ℕ) (f : FormalParameter) (a : ArgumentTree) → slice_get profile.formals (k + n) ≡ Some f
-        → slice_get (map argument_tree all) n ≡ Some a
-        → IsPassedLegally v.scope f a
-    each k [] h n f a at_formal at_argument = absurd cc
-    each k (x ∷ all) h zero f a at_formal at_argument =
-        let same : argument_tree x ≡ a = cc in
-        let more : k + 0 ≡ k = omega arith in
-        let slot : slot_at v.scope callee_of k ≡ formal_slot f = ap (λ o. call_slot o k) profiled ∙ ap formal_slot_or (ap (slice_get profile.formals) (sym more) ∙ at_formal) in
-        (λ j. argument_faults v.scope (sym slot j) (sym same j)) ∙ front_empty (argument_faults v.scope (slot_at v.scope callee_of k) (argument_tree x)) (arguments_faults v.scope callee_of (suc k) (argument_trees all)) h
-    each k (x ∷ all) h (suc n) f a at_formal at_argument =
-        let more : k + suc n ≡ suc k + n = omega arith in
-        each (suc k) all (back_empty (argument_faults v.scope (slot_at v.scope callee_of k) (argument_tree x)) (arguments_faults v.scope callee_of (suc k) (argument_trees all)) h) n f a
-        (ap (slice_get profile.formals) (sym more) ∙ at_formal) at_argument
-
     pub all_legal : ArePassedLegally v.scope profile.formals (map argument_tree arguments)
-    all_legal k f a at_formal at_argument = let same : 0 + k ≡ k = omega arith in each 0 arguments (back_empty (part_rule v.scope first.place callee_of (Arguments given)) (arguments_faults v.scope callee_of 0 given) one) k f a (ap (slice_get profile.formals) same ∙ at_formal) at_argument
+    all_legal k f a at_formal at_argument = let same : 0 + k ≡ k = omega arith in actual_legal 0 arguments (back_empty (part_rule v.scope first.place callee_of (Arguments given)) (arguments_faults v.scope callee_of 0 given) one) k f a (ap (slice_get profile.formals) same ∙ at_formal) at_argument
 
   module _ (old new : Code) (height : ℕ) (added : AddsCall v first.name profile old height new) where
     -- what the name means

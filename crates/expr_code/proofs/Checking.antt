@@ -64,7 +64,7 @@ suited laws v t e h calls p agrees answers =
 of_type : ExpressionsAreTyped → (v : Visible) (unit : Package) (t : Subtype) (e : ExprTree) → IsFit v.scope t e → (calls : _) (p : _) (view : _) → (library_of unit).sound calls → Sees unit v p view → suits v.scope (Typed t.type_number) (value_with calls p e) ≡ true
 of_type laws v unit t e h calls p view sound sees = suited laws v t e h calls p sees.names.agrees (sound p sees.unit.sound)
 
-shaped : ExpressionsAreTyped → (v : Visible) (t : Subtype) (e : ExprTree) → IsFit v.scope t e → (calls : Calls) (p : Place) → Agrees v.scope p → CallsAnswer calls p → (x : Value) → value_with calls p e ≡ Gives x
+pub shaped : ExpressionsAreTyped → (v : Visible) (t : Subtype) (e : ExprTree) → IsFit v.scope t e → (calls : Calls) (p : Place) → Agrees v.scope p → CallsAnswer calls p → (x : Value) → value_with calls p e ≡ Gives x
     → has_shape (shape_of v.scope t) x ≡ true
 shaped laws v t e h calls p agrees answers x is = subtype_values v.scope t x ∙ ap (suits v.scope (Typed t.type_number)) (sym is) ∙ suited laws v t e h calls p agrees answers
 

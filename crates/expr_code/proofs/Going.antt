@@ -93,13 +93,13 @@ module _ (s : Scope) (sound : SoundScope s) where
   same_parts n [] all = refl
   same_parts n (c ∷ cs) all = λ j. MoreShapes c.name (part_shape s n c.subtype all.0.before j) (same_parts n cs all.1 j)
 
-  grouped_shape : (t : Subtype) (cs : List RecordComponent) → form_at s t.type_number ≡ Some (Records cs) → shape_of s t ≡ Grouped (component_shapes (shapes s) cs)
+  pub grouped_shape : (t : Subtype) (cs : List RecordComponent) → form_at s t.type_number ≡ Some (Records cs) → shape_of s t ≡ Grouped (component_shapes (shapes s) cs)
   grouped_shape t cs form =
       let n = t.type_number in
       let shape = shape_by_form s n (Records cs) form in
       grouped_too (base_range_of n) t (shape_or_none (slice_get (shapes s) n)) (component_shapes (shapes s) cs) (shape.1 ∙ ap Grouped (same_parts n cs (sound_form s sound n (Records cs) form)))
 
-  repeated_shape : (t index : Subtype) (many : ℕ) (element : Subtype) → form_at s t.type_number ≡ Some (Arrays index many element) → shape_of s t ≡ Repeated many (shape_of s element)
+  pub repeated_shape : (t index : Subtype) (many : ℕ) (element : Subtype) → form_at s t.type_number ≡ Some (Arrays index many element) → shape_of s t ≡ Repeated many (shape_of s element)
   repeated_shape t index many element form =
       let n = t.type_number in
       let shape = shape_by_form s n (Arrays index many element) form in
@@ -204,7 +204,7 @@ all_gone v start c depth t l all n up p = subst (λ xs. EmitsPath v start depth 
 
 -- ---- a component of a record
 
-pushes_word : (v : Visible) (depth : ℕ) (z : ℤ) → Changes (Suits v) (op.Push z) depth (depth + 1)
+pub pushes_word : (v : Visible) (depth : ℕ) (z : ℤ) → Changes (Suits v) (op.Push z) depth (depth + 1)
 pushes_word v depth z = record { operands = refl; names = λ i s g. refl; takes = λ i s g. omega arith; leaves = λ i s g. omega arith; stays = refl; is_none = refl }
 
 takes_two : (v : Visible) (depth : ℕ) → Changes (Suits v) op.Add (depth + 1 + 1) (depth + 1)
@@ -366,9 +366,13 @@ no_parts s sound first (x ∷ all) t parts h integers =
     let part = first_part s t (selector_tree x) (selector_trees all) h in
     no_integer_parts s sound part.place part.role t (selector_tree x) integers (part_unbroken s sound part.place (standing.Part part.role t) (selector_tree x) part.unbroken)
 
-selected_all : (all : List Selector) → selected (map selector_tree all) NoSelectors ≡ selector_trees all
+pub selected_all : (all : List Selector) → selected (map selector_tree all) NoSelectors ≡ selector_trees all
 selected_all [] = refl
 selected_all (x ∷ all) = ap (MoreSelectors (selector_tree x)) (selected_all all)
+
+pub path_counts : (all : List Selector) → path_size (map selector_tree all) ≡ selectors_size (selector_trees all)
+path_counts [] = refl
+path_counts (x ∷ all) = let more = path_counts all in omega (arith, more)
 
 module _ (quiet : QuietStays) (sized : ValuesHaveWords) (places : PartsHavePlaces) (v : Visible) (old low mid new : Code) (depth one size : ℕ) (first : Identifier) (selectors : List Selector) (r : Role) (t last : Subtype)
     (slot : Slot) (w : ℤ) (p : one ≡ depth + 1) (z : w ≡ pos slot.offset) (legal : IsLegal v.scope (tree.Named first (selector_trees selectors)))
@@ -434,10 +438,6 @@ module _ (quiet : QuietStays) (sized : ValuesHaveWords) (places : PartsHavePlace
             (instruction_flows (Suits v) mid new (depth + 1) (depth + size) (op.LoadBlock slot.region size) loads
             (record { operands = block; names = λ i s g. g.region first.name slot there; takes = λ i s g. omega arith; leaves = λ i s g. omega arith; stays = refl; is_none = refl })));
       }
-    where
-      path_counts : (all : List Selector) → path_size (map selector_tree all) ≡ selectors_size (selector_trees all)
-      path_counts [] = refl
-      path_counts (x ∷ all) = let more = path_counts all in omega (arith, more)
 
 -- ---- lists of one argument
 

@@ -16,8 +16,10 @@ mod Branching
 mod Names
 mod Checking
 mod Conversions
-mod Going
-mod Actuals
+pub mod Going
+mod Addressing
+pub mod Fitting
+pub mod Actuals
 pub mod Widths
 mod Selecting
 mod Refusals

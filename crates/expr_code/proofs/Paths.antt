@@ -46,13 +46,13 @@ use Rattle.expr_code.specs.Locating.{IsPath, located}
 use Rattle.expr_code.proofs.Locating.{finds_element, finds_field, then_found}
 
 -- a value of the shape of a record has fields, and one of the shape of an array components
-as_record : (x : Shape) (parts : Shapes) (v : Value) → x ≡ Grouped parts → has_shape x v ≡ true → (fields : Fields) × (v ≡ Record fields) × (have_shapes parts fields ≡ true)
+pub as_record : (x : Shape) (parts : Shapes) (v : Value) → x ≡ Grouped parts → has_shape x v ≡ true → (fields : Fields) × (v ≡ Record fields) × (have_shapes parts fields ≡ true)
 as_record x parts (Record fields) is shaped = (fields, refl, subst (λ y. has_shape y (Record fields) ≡ true) is shaped)
 as_record x parts (Number z) is shaped = let no : has_shape (Grouped parts) (Number z) ≡ true = subst (λ y. has_shape y (Number z) ≡ true) is shaped in absurd cc
 as_record x parts (Truth b) is shaped = let no : has_shape (Grouped parts) (Truth b) ≡ true = subst (λ y. has_shape y (Truth b) ≡ true) is shaped in absurd cc
 as_record x parts (Array vs) is shaped = let no : has_shape (Grouped parts) (Array vs) ≡ true = subst (λ y. has_shape y (Array vs) ≡ true) is shaped in absurd cc
 
-as_array : (x inner : Shape) (many : ℕ) (v : Value) → x ≡ Repeated many inner → has_shape x v ≡ true → (vs : Values) × (v ≡ Array vs) × (nat_eq (count_values vs) many ≡ true) × (all_values (has_shape inner) vs ≡ true)
+pub as_array : (x inner : Shape) (many : ℕ) (v : Value) → x ≡ Repeated many inner → has_shape x v ≡ true → (vs : Values) × (v ≡ Array vs) × (nat_eq (count_values vs) many ≡ true) × (all_values (has_shape inner) vs ≡ true)
 as_array x inner many (Array vs) is shaped =
     let both : (nat_eq (count_values vs) many && all_values (has_shape inner) vs) ≡ true = subst (λ y. has_shape y (Array vs) ≡ true) is shaped in
     let parts = and_parts (nat_eq (count_values vs) many) (all_values (has_shape inner) vs) both in

@@ -264,7 +264,7 @@ module _ (s : Scope) where
       pub known : is_known own ≡ true
       pub wanted : is_wanted s w own ≡ true
 
-    fits : (w : Wanted) (own : Own) (place : ℕ) → is_known own ≡ true → mismatch s w own place ≡ [] → Fits w own
+    pub fits : (w : Wanted) (own : Own) (place : ℕ) → is_known own ≡ true → mismatch s w own place ≡ [] → Fits w own
     fits w own place known h = record {
       known = known;
       wanted = judged (is_known own) (is_wanted s w own)

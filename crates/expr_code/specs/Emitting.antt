@@ -1,11 +1,11 @@
 -- What methods that add the code of expressions promise.
-use Rattle.std.specs.Prelude.{◌≡◌, ℕ, ◌+◌, ◌*◌, ◌≤◌, List, [], ◌∷◌, true, Some, ⊤}
+use Rattle.std.specs.Prelude.{◌≡◌, ℕ, ◌+◌, ◌*◌, ◌≤◌, List, [], ◌∷◌, Bool, true, false, Option, Some, ⊤}
 use Rattle.image.specs.Sections.{Sections}
 use Rattle.ada_tree.specs.declared.expression.Operand.{Operand}
 use Rattle.ada_tree.specs.ExpressionTree.{ExprTree, chain_tree, expr_tree}
 use Rattle.ada_tree.specs.Size.{expr_size}
 use Rattle.types.specs.declared.entity.Subtype.{Subtype}
-use Rattle.types.specs.Entities.{TypeForm}
+use Rattle.types.specs.Entities.{Arrays, Records, TypeForm}
 use Rattle.types.specs.Evaluations.{Gives}
 use Rattle.types.specs.Evaluating.{Calls, value_with}
 use Rattle.types.specs.Layouts.{words_of}
@@ -25,6 +25,12 @@ use Rattle.expr_code.specs.Flows.{Flows}
 use Rattle.expr_code.specs.Seeing.{library_of, Package, Sees, Suits}
 use Rattle.expr_code.specs.declared.code.Code.{Code}
 use Rattle.expr_code.specs.declared.visible.Visible.{Visible}
+
+-- arrays and records
+abbrev pub is_composite : Option TypeForm → Bool
+is_composite (Some (Arrays index many element)) = true
+is_composite (Some (Records components)) = true
+is_composite form = false
 
 -- no rule is broken in the expression, where something fit is expected of it
 pub record IsLegal (s : Scope) (e : ExprTree) : Type 0 where
@@ -66,6 +72,15 @@ pub record EmitsChecked (v : Visible) (old : Code) (depth : ℕ) (t : Subtype) (
   pub known : (form : TypeForm) × (form_at v.scope t.type_number ≡ Some form)
   pub single : words_of v.scope t ≡ 1
   -- its value, where there is one, is of the subtype's type
+  pub typed : (calls : Calls) (p : Place) → Agrees v.scope p → CallsAnswer calls p → (x : Value) → value_with calls p e ≡ Gives x → has_shape (shape_of v.scope t) x ≡ true
+
+-- ... of whatever words
+pub record EmitsFitting (v : Visible) (old : Code) (depth : ℕ) (t : Subtype) (e : ExprTree) (new : Code) : Type 0 where
+  pub extends : Extends old new
+  pub sized : here new ≤ here old + (20 * expr_size e + 3)
+  pub computes : (i : Sections) → Holds i (here old) new → (g : Package) → ComputesChecked i (library_of g) (Sees g v) (here old) (here new) t e
+  pub flows : Flows (Suits v) old depth new (depth + words_of v.scope t)
+  pub known : (form : TypeForm) × (form_at v.scope t.type_number ≡ Some form)
   pub typed : (calls : Calls) (p : Place) → Agrees v.scope p → CallsAnswer calls p → (x : Value) → value_with calls p e ≡ Gives x → has_shape (shape_of v.scope t) x ≡ true
 
 -- The code that was added makes of an expression's value of one word, computed by the code before it, that of the operators and operands behind it.

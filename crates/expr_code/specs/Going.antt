@@ -1,7 +1,7 @@
 -- What code promises that goes from the address of an object to that of a part of it (RM 4.1.1, 4.1.3).
-use Rattle.std.specs.Prelude.{◌≡◌, ℕ, ◌+◌, ◌*◌, ◌≤◌, ℤ, pos, List, [], ◌∷◌}
+use Rattle.std.specs.Prelude.{◌≡◌, ℕ, suc, ◌+◌, ◌*◌, ◌≤◌, ℤ, pos, List, [], ◌∷◌}
 use Rattle.ada_tree.specs.ExpressionTree.{MoreSelectors, SelectorTree, SelectorTrees}
-use Rattle.ada_tree.specs.Size.{selector_size}
+use Rattle.ada_tree.specs.Size.{selector_size, selectors_size}
 use Rattle.image.specs.Sections.{Sections}
 use Rattle.image.specs.declared.instruction.Operation.TheVariants as op
 use Rattle.types.specs.declared.entity.Role.{Role}
@@ -15,6 +15,7 @@ use Rattle.expr_code.specs.Code.{Adds, here, Extends, Holds}
 use Rattle.expr_code.specs.Flows.{Flows}
 use Rattle.expr_code.specs.Locating.{IsPath}
 use Rattle.expr_code.specs.Seeing.{library_of, Package, Sees, Suits}
+use Rattle.expr_code.specs.Views.{At}
 use Rattle.expr_code.specs.declared.code.Code.{Code}
 use Rattle.expr_code.specs.declared.visible.Visible.{Visible}
 
@@ -42,6 +43,10 @@ selected (x ∷ all) rest = MoreSelectors x (selected all rest)
 abbrev pub SelectsAll : Scope → Subtype → List SelectorTree → Subtype → Type 0
 SelectsAll s t all last = (r : Role) (rest : SelectorTrees) → select_all s (standing.Part r t) (selected all rest) ≡ select_all s (standing.Part r last) rest
 
+-- with all these parts, and none behind them
+abbrev pub EndsAt : Scope → Subtype → SelectorTrees → Subtype → Type 0
+EndsAt s t all last = (r : Role) → select_all s (standing.Part r t) all ≡ standing.Part r last
+
 abbrev pub path_size : List SelectorTree → ℕ
 path_size [] = 0
 path_size (x ∷ all) = selector_size x + path_size all
@@ -55,6 +60,17 @@ pub record EmitsPath (v : Visible) (old : Code) (depth : ℕ) (t : Subtype) (all
       → IsPath i (library_of g) (Sees g v) (here new) to last (shape_of v.scope last) rest final end
       → IsPath i (library_of g) (Sees g v) (here old) to t (shape_of v.scope t) (selected all rest) final end
   pub flows : Flows (Suits v) old (depth + 1) new (depth + 1)
+
+-- The code that was added puts the address of an object of this subtype, or of a part of it, on the operand stack above so many words: that of the object, and
+-- a path from there.
+pub record EmitsAddress (v : Visible) (old : Code) (depth offset : ℕ) (t : Subtype) (all : SelectorTrees) (last : Subtype) (new : Code) : Type 0 where
+  pub extends : Extends old new
+  pub longer : suc (here old) ≤ here new
+  pub sized : here new ≤ here old + (20 * selectors_size all + 1)
+  pub pushes : (i : Sections) → Holds i (here old) new → At i (here old) (op.Push (pos offset))
+  pub goes : (i : Sections) → Holds i (here old) new → (g : Package)
+      → IsPath i (library_of g) (Sees g v) (suc (here old)) (here new) t (shape_of v.scope t) all last (shape_of v.scope last)
+  pub flows : Flows (Suits v) old depth new (depth + 1)
 
 -- what makes of an address and an index that was checked, both on the operand stack, the address of the component: from the first index on, by the words of each
 pub record AddsOffset (old : Code) (depth : ℕ) (first : ℤ) (words : ℕ) (new : Code) : Type 0 where

@@ -1,3 +1,4 @@
+pub mod Entries
 pub mod Views
 pub mod Code
 pub mod Coming

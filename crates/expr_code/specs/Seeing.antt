@@ -1,5 +1,5 @@
 -- What a frame of code sees of the names that are visible in a part of a program: where the words of objects stand, and which subprograms functions have.
-use Rattle.std.specs.Prelude.{◌≡◌, ◌<◌, ◌≤◌, ℕ, true, List, [], length, map, Option, Some, None, slice_get}
+use Rattle.std.specs.Prelude.{◌≡◌, ◌<◌, ◌≤◌, ℕ, true, List, [], length, map, Option, Some, None}
 use Rattle.ada_tree.specs.Size.{total}
 use Rattle.image.specs.Sections.{Sections}
 use Rattle.image.specs.Operations.{called}
@@ -17,6 +17,7 @@ use Rattle.types.specs.Layouts.{words_of}
 use Rattle.types.specs.Shapes.{shape_of}
 use Rattle.well_typed.specs.Answers.{CallsAnswer, FunctionsAreSound}
 use Rattle.well_typed.specs.Agreeing.{Agrees, parameter_subtype}
+use Rattle.expr_code.specs.Entries.{entry_at}
 use Rattle.expr_code.specs.Views.{View}
 use Rattle.expr_code.specs.Computing.{Library}
 use Rattle.expr_code.specs.Naming.{Lies}
@@ -25,15 +26,15 @@ use Rattle.expr_code.specs.declared.visible.Visible.{Visible}
 
 -- what is told of the name by its number, where something is
 abbrev pub told_of : {X : Type 0} → Scope → List (Option X) → List ℕ → Option X
-told_of s all name = elim (number_of s name) [ None ↦ None | Some n ↦ elim (slice_get all n) [ None ↦ None | Some x ↦ x ] ]
+told_of s all name = elim (number_of s name) [ None ↦ None | Some n ↦ entry_at all n ]
 
 -- the place of the words of the object with this name, where it has one
 abbrev pub slot_of : Visible → List ℕ → Option Slot
-slot_of v name = told_of v.scope v.slots.items name
+slot_of v name = told_of v.scope v.slots name
 
 -- the number of the subprogram of the function with this name
 abbrev pub subprogram_of : Visible → List ℕ → Option ℕ
-subprogram_of v name = told_of v.scope v.subprograms.items name
+subprogram_of v name = told_of v.scope v.subprograms name
 
 -- the profile of the subprogram with this name, if it is one; a procedure, function or entry of the language has none here
 abbrev pub subprogram_profile : Option Entity → Option Profile

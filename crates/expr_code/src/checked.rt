@@ -1,13 +1,17 @@
 //! The code of expressions whose values are checked against a subtype (RM 4.6, 6.4.1).
-ghost use Rattle.std.specs.Prelude.{◌≡◌, OnOk};
+ghost use Rattle.std.specs.Prelude.{◌≡◌, true, IfOk, OnOk};
+ghost use Rattle.image.specs.Rules.{is_block};
 ghost use Rattle.ada_tree.specs.ExpressionTree.{expr_tree};
-ghost use Rattle.expr_code.specs.Emitting.{EmitsChecked, IsFit};
+ghost use Rattle.types.specs.Layouts.{words_of};
+ghost use Rattle.types.specs.Scopes.{form_at};
+ghost use Rattle.expr_code.specs.Emitting.{EmitsChecked, EmitsFitting, is_composite, IsFit};
 ghost use Rattle.well_typed.specs.SoundScopes.{SoundScope};
 
 use crate::code::{Code, above};
 use crate::refusal::Refusal;
 use crate::visible::Visible;
 use ada_tree::Expr;
+use base::limits::WORDS;
 use image::Operation;
 use kernel::laws::quiet_stays;
 use types::laws::values_have_words;
@@ -17,7 +21,7 @@ use well_typed::laws::expressions_are_typed;
 impl Code {
     /// Adds the code of an expression whose value is to lie in a subtype, and of the check that it does, where that is one of integers.
     #[cycle(expression)]
-    pub(crate) fn checked(
+    pub fn checked(
         &mut self,
         visible: &Visible,
         depth: u16,
@@ -43,5 +47,54 @@ impl Code {
             Some(TypeForm::Boolean) => self.of_width(visible, depth, 1, e),
             _ => Err(Refusal::Outside),
         }
+    }
+
+    /// The same of a subtype of whatever words. Tells how many words the value takes.
+    pub fn of_subtype(
+        &mut self,
+        visible: &Visible,
+        depth: u16,
+        subtype: Subtype,
+        e: &Expr,
+    ) -> Result<u16, Refusal>
+        requires sound { SoundScope visible.now.scope }
+        requires fit { IsFit visible.now.scope subtype (expr_tree e.now) }
+        ensures words { IfOk result (λ words. words ≡ words_of visible.now.scope subtype) }
+        ensures block { IfOk result (λ words. is_block words ≡ true) }
+        ensures emits { OnOk result (EmitsFitting visible.now self.old depth subtype (expr_tree e.now) self.new) }
+    {
+        match visible.scope.form(subtype.type_number) {
+            Some(TypeForm::Array(..)) => self.composite(visible, depth, subtype, e),
+            Some(TypeForm::Record(_)) => self.composite(visible, depth, subtype, e),
+            _ => {
+                self.checked(visible, depth, subtype, e)?;
+                Ok(1)
+            }
+        }
+    }
+
+    // The same of one of arrays or records, whose values need no check.
+    fn composite(
+        &mut self,
+        visible: &Visible,
+        depth: u16,
+        subtype: Subtype,
+        e: &Expr,
+    ) -> Result<u16, Refusal>
+        requires sound { SoundScope visible.now.scope }
+        requires fit { IsFit visible.now.scope subtype (expr_tree e.now) }
+        requires composite { is_composite (form_at visible.now.scope subtype.type_number) ≡ true }
+        ensures words { IfOk result (λ words. words ≡ words_of visible.now.scope subtype) }
+        ensures block { IfOk result (λ words. is_block words ≡ true) }
+        ensures emits { OnOk result (EmitsFitting visible.now self.old depth subtype (expr_tree e.now) self.new) }
+    {
+        quiet_stays();
+        expressions_are_typed();
+        let words = visible.scope.words(subtype);
+        if words == 0 || WORDS < usize::from(words) {
+            return Err(Refusal::Limit);
+        }
+        self.of_width(visible, depth, words, e)?;
+        Ok(words)
     }
 }

@@ -22,7 +22,7 @@ pub fn above(depth: u16) -> Result<u16, Refusal>
 }
 
 /// So many words more on the operand stack.
-pub(crate) fn raised(depth: u16, words: u16) -> Result<u16, Refusal>
+pub fn raised(depth: u16, words: u16) -> Result<u16, Refusal>
     ensures more { IfOk result (λ more. more ≡ depth + words) }
     ensures within { IfOk result (λ more. more ≤ FRAME_WORDS) }
     ensures refused { IfErr result (λ why. IsRefused 0 (depth + words) false why) }

@@ -12,6 +12,7 @@ mod part;
 mod refusal;
 mod visible;
 
-pub use code::Code;
+pub use code::{Code, above, raised};
+pub use name::scalar_word;
 pub use refusal::Refusal;
-pub use visible::{Slot, Visible};
+pub use visible::{Entries, Slot, Visible};

@@ -40,7 +40,7 @@ pub(crate) fn fixed_value(standing: Standing) -> Option<Value>
 }
 
 // The word of a value that is known: a number, 0 for False, 1 for True.
-fn scalar_word(value: Value) -> i64
+pub fn scalar_word(value: Value) -> i64
     ensures { result ≡ scalar_word value }
 {
     match value {

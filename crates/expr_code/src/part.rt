@@ -8,7 +8,7 @@ ghost use Rattle.types.specs.Evaluating.{fixed_value};
 ghost use Rattle.types.specs.Scopes.{form_at, number_of};
 ghost use Rattle.types.specs.Standings.{standing_of, stands_first};
 ghost use Rattle.expr_code.specs.Emitting.{EmitsExpression, IsLegal};
-ghost use Rattle.expr_code.specs.Going.{AddsOffset, EmitsPath, IsLegalPart, IsLegalPath, Selects, SelectsAll};
+ghost use Rattle.expr_code.specs.Going.{AddsOffset, EmitsAddress, EmitsPath, EndsAt, IsLegalPart, IsLegalPath, Selects, SelectsAll};
 ghost use Rattle.expr_code.specs.Seeing.{slot_of};
 ghost use Rattle.expr_code.specs.Widths.{width_of};
 ghost use Rattle.well_typed.specs.SoundScopes.{SoundScope};
@@ -26,6 +26,24 @@ use types::{Subtype, TypeForm};
 use well_typed::laws::expressions_are_typed;
 
 impl Code {
+    /// Adds the code of the address of an object that stands there and has this subtype, or of the part of it behind these selectors, and tells the part's subtype.
+    pub fn address(
+        &mut self,
+        visible: &Visible,
+        depth: u16,
+        slot: Slot,
+        subtype: Subtype,
+        selectors: &[Selector],
+    ) -> Result<Subtype, Refusal>
+        requires sound { SoundScope visible.now.scope }
+        requires legal { IsLegalPath visible.now.scope subtype (selector_trees selectors.now) }
+        ensures ends { IfOk result (λ last. EndsAt visible.now.scope subtype (selector_trees selectors.now) last) }
+        ensures emits { IfOk result (λ last. EmitsAddress visible.now self.old depth slot.offset subtype (selector_trees selectors.now) last self.new) }
+    {
+        self.emit(depth, Operation::Push(i64::from(slot.offset)))?;
+        self.path(visible, depth, subtype, selectors)
+    }
+
     /// Adds the code of a part of the object with this name, subtype and words, and tells how many words it takes.
     #[cycle(expression)]
     pub(crate) fn part(

@@ -1,10 +1,14 @@
 //! What is visible to code: names, where the words of objects stand, and which subprograms functions have.
-ghost use Rattle.std.specs.Prelude.{◌≡◌, option_map, IfSome};
+ghost use Rattle.std.specs.Prelude.{◌≡◌, ◌∷◌, ◌++◌, [], length, option_map, take, IfSome, OnOk};
 ghost use Rattle.types.specs.Entities.{profile_value};
+ghost use Rattle.expr_code.specs.Entries.{entry_at};
 ghost use Rattle.expr_code.specs.Seeing.{NamesProfile, profile_named, slot_of, subprogram_of};
 
+use crate::refusal::Refusal;
 use image::Region;
 use lexer::Text;
+use std::alloc::Global;
+use std::marker::Model;
 use types::{Entity, Profile, Scope};
 
 /// Where the first word of an object stands: its region, and how many words stand in front of it there.
@@ -14,13 +18,70 @@ pub struct Slot {
     pub offset: u16,
 }
 
+/// What names have, by their numbers, where they have something. Contracts see a list.
+#[derive(Drop)]
+pub struct Entries<T> {
+    entries: Vec<Option<T>>,
+}
+
+impl<T> Model for Entries<T> {
+    ghost use Rattle.std.specs.Prelude.{List, Option};
+
+    ghost Value = { List (Option T) };
+
+    ghost view = { λ e. e.entries.items };
+}
+
+impl<T: Copy> Entries<T> {
+    /// No entries.
+    pub fn new(alloc: Global) -> Entries<T>
+        ensures { result ≡ [] }
+    {
+        Entries {
+            entries: Vec::new(alloc),
+        }
+    }
+
+    /// What the name of this number has.
+    pub fn at(&self, number: usize) -> Option<T>
+        ensures { result ≡ entry_at self.now number }
+    {
+        match self.entries.get(number) {
+            Some(entry) => *entry,
+            None => None,
+        }
+    }
+
+    /// How many names have an entry.
+    pub fn len(&self) -> usize
+        ensures { result ≡ length self.now }
+    {
+        self.entries.len()
+    }
+
+    /// Adds that of one name more.
+    pub fn push(&mut self, entry: Option<T>) -> Result<(), Refusal>
+        ensures { OnOk result (self.new ≡ self.old ++ entry ∷ []) }
+    {
+        self.entries.push(entry)?;
+        Ok(())
+    }
+
+    /// Keeps those of the first names.
+    pub fn truncate(&mut self, many: usize)
+        ensures { self.new ≡ take many self.old }
+    {
+        self.entries.truncate(many);
+    }
+}
+
 /// The names that are visible in a part of a program. For each of them, by its number: where its words stand, if it is an object that has words, and the number
 /// of its subprogram, if it is one that may be called.
 #[derive(Drop)]
 pub struct Visible {
     pub scope: Scope,
-    pub slots: Vec<Option<Slot>>,
-    pub subprograms: Vec<Option<u16>>,
+    pub slots: Entries<Slot>,
+    pub subprograms: Entries<u16>,
 }
 
 impl Visible {
@@ -29,10 +90,7 @@ impl Visible {
         ensures { result ≡ slot_of self.now name.now }
     {
         let number = self.scope.number_of(name)?;
-        match self.slots.get(number) {
-            Some(slot) => *slot,
-            None => None,
-        }
+        self.slots.at(number)
     }
 
     /// The number of the subprogram of this name, if it is one that may be called.
@@ -40,10 +98,7 @@ impl Visible {
         ensures { result ≡ subprogram_of self.now name.now }
     {
         let number = self.scope.number_of(name)?;
-        match self.subprograms.get(number) {
-            Some(subprogram) => *subprogram,
-            None => None,
-        }
+        self.subprograms.at(number)
     }
 
     /// The profile of the subprogram of this name, if it is one.

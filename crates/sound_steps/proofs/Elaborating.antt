@@ -98,13 +98,13 @@ subtype_here p name t h =
     (behind_objects (own_object p name.name) (own_function p name.name) _ t h)))
 
 -- the subtype is known, and the same in the run
-record IsDeclared (s : Scope) (p : Place) (name : Identifier) : Type 0 where
-  subtype : Subtype
-  named : subtype_of s name ≡ Some subtype
-  known : IsKnown s subtype
-  here : subtype_named p.scope name ≡ subtype
+pub record IsDeclared (s : Scope) (p : Place) (name : Identifier) : Type 0 where
+  pub subtype : Subtype
+  pub named : subtype_of s name ≡ Some subtype
+  pub known : IsKnown s subtype
+  pub here : subtype_named p.scope name ≡ subtype
 
-declared_subtype : (s : Scope) (p : Place) (name : Identifier) → Agrees s p → subtype_faults s name ≡ [] → IsDeclared s p name
+pub declared_subtype : (s : Scope) (p : Place) (name : Identifier) → Agrees s p → subtype_faults s name ≡ [] → IsDeclared s p name
 declared_subtype s p name agrees legal = by_kind (subtype_entity name.place (named_entity s name) legal doubtful)
   where
     doubtful : named_entity s name ≡ Some entity.Doubtful → ⊥

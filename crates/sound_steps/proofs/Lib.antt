@@ -14,7 +14,7 @@ mod Passing
 pub mod Naming
 mod Calling
 mod Callees
-mod Elaborating
+pub mod Elaborating
 mod Stepping
 mod Serving
 mod Alike

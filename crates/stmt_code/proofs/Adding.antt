@@ -5,7 +5,7 @@ use Rattle.std.proofs.Math.Seq.{take-suc}
 use Rattle.ada_tree.specs.declared.statement.Stmt.{Stmt}
 use Rattle.ada_tree.specs.ExpressionTree.{ExprTree}
 use Rattle.ada_tree.specs.StatementTree as statements
-use Rattle.ada_tree.specs.StatementTree.{MoreStmts, NoHandlers, NoStmts, StmtTree, StmtTrees, stmt_tree, stmt_trees, stmts_of}
+use Rattle.ada_tree.specs.StatementTree.{DeclarationTree, MoreStmts, NoHandlers, NoStmts, StmtTree, StmtTrees, stmt_tree, stmt_trees, stmts_of}
 use Rattle.ada_tree.specs.Size.{stmt_size, stmts_size}
 use Rattle.image.specs.Sections.{Sections}
 use Rattle.image.specs.Operations.{given_by, jump_target, taken_by}
@@ -15,6 +15,7 @@ use Rattle.image.specs.declared.instruction.Operation.TheVariants as op
 use Rattle.image.specs.declared.subprograms.Subprogram.{Subprogram}
 use Rattle.types.specs.Scopes.{Scope}
 use Rattle.types.specs.Statics.{start_of}
+use Rattle.declaring.specs.LocalRules.{locals_faults, locals_scope}
 use Rattle.expr_rules.specs.declared.own.Wanted.{Wanted}
 use Rattle.expr_rules.specs.ExpressionRules.{faults_in, faults_of}
 use Rattle.expr_rules.specs.NameRules.{mismatch}
@@ -27,14 +28,15 @@ use Rattle.expr_code.specs.Views.{At}
 use Rattle.expr_code.specs.Code.{Adds, Extends, Holds, StandsFrom, here}
 use Rattle.expr_code.specs.Emitting as expressions
 use Rattle.expr_code.specs.Emitting.{EmitsExpression}
-use Rattle.expr_code.specs.Flows.{AreKept}
+use Rattle.expr_code.specs.Flows.{AreKept, Flows}
 use Rattle.expr_code.specs.Computing.{Computes}
 use Rattle.expr_code.specs.Seeing.{Package, Sees, Suits, library_of}
 use Rattle.expr_code.specs.declared.code.Code.{Code}
 use Rattle.expr_code.specs.declared.visible.Visible.{Visible}
 use Rattle.expr_code.proofs.Flowing.{kept_one, kept_then, widened}
 use Rattle.expr_code.proofs.Growing.{added_at, added_extends, added_here, added_there, extends_self, extends_trans, holds_before, holds_later}
-use Rattle.stmt_code.specs.Emitting.{Allows, AreLegal, Emits, EmitsStatement, EmitsStatements, HasLabels, IsLegal, IsReached, Meant}
+use Rattle.stmt_code.specs.Suiting.{SuitsStatements}
+use Rattle.stmt_code.specs.Emitting.{Allows, AreLegal, Emits, EmitsDeclarations, EmitsStatement, EmitsStatements, HasLabels, IsLegal, IsReached, Meant, Serves, seeing}
 use Rattle.stmt_code.specs.Resting.{Framed}
 use Rattle.stmt_code.specs.Statements.{AreStatements, IsStatement, Numbers, Ways}
 use Rattle.stmt_code.specs.declared.draft.Draft.{Draft}
@@ -68,6 +70,20 @@ labels_before i old new e h = record { labels = λ k x le is. h.labels k x le (e
 pub labels_then : (a b c : List (List ℕ)) → StandsFrom 0 a b → StandsFrom 0 b c → StandsFrom 0 a c
 labels_then a b c p q = λ k x le is. q k x le (p k x le is)
 
+-- ---- drafts of which one has other code alone
+
+abbrev pub IsBeside : (old new : Draft) → Type 0
+IsBeside old new = (new.labels ≡ old.labels) × (new.words ≡ old.words)
+
+pub labels_beside : (old new : Draft) → IsBeside old new → StandsFrom 0 old.labels new.labels
+labels_beside old new same = labels_stay old.labels new.labels same.0
+
+pub taken_beside : (old new : Draft) → IsBeside old new → new.words.taken ≡ old.words.taken
+taken_beside old new same = ap (λ w. w.taken) same.1
+
+pub most_beside : (old new : Draft) → IsBeside old new → new.words.most ≡ old.words.most
+most_beside old new same = ap (λ w. w.most) same.1
+
 -- ---- instructions of an image
 
 same_self : (n : ℕ) → nat_eq n n ≡ true
@@ -95,11 +111,11 @@ jump_kept i s low high place to there r =
 
 module _ (v : Visible) where
   -- ---- a value, and an instruction that takes it
-  module _ (a m c : Code) (e : ExprTree) (o : Operation) (p : EmitsExpression v a 0 1 e m) (q : Adds m 1 o c) where
+  module _ (a m c : Code) (o : Operation) (grown : Extends a m) (runs : Flows (Suits v) a 0 m 1) (q : Adds m 1 o c) where
     pub value_extends : Extends a c
-    value_extends = extends_trans a m c p.extends (added_extends m c 1 o q)
+    value_extends = extends_trans a m c grown (added_extends m c 1 o q)
 
-    pub value_kept : (i : Sections) (s : Subprogram) (low high : ℕ) → low ≤ here a → here c ≤ high → Holds i (here a) c → Suits v i s → c.deepest ≤ s.stack
+    pub value_kept : (i : Sections) (s : Subprogram) (low high : ℕ) → low ≤ here a → here c ≤ high → Holds i (here a) c → SuitsStatements v i s → c.deepest ≤ s.stack
         → has_operands o ≡ true → names_things i s o ≡ true → taken_by i s.results o ≤ 1 → 1 - taken_by i s.results o + given_by i o ≡ 0 → is_return o ≡ false
         → has_depth i (here c) 0 ≡ true
         → ((t : ℕ) → jump_target o ≡ Some t → IsReached i low high t)
@@ -108,10 +124,10 @@ module _ (v : Visible) where
         let next = added_here m c 1 o q in
         let grows = added_extends m c 1 o q in
         let within : 1 ≤ s.stack = omega (arith, q.within, deep) in
-        let last = kept_one i s low high (here m) 1 0 o (added_there m c 1 o q i (here a) p.extends.longer h) within (omega arith) operands names takes leaves is_none
+        let last = kept_one i s low high (here m) 1 0 o (added_there m c 1 o q i (here a) grown.longer h) within (omega arith) operands names takes leaves is_none
         (λ g. ap (λ n. has_depth i n 0) (sym next) ∙ ends)
         (λ t g. let r = reached t g in (r.down, r.up, r.empty)) in
-        let first = p.flows.flows i s (holds_before i (here a) m c grows h) suits (omega (arith, grows.deeper, deep)) within last.begins in
+        let first = runs.flows i s (holds_before i (here a) m c grows h) suits.names (omega (arith, grows.deeper, deep)) within last.begins in
         kept_then i s low high (here a) (here m) (here c) 0 1
         (widened i s (here a) (here m) low high (here a) (here m) 0 down (omega (arith, next, up)) first)
         (subst (λ n. AreKept i s low high (here m) n 1) (sym next) last)
@@ -123,9 +139,11 @@ module _ (v : Visible) where
     none_emits Is c size same = record {
       extends = extends_self c.code;
       labels = λ k x le h. h;
+      taken = refl;
+      most = omega arith;
       sized = omega arith;
-      stands = λ i h l program g numbers f names serves. same i program g numbers f (here c.code);
-      flows = λ i s low high down up h l suits deep ends ways.
+      stands = λ i h l program g numbers f names serves room. same i program g numbers f (here c.code);
+      flows = λ i s low high down up h l suits deep wide ends ways.
           record { begins = ends; shallow = omega arith; each = λ k x le less there. absurd (omega (arith, le, less)) };
     }
 
@@ -136,15 +154,19 @@ module _ (v : Visible) where
     emits_then P Q R a b c m n both p q = record {
       extends = extends_trans a.code b.code c.code p.extends q.extends;
       labels = labels_then a.labels b.labels c.labels p.labels q.labels;
+      taken = q.taken ∙ p.taken;
+      most = omega (arith, p.most, q.most);
       sized = omega (arith, p.sized, q.sized);
-      stands = λ i h l program g numbers f names serves.
+      stands = λ i h l program g numbers f names serves room.
           both i program g numbers f (here a.code) (here b.code) (here c.code) p.extends.longer q.extends.longer
-          (p.stands i (holds_before i (here a.code) b.code c.code q.extends h) (labels_before i b.labels c.labels q.labels l) program g numbers f names serves)
-          (q.stands i (holds_later i (here a.code) (here b.code) c.code p.extends.longer h) l program g numbers f names serves);
-      flows = λ i s low high down up h l suits deep ends ways.
-          let second = q.flows i s low high (omega (arith, down, p.extends.longer)) up (holds_later i (here a.code) (here b.code) c.code p.extends.longer h) l suits deep ends ways in
+          (p.stands i (holds_before i (here a.code) b.code c.code q.extends h) (labels_before i b.labels c.labels q.labels l) program g numbers f names serves
+          (omega (arith, q.most, room)))
+          (q.stands i (holds_later i (here a.code) (here b.code) c.code p.extends.longer h) l program g numbers f names
+          (subst (Serves program g numbers f) (sym p.taken) serves) room);
+      flows = λ i s low high down up h l suits deep wide ends ways.
+          let second = q.flows i s low high (omega (arith, down, p.extends.longer)) up (holds_later i (here a.code) (here b.code) c.code p.extends.longer h) l suits deep wide ends ways in
           let first = p.flows i s low high down (omega (arith, up, q.extends.longer)) (holds_before i (here a.code) b.code c.code q.extends h)
-          (labels_before i b.labels c.labels q.labels l) suits (omega (arith, q.extends.deeper, deep)) second.begins ways in
+          (labels_before i b.labels c.labels q.labels l) suits (omega (arith, q.extends.deeper, deep)) (omega (arith, q.most, wide)) second.begins ways in
           kept_then i s low high (here a.code) (here b.code) (here c.code) 0 0 first second;
     }
 
@@ -156,8 +178,11 @@ module _ (v : Visible) where
     emits_as P Q a c m n means more p = record {
       extends = p.extends;
       labels = p.labels;
+      taken = p.taken;
+      most = p.most;
       sized = omega (arith, p.sized, more);
-      stands = λ i h l program g numbers f names serves. means i program g numbers f (here a.code) (here c.code) (p.stands i h l program g numbers f names serves);
+      stands = λ i h l program g numbers f names serves room.
+          means i program g numbers f (here a.code) (here c.code) (p.stands i h l program g numbers f names serves room);
       flows = p.flows;
     }
 
@@ -167,44 +192,48 @@ module _ (v : Visible) where
         → ((i : Sections) (low high : ℕ) → Allows i low high w → IsReached i low high place)
         → ((i : Sections) (program : Program) (g : Package) (numbers : Numbers) (f : Framed) (from : ℕ) → At i from (op.Jump place)
         → Is i program g numbers f from (suc from))
-        → Adds a.code 0 (op.Jump place) c.code → c.labels ≡ a.labels → Emits Is v w a size c
+        → Adds a.code 0 (op.Jump place) c.code → IsBeside a c → Emits Is v w a size c
     jump_emits Is a c place size one reached means q same =
         let next = added_here a.code c.code 0 (op.Jump place) q in
         record {
           extends = added_extends a.code c.code 0 (op.Jump place) q;
-          labels = labels_stay a.labels c.labels same;
+          labels = labels_beside a c same;
+          taken = taken_beside a c same;
+          most = (let m = most_beside a c same in omega (arith, m));
           sized = omega (arith, next, one);
-          stands = λ i h l program g numbers f names serves.
+          stands = λ i h l program g numbers f names serves room.
               subst (λ n. Is i program g numbers f (here a.code) n) (sym next)
               (means i program g numbers f (here a.code) (added_at a.code c.code 0 (op.Jump place) q i (here a.code) (omega arith) h));
-          flows = λ i s low high down up h l suits deep ends ways.
+          flows = λ i s low high down up h l suits deep wide ends ways.
               subst (λ n. AreKept i s low high (here a.code) n 0) (sym next)
               (jump_kept i s low high (here a.code) place (added_there a.code c.code 0 (op.Jump place) q i (here a.code) (omega arith) h) (reached i low high ways));
         }
 
-    pub exit_emits : (a c : Draft) (at place : ℕ) → w.exit ≡ Some place → Adds a.code 0 (op.Jump place) c.code → c.labels ≡ a.labels
+    pub exit_emits : (a c : Draft) (at place : ℕ) → w.exit ≡ Some place → Adds a.code 0 (op.Jump place) c.code → IsBeside a c
         → EmitsStatement v w a (statements.Exit at None) c
     exit_emits a c at place way q same =
         jump_emits (λ i program g numbers f from to. IsStatement i program g numbers f w from to (statements.Exit at None)) a c place 1 (omega arith)
         (λ i low high ways. ways.exit place way) (λ i program g numbers f from there. (place, way, there, refl)) q same
 
-    pub return_emits : (a c : Draft) (at place : ℕ) → w.return ≡ Some place → Adds a.code 0 (op.Jump place) c.code → c.labels ≡ a.labels
+    pub return_emits : (a c : Draft) (at place : ℕ) → w.return ≡ Some place → Adds a.code 0 (op.Jump place) c.code → IsBeside a c
         → EmitsStatement v w a (statements.Return at None) c
     return_emits a c at place way q same =
         jump_emits (λ i program g numbers f from to. IsStatement i program g numbers f w from to (statements.Return at None)) a c place 1 (omega arith)
         (λ i low high ways. ways.return place way) (λ i program g numbers f from there. (place, way, there, refl)) q same
 
     pub exit_when_emits : (a c : Draft) (m : Code) (at place : ℕ) (e : ExprTree) → w.exit ≡ Some place → EmitsExpression v a.code 0 1 e m
-        → Adds m 1 (op.JumpIfNotZero place) c.code → c.labels ≡ a.labels → EmitsStatement v w a (statements.Exit at (Some e)) c
+        → Adds m 1 (op.JumpIfNotZero place) c.code → IsBeside a c → EmitsStatement v w a (statements.Exit at (Some e)) c
     exit_when_emits a c m at place e way p q same =
         let o = op.JumpIfNotZero place in
         let next = added_here m c.code 1 o q in
         let grows = added_extends m c.code 1 o q in
         record {
-          extends = value_extends a.code m c.code e o p q;
-          labels = labels_stay a.labels c.labels same;
+          extends = value_extends a.code m c.code o p.extends p.flows q;
+          labels = labels_beside a c same;
+          taken = taken_beside a c same;
+          most = (let m = most_beside a c same in omega (arith, m));
           sized = omega (arith, next, p.sized);
-          stands = λ i h l program g numbers f names serves. (
+          stands = λ i h l program g numbers f names serves room. (
             place,
             here m,
             way,
@@ -214,8 +243,8 @@ module _ (v : Visible) where
             added_at m c.code 1 o q i (here a.code) p.extends.longer h,
             next,
           );
-          flows = λ i s low high down up h l suits deep ends ways.
-              value_kept a.code m c.code e o p q i s low high down up h suits deep refl refl (omega arith) (omega arith) refl ends
+          flows = λ i s low high down up h l suits deep wide ends ways.
+              value_kept a.code m c.code o p.extends p.flows q i s low high down up h suits deep refl refl (omega arith) (omega arith) refl ends
               (λ t g. subst (IsReached i low high) (sym (same_place o place t refl g)) (ways.exit place way));
         }
 
@@ -257,16 +286,34 @@ module _ (v : Visible) where
         → EmitsStatements v w a (stmt_trees all) c
     all_statements a c all n up p = subst (λ l. EmitsStatements v w a (stmt_trees l) c) (take_all all n up) p
 
-    -- ---- blocks that declare nothing and handle nothing
-    pub block_emits : (a c : Draft) (place : ℕ) (body : StmtTrees) → EmitsStatements v w a body c → EmitsStatement v w a (statements.Block place [] body NoHandlers) c
-    block_emits a c place body p = record {
-      extends = p.extends;
-      labels = p.labels;
-      sized = omega (arith, p.sized);
-      stands = λ i h l program g numbers f names serves.
-          (here a.code, f, omega arith, p.extends.longer, (refl, refl), p.stands i h l program g numbers f names serves);
-      flows = p.flows;
-    }
+    -- ---- blocks that handle nothing
+    pub block_emits : (a b c d : Draft) (later : Visible) (place : ℕ) (ds : List DeclarationTree) (body : StmtTrees) → EmitsDeclarations v a ds later b
+        → EmitsStatements later w b body c
+        → d ≡ record c { words = record c.words { taken = a.words.taken } }
+        → EmitsStatement v w a (statements.Block place ds body NoHandlers) d
+    block_emits a b c d later place ds body p q same = subst (EmitsStatement v w a (statements.Block place ds body NoHandlers)) (sym same) (record {
+      extends = extends_trans a.code b.code c.code p.extends q.extends;
+      labels = labels_then a.labels b.labels c.labels p.labels q.labels;
+      taken = refl;
+      most = omega (arith, p.most, q.most);
+      sized = omega (arith, p.sized, q.sized);
+      stands = λ i h l program g numbers f names serves room.
+          let declared = p.stands i (holds_before i (here a.code) b.code c.code q.extends h) (labels_before i b.labels c.labels q.labels l) program g numbers f names serves
+          (omega (arith, q.most, room)) in (
+            here b.code,
+            seeing f later,
+            p.extends.longer,
+            q.extends.longer,
+            declared.0,
+            q.stands i (holds_later i (here a.code) (here b.code) c.code p.extends.longer h) l program g numbers (seeing f later) refl declared.1 room,
+          );
+      flows = λ i s low high down up h l suits deep wide ends ways.
+          let second = q.flows i s low high (omega (arith, down, p.extends.longer)) up (holds_later i (here a.code) (here b.code) c.code p.extends.longer h) l
+          (p.suits i s suits (omega (arith, q.most, wide))) deep wide ends ways in
+          let first = p.flows i s low high down (omega (arith, up, q.extends.longer)) (holds_before i (here a.code) b.code c.code q.extends h) suits
+          (omega (arith, q.extends.deeper, deep)) (omega (arith, q.most, wide)) second.begins in
+          kept_then i s low high (here a.code) (here b.code) (here c.code) 0 0 first second;
+    })
 
 -- ---- what is legal
 
@@ -281,8 +328,15 @@ pub exit_condition : (s : Scope) (place : ℕ) (x : Option ExprTree) (e : ExprTr
 exit_condition s place x e is h =
     back_empty (exit_rule h.around place) (condition_faults s e) (ap (λ y. exit_rule h.around place ++ optional_condition_faults s y) (sym is) ∙ h.unbroken)
 
-pub block_legal : (s : Scope) (place : ℕ) (body : StmtTrees) → IsLegal s (statements.Block place [] body NoHandlers) → AreLegal s body
-block_legal s place body h = record { around = h.around; unbroken = front_empty (stmts_faults s h.around body) [] h.unbroken }
+module _ (s : Scope) (place : ℕ) (ds : List DeclarationTree) (body : StmtTrees) (h : IsLegal s (statements.Block place ds body NoHandlers)) where
+  both : (locals_faults s ds ++ stmts_faults (locals_scope s ds) h.around body) ≡ []
+  both = front_empty (locals_faults s ds ++ stmts_faults (locals_scope s ds) h.around body) [] h.unbroken
+
+  pub block_declarations : locals_faults s ds ≡ []
+  block_declarations = front_empty (locals_faults s ds) (stmts_faults (locals_scope s ds) h.around body) both
+
+  pub block_body : AreLegal (locals_scope s ds) body
+  block_body = record { around = h.around; unbroken = back_empty (locals_faults s ds) (stmts_faults (locals_scope s ds) h.around body) both }
 
 pub statement_legal : (s : Scope) (all : List Stmt) (n : ℕ) (x : Stmt) → n < length all → x ≡ get_or all n x → AreLegal s (stmt_trees all) → IsLegal s (stmt_tree x)
 statement_legal s all n x less is h = record { around = h.around; unbroken = at all n less is h.unbroken }

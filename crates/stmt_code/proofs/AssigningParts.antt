@@ -32,7 +32,7 @@ use Rattle.expr_code.specs.Views.{At, placed, view_of}
 use Rattle.expr_code.specs.declared.visible.Slot.{Slot}
 use Rattle.expr_code.proofs.Coming.{more, then_comes}
 use Rattle.expr_code.proofs.Locating.{given}
-use Rattle.stmt_code.specs.Copying.{Destination}
+use Rattle.stmt_code.specs.declared.call.Destination.{Destination}
 use Rattle.stmt_code.specs.Layout.{IsLaidOut, IsVariable, NamesObject}
 use Rattle.stmt_code.specs.Resting.{Framed, IsAt, Knows, Rests, StandsFor}
 use Rattle.stmt_code.specs.Statements.{IsAssigned, Numbers}

@@ -28,7 +28,7 @@ use Rattle.stmt_code.proofs.Words.{below}
 
 -- ---- words in front of others
 
-lies_at : (front : List ℤ) (x : Value) (more : List ℤ) → Lies (front ++ (value_words x ++ more)) (length front) x
+pub lies_at : (front : List ℤ) (x : Value) (more : List ℤ) → Lies (front ++ (value_words x ++ more)) (length front) x
 lies_at front x more =
     let words = front ++ (value_words x ++ more) in
     let n = length (value_words x) in

@@ -44,9 +44,10 @@ use Rattle.expr_code.proofs.Coming as coming
 use Rattle.expr_code.proofs.Calling.{enters, inner as callee, refused, replicated}
 use Rattle.expr_code.specs.declared.visible.Visible.{Visible}
 use Rattle.stmt_code.specs.Resting.{AreHeld, Framed, Narrows, RestsWith}
-use Rattle.stmt_code.specs.Copying.{AreCopies, ArePlaced, Destination, actuals_on, addresses_of, copies_on, held_at, left_out, passed_actuals, passed_expression, passed_words, taken}
+use Rattle.stmt_code.specs.Copying.{AreCopies, ArePlaced, actuals_on, addresses_of, copies_on, held_at, left_out, passed_actuals, passed_expression, passed_words, taken}
+use Rattle.stmt_code.specs.declared.call.Destination.{Destination}
 use Rattle.stmt_code.specs.Statements.{IsCall, IsProcedure, Numbers, parameter_subtype, shapes_of}
-use Rattle.stmt_code.specs.Standing.{Going, Here, Leads, LeadsEnd, Shares, Unhandled, WaitsFor, items_size, relation, work_size}
+use Rattle.stmt_code.specs.Standing.{Going, Here, Jumps, Leads, LeadsEnd, Shares, There, Unhandled, WaitsFor, items_size, relation, work_size}
 use Rattle.stmt_code.specs.Laws.{HasCode}
 use Rattle.stmt_code.proofs.Going.{declares_end, declares_follow, declares_unhandled, earlier, jumps_up, narrows_same, parameters_end, parameters_follow, parameters_unhandled, same_end}
 use Rattle.stmt_code.proofs.Sizes.{item_counts}
@@ -279,8 +280,8 @@ module _ (this : Scene) where
             let first = first_place i number in
             let back = proc.gives.back in
             let u0 = proc.down in
-            let u1 = proc.up in
-            let u2 = proc.over in
+            let u1 = proc.runs.up in
+            let u2 = proc.runs.over in
             let u3 = proc.gives.up in
             let u4 = proc.within in
             let u = up tt in
@@ -289,28 +290,30 @@ module _ (this : Scene) where
             λ place low high. (low, omega (arith, low, high, u0, u1, u2, u3, u4, ended)) in
             let first_in = all_in first (omega arith) (omega (arith, u0, u1, u2, u3)) in
             let ready_in = all_in proc.first u0 (omega (arith, u1, u2, u3)) in
-            let start_in = all_in proc.start (omega (arith, u0, u1)) (omega (arith, u2, u3)) in
+            let mid_in = all_in proc.runs.mid (omega (arith, u0, u1)) (omega (arith, u2, u3)) in
+            let way_in = all_in (proc.runs.mid + 1) (omega (arith, u0, u1)) (omega (arith, u2, u3)) in
             let stop_in = all_in proc.stop (omega (arith, u0, u1, u2)) (omega (arith, u3)) in
             let last_in = all_in (suc back) (omega (arith, u0, u1, u2, u3)) (omega arith) in
             let around : Setting = record {
               visible = proc.begins;
-              ways = record { exit = None; return = Some proc.stop };
+              ways = record { exit = None; return = Some (proc.runs.mid + 1) };
               held = held_at proc.begins.reserved addresses;
               behind = proc.middle;
               ending = proc.middle;
             } in
             let enter = proc.enters z.values addresses locals given.0 given.1 (as_many z ez) (replicated (proc.s.locals - proc.s.parameters)) in
-            let ending : (last : Framed) → Narrows g last proc.middle → (same : proc.begins.reserved ≡ proc.middle.reserved)
-            → LeadsEnd i program g numbers (seeing last around) number proc.stop last names addresses =
-            λ last nar same. record {
+            let ending : (last : Framed) → (from : ℕ) → Jumps i program g numbers from proc.stop → In number from → Narrows g last proc.middle
+            → (same : proc.begins.reserved ≡ proc.middle.reserved)
+            → LeadsEnd i program g numbers (seeing last around) number from last names addresses =
+            λ last from jumps inside nar same. record {
               at = proc.stop;
               last = proc.middle;
-              jumps = Here;
+              jumps = jumps;
               narrows = nar;
               gives = proc.gives;
               held = ap (λ l. held_at l addresses) same;
               exit = refl;
-              from_inside = stop_in;
+              from_inside = inside;
               to_inside = last_in;
             } in
             let waits : WaitsFor i program g numbers (seeing now' a) caller w.own =
@@ -321,18 +324,25 @@ module _ (this : Scene) where
               here = (omega (arith, x.0, u, le), omega (arith, y.1, over));
               next = (omega (arith, x.0, u, le), omega (arith, y.1, over));
             } in
-            let last : (begun : Narrows g proc.begun proc.begins) → Narrows g proc.later proc.middle → Follow (seeing proc.later around) number proc.start
+            let last : (begun : Narrows g proc.begun proc.begins) → Narrows g proc.runs.later proc.middle → Follow (seeing proc.runs.later around) number proc.runs.mid
             (statements_of q z.targets items) (caller ∷ fs) (w.own ∷ w.callers) =
             λ begun nar.
             let same : proc.begins.reserved ≡ proc.middle.reserved = sym begun.reserved ∙ proc.orders.reserved in (
-              proc.start,
+              proc.runs.mid + 2,
               proc.stop,
-              proc.later,
+              proc.runs.later,
               refl,
-              (record { jumps = Here; narrows = narrows_same g proc.later; reaches = (nar.shows, nar.shows); from_inside = start_in; up = u2; to_inside = stop_in }),
-              proc.statements,
+              (record {
+                jumps = There proc.runs.skip (omega arith) Here;
+                narrows = narrows_same g proc.runs.later;
+                reaches = (nar.shows, nar.shows);
+                from_inside = mid_in;
+                up = u2;
+                to_inside = stop_in;
+              }),
+              proc.runs.statements,
               (
-                proc.stop,
+                proc.runs.mid + 1,
                 caller,
                 fs,
                 w.own,
@@ -341,11 +351,11 @@ module _ (this : Scene) where
                 ds,
                 to,
                 refl,
-                ending proc.later nar same,
+                ending proc.runs.later proc.stop Here stop_in nar same,
                 refl,
                 nar.reserved,
-                same_end i program g numbers (seeing proc.middle around) proc.later proc.middle number proc.stop names addresses
-                    (ending proc.middle (narrows_same g proc.middle) same),
+                same_end i program g numbers (seeing proc.middle around) proc.runs.later proc.middle number (proc.runs.mid + 1) names addresses
+                    (ending proc.middle (proc.runs.mid + 1) (There proc.runs.way (omega (arith, u2)) Here) way_in (narrows_same g proc.middle) same),
                 refl,
                 refl,
                 waits,
@@ -362,8 +372,8 @@ module _ (this : Scene) where
             λ begun.
             earlier i program g numbers (declarations_of q z.targets items) (seeing proc.middle around) proc.begun number proc.first proc.first (caller ∷ fs)
             (w.own ∷ w.callers) Here proc.orders ready_in
-            (declares_follow i program g numbers q.body.declarations around proc.middle proc.later number proc.first proc.start (statements_of q z.targets items)
-            (caller ∷ fs) (w.own ∷ w.callers) proc.declared u1 ready_in start_in
+            (declares_follow i program g numbers q.body.declarations around proc.middle proc.runs.later number proc.first proc.runs.mid (statements_of q z.targets items)
+            (caller ∷ fs) (w.own ∷ w.callers) proc.runs.declared u1 ready_in mid_in
             ((narrows_same g proc.middle).shows, (narrows_same g proc.middle).shows) (λ nar. last begun nar)) in (
               steps.does Quiet m (callee quiet i number proc.s proc.there schedule k t m f fs mid [] words here (passed_many z ez)) (caller ∷ fs) None None,
               enters quiet i number proc.s proc.there schedule k t m f fs mid [] words here (passed_many z ez) (few n e),

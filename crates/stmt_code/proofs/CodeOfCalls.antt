@@ -7,7 +7,8 @@ use Rattle.meaning.specs.Calls.{Callee, results}
 use Rattle.meaning.specs.Programs.{Program}
 use Rattle.expr_code.specs.Seeing.{Package, Sees, library_of}
 use Rattle.expr_code.specs.Views.{At}
-use Rattle.stmt_code.specs.Copying.{AreCopies, Destination}
+use Rattle.stmt_code.specs.Copying.{AreCopies}
+use Rattle.stmt_code.specs.declared.call.Destination.{Destination}
 use Rattle.stmt_code.specs.Resting.{Framed}
 use Rattle.stmt_code.specs.Statements.{IsCall, Numbers}
 use Rattle.stmt_code.proofs.Actuals.{ComputesActuals}

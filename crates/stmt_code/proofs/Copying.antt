@@ -32,7 +32,8 @@ use Rattle.expr_code.specs.Coming.{Comes, on}
 use Rattle.expr_code.specs.Seeing.{Package}
 use Rattle.expr_code.specs.declared.visible.Visible.{Visible}
 use Rattle.stmt_code.specs.Resting.{RestsWith}
-use Rattle.stmt_code.specs.Copying.{AreCopies, ArePlaced, Destination, address_of, addresses_of, copies_on}
+use Rattle.stmt_code.specs.Copying.{AreCopies, ArePlaced, address_of, addresses_of, copies_on}
+use Rattle.stmt_code.specs.declared.call.Destination.{Destination}
 use Rattle.stmt_code.specs.Statements.{Numbers}
 use Rattle.stmt_code.specs.Standing.{CodeStands, Copying, Going, IsCopying, Shares, Unhandled, items_size, work_size}
 use Rattle.stmt_code.proofs.Holding.{held_kept}

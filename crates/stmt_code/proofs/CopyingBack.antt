@@ -35,7 +35,8 @@ use Rattle.expr_code.specs.Seeing.{Package, library_of}
 use Rattle.expr_code.specs.Views.{At, placed, view_of}
 use Rattle.expr_code.proofs.Coming.{more}
 use Rattle.expr_code.proofs.Passing.{checks}
-use Rattle.stmt_code.specs.Copying.{AreCopies, Destination, IsCopy, IsPlaced, address_of}
+use Rattle.stmt_code.specs.Copying.{AreCopies, IsCopy, IsPlaced, address_of}
+use Rattle.stmt_code.specs.declared.call.Destination.{Destination}
 use Rattle.stmt_code.specs.Layout.{IsLaidOut}
 use Rattle.stmt_code.specs.Resting.{Framed, IsAt, Knows, Rests, StandsFor}
 use Rattle.stmt_code.specs.Storing.{Puts}
@@ -121,7 +122,7 @@ module _ (quiet : QuietStays) (i : Sections) (s : Scope) (shown t : Subtype) whe
 
 module _ (kept : AgreementIsKept) (sized : ValuesHaveWords) (quiet : QuietStays) (i : Sections) (program : Program) (g : Package) (v : Framed)
     (laid : IsLaidOut g v) (d : Destination) (holds : HoldsVariables d.region) where
-  copies_by : (from mid : ℕ) → from ≤ mid → ChecksValue quiet i v.names.scope d.subtype d.subtype from mid
+  pub copies_by : (from mid : ℕ) → from ≤ mid → ChecksValue quiet i v.names.scope d.subtype d.subtype from mid
       → ((offset : ℕ) (base : List ℤ) → StoresIn i d.region mid offset (words_of v.names.scope d.subtype) base (on (pos offset ∷ base)))
       → IsCopy i program g v d from (suc mid)
   copies_by from mid up checked stores = record { mid = mid; up = up; end = refl; checks = checked; puts = puts }

@@ -41,7 +41,7 @@ use Rattle.stmt_code.specs.Resting.{Framed, IsAt, Knows, Rests, StandsFor, AreKe
 use Rattle.stmt_code.specs.Statements.{IsDeclared, Numbers}
 use Rattle.stmt_code.specs.Storing.{Puts, Stores, declared, declared_from}
 use Rattle.stmt_code.proofs.Placing.{declared_knows}
-use Rattle.stmt_code.proofs.StoringCode.{StoresLocally, block_locally, computes_above, passed_same, same_given, word_locally}
+use Rattle.stmt_code.proofs.StoringCode.{ArePushed, StoresLocally, block_locally, computes_above, computes_pushed, passed_same, same_given, word_locally}
 use Rattle.stmt_code.proofs.Words.{with_words, written, others_kept}
 
 -- what is known of an expression whose value is stored, beside its code: its value is of the subtype's type
@@ -201,3 +201,27 @@ module _ (kept : AgreementIsKept) (sized : ValuesHaveWords) (quiet : QuietStays)
           (subst
           (λ q. Spends (behaviour i schedule) task frames_of (most_steps i) (suc (length fs)) q k (in_frame m (placed f from base) fs) k
           (in_frame m (placed f (suc from) (w ∷ base)) fs)) (sym n) (pushes quiet i schedule k task m calm from w push f fs base (suc from) next))
+
+  -- ... several, above their address
+  pub declares_initial_words : InitialValuesHaveShape → (v later : Framed) (d : ObjectTree) (r : Role) (t : Subtype) (slot : Slot) (from mid : ℕ)
+      → d.value ≡ None → subtype_named program.scope d.subtype ≡ t
+      → IsLaidOut g v → Widens v d.name.name r t slot later → Spares v t slot later → slot.region ≡ regions.Locals → IsKnown v.names.scope t
+      → suc from ≤ mid → At i from (op.Push (pos slot.offset)) → ArePushed i (suc from) (value_words (initial program.scope t))
+      → mid ≡ suc from + length (value_words (initial program.scope t))
+      → At i mid (op.StoreBlock regions.Locals (words_of v.names.scope t))
+      → IsDeclared i program g numbers v from (suc mid) later (LocalObject d)
+  declares_initial_words shaped v later d r t slot from mid valued named laid widens spares region known up push pushed at here =
+      declares_by v later d r slot from mid laid (subst (λ u. Widens v d.name.name r u slot later) (sym named) widens)
+      (subst (λ u. Spares v u slot later) (sym named) spares) region (omega (arith, up)) (λ base x. on (pos slot.offset ∷ base) x)
+      (subst (λ o. Everywhere i (library_of g) (Sees g v.names) from mid (λ base x. on (pos slot.offset ∷ base) x) (λ c p. declared_from program.scope d o c p))
+      (sym valued)
+      (subst (λ u. Everywhere i (library_of g) (Sees g v.names) from mid (λ base x. on (pos slot.offset ∷ base) x) (λ c p. Gives (initial program.scope u)))
+      (sym named)
+      (computes_above quiet i (library_of g) (Sees g v.names) from mid slot.offset (λ c p. Gives (initial program.scope t)) up push
+      (computes_pushed quiet i (library_of g) (Sees g v.names) (suc from) mid (initial program.scope t) pushed at))))
+      (λ p view sees scope x h.
+      subst (λ u. has_shape (shape_of v.names.scope u) x ≡ true) (sym named)
+      (initial_suits shaped v t known p view sees scope x
+      (ap (λ u. Gives (initial program.scope u)) (sym named) ∙ ap (λ o. declared_from program.scope d o (call p.frames_left) p) (sym valued) ∙ h)))
+      (subst (λ u. StoresLocally i mid slot.offset (words_of v.names.scope u) (λ x. on (pos slot.offset ∷ []) x)) (sym named)
+      (block_locally quiet i mid slot.offset (words_of v.names.scope t) here))

@@ -1,5 +1,5 @@
 -- The end of a body that gives back values: for each such parameter, from the last one to the first, the address that is held and the value's words (RM 6.4.1).
-use Rattle.std.proofs.Common.{◌≡◌, ℕ, suc, ◌+◌, ◌-◌, ◌≤◌, ◌⊎◌, inl, inr, ℤ, List, [], ◌∷◌, length, reverse, Some, refl, sym, ap, ◌∙◌, subst, arith}
+use Rattle.std.proofs.Common.{◌≡◌, ℕ, suc, ◌+◌, ◌-◌, ◌≤◌, inl, inr, ℤ, List, [], ◌∷◌, length, reverse, Some, refl, sym, ap, ◌∙◌, subst, arith}
 use Rattle.std.specs.Prelude.{pos}
 use Rattle.std.proofs.lemmas.List.{length-append, length-reverse}
 use Rattle.base.specs.declared.schedule.ScheduleLine.{ScheduleLine}
@@ -32,6 +32,7 @@ use Rattle.expr_code.specs.Views.{At, in_frame, placed, view_of}
 use Rattle.expr_code.specs.declared.visible.Slot.{Slot}
 use Rattle.expr_code.proofs.Coming.{pushes}
 use Rattle.stmt_code.specs.Copying.{GivesBack, copies_on, held_at}
+use Rattle.stmt_code.specs.Formals.{IsLoaded}
 use Rattle.stmt_code.specs.Layout.{NamesObject}
 use Rattle.stmt_code.specs.Resting.{AreHeld, Framed, IsAtHome, Knows}
 use Rattle.stmt_code.proofs.Assigning.{found_some}
@@ -44,12 +45,6 @@ words_back s [] = 0
 words_back s (t ∷ ts) = suc (words_of s t) + words_back s ts
 
 module _ (i : Sections) (v : Framed) where
-  -- the words of a value in the frame are put on the operand stack: a single one by LDL, several by PUSH of their place and LDB
-  abbrev pub IsLoaded : (from to offset size : ℕ) → Type 0
-  IsLoaded from to offset size =
-      ((size ≡ 1) × At i from (op.LoadLocal offset) × (to ≡ suc from))
-      ⊎ (At i from (op.Push (pos offset)) × At i (suc from) (op.LoadBlock regions.Locals size) × (to ≡ suc (suc from)))
-
   -- the parameter is a variable of the frame; its address, which is held in this word, and its value
   pub record IsGiven (name : List ℕ) (held : ℕ) (t : Subtype) (from to : ℕ) : Type 0 where
     pub slot : Slot
@@ -58,7 +53,7 @@ module _ (i : Sections) (v : Framed) where
     pub role : Role
     pub named : NamesObject v.names.scope name role t
     pub address : At i from (op.LoadLocal held)
-    pub value : IsLoaded (suc from) to slot.offset (words_of v.names.scope t)
+    pub value : IsLoaded i (suc from) to slot.offset (words_of v.names.scope t)
 
   -- all of them, from the last one to the first
   abbrev pub AreGiven : (from to : ℕ) → (names : List (List ℕ)) → (held : List ℕ) → List Subtype → Type 0
@@ -95,7 +90,7 @@ module _ (i : Sections) (v : Framed) where
           × Leads (to - from) from [] to (copies_on vs addresses [])
 
       -- the value's words are put on the operand stack
-      value_loaded : (from to offset size : ℕ) (x : Value) (base : List ℤ) → IsLoaded from to offset size → Lies f.locals offset x
+      value_loaded : (from to offset size : ℕ) (x : Value) (base : List ℤ) → IsLoaded i from to offset size → Lies f.locals offset x
           → length (value_words x) ≡ size
           → Leads (to - from) from base to (on base x)
       value_loaded from to offset size x base (inl h) lies many =
@@ -155,17 +150,21 @@ module _ (i : Sections) (v : Framed) where
                 (value_loaded (suc mid) to one.slot.offset (words_of v.names.scope s) x.value (pos a ∷ base) one.value lies wide))),
           )
         where
-          loaded_up : (from to offset size : ℕ) → IsLoaded from to offset size → from ≤ to
+          loaded_up : (from to offset size : ℕ) → IsLoaded i from to offset size → from ≤ to
           loaded_up from to offset size (inl h) = let end = h.2 in omega (arith, end)
           loaded_up from to offset size (inr h) = let end = h.2 in omega (arith, end)
 
+    -- the return stands behind what is put on the operand stack
     pub gives_back : (names : List (List ℕ)) (ts : List Subtype) (number from back : ℕ) → AreGiven from back names v.reserved ts → At i back op.Return
         → results_of (called i number) ≡ words_back v.names.scope ts
-        → GivesBack i program g v names number from
-    gives_back names ts number from back code here many = record {
-      back = back;
-      up = given_up names v.reserved ts from back code;
-      return = here;
-      pushes = λ schedule k t m f fs p addresses calm knows words as_many.
-          let all = all_given schedule k t m calm f fs p knows names v.reserved ts addresses from back code words as_many in (all.0, all.1 ∙ sym many, all.2);
-    }
+        → (gives : GivesBack i program g v names number from) × (gives.back ≡ back)
+    gives_back names ts number from back code here many = (
+      record {
+        back = back;
+        up = given_up names v.reserved ts from back code;
+        return = here;
+        pushes = λ schedule k t m f fs p addresses calm knows words as_many.
+            let all = all_given schedule k t m calm f fs p knows names v.reserved ts addresses from back code words as_many in (all.0, all.1 ∙ sym many, all.2);
+      },
+      refl,
+    )

@@ -26,8 +26,8 @@ pub record AddsObject (v : Framed) (name : List ℕ) (r : Role) (t : Subtype) (t
   pub hidden : is_visible v.names.scope name ≡ false
   pub sound : IsSoundObject v.names.scope r t
   pub scope : later.names.scope ≡ with_name v.names.scope name (entity.Object r t)
-  pub slots : later.names.slots.items ≡ v.names.slots.items ++ Some slot ∷ []
-  pub subprograms : later.names.subprograms.items ≡ v.names.subprograms.items ++ None ∷ []
+  pub slots : later.names.slots ≡ v.names.slots ++ Some slot ∷ []
+  pub subprograms : later.names.subprograms ≡ v.names.subprograms ++ None ∷ []
   pub room : later.room ≡ v.room
   pub region : slot.region ≡ regions.Locals
   pub offset : slot.offset ≡ top
@@ -62,7 +62,7 @@ longer : {X : Type 0} (xs : List X) (x : X) → length (xs ++ x ∷ []) ≡ suc 
 longer [] x = refl
 longer (y ∷ xs) x = ap suc (longer xs x)
 
-known_inside : (s : Scope) (t : Subtype) → IsKnown s t → t.type_number < length s
+pub known_inside : (s : Scope) (t : Subtype) → IsKnown s t → t.type_number < length s
 known_inside s t known = by_item (slice_get s t.type_number) refl known
   where
     by_item : (o : Option Named) → slice_get s t.type_number ≡ o → is_some (form_of (entity_of o)) ≡ true → t.type_number < length s
@@ -84,7 +84,7 @@ module _ (stay : ShapesStay) (g : Package) (v later : Framed) (name : List ℕ) 
   wider = s ++ named ∷ []
 
   abbrev entries : List (Option Slot)
-  entries = v.names.slots.items ++ Some slot ∷ []
+  entries = v.names.slots ++ Some slot ∷ []
 
   scope_is : later.names.scope ≡ wider
   scope_is = widens.scope ∙ ap (λ b. cond b s wider) widens.hidden
@@ -144,8 +144,8 @@ module _ (stay : ShapesStay) (g : Package) (v later : Framed) (name : List ℕ) 
   ]
 
   was : (other : List ℕ) (x : Slot) → told_of wider entries other ≡ Some x
-      → WasTold s v.names.slots.items other x ⊎ ((bytes_eq other name ≡ true) × (Some slot ≡ Some x))
-  was other x h = told_of_more s named v.names.slots.items (Some slot) other x laid.slots h
+      → WasTold s v.names.slots other x ⊎ ((bytes_eq other name ≡ true) × (Some slot ≡ Some x))
+  was other x h = told_of_more s named v.names.slots (Some slot) other x laid.slots h
 
   objects_wider : (other : List ℕ) (x : Slot) → told_of wider entries other ≡ Some x → (q : Role) × (u : Subtype) × NamesObject wider other q u
   objects_wider other x h = elim (was other x h) [
@@ -161,14 +161,14 @@ module _ (stay : ShapesStay) (g : Package) (v later : Framed) (name : List ℕ) 
     by_words : (m n : ℕ) → words_of wider a ≡ m → words_of wider b ≡ n → AreApart x.offset m y.offset n → Apart
     by_words m n e k h = subst (λ c. AreApart x.offset c y.offset (words_of wider b)) (sym e) (subst (λ c. AreApart x.offset m y.offset c) (sym k) h)
 
-    both_old : WasTold s v.names.slots.items one x → WasTold s v.names.slots.items other y → Apart
+    both_old : WasTold s v.names.slots one x → WasTold s v.names.slots other y → Apart
     both_old k l =
         let m = named_before one k.number p a k.numbered first in
         let n = named_before other l.number q b l.numbered second in
         by_words (words_of s a) (words_of s b) (object_words one p a m) (object_words other q b n)
         (laid.laid.apart one other x y p q a b differ k.told l.told same m n)
 
-    first_new : bytes_eq one name ≡ true → Some slot ≡ Some x → WasTold s v.names.slots.items other y → Apart
+    first_new : bytes_eq one name ≡ true → Some slot ≡ Some x → WasTold s v.names.slots other y → Apart
     first_new e is l =
         let n = named_before other l.number q b l.numbered second in
         let here : slot ≡ x = same_some slot x is in
@@ -176,7 +176,7 @@ module _ (stay : ShapesStay) (g : Package) (v later : Framed) (name : List ℕ) 
         (subst (λ z. AreApart z.offset (words_of s t) y.offset (words_of s b)) here
         (widens.apart other y q b l.told (sym same ∙ ap (λ z. z.region) (sym here)) n))
 
-    second_new : WasTold s v.names.slots.items one x → bytes_eq other name ≡ true → Some slot ≡ Some y → Apart
+    second_new : WasTold s v.names.slots one x → bytes_eq other name ≡ true → Some slot ≡ Some y → Apart
     second_new k e is =
         let m = named_before one k.number p a k.numbered first in
         let here : slot ≡ y = same_some slot y is in
@@ -196,7 +196,7 @@ module _ (stay : ShapesStay) (g : Package) (v later : Framed) (name : List ℕ) 
 
   is_laid : IsLaid later.names.scope (slot_of later.names)
   is_laid =
-      subst (λ z. IsLaid z (λ n. told_of z later.names.slots.items n)) (sym scope_is)
+      subst (λ z. IsLaid z (λ n. told_of z later.names.slots n)) (sym scope_is)
       (subst (λ l. IsLaid wider (λ n. told_of wider l n)) (sym widens.slots)
       (record {
         objects = objects_wider;
@@ -204,7 +204,7 @@ module _ (stay : ShapesStay) (g : Package) (v later : Framed) (name : List ℕ) 
       }))
 
   was_told : (other : List ℕ) (x : Slot) → slot_of later.names other ≡ Some x → told_of wider entries other ≡ Some x
-  was_told other x h = sym (ap (λ z. told_of z later.names.slots.items other) scope_is ∙ ap (λ l. told_of wider l other) widens.slots) ∙ h
+  was_told other x h = sym (ap (λ z. told_of z later.names.slots other) scope_is ∙ ap (λ l. told_of wider l other) widens.slots) ∙ h
 
   -- no word of a variable is one of these places: none of one that was visible, and none of the new object, if that is a variable
   pub free_more : (places : List ℕ) → later.reserved ≡ places
@@ -239,9 +239,9 @@ module _ (stay : ShapesStay) (g : Package) (v later : Framed) (name : List ℕ) 
       | inl w ↦ laid.shared other x w.told plain
       | inr e ↦ (let k = sym region ∙ ap (λ z. z.region) (same_some slot x e.1) ∙ plain in cc)
     ];
-    slots = ap length widens.slots ∙ longer v.names.slots.items (Some slot) ∙ ap suc laid.slots ∙ sym (longer s named) ∙ sym (ap length scope_is);
+    slots = ap length widens.slots ∙ longer v.names.slots (Some slot) ∙ ap suc laid.slots ∙ sym (longer s named) ∙ sym (ap length scope_is);
     subprograms =
-        ap length widens.subprograms ∙ longer v.names.subprograms.items None ∙ ap suc laid.subprograms ∙ sym (longer s named) ∙ sym (ap length scope_is);
+        ap length widens.subprograms ∙ longer v.names.subprograms None ∙ ap suc laid.subprograms ∙ sym (longer s named) ∙ sym (ap length scope_is);
   }
 
   -- and they end behind the new one, where that stands behind all others

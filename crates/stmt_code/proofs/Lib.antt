@@ -9,19 +9,19 @@ mod Calling
 mod Counting
 mod Matching
 mod Words
-mod Names
+pub mod Names
 mod Placing
 mod Variables
-mod StoringCode
+pub mod StoringCode
 mod Declaring
 mod Assigning
-mod Narrowing
-mod Laying
-mod Entering
-mod Beginning
-mod Bodies
+pub mod Narrowing
+pub mod Laying
+pub mod Entering
+pub mod Beginning
+pub mod Bodies
 mod Actuals
-mod Functions
+pub mod Functions
 mod Parameters
 mod Walking
 mod Ranging
@@ -32,17 +32,33 @@ mod AssigningParts
 mod Deciding
 mod Widening
 mod Adding
-mod Opening
+pub mod Opening
 mod Repeating
 mod Testing
 mod Putting
+mod Running
+pub mod FormalWords
 mod PartValues
 mod StoringParts
 mod Pointing
 mod CopyingBack
 mod Loading
-mod GivingBack
+pub mod GivingBack
 mod PassingTargets
 mod PassingWell
-mod DeclaringParameters
+pub mod DeclaringParameters
 mod CodeOfCalls
+mod Stored
+mod StoredParts
+mod Suiting
+pub mod Initials
+pub mod Declared
+mod Selecting
+mod Alternatives
+mod InTurn
+mod ChecksAdded
+mod TargetsAdded
+mod CallsAdded
+mod Turned
+mod Bounded
+mod Ranged

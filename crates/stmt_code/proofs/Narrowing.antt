@@ -29,13 +29,13 @@ module _ (kept : AgreementIsKept) (g : Package) (v later : Framed) (name : List 
 
   slot_more : (other : List ℕ) (s : Slot) → slot_of v.names other ≡ Some s → slot_of later.names other ≡ Some s
   slot_more other s h =
-      ap (λ q. told_of q later.names.slots.items other) scope_is ∙ ap (λ l. told_of (v.names.scope ++ named ∷ []) l other) widens.slots
-      ∙ told_more v.names.scope named v.names.slots.items (Some slot) other s h
+      ap (λ q. told_of q later.names.slots other) scope_is ∙ ap (λ l. told_of (v.names.scope ++ named ∷ []) l other) widens.slots
+      ∙ told_more v.names.scope named v.names.slots (Some slot) other s h
 
   number_more : (other : List ℕ) (n : ℕ) → subprogram_of v.names other ≡ Some n → subprogram_of later.names other ≡ Some n
   number_more other n h =
-      ap (λ q. told_of q later.names.subprograms.items other) scope_is ∙ ap (λ l. told_of (v.names.scope ++ named ∷ []) l other) widens.subprograms
-      ∙ told_more v.names.scope named v.names.subprograms.items None other n h
+      ap (λ q. told_of q later.names.subprograms other) scope_is ∙ ap (λ l. told_of (v.names.scope ++ named ∷ []) l other) widens.subprograms
+      ∙ told_more v.names.scope named v.names.subprograms None other n h
 
   pub shows_wider : Shows g later v
   shows_wider p view knows = record {

@@ -28,11 +28,11 @@ use Rattle.expr_code.specs.declared.code.Code.{Code}
 use Rattle.expr_code.specs.declared.visible.Visible.{Visible}
 use Rattle.expr_code.proofs.Flowing.{kept_one, kept_then, widened}
 use Rattle.expr_code.proofs.Growing.{added_extends, added_here, extends_trans, get_last, patched_extends, patched_here, patched_other, patched_there}
-use Rattle.stmt_code.specs.Emitting.{AddsParts, AreLegal, AreLegalElsifs, AreParts, Emits, EmitsOpen, EmitsStatement, EmitsStatements, IsLegal, Meant, MeantTo, in_front}
+use Rattle.stmt_code.specs.Emitting.{AddsParts, AreLegal, AreLegalElsifs, AreParts, Emits, EmitsOpen, EmitsStatement, EmitsStatements, IsLegal, Meant, MeantTo, Serves, in_front}
 use Rattle.stmt_code.specs.Resting.{Framed}
 use Rattle.stmt_code.specs.Statements.{AreStatements, IsOtherwise, IsStatement, Numbers, Ways}
 use Rattle.stmt_code.specs.declared.draft.Draft.{Draft}
-use Rattle.stmt_code.proofs.Adding.{emits_as, jump_kept, labels_before, labels_stay, labels_then, mapped_next, same_place, take_all}
+use Rattle.stmt_code.proofs.Adding.{IsBeside, emits_as, jump_kept, labels_before, labels_beside, labels_then, mapped_next, most_beside, same_place, take_all, taken_beside}
 
 -- ---- lists
 
@@ -47,15 +47,15 @@ some_same x y e = cc
 same_nat : (a b : ℕ) → nat_eq a b ≡ true → a ≡ b
 same_nat a b e = search rules
 
-same_self : (n : ℕ) → nat_eq n n ≡ true
+pub same_self : (n : ℕ) → nat_eq n n ≡ true
 same_self zero = refl
 same_self (suc n) = search rules
 
-append_again : {X : Type 0} (xs ys zs : List X) → (xs ++ ys) ++ zs ≡ xs ++ (ys ++ zs)
+pub append_again : {X : Type 0} (xs ys zs : List X) → (xs ++ ys) ++ zs ≡ xs ++ (ys ++ zs)
 append_again [] ys zs = refl
 append_again (x ∷ xs) ys zs = ap (λ l. x ∷ l) (append_again xs ys zs)
 
-append_none : {X : Type 0} (xs : List X) → xs ++ [] ≡ xs
+pub append_none : {X : Type 0} (xs : List X) → xs ++ [] ≡ xs
 append_none [] = refl
 append_none (x ∷ xs) = ap (λ l. x ∷ l) (append_none xs)
 
@@ -72,28 +72,28 @@ one_of true b e = inl refl
 one_of false b e = inr e
 
 -- the only place that waits
-alone : (n k : ℕ) → is_among (n ∷ []) k ≡ true → k ≡ n
+pub alone : (n k : ℕ) → is_among (n ∷ []) k ≡ true → k ≡ n
 alone n k e = by (nat_eq n k) refl e
   where
     by : (t : Bool) → nat_eq n k ≡ t → (t || false) ≡ true → k ≡ n
     by true is e = sym (same_nat n k is)
     by false is e = absurd cc
 
-not_alone : (n k : ℕ) → k < n → is_among (n ∷ []) k ≡ false
+pub not_alone : (n k : ℕ) → k < n → is_among (n ∷ []) k ≡ false
 not_alone n k less = by (nat_eq n k) refl
   where
     by : (t : Bool) → nat_eq n k ≡ t → (t || false) ≡ false
     by true e = absurd (let same : n ≡ k = same_nat n k e in omega (arith, less, same))
     by false e = refl
 
-none_before : (waiting : List ℕ) (n k : ℕ) → ((m : ℕ) → is_among waiting m ≡ true → n ≤ m) → k < n → is_among waiting k ≡ false
+pub none_before : (waiting : List ℕ) (n k : ℕ) → ((m : ℕ) → is_among waiting m ≡ true → n ≤ m) → k < n → is_among waiting k ≡ false
 none_before waiting n k inside less = by (is_among waiting k) refl
   where
     by : (t : Bool) → is_among waiting k ≡ t → is_among waiting k ≡ false
     by true e = absurd (omega (arith, less, inside k e))
     by false e = e
 
-none_behind : (waiting : List ℕ) (n k : ℕ) → ((m : ℕ) → is_among waiting m ≡ true → m < n) → n ≤ k → is_among waiting k ≡ false
+pub none_behind : (waiting : List ℕ) (n k : ℕ) → ((m : ℕ) → is_among waiting m ≡ true → m < n) → n ≤ k → is_among waiting k ≡ false
 none_behind waiting n k inside up = by (is_among waiting k) refl
   where
     by : (t : Bool) → is_among waiting k ≡ t → is_among waiting k ≡ false
@@ -119,12 +119,14 @@ module _ (v : Visible) (w : Ways) where
   opened Is a c size p = record {
     extends = p.extends;
     labels = p.labels;
+    taken = p.taken;
+    most = p.most;
     sized = p.sized;
     inside = λ k is. absurd cc;
     waits = λ k is. absurd cc;
-    stands = λ i end up j l program g numbers f names serves. p.stands i (λ k x le is. j.others k x le refl is) l program g numbers f names serves;
-    flows = λ i s low high end down up over j l suits deep shallow ends next ways.
-        p.flows i s low high down (omega (arith, up, over)) (λ k x le is. j.others k x le refl is) l suits deep next ways;
+    stands = λ i end up j l program g numbers f names serves room. p.stands i (λ k x le is. j.others k x le refl is) l program g numbers f names serves room;
+    flows = λ i s low high end down up over j l suits deep wide shallow ends next ways.
+        p.flows i s low high down (omega (arith, up, over)) (λ k x le is. j.others k x le refl is) l suits deep wide next ways;
   }
 
   module _ (P Q R : MeantTo) (depth : ℕ) (a b c : Draft) (m n : ℕ) (first second : List ℕ)
@@ -157,17 +159,20 @@ module _ (v : Visible) (w : Ways) where
     open_then = record {
       extends = extends_trans a.code b.code c.code p.extends q.extends;
       labels = labels_then a.labels b.labels c.labels p.labels q.labels;
+      taken = q.taken ∙ p.taken;
+      most = omega (arith, p.most, q.most);
       sized = omega (arith, p.sized, q.sized);
       inside = λ k is. within k (one_of (is_among first k) (is_among second k) (sym (among_both first second k) ∙ is));
       waits = λ k is. waiting k (one_of (is_among first k) (is_among second k) (sym (among_both first second k) ∙ is));
-      stands = λ i end up j l program g numbers f names serves.
+      stands = λ i end up j l program g numbers f names serves room.
           both i program g numbers f end (here a.code) (here b.code) (here c.code) p.extends.longer q.extends.longer up
-          (p.stands i end (omega (arith, q.extends.longer, up)) (joins_before i end j) (labels_before i b.labels c.labels q.labels l) program g numbers f names serves)
-          (q.stands i end up (joins_behind i end j) l program g numbers f names serves);
-      flows = λ i s low high end down up over j l suits deep shallow ends next ways.
-          let more = q.flows i s low high end (omega (arith, down, p.extends.longer)) up over (joins_behind i end j) l suits deep shallow ends next ways in
+          (p.stands i end (omega (arith, q.extends.longer, up)) (joins_before i end j) (labels_before i b.labels c.labels q.labels l) program g numbers f names serves
+          (omega (arith, q.most, room)))
+          (q.stands i end up (joins_behind i end j) l program g numbers f names (subst (Serves program g numbers f) (sym p.taken) serves) room);
+      flows = λ i s low high end down up over j l suits deep wide shallow ends next ways.
+          let more = q.flows i s low high end (omega (arith, down, p.extends.longer)) up over (joins_behind i end j) l suits deep wide shallow ends next ways in
           let most = p.flows i s low high end down (omega (arith, q.extends.longer, up)) over (joins_before i end j) (labels_before i b.labels c.labels q.labels l)
-          suits (omega (arith, q.extends.deeper, deep)) shallow ends more.begins ways in
+          suits (omega (arith, q.extends.deeper, deep)) (omega (arith, q.most, wide)) shallow ends more.begins ways in
           kept_then i s low high (here a.code) (here b.code) (here c.code) depth depth most more;
     }
       where
@@ -184,7 +189,7 @@ module _ (v : Visible) (w : Ways) where
   module _ (P : MeantTo) (R : Meant) (a c d : Draft) (size : ℕ) (waiting : List ℕ)
       (means : (i : Sections) (program : Program) (g : Package) (numbers : Numbers) (f : Framed) (from to : ℕ)
       → P i program g numbers f to from to → R i program g numbers f from to)
-      (p : EmitsOpen P v w 0 a size waiting c) (r : Rejoins c.code waiting (here c.code) d.code) (same : d.labels ≡ c.labels) where
+      (p : EmitsOpen P v w 0 a size waiting c) (r : Rejoins c.code waiting (here c.code) d.code) (same : IsBeside c d) where
     joins : (i : Sections) → Holds i (here a.code) d.code → Joins i (here a.code) waiting (here c.code) 0 c.code
     joins i h = record {
       others = λ k x le none is. h k x le (r.others k none ∙ is);
@@ -202,26 +207,29 @@ module _ (v : Visible) (w : Ways) where
     pub joined : Emits R v w a size d
     joined = record {
       extends = joined_extends;
-      labels = labels_then a.labels c.labels d.labels p.labels (labels_stay c.labels d.labels same);
+      labels = labels_then a.labels c.labels d.labels p.labels (labels_beside c d same);
+      taken = taken_beside c d same ∙ p.taken;
+      most = (let m = most_beside c d same in omega (arith, m, p.most));
       sized = omega (arith, p.sized, r.long);
-      stands = λ i h l program g numbers f names serves.
+      stands = λ i h l program g numbers f names serves room.
           subst (λ n. R i program g numbers f (here a.code) n) (sym r.long)
           (means i program g numbers f (here a.code) (here c.code)
-          (p.stands i (here c.code) (omega arith) (joins i h) (labels_before i c.labels d.labels (labels_stay c.labels d.labels same) l) program g numbers f names serves));
-      flows = λ i s low high down up h l suits deep ends ways.
+          (p.stands i (here c.code) (omega arith) (joins i h) (labels_before i c.labels d.labels (labels_beside c d same) l) program g numbers f names serves
+          (let m = most_beside c d same in omega (arith, m, room))));
+      flows = λ i s low high down up h l suits deep wide ends ways.
           let empty = ap (λ n. has_depth i n 0) (sym r.long) ∙ ends in
           subst (λ n. AreKept i s low high (here a.code) n 0) (sym r.long)
           (p.flows i s low high (here c.code) down (omega arith) (omega (arith, up, r.long)) (joins i h)
-          (labels_before i c.labels d.labels (labels_stay c.labels d.labels same) l) suits
-          (omega (arith, deep, ap (λ n. n) r.deepest)) (omega arith) empty empty ways);
+          (labels_before i c.labels d.labels (labels_beside c d same) l) suits
+          (omega (arith, deep, ap (λ n. n) r.deepest)) (let m = most_beside c d same in omega (arith, m, wide)) (omega arith) empty empty ways);
     }
 
   -- ---- a condition and the statements for it
   module _ (start jumped valued new : Draft) (tested : Code) (e : ExprTree) (body : StmtTrees)
-      (first : EmitsExpression v start.code 0 1 e tested) (jump : Adds tested 1 (op.JumpIfZero 0) jumped.code) (same : jumped.labels ≡ start.labels)
+      (first : EmitsExpression v start.code 0 1 e tested) (jump : Adds tested 1 (op.JumpIfZero 0) jumped.code) (same : IsBeside start jumped)
       (second : EmitsStatements v w jumped body valued)
       (closed : Code) (close : Adds valued.code 0 (op.Jump 0) closed) (patch : Patches closed (here tested) (op.JumpIfZero (here closed)) new.code)
-      (still : new.labels ≡ valued.labels) where
+      (still : IsBeside valued new) where
     abbrev n : ℕ
     n = here closed
 
@@ -253,7 +261,7 @@ module _ (v : Visible) (w : Ways) where
         ∙ added_is valued.code closed 0 (op.Jump 0) close
 
     labels_on : StandsFrom 0 start.labels valued.labels
-    labels_on = labels_then start.labels jumped.labels valued.labels (labels_stay start.labels jumped.labels same) second.labels
+    labels_on = labels_then start.labels jumped.labels valued.labels (labels_beside start jumped same) second.labels
 
     module _ (i : Sections) (end : ℕ) (up : here new.code ≤ end) (j : Joins i (here start.code) (here valued.code ∷ []) end 0 new.code) where
       in_tested : Holds i (here start.code) tested
@@ -279,11 +287,13 @@ module _ (v : Visible) (w : Ways) where
     pub branch_emits : EmitsOpen (AreParts w ((e, body) ∷ [])) v w 0 start (elsifs_size (elsifs_of ((e, body) ∷ []))) (here valued.code ∷ []) new
     branch_emits = record {
       extends = extends_trans start.code tested new.code first.extends tested_extends;
-      labels = labels_then start.labels valued.labels new.labels labels_on (labels_stay valued.labels new.labels still);
+      labels = labels_then start.labels valued.labels new.labels labels_on (labels_beside valued new still);
+      taken = taken_beside valued new still ∙ second.taken ∙ taken_beside start jumped same;
+      most = (let m = most_beside start jumped same in let n = most_beside valued new still in omega (arith, m, second.most, n));
       sized = omega (arith, first.sized, second.sized, two, four, end_is);
       inside = λ k is. let at = alone (here valued.code) k is in (omega (arith, at, first.extends.longer, two, second.extends.longer), omega (arith, at, four, end_is));
       waits = λ k is. ap (slice_get new.code.instructions.items) (alone (here valued.code) k is) ∙ close_there;
-      stands = λ i end up j l program g numbers f names serves rest others code.
+      stands = λ i end up j l program g numbers f names serves room rest others code.
           let next : n ≡ suc (here valued.code) = four in (
             here tested,
             here valued.code,
@@ -294,19 +304,20 @@ module _ (v : Visible) (w : Ways) where
             subst (λ m. At i (here tested) (op.JumpIfZero m)) next (1, at_test i end up j),
             subst (λ m. AreStatements i program g numbers f w m (here valued.code) body) two
                 (second.stands i (in_valued i end up j)
-                (labels_before i valued.labels new.labels (labels_stay valued.labels new.labels still) l) program g numbers f names serves),
+                (labels_before i valued.labels new.labels (labels_beside valued new still) l) program g numbers f names
+                (subst (Serves program g numbers f) (sym (taken_beside start jumped same)) serves) (let m = most_beside valued new still in omega (arith, m, room))),
             (0, at_close i end up j),
             subst (λ m. IsOtherwise i program g numbers f w m end rest (λ x y. AreStatements i program g numbers f w x y others)) (end_is ∙ four) code,
           );
-      flows = λ i s low high end down up over j l suits deep shallow ends next ways.
+      flows = λ i s low high end down up over j l suits deep wide shallow ends next ways.
           let to : n ≡ here new.code = sym end_is in
           let deepest : closed.deepest ≤ s.stack = omega (arith, ap (λ m. m) patch.deepest, deep) in
           let one : 1 ≤ s.stack = omega (arith, jump.within, jumped_extends.deeper, deepest) in
           let closes = jump_kept i s low high (here valued.code) end (at_close i end up j)
           (record { down = omega (arith, down, up, end_is, four, second.extends.longer, two, first.extends.longer); up = over; empty = ends }) in
           let in_body = second.flows i s low high (omega (arith, down, two, first.extends.longer)) (omega (arith, up, over, end_is, four))
-          (in_valued i end up j) (labels_before i valued.labels new.labels (labels_stay valued.labels new.labels still) l) suits
-          (omega (arith, closing.deeper, deepest)) closes.begins ways in
+          (in_valued i end up j) (labels_before i valued.labels new.labels (labels_beside valued new still) l) suits
+          (omega (arith, closing.deeper, deepest)) (let m = most_beside valued new still in omega (arith, m, wide)) closes.begins ways in
           let testing = kept_one i s low high (here tested) 1 0 (op.JumpIfZero n) (at_test i end up j) one (omega arith) refl refl (omega arith) (omega arith) refl
           (λ g. ap (λ m. has_depth i m 0) (sym two) ∙ in_body.begins)
           (λ t g. let same : t ≡ here new.code = same_place (op.JumpIfZero n) n t refl g ∙ to in (
@@ -314,7 +325,7 @@ module _ (v : Visible) (w : Ways) where
             omega (arith, same, up, over),
             ap (λ m. has_depth i m 0) same ∙ next,
           )) in
-          let in_test = first.flows.flows i s (in_tested i end up j) suits (omega (arith, tested_extends.deeper, deep)) one testing.begins in
+          let in_test = first.flows.flows i s (in_tested i end up j) suits.names (omega (arith, tested_extends.deeper, deep)) one testing.begins in
           let test_kept = widened i s (here start.code) (here tested) low high (here start.code) (here tested) 0 down
           (omega (arith, two, second.extends.longer, four, end_is, up, over)) in_test in
           subst (λ m. AreKept i s low high (here start.code) m 0) (sym (end_is ∙ four))
@@ -345,11 +356,13 @@ module _ (v : Visible) (w : Ways) where
     emits = record {
       extends = record { instructions = λ k x le h. h; longer = omega arith; deeper = omega arith };
       labels = λ k x le h. h;
+      taken = refl;
+      most = omega arith;
       sized = omega arith;
       inside = λ k is. absurd cc;
       waits = λ k is. absurd cc;
-      stands = λ i end up j l program g numbers f names serves rest others code. code;
-      flows = λ i s low high end down up over j l suits deep shallow ends next ways.
+      stands = λ i end up j l program g numbers f names serves room rest others code. code;
+      flows = λ i s low high end down up over j l suits deep wide shallow ends next ways.
           record { begins = next; shallow = omega (arith, shallow); each = λ k x le less there. absurd (omega (arith, le, less)) };
     };
   }
@@ -367,9 +380,9 @@ module _ (v : Visible) (w : Ways) where
   }
 
   pub branch_closed : (start jumped valued new : Draft) (tested : Code) (e : ExprTree) (body : StmtTrees) (place : ℕ) (before after : List ℕ) → place ≡ here tested
-      → EmitsExpression v start.code 0 1 e tested → Adds tested 1 (op.JumpIfZero 0) jumped.code → jumped.labels ≡ start.labels
+      → EmitsExpression v start.code 0 1 e tested → Adds tested 1 (op.JumpIfZero 0) jumped.code → IsBeside start jumped
       → EmitsStatements v w jumped body valued
-      → Closes valued.code 0 place before after new.code → new.labels ≡ valued.labels
+      → Closes valued.code 0 place before after new.code → IsBeside valued new
       → AddsParts v w start ((e, body) ∷ []) before after new
   branch_closed start jumped valued new tested e body place before after there first jump same second c still = record {
     waiting = here valued.code ∷ [];
@@ -421,7 +434,7 @@ module _ (v : Visible) (w : Ways) where
     waiting_is : both.waiting ++ [] ≡ places
     waiting_is = append_none both.waiting ∙ sym both.after_is ∙ sym same
 
-    pub if_emits : (n : ℕ) → n ≡ here c.code → Rejoins c.code places n d.code → d.labels ≡ c.labels
+    pub if_emits : (n : ℕ) → n ≡ here c.code → Rejoins c.code places n d.code → IsBeside c d
         → EmitsStatement v w start (statements.If place e body (elsif_trees elsifs) others) d
     if_emits n n_is r still =
         emits_as v w (λ i program g numbers f from to. IsStatement i program g numbers f w from to (statements.If place e body (elsif_trees elsifs) others))

@@ -31,7 +31,8 @@ use Rattle.expr_code.specs.Seeing.{Package, Sees, library_of}
 use Rattle.expr_code.specs.Views.{View}
 use Rattle.expr_code.specs.declared.visible.Visible.{Visible}
 use Rattle.expr_code.proofs.Locating.{given}
-use Rattle.stmt_code.specs.Copying.{ArePlaced, Destination, objects_at, passed_actual, passed_actuals, passed_expression, taken}
+use Rattle.stmt_code.specs.Copying.{ArePlaced, objects_at, passed_actual, passed_actuals, passed_expression, taken}
+use Rattle.stmt_code.specs.declared.call.Destination.{Destination}
 use Rattle.stmt_code.specs.Resting.{Framed, Knows}
 use Rattle.stmt_code.specs.Statements.{parameter_subtype}
 use Rattle.stmt_code.proofs.Declaring.{IsTypedAs}

@@ -218,16 +218,16 @@ module _ (kept : AgreementIsKept) (sized : ValuesHaveWords) (g : Package) (v : F
           by_test false e = refl
 
       slot_was : (name : List ℕ) (s : Slot) → slot_of later.names name ≡ Some s
-          → WasTold v.names.scope v.names.slots.items name s ⊎ ((bytes_eq name x.name ≡ true) × (Some slot ≡ Some s))
+          → WasTold v.names.scope v.names.slots name s ⊎ ((bytes_eq name x.name ≡ true) × (Some slot ≡ Some s))
       slot_was name s h =
-          told_of_more v.names.scope named v.names.slots.items (Some slot) name s laid.slots
-          (sym (ap (λ q. told_of q later.names.slots.items name) scope_is ∙ ap (λ l. told_of wider l name) widens.slots) ∙ h)
+          told_of_more v.names.scope named v.names.slots (Some slot) name s laid.slots
+          (sym (ap (λ q. told_of q later.names.slots name) scope_is ∙ ap (λ l. told_of wider l name) widens.slots) ∙ h)
 
       number_was : (name : List ℕ) (n : ℕ) → subprogram_of later.names name ≡ Some n
-          → WasTold v.names.scope v.names.subprograms.items name n ⊎ ((bytes_eq name x.name ≡ true) × ((let o : Option ℕ = None in o) ≡ Some n))
+          → WasTold v.names.scope v.names.subprograms name n ⊎ ((bytes_eq name x.name ≡ true) × ((let o : Option ℕ = None in o) ≡ Some n))
       number_was name n h =
-          told_of_more v.names.scope named v.names.subprograms.items None name n laid.subprograms
-          (sym (ap (λ q. told_of q later.names.subprograms.items name) scope_is ∙ ap (λ l. told_of wider l name) widens.subprograms) ∙ h)
+          told_of_more v.names.scope named v.names.subprograms None name n laid.subprograms
+          (sym (ap (λ q. told_of q later.names.subprograms name) scope_is ∙ ap (λ l. told_of wider l name) widens.subprograms) ∙ h)
 
       is_this : (name : List ℕ) → bytes_eq name x.name ≡ true → bytes_eq x.name name ≡ true
       is_this name e = name_is x.name name (sym (same_name name x.name e))

@@ -151,7 +151,7 @@ many_selectors (selectors.Arguments' shape row ∷ b ∷ rest) le = refl
 module _ (v : Visible) (w : Ways) (a c : Draft) (m : Code) (name : NameTree) (label : List ℕ) (value : ExprTree) (number : ℕ)
     (put : entity_named v.scope name.first.name ≡ Some Put) (written : line_of name ≡ Some (record { label = label; value = value }))
     (p : EmitsExpression v a.code 0 1 value m) (q : Adds m 1 (op.PutLine number) c.code)
-    (stay : StandsFrom 0 a.labels c.labels) (there : slice_get c.labels number ≡ Some label) where
+    (stay : StandsFrom 0 a.labels c.labels) (still : c.words ≡ a.words) (there : slice_get c.labels number ≡ Some label) where
   next : here c.code ≡ suc (here m)
   next = added_here m c.code 1 (op.PutLine number) q
 
@@ -160,8 +160,8 @@ module _ (v : Visible) (w : Ways) (a c : Draft) (m : Code) (name : NameTree) (la
       IsCalled i program g numbers f from to (record { first = name.first; selectors = x }) (callee_by program None name.first x)
 
   means : (i : Sections) → Holds i (here a.code) c.code → HasLabels i c.labels → (program : Program) (g : Package) (numbers : Numbers) (f : Framed) → f.names ≡ v
-      → Serves program f → forms name.selectors i program g numbers f (here a.code) (here c.code)
-  means i h l program g numbers f names serves =
+      → Serves program g numbers f a.words.taken → c.words.most ≤ f.room → forms name.selectors i program g numbers f (here a.code) (here c.code)
+  means i h l program g numbers f names serves room =
       let this = line_written name.selectors label value written in
       let line = MoreArguments (Text label this.at) (MoreArguments (tree.Value value) NoArguments) in
       let found = serves.finds name.first.name Put (ap (λ x. entity_named x.scope name.first.name) names ∙ put) in
@@ -183,12 +183,14 @@ module _ (v : Visible) (w : Ways) (a c : Draft) (m : Code) (name : NameTree) (la
 
   pub put_emits : EmitsStatement v w a (statements.Call name) c
   put_emits = record {
-    extends = value_extends v a.code m c.code value (op.PutLine number) p q;
+    extends = value_extends v a.code m c.code (op.PutLine number) p.extends p.flows q;
     labels = stay;
+    taken = ap (λ x. x.taken) still;
+    most = (let m = ap (λ x. x.most) still in omega (arith, m));
     sized = let size = ap selectors_size (line_written name.selectors label value written).is in omega (arith, p.sized, next, size);
     stands = means;
-    flows = λ i s low high down up h l suits deep ends ways.
-        value_kept v a.code m c.code value (op.PutLine number) p q i s low high down up h suits deep refl
+    flows = λ i s low high down up h l suits deep wide ends ways.
+        value_kept v a.code m c.code (op.PutLine number) p.extends p.flows q i s low high down up h suits deep refl
         (lt_true number (length i.labels) (shorter i.labels number label (l.labels number label (omega arith) there))) (omega arith) (omega arith) refl ends
         (λ t g. absurd (no_target t g));
   }

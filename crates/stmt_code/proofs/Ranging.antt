@@ -18,7 +18,6 @@ use Rattle.image.specs.Sections.{Sections}
 use Rattle.image.specs.Frames.{Words, Frame}
 use Rattle.image.specs.Scalars.{are_equal, word_of}
 use Rattle.image.specs.Steps.{act, behaviour, does, gives}
-use Rattle.image.specs.declared.instruction.Operation.{Operation}
 use Rattle.image.specs.declared.instruction.Operation.TheVariants as op
 use Rattle.ada_tree.specs.declared.expression.Identifier.{Identifier}
 use Rattle.ada_tree.specs.StatementTree.{For, Loop, RangeTree, StmtTrees}
@@ -40,6 +39,7 @@ use Rattle.stmt_code.specs.Counting.{Bounds, GoesOn, IsCounted, IsNext, IsRange,
 use Rattle.stmt_code.specs.Layout.{IsLaidOut}
 use Rattle.stmt_code.specs.Resting.{Framed, Held, Knows, RestsWith}
 use Rattle.stmt_code.specs.Statements.{AreStatements, IsStatement, Numbers, Ways, within_loop}
+use Rattle.stmt_code.specs.Turns.{next_operation}
 use Rattle.stmt_code.proofs.Parameters.{HoldsRange, both_swapped, inside, next_rests, null_rests, parameter_fits, parameter_shows, turn_rests, with_both, with_word, word_long}
 use Rattle.stmt_code.proofs.Walking.{Walks, behind, compares, jumps_if, loads_local, orders, puts, stores_local, then_step}
 
@@ -79,10 +79,6 @@ pub record Begins (i : Sections) (counter limit mid to : ℕ) (reversed : Bool) 
   pub first_again : At i (behind 3 mid) (op.LoadLocal (if reversed then limit else counter))
   pub less : At i (behind 4 mid) op.Less
   pub jump : At i (behind 5 mid) (op.JumpIfNotZero to)
-
-abbrev pub next_operation : Bool → Operation
-next_operation true = op.Subtract
-next_operation false = op.Add
 
 -- Behind the statements: the frame goes on behind the loop where the value is the last one, else the next value is computed and stored.
 pub record Advances (i : Sections) (counter limit back to : ℕ) (reversed : Bool) : Type 0 where

@@ -18,10 +18,10 @@ use Rattle.expr_code.specs.Flows.{AreKept}
 use Rattle.expr_code.specs.declared.visible.Visible.{Visible}
 use Rattle.expr_code.proofs.Flowing.{kept_then}
 use Rattle.expr_code.proofs.Growing.{added_extends, added_here, extends_trans, patched_extends, patched_here, patched_holds, patched_other}
-use Rattle.stmt_code.specs.Emitting.{Allows, AreLegal, BeginsLoop, EmitsStatement, EmitsStatements, EndsLoop, HasLabels, IsLegal, IsReached}
+use Rattle.stmt_code.specs.Emitting.{Allows, AreLegal, BeginsLoop, EmitsStatement, EmitsStatements, EndsLoop, HasLabels, IsLegal, IsReached, Serves}
 use Rattle.stmt_code.specs.Statements.{AreStatements, Ways, within_loop}
 use Rattle.stmt_code.specs.declared.draft.Draft.{Draft}
-use Rattle.stmt_code.proofs.Adding.{depth_there, jump_kept, labels_before, labels_stay, labels_then}
+use Rattle.stmt_code.proofs.Adding.{IsBeside, depth_there, jump_kept, labels_before, labels_beside, labels_then, most_beside, taken_beside}
 use Rattle.stmt_code.proofs.Opening.{added_is, patched_is, some_same}
 
 -- in a loop the way out behind it is reached, where its jump stands with an empty operand stack
@@ -33,9 +33,9 @@ in_the_loop i low high exit w ways r = record {
 
 module _ (v : Visible) (w : Ways) where
   -- ---- without a condition
-  module _ (a b c d : Draft) (body : StmtTrees) (out back : ℕ) (begins : BeginsLoop a.code b.code) (same : b.labels ≡ a.labels)
+  module _ (a b c d : Draft) (body : StmtTrees) (out back : ℕ) (begins : BeginsLoop a.code b.code) (same : IsBeside a b)
       (out_is : out ≡ here a.code + 1) (back_is : back ≡ here a.code + 2)
-      (p : EmitsStatements v (within_loop out w) b body c) (ends : EndsLoop c.code out back d.code) (still : d.labels ≡ c.labels) where
+      (p : EmitsStatements v (within_loop out w) b body c) (ends : EndsLoop c.code out back d.code) (still : IsBeside c d) where
     abbrev skip : Operation
     skip = op.Jump (here a.code + 2)
 
@@ -96,16 +96,17 @@ module _ (v : Visible) (w : Ways) where
       at_back = h (here c.code) _ (omega (arith, one, two, p.extends.longer)) back_there
 
     abbrev inner_labels : (i : Sections) → HasLabels i d.labels → HasLabels i c.labels
-    inner_labels i l = labels_before i c.labels d.labels (labels_stay c.labels d.labels still) l
+    inner_labels i l = labels_before i c.labels d.labels (labels_beside c d still) l
 
     pub forever_emits : (place : ℕ) → EmitsStatement v w a (statements.Loop place Forever body) d
     forever_emits place = record {
       extends = patched_extends ends.turned d.code out (op.Jump (here ends.turned)) ends.patches a.code (omega (arith, out_is))
           (extends_trans a.code b.code ends.turned begun turned);
-      labels = labels_then a.labels b.labels d.labels (labels_stay a.labels b.labels same)
-          (labels_then b.labels c.labels d.labels p.labels (labels_stay c.labels d.labels still));
+      labels = labels_then a.labels b.labels d.labels (labels_beside a b same) (labels_then b.labels c.labels d.labels p.labels (labels_beside c d still));
+      taken = taken_beside c d still ∙ p.taken ∙ taken_beside a b same;
+      most = (let m = most_beside a b same in let n = most_beside c d still in omega (arith, m, p.most, n));
       sized = omega (arith, one, two, three, four, p.sized);
-      stands = λ i h l program g numbers f names serves. (
+      stands = λ i h l program g numbers f names serves room. (
         here c.code,
         omega (arith, one, two, p.extends.longer),
         (0, at_skip i h),
@@ -113,18 +114,19 @@ module _ (v : Visible) (w : Ways) where
         subst (λ n. AreStatements i program g numbers f (within_loop n w) (here a.code + 2) (here c.code) body)
             out_is
             (subst (λ n. AreStatements i program g numbers f (within_loop out w) n (here c.code) body) head_is
-            (p.stands i (in_body i h) (inner_labels i l) program g numbers f names serves)),
+            (p.stands i (in_body i h) (inner_labels i l) program g numbers f names (subst (Serves program g numbers f) (sym (taken_beside a b same)) serves)
+            (let m = most_beside c d still in omega (arith, m, room)))),
         (0, subst (λ n. slice_get i.instructions (here c.code) ≡ Some (record { depth = 0; operation = op.Jump n })) back_is (at_back i h)),
         four ∙ three,
       );
-      flows = λ i s low high down up h l suits deep end ways.
+      flows = λ i s low high down up h l suits deep wide end ways.
           let reached : IsReached i low high out = record {
             down = omega (arith, down, out_is);
             up = omega (arith, up, four, three, p.extends.longer, two, one, out_is);
             empty = depth_there i out 0 (op.Jump (here ends.turned)) (at_out i h);
           } in
           let kept = p.flows i s low high (omega (arith, down, one, two)) (omega (arith, up, four, three)) (in_body i h) (inner_labels i l) suits
-          (omega (arith, turning.deeper, ap (λ n. n) ends.patches.deepest, deep)) (depth_there i (here c.code) 0 (op.Jump back) (at_back i h))
+          (omega (arith, turning.deeper, ap (λ n. n) ends.patches.deepest, deep)) (let m = most_beside c d still in omega (arith, m, wide)) (depth_there i (here c.code) 0 (op.Jump back) (at_back i h))
           (in_the_loop i low high out w ways reached) in
           let head : back ≡ here b.code = omega (arith, back_is, one, two) in
           let turn : IsReached i low high back = record {

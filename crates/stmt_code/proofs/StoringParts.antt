@@ -31,7 +31,8 @@ use Rattle.expr_code.specs.Naming.{Lies}
 use Rattle.expr_code.specs.Seeing.{Package, Sees, slot_of}
 use Rattle.expr_code.specs.Views.{At, View, view_of}
 use Rattle.expr_code.specs.declared.visible.Visible.{Visible}
-use Rattle.stmt_code.specs.Copying.{Destination, IsHomeOf, IsPlaced, address_of, entity_shape, offset_or_none, shape_named}
+use Rattle.stmt_code.specs.Copying.{IsHomeOf, IsPlaced, address_of, entity_shape, offset_or_none, shape_named}
+use Rattle.stmt_code.specs.declared.call.Destination.{Destination}
 use Rattle.stmt_code.specs.Layout.{AreApart, IsFree, IsLaidOut, NamesObject}
 use Rattle.stmt_code.specs.Parts.{part_offset, part_shape}
 use Rattle.stmt_code.specs.Resting.{Framed, IsAt, IsAtHome, Knows, Rests, StandsFor}

@@ -18,21 +18,21 @@ use Rattle.expr_code.specs.declared.code.Code.{Code}
 use Rattle.expr_code.specs.declared.visible.Visible.{Visible}
 use Rattle.expr_code.proofs.Flowing.{kept_one, kept_then, widened}
 use Rattle.expr_code.proofs.Growing.{added_extends, added_here, extends_trans, patched_extends, patched_here, patched_other}
-use Rattle.stmt_code.specs.Emitting.{BeginsLoop, EmitsStatement, EmitsStatements, EndsLoop, HasLabels, IsReached}
+use Rattle.stmt_code.specs.Emitting.{BeginsLoop, EmitsStatement, EmitsStatements, EndsLoop, HasLabels, IsReached, Serves}
 use Rattle.stmt_code.specs.Statements.{AreStatements, Ways, within_loop}
 use Rattle.stmt_code.specs.declared.draft.Draft.{Draft}
-use Rattle.stmt_code.proofs.Adding.{depth_there, jump_kept, labels_before, labels_stay, labels_then, same_place}
+use Rattle.stmt_code.proofs.Adding.{IsBeside, depth_there, jump_kept, labels_before, labels_beside, labels_then, same_place}
 use Rattle.stmt_code.proofs.Opening.{added_is, patched_is, shorter}
 use Rattle.stmt_code.proofs.Repeating.{in_the_loop}
 
 module _ (v : Visible) (w : Ways) where
   -- ---- with a condition
   module _ (a b jumped c d' d : Draft) (tested : Code) (e : ExprTree) (body : StmtTrees) (out back test end : ℕ)
-      (begins : BeginsLoop a.code b.code) (same : b.labels ≡ a.labels)
+      (begins : BeginsLoop a.code b.code) (same : IsBeside a b)
       (out_is : out ≡ here a.code + 1) (back_is : back ≡ here a.code + 2)
-      (first : EmitsExpression v b.code 0 1 e tested) (jump : Adds tested 1 (op.JumpIfZero 0) jumped.code) (on : jumped.labels ≡ b.labels) (test_is : test ≡ here tested)
-      (p : EmitsStatements v (within_loop out w) jumped body c) (ends : EndsLoop c.code out back d'.code) (still : d'.labels ≡ c.labels)
-      (end_is : end ≡ here d'.code) (patch : Patches d'.code test (op.JumpIfZero end) d.code) (last : d.labels ≡ d'.labels) where
+      (first : EmitsExpression v b.code 0 1 e tested) (jump : Adds tested 1 (op.JumpIfZero 0) jumped.code) (on : IsBeside b jumped) (test_is : test ≡ here tested)
+      (p : EmitsStatements v (within_loop out w) jumped body c) (ends : EndsLoop c.code out back d'.code) (still : IsBeside c d')
+      (end_is : end ≡ here d'.code) (patch : Patches d'.code test (op.JumpIfZero end) d.code) (last : IsBeside d' d) where
     abbrev skip : Operation
     skip = op.Jump (here a.code + 2)
 
@@ -134,7 +134,13 @@ module _ (v : Visible) (w : Ways) where
       at_back = h (here c.code) _ (omega (arith, one, two, first.extends.longer, tested_here, p.extends.longer)) back_there
 
     behind : StandsFrom 0 c.labels d.labels
-    behind = labels_then c.labels d'.labels d.labels (labels_stay c.labels d'.labels still) (labels_stay d'.labels d.labels last)
+    behind = labels_then c.labels d'.labels d.labels (labels_beside c d' still) (labels_beside d' d last)
+
+    ahead : jumped.words ≡ a.words
+    ahead = on.1 ∙ same.1
+
+    after : d.words ≡ c.words
+    after = last.1 ∙ still.1
 
     abbrev inner_labels : (i : Sections) → HasLabels i d.labels → HasLabels i c.labels
     inner_labels i l = labels_before i c.labels d.labels behind l
@@ -144,10 +150,12 @@ module _ (v : Visible) (w : Ways) where
       extends = patched_extends d'.code d.code test (op.JumpIfZero end) patch a.code (omega (arith, test_is, first.extends.longer, one, two))
           (patched_extends ends.turned d'.code out (op.Jump (here ends.turned)) ends.patches a.code (omega (arith, out_is))
           (extends_trans a.code b.code ends.turned begun turned));
-      labels = labels_then a.labels b.labels d.labels (labels_stay a.labels b.labels same)
-          (labels_then b.labels jumped.labels d.labels (labels_stay b.labels jumped.labels on) (labels_then jumped.labels c.labels d.labels p.labels behind));
+      labels = labels_then a.labels b.labels d.labels (labels_beside a b same)
+          (labels_then b.labels jumped.labels d.labels (labels_beside b jumped on) (labels_then jumped.labels c.labels d.labels p.labels behind));
+      taken = ap (λ x. x.taken) after ∙ p.taken ∙ ap (λ x. x.taken) ahead;
+      most = (let m = ap (λ x. x.most) ahead in let n = ap (λ x. x.most) after in omega (arith, m, p.most, n));
       sized = omega (arith, one, two, three, four, five, tested_here, first.sized, p.sized);
-      stands = λ i h l program g numbers f names serves. (
+      stands = λ i h l program g numbers f names serves room. (
         here tested,
         here c.code,
         omega (arith, one, two, first.extends.longer),
@@ -159,11 +167,12 @@ module _ (v : Visible) (w : Ways) where
         (1, at_test i h),
         subst (λ n. AreStatements i program g numbers f (within_loop n w) (suc (here tested)) (here c.code) body) out_is
             (subst (λ n. AreStatements i program g numbers f (within_loop out w) n (here c.code) body) tested_here
-            (p.stands i (in_body i h) (inner_labels i l) program g numbers f names serves)),
+            (p.stands i (in_body i h) (inner_labels i l) program g numbers f names (subst (λ x. Serves program g numbers f x.taken) (sym ahead) serves)
+            (let m = ap (λ x. x.most) after in omega (arith, m, room)))),
         (0, subst (λ n. slice_get i.instructions (here c.code) ≡ Some (record { depth = 0; operation = op.Jump n })) back_is (at_back i h)),
         five ∙ four ∙ three,
       );
-      flows = λ i s low high down up h l suits deep empty ways.
+      flows = λ i s low high down up h l suits deep wide empty ways.
           let deepest : ends.turned.deepest ≤ s.stack = omega (arith, ap (λ n. n) patch.deepest, ap (λ n. n) ends.patches.deepest, deep) in
           let single : 1 ≤ s.stack = omega (arith, jump.within, jumped_turned.deeper, deepest) in
           let reached : IsReached i low high out = record {
@@ -172,7 +181,7 @@ module _ (v : Visible) (w : Ways) where
             empty = depth_there i out 0 (op.Jump (here ends.turned)) (at_out i h);
           } in
           let kept = p.flows i s low high (omega (arith, down, one, two, first.extends.longer, tested_here)) (omega (arith, up, five, four, three)) (in_body i h)
-          (inner_labels i l) suits (omega (arith, turning.deeper, deepest)) (depth_there i (here c.code) 0 (op.Jump back) (at_back i h))
+          (inner_labels i l) suits (omega (arith, turning.deeper, deepest)) (let m = ap (λ x. x.most) after in omega (arith, m, wide)) (depth_there i (here c.code) 0 (op.Jump back) (at_back i h))
           (in_the_loop i low high out w ways reached) in
           let tests = kept_one i s low high (here tested) 1 0 (op.JumpIfZero (here d.code)) (at_test i h) single (omega arith) refl refl (omega arith) (omega arith) refl
           (λ g. ap (λ m. has_depth i m 0) (sym tested_here) ∙ kept.begins)
@@ -181,7 +190,7 @@ module _ (v : Visible) (w : Ways) where
             omega (arith, to, up),
             ap (λ m. has_depth i m 0) to ∙ empty,
           )) in
-          let condition = first.flows.flows i s (in_test i h) suits (omega (arith, tested_turned.deeper, deepest)) single tests.begins in
+          let condition = first.flows.flows i s (in_test i h) suits.names (omega (arith, tested_turned.deeper, deepest)) single tests.begins in
           let value = widened i s (here b.code) (here tested) low high (here b.code) (here tested) 0 (omega (arith, down, one, two))
           (omega (arith, up, five, four, three, p.extends.longer, tested_here)) condition in
           let head : back ≡ here b.code = omega (arith, back_is, one, two) in

@@ -1,12 +1,12 @@
 -- Where a name of an object more is visible, all that is visible is known.
-use Rattle.std.proofs.Common.{◌≡◌, ℕ, List, [], ◌∷◌, ◌++◌, cond, Option, Some, None, true, refl, sym, ap, ◌∙◌, subst}
+use Rattle.std.proofs.Common.{◌≡◌, ℕ, List, [], ◌∷◌, ◌++◌, cond, Option, Some, None, true, false, refl, sym, ap, ◌∙◌, subst}
 use Rattle.std.specs.Prelude.{is_some}
 use Rattle.types.specs.declared.entity.Role.{Role}
 use Rattle.types.specs.declared.entity.Role.TheVariants as role
 use Rattle.types.specs.declared.entity.Subtype.{Subtype}
 use Rattle.types.specs.Entities as entity
 use Rattle.types.specs.Entities.{Entity, TypeForm}
-use Rattle.types.specs.Scopes.{Named, Scope, entity_at, form_at, form_of, with_name}
+use Rattle.types.specs.Scopes.{Named, Scope, entity_at, form_at, form_of, is_visible, with_name}
 use Rattle.expr_rules.specs.Typing.{is_integers}
 use Rattle.well_typed.specs.Laws.{ScopesAreSound}
 use Rattle.well_typed.specs.SoundScopes.{IsSoundObject, SoundScope}
@@ -32,18 +32,19 @@ object_kept s more role.LoopParameter t h =
     ap is_integers (form_kept s more t.type_number (integers_known (form_at s t.type_number) h)) ∙ h
 object_kept s more r t h = ap is_some (form_kept s more t.type_number h) ∙ h
 
-pub sound_wider : ScopesAreSound → (v later : Framed) (name : List ℕ) (r : Role) (t : Subtype) (slot : Slot) → Widens v name r t slot later
-    → SoundScope v.names.scope → SoundScope later.names.scope
-sound_wider scopes v later name r t slot widens sound =
-    subst SoundScope (sym widens.scope)
-    (scopes.widened s name (entity.Object r t) sound widens.hidden
-    (subst (λ q. IsSoundObject q r t) (sym is) (object_kept s (named ∷ []) r t widens.sound)) refl)
+pub scope_wider : ScopesAreSound → (s : Scope) (name : List ℕ) (r : Role) (t : Subtype) → is_visible s name ≡ false → IsSoundObject s r t → SoundScope s
+    → SoundScope (with_name s name (entity.Object r t))
+scope_wider scopes s name r t hidden known sound =
+    scopes.widened s name (entity.Object r t) sound hidden
+    (subst (λ q. IsSoundObject q r t) (sym is) (object_kept s (named ∷ []) r t known)) refl
   where
-    s : Scope
-    s = v.names.scope
-
     named : Named
     named = record { name = name; entity = entity.Object r t }
 
     is : with_name s name (entity.Object r t) ≡ s ++ named ∷ []
-    is = ap (λ b. cond b s (s ++ named ∷ [])) widens.hidden
+    is = ap (λ b. cond b s (s ++ named ∷ [])) hidden
+
+pub sound_wider : ScopesAreSound → (v later : Framed) (name : List ℕ) (r : Role) (t : Subtype) (slot : Slot) → Widens v name r t slot later
+    → SoundScope v.names.scope → SoundScope later.names.scope
+sound_wider scopes v later name r t slot widens sound =
+    subst SoundScope (sym widens.scope) (scope_wider scopes v.names.scope name r t widens.hidden widens.sound sound)

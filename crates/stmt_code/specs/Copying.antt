@@ -39,6 +39,7 @@ use Rattle.stmt_code.specs.Layout.{IsVariable, NamesObject}
 use Rattle.stmt_code.specs.Parts.{HasParts, part_offset, part_shape}
 use Rattle.stmt_code.specs.Resting.{AreHeld, Framed, Held, IsAt, Knows, Rests, StandsFor}
 use Rattle.stmt_code.specs.Storing.{Puts}
+use Rattle.stmt_code.specs.declared.call.Destination.{Destination}
 
 -- ---- targets and their addresses
 
@@ -61,11 +62,6 @@ address_of v x = offset_or_none (slot_of v x.name) + part_offset (shape_named v.
 abbrev pub addresses_of : Visible → List Target → List ℕ
 addresses_of v [] = []
 addresses_of v (x ∷ xs) = address_of v x ∷ addresses_of v xs
-
--- what a call tells of where a parameter is copied back to: the region of the variable, and the subtype of the target
-pub record Destination : Type 0 where
-  pub region : Region
-  pub subtype : Subtype
 
 -- variables in the frame are of the running activation, plain words are those of the package
 abbrev pub IsHomeOf : Region → Home → Type 0

@@ -1,28 +1,43 @@
 -- What methods that add the code of statements promise.
-use Rattle.std.specs.Prelude.{◌≡◌, ℕ, ◌+◌, ◌*◌, ◌≤◌, ◌<◌, true, List, [], ◌∷◌, ◌++◌, Some, None, slice_get}
+use Rattle.std.specs.Prelude.{◌≡◌, ℕ, suc, ◌+◌, ◌*◌, ◌≤◌, ◌<◌, ◌⊎◌, true, List, [], ◌∷◌, ◌++◌, cond, length, nat_eq, take, Option, Some, None, pos, slice_get, ⊤, ℤ}
 use Rattle.ada_tree.specs.ExpressionTree.{ExprTree}
-use Rattle.ada_tree.specs.StatementTree.{ElsifTrees, MoreElsifs, StmtTree, StmtTrees, elsifs_of}
-use Rattle.ada_tree.specs.Size.{elsifs_size, stmt_size, stmts_size}
+use Rattle.ada_tree.specs.StatementTree.{DeclarationTree, ElsifTrees, MoreElsifs, StmtTree, StmtTrees, elsifs_of}
+use Rattle.ada_tree.specs.Size.{declaration_size, elsifs_size, stmt_size, stmts_size, total}
 use Rattle.image.specs.Sections.{Sections}
-use Rattle.image.specs.Rules.{has_depth}
+use Rattle.image.specs.Rules.{has_depth, is_block}
+use Rattle.image.specs.declared.instruction.Operation.{Operation}
 use Rattle.image.specs.declared.instruction.Operation.TheVariants as op
+use Rattle.image.specs.declared.instruction.Region.{Region}
+use Rattle.image.specs.declared.instruction.Region.TheVariants as regions
 use Rattle.image.specs.declared.subprograms.Subprogram.{Subprogram}
-use Rattle.types.specs.Entities.{Entity}
-use Rattle.types.specs.Places.{is_among}
-use Rattle.types.specs.Scopes.{Scope}
+use Rattle.types.specs.declared.entity.Subtype.{Subtype}
+use Rattle.types.specs.Entities.{Booleans, Entity, Integers, TypeForm}
+use Rattle.types.specs.Layouts.{words_of}
+use Rattle.types.specs.Places.{Place, is_among}
+use Rattle.types.specs.Scopes.{Scope, form_at}
+use Rattle.types.specs.Shapes.{initial, value_words}
+use Rattle.declaring.specs.LocalRules.{locals_faults, locals_scope}
 use Rattle.stmt_rules.specs.declared.around.Around.{Around}
 use Rattle.stmt_rules.specs.StatementRules.{elsifs_faults, stmt_faults, stmts_faults}
-use Rattle.meaning.specs.Programs.{Program}
+use Rattle.well_typed.specs.Agreeing.{Agrees}
+use Rattle.well_typed.specs.SoundScopes.{SoundScope}
+use Rattle.meaning.specs.Calls.{procedure_here}
+use Rattle.meaning.specs.Programs.{Procedure, Program}
 use Rattle.sound_steps.specs.Fitting.{IsFound, entity_named}
 use Rattle.expr_code.specs.Branches.{Joins}
 use Rattle.expr_code.specs.Code.{Adds, Extends, Holds, Patches, StandsFrom, here}
+use Rattle.expr_code.specs.Emitting.{EmitsChecked, EmitsFitting, IsFit}
 use Rattle.expr_code.specs.Flows.{AreKept}
-use Rattle.expr_code.specs.Seeing.{Package, Suits}
+use Rattle.expr_code.specs.Seeing.{Package, subprogram_of}
 use Rattle.expr_code.specs.declared.code.Code.{Code}
+use Rattle.expr_code.specs.declared.visible.Slot.{Slot}
 use Rattle.expr_code.specs.declared.visible.Visible.{Visible}
+use Rattle.stmt_code.specs.Layout.{EndsBy, IsLaidOut}
+use Rattle.stmt_code.specs.Suiting.{SuitsStatements}
 use Rattle.stmt_code.specs.Resting.{Framed}
-use Rattle.stmt_code.specs.Statements.{AreStatements, IsOtherwise, IsStatement, Numbers, Ways}
+use Rattle.stmt_code.specs.Statements.{AreDeclared, AreStatements, IsOtherwise, IsRun, IsStatement, Numbers, Ways}
 use Rattle.stmt_code.specs.declared.draft.Draft.{Draft}
+use Rattle.stmt_code.specs.declared.draft.FrameWords.{FrameWords}
 use Rattle.stmt_code.specs.declared.leaving.Leaving.{Leaving}
 
 -- ---- what is asked
@@ -44,15 +59,31 @@ pub record AreLegalElsifs (s : Scope) (all : ElsifTrees) : Type 0 where
 abbrev pub ways_of : Leaving → Ways
 ways_of l = record { exit = l.exit; return = l.return_ }
 
+-- so many words of the frame more are taken
+pub record Takes (old : FrameWords) (many : ℕ) (new : FrameWords) : Type 0 where
+  pub taken : new.taken ≡ old.taken + many
+  pub grows : old.most ≤ new.most
+  pub most : new.taken ≤ new.most
+
 -- ---- what is known where the code stands
 
 -- the image has these labels at their numbers
 pub record HasLabels (i : Sections) (texts : List (List ℕ)) : Type 0 where
   pub labels : StandsFrom 0 texts i.labels
 
--- the program in whose body the statements stand: what is visible names what the program has
-pub record Serves (program : Program) (v : Framed) : Type 0 where
+-- The program in whose body the statements stand: what is visible names what the program has, and means the same at some place of it; each procedure that is
+-- called has the number that is told; and what is visible is laid out in the words of the frame that are taken, and those that statements leave alone are among
+-- these.
+pub record Serves (program : Program) (g : Package) (numbers : Numbers) (v : Framed) (taken : ℕ) : Type 0 where
   pub finds : (name : List ℕ) (e : Entity) → entity_named v.names.scope name ≡ Some e → IsFound program None name e
+  pub numbered : (name : List ℕ) (q : Procedure) (n : ℕ) → procedure_here program None name ≡ Some q → subprogram_of v.names name ≡ Some n → numbers q ≡ Some n
+  pub scope : program.scope ≡ g.scope
+  pub place : Place
+  pub here : place.scope ≡ program.scope
+  pub agrees : Agrees v.names.scope place
+  pub laid : IsLaidOut g v
+  pub ends : EndsBy v taken
+  pub below : (n : ℕ) → is_among v.reserved n ≡ true → n < taken
 
 -- a place that may be gone to with an empty operand stack
 pub record IsReached (i : Sections) (low high place : ℕ) : Type 0 where
@@ -70,17 +101,21 @@ pub record Allows (i : Sections) (low high : ℕ) (w : Ways) : Type 0 where
 abbrev pub Meant : Type 1
 Meant = Sections → Program → Package → Numbers → Framed → (from to : ℕ) → Type 0
 
--- The code that was added is what is meant, in every image that holds it and has the labels; it has at most 20 instructions for each part; and it keeps the
--- rules of images wherever what is behind it and the ways out are reached with an empty operand stack.
+-- The code that was added is what is meant, in every image that holds it and has the labels, and in every frame with as many words; it has at most 20
+-- instructions for each part; and it keeps the rules of images wherever what is behind it and the ways out are reached with an empty operand stack. The words
+-- that it takes for names of its own are given back.
 pub record Emits (Is : Meant) (v : Visible) (w : Ways) (old : Draft) (size : ℕ) (new : Draft) : Type 0 where
   pub extends : Extends old.code new.code
   pub labels : StandsFrom 0 old.labels new.labels
+  pub taken : new.words.taken ≡ old.words.taken
+  pub most : old.words.most ≤ new.words.most
   pub sized : here new.code ≤ here old.code + 20 * size
   pub stands : (i : Sections) → Holds i (here old.code) new.code → HasLabels i new.labels
-      → (program : Program) (g : Package) (numbers : Numbers) (f : Framed) → f.names ≡ v → Serves program f
+      → (program : Program) (g : Package) (numbers : Numbers) (f : Framed) → f.names ≡ v → Serves program g numbers f old.words.taken
+      → new.words.most ≤ f.room
       → Is i program g numbers f (here old.code) (here new.code)
   pub flows : (i : Sections) (s : Subprogram) (low high : ℕ) → low ≤ here old.code → here new.code ≤ high
-      → Holds i (here old.code) new.code → HasLabels i new.labels → Suits v i s → new.code.deepest ≤ s.stack
+      → Holds i (here old.code) new.code → HasLabels i new.labels → SuitsStatements v i s → new.code.deepest ≤ s.stack → new.words.most ≤ s.locals
       → has_depth i (here new.code) 0 ≡ true → Allows i low high w
       → AreKept i s low high (here old.code) (here new.code) 0
 
@@ -90,6 +125,117 @@ EmitsStatement v w old x new = Emits (λ i program g numbers f from to. IsStatem
 abbrev pub EmitsStatements : Visible → Ways → Draft → StmtTrees → Draft → Type 0
 EmitsStatements v w old body new =
     Emits (λ i program g numbers f from to. AreStatements i program g numbers f w from to body) v w old (stmts_size body) new
+
+-- ---- stores
+
+-- what stores a word there
+abbrev pub stored_in : Region → (offset : ℕ) → Option Operation
+stored_in regions.Locals n = Some (op.StoreLocal n)
+stored_in regions.Plain n = Some (op.StorePlain n)
+stored_in regions.Object n = None
+
+-- what stores so many words of a value there, at the address below them on the operand stack
+abbrev pub stored_at : Region → (words : ℕ) → Option Operation
+stored_at regions.Locals n = Some (cond (nat_eq n 1) (op.StoreIndexed regions.Locals) (op.StoreBlock regions.Locals n))
+stored_at regions.Plain n = Some (cond (nat_eq n 1) (op.StoreIndexed regions.Plain) (op.StoreBlock regions.Plain n))
+stored_at regions.Object n = None
+
+abbrev pub store_operation : Slot → Option Operation
+store_operation x = stored_in x.region x.offset
+
+-- ---- declarations
+
+-- the word of an object of one word without initial value
+abbrev pub first_word : Option TypeForm → Subtype → Option ℤ
+first_word (Some Integers) t = Some t.first
+first_word (Some Booleans) t = Some (pos 0)
+first_word form t = None
+
+-- an instruction was added that puts it on the operand stack
+pub record AddsInitial (v : Visible) (old : Code) (t : Subtype) (new : Code) : Type 0 where
+  pub word : ℤ
+  pub first : first_word (form_at v.scope t.type_number) t ≡ Some word
+  pub adds : Adds old 0 (op.Push word) new
+
+-- the code of an initial value of one word was added: of the one that is given, checked, or of that of an object without
+abbrev pub EmitsInitial : Visible → (old : Code) → Subtype → Option ExprTree → (new : Code) → Type 0
+EmitsInitial v old t (Some e) new = EmitsChecked v old 0 t e new
+EmitsInitial v old t None new = AddsInitial v old t new
+
+-- these words were put on the operand stack, one by one, above so many others
+abbrev pub Pushes : (old : Code) → (height : ℕ) → List ℤ → (new : Code) → Type 0
+Pushes old height [] new = old ≡ new
+Pushes old height (w ∷ ws) new = (next : Code) × Adds old height (op.Push w) next × Pushes next (height + 1) ws new
+
+-- ... so many stand there then
+pub record HasPushed (old : Code) (height : ℕ) (ws : List ℤ) (new : Code) (top : ℕ) : Type 0 where
+  pub pushes : Pushes old height ws new
+  pub more : top ≡ height + length ws
+
+-- the words of an object without initial value, where they are few
+pub record PushesInitial (v : Visible) (old : Code) (t : Subtype) (new : Code) : Type 0 where
+  pub few : words_of v.scope t ≤ 18
+  pub pushes : Pushes old 1 (value_words (initial v.scope t)) new
+
+-- the code of an initial value of several words was added, above their address: of the one that is given, checked, or of that of an object without
+abbrev pub EmitsInitialWords : Visible → (old : Code) → Subtype → Option ExprTree → (new : Code) → Type 0
+EmitsInitialWords v old t (Some e) new = EmitsFitting v old 1 t e new
+EmitsInitialWords v old t None new = PushesInitial v old t new
+
+-- the code of an initial value of one word was added, and what stores it at an offset of the frame
+pub record StoresWord (v : Visible) (old : Code) (offset : ℕ) (t : Subtype) (o : Option ExprTree) (new : Code) : Type 0 where
+  pub valued : Code
+  pub value : EmitsInitial v old t o valued
+  pub store : Adds valued 1 (op.StoreLocal offset) new
+
+-- ... of several words, and what stores them from an offset on
+pub record StoresWords (v : Visible) (old : Code) (offset : ℕ) (t : Subtype) (o : Option ExprTree) (new : Code) : Type 0 where
+  pub placed : Code
+  pub valued : Code
+  pub block : is_block (words_of v.scope t) ≡ true
+  pub address : Adds old 0 (op.Push (pos offset)) placed
+  pub value : EmitsInitialWords v placed t o valued
+  pub store : Adds valued (1 + words_of v.scope t) (op.StoreBlock regions.Locals (words_of v.scope t)) new
+
+-- ... of however many
+abbrev pub EmitsObject : Visible → (old : Code) → (offset : ℕ) → Subtype → Option ExprTree → (new : Code) → Type 0
+EmitsObject v old offset t o new = StoresWord v old offset t o new ⊎ StoresWords v old offset t o new
+
+-- the value that is given, if any, is fit for the subtype
+abbrev pub FitsIfAny : Scope → Subtype → Option ExprTree → Type 0
+FitsIfAny s t (Some e) = IsFit s t e
+FitsIfAny s t None = ⊤
+
+-- there is an entry for each name
+pub record HasEntries (v : Visible) : Type 0 where
+  pub slots : length v.slots ≡ length v.scope
+  pub subprograms : length v.subprograms ≡ length v.scope
+
+-- the same frame, where other names are visible
+abbrev pub seeing : Framed → Visible → Framed
+seeing f later = record f { names = later }
+
+-- The code of declarations was added, and each name is visible behind its own, with words that are taken from there on: in every image that holds it, and in
+-- every frame with as many words.
+pub record EmitsDeclarations (v : Visible) (old : Draft) (ds : List DeclarationTree) (later : Visible) (new : Draft) : Type 0 where
+  pub extends : Extends old.code new.code
+  pub labels : StandsFrom 0 old.labels new.labels
+  pub most : old.words.most ≤ new.words.most
+  pub sized : here new.code ≤ here old.code + 20 * total declaration_size ds
+  pub scope : later.scope ≡ locals_scope v.scope ds
+  pub slots : take (length v.slots) later.slots ≡ v.slots
+  pub subprograms : take (length v.subprograms) later.subprograms ≡ v.subprograms
+  pub sound : SoundScope later.scope
+  pub entries : HasEntries later
+  pub stands : (i : Sections) → Holds i (here old.code) new.code → HasLabels i new.labels
+      → (program : Program) (g : Package) (numbers : Numbers) (f : Framed) → f.names ≡ v → Serves program g numbers f old.words.taken
+      → new.words.most ≤ f.room
+      → AreDeclared i program g numbers f (here old.code) (here new.code) (seeing f later) ds × Serves program g numbers (seeing f later) new.words.taken
+  pub flows : (i : Sections) (s : Subprogram) (low high : ℕ) → low ≤ here old.code → here new.code ≤ high
+      → Holds i (here old.code) new.code → SuitsStatements v i s → new.code.deepest ≤ s.stack → new.words.most ≤ s.locals
+      → has_depth i (here new.code) 0 ≡ true
+      → AreKept i s low high (here old.code) (here new.code) 0
+  pub suits : (i : Sections) (s : Subprogram) → SuitsStatements v i s → new.words.most ≤ s.locals → SuitsStatements later i s
 
 -- ---- code whose jumps to its end wait for the place
 
@@ -101,14 +247,17 @@ MeantTo = Sections → Program → Package → Numbers → Framed → (end from 
 pub record EmitsOpen (Is : MeantTo) (v : Visible) (w : Ways) (depth : ℕ) (old : Draft) (size : ℕ) (waiting : List ℕ) (new : Draft) : Type 0 where
   pub extends : Extends old.code new.code
   pub labels : StandsFrom 0 old.labels new.labels
+  pub taken : new.words.taken ≡ old.words.taken
+  pub most : old.words.most ≤ new.words.most
   pub sized : here new.code ≤ here old.code + 20 * size
   pub inside : (k : ℕ) → is_among waiting k ≡ true → (here old.code ≤ k) × (k < here new.code)
   pub waits : (k : ℕ) → is_among waiting k ≡ true → slice_get new.code.instructions.items k ≡ Some (record { depth = 0; operation = op.Jump 0 })
   pub stands : (i : Sections) (end : ℕ) → here new.code ≤ end → Joins i (here old.code) waiting end 0 new.code → HasLabels i new.labels
-      → (program : Program) (g : Package) (numbers : Numbers) (f : Framed) → f.names ≡ v → Serves program f
+      → (program : Program) (g : Package) (numbers : Numbers) (f : Framed) → f.names ≡ v → Serves program g numbers f old.words.taken
+      → new.words.most ≤ f.room
       → Is i program g numbers f end (here old.code) (here new.code)
   pub flows : (i : Sections) (s : Subprogram) (low high end : ℕ) → low ≤ here old.code → here new.code ≤ end → end ≤ high
-      → Joins i (here old.code) waiting end 0 new.code → HasLabels i new.labels → Suits v i s → new.code.deepest ≤ s.stack → depth ≤ s.stack
+      → Joins i (here old.code) waiting end 0 new.code → HasLabels i new.labels → SuitsStatements v i s → new.code.deepest ≤ s.stack → new.words.most ≤ s.locals → depth ≤ s.stack
       → has_depth i end 0 ≡ true → has_depth i (here new.code) depth ≡ true → Allows i low high w
       → AreKept i s low high (here old.code) (here new.code) depth
 
@@ -143,3 +292,18 @@ pub record EndsLoop (old : Code) (out back : ℕ) (new : Code) : Type 0 where
   pub turned : Code
   pub turns : Adds old 0 (op.Jump back) turned
   pub patches : Patches turned out (op.Jump (here turned)) new
+
+-- ---- bodies
+
+-- no rule is broken in the declarations and the statements of a body
+pub record IsLegalRun (s : Scope) (ds : List DeclarationTree) (body : StmtTrees) : Type 0 where
+  pub declared : locals_faults s ds ≡ []
+  pub statements : AreLegal (locals_scope s ds) body
+
+abbrev pub no_ways : Ways
+no_ways = record { exit = None; return = None }
+
+-- the code of both was added, with a way out of the body between them
+abbrev pub EmitsRun : Visible → Draft → List DeclarationTree → StmtTrees → Draft → Type 0
+EmitsRun v old ds body new =
+    Emits (λ i program g numbers f from to. IsRun i program g numbers f from to ds body) v no_ways old (suc (total declaration_size ds + stmts_size body)) new

@@ -56,8 +56,8 @@ pub record IsLaidOut (g : Package) (v : Framed) : Type 0 where
   pub laid : IsLaid v.names.scope (slot_of v.names)
   pub shared : (name : List ℕ) (x : Slot) → slot_of v.names name ≡ Some x → x.region ≡ regions.Plain → g.slots name ≡ Some x
   pub free : AreFree v
-  pub slots : length v.names.slots.items ≡ length v.names.scope
-  pub subprograms : length v.names.subprograms.items ≡ length v.names.scope
+  pub slots : length v.names.slots ≡ length v.names.scope
+  pub subprograms : length v.names.subprograms ≡ length v.names.scope
 
 -- the words of all that is visible in the frame end there
 abbrev pub EndsBy : Framed → ℕ → Type 0
@@ -69,8 +69,8 @@ pub record Widens (v : Framed) (name : List ℕ) (r : Role) (t : Subtype) (slot 
   pub hidden : is_visible v.names.scope name ≡ false
   pub sound : IsSoundObject v.names.scope r t
   pub scope : later.names.scope ≡ with_name v.names.scope name (Object r t)
-  pub slots : later.names.slots.items ≡ v.names.slots.items ++ Some slot ∷ []
-  pub subprograms : later.names.subprograms.items ≡ v.names.subprograms.items ++ None ∷ []
+  pub slots : later.names.slots ≡ v.names.slots ++ Some slot ∷ []
+  pub subprograms : later.names.subprograms ≡ v.names.subprograms ++ None ∷ []
   pub room : later.room ≡ v.room
   -- its words are in the frame, and none of them is one of another object's
   pub apart : (other : List ℕ) (x : Slot) (q : Role) (u : Subtype) → slot_of v.names other ≡ Some x → x.region ≡ slot.region

@@ -8,4 +8,10 @@ pub mod Statements
 pub mod Standing
 pub mod Laws
 pub mod Lines
+pub mod Suiting
 pub mod Emitting
+pub mod Passing
+pub mod Alternatives
+pub mod Formals
+pub mod Subprograms
+pub mod Turns

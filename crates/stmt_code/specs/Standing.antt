@@ -18,7 +18,8 @@ use Rattle.expr_code.specs.Views.{At}
 use Rattle.expr_code.specs.Coming.{Throws, size_of}
 use Rattle.expr_code.specs.Seeing.{Package}
 use Rattle.stmt_code.specs.Resting.{Framed, Held, Narrows, RestsWith, Shows, StandsFor}
-use Rattle.stmt_code.specs.Copying.{AreCopies, ArePlaced, Destination, GivesBack, addresses_of, copies_on, held_at}
+use Rattle.stmt_code.specs.Copying.{AreCopies, ArePlaced, GivesBack, addresses_of, copies_on, held_at}
+use Rattle.stmt_code.specs.declared.call.Destination.{Destination}
 use Rattle.stmt_code.specs.Counting.{IsCounted, in_turn}
 use Rattle.stmt_code.specs.Statements.{AreStatements, IsDeclared, IsForever, IsMainStatement, IsParameterDeclared, IsStatement, IsWhile, Numbers, Ways, within_loop}
 

@@ -34,7 +34,8 @@ use Rattle.expr_code.specs.Coming.{most_steps, on}
 use Rattle.expr_code.specs.Computing.{ArePassed, Computes, Everywhere}
 use Rattle.expr_code.specs.Seeing.{library_of, Package, Sees}
 use Rattle.stmt_code.specs.Resting.{Framed, Knows, Narrows, RestsWith}
-use Rattle.stmt_code.specs.Copying.{AreCopies, ArePlaced, Destination, GivesBack, actuals_on, held_at, left_out, passed_actuals, passed_words, taken}
+use Rattle.stmt_code.specs.Copying.{AreCopies, ArePlaced, GivesBack, actuals_on, held_at, left_out, passed_actuals, passed_words, taken}
+use Rattle.stmt_code.specs.declared.call.Destination.{Destination}
 use Rattle.stmt_code.specs.Counting.{IsCounted, IsRange}
 use Rattle.stmt_code.specs.Storing.{Stores, assigned, declared, object_declared}
 use Rattle.meaning.specs.Targets.{activation_with, store_with}
@@ -225,7 +226,18 @@ module _ (i : Sections) (program : Program) (g : Package) (numbers : Numbers) wh
 
   -- ---- bodies
 
-  -- the code of a procedure of the package: its `out` parameters, its declarations, its statements, and what it gives back
+  -- Declarations, a jump over the way out, the way out, which leads to the end, and statements that see the declarations, of which a return leads to the way out.
+  pub record IsRun (v : Framed) (from to : ℕ) (ds : List DeclarationTree) (body : StmtTrees) : Type 0 where
+    pub later : Framed
+    pub mid : ℕ
+    pub up : from ≤ mid
+    pub over : mid + 2 ≤ to
+    pub declared : AreDeclared v from mid later ds
+    pub skip : At i mid (op.Jump (mid + 2))
+    pub way : At i (mid + 1) (op.Jump to)
+    pub statements : AreStatements later (record { exit = None; return = Some (mid + 1) }) (mid + 2) to body
+
+  -- the code of a procedure of the package: its `out` parameters, its declarations and statements, and what it gives back
   pub record IsProcedure (q : Procedure) (number : ℕ) : Type 0 where
     pub s : Subprogram
     pub there : called i number ≡ Some s
@@ -233,22 +245,16 @@ module _ (i : Sections) (program : Program) (g : Package) (numbers : Numbers) wh
     pub unhandled : q.body.handlers ≡ NoHandlers
     pub parameters : (args : List values.Value) (addresses : List ℕ) → ArePassed (shapes_of q) args → length addresses ≡ length (results q.parameters)
         → length (passed_words q.parameters args addresses) ≡ s.parameters
-    -- what is visible in front of its `out` parameters and behind them; in front of its declarations, where its parameters stand in the order of the text; and
-    -- behind its declarations
+    -- what is visible in front of its `out` parameters and behind them, and in front of its declarations, where its parameters stand in the order of the text
     pub begins : Framed
     pub begun : Framed
     pub middle : Framed
-    pub later : Framed
     pub first : ℕ
-    pub start : ℕ
     pub stop : ℕ
     pub down : first_place i number ≤ first
-    pub up : first ≤ start
-    pub over : start ≤ stop
     pub ready : AreParametersDeclared begins (first_place i number) first begun (left_out q.parameters)
     pub orders : Narrows g begun middle
-    pub declared : AreDeclared middle first start later q.body.declarations
-    pub statements : AreStatements later (record { exit = None; return = Some stop }) start stop q.body.statements
+    pub runs : IsRun middle first stop q.body.declarations q.body.statements
     pub gives : GivesBack i program g middle (results q.parameters) number stop
     pub within : suc gives.back ≤ s.end_
     -- what the frame sees when it is entered

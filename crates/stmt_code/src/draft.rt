@@ -1,8 +1,9 @@
 //! Code as statements add to it, with the labels of its lines.
-ghost use Rattle.std.specs.Prelude.{◌≡◌, [], Some, slice_get, IfOk, OnOk};
+ghost use Rattle.std.specs.Prelude.{◌≡◌, ◌+◌, ◌≤◌, [], Some, slice_get, IfOk, OnOk};
 ghost use Rattle.expr_code.specs.Code.{StandsFrom};
+ghost use Rattle.stmt_code.specs.Emitting.{Takes};
 
-use base::limits::LABELS;
+use base::limits::{FRAME_WORDS, LABELS};
 use expr_code::{Code, Refusal};
 use indexmap::IndexSet;
 use lexer::Text;
@@ -46,11 +47,59 @@ impl Labels {
     }
 }
 
+/// The place behind so many words of a frame, which has at most 512 (docs/FORMATS.md).
+pub(crate) fn behind(first: u16, words: u16) -> Result<u16, Refusal>
+    ensures end { IfOk result (λ end. end ≡ first + words) }
+    ensures within { IfOk result (λ end. end ≤ FRAME_WORDS) }
+{
+    match first.checked_add(words) {
+        Some(end) if usize::from(end) <= FRAME_WORDS => Ok(end),
+        _ => Err(Refusal::Limit),
+    }
+}
+
+/// The words of a body's frame for its names: how many of them are taken at a place of its text, and the most that are taken at any place.
+#[derive(Clone, Copy, PartialEq, Eq, Debug)]
+pub struct FrameWords {
+    pub taken: u16,
+    pub most: u16,
+}
+
+impl FrameWords {
+    /// None taken.
+    pub fn new() -> FrameWords
+        ensures taken { result.taken ≡ 0 }
+        ensures most { result.most ≡ 0 }
+    {
+        FrameWords { taken: 0, most: 0 }
+    }
+
+    /// Takes so many words behind those that are taken, and tells the first of them. A frame has at most 512 (docs/FORMATS.md).
+    pub fn take(&mut self, words: u16) -> Result<u16, Refusal>
+        ensures first { IfOk result (λ first. first ≡ self.old.taken) }
+        ensures takes { OnOk result (Takes self.old words self.new) }
+        ensures within { OnOk result (self.new.taken ≤ FRAME_WORDS) }
+    {
+        let first = self.taken;
+        self.taken = behind(first, words)?;
+        self.most = self.most.max(self.taken);
+        Ok(first)
+    }
+
+    /// Gives back those behind the first ones, where `taken` is how many these are.
+    pub fn release(&mut self, taken: u16)
+        ensures { self.new ≡ record self.old { taken = taken } }
+    {
+        self.taken = taken;
+    }
+}
+
 /// Code that is put together statement by statement.
 #[derive(Drop)]
 pub struct Draft {
     pub code: Code,
     pub labels: Labels,
+    pub words: FrameWords,
 }
 
 impl Draft {
@@ -58,10 +107,13 @@ impl Draft {
     pub fn new(alloc: Global) -> Draft
         ensures instructions { result.code.instructions.items ≡ [] }
         ensures labels { result.labels ≡ [] }
+        ensures taken { result.words.taken ≡ 0 }
+        ensures most { result.words.most ≡ 0 }
     {
         Draft {
             code: Code::new(alloc),
             labels: Labels::new(alloc),
+            words: FrameWords::new(),
         }
     }
 }

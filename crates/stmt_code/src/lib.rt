@@ -1,12 +1,23 @@
 //! The code of statements.
 #![tactic(auto)]
 
+mod assignment;
+mod body;
+mod call;
+mod case;
+mod declaration;
 mod draft;
+mod extent;
+mod formals;
 pub mod laws;
 mod leaving;
 mod looping;
 mod put;
+mod range_loop;
 mod statement;
+mod subprogram;
 
-pub use draft::{Draft, Labels};
+pub use draft::{Draft, FrameWords, Labels};
+pub use formals::{PlacedFormal, PlacedFormals};
 pub use leaving::Leaving;
+pub use subprogram::SubprogramWords;

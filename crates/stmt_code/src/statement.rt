@@ -1,16 +1,18 @@
 //! The code of statements (RM 5).
 ghost use Rattle.std.specs.Prelude.{◌≡◌, ◌∷◌, [], map, OnOk};
 ghost use Rattle.ada_tree.specs.ExpressionTree.{expr_tree};
-ghost use Rattle.ada_tree.specs.StatementTree.{elsif_tree, elsif_trees, Exit, iteration_tree, Loop, optional_tree, Return, stmt_tree, stmt_trees};
-ghost use Rattle.stmt_code.specs.Emitting.{AddsParts, AreLegal, AreLegalElsifs, EmitsStatement, EmitsStatements, IsLegal, ways_of};
+ghost use Rattle.ada_tree.specs.StatementTree.{Block, declaration_tree, elsif_tree, elsif_trees, Exit, iteration_tree, Loop, NoHandlers, optional_tree, Return, stmt_tree, stmt_trees};
+ghost use Rattle.stmt_code.specs.Emitting.{AddsParts, AreLegal, AreLegalElsifs, EmitsStatement, EmitsStatements, HasEntries, IsLegal, ways_of};
 ghost use Rattle.stmt_rules.specs.SimpleRules.{condition_faults};
 ghost use Rattle.well_typed.specs.SoundScopes.{SoundScope};
 
 use crate::draft::Draft;
+use crate::extent::Extent;
 use crate::leaving::Leaving;
 use crate::looping::{begin_loop, end_loop};
 use ada_tree::laws::statements_by_parts;
-use ada_tree::{ElsifPart, Expr, Iteration, Stmt};
+use ada_tree::{Declaration, ElsifPart, Expr, Iteration, Stmt};
+use declaring::laws::names_are_added;
 use expr_code::{Refusal, Visible};
 use image::Operation;
 
@@ -59,18 +61,21 @@ impl Draft {
     #[cycle(statement)]
     pub fn statement(
         &mut self,
-        visible: &Visible,
+        visible: &mut Visible,
         leaving: Leaving,
         statement: &Stmt,
     ) -> Result<(), Refusal>
-        requires sound { SoundScope visible.now.scope }
-        requires legal { IsLegal visible.now.scope (stmt_tree statement.now) }
-        ensures emits { OnOk result (EmitsStatement visible.now (ways_of leaving) self.old (stmt_tree statement.now) self.new) }
+        requires sound { SoundScope visible.old.scope }
+        requires entries { HasEntries visible.old }
+        requires legal { IsLegal visible.old.scope (stmt_tree statement.now) }
+        ensures emits { OnOk result (EmitsStatement visible.old (ways_of leaving) self.old (stmt_tree statement.now) self.new) }
+        ensures same { OnOk result (visible.new ≡ visible.old) }
     {
         statements_by_parts();
         match statement {
             Stmt::Null(_) => Ok(()),
-            Stmt::Call(name) => self.put(visible, name),
+            Stmt::Assignment(name, value) => self.assign(visible, name, value),
+            Stmt::Call(name) => self.call(visible, name),
             Stmt::Exit(place, condition) => self.exit(visible, leaving, *place, condition),
             Stmt::Return(place, value) => self.leave(visible, leaving, *place, value),
             Stmt::If(_, condition, body, elsifs, others) => {
@@ -80,12 +85,15 @@ impl Draft {
                 self.statements(visible, leaving, others)?;
                 self.code.rejoin(&waiting)
             }
+            Stmt::Case(place, value, alternatives) => {
+                self.case(visible, leaving, *place, alternatives, value)
+            }
             Stmt::Loop(place, iteration, body) => {
                 self.repeated(visible, leaving, *place, iteration, body)
             }
-            Stmt::Block(_, declarations, body, handlers) => {
-                if declarations.is_empty() && handlers.is_empty() {
-                    self.statements(visible, leaving, body)
+            Stmt::Block(place, declarations, body, handlers) => {
+                if handlers.is_empty() {
+                    self.block(visible, leaving, *place, body, declarations)
                 } else {
                     Err(Refusal::Outside)
                 }
@@ -98,13 +106,15 @@ impl Draft {
     #[cycle(statement)]
     pub fn statements(
         &mut self,
-        visible: &Visible,
+        visible: &mut Visible,
         leaving: Leaving,
         all: &[Stmt],
     ) -> Result<(), Refusal>
-        requires sound { SoundScope visible.now.scope }
-        requires legal { AreLegal visible.now.scope (stmt_trees all.now) }
-        ensures emits { OnOk result (EmitsStatements visible.now (ways_of leaving) self.old (stmt_trees all.now) self.new) }
+        requires sound { SoundScope visible.old.scope }
+        requires entries { HasEntries visible.old }
+        requires legal { AreLegal visible.old.scope (stmt_trees all.now) }
+        ensures emits { OnOk result (EmitsStatements visible.old (ways_of leaving) self.old (stmt_trees all.now) self.new) }
+        ensures same { OnOk result (visible.new ≡ visible.old) }
     {
         for statement in all {
             self.statement(visible, leaving, statement)?;
@@ -116,16 +126,18 @@ impl Draft {
     #[cycle(statement)]
     fn branch(
         &mut self,
-        visible: &Visible,
+        visible: &mut Visible,
         leaving: Leaving,
         body: &[Stmt],
         condition: &Expr,
         waiting: &mut Vec<usize>,
     ) -> Result<(), Refusal>
-        requires sound { SoundScope visible.now.scope }
-        requires condition { condition_faults visible.now.scope (expr_tree condition.now) ≡ [] }
-        requires legal { AreLegal visible.now.scope (stmt_trees body.now) }
-        ensures adds { OnOk result (AddsParts visible.now (ways_of leaving) self.old ((expr_tree condition.now, stmt_trees body.now) ∷ []) waiting.old.items waiting.new.items self.new) }
+        requires sound { SoundScope visible.old.scope }
+        requires entries { HasEntries visible.old }
+        requires condition { condition_faults visible.old.scope (expr_tree condition.now) ≡ [] }
+        requires legal { AreLegal visible.old.scope (stmt_trees body.now) }
+        ensures adds { OnOk result (AddsParts visible.old (ways_of leaving) self.old ((expr_tree condition.now, stmt_trees body.now) ∷ []) waiting.old.items waiting.new.items self.new) }
+        ensures same { OnOk result (visible.new ≡ visible.old) }
     {
         self.code.of_width(visible, 0, 1, condition)?;
         let test = self.code.test(0)?;
@@ -137,14 +149,16 @@ impl Draft {
     #[cycle(statement)]
     fn elsifs(
         &mut self,
-        visible: &Visible,
+        visible: &mut Visible,
         leaving: Leaving,
         elsifs: &[ElsifPart],
         waiting: &mut Vec<usize>,
     ) -> Result<(), Refusal>
-        requires sound { SoundScope visible.now.scope }
-        requires legal { AreLegalElsifs visible.now.scope (elsif_trees elsifs.now) }
-        ensures adds { OnOk result (AddsParts visible.now (ways_of leaving) self.old (map elsif_tree elsifs.now) waiting.old.items waiting.new.items self.new) }
+        requires sound { SoundScope visible.old.scope }
+        requires entries { HasEntries visible.old }
+        requires legal { AreLegalElsifs visible.old.scope (elsif_trees elsifs.now) }
+        ensures adds { OnOk result (AddsParts visible.old (ways_of leaving) self.old (map elsif_tree elsifs.now) waiting.old.items waiting.new.items self.new) }
+        ensures same { OnOk result (visible.new ≡ visible.old) }
     {
         for part in elsifs {
             self.branch(visible, leaving, &part.statements, &part.condition, waiting)?;
@@ -152,28 +166,31 @@ impl Draft {
         Ok(())
     }
 
-    // Adds the code of a loop, without a condition or with one (RM 5.5).
+    // Adds the code of a loop (RM 5.5).
     #[cycle(statement)]
     fn repeated(
         &mut self,
-        visible: &Visible,
+        visible: &mut Visible,
         leaving: Leaving,
         place: u32,
         iteration: &Iteration,
         body: &[Stmt],
     ) -> Result<(), Refusal>
-        requires sound { SoundScope visible.now.scope }
-        requires legal { IsLegal visible.now.scope (Loop place (iteration_tree iteration.now) (stmt_trees body.now)) }
-        ensures emits { OnOk result (EmitsStatement visible.now (ways_of leaving) self.old (Loop place (iteration_tree iteration.now) (stmt_trees body.now)) self.new) }
+        requires sound { SoundScope visible.old.scope }
+        requires entries { HasEntries visible.old }
+        requires legal { IsLegal visible.old.scope (Loop place (iteration_tree iteration.now) (stmt_trees body.now)) }
+        ensures emits { OnOk result (EmitsStatement visible.old (ways_of leaving) self.old (Loop place (iteration_tree iteration.now) (stmt_trees body.now)) self.new) }
+        ensures same { OnOk result (visible.new ≡ visible.old) }
     {
-        let head = begin_loop(&mut self.code)?;
         match iteration {
             Iteration::Forever => {
+                let head = begin_loop(&mut self.code)?;
                 self.statements(visible, leaving.in_loop(head.exit), body)?;
                 end_loop(&mut self.code, head)?;
                 Ok(())
             }
             Iteration::While(condition) => {
+                let head = begin_loop(&mut self.code)?;
                 self.code.of_width(visible, 0, 1, condition)?;
                 let test = self.code.test(0)?;
                 self.statements(visible, leaving.in_loop(head.exit), body)?;
@@ -181,7 +198,33 @@ impl Draft {
                 self.code.patch(test, Operation::JumpIfZero(end));
                 Ok(())
             }
-            Iteration::For(..) => Err(Refusal::Outside),
+            Iteration::For(parameter, reversed, range) => {
+                self.counted(visible, leaving, place, body, parameter, *reversed, range)
+            }
         }
+    }
+
+    // Adds the code of a block without handlers (RM 5.6), at whose end its names go out of sight, and their words are free again.
+    #[cycle(statement)]
+    fn block(
+        &mut self,
+        visible: &mut Visible,
+        leaving: Leaving,
+        place: u32,
+        body: &[Stmt],
+        declarations: &[Declaration],
+    ) -> Result<(), Refusal>
+        requires sound { SoundScope visible.old.scope }
+        requires entries { HasEntries visible.old }
+        requires legal { IsLegal visible.old.scope (Block place (map declaration_tree declarations.now) (stmt_trees body.now) NoHandlers) }
+        ensures emits { OnOk result (EmitsStatement visible.old (ways_of leaving) self.old (Block place (map declaration_tree declarations.now) (stmt_trees body.now) NoHandlers) self.new) }
+        ensures same { OnOk result (visible.new ≡ visible.old) }
+    {
+        names_are_added();
+        let extent = Extent::of(visible, self.words);
+        self.declarations(visible, declarations)?;
+        self.statements(visible, leaving, body)?;
+        extent.restore(visible, &mut self.words);
+        Ok(())
     }
 }

@@ -1,15 +1,24 @@
-use Rattle.std.proofs.Common.{◌≡◌, ◌∷◌, [], map, refl, sym, ap, ◌∙◌, rules, subst}
+use Rattle.std.proofs.Common.{◌≡◌, ◌∷◌, ◌++◌, [], length, map, take, refl, sym, ap, ◌∙◌, rules, subst}
 use Rattle.std.proofs.lemmas.Result.{on_ok_weaker}
 use Rattle.ada_tree.specs.declared.statement.Stmt as statements
 use Rattle.ada_tree.specs.ExpressionTree.{expr_tree}
-use Rattle.ada_tree.specs.StatementTree.{Block, Loop, declaration_tree, elsif_tree, elsif_trees, handler_trees, iteration_tree, stmt_tree, stmt_trees}
+use Rattle.ada_tree.specs.StatementTree.{Block, Case, Loop, NoHandlers, alternative_tree, alternative_trees, choices_tree, declaration_tree, elsif_tree, elsif_trees, handler_trees, iteration_tree, range_tree, stmt_tree, stmt_trees}
 use Rattle.expr_rules.specs.Typing.{boolean_wanted}
+use Rattle.stmt_rules.specs.CaseRules.{selecting_faults}
+use Rattle.stmt_rules.specs.SimpleRules.{condition_faults}
+use Rattle.well_typed.specs.SoundScopes.{SoundScope}
 use Rattle.stmt_code.specs.declared.draft.Draft.{Draft}
+use Rattle.expr_code.specs.Code.{here}
 use Rattle.expr_code.proofs.Widths.{condition_width}
-use Rattle.stmt_code.specs.Emitting.{AddsParts, AreLegal, AreLegalElsifs, EmitsStatement, EmitsStatements, IsLegal, ways_of}
-use Rattle.stmt_code.proofs.Adding.{all_statements, block_emits, block_legal, no_statements, none_there, statement_legal, statements_next, wanted_legal}
+use Rattle.stmt_code.specs.Alternatives.{AddsAlternatives, AreLegalChoices}
+use Rattle.stmt_code.specs.Emitting.{AddsParts, AreLegal, AreLegalElsifs, EmitsStatement, EmitsStatements, EndsLoop, HasEntries, IsLegal, ways_of}
+use Rattle.stmt_code.proofs.Adding.{all_statements, block_body, block_declarations, block_emits, no_statements, none_there, statement_legal, statements_next, wanted_legal}
+use Rattle.stmt_code.proofs.Alternatives.{all_alternatives, alternative_closed, alternative_legal, alternatives_next, case_alternatives, case_emits, case_selecting, case_waiting, choices_waiting, no_alternatives, selecting_legal}
 use Rattle.stmt_code.proofs.Opening.{all_parts, branch_closed, if_body, if_condition, if_elsifs, if_emits, if_others, no_parts, part_legal, parts_next, waiting_there}
+use Rattle.stmt_code.proofs.Bounded.{entries_inside, loop_body, loop_range, range_type, slots_stay, sound_inside, subprograms_stay}
+use Rattle.stmt_code.proofs.Ranged.{range_emits}
 use Rattle.stmt_code.proofs.Repeating.{forever_emits, while_body, while_condition}
+use Rattle.stmt_code.proofs.Selecting.{choices_select, selecting_width}
 use Rattle.stmt_code.proofs.Testing.{while_emits}
 use Rattle.stmt_code.proofs.draft.Draft.+statement.Goals as goal
 
@@ -20,44 +29,194 @@ branch-of_width-requires-clause-wide t c =
     condition_width c.args.visible.now.scope c.requires.sound (expr_tree c.args.condition.now) c.requires.condition
 
 pub branch-statements-requires : goal.branch-statements-requires
-branch-statements-requires t c = (search (rules, statements.the_lemmas), (c.requires.sound, c.requires.legal))
+branch-statements-requires t c = (search (rules, statements.the_lemmas), (c.requires.sound, (c.requires.entries, c.requires.legal)))
 
 pub branch-returns : goal.branch-returns
 branch-returns t c = record {
   adds = on_ok_weaker _
       (λ k.
-      branch_closed c.args.visible.now (ways_of c.args.leaving) c.args.self.now (record { code = c.test.new.self; labels = c.args.self.now.labels })
-      c.statements.new.self (record { code = c.close.new.self; labels = c.statements.new.self.labels }) c.of_width.new.self (expr_tree c.args.condition.now)
+      branch_closed c.args.visible.now (ways_of c.args.leaving) c.args.self.now (record { code = c.test.new.self; labels = c.args.self.now.labels; words = c.args.self.now.words })
+      c.statements.new.self (record { code = c.close.new.self; labels = c.statements.new.self.labels; words = c.statements.new.self.words }) c.of_width.new.self (expr_tree c.args.condition.now)
       (stmt_trees c.args.body.now) c.in_ok-test.test c.args.waiting.now.items c.close.new.waiting.items c.in_ok-test.ensures.place
-      c.in_ok-of_width.ensures.emits c.in_ok-test.ensures.adds refl c.in_ok-statements.ensures.emits k refl)
+      c.in_ok-of_width.ensures.emits c.in_ok-test.ensures.adds (refl, refl) c.in_ok-statements.ensures.emits k (refl, refl))
       c.close.ensures.closes;
+  same = on_ok_weaker _ (λ k. c.in_ok-statements.ensures.same) c.close.ensures.closes;
 }
 
 pub elsifs-loop-part-init : goal.elsifs-loop-part-init
-elsifs-loop-part-init t c = no_parts c.args.visible.now (ways_of c.args.leaving) c.args.self.now c.args.waiting.now.items
+elsifs-loop-part-init t c = (no_parts c.args.visible.now (ways_of c.args.leaving) c.args.self.now c.args.waiting.now.items, refl)
 
 pub elsifs-branch-self-requires : goal.elsifs-branch-self-requires
 elsifs-branch-self-requires t c =
     let s = c.args.visible.now.scope in
+    let there = sym c.loop-part.invariant.1 in
     let legal = part_legal s c.args.elsifs.now _ c.part-item.result c.loop-part-test.true c.part-item.is c.requires.legal in (
       search (rules, statements.the_lemmas),
-      (c.requires.sound, (legal.condition, subst (λ l. AreLegal s (stmt_trees l)) (sym c.deref.ensures.value) legal.body)),
+      (
+        subst (λ x. SoundScope x.scope) there c.requires.sound,
+        (
+          subst HasEntries there c.requires.entries,
+          (
+            subst (λ x. condition_faults x.scope (expr_tree c.part-item.result.condition) ≡ []) there legal.condition,
+            subst (λ x. AreLegal x.scope (stmt_trees c.deref.result.now)) there (subst (λ l. AreLegal s (stmt_trees l)) (sym c.deref.ensures.value) legal.body),
+          ),
+        ),
+      ),
     )
 
 pub elsifs-loop-part-preserved : goal.elsifs-loop-part-preserved
 elsifs-loop-part-preserved t c =
     let v = c.args.visible.now in
     let w = ways_of c.args.leaving in
-    parts_next v w c.args.self.now c.loop-part.self c.branch-self.new.self c.args.elsifs.now _ c.part-item.result _ c.loop-part.waiting.items
-    c.branch-self.new.waiting.items c.loop-part-test.true c.part-item.is c.loop-part.invariant
-    (subst (λ l. AddsParts v w c.loop-part.self ((expr_tree c.part-item.result.condition, stmt_trees l) ∷ []) c.loop-part.waiting.items
-    c.branch-self.new.waiting.items c.branch-self.new.self) c.deref.ensures.value c.in_ok-branch.ensures.adds)
+    let there = c.loop-part.invariant.1 in (
+      parts_next v w c.args.self.now c.loop-part.self c.branch-self.new.self c.args.elsifs.now _ c.part-item.result _ c.loop-part.waiting.items
+          c.branch-self.new.waiting.items c.loop-part-test.true c.part-item.is c.loop-part.invariant.0
+          (subst (λ x. AddsParts x w c.loop-part.self ((expr_tree c.part-item.result.condition, stmt_trees c.part-item.result.statements.items) ∷ [])
+          c.loop-part.waiting.items c.branch-self.new.waiting.items c.branch-self.new.self) there
+          (subst (λ l. AddsParts c.loop-part.visible w c.loop-part.self ((expr_tree c.part-item.result.condition, stmt_trees l) ∷ []) c.loop-part.waiting.items
+          c.branch-self.new.waiting.items c.branch-self.new.self) c.deref.ensures.value c.in_ok-branch.ensures.adds)),
+      c.in_ok-branch.ensures.same ∙ there,
+    )
 
 pub elsifs-returns : goal.elsifs-returns
 elsifs-returns t c = record {
   adds = all_parts c.args.visible.now (ways_of c.args.leaving) c.args.self.now c.loop-part.self c.args.elsifs.now _ _ _ c.loop-part-test.false
-      c.loop-part.invariant;
+      c.loop-part.invariant.0;
+  same = c.loop-part.invariant.1;
 }
+
+-- ---- alternatives
+
+pub alternative-rejoin-requires : goal.alternative-rejoin-requires
+alternative-rejoin-requires t c =
+    let v = c.args.visible.now in
+    let e = expr_tree c.args.value.now in
+    let a = c.args.alternative.now in
+    let chosen : Draft = record { code = c.add_choices.new.code; labels = c.args.self.now.labels; words = c.args.self.now.words } in
+    let body = subst (λ l. EmitsStatements v (ways_of c.args.leaving) chosen (stmt_trees l) c.statements.new.self) c.deref.ensures.value
+    c.in_ok-statements.ensures.emits in
+    record {
+      there = choices_waiting v (ways_of c.args.leaving) e c.args.self.now.code c.add_choices.new.code c.emit.new.self c.statements.new.self
+          (choices_tree a.choices) c.in_ok-next.next.items c.deref-2.result.now
+          (choices_select c.calls_are_typed.ensures c.static_is_value.ensures c.quiet_stays.ensures v e c.requires.selecting (choices_tree a.choices)
+          c.args.self.now.code c.in_ok-next.next.items c.add_choices.new.code c.requires.choices c.in_ok-next.ensures.adds)
+          body.extends c.in_ok-emit.ensures.adds c.deref-2.ensures.value;
+    }
+
+pub alternative-returns-clause-adds : goal.alternative-returns-clause-adds
+alternative-returns-clause-adds t c =
+    let v = c.args.visible.now in
+    let w = ways_of c.args.leaving in
+    let e = expr_tree c.args.value.now in
+    let a = c.args.alternative.now in
+    let chosen : Draft = record { code = c.add_choices.new.code; labels = c.args.self.now.labels; words = c.args.self.now.words } in
+    let closed : Draft = record { code = c.rejoin.new.self; labels = c.statements.new.self.labels; words = c.statements.new.self.words } in
+    let body = subst (λ l. EmitsStatements v w chosen (stmt_trees l) c.statements.new.self) c.deref.ensures.value c.in_ok-statements.ensures.emits in
+    let waits : c.push.new.self.items ≡ c.args.waiting.now.items ++ here c.statements.new.self.code ∷ [] = search rules in
+    on_ok_weaker _
+    (λ r.
+    alternative_closed v w e c.args.self.now chosen c.statements.new.self closed c.emit.new.self a.place (choices_tree a.choices) (stmt_trees a.statements.items)
+    c.in_ok-next.next.items c.deref-2.result.now c.args.waiting.now.items c.push.new.self.items
+    (choices_select c.calls_are_typed.ensures c.static_is_value.ensures c.quiet_stays.ensures v e c.requires.selecting (choices_tree a.choices)
+    c.args.self.now.code c.in_ok-next.next.items c.add_choices.new.code c.requires.choices c.in_ok-next.ensures.adds)
+    (refl, refl) body c.in_ok-emit.ensures.adds waits c.deref-2.ensures.value r (refl, refl))
+    c.rejoin.ensures.rejoins
+
+pub alternatives-loop-alternative-init : goal.alternatives-loop-alternative-init
+alternatives-loop-alternative-init t c =
+    (no_alternatives c.args.visible.now (ways_of c.args.leaving) (expr_tree c.args.value.now) c.args.self.now c.args.waiting.now.items, refl)
+
+pub alternatives-alternative-requires : goal.alternatives-alternative-requires
+alternatives-alternative-requires t c =
+    let s = c.args.visible.now.scope in
+    let e = expr_tree c.args.value.now in
+    let there = sym c.loop-alternative.invariant.1 in
+    let legal = alternative_legal s e c.args.all.now _ c.alternative-item.result c.loop-alternative-test.true c.alternative-item.is c.requires.legal in (
+      search (rules, statements.the_lemmas),
+      (
+        subst (λ x. SoundScope x.scope) there c.requires.sound,
+        (
+          subst HasEntries there c.requires.entries,
+          (
+            subst (λ x. selecting_faults x.scope e ≡ []) there c.requires.selecting,
+            (
+              subst (λ x. AreLegalChoices x.scope e (choices_tree c.alternative-item.result.choices)) there legal.choices,
+              subst (λ x. AreLegal x.scope (stmt_trees c.alternative-item.result.statements.items)) there legal.body,
+            ),
+          ),
+        ),
+      ),
+    )
+
+pub alternatives-loop-alternative-preserved : goal.alternatives-loop-alternative-preserved
+alternatives-loop-alternative-preserved t c =
+    let v = c.args.visible.now in
+    let w = ways_of c.args.leaving in
+    let e = expr_tree c.args.value.now in
+    let there = c.loop-alternative.invariant.1 in (
+      alternatives_next v w e c.args.self.now c.loop-alternative.self c.alternative.new.self c.args.all.now _ c.alternative-item.result _
+          c.loop-alternative.waiting.items c.alternative.new.waiting.items c.loop-alternative-test.true c.alternative-item.is c.loop-alternative.invariant.0
+          (subst (λ x. AddsAlternatives x w e c.loop-alternative.self (alternative_tree c.alternative-item.result ∷ []) c.loop-alternative.waiting.items
+          c.alternative.new.waiting.items c.alternative.new.self) there c.in_ok-alternative.ensures.adds),
+      c.in_ok-alternative.ensures.same ∙ there,
+    )
+
+pub alternatives-returns : goal.alternatives-returns
+alternatives-returns t c = record {
+  adds = all_alternatives c.args.visible.now (ways_of c.args.leaving) (expr_tree c.args.value.now) c.args.self.now c.loop-alternative.self c.args.all.now _ _ _
+      c.loop-alternative-test.false c.loop-alternative.invariant.0;
+  same = c.loop-alternative.invariant.1;
+}
+
+pub case-of_width-requires-clause-legal : goal.case-of_width-requires-clause-legal
+case-of_width-requires-clause-legal t c =
+    let s = c.args.visible.now.scope in
+    let e = expr_tree c.args.value.now in
+    selecting_legal s e (case_selecting s c.args.place e (alternative_trees c.args.alternatives.now) c.requires.legal)
+
+pub case-of_width-requires-clause-wide : goal.case-of_width-requires-clause-wide
+case-of_width-requires-clause-wide t c =
+    let s = c.args.visible.now.scope in
+    let e = expr_tree c.args.value.now in
+    selecting_width s e (case_selecting s c.args.place e (alternative_trees c.args.alternatives.now) c.requires.legal)
+
+pub case-alternatives-requires : goal.case-alternatives-requires
+case-alternatives-requires t c =
+    let s = c.args.visible.now.scope in
+    let e = expr_tree c.args.value.now in
+    let all = alternative_trees c.args.alternatives.now in (
+      search (rules, statements.the_lemmas),
+      (
+        c.requires.sound,
+        (c.requires.entries, (case_selecting s c.args.place e all c.requires.legal, case_alternatives s c.args.place e all c.requires.legal)),
+      ),
+    )
+
+pub case-rejoin-requires : goal.case-rejoin-requires
+case-rejoin-requires t c =
+    let v = c.args.visible.now in
+    let w = ways_of c.args.leaving in
+    let valued : Draft = record { code = c.of_width.new.self; labels = c.args.self.now.labels; words = c.args.self.now.words } in
+    let dropped : Draft = record { code = c.emit.new.self; labels = c.alternatives.new.self.labels; words = c.alternatives.new.self.words } in
+    record {
+      there = case_waiting v w (expr_tree c.args.value.now) c.args.self.now valued c.alternatives.new.self dropped dropped c.args.place
+          (map alternative_tree c.args.alternatives.now) c.new-waiting.result.items c.alternatives.new.waiting.items c.deref.result.now c.new-waiting.ensures.items
+          c.deref.ensures.value c.in_ok-of_width.ensures.emits (refl, refl) c.in_ok-alternatives.ensures.adds c.in_ok-emit.ensures.adds (refl, refl);
+    }
+
+pub case-returns-clause-emits : goal.case-returns-clause-emits
+case-returns-clause-emits t c =
+    let v = c.args.visible.now in
+    let w = ways_of c.args.leaving in
+    let valued : Draft = record { code = c.of_width.new.self; labels = c.args.self.now.labels; words = c.args.self.now.words } in
+    let dropped : Draft = record { code = c.emit.new.self; labels = c.alternatives.new.self.labels; words = c.alternatives.new.self.words } in
+    let joined : Draft = record { code = c.rejoin.new.self; labels = c.alternatives.new.self.labels; words = c.alternatives.new.self.words } in
+    on_ok_weaker _
+    (λ r.
+    case_emits v w (expr_tree c.args.value.now) c.args.self.now valued c.alternatives.new.self dropped joined c.args.place
+    (map alternative_tree c.args.alternatives.now) c.new-waiting.result.items c.alternatives.new.waiting.items c.deref.result.now c.new-waiting.ensures.items
+    c.deref.ensures.value c.in_ok-of_width.ensures.emits (refl, refl) c.in_ok-alternatives.ensures.adds c.in_ok-emit.ensures.adds (refl, refl) _ refl r (refl, refl))
+    c.rejoin.ensures.rejoins
 
 -- ---- loops
 
@@ -83,21 +242,22 @@ repeated-statements-requires-in-While t c =
     let e = expr_tree c.in-While.condition in
     let body = stmt_trees c.args.body.now in
     let legal = subst (λ i. IsLegal s (Loop c.args.place (iteration_tree i) body)) c.in-While.is c.requires.legal in
-    (search (rules, statements.the_lemmas), (c.requires.sound, while_body s c.args.place body e legal))
+    (search (rules, statements.the_lemmas), (c.requires.sound, (c.requires.entries, while_body s c.args.place body e legal)))
 
 pub repeated-returns-in_ok-end_loop-in-Forever : goal.repeated-returns-in_ok-end_loop-in-Forever
 repeated-returns-in_ok-end_loop-in-Forever t c =
     let v = c.args.visible.now in
     let w = ways_of c.args.leaving in
     let body = stmt_trees c.args.body.now in
-    let begun : Draft = record { code = c.begin_loop.new.code; labels = c.args.self.now.labels } in
-    let ended : Draft = record { code = c.end_loop.new.code; labels = c.statements.new.self.labels } in
+    let begun : Draft = record { code = c.begin_loop.new.code; labels = c.args.self.now.labels; words = c.args.self.now.words } in
+    let ended : Draft = record { code = c.end_loop.new.code; labels = c.statements.new.self.labels; words = c.statements.new.self.words } in
     record {
       emits = subst (λ i. EmitsStatement v w c.args.self.now (Loop c.args.place (iteration_tree i) body) ended) (sym c.in-Forever.is)
-          (forever_emits v w c.args.self.now begun c.statements.new.self ended body c.in_ok-head.head.exit c.in_ok-head.head.turn c.in_ok-head.ensures.begins refl
-          c.in_ok-head.ensures.exit c.in_ok-head.ensures.turn
+          (forever_emits v w c.args.self.now begun c.statements.new.self ended body c.in_ok-head-in-Forever.head.exit c.in_ok-head-in-Forever.head.turn c.in_ok-head-in-Forever.ensures.begins (refl, refl)
+          c.in_ok-head-in-Forever.ensures.exit c.in_ok-head-in-Forever.ensures.turn
           (subst (λ x. EmitsStatements v x begun body c.statements.new.self) c.in_loop.ensures c.in_ok-statements-in-Forever.ensures.emits)
-          c.in_ok-end_loop-in-Forever.ensures.ends refl c.args.place);
+          c.in_ok-end_loop-in-Forever.ensures.ends (refl, refl) c.args.place);
+      same = c.in_ok-statements-in-Forever.ensures.same;
     }
 
 pub repeated-returns-in_ok-end-in-While : goal.repeated-returns-in_ok-end-in-While
@@ -105,19 +265,143 @@ repeated-returns-in_ok-end-in-While t c =
     let v = c.args.visible.now in
     let w = ways_of c.args.leaving in
     let body = stmt_trees c.args.body.now in
-    let begun : Draft = record { code = c.begin_loop.new.code; labels = c.args.self.now.labels } in
-    let jumped : Draft = record { code = c.test.new.self; labels = c.args.self.now.labels } in
-    let ended : Draft = record { code = c.end_loop-in-While.new.code; labels = c.statements-in-While.new.self.labels } in
-    let whole : Draft = record { code = c.patch.new.self; labels = c.statements-in-While.new.self.labels } in
+    let begun : Draft = record { code = c.begin_loop-in-While.new.code; labels = c.args.self.now.labels; words = c.args.self.now.words } in
+    let jumped : Draft = record { code = c.test.new.self; labels = c.args.self.now.labels; words = c.args.self.now.words } in
+    let ended : Draft = record { code = c.end_loop-in-While.new.code; labels = c.statements-in-While.new.self.labels; words = c.statements-in-While.new.self.words } in
+    let whole : Draft = record { code = c.patch.new.self; labels = c.statements-in-While.new.self.labels; words = c.statements-in-While.new.self.words } in
     record {
       emits = subst (λ i. EmitsStatement v w c.args.self.now (Loop c.args.place (iteration_tree i) body) whole) (sym c.in-While.is)
           (while_emits v w c.args.self.now begun jumped c.statements-in-While.new.self ended whole c.of_width.new.self (expr_tree c.in-While.condition) body
-          c.in_ok-head.head.exit c.in_ok-head.head.turn c.in_ok-test-in-While.test c.in_ok-end-in-While.end c.in_ok-head.ensures.begins refl
-          c.in_ok-head.ensures.exit c.in_ok-head.ensures.turn c.in_ok-of_width-in-While.ensures.emits c.in_ok-test-in-While.ensures.adds refl
+          c.in_ok-head-in-While.head.exit c.in_ok-head-in-While.head.turn c.in_ok-test-in-While.test c.in_ok-end-in-While.end c.in_ok-head-in-While.ensures.begins (refl, refl)
+          c.in_ok-head-in-While.ensures.exit c.in_ok-head-in-While.ensures.turn c.in_ok-of_width-in-While.ensures.emits c.in_ok-test-in-While.ensures.adds (refl, refl)
           c.in_ok-test-in-While.ensures.place
           (subst (λ x. EmitsStatements v x jumped body c.statements-in-While.new.self) c.in_loop-in-While.ensures c.in_ok-statements-in-While.ensures.emits)
-          c.in_ok-end-in-While.ensures.ends refl c.in_ok-end-in-While.ensures.end c.patch.ensures.patches refl c.args.place);
+          c.in_ok-end-in-While.ensures.ends (refl, refl) c.in_ok-end-in-While.ensures.end c.patch.ensures.patches (refl, refl) c.args.place);
+      same = c.in_ok-statements-in-While.ensures.same;
     }
+
+pub repeated-counted-requires : goal.repeated-counted-requires
+repeated-counted-requires t c =
+    let s = c.args.visible.now.scope in
+    let body = stmt_trees c.args.body.now in
+    let legal = subst (λ i. IsLegal s (Loop c.args.place (iteration_tree i) body)) c.in-For.is c.requires.legal in
+    (search (rules, statements.the_lemmas), (c.requires.sound, (c.requires.entries, legal)))
+
+pub repeated-returns-in-For : goal.repeated-returns-in-For
+repeated-returns-in-For t c =
+    let v = c.args.visible.now in
+    let w = ways_of c.args.leaving in
+    let body = stmt_trees c.args.body.now in
+    record {
+      emits = on_ok_weaker _
+          (λ p. subst (λ i. EmitsStatement v w c.args.self.now (Loop c.args.place (iteration_tree i) body) c.counted.new.self) (sym c.in-For.is) p)
+          c.counted.ensures.emits;
+      same = c.counted.ensures.same;
+    }
+
+-- ---- loops over ranges
+
+pub counted-begin_range-requires-clause-legal : goal.counted-begin_range-requires-clause-legal
+counted-begin_range-requires-clause-legal t c =
+    loop_range c.args.visible.now.scope c.args.place c.args.parameter.now c.args.reversed (range_tree c.args.range.now) (stmt_trees c.args.body.now)
+    c.requires.legal
+
+pub counted-statements-requires : goal.counted-statements-requires
+counted-statements-requires t c =
+    let v = c.args.visible.now in
+    let range = range_tree c.args.range.now in
+    let begun : Draft = record { code = c.begin_loop.new.code; labels = c.args.self.now.labels; words = c.args.self.now.words } in
+    let legal = loop_range v.scope c.args.place c.args.parameter.now c.args.reversed range (stmt_trees c.args.body.now) c.requires.legal in
+    let type_is = range_type v.scope c.args.parameter.now range legal c.requires.sound in
+    let r = c.in_ok-turns.ensures.begins in (
+      search (rules, statements.the_lemmas),
+      (
+        sound_inside c.shapes_stay.ensures v c.begin_range.new.visible begun c.begin_range.new.self c.args.parameter.now c.args.reversed range _ _
+            c.requires.sound c.requires.entries legal type_is r c.scopes_are_sound.ensures,
+        (
+          entries_inside c.shapes_stay.ensures v c.begin_range.new.visible begun c.begin_range.new.self c.args.parameter.now c.args.reversed range _ _
+              c.requires.sound c.requires.entries legal type_is r,
+          subst (λ s. AreLegal s (stmt_trees c.args.body.now)) (sym r.scope)
+              (loop_body v.scope c.args.place c.args.parameter.now c.args.reversed range (stmt_trees c.args.body.now) c.requires.legal),
+        ),
+      ),
+    )
+
+pub counted-returns-clause-emits : goal.counted-returns-clause-emits
+counted-returns-clause-emits t c =
+    let v = c.args.visible.now in
+    let range = range_tree c.args.range.now in
+    let body = stmt_trees c.args.body.now in
+    let later = c.begin_range.new.visible in
+    let begun : Draft = record { code = c.begin_loop.new.code; labels = c.args.self.now.labels; words = c.args.self.now.words } in
+    let opened = c.begin_range.new.self in
+    let legal = loop_range v.scope c.args.place c.args.parameter.now c.args.reversed range body c.requires.legal in
+    let statements = subst (λ x. EmitsStatements later x opened body c.statements.new.self) c.in_loop.ensures c.in_ok-statements.ensures.emits in
+    let ends = subst (λ n. EndsLoop c.end_turn.new.code c.in_ok-head.head.exit n c.end_loop.new.code) c.in_ok-turn.ensures.end c.in_ok-end.ensures.ends in
+    let words = c.restore.ensures.words ∙ ap (λ n. record c.statements.new.self.words { taken = n }) c.of-extent.ensures.taken in
+    range_emits c.shapes_stay.ensures v later (ways_of c.args.leaving) c.args.self.now begun opened c.statements.new.self c.end_turn.new.code
+    c.end_loop.new.code c.patch.new.self c.patch-2.new.self c.args.parameter.now c.args.reversed range body _ c.in_ok-head.head.exit _ c.in_ok-last.last c.in_ok-end.end
+    c.requires.sound c.requires.entries legal (range_type v.scope c.args.parameter.now range legal c.requires.sound) c.in_ok-head.ensures.begins (refl, refl)
+    c.in_ok-head.ensures.exit c.in_ok-turns.ensures.begins statements c.in_ok-last.ensures.ends ends c.in_ok-end.ensures.end c.patch.ensures.patches
+    c.patch-2.ensures.patches c.quiet_stays.ensures c.agreement_is_kept.ensures c.values_have_words.ensures c.args.place _
+    (λ j. record { code = c.patch-2.new.self; labels = c.statements.new.self.labels; words = words j })
+
+pub counted-returns-clause-same : goal.counted-returns-clause-same
+counted-returns-clause-same t c =
+    let v = c.args.visible.now in
+    let range = range_tree c.args.range.now in
+    let begun : Draft = record { code = c.begin_loop.new.code; labels = c.args.self.now.labels; words = c.args.self.now.words } in
+    let legal = loop_range v.scope c.args.place c.args.parameter.now c.args.reversed range (stmt_trees c.args.body.now) c.requires.legal in
+    let type_is = range_type v.scope c.args.parameter.now range legal c.requires.sound in
+    let r = c.in_ok-turns.ensures.begins in
+    let there = c.in_ok-statements.ensures.same in
+    let scope = (λ j. take (c.of-extent.ensures.names j) (there j).scope) ∙ ap (take (length v.scope)) r.scope
+    ∙ c.names_are_added.ensures.parameter v.scope c.args.parameter.now range in
+    let slots = (λ j. take (c.of-extent.ensures.slots j) (there j).slots)
+    ∙ slots_stay c.shapes_stay.ensures v c.begin_range.new.visible begun c.begin_range.new.self c.args.parameter.now c.args.reversed range _ _ c.requires.sound
+    c.requires.entries legal type_is r in
+    let subprograms = (λ j. take (c.of-extent.ensures.subprograms j) (there j).subprograms)
+    ∙ subprograms_stay c.shapes_stay.ensures v c.begin_range.new.visible begun c.begin_range.new.self c.args.parameter.now c.args.reversed range _ _
+    c.requires.sound c.requires.entries legal type_is r in
+    c.restore.ensures.visible ∙ (λ j. record { scope = scope j; slots = slots j; subprograms = subprograms j })
+
+-- ---- blocks
+
+pub block-declarations-requires-clause-legal : goal.block-declarations-requires-clause-legal
+block-declarations-requires-clause-legal t c =
+    block_declarations c.args.visible.now.scope c.args.place (map declaration_tree c.args.declarations.now) (stmt_trees c.args.body.now) c.requires.legal
+
+pub block-statements-requires : goal.block-statements-requires
+block-statements-requires t c =
+    let declared = c.in_ok-declarations.ensures.emits in (
+      search (rules, statements.the_lemmas),
+      (
+        declared.sound,
+        (
+          declared.entries,
+          subst (λ s. AreLegal s (stmt_trees c.args.body.now)) (sym declared.scope)
+              (block_body c.args.visible.now.scope c.args.place (map declaration_tree c.args.declarations.now) (stmt_trees c.args.body.now) c.requires.legal),
+        ),
+      ),
+    )
+
+pub block-returns-clause-emits : goal.block-returns-clause-emits
+block-returns-clause-emits t c =
+    let words = c.restore.ensures.words ∙ ap (λ n. record c.statements.new.self.words { taken = n }) c.of-extent.ensures.taken in
+    block_emits c.args.visible.now (ways_of c.args.leaving) c.args.self.now c.declarations.new.self c.statements.new.self _ c.declarations.new.visible c.args.place
+    (map declaration_tree c.args.declarations.now) (stmt_trees c.args.body.now) c.in_ok-declarations.ensures.emits c.in_ok-statements.ensures.emits
+    (λ j. record c.statements.new.self { words = words j })
+
+pub block-returns-clause-same : goal.block-returns-clause-same
+block-returns-clause-same t c =
+    let declared = c.in_ok-declarations.ensures.emits in
+    let there = c.in_ok-statements.ensures.same in
+    let ds = map declaration_tree c.args.declarations.now in
+    let scope = (λ j. take (c.of-extent.ensures.names j) (there j).scope) ∙ ap (take (length c.args.visible.now.scope)) declared.scope
+    ∙ c.names_are_added.ensures.locals c.args.visible.now.scope ds in
+    let slots = (λ j. take (c.of-extent.ensures.slots j) (there j).slots) ∙ declared.slots in
+    let subprograms = (λ j. take (c.of-extent.ensures.subprograms j) (there j).subprograms) ∙ declared.subprograms in
+    c.restore.ensures.visible ∙ (λ j. record { scope = scope j; slots = slots j; subprograms = subprograms j })
 
 -- ---- a statement
 
@@ -129,9 +413,12 @@ statement-branch-self-requires t c =
       (
         c.requires.sound,
         (
-          if_condition c.args.visible.now.scope (stmt_tree c.args.statement.now) c.in-If.field-0 (expr_tree c.in-If.condition) (stmt_trees c.in-If.body.items) (elsif_trees c.in-If.elsifs.items) (stmt_trees c.in-If.others.items) tree c.requires.legal,
-          subst (λ l. AreLegal c.args.visible.now.scope (stmt_trees l)) (sym c.deref.ensures.value)
-              (if_body c.args.visible.now.scope (stmt_tree c.args.statement.now) c.in-If.field-0 (expr_tree c.in-If.condition) (stmt_trees c.in-If.body.items) (elsif_trees c.in-If.elsifs.items) (stmt_trees c.in-If.others.items) tree c.requires.legal),
+          c.requires.entries,
+          (
+            if_condition c.args.visible.now.scope (stmt_tree c.args.statement.now) c.in-If.field-0 (expr_tree c.in-If.condition) (stmt_trees c.in-If.body.items) (elsif_trees c.in-If.elsifs.items) (stmt_trees c.in-If.others.items) tree c.requires.legal,
+            subst (λ l. AreLegal c.args.visible.now.scope (stmt_trees l)) (sym c.deref.ensures.value)
+                (if_body c.args.visible.now.scope (stmt_tree c.args.statement.now) c.in-If.field-0 (expr_tree c.in-If.condition) (stmt_trees c.in-If.body.items) (elsif_trees c.in-If.elsifs.items) (stmt_trees c.in-If.others.items) tree c.requires.legal),
+          ),
         ),
       ),
     )
@@ -142,9 +429,14 @@ statement-elsifs-requires t c =
     ∙ c.statements_by_parts.ensures.ifs c.in-If.field-0 c.in-If.condition c.in-If.body c.in-If.elsifs c.in-If.others in (
       search (rules, statements.the_lemmas),
       (
-        c.requires.sound,
-        subst (λ l. AreLegalElsifs c.args.visible.now.scope (elsif_trees l)) (sym c.deref-in-If.ensures.value)
-            (if_elsifs c.args.visible.now.scope (stmt_tree c.args.statement.now) c.in-If.field-0 (expr_tree c.in-If.condition) (stmt_trees c.in-If.body.items) (elsif_trees c.in-If.elsifs.items) (stmt_trees c.in-If.others.items) tree c.requires.legal),
+        subst (λ x. SoundScope x.scope) (sym c.in_ok-branch-in-If.ensures.same) c.requires.sound,
+        (
+          subst HasEntries (sym c.in_ok-branch-in-If.ensures.same) c.requires.entries,
+          subst (λ x. AreLegalElsifs x.scope (elsif_trees c.deref-in-If.result.now)) (sym c.in_ok-branch-in-If.ensures.same)
+              (subst (λ l. AreLegalElsifs c.args.visible.now.scope (elsif_trees l)) (sym c.deref-in-If.ensures.value)
+              (if_elsifs c.args.visible.now.scope (stmt_tree c.args.statement.now) c.in-If.field-0 (expr_tree c.in-If.condition) (stmt_trees c.in-If.body.items)
+              (elsif_trees c.in-If.elsifs.items) (stmt_trees c.in-If.others.items) tree c.requires.legal)),
+        ),
       ),
     )
 
@@ -154,9 +446,14 @@ statement-statements-requires t c =
     ∙ c.statements_by_parts.ensures.ifs c.in-If.field-0 c.in-If.condition c.in-If.body c.in-If.elsifs c.in-If.others in (
       search (rules, statements.the_lemmas),
       (
-        c.requires.sound,
-        subst (λ l. AreLegal c.args.visible.now.scope (stmt_trees l)) (sym c.deref-in-If-2.ensures.value)
-            (if_others c.args.visible.now.scope (stmt_tree c.args.statement.now) c.in-If.field-0 (expr_tree c.in-If.condition) (stmt_trees c.in-If.body.items) (elsif_trees c.in-If.elsifs.items) (stmt_trees c.in-If.others.items) tree c.requires.legal),
+        subst (λ x. SoundScope x.scope) (sym (c.in_ok-elsifs-in-If.ensures.same ∙ c.in_ok-branch-in-If.ensures.same)) c.requires.sound,
+        (
+          subst HasEntries (sym (c.in_ok-elsifs-in-If.ensures.same ∙ c.in_ok-branch-in-If.ensures.same)) c.requires.entries,
+          subst (λ x. AreLegal x.scope (stmt_trees c.deref-in-If-2.result.now)) (sym (c.in_ok-elsifs-in-If.ensures.same ∙ c.in_ok-branch-in-If.ensures.same))
+              (subst (λ l. AreLegal c.args.visible.now.scope (stmt_trees l)) (sym c.deref-in-If-2.ensures.value)
+              (if_others c.args.visible.now.scope (stmt_tree c.args.statement.now) c.in-If.field-0 (expr_tree c.in-If.condition) (stmt_trees c.in-If.body.items)
+              (elsif_trees c.in-If.elsifs.items) (stmt_trees c.in-If.others.items) tree c.requires.legal)),
+        ),
       ),
     )
 
@@ -166,10 +463,15 @@ statement-rejoin-requires t c =
     let w = ways_of c.args.leaving in
     let first = subst (λ l. AddsParts v w c.args.self.now ((expr_tree c.in-If.condition, stmt_trees l) ∷ []) c.new-waiting.result.items
     c.branch-self.new.waiting.items c.branch-self.new.self) c.deref.ensures.value c.in_ok-branch-in-If.ensures.adds in
-    let others = subst (λ l. AddsParts v w c.branch-self.new.self (map elsif_tree l) c.branch-self.new.waiting.items c.elsifs.new.waiting.items
-    c.elsifs.new.self) c.deref-in-If.ensures.value c.in_ok-elsifs-in-If.ensures.adds in
-    let last = subst (λ l. EmitsStatements v w c.elsifs.new.self (stmt_trees l) c.statements.new.self) c.deref-in-If-2.ensures.value
-    c.in_ok-statements-in-If.ensures.emits in
+    let one = c.in_ok-branch-in-If.ensures.same in
+    let two = c.in_ok-elsifs-in-If.ensures.same ∙ one in
+    let others = subst (λ x. AddsParts x w c.branch-self.new.self (map elsif_tree c.in-If.elsifs.items) c.branch-self.new.waiting.items c.elsifs.new.waiting.items
+    c.elsifs.new.self) one
+    (subst (λ l. AddsParts c.branch-self.new.visible w c.branch-self.new.self (map elsif_tree l) c.branch-self.new.waiting.items c.elsifs.new.waiting.items
+    c.elsifs.new.self) c.deref-in-If.ensures.value c.in_ok-elsifs-in-If.ensures.adds) in
+    let last = subst (λ x. EmitsStatements x w c.elsifs.new.self (stmt_trees c.in-If.others.items) c.statements.new.self) two
+    (subst (λ l. EmitsStatements c.elsifs.new.visible w c.elsifs.new.self (stmt_trees l) c.statements.new.self) c.deref-in-If-2.ensures.value
+    c.in_ok-statements-in-If.ensures.emits) in
     record {
       there = λ k is. waiting_there v w c.args.self.now c.branch-self.new.self c.elsifs.new.self c.statements.new.self c.statements.new.self c.in-If.field-0
           (expr_tree c.in-If.condition) (stmt_trees c.in-If.body.items) c.in-If.elsifs.items (stmt_trees c.in-If.others.items) c.new-waiting.result.items
@@ -185,20 +487,53 @@ statement-returns-in_ok-statements-in-If t c =
     let w = ways_of c.args.leaving in
     let first = subst (λ l. AddsParts v w c.args.self.now ((expr_tree c.in-If.condition, stmt_trees l) ∷ []) c.new-waiting.result.items
     c.branch-self.new.waiting.items c.branch-self.new.self) c.deref.ensures.value c.in_ok-branch-in-If.ensures.adds in
-    let others = subst (λ l. AddsParts v w c.branch-self.new.self (map elsif_tree l) c.branch-self.new.waiting.items c.elsifs.new.waiting.items
-    c.elsifs.new.self) c.deref-in-If.ensures.value c.in_ok-elsifs-in-If.ensures.adds in
-    let last = subst (λ l. EmitsStatements v w c.elsifs.new.self (stmt_trees l) c.statements.new.self) c.deref-in-If-2.ensures.value
-    c.in_ok-statements-in-If.ensures.emits in
+    let one = c.in_ok-branch-in-If.ensures.same in
+    let two = c.in_ok-elsifs-in-If.ensures.same ∙ one in
+    let others = subst (λ x. AddsParts x w c.branch-self.new.self (map elsif_tree c.in-If.elsifs.items) c.branch-self.new.waiting.items c.elsifs.new.waiting.items
+    c.elsifs.new.self) one
+    (subst (λ l. AddsParts c.branch-self.new.visible w c.branch-self.new.self (map elsif_tree l) c.branch-self.new.waiting.items c.elsifs.new.waiting.items
+    c.elsifs.new.self) c.deref-in-If.ensures.value c.in_ok-elsifs-in-If.ensures.adds) in
+    let last = subst (λ x. EmitsStatements x w c.elsifs.new.self (stmt_trees c.in-If.others.items) c.statements.new.self) two
+    (subst (λ l. EmitsStatements c.elsifs.new.visible w c.elsifs.new.self (stmt_trees l) c.statements.new.self) c.deref-in-If-2.ensures.value
+    c.in_ok-statements-in-If.ensures.emits) in
     record {
       emits = on_ok_weaker _
           (λ r.
-          subst (λ x. EmitsStatement v w c.args.self.now x (record { code = c.rejoin.new.self; labels = c.statements.new.self.labels })) (sym tree)
-          (if_emits v w c.args.self.now c.branch-self.new.self c.elsifs.new.self c.statements.new.self (record { code = c.rejoin.new.self; labels = c.statements.new.self.labels }) c.in-If.field-0
+          subst (λ x. EmitsStatement v w c.args.self.now x (record { code = c.rejoin.new.self; labels = c.statements.new.self.labels; words = c.statements.new.self.words })) (sym tree)
+          (if_emits v w c.args.self.now c.branch-self.new.self c.elsifs.new.self c.statements.new.self (record { code = c.rejoin.new.self; labels = c.statements.new.self.labels; words = c.statements.new.self.words }) c.in-If.field-0
           (expr_tree c.in-If.condition) (stmt_trees c.in-If.body.items) c.in-If.elsifs.items (stmt_trees c.in-If.others.items) c.new-waiting.result.items
           c.branch-self.new.waiting.items c.elsifs.new.waiting.items c.deref-in-If-3.result.now c.new-waiting.ensures.items c.deref-in-If-3.ensures.value
-          first others last _ refl r refl))
+          first others last _ refl r (refl, refl)))
           c.rejoin.ensures.rejoins;
+      same = on_ok_weaker _ (λ r. c.in_ok-statements-in-If.ensures.same ∙ two) c.rejoin.ensures.rejoins;
     }
+
+pub statement-case-requires : goal.statement-case-requires
+statement-case-requires t c =
+    let s = c.args.visible.now.scope in
+    let e = expr_tree c.in-Case.value in
+    let tree = ap stmt_tree c.in-Case.is ∙ c.statements_by_parts.ensures.cases c.in-Case.place c.in-Case.value c.in-Case.alternatives in (
+      search (rules, statements.the_lemmas),
+      (
+        c.requires.sound,
+        (
+          c.requires.entries,
+          subst (λ l. IsLegal s (Case c.in-Case.place e (alternative_trees l))) (sym c.deref-in-Case.ensures.value) (subst (IsLegal s) tree c.requires.legal),
+        ),
+      ),
+    )
+
+pub statement-returns-in-Case-clause-emits : goal.statement-returns-in-Case-clause-emits
+statement-returns-in-Case-clause-emits t c =
+    let v = c.args.visible.now in
+    let w = ways_of c.args.leaving in
+    let e = expr_tree c.in-Case.value in
+    let tree = ap stmt_tree c.in-Case.is ∙ c.statements_by_parts.ensures.cases c.in-Case.place c.in-Case.value c.in-Case.alternatives in
+    on_ok_weaker _
+    (λ p.
+    subst (λ x. EmitsStatement v w c.args.self.now x c.case.new.self) (sym tree)
+    (subst (λ l. EmitsStatement v w c.args.self.now (Case c.in-Case.place e (alternative_trees l)) c.case.new.self) c.deref-in-Case.ensures.value p))
+    c.case.ensures.emits
 
 pub statement-repeated-requires : goal.statement-repeated-requires
 statement-repeated-requires t c =
@@ -207,8 +542,11 @@ statement-repeated-requires t c =
       search (rules, statements.the_lemmas),
       (
         c.requires.sound,
-        subst (λ l. IsLegal s (Loop c.in-Loop.place (iteration_tree c.in-Loop.iteration) (stmt_trees l))) (sym c.deref-in-Loop.ensures.value)
-            (subst (IsLegal s) tree c.requires.legal),
+        (
+          c.requires.entries,
+          subst (λ l. IsLegal s (Loop c.in-Loop.place (iteration_tree c.in-Loop.iteration) (stmt_trees l))) (sym c.deref-in-Loop.ensures.value)
+              (subst (IsLegal s) tree c.requires.legal),
+        ),
       ),
     )
 
@@ -224,66 +562,81 @@ statement-returns-in-Loop t c =
           (subst (λ l. EmitsStatement v w c.args.self.now (Loop c.in-Loop.place (iteration_tree c.in-Loop.iteration) (stmt_trees l)) c.repeated.new.self)
           c.deref-in-Loop.ensures.value p))
           c.repeated.ensures.emits;
+      same = c.repeated.ensures.same;
     }
 
-pub statement-statements-requires-then-is_empty-2 : goal.statement-statements-requires-then-is_empty-2
-statement-statements-requires-then-is_empty-2 t c =
+pub statement-block-requires : goal.statement-block-requires
+statement-block-requires t c =
     let s = c.args.visible.now.scope in
-    let no_objects : c.in-Block.declarations.items ≡ [] = none_there c.in-Block.declarations.items (search rules) in
     let no_handlers : c.in-Block.handlers.items ≡ [] = none_there c.in-Block.handlers.items (search rules) in
     let tree = ap stmt_tree c.in-Block.is
-    ∙ c.statements_by_parts.ensures.blocks c.in-Block.field-0 c.in-Block.declarations c.in-Block.body c.in-Block.handlers
-    ∙ ap (λ l. Block c.in-Block.field-0 (map declaration_tree l) (stmt_trees c.in-Block.body.items) (handler_trees c.in-Block.handlers.items)) no_objects
-    ∙ ap (λ l. Block c.in-Block.field-0 [] (stmt_trees c.in-Block.body.items) (handler_trees l)) no_handlers in (
+    ∙ c.statements_by_parts.ensures.blocks c.in-Block.place c.in-Block.declarations c.in-Block.body c.in-Block.handlers
+    ∙ ap (λ l. Block c.in-Block.place (map declaration_tree c.in-Block.declarations.items) (stmt_trees c.in-Block.body.items) (handler_trees l)) no_handlers in (
       search (rules, statements.the_lemmas),
       (
         c.requires.sound,
-        subst (λ l. AreLegal s (stmt_trees l)) (sym c.deref-then-is_empty-2.ensures.value)
-            (block_legal s c.in-Block.field-0 (stmt_trees c.in-Block.body.items) (subst (IsLegal s) tree c.requires.legal)),
+        (
+          c.requires.entries,
+          subst (λ l. IsLegal s (Block c.in-Block.place (map declaration_tree l) (stmt_trees c.deref-then-is_empty.result.now) NoHandlers))
+              (sym c.deref-then-is_empty-2.ensures.value)
+              (subst (λ l. IsLegal s (Block c.in-Block.place (map declaration_tree c.in-Block.declarations.items) (stmt_trees l) NoHandlers))
+              (sym c.deref-then-is_empty.ensures.value) (subst (IsLegal s) tree c.requires.legal)),
+        ),
       ),
     )
 
-pub statement-returns-then-is_empty-2 : goal.statement-returns-then-is_empty-2
-statement-returns-then-is_empty-2 t c =
+pub statement-returns-then-is_empty : goal.statement-returns-then-is_empty
+statement-returns-then-is_empty t c =
     let v = c.args.visible.now in
     let w = ways_of c.args.leaving in
-    let s = c.args.visible.now.scope in
-    let no_objects : c.in-Block.declarations.items ≡ [] = none_there c.in-Block.declarations.items (search rules) in
     let no_handlers : c.in-Block.handlers.items ≡ [] = none_there c.in-Block.handlers.items (search rules) in
     let tree = ap stmt_tree c.in-Block.is
-    ∙ c.statements_by_parts.ensures.blocks c.in-Block.field-0 c.in-Block.declarations c.in-Block.body c.in-Block.handlers
-    ∙ ap (λ l. Block c.in-Block.field-0 (map declaration_tree l) (stmt_trees c.in-Block.body.items) (handler_trees c.in-Block.handlers.items)) no_objects
-    ∙ ap (λ l. Block c.in-Block.field-0 [] (stmt_trees c.in-Block.body.items) (handler_trees l)) no_handlers in
+    ∙ c.statements_by_parts.ensures.blocks c.in-Block.place c.in-Block.declarations c.in-Block.body c.in-Block.handlers
+    ∙ ap (λ l. Block c.in-Block.place (map declaration_tree c.in-Block.declarations.items) (stmt_trees c.in-Block.body.items) (handler_trees l)) no_handlers in
     record {
       emits = on_ok_weaker _
           (λ p.
-          subst (λ x. EmitsStatement v w c.args.self.now x c.statements-then-is_empty-2.new.self) (sym tree)
-          (block_emits v w c.args.self.now c.statements-then-is_empty-2.new.self c.in-Block.field-0 (stmt_trees c.in-Block.body.items)
-          (subst (λ l. EmitsStatements v w c.args.self.now (stmt_trees l) c.statements-then-is_empty-2.new.self) c.deref-then-is_empty-2.ensures.value p)))
-          c.statements-then-is_empty-2.ensures.emits;
+          subst (λ x. EmitsStatement v w c.args.self.now x c.block.new.self) (sym tree)
+          (subst (λ l. EmitsStatement v w c.args.self.now (Block c.in-Block.place (map declaration_tree c.in-Block.declarations.items) (stmt_trees l) NoHandlers) c.block.new.self)
+          c.deref-then-is_empty.ensures.value
+          (subst (λ l. EmitsStatement v w c.args.self.now (Block c.in-Block.place (map declaration_tree l) (stmt_trees c.deref-then-is_empty.result.now) NoHandlers)
+          c.block.new.self) c.deref-then-is_empty-2.ensures.value p)))
+          c.block.ensures.emits;
+      same = c.block.ensures.same;
     }
 
 -- ---- statements one behind another
 
 pub statements-loop-statement-init : goal.statements-loop-statement-init
-statements-loop-statement-init t c = no_statements c.args.visible.now (ways_of c.args.leaving) c.args.self.now
+statements-loop-statement-init t c = (no_statements c.args.visible.now (ways_of c.args.leaving) c.args.self.now, refl)
 
 pub statements-statement-requires : goal.statements-statement-requires
-statements-statement-requires t c = (
-  search (rules, statements.the_lemmas),
-  (
-    c.requires.sound,
-    statement_legal c.args.visible.now.scope c.args.all.now _ c.statement-item.result c.loop-statement-test.true c.statement-item.is c.requires.legal,
-  ),
-)
+statements-statement-requires t c =
+    let there = sym c.loop-statement.invariant.1 in (
+      search (rules, statements.the_lemmas),
+      (
+        subst (λ x. SoundScope x.scope) there c.requires.sound,
+        (
+          subst HasEntries there c.requires.entries,
+          subst (λ x. IsLegal x.scope (stmt_tree c.statement-item.result)) there
+              (statement_legal c.args.visible.now.scope c.args.all.now _ c.statement-item.result c.loop-statement-test.true c.statement-item.is c.requires.legal),
+        ),
+      ),
+    )
 
 pub statements-loop-statement-preserved : goal.statements-loop-statement-preserved
 statements-loop-statement-preserved t c =
-    statements_next c.args.visible.now (ways_of c.args.leaving) c.args.self.now c.loop-statement.self c.statement.new.self c.args.all.now _ c.statement-item.result
-    c.loop-statement-test.true c.statement-item.is c.loop-statement.invariant c.in_ok-statement.ensures.emits
+    let w = ways_of c.args.leaving in
+    let there = c.loop-statement.invariant.1 in (
+      statements_next c.args.visible.now w c.args.self.now c.loop-statement.self c.statement.new.self c.args.all.now _ c.statement-item.result
+          c.loop-statement-test.true c.statement-item.is c.loop-statement.invariant.0
+          (subst (λ x. EmitsStatement x w c.loop-statement.self (stmt_tree c.statement-item.result) c.statement.new.self) there c.in_ok-statement.ensures.emits),
+      c.in_ok-statement.ensures.same ∙ there,
+    )
 
 pub statements-returns : goal.statements-returns
 statements-returns t c = record {
   emits = all_statements c.args.visible.now (ways_of c.args.leaving) c.args.self.now c.loop-statement.self c.args.all.now _ c.loop-statement-test.false
-      c.loop-statement.invariant;
+      c.loop-statement.invariant.0;
+  same = c.loop-statement.invariant.1;
 }

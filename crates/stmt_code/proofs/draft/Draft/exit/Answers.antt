@@ -18,9 +18,9 @@ returns-in-None c = record {
   emits = on_ok_weaker _
       (λ q.
       subst (λ x. EmitsStatement c.args.visible.now (ways_of c.args.leaving) c.args.self.now (Exit c.args.place (optional_tree expr_tree x))
-      (record { code = c.emit.new.self; labels = c.args.self.now.labels })) (sym c.in-None.is)
-      (exit_emits c.args.visible.now (ways_of c.args.leaving) c.args.self.now (record { code = c.emit.new.self; labels = c.args.self.now.labels }) c.args.place c.in-Some.exit
-      c.in-Some.is q refl))
+      (record { code = c.emit.new.self; labels = c.args.self.now.labels; words = c.args.self.now.words })) (sym c.in-None.is)
+      (exit_emits c.args.visible.now (ways_of c.args.leaving) c.args.self.now (record { code = c.emit.new.self; labels = c.args.self.now.labels; words = c.args.self.now.words }) c.args.place c.in-Some.exit
+      c.in-Some.is q (refl, refl)))
       c.emit.ensures.adds;
 }
 
@@ -29,8 +29,8 @@ returns-in_ok-of_width-in-Some-condition c = record {
   emits = on_ok_weaker _
       (λ q.
       subst (λ x. EmitsStatement c.args.visible.now (ways_of c.args.leaving) c.args.self.now (Exit c.args.place (optional_tree expr_tree x))
-      (record { code = c.emit-in-Some-condition.new.self; labels = c.args.self.now.labels })) (sym c.in-Some-condition.is)
-      (exit_when_emits c.args.visible.now (ways_of c.args.leaving) c.args.self.now (record { code = c.emit-in-Some-condition.new.self; labels = c.args.self.now.labels })
-      c.of_width.new.self c.args.place c.in-Some.exit (expr_tree c.in-Some-condition.condition) c.in-Some.is c.in_ok-of_width-in-Some-condition.ensures.emits q refl))
+      (record { code = c.emit-in-Some-condition.new.self; labels = c.args.self.now.labels; words = c.args.self.now.words })) (sym c.in-Some-condition.is)
+      (exit_when_emits c.args.visible.now (ways_of c.args.leaving) c.args.self.now (record { code = c.emit-in-Some-condition.new.self; labels = c.args.self.now.labels; words = c.args.self.now.words })
+      c.of_width.new.self c.args.place c.in-Some.exit (expr_tree c.in-Some-condition.condition) c.in-Some.is c.in_ok-of_width-in-Some-condition.ensures.emits q (refl, refl)))
       c.emit-in-Some-condition.ensures.adds;
 }

@@ -11,8 +11,8 @@ returns-in-Some-None c = record {
   emits = on_ok_weaker _
       (λ q.
       subst (λ x. EmitsStatement c.args.visible.now (ways_of c.args.leaving) c.args.self.now (Return c.args.place (optional_tree expr_tree x))
-      (record { code = c.emit.new.self; labels = c.args.self.now.labels })) (sym c.in-Some-None.is-1)
-      (return_emits c.args.visible.now (ways_of c.args.leaving) c.args.self.now (record { code = c.emit.new.self; labels = c.args.self.now.labels }) c.args.place
-      c.in-Some-None.end c.in-Some-None.is-0 q refl))
+      (record { code = c.emit.new.self; labels = c.args.self.now.labels; words = c.args.self.now.words })) (sym c.in-Some-None.is-1)
+      (return_emits c.args.visible.now (ways_of c.args.leaving) c.args.self.now (record { code = c.emit.new.self; labels = c.args.self.now.labels; words = c.args.self.now.words }) c.args.place
+      c.in-Some-None.end c.in-Some-None.is-0 q (refl, refl)))
       c.emit.ensures.adds;
 }

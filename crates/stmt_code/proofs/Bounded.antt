@@ -1,0 +1,241 @@
+-- What is known of a loop over a range that breaks no rule: its bounds are of integer types, and its parameter is visible in its statements, with the first of
+-- two words of the frame.
+use Rattle.std.proofs.Common.{◌≡◌, ℕ, suc, ◌<◌, ◌≤◌, ◌++◌, List, [], ◌∷◌, length, take, Bool, true, false, not, ◌&&◌, Option, Some, None, inl, inr, refl, sym, ap, ◌∙◌, subst, arith}
+use Rattle.std.specs.Prelude.{pos}
+use Rattle.base.specs.declared.faults.TheConstants.{NO_MEANING}
+use Rattle.ada_tree.specs.declared.expression.Identifier.{Identifier}
+use Rattle.ada_tree.specs.ExpressionTree.{ExprTree}
+use Rattle.ada_tree.specs.StatementTree.{For, Loop, RangeTree, StmtTrees}
+use Rattle.image.specs.Sections.{Sections}
+use Rattle.image.specs.declared.instruction.Region.TheVariants as regions
+use Rattle.image.specs.declared.subprograms.Subprogram.{Subprogram}
+use Rattle.types.specs.declared.entity.Role.TheVariants as role
+use Rattle.types.specs.Entities as entity
+use Rattle.types.specs.Entities.{Entity}
+use Rattle.types.specs.Laws.{ShapesStay, ValuesHaveWords}
+use Rattle.types.specs.Layouts.{words_of}
+use Rattle.types.specs.Places.{Object}
+use Rattle.types.specs.Scopes.{Scope, base_range_of, form_at, integer, integer_type, is_visible, with_name}
+use Rattle.types.specs.Statics.{start_of}
+use Rattle.types.specs.Values.{Number}
+use Rattle.expr_rules.specs.declared.own.Own.{Own}
+use Rattle.expr_rules.specs.declared.own.Own.TheVariants.{Typed, Universal, Unknown}
+use Rattle.expr_rules.specs.declared.own.Wanted.TheVariants.{AnyInteger}
+use Rattle.expr_rules.specs.ExpressionRules.{faults_in, faults_of}
+use Rattle.expr_rules.specs.Faults.{Faults}
+use Rattle.expr_rules.specs.NameRules.{mismatch}
+use Rattle.expr_rules.specs.Typing.{is_integers, is_integral, is_known, is_wanted, own_of}
+use Rattle.expr_rules.proofs.TypedLaw.{back_empty, front_empty, judged, unbroken}
+use Rattle.type_rules.specs.SubtypeNames.{declared_twice}
+use Rattle.declaring.specs.BodyNames.{bounds_type, if_integers, last_rule, loop_faults, loop_scope, loop_type, parameter_entity}
+use Rattle.stmt_rules.specs.StatementRules.{in_loop, stmts_faults}
+use Rattle.well_typed.specs.Agreeing.{Agrees}
+use Rattle.well_typed.specs.Laws.{AgreementIsKept, ScopesAreSound}
+use Rattle.well_typed.specs.SoundScopes.{SoundScope}
+use Rattle.meaning.specs.Calls.{procedure_here}
+use Rattle.meaning.specs.Programs.{Procedure, Program}
+use Rattle.sound_steps.specs.Fitting.{IsFound, entity_named}
+use Rattle.expr_code.specs.Emitting as expressions
+use Rattle.expr_code.specs.Seeing.{Package, subprogram_of}
+use Rattle.expr_code.specs.Widths.{width_of}
+use Rattle.expr_code.specs.declared.visible.Slot.{Slot}
+use Rattle.expr_code.specs.declared.visible.Visible.{Visible}
+use Rattle.expr_code.proofs.Widths.{integral_one, known}
+use Rattle.stmt_code.specs.Emitting.{AreLegal, HasEntries, IsLegal, Serves, seeing}
+use Rattle.stmt_code.specs.Layout.{EndsBy}
+use Rattle.stmt_code.specs.Resting.{Framed}
+use Rattle.stmt_code.specs.Turns.{BeginsRange}
+use Rattle.stmt_code.specs.declared.draft.Draft.{Draft}
+use Rattle.stmt_code.specs.declared.range_loop.Turns.{Turns}
+use Rattle.stmt_code.proofs.Adding.{wanted_legal}
+use Rattle.stmt_code.proofs.Laying.{AddsObject}
+use Rattle.stmt_code.proofs.Names.{single_number}
+use Rattle.stmt_code.proofs.Parameters.{AreBelow, HoldsRange, holds_behind, parameter_below, parameter_ends, parameter_laid}
+use Rattle.stmt_code.specs.Statements.{Numbers}
+use Rattle.stmt_code.specs.Suiting.{SuitsStatements}
+use Rattle.stmt_code.proofs.Suiting.{entries_wider, number_wider, slots_first, stands_wider, subprograms_first, suits_wider}
+use Rattle.stmt_code.proofs.Widening.{scope_wider}
+
+-- ---- what is legal
+
+module _ (s : Scope) (place : ℕ) (parameter : Identifier) (reversed : Bool) (range : RangeTree) (body : StmtTrees)
+    (h : IsLegal s (Loop place (For parameter reversed range) body)) where
+  pub loop_range : loop_faults s parameter range ≡ []
+  loop_range = front_empty (loop_faults s parameter range) (stmts_faults (loop_scope s parameter range) (in_loop h.around) body) h.unbroken
+
+  pub loop_body : AreLegal (loop_scope s parameter range) body
+  loop_body = record {
+    around = in_loop h.around;
+    unbroken = back_empty (loop_faults s parameter range) (stmts_faults (loop_scope s parameter range) (in_loop h.around) body) h.unbroken;
+  }
+
+-- an integer is wanted
+module _ (s : Scope) (sound : SoundScope s) (e : ExprTree) (h : faults_of s AnyInteger e ≡ []) where
+  pub integer_own : is_integral s (own_of s e) ≡ true
+  integer_own =
+      let own = own_of s e in
+      let inside = faults_in s AnyInteger e in
+      let ends = mismatch s AnyInteger own (start_of e) in
+      judged (is_known own) (is_wanted s AnyInteger own)
+      (unbroken NO_MEANING (start_of e) (is_known own && not (is_wanted s AnyInteger own)) (back_empty inside ends h))
+      (known s sound e AnyInteger (front_empty inside ends h))
+
+  pub integer_width : width_of s e ≡ 1
+  integer_width = integral_one s (own_of s e) integer_own
+
+  pub integer_legal : expressions.IsLegal s e
+  integer_legal = wanted_legal s AnyInteger e h
+
+-- the type of the bounds
+pub record IsOfIntegers (s : Scope) (range : RangeTree) : Type 0 where
+  pub number : ℕ
+  pub typed : loop_type s range ≡ Some number
+  pub integers : is_integers (form_at s number) ≡ true
+
+module _ (s : Scope) (parameter : Identifier) (range : RangeTree) (legal : loop_faults s parameter range ≡ []) where
+  abbrev of_first : Faults
+  of_first = faults_of s AnyInteger range.first
+
+  abbrev of_last : Faults
+  of_last = faults_of s AnyInteger range.last
+
+  abbrev rule : Faults
+  rule = last_rule s (loop_type s range) (own_of s range.last) (start_of range.last)
+
+  both : of_first ++ of_last ≡ []
+  both = front_empty (of_first ++ of_last) rule (front_empty (of_first ++ of_last ++ rule) (declared_twice s parameter) legal)
+
+  pub first_legal : faults_of s AnyInteger range.first ≡ []
+  first_legal = front_empty of_first of_last both
+
+  pub last_legal : faults_of s AnyInteger range.last ≡ []
+  last_legal = back_empty of_first of_last both
+
+  pub parameter_hidden : is_visible s parameter.name ≡ false
+  parameter_hidden =
+      unbroken _ parameter.place (is_visible s parameter.name) (back_empty (of_first ++ of_last ++ rule) (declared_twice s parameter) legal)
+
+  abbrev some_if : Bool → ℕ → Option ℕ
+  some_if b n = elim b [ true ↦ Some n | false ↦ None ]
+
+  bounds_known : (x y : Own) → is_integral s x ≡ true → is_integral s y ≡ true → is_integers (form_at s integer_type) ≡ true
+      → (n : ℕ) × (if_integers s (bounds_type x y) ≡ Some n) × (is_integers (form_at s n) ≡ true)
+  bounds_known Unknown y i j k = cc
+  bounds_known Universal Unknown i j k = cc
+  bounds_known Universal Universal i j k = (integer_type, ap (λ b. some_if b integer_type) k, k)
+  bounds_known Universal (Typed n) i j k = (n, ap (λ b. some_if b n) j, j)
+  bounds_known (Typed n) y i j k = (n, ap (λ b. some_if b n) i, i)
+
+  pub range_type : SoundScope s → IsOfIntegers s range
+  range_type sound =
+      let found = bounds_known (own_of s range.first) (own_of s range.last) (integer_own s sound range.first first_legal)
+      (integer_own s sound range.last last_legal)
+      (ap is_integers sound.integer) in
+      record { number = found.0; typed = found.1; integers = found.2 }
+
+-- ---- what is visible in the loop
+
+module _ (stay : ShapesStay) (v later : Visible) (start opened : Draft) (parameter : Identifier) (reversed : Bool) (range : RangeTree) (t : Turns) (null : ℕ)
+    (sound : SoundScope v.scope) (entries : HasEntries v) (legal : loop_faults v.scope parameter range ≡ []) (of_type : IsOfIntegers v.scope range)
+    (r : BeginsRange v start parameter reversed range t null later opened) where
+  abbrev pub slot : Slot
+  slot = record { region = regions.Locals; offset = t.counter }
+
+  scope_is : later.scope ≡ with_name v.scope parameter.name (entity.Object role.LoopParameter (base_range_of of_type.number))
+  scope_is = r.scope ∙ ap (λ o. with_name v.scope parameter.name (parameter_entity o)) of_type.typed
+
+  hidden : is_visible v.scope parameter.name ≡ false
+  hidden = parameter_hidden v.scope parameter range legal
+
+  pub sound_inside : ScopesAreSound → SoundScope later.scope
+  sound_inside scopes =
+      subst SoundScope (sym scope_is)
+      (scope_wider scopes v.scope parameter.name role.LoopParameter (base_range_of of_type.number) hidden of_type.integers sound)
+
+  pub entries_inside : HasEntries later
+  entries_inside =
+      entries_wider stay v later parameter.name role.LoopParameter (base_range_of of_type.number) slot sound entries hidden scope_is r.slots r.subprograms
+
+  pub slots_stay : take (length v.slots) later.slots ≡ v.slots
+  slots_stay =
+      slots_first stay v later parameter.name role.LoopParameter (base_range_of of_type.number) slot sound entries hidden scope_is r.slots r.subprograms
+
+  pub subprograms_stay : take (length v.subprograms) later.subprograms ≡ v.subprograms
+  subprograms_stay =
+      subprograms_first stay v later parameter.name role.LoopParameter (base_range_of of_type.number) slot sound entries hidden scope_is r.slots r.subprograms
+
+  pub suits_inside : (i : Sections) (s : Subprogram) → t.counter < s.locals → SuitsStatements v i s → SuitsStatements later i s
+  suits_inside i s within suits =
+      suits_wider stay v later parameter.name role.LoopParameter (base_range_of of_type.number) slot sound entries hidden scope_is r.slots r.subprograms
+      i s refl within suits
+
+  -- ---- the frame in the loop
+
+  module _ (kept : AgreementIsKept) (sized : ValuesHaveWords) (program : Program) (g : Package) (numbers : Numbers) (f : Framed)
+      (serves : Serves program g numbers (seeing f v) start.words.taken) (room : opened.words.most ≤ f.room) where
+    abbrev pub inner : Framed
+    inner = record { names = later; room = f.room; reserved = t.counter ∷ t.limit ∷ f.reserved }
+
+    single : words_of v.scope (base_range_of of_type.number) ≡ 1
+    single = single_number sized v.scope (base_range_of of_type.number) of_type.integers
+
+    adds : AddsObject (seeing f v) parameter.name role.LoopParameter (base_range_of of_type.number) start.words.taken slot inner
+    adds = record {
+      hidden = hidden;
+      sound = of_type.integers;
+      scope = scope_is;
+      slots = r.slots;
+      subprograms = r.subprograms;
+      room = refl;
+      region = refl;
+      offset = r.counter;
+      fits = (let n = r.takes.taken in let m = r.takes.most in let k = single in omega (arith, n, m, k, room));
+    }
+
+    limit_is : t.limit ≡ suc start.words.taken
+    limit_is = r.limit ∙ ap suc r.counter
+
+    pub holds : HoldsRange (seeing f v) parameter.name of_type.number slot t.limit inner
+    holds =
+        subst (λ m. HoldsRange (seeing f v) parameter.name of_type.number slot m inner) (sym limit_is)
+        (holds_behind (seeing f v) inner parameter.name of_type.number start.words.taken slot serves.ends serves.below adds
+        (λ j. r.counter j ∷ limit_is j ∷ f.reserved)
+        (let n = r.takes.taken in let m = r.takes.most in omega (arith, n, m, room)))
+
+    top : suc (suc start.words.taken) ≡ opened.words.taken
+    top = let n = r.takes.taken in omega (arith, n)
+
+    pub serves_inside : Serves program g numbers inner opened.words.taken
+    serves_inside = record {
+      finds = finds;
+      numbered = numbered;
+      scope = serves.scope;
+      place = record serves.place { locals = object ∷ serves.place.locals };
+      here = serves.here;
+      agrees = subst (λ z. Agrees z (record serves.place { locals = object ∷ serves.place.locals })) (sym scope_is)
+          (kept.parameter v.scope serves.place parameter.name of_type.number (pos 0) serves.agrees hidden of_type.integers);
+      laid = parameter_laid kept sized g (seeing f v) inner serves.laid sound parameter.name of_type.number slot t.limit holds stay;
+      ends = subst (EndsBy inner) top
+          (parameter_ends kept sized g (seeing f v) inner serves.laid sound parameter.name of_type.number slot t.limit holds stay start.words.taken serves.ends
+          r.counter);
+      below = subst (AreBelow inner.reserved) top
+          (parameter_below kept sized g (seeing f v) inner serves.laid sound parameter.name of_type.number slot t.limit holds start.words.taken serves.below
+          r.counter limit_is);
+    }
+      where
+        object : Object
+        object = record { name = parameter.name; subtype = integer; value = Number (pos 0) }
+
+        finds : (name : List ℕ) (e : Entity) → entity_named later.scope name ≡ Some e → IsFound program None name e
+        finds name e h =
+            elim (stands_wider stay v later parameter.name role.LoopParameter (base_range_of of_type.number) slot sound entries hidden scope_is r.slots
+            r.subprograms name e h) [
+              | inl old ↦ serves.finds name e old
+              | inr is ↦ subst (IsFound program None name) (sym is.1) tt
+            ]
+
+        numbered : (name : List ℕ) (q : Procedure) (n : ℕ) → procedure_here program None name ≡ Some q → subprogram_of later name ≡ Some n → numbers q ≡ Some n
+        numbered name q n found told =
+            serves.numbered name q n found
+            (number_wider stay v later parameter.name role.LoopParameter (base_range_of of_type.number) slot sound entries hidden scope_is r.slots r.subprograms
+            name n told).0

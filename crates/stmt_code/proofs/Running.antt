@@ -1,0 +1,153 @@
+-- The code of a body up to its end: its declarations, the way out, and its statements.
+use Rattle.std.proofs.Common.{◌≡◌, ℕ, suc, ◌+◌, ◌≤◌, List, None, Some, refl, sym, ap, ◌∙◌, subst, arith}
+use Rattle.std.specs.Prelude.{slice_get}
+use Rattle.ada_tree.specs.StatementTree.{DeclarationTree, StmtTrees}
+use Rattle.image.specs.Sections.{Sections}
+use Rattle.image.specs.Rules.{has_depth}
+use Rattle.image.specs.declared.instruction.Operation.{Operation}
+use Rattle.image.specs.declared.instruction.Operation.TheVariants as op
+use Rattle.expr_code.specs.Views.{At}
+use Rattle.expr_code.specs.Code.{Extends, Holds, Patches, StandsFrom, here}
+use Rattle.expr_code.specs.Flows.{AreKept}
+use Rattle.expr_code.specs.declared.visible.Visible.{Visible}
+use Rattle.expr_code.proofs.Flowing.{kept_then}
+use Rattle.expr_code.proofs.Growing.{added_extends, added_here, extends_trans, holds_before, patched_extends, patched_here, patched_holds, patched_other}
+use Rattle.stmt_code.specs.Emitting.{Allows, BeginsLoop, EmitsDeclarations, EmitsRun, EmitsStatements, HasLabels, IsReached, Serves, seeing}
+use Rattle.stmt_code.specs.Statements.{AreStatements, Ways}
+use Rattle.stmt_code.specs.declared.draft.Draft.{Draft}
+use Rattle.stmt_code.proofs.Adding.{IsBeside, depth_there, jump_kept, labels_before, labels_beside, labels_then, most_beside, taken_beside}
+use Rattle.stmt_code.proofs.Opening.{added_is, patched_is, some_same}
+
+-- a return leads to the way out, and there is no loop to leave
+abbrev pub returning : ℕ → Ways
+returning out = record { exit = None; return = Some out }
+
+module _ (v later : Visible) (a b c d e : Draft) (ds : List DeclarationTree) (body : StmtTrees) (out end : ℕ) (p : EmitsDeclarations v a ds later b)
+    (begins : BeginsLoop b.code c.code) (same : IsBeside b c) (out_is : out ≡ here b.code + 1) (q : EmitsStatements later (returning out) c body d)
+    (end_is : end ≡ here d.code) (patch : Patches d.code out (op.Jump end) e.code) (labels : e.labels ≡ d.labels)
+    (words : e.words ≡ record d.words { taken = a.words.taken }) where
+  abbrev skip : Operation
+  skip = op.Jump (here b.code + 2)
+
+  one : here begins.skipped ≡ suc (here b.code)
+  one = added_here b.code begins.skipped 0 skip begins.skips
+
+  two : here c.code ≡ suc (here begins.skipped)
+  two = added_here begins.skipped c.code 0 (op.Jump 0) begins.leaves
+
+  three : here e.code ≡ here d.code
+  three = patched_here d.code e.code out (op.Jump end) patch
+
+  leads : Extends begins.skipped c.code
+  leads = added_extends begins.skipped c.code 0 (op.Jump 0) begins.leaves
+
+  begun : Extends b.code c.code
+  begun = extends_trans b.code begins.skipped c.code (added_extends b.code begins.skipped 0 skip begins.skips) leads
+
+  declared : Extends b.code e.code
+  declared = patched_extends d.code e.code out (op.Jump end) patch b.code (omega (arith, out_is)) (extends_trans b.code c.code d.code begun q.extends)
+
+  skip_there : slice_get e.code.instructions.items (here b.code) ≡ Some (record { depth = 0; operation = skip })
+  skip_there =
+      patched_other d.code e.code out (op.Jump end) patch (here b.code) (λ k. absurd (omega (arith, k, out_is)))
+      ∙ q.extends.instructions (here b.code) _ (omega arith)
+      (leads.instructions (here b.code) _ (omega arith) (added_is b.code begins.skipped 0 skip begins.skips))
+
+  way_there : slice_get e.code.instructions.items out ≡ Some (record { depth = 0; operation = op.Jump end })
+  way_there = patched_is d.code e.code out (op.Jump end) patch (record { depth = 0; operation = op.Jump 0 })
+      (q.extends.instructions out _ (omega arith)
+      (ap (slice_get c.code.instructions.items) (let k : out ≡ here begins.skipped = omega (arith, out_is, one) in k)
+      ∙ added_is begins.skipped c.code 0 (op.Jump 0) begins.leaves))
+
+  most_is : e.words.most ≡ d.words.most
+  most_is = ap (λ w. w.most) words
+
+  many : b.words.most ≤ e.words.most
+  many = let m = most_beside b c same in omega (arith, m, q.most, most_is)
+
+  module _ (i : Sections) (h : Holds i (here a.code) e.code) where
+    in_front : Holds i (here a.code) b.code
+    in_front = holds_before i (here a.code) b.code e.code declared h
+
+    in_body : Holds i (here c.code) d.code
+    in_body =
+        patched_holds d.code e.code out (op.Jump end) patch i (here c.code) (omega (arith, out_is, one, two))
+        (λ m y up there. h m y (omega (arith, up, one, two, p.extends.longer)) there)
+
+    at_skip : slice_get i.instructions (here b.code) ≡ Some (record { depth = 0; operation = skip })
+    at_skip = h (here b.code) _ p.extends.longer skip_there
+
+    at_way : slice_get i.instructions out ≡ Some (record { depth = 0; operation = op.Jump end })
+    at_way = h out _ (omega (arith, out_is, p.extends.longer)) way_there
+
+  labels_of : (i : Sections) → HasLabels i e.labels → HasLabels i d.labels
+  labels_of i l = subst (HasLabels i) labels l
+
+  labels_in_front : (i : Sections) → HasLabels i e.labels → HasLabels i b.labels
+  labels_in_front i l = labels_before i b.labels d.labels (labels_then b.labels c.labels d.labels (labels_beside b c same) q.labels) (labels_of i l)
+
+  head_is : here c.code ≡ here b.code + 2
+  head_is = omega (arith, one, two)
+
+  end_here : end ≡ here e.code
+  end_here = end_is ∙ sym three
+
+  pub run_emits : EmitsRun v a ds body e
+  run_emits = record {
+    extends = extends_trans a.code b.code e.code p.extends declared;
+    labels = labels_then a.labels b.labels e.labels p.labels
+        (labels_then b.labels c.labels e.labels (labels_beside b c same) (subst (λ l. StandsFrom 0 c.labels l) (sym labels) q.labels));
+    taken = ap (λ w. w.taken) words;
+    most = omega (arith, p.most, many);
+    sized = omega (arith, one, two, three, p.sized, q.sized);
+    stands = λ i h l program g numbers f names serves room.
+        let front = p.stands i (in_front i h) (labels_in_front i l) program g numbers f names serves (omega (arith, many, room)) in
+        record {
+          later = seeing f later;
+          mid = here b.code;
+          up = p.extends.longer;
+          over = omega (arith, one, two, three, q.extends.longer);
+          declared = front.0;
+          skip = (0, at_skip i h);
+          way = subst (λ n. At i n (op.Jump (here e.code))) out_is (subst (λ m. At i out (op.Jump m)) end_here (0, at_way i h));
+          statements =
+              subst (λ n. AreStatements i program g numbers (seeing f later) (returning n) (here b.code + 2) (here e.code) body) out_is
+              (subst (λ n. AreStatements i program g numbers (seeing f later) (returning out) n (here e.code) body) head_is
+              (subst (λ n. AreStatements i program g numbers (seeing f later) (returning out) (here c.code) n body) (sym three)
+              (q.stands i (in_body i h) (labels_of i l) program g numbers (seeing f later) refl
+              (subst (Serves program g numbers (seeing f later)) (sym (taken_beside b c same)) front.1) (omega (arith, most_is, room)))));
+        };
+    flows = λ i s low high down up h l suits deep wide ends ways.
+        let way : IsReached i low high out = record {
+          down = omega (arith, down, out_is, p.extends.longer);
+          up = omega (arith, up, three, q.extends.longer, two, one, out_is);
+          empty = depth_there i out 0 (op.Jump end) (at_way i h);
+        } in
+        let inner : Allows i low high (returning out) = record {
+          exit = λ place is. absurd cc;
+          return = λ place is. subst (IsReached i low high) (some_same out place is) way;
+        } in
+        let wider = p.suits i s suits (omega (arith, many, wide)) in
+        let kept = q.flows i s low high (omega (arith, down, one, two, p.extends.longer)) (omega (arith, up, three)) (in_body i h) (labels_of i l) wider
+        (omega (arith, ap (λ n. n) patch.deepest, deep)) (omega (arith, most_is, wide)) (ap (λ n. has_depth i n 0) (sym three) ∙ ends) inner in
+        let first = p.flows i s low high down (omega (arith, up, declared.longer)) (in_front i h) suits (omega (arith, declared.deeper, deep))
+        (omega (arith, many, wide)) (depth_there i (here b.code) 0 skip (at_skip i h)) in
+        let over = jump_kept i s low high (here b.code) (here b.code + 2) (at_skip i h)
+        (record {
+          down = omega (arith, down, p.extends.longer);
+          up = omega (arith, up, three, q.extends.longer, two, one);
+          empty = ap (λ n. has_depth i n 0) (sym head_is) ∙ kept.begins;
+        }) in
+        let leave = jump_kept i s low high out end (at_way i h)
+        (record {
+          down = omega (arith, end_here, down, p.extends.longer, declared.longer);
+          up = omega (arith, end_here, up);
+          empty = ap (λ n. has_depth i n 0) end_here ∙ ends;
+        }) in
+        kept_then i s low high (here a.code) (here b.code) (here e.code) 0 0 first
+        (kept_then i s low high (here b.code) (here c.code) (here e.code) 0 0
+        (kept_then i s low high (here b.code) out (here c.code) 0 0
+        (subst (λ n. AreKept i s low high (here b.code) n 0) (let k : suc (here b.code) ≡ out = omega (arith, out_is) in k) over)
+        (subst (λ n. AreKept i s low high out n 0) (let k : suc out ≡ here c.code = omega (arith, out_is, one, two) in k) leave))
+        (subst (λ n. AreKept i s low high (here c.code) n 0) (sym three) kept));
+  }

@@ -1,0 +1,214 @@
+-- Code of assignments that was added: the value of a whole object of one word, and what stores it.
+use Rattle.std.proofs.Common.{◌≡◌, ℕ, suc, ◌≤◌, ◌<◌, ◌⊎◌, inl, inr, List, length, true, false, not, Option, Some, None, refl, sym, ap, ◌∙◌, subst, arith, rules}
+use Rattle.std.specs.Prelude.{is_some, nat_lt}
+use Rattle.ada_tree.specs.declared.expression.Identifier.{Identifier}
+use Rattle.ada_tree.specs.ExpressionTree.{ExprTree, MoreSelectors, Named, NameTree, NoSelectors, SelectorTrees, bare_name}
+use Rattle.ada_tree.specs.StatementTree as statements
+use Rattle.kernel.specs.Laws.{QuietStays}
+use Rattle.image.specs.Sections.{Sections}
+use Rattle.image.specs.Rules.{has_depth}
+use Rattle.image.specs.declared.instruction.Operation.{Operation}
+use Rattle.image.specs.declared.instruction.Operation.TheVariants as op
+use Rattle.image.specs.declared.instruction.Region.{Region}
+use Rattle.image.specs.declared.instruction.Region.TheVariants as regions
+use Rattle.image.specs.declared.subprograms.Subprogram.{Subprogram}
+use Rattle.types.specs.declared.entity.Role.{Role}
+use Rattle.types.specs.declared.entity.Role.TheVariants as role
+use Rattle.types.specs.declared.entity.Subtype.{Subtype}
+use Rattle.types.specs.declared.standing.Standing.TheVariants as standing
+use Rattle.types.specs.Entities as entity
+use Rattle.types.specs.Entities.{Entity}
+use Rattle.types.specs.Laws.{ValuesHaveWords}
+use Rattle.types.specs.Layouts.{words_of}
+use Rattle.types.specs.Scopes.{Scope, entity_at, number_of}
+use Rattle.types.specs.Standings.{select_all, standing_of, stands_first, stands_for}
+use Rattle.expr_rules.specs.declared.own.Own.TheVariants.{Typed}
+use Rattle.expr_rules.specs.declared.own.Wanted.TheVariants.{Anything, OfType}
+use Rattle.expr_rules.specs.ExpressionRules.{faults_of, name_faults, target_faults}
+use Rattle.expr_rules.specs.NameRules.{is_changeable, mismatch, variable_rule}
+use Rattle.expr_rules.specs.Typing.{own_of_standing, typed_wanted}
+use Rattle.expr_rules.proofs.TypedLaw.{back_empty, front_empty, unbroken}
+use Rattle.stmt_rules.specs.SimpleRules.{assigned_wanted}
+use Rattle.well_typed.specs.Laws.{AgreementIsKept, CallsAreTyped}
+use Rattle.meaning.specs.Programs.{Program}
+use Rattle.expr_code.specs.Views.{At}
+use Rattle.expr_code.specs.Code.{Adds, Holds, here}
+use Rattle.expr_code.specs.Computing.{ComputesChecked}
+use Rattle.expr_code.specs.Emitting.{EmitsChecked, IsFit}
+use Rattle.expr_code.specs.Flows.{AreKept}
+use Rattle.expr_code.specs.Seeing.{Package, Sees, library_of, slot_of}
+use Rattle.expr_code.specs.declared.code.Code.{Code}
+use Rattle.expr_code.specs.declared.visible.Slot.{Slot}
+use Rattle.expr_code.specs.declared.visible.Visible.{Visible}
+use Rattle.expr_code.proofs.Growing.{added_at, added_extends, added_here, holds_before}
+use Rattle.stmt_code.specs.Emitting.{EmitsStatement, IsLegal, store_operation, stored_in}
+use Rattle.stmt_code.specs.Layout.{IsLaidOut, IsVariable, NamesObject}
+use Rattle.stmt_code.specs.Suiting.{SuitsStatements}
+use Rattle.stmt_code.specs.Resting.{Framed}
+use Rattle.stmt_code.specs.Statements.{IsAssigned, Numbers, Ways}
+use Rattle.stmt_code.specs.declared.draft.Draft.{Draft}
+use Rattle.stmt_code.proofs.Adding.{IsBeside, labels_beside, most_beside, taken_beside, value_extends, value_kept}
+use Rattle.stmt_code.proofs.Assigning.{assigns_local_word, assigns_plain_word}
+use Rattle.stmt_code.proofs.Declaring.{IsTypedAs}
+
+pub less_true : (x y : ℕ) → x < y → nat_lt x y ≡ true
+less_true x y less = search rules
+
+-- ---- objects
+
+pub names_object : (s : Scope) (name : List ℕ) (r : Role) (t : Subtype) → stands_first s (number_of s name) ≡ standing.Part r t → NamesObject s name r t
+names_object s name r t h = by_number (number_of s name) refl h
+  where
+    entity_is : (n : ℕ) (e : Option Entity) → stands_for n e ≡ standing.Part r t → e ≡ Some (entity.Object r t)
+    entity_is n (Some (entity.Object q u)) h = cc
+    entity_is n (Some (entity.OfType form u)) h = cc
+    entity_is n (Some (entity.OfSubtype u)) h = cc
+    entity_is n (Some (entity.Constant u v)) h = cc
+    entity_is n (Some (entity.Literal b)) h = cc
+    entity_is n (Some entity.Exception) h = cc
+    entity_is n (Some (entity.Subprogram p)) h = cc
+    entity_is n (Some (entity.Entry p)) h = cc
+    entity_is n (Some (entity.Predefined o p)) h = cc
+    entity_is n (Some entity.Put) h = cc
+    entity_is n (Some (entity.Task m)) h = cc
+    entity_is n (Some (entity.Protected o)) h = cc
+    entity_is n (Some entity.LibraryUnit) h = cc
+    entity_is n (Some entity.Doubtful) h = cc
+    entity_is n None h = cc
+
+    by_number : (o : Option ℕ) → number_of s name ≡ o → stands_first s o ≡ standing.Part r t → NamesObject s name r t
+    by_number (Some n) is k = record { number = n; numbered = is; stands = entity_is n (entity_at s n) k }
+    by_number None is k = cc
+
+-- a name without parts is its identifier
+pub record IsBare (first : Identifier) (selectors : SelectorTrees) (x : Identifier) : Type 0 where
+  pub whole : selectors ≡ NoSelectors
+  pub same : first ≡ x
+
+pub bare_whole : (first : Identifier) (selectors : SelectorTrees) (x : Identifier) → Some x ≡ bare_name (Named first selectors) → IsBare first selectors x
+bare_whole first NoSelectors x h = record { whole = refl; same = cc }
+bare_whole first (MoreSelectors y rest) x h = cc
+
+-- ---- what is legal
+
+-- what is to be changed is a variable
+pub changeable : (q : Role) → not (is_changeable q) ≡ false → IsVariable q
+changeable role.Variable h = tt
+changeable role.Constant h = cc
+changeable role.LoopParameter h = cc
+changeable role.In h = cc
+changeable role.Out h = tt
+changeable role.InOut h = tt
+changeable role.Component h = tt
+changeable role.ReadOnlyComponent h = cc
+
+-- what a name without parts stands for
+pub whole_stands : (s : Scope) (name : NameTree) (r : Role) (t : Subtype) → name.selectors ≡ NoSelectors
+    → stands_first s (number_of s name.first.name) ≡ standing.Part r t → standing_of s name.first name.selectors ≡ standing.Part r t
+whole_stands s name r t whole_name stands = ap (standing_of s name.first) whole_name ∙ ap (λ w. select_all s w NoSelectors) stands
+
+module _ (s : Scope) (name : NameTree) (e : ExprTree) (r : Role) (t : Subtype) (standing_is : standing_of s name.first name.selectors ≡ standing.Part r t)
+    (legal : IsLegal s (statements.Assignment name e)) where
+  pub assigned_fit : IsFit s t e
+  assigned_fit = record {
+    wanted = OfType t.type_number;
+    fits = refl;
+    unbroken = ap (λ w. faults_of s (typed_wanted (own_of_standing w)) e) (sym standing_is)
+        ∙ back_empty (target_faults s name.first name.selectors) (faults_of s (assigned_wanted s name) e) legal.unbroken;
+  }
+
+  pub assigned_variable : IsVariable r
+  assigned_variable =
+      let target = front_empty (target_faults s name.first name.selectors) (faults_of s (assigned_wanted s name) e) legal.unbroken in
+      let whole = back_empty (name_faults s name.first name.selectors) (variable_rule s name.first.place Anything (standing_of s name.first name.selectors)) target in
+      let this = ap (variable_rule s name.first.place Anything) (sym standing_is) ∙ whole in
+      changeable r (unbroken _ name.first.place (not (is_changeable r)) (back_empty (mismatch s Anything (Typed t.type_number) name.first.place) _ this))
+
+-- ---- the code
+
+one_or_other : {A B C : Type 0} → (A → C) → (B → C) → A ⊎ B → C
+one_or_other f g (inl a) = f a
+one_or_other f g (inr b) = g b
+
+region_is : (x : Region) (n : ℕ) (o : Operation) → stored_in x n ≡ Some o → ((x ≡ regions.Locals) × (op.StoreLocal n ≡ o)) ⊎ ((x ≡ regions.Plain) × (op.StorePlain n ≡ o))
+region_is regions.Locals n o h = inl (refl, cc)
+region_is regions.Plain n o h = inr (refl, cc)
+region_is regions.Object n o h = cc
+
+module _ (kept : AgreementIsKept) (sized : ValuesHaveWords) (calls : CallsAreTyped) (quiet : QuietStays) (v : Visible) (w : Ways) (a c : Draft) (m : Code)
+    (name : NameTree) (e : ExprTree) (r : Role) (t : Subtype) (slot : Slot) (o : Operation) (whole_name : name.selectors ≡ NoSelectors)
+    (stands : stands_first v.scope (number_of v.scope name.first.name) ≡ standing.Part r t) (variable : IsVariable r)
+    (there : slot_of v name.first.name ≡ Some slot) (operation : store_operation slot ≡ Some o)
+    (p : EmitsChecked v a.code 0 t e m) (q : Adds m 1 o c.code) (same : IsBeside a c) where
+  next : here c.code ≡ suc (here m)
+  next = added_here m c.code 1 o q
+
+  pub typed_as : IsTypedAs v t e
+  typed_as = record { known = ap is_some p.known.1; typed = p.typed }
+
+  some_same : (x y : Operation) → Some x ≡ Some y → x ≡ y
+  some_same x y h = cc
+
+  module _ (i : Sections) (h : Holds i (here a.code) c.code) (program : Program) (g : Package) (numbers : Numbers) (f : Framed) (names : f.names ≡ v)
+      (laid : IsLaidOut g f) where
+    computes : ComputesChecked i (library_of g) (Sees g f.names) (here a.code) (here m) t e
+    computes = subst (λ x. ComputesChecked i (library_of g) (Sees g x) (here a.code) (here m) t e) (sym names)
+        (p.computes i (holds_before i (here a.code) m c.code (added_extends m c.code 1 o q) h) g)
+
+    at_store : At i (here m) o
+    at_store = added_at m c.code 1 o q i (here a.code) p.extends.longer h
+
+    named_here : NamesObject f.names.scope name.first.name r t
+    named_here = subst (λ x. NamesObject x.scope name.first.name r t) (sym names) (names_object v.scope name.first.name r t stands)
+
+    there_here : slot_of f.names name.first.name ≡ Some slot
+    there_here = ap (λ x. slot_of x name.first.name) names ∙ there
+
+    typed_here : IsTypedAs f.names t e
+    typed_here = subst (λ x. IsTypedAs x t e) (sym names) typed_as
+
+    single_here : words_of f.names.scope t ≡ 1
+    single_here = ap (λ x. words_of x.scope t) names ∙ p.single
+
+    local_stored : slot.region ≡ regions.Locals → op.StoreLocal slot.offset ≡ o → IsAssigned i program g numbers f (here a.code) (suc (here m)) name e
+    local_stored is k =
+        assigns_local_word kept sized calls quiet i program g numbers f name e r t slot whole_name laid named_here variable there_here typed_here is (here a.code)
+        (here m) single_here p.extends.longer computes (subst (At i (here m)) (sym k) at_store)
+
+    plain_stored : slot.region ≡ regions.Plain → op.StorePlain slot.offset ≡ o → IsAssigned i program g numbers f (here a.code) (suc (here m)) name e
+    plain_stored is k =
+        assigns_plain_word kept sized calls quiet i program g numbers f name e r t slot whole_name laid named_here variable there_here typed_here is (here a.code)
+        (here m) single_here p.extends.longer computes (subst (At i (here m)) (sym k) at_store)
+
+    stored : IsAssigned i program g numbers f (here a.code) (suc (here m)) name e
+    stored = one_or_other (λ x. local_stored x.0 x.1) (λ x. plain_stored x.0 x.1) (region_is slot.region slot.offset o operation)
+
+  no_target : (t : ℕ) → None ≡ Some t → ⊥
+  no_target t e = cc
+
+  module _ (i : Sections) (s : Subprogram) (low high : ℕ) (down : low ≤ here a.code) (up : here c.code ≤ high) (h : Holds i (here a.code) c.code)
+      (suits : SuitsStatements v i s) (deep : c.code.deepest ≤ s.stack) (ends : has_depth i (here c.code) 0 ≡ true) where
+    flows_by : (x : Region) → slot.region ≡ x → stored_in x slot.offset ≡ Some o → AreKept i s low high (here a.code) (here c.code) 0
+    flows_by regions.Locals is k =
+        value_kept v a.code m c.code (op.StoreLocal slot.offset) p.extends p.flows
+        (subst (λ x. Adds m 1 x c.code) (sym (some_same (op.StoreLocal slot.offset) o k)) q) i s low high down up h suits deep refl
+        (less_true slot.offset s.locals (suits.names.locals name.first.name slot there is)) (omega arith) (omega arith) refl ends (λ t g. absurd (no_target t g))
+    flows_by regions.Plain is k =
+        value_kept v a.code m c.code (op.StorePlain slot.offset) p.extends p.flows
+        (subst (λ x. Adds m 1 x c.code) (sym (some_same (op.StorePlain slot.offset) o k)) q) i s low high down up h suits deep refl
+        (less_true slot.offset (length i.plain_words) (suits.names.plain name.first.name slot there is)) (omega arith) (omega arith) refl ends
+        (λ t g. absurd (no_target t g))
+    flows_by regions.Object is k = cc
+
+  pub assigned_emits : EmitsStatement v w a (statements.Assignment name e) c
+  assigned_emits = record {
+    extends = value_extends v a.code m c.code o p.extends p.flows q;
+    labels = labels_beside a c same;
+    taken = taken_beside a c same;
+    most = (let n = most_beside a c same in omega (arith, n));
+    sized = omega (arith, p.sized, next);
+    stands = λ i h l program g numbers f names serves room.
+        subst (λ n. IsAssigned i program g numbers f (here a.code) n name e) (sym next)
+        (stored i h program g numbers f names serves.laid);
+    flows = λ i s low high down up h l suits deep wide ends ways. flows_by i s low high down up h suits deep ends slot.region refl operation;
+  }

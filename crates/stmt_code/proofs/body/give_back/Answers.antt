@@ -1,0 +1,12 @@
+use Rattle.std.proofs.Common.{◌≡◌, arith}
+use Rattle.types.specs.Layouts.{words_of}
+use Rattle.stmt_code.proofs.FormalWords.{returns_one}
+use Rattle.stmt_code.proofs.body.give_back.Goals as goal
+
+pub returns-clause-adds : goal.returns-clause-adds
+returns-clause-adds c =
+    let many = c.words-many.ensures in
+    let few = c.in_ok-height.ensures.few in
+    let wide : words_of c.args.scope.now c.args.formal.now.subtype ≡ c.words-many.result = omega (arith, many, few) in
+    returns_one c.args.scope.now c.args.code.now c.emit.new.self c.load.new.code c.args.depth c.args.address c.words-many.result c.args.formal.now wide
+    c.in_ok-emit.ensures.adds c.in_ok-height.ensures.adds

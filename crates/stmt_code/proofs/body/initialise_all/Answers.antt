@@ -1,0 +1,8 @@
+use Rattle.std.proofs.Common.{refl}
+use Rattle.stmt_code.proofs.FormalWords.{initial_turn}
+use Rattle.stmt_code.proofs.body.initialise_all.Goals as goal
+
+pub loop-formal-preserved : goal.loop-formal-preserved
+loop-formal-preserved c =
+    initial_turn c.args.visible.now.scope c.args.code.now c.loop-formal.code c.initialise.new.code c.args.formals.now c.loop-formal.formal-index _ _
+    c.loop-formal-test.true refl c.loop-formal.invariant c.in_ok-initialise.ensures.out c.in_ok-initialise.ensures.past

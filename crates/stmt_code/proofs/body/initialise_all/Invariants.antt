@@ -1,0 +1,5 @@
+use Rattle.stmt_code.proofs.FormalWords.{InitialSoFar}
+use Rattle.stmt_code.proofs.body.initialise_all.Given as goal
+
+abbrev pub invariant-loop-formal : goal.invariant-loop-formal
+invariant-loop-formal l = InitialSoFar l.visible.scope l.fn.code l.formals l.formal-index l.code

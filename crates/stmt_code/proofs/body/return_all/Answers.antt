@@ -1,0 +1,28 @@
+use Rattle.std.proofs.Common.{◌≡◌, ◌+◌, ◌-◌, ◌∙◌, ap, arith, length, subst}
+use Rattle.std.specs.Prelude.{get_or}
+use Rattle.stmt_code.proofs.FormalWords.{ReturnedSoFar, returned_all, returned_turn}
+use Rattle.stmt_code.proofs.body.return_all.Goals as goal
+
+pub loop-given-preserved : goal.loop-given-preserved
+loop-given-preserved c =
+    let s = c.args.scope.now in
+    let old = c.args.code.now in
+    let xs = c.args.formals.now in
+    let less = c.loop-given-test.true in
+    let n = length xs - (c.loop-given.given + 1) in
+    let next : length xs - c.loop-given.given ≡ n + 1 = omega (arith, less) in
+    let x = c.in-Some.formal.now in
+    returned_turn s old c.loop-given.code c.give_back_if_any.new.code xs n c.loop-given.height _ x x (omega (arith, less))
+    (c.in-Some.ensures.lookup.1 ∙ ap (λ m. get_or xs m x) (omega (arith, less)))
+    (subst (λ m. ReturnedSoFar s old xs m c.loop-given.height c.loop-given.code) next c.loop-given.invariant) c.in_ok-height.ensures.gives
+
+pub returns : goal.returns
+returns c =
+    let s = c.args.scope.now in
+    let xs = c.args.formals.now in
+    let done = c.loop-given-test.false in
+    let none : length xs - c.loop-given.given ≡ 0 = omega (arith, done) in
+    record {
+      returns = returned_all s c.args.code.now c.loop-given.code c.emit.new.self xs c.loop-given.height
+          (subst (λ m. ReturnedSoFar s c.args.code.now xs m c.loop-given.height c.loop-given.code) none c.loop-given.invariant) c.in_ok-emit.ensures.adds;
+    }

@@ -1,0 +1,9 @@
+use Rattle.std.proofs.Common.{map, take}
+use Rattle.ada_tree.specs.ExpressionTree.{argument_tree}
+use Rattle.stmt_code.specs.Passing.{AddsActuals}
+use Rattle.stmt_code.proofs.call.add_actuals.Given as goal
+
+abbrev pub invariant-loop-index : goal.invariant-loop-index
+invariant-loop-index l =
+    AddsActuals l.visible l.fn.code 0 (take l.index l.formals) (map argument_tree (take l.index l.arguments)) l.fn.destinations.items l.destinations.items
+    l.height l.code

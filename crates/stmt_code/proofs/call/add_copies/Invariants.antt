@@ -1,0 +1,9 @@
+use Rattle.std.proofs.Common.{◌≡◌, ◌+◌, take}
+use Rattle.ada_tree.specs.Size.{total}
+use Rattle.stmt_code.specs.Passing.{EmitsCopies, copied_width}
+use Rattle.stmt_code.proofs.call.add_copies.Given as goal
+
+abbrev pub invariant-loop-destination : goal.invariant-loop-destination
+invariant-loop-destination l =
+    EmitsCopies l.visible l.fn.code (take l.destination-index l.destinations) l.height l.code
+    × (total (copied_width l.visible.scope) l.destinations ≡ l.height + total (copied_width l.visible.scope) (take l.destination-index l.destinations))

@@ -1,0 +1,76 @@
+use Rattle.std.proofs.Common.{Some, arith, pos, refl, rules, sym, ap, ◌∙◌, subst}
+use Rattle.std.proofs.lemmas.Result.{IfOk-weaker}
+use Rattle.types.specs.Entities.{Booleans, Integers, Records, form_value}
+use Rattle.types.specs.Shapes.{component_shapes, fields_words, initial, initial_fields, repeated, shapes, values_words}
+use Rattle.stmt_code.specs.Emitting.{HasPushed}
+use Rattle.stmt_code.proofs.Adding.{take_all}
+use Rattle.stmt_code.proofs.Initials.{array_pushed, earlier_component, earlier_element, elements_next, fields_next, record_pushed, word_pushed}
+use Rattle.stmt_code.proofs.declaration.+push_initial.Goals as goal
+
+pub push_initial-requires : goal.push_initial-requires
+push_initial-requires t c =
+    let form = sym c.in-Some-Array.ensures ∙ ap (λ f. Some (form_value f)) c.in-Some-Array.field-0-is in
+    let less = earlier_element c.args.visible.now.scope c.requires.sound c.args.subtype c.in-Some-Array.field-0-0 c.in-Some-Array.many
+    c.in-Some-Array.element form in
+    (omega (arith, less, c.decreases), c.requires.sound)
+
+pub loop-preserved : goal.loop-preserved
+loop-preserved t c =
+    elements_next c.args.code.now c.loop.code c.push_initial.new.code c.args.height c.loop.top c.in_ok-top-in-Some-Array.top c.loop.counter _ c.loop.invariant
+    c.in_ok-top-in-Some-Array.ensures.pushes
+
+pub push_initial-requires-in-loop-component : goal.push_initial-requires-in-loop-component
+push_initial-requires-in-loop-component t c =
+    let form = sym c.in-Some-Record.ensures ∙ ap (λ f. Some (form_value f)) c.in-Some-Record.field-0-is
+    ∙ ap (λ l. Some (Records l)) (sym c.as_slice-component-items.ensures) in
+    let less = earlier_component c.args.visible.now.scope c.requires.sound c.args.subtype c.as_slice-component-items.result.now c.loop-component.component-index
+    c.component-item.result form c.loop-component-test.true c.component-item.is in
+    (omega (arith, less, c.decreases), c.requires.sound)
+
+pub loop-component-preserved : goal.loop-component-preserved
+loop-component-preserved t c =
+    fields_next _ c.as_slice-component-items.result.now c.args.code.now c.loop-component.code c.push_initial-in-loop-component.new.code c.args.height
+    c.loop-component.top c.in_ok-top-in-Some-Record.top c.loop-component.component-index c.component-item.result c.loop-component-test.true c.component-item.is
+    c.loop-component.invariant c.in_ok-top-in-Some-Record.ensures.pushes
+
+pub returns-in-Some-Integer : goal.returns-in-Some-Integer
+returns-in-Some-Integer t c = record {
+  pushes = IfOk-weaker _ _ _
+      (λ top p.
+      word_pushed c.args.visible.now.scope c.args.subtype c.args.code.now c.push_word.new.code c.args.height top _ c.args.subtype.first (search rules)
+      (Some Integers) (sym c.in-Some-Integer.ensures ∙ ap (λ f. Some (form_value f)) c.in-Some-Integer.field-0-is) refl p) c.push_word.ensures.pushes;
+}
+
+pub returns-in-Some-Boolean : goal.returns-in-Some-Boolean
+returns-in-Some-Boolean t c = record {
+  pushes = IfOk-weaker _ _ _
+      (λ top p.
+      word_pushed c.args.visible.now.scope c.args.subtype c.args.code.now c.push_word-in-Some-Boolean.new.code c.args.height top _ (pos 0) (search rules)
+      (Some Booleans) (sym c.in-Some-Boolean.ensures ∙ ap (λ f. Some (form_value f)) c.in-Some-Boolean.field-0-is) refl p)
+      c.push_word-in-Some-Boolean.ensures.pushes;
+}
+
+pub returns-after-loop : goal.returns-after-loop
+returns-after-loop t c =
+    let form = sym c.in-Some-Array.ensures ∙ ap (λ f. Some (form_value f)) c.in-Some-Array.field-0-is in
+    let s = c.args.visible.now.scope in
+    record {
+      pushes = array_pushed s c.args.subtype c.args.code.now c.loop.code c.args.height c.loop.top c.requires.sound c.in-Some-Array.field-0-0
+          c.in-Some-Array.many c.in-Some-Array.element form
+          (subst (λ n. HasPushed c.args.code.now c.args.height (values_words (repeated n (initial s c.in-Some-Array.element))) c.loop.code c.loop.top)
+          (omega (arith, c.loop-test.false, c.loop.auto.counter-end)) c.loop.invariant);
+    }
+
+pub returns-after-loop-component : goal.returns-after-loop-component
+returns-after-loop-component t c =
+    let form = sym c.in-Some-Record.ensures ∙ ap (λ f. Some (form_value f)) c.in-Some-Record.field-0-is
+    ∙ ap (λ l. Some (Records l)) (sym c.as_slice-component-items.ensures) in
+    let s = c.args.visible.now.scope in
+    let items = c.as_slice-component-items.result.now in
+    record {
+      pushes = record_pushed s c.args.subtype c.args.code.now c.loop-component.code c.args.height c.loop-component.top c.requires.sound items form
+          (subst
+          (λ l. HasPushed c.args.code.now c.args.height (fields_words (initial_fields (component_shapes (shapes s) l))) c.loop-component.code
+          c.loop-component.top)
+          (take_all items c.loop-component.component-index c.loop-component-test.false) c.loop-component.invariant);
+    }

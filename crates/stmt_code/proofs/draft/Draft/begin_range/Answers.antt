@@ -1,0 +1,47 @@
+use Rattle.std.proofs.Common.{refl, arith}
+use Rattle.ada_tree.specs.StatementTree.{range_tree}
+use Rattle.stmt_code.proofs.Bounded.{first_legal, integer_legal, integer_width, last_legal}
+use Rattle.stmt_code.proofs.draft.Draft.begin_range.Goals as goal
+
+pub of_width-requires-clause-legal : goal.of_width-requires-clause-legal
+of_width-requires-clause-legal c =
+    let s = c.args.visible.now.scope in
+    let range = range_tree c.args.range.now in
+    integer_legal s c.requires.sound range.first (first_legal s c.args.parameter.now range c.requires.legal)
+
+pub of_width-requires-clause-wide : goal.of_width-requires-clause-wide
+of_width-requires-clause-wide c =
+    let s = c.args.visible.now.scope in
+    let range = range_tree c.args.range.now in
+    integer_width s c.requires.sound range.first (first_legal s c.args.parameter.now range c.requires.legal)
+
+pub of_width-requires-2-clause-legal : goal.of_width-requires-2-clause-legal
+of_width-requires-2-clause-legal c =
+    let s = c.args.visible.now.scope in
+    let range = range_tree c.args.range.now in
+    integer_legal s c.requires.sound range.last (last_legal s c.args.parameter.now range c.requires.legal)
+
+pub of_width-requires-2-clause-wide : goal.of_width-requires-2-clause-wide
+of_width-requires-2-clause-wide c =
+    let s = c.args.visible.now.scope in
+    let range = range_tree c.args.range.now in
+    integer_width s c.requires.sound range.last (last_legal s c.args.parameter.now range c.requires.legal)
+
+pub returns : goal.returns
+returns c = record {
+  begins = record {
+    middle = c.of_width.new.self;
+    first = c.in_ok-of_width.ensures.emits;
+    bounded = c.of_width-2.new.self;
+    last = c.in_ok-of_width-2.ensures.emits;
+    begins = c.in_ok-null.ensures.begins;
+    takes = c.in_ok-counter.ensures.takes;
+    counter = c.in_ok-counter.ensures.first;
+    limit = omega arith;
+    goes = refl;
+    labels = refl;
+    scope = c.in_ok-declare_loop_parameter.ensures.ok;
+    slots = c.in_ok-push.ensures;
+    subprograms = c.in_ok-push-2.ensures;
+  };
+}

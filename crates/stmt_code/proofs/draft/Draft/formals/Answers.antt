@@ -1,0 +1,24 @@
+use Rattle.std.proofs.Common.{◌≡◌, ◌++◌, ap, arith, map, subst, ◌∙◌}
+use Rattle.stmt_code.specs.Formals.{StandInTurn, no_subprogram, slot_for}
+use Rattle.stmt_code.proofs.FormalWords.{passed_placed}
+use Rattle.stmt_code.proofs.draft.Draft.formals.Goals as goal
+
+pub returns-clause-places : goal.returns-clause-places
+returns-clause-places c =
+    let v = c.args.visible.now in
+    let fs = c.args.formals.now in
+    let placed = c.in_ok-placed.placed in
+    let start = c.take_passed.new.words.taken in
+    let top = c.place_all.new.words.taken in
+    let stand = c.in_ok-placed.ensures.stand in
+    let last = passed_placed v.scope fs placed.formals.items 0 start placed.passed top stand in
+    let began = c.in_ok-take_passed.ensures.taken in
+    let none = c.new-words.ensures.taken in
+    let same : start ≡ placed.passed = omega (arith, last, began, none) in
+    record {
+      stand = subst (λ n. StandInTurn v.scope 0 n fs placed.formals.items placed.passed top) same stand;
+      most = c.in_ok-placed.ensures.most;
+      scope = c.in_ok-show.ensures.scope ∙ c.in_ok-declare_formals.ensures;
+      slots = c.in_ok-show.ensures.slots ∙ ap (λ l. v.slots ++ map slot_for l) c.deref.ensures.value;
+      subprograms = c.in_ok-show.ensures.subprograms ∙ ap (λ l. v.subprograms ++ map no_subprogram l) c.deref.ensures.value;
+    }

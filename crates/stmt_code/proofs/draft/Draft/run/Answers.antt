@@ -1,0 +1,28 @@
+use Rattle.std.proofs.Common.{◌∙◌, ap, length, map, refl, subst, take}
+use Rattle.ada_tree.specs.StatementTree.{declaration_tree, stmt_trees}
+use Rattle.image.specs.declared.instruction.Operation.TheVariants as op
+use Rattle.expr_code.specs.Code.{Patches}
+use Rattle.stmt_code.specs.declared.draft.Draft.{Draft}
+use Rattle.stmt_code.proofs.Running.{run_emits}
+use Rattle.stmt_code.proofs.draft.Draft.run.Goals as goal
+
+pub returns-clause-emits : goal.returns-clause-emits
+returns-clause-emits c =
+    let begun : Draft = record { code = c.begin_loop.new.code; labels = c.declarations.new.self.labels; words = c.declarations.new.self.words } in
+    run_emits c.args.visible.now c.declarations.new.visible c.args.self.now c.declarations.new.self begun c.statements.new.self _
+    (map declaration_tree c.args.declarations.now) (stmt_trees c.args.statements.now) c.in_ok-head.head.exit c.in_ok-end.end
+    c.in_ok-declarations.ensures.emits c.in_ok-head.ensures.begins (refl, refl) c.in_ok-head.ensures.exit c.in_ok-statements.ensures.emits
+    c.in_ok-end.ensures.end
+    (subst (λ n. Patches c.statements.new.self.code n (op.Jump c.in_ok-end.end) c.patch.new.self) c.from.ensures c.patch.ensures.patches)
+    refl (c.restore.ensures.words ∙ ap (λ n. record c.statements.new.self.words { taken = n }) c.of-extent.ensures.taken)
+
+pub returns-clause-same : goal.returns-clause-same
+returns-clause-same c =
+    let declared = c.in_ok-declarations.ensures.emits in
+    let there = c.in_ok-statements.ensures.same in
+    let ds = map declaration_tree c.args.declarations.now in
+    let scope = (λ j. take (c.of-extent.ensures.names j) (there j).scope) ∙ ap (take (length c.args.visible.now.scope)) declared.scope
+    ∙ c.names_are_added.ensures.locals c.args.visible.now.scope ds in
+    let slots = (λ j. take (c.of-extent.ensures.slots j) (there j).slots) ∙ declared.slots in
+    let subprograms = (λ j. take (c.of-extent.ensures.subprograms j) (there j).subprograms) ∙ declared.subprograms in
+    c.restore.ensures.visible ∙ (λ j. record { scope = scope j; slots = slots j; subprograms = subprograms j })

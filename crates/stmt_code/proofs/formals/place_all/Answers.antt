@@ -1,0 +1,32 @@
+use Rattle.std.proofs.Common.{◌≡◌, ◌+◌, Some, ap, arith, subst, sym, ◌∙◌}
+use Rattle.stmt_code.specs.Formals.{StandsAt}
+use Rattle.types.specs.Layouts.{words_of}
+use Rattle.stmt_code.proofs.FormalWords.{PlacedSoFar, placed_all, placed_next}
+use Rattle.stmt_code.proofs.formals.place_all.Goals as goal
+
+pub loop-formal-preserved : goal.loop-formal-preserved
+loop-formal-preserved c =
+    let s = c.args.scope.now in
+    let start = c.args.words.now.taken in
+    let fs = c.args.formals.now in
+    let n = c.loop-formal.formal-index in
+    let f = c.formal-item.result in
+    let x = c.in_ok-one.one in
+    let many = c.words-many.ensures in
+    let few = c.in_ok-one.ensures.few in
+    let wide : c.words-many.result ≡ words_of s c.in-Some.subtype = omega (arith, many, few) in (
+      subst (PlacedSoFar s start fs (n + 1) c.in_ok-one.next c.place.new.words.taken) (sym c.in_ok-push.ensures.items)
+          (placed_next s start fs n c.loop-formal.from c.loop-formal.words.taken c.in_ok-one.next c.place.new.words.taken c.loop-formal.placed.items f x
+          c.loop-formal-test.true c.formal-item.is c.loop-formal.invariant.0
+          (sym c.in-Some.ensures ∙ ap Some (sym c.in_ok-one.ensures.subtype)) c.in_ok-one.ensures.mode
+          (subst (λ t. StandsAt f.mode (words_of s t) c.loop-formal.from c.loop-formal.words.taken x c.in_ok-one.next c.place.new.words.taken)
+          (sym c.in_ok-one.ensures.subtype)
+          (subst (λ m. StandsAt f.mode m c.loop-formal.from c.loop-formal.words.taken x c.in_ok-one.next c.place.new.words.taken) wide
+          c.in_ok-one.ensures.stands))),
+      c.in_ok-one.ensures.most,
+    )
+
+pub returns-clause-stand : goal.returns-clause-stand
+returns-clause-stand c =
+    placed_all c.args.scope.now c.args.words.now.taken c.args.formals.now c.loop-formal.formal-index c.loop-formal.from c.loop-formal.words.taken
+    c.loop-formal.placed.items c.loop-formal-test.false c.loop-formal.invariant.0

@@ -1,0 +1,8 @@
+use Rattle.std.proofs.Common.{◌≤◌}
+use Rattle.stmt_code.proofs.FormalWords.{PlacedSoFar}
+use Rattle.stmt_code.proofs.formals.place_all.Given as goal
+
+abbrev pub invariant-loop-formal : goal.invariant-loop-formal
+invariant-loop-formal l =
+    PlacedSoFar l.scope l.fn.words.taken l.formals l.formal-index l.from l.words.taken l.placed.items
+    × (l.words.taken ≤ l.words.most)

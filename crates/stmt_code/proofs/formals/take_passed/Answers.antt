@@ -1,0 +1,18 @@
+use Rattle.std.proofs.Common.{arith}
+use Rattle.stmt_code.proofs.FormalWords.{passed_done, passed_next}
+use Rattle.stmt_code.proofs.formals.take_passed.Goals as goal
+
+pub loop-formal-preserved : goal.loop-formal-preserved
+loop-formal-preserved c =
+    let before = c.loop-formal.invariant.0 in
+    let next = passed_next c.args.scope.now c.args.formals.now _ c.formal-item.result c.loop-formal-test.true c.formal-item.is in
+    let many = c.in_ok-passed_words.ensures in
+    let takes = c.in_ok-take.ensures.takes in
+    let more = takes.taken in
+    (omega (arith, before, next, many, more), takes.most)
+
+pub returns-clause-taken : goal.returns-clause-taken
+returns-clause-taken c =
+    let before = c.loop-formal.invariant.0 in
+    let none = passed_done c.args.scope.now c.args.formals.now _ c.loop-formal-test.false in
+    omega (arith, before, none)

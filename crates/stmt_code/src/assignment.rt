@@ -1,0 +1,134 @@
+//! The code of assignments (RM 5.2).
+ghost use Rattle.std.specs.Prelude.{◌≡◌, OnOk, Some};
+ghost use Rattle.ada_tree.specs.ExpressionTree.{expr_tree, name_tree, NoSelectors};
+ghost use Rattle.ada_tree.specs.StatementTree.{Assignment};
+ghost use Rattle.types.specs.declared.entity.Role.{Role};
+ghost use Rattle.types.specs.declared.standing.Standing.TheVariants as standing;
+ghost use Rattle.types.specs.Layouts.{words_of};
+ghost use Rattle.types.specs.Scopes.{number_of};
+ghost use Rattle.types.specs.Standings.{stands_first};
+ghost use Rattle.expr_code.specs.Seeing.{slot_of};
+ghost use Rattle.stmt_code.specs.Emitting.{EmitsStatement, IsLegal, store_operation, stored_at};
+ghost use Rattle.stmt_code.specs.Statements.{Ways};
+ghost use Rattle.well_typed.specs.SoundScopes.{SoundScope};
+
+use crate::draft::Draft;
+use ada_tree::{Expr, NameExpr};
+use expr_code::{Refusal, Slot, Visible, raised};
+use image::{Operation, Region};
+use kernel::laws::quiet_stays;
+use types::laws::values_have_words;
+use types::{Standing, Subtype};
+use well_typed::laws::{agreement_is_kept, calls_are_typed};
+
+/// What stores a word there, outside of protected objects.
+pub(crate) fn store_operation(slot: Slot) -> Option<Operation>
+    ensures { result ≡ store_operation slot }
+{
+    match slot.region {
+        Region::Locals => Some(Operation::StoreLocal(slot.offset)),
+        Region::Plain => Some(Operation::StorePlain(slot.offset)),
+        Region::Object => None,
+    }
+}
+
+/// What stores so many words of a value in a region, at the address below them on the operand stack, outside of protected objects.
+pub(crate) fn stored_at(region: Region, words: u16) -> Option<Operation>
+    ensures { result ≡ stored_at region words }
+{
+    let store = if words == 1 {
+        Operation::StoreIndexed(region)
+    } else {
+        Operation::StoreBlock { region, words }
+    };
+    match region {
+        Region::Locals => Some(store),
+        Region::Plain => Some(store),
+        Region::Object => None,
+    }
+}
+
+impl Draft {
+    /// Adds the code of an assignment.
+    pub(crate) fn assign(
+        &mut self,
+        visible: &Visible,
+        name: &NameExpr,
+        value: &Expr,
+    ) -> Result<(), Refusal>
+        requires sound { SoundScope visible.now.scope }
+        requires legal { IsLegal visible.now.scope (Assignment (name_tree name.now) (expr_tree value.now)) }
+        ensures emits { (w : Ways) → OnOk result (EmitsStatement visible.now w self.old (Assignment (name_tree name.now) (expr_tree value.now)) self.new) }
+    {
+        let Standing::Part(_, subtype) = visible.scope.stands_first(&name.first) else {
+            return Err(Refusal::Outside);
+        };
+        let Some(slot) = visible.slot(&name.first.name) else {
+            return Err(Refusal::Outside);
+        };
+        if visible.scope.words(subtype) != 1 {
+            return self.assign_part(visible, slot, subtype, name, value);
+        }
+        match name.bare() {
+            Some(_) => self.assign_word(visible, slot, subtype, name, value),
+            None => self.assign_part(visible, slot, subtype, name, value),
+        }
+    }
+
+    // To a whole object of one word: the value, which is checked, and what stores it.
+    fn assign_word(
+        &mut self,
+        visible: &Visible,
+        slot: Slot,
+        subtype: Subtype,
+        name: &NameExpr,
+        value: &Expr,
+    ) -> Result<(), Refusal>
+        requires sound { SoundScope visible.now.scope }
+        requires legal { IsLegal visible.now.scope (Assignment (name_tree name.now) (expr_tree value.now)) }
+        requires stands { (r : Role) × (stands_first visible.now.scope (number_of visible.now.scope (name_tree name.now).first.name) ≡ standing.Part r subtype) }
+        requires there { slot_of visible.now (name_tree name.now).first.name ≡ Some slot }
+        requires whole { (name_tree name.now).selectors ≡ NoSelectors }
+        requires single { words_of visible.now.scope subtype ≡ 1 }
+        ensures emits { (w : Ways) → OnOk result (EmitsStatement visible.now w self.old (Assignment (name_tree name.now) (expr_tree value.now)) self.new) }
+    {
+        agreement_is_kept();
+        calls_are_typed();
+        quiet_stays();
+        values_have_words();
+        let Some(store) = store_operation(slot) else {
+            return Err(Refusal::Outside);
+        };
+        self.code.of_subtype(visible, 0, subtype, value)?;
+        self.code.emit(1, store)
+    }
+
+    // To an object or a part of one: its address, the value, which is checked, and what stores its words there.
+    fn assign_part(
+        &mut self,
+        visible: &Visible,
+        slot: Slot,
+        subtype: Subtype,
+        name: &NameExpr,
+        value: &Expr,
+    ) -> Result<(), Refusal>
+        requires sound { SoundScope visible.now.scope }
+        requires legal { IsLegal visible.now.scope (Assignment (name_tree name.now) (expr_tree value.now)) }
+        requires stands { (r : Role) × (stands_first visible.now.scope (number_of visible.now.scope (name_tree name.now).first.name) ≡ standing.Part r subtype) }
+        requires there { slot_of visible.now (name_tree name.now).first.name ≡ Some slot }
+        ensures emits { (w : Ways) → OnOk result (EmitsStatement visible.now w self.old (Assignment (name_tree name.now) (expr_tree value.now)) self.new) }
+    {
+        agreement_is_kept();
+        calls_are_typed();
+        quiet_stays();
+        values_have_words();
+        let last = self
+            .code
+            .address(visible, 0, slot, subtype, &name.selectors)?;
+        let words = self.code.of_subtype(visible, 1, last, value)?;
+        let Some(store) = stored_at(slot.region, words) else {
+            return Err(Refusal::Outside);
+        };
+        self.code.emit(raised(1, words)?, store)
+    }
+}

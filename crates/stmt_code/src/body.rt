@@ -1,0 +1,165 @@
+//! The code of bodies of procedures (RM 6.3).
+ghost use Rattle.std.specs.Prelude.{◌≡◌, ◌≤◌, ◌+◌, false, map, suc, true, IfOk, OnOk};
+ghost use Rattle.base.specs.declared.limits.TheConstants.{FRAME_WORDS};
+ghost use Rattle.ada_tree.specs.StatementTree.{declaration_tree, stmt_trees};
+ghost use Rattle.meaning.specs.Calls.{is_out};
+ghost use Rattle.stmt_code.specs.Emitting.{EmitsRun, HasEntries, IsLegalRun};
+ghost use Rattle.stmt_code.specs.Formals.{AddsInitialised, AddsLoaded, AddsReturned, Initialises, Returns, ReturnsOne};
+ghost use Rattle.types.specs.Layouts.{words_of};
+ghost use Rattle.well_typed.specs.SoundScopes.{SoundScope};
+
+use crate::declaration::add_initial;
+use crate::draft::{Draft, behind};
+use crate::extent::Extent;
+use crate::formals::PlacedFormal;
+use crate::leaving::Leaving;
+use crate::looping::begin_loop;
+use ada_tree::{Declaration, Mode, Stmt};
+use declaring::laws::names_are_added;
+use expr_code::{Code, Refusal, Visible};
+use image::{Operation, Region};
+use types::Scope;
+
+// Adds what gives a parameter of one word that is not copied in the value of an object without initial value, and nothing for another.
+fn initialise(code: &mut Code, visible: &Visible, formal: &PlacedFormal) -> Result<(), Refusal>
+    requires sound { SoundScope visible.now.scope }
+    ensures out { OnOk result (is_out formal.now.mode ≡ true → AddsInitialised visible.now.scope code.old formal.now code.new) }
+    ensures past { OnOk result (is_out formal.now.mode ≡ false → code.new ≡ code.old) }
+{
+    if formal.mode == Mode::Out {
+        add_initial(code, visible, formal.subtype, &None)?;
+        code.emit(1, Operation::StoreLocal(formal.offset))?;
+        return Ok(());
+    }
+    Ok(())
+}
+
+/// Adds what gives `out` parameters the value of an object without initial value (RM 6.4.1).
+pub(crate) fn initialise_all(
+    code: &mut Code,
+    visible: &Visible,
+    formals: &[PlacedFormal],
+) -> Result<(), Refusal>
+    requires sound { SoundScope visible.now.scope }
+    ensures adds { OnOk result (Initialises visible.now.scope code.old formals.now code.new) }
+{
+    for formal in formals {
+        initialise(code, visible, formal)?;
+    }
+    Ok(())
+}
+
+// Puts several words of the frame on the operand stack.
+fn load_block(code: &mut Code, depth: u16, offset: u16, many: u16) -> Result<(), Refusal>
+    ensures adds { OnOk result (AddsLoaded code.old offset many code.new) }
+{
+    let load = Operation::LoadBlock {
+        region: Region::Locals,
+        words: many,
+    };
+    code.emit(depth, Operation::Push(i64::from(offset)))?;
+    code.emit(behind(depth, 1)?, load)?;
+    Ok(())
+}
+
+// Puts the words of a value in the frame on the operand stack, and tells the depth behind them.
+fn load(code: &mut Code, depth: u16, offset: u16, many: u16) -> Result<u16, Refusal>
+    ensures high { IfOk result (λ height. height ≡ depth + many) }
+    ensures few { OnOk result (many ≤ FRAME_WORDS) }
+    ensures adds { OnOk result (AddsLoaded code.old offset many code.new) }
+{
+    let height = behind(depth, many)?;
+    if many == 1 {
+        code.emit(depth, Operation::LoadLocal(offset))?;
+        return Ok(height);
+    }
+    load_block(code, depth, offset, many)?;
+    Ok(height)
+}
+
+// Puts the address to which a parameter is copied back, and its value, on the operand stack.
+fn give_back(
+    code: &mut Code,
+    scope: &Scope,
+    depth: u16,
+    address: u16,
+    formal: &PlacedFormal,
+) -> Result<u16, Refusal>
+    ensures high { IfOk result (λ height. height ≡ suc (depth + words_of scope.now formal.now.subtype)) }
+    ensures adds { OnOk result (AddsReturned scope.now code.old address formal.now code.new) }
+{
+    code.emit(depth, Operation::LoadLocal(address))?;
+    let many = scope.words(formal.subtype);
+    let height = load(code, behind(depth, 1)?, formal.offset, many)?;
+    Ok(height)
+}
+
+// The same where it is copied back, and nothing for another. Tells the depth behind them.
+fn give_back_if_any(
+    code: &mut Code,
+    scope: &Scope,
+    depth: u16,
+    formal: &PlacedFormal,
+) -> Result<u16, Refusal>
+    ensures gives { IfOk result (λ height. ReturnsOne scope.now code.old depth formal.now height code.new) }
+{
+    match formal.address {
+        Some(address) => {
+            let height = give_back(code, scope, depth, address, formal)?;
+            Ok(height)
+        }
+        None => Ok(depth),
+    }
+}
+
+/// Adds the end of a body: what is copied back, from the last parameter to the first, each an address and a value, and the return. Tells how many words it gives
+/// back.
+pub(crate) fn return_all(
+    code: &mut Code,
+    scope: &Scope,
+    formals: &[PlacedFormal],
+) -> Result<u16, Refusal>
+    ensures returns { IfOk result (λ height. Returns scope.now code.old formals.now height code.new) }
+{
+    let mut height = 0;
+    for given in 0..formals.len() {
+        let Some(formal) = formals.get(formals.len() - 1 - given) else {
+            return Err(Refusal::Outside);
+        };
+        height = give_back_if_any(code, scope, height, formal)?;
+    }
+    code.emit(height, Operation::Return)?;
+    Ok(height)
+}
+
+impl Draft {
+    /// Adds the code of a body without handlers up to its end: its declarations, a jump over the way out, the way out, and its statements. A return leads to the
+    /// way out, and so to the end.
+    pub fn run(
+        &mut self,
+        visible: &mut Visible,
+        declarations: &[Declaration],
+        statements: &[Stmt],
+    ) -> Result<(), Refusal>
+        requires sound { SoundScope visible.old.scope }
+        requires entries { HasEntries visible.old }
+        requires legal { IsLegalRun visible.old.scope (map declaration_tree declarations.now) (stmt_trees statements.now) }
+        ensures emits { OnOk result (EmitsRun visible.old self.old (map declaration_tree declarations.now) (stmt_trees statements.now) self.new) }
+        ensures same { OnOk result (visible.new ≡ visible.old) }
+    {
+        names_are_added();
+        let extent = Extent::of(visible, self.words);
+        self.declarations(visible, declarations)?;
+        let head = begin_loop(&mut self.code)?;
+        let leaving = Leaving {
+            exit: None,
+            return_: Some(head.exit),
+        };
+        self.statements(visible, leaving, statements)?;
+        let end = self.code.end()?;
+        self.code
+            .patch(usize::from(head.exit), Operation::Jump(end));
+        extent.restore(visible, &mut self.words);
+        Ok(())
+    }
+}

@@ -1,0 +1,318 @@
+//! The code of calls of procedures (RM 6.4): the actual parameters in order, each checked against the subtype of its formal, the call, and what is copied back.
+ghost use Rattle.std.specs.Prelude.{◌≡◌, ◌∷◌, ◌++◌, [], length, map, option_map, take, true, IfOk, OnOk};
+ghost use Rattle.ada_tree.specs.ExpressionTree.{argument_tree, argument_trees, expr_tree, name_tree};
+ghost use Rattle.ada_tree.specs.Size.{total};
+ghost use Rattle.ada_tree.specs.StatementTree.{Call};
+ghost use Rattle.expr_code.specs.Actuals.{ArePassedLegally, IsPassedLegally};
+ghost use Rattle.expr_code.specs.Emitting as expressions;
+ghost use Rattle.expr_code.specs.Seeing.{NamesProfile};
+ghost use Rattle.image.specs.Rules.{is_block};
+ghost use Rattle.stmt_code.specs.Emitting.{EmitsStatement, IsLegal};
+ghost use Rattle.stmt_code.specs.Passing.{actuals_behind, AddsActuals, AddsCheck, AddsCopy, AddsRange, AddsValue, copied_width, EmitsCopies, EmitsTarget, holds_variables, loaded_at};
+ghost use Rattle.stmt_code.specs.Statements.{Ways};
+ghost use Rattle.types.specs.Entities.{profile_value};
+ghost use Rattle.types.specs.Layouts.{words_of};
+ghost use Rattle.types.specs.Scopes.{form_at};
+ghost use Rattle.well_typed.specs.SoundScopes.{AreKnown, IsKnown, SoundScope};
+
+use crate::assignment::stored_at;
+use crate::draft::Draft;
+use ada_tree::laws::{arguments_by_parts, names_by_parts};
+use ada_tree::{Argument, Expr, Mode, NameExpr, Selector};
+use base::limits::WORDS;
+use expr_code::{Code, Refusal, Visible, raised};
+use image::{Operation, Region};
+use kernel::laws::quiet_stays;
+use types::laws::values_have_words;
+use types::{FormalParameter, Profile, Standing, Subtype, TypeForm};
+use well_typed::laws::agreement_is_kept;
+
+/// Where a parameter is copied back to at the end of a call (RM 6.4.1): the region of the variable, and the subtype of the target.
+#[derive(Clone, Copy, PartialEq, Eq, Debug)]
+pub struct Destination {
+    pub region: Region,
+    pub subtype: Subtype,
+}
+
+// The actual parameters behind the name of what is called.
+fn actuals_of(name: &NameExpr) -> Option<&[Argument]>
+    ensures { option_map (λ all. argument_trees all.now) result ≡ actuals_behind (name_tree name.now).selectors }
+{
+    arguments_by_parts();
+    match name.selectors.as_slice() {
+        [] => Some(&[]),
+        [Selector::Arguments(arguments, ..)] => Some(arguments),
+        [Selector::Component(..)] => None,
+        [Selector::Attribute(..)] => None,
+        [_, _, ..] => None,
+    }
+}
+
+// Whether variables have their words in the region.
+fn holds_variables(region: Region) -> bool
+    ensures { result ≡ holds_variables region }
+{
+    match region {
+        Region::Locals => true,
+        Region::Plain => true,
+        Region::Object => false,
+    }
+}
+
+// What loads so many words from the address on top of the operand stack.
+fn loaded_at(region: Region, words: u16) -> Operation
+    ensures { result ≡ loaded_at region words }
+{
+    if words == 1 {
+        Operation::LoadIndexed(region)
+    } else {
+        Operation::LoadBlock { region, words }
+    }
+}
+
+// How many words values of a subtype take, if they are as many as one instruction moves (docs/FORMATS.md).
+fn words_of(visible: &Visible, subtype: Subtype) -> Result<u16, Refusal>
+    ensures words { IfOk result (λ words. words ≡ words_of visible.now.scope subtype) }
+    ensures block { IfOk result (λ words. is_block words ≡ true) }
+{
+    let words = visible.scope.words(subtype);
+    if words == 0 || WORDS < usize::from(words) {
+        return Err(Refusal::Limit);
+    }
+    Ok(words)
+}
+
+// Adds the check of the number on top of the operand stack, `depth` words high, against a subtype.
+fn add_range(code: &mut Code, depth: u16, subtype: Subtype) -> Result<(), Refusal>
+    ensures adds { OnOk result (AddsRange code.old depth subtype code.new) }
+{
+    let one = raised(depth, 1)?;
+    code.emit(depth, Operation::Push(subtype.first))?;
+    code.emit(one, Operation::Push(subtype.last))?;
+    code.emit(raised(depth, 2)?, Operation::CheckRange)
+}
+
+// Adds the check of a value on top of it, where that is one of integers.
+fn add_check(
+    code: &mut Code,
+    visible: &Visible,
+    depth: u16,
+    subtype: Subtype,
+) -> Result<(), Refusal>
+    ensures adds { OnOk result (AddsCheck (form_at visible.now.scope subtype.type_number) code.old depth subtype code.new) }
+{
+    match visible.scope.form(subtype.type_number) {
+        Some(TypeForm::Integer) => add_range(code, depth, subtype),
+        Some(TypeForm::Boolean) => Ok(()),
+        Some(TypeForm::Array(..)) => Ok(()),
+        Some(TypeForm::Record(_)) => Ok(()),
+        _ => Err(Refusal::Outside),
+    }
+}
+
+// Adds the address of the variable, or of the part of one, that an actual parameter names, and tells where it is copied back to.
+fn add_target(
+    code: &mut Code,
+    visible: &Visible,
+    depth: u16,
+    e: &Expr,
+    destinations: &mut Vec<Destination>,
+) -> Result<Destination, Refusal>
+    requires sound { SoundScope visible.now.scope }
+    requires legal { expressions.IsLegal visible.now.scope (expr_tree e.now) }
+    ensures emits { IfOk result (λ destination. EmitsTarget visible.now code.old depth (expr_tree e.now) destination code.new) }
+    ensures told { IfOk result (λ destination. destinations.new.items ≡ destinations.old.items ++ destination ∷ []) }
+{
+    names_by_parts();
+    let Expr::Name(name) = e else {
+        return Err(Refusal::Outside);
+    };
+    let Standing::Part(_, whole) = visible.scope.stands_first(&name.first) else {
+        return Err(Refusal::Outside);
+    };
+    let Some(slot) = visible.slot(&name.first.name) else {
+        return Err(Refusal::Outside);
+    };
+    if !holds_variables(slot.region) {
+        return Err(Refusal::Outside);
+    }
+    let subtype = code.address(visible, depth, slot, whole, &name.selectors)?;
+    let destination = Destination {
+        region: slot.region,
+        subtype,
+    };
+    destinations.push(destination)?;
+    Ok(destination)
+}
+
+// Adds the value of a target above its address, checked against the subtype of a parameter, and tells how many words stand on the operand stack with it.
+fn add_value(
+    code: &mut Code,
+    visible: &Visible,
+    depth: u16,
+    destination: Destination,
+    subtype: Subtype,
+) -> Result<u16, Refusal>
+    ensures adds { IfOk result (λ height. AddsValue visible.now code.old depth destination subtype height code.new) }
+{
+    let words = words_of(visible, destination.subtype)?;
+    let one = raised(depth, 1)?;
+    code.emit(one, Operation::Duplicate)?;
+    code.emit(raised(depth, 2)?, loaded_at(destination.region, words))?;
+    let height = raised(one, words)?;
+    add_check(code, visible, height, subtype)?;
+    Ok(height)
+}
+
+// Adds the code of the actual parameter for a formal, and tells how many words stand on the operand stack with its own.
+fn add_actual(
+    code: &mut Code,
+    visible: &Visible,
+    depth: u16,
+    formal: &FormalParameter,
+    argument: &Argument,
+    destinations: &mut Vec<Destination>,
+) -> Result<u16, Refusal>
+    requires sound { SoundScope visible.now.scope }
+    requires known { IsKnown visible.now.scope formal.now.subtype }
+    requires legal { IsPassedLegally visible.now.scope formal.now (argument_tree argument.now) }
+    ensures emits { IfOk result (λ height. AddsActuals visible.now code.old depth (formal.now ∷ []) (argument_tree argument.now ∷ []) destinations.old.items destinations.new.items height code.new) }
+{
+    arguments_by_parts();
+    quiet_stays();
+    values_have_words();
+    match (formal.mode, argument) {
+        (Mode::In, Argument::Expr(e)) => {
+            let words = code.of_subtype(visible, depth, formal.subtype, e)?;
+            raised(depth, words)
+        }
+        (Mode::Out, Argument::Expr(e)) => {
+            add_target(code, visible, depth, e, destinations)?;
+            raised(depth, 1)
+        }
+        (Mode::InOut, Argument::Expr(e)) => {
+            let destination = add_target(code, visible, depth, e, destinations)?;
+            add_value(code, visible, depth, destination, formal.subtype)
+        }
+        (_, Argument::Label(..)) => Err(Refusal::Outside),
+    }
+}
+
+// Adds that of the actual parameters from left to right, and tells how many words stand on the operand stack with theirs.
+fn add_actuals(
+    code: &mut Code,
+    visible: &Visible,
+    formals: &[FormalParameter],
+    arguments: &[Argument],
+    destinations: &mut Vec<Destination>,
+) -> Result<u16, Refusal>
+    requires sound { SoundScope visible.now.scope }
+    requires known { AreKnown visible.now.scope formals.now }
+    requires legal { ArePassedLegally visible.now.scope formals.now (map argument_tree arguments.now) }
+    ensures emits { IfOk result (λ height. AddsActuals visible.now code.old 0 (take (length arguments.now) formals.now) (map argument_tree arguments.now) destinations.old.items destinations.new.items height code.new) }
+{
+    let mut height = 0;
+    for (index, argument) in arguments.iter().enumerate() {
+        let Some(formal) = formals.get(index) else {
+            return Err(Refusal::Outside);
+        };
+        height = add_actual(code, visible, height, formal, argument, destinations)?;
+    }
+    Ok(height)
+}
+
+// How many words come back with what is copied back.
+fn copied_words(visible: &Visible, destinations: &[Destination]) -> Result<u16, Refusal>
+    ensures { IfOk result (λ words. words ≡ total (copied_width visible.now.scope) destinations.now) }
+{
+    let mut words = 0;
+    for destination in destinations {
+        let own = words_of(visible, destination.subtype)?;
+        words = raised(raised(words, own)?, 1)?;
+    }
+    Ok(words)
+}
+
+// Adds what checks a value and stores it at the address below it, and tells how many words are left on the operand stack.
+fn add_copy(
+    code: &mut Code,
+    visible: &Visible,
+    depth: u16,
+    destination: Destination,
+) -> Result<u16, Refusal>
+    ensures adds { IfOk result (λ rest. AddsCopy visible.now code.old depth destination rest code.new) }
+{
+    let words = words_of(visible, destination.subtype)?;
+    let Some(store) = stored_at(destination.region, words) else {
+        return Err(Refusal::Outside);
+    };
+    let Some(rest) = depth.checked_sub(raised(words, 1)?) else {
+        return Err(Refusal::Outside);
+    };
+    add_check(code, visible, depth, destination.subtype)?;
+    code.emit(depth, store)?;
+    Ok(rest)
+}
+
+// Adds that of all that is copied back, from the first parameter on (RM 6.4.1).
+fn add_copies(
+    code: &mut Code,
+    visible: &Visible,
+    destinations: &[Destination],
+) -> Result<(), Refusal>
+    ensures emits { OnOk result (EmitsCopies visible.now code.old destinations.now 0 code.new) }
+{
+    agreement_is_kept();
+    quiet_stays();
+    values_have_words();
+    let mut height = copied_words(visible, destinations)?;
+    for destination in destinations {
+        height = add_copy(code, visible, height, *destination)?;
+    }
+    Ok(())
+}
+
+impl Draft {
+    /// Adds the code of a call of a procedure of the package, or of a line.
+    pub(crate) fn call(&mut self, visible: &Visible, name: &NameExpr) -> Result<(), Refusal>
+        requires sound { SoundScope visible.now.scope }
+        requires legal { IsLegal visible.now.scope (Call (name_tree name.now)) }
+        ensures emits { (w : Ways) → OnOk result (EmitsStatement visible.now w self.old (Call (name_tree name.now)) self.new) }
+    {
+        match visible.profile(&name.first.name) {
+            Some(profile) => self.invoke(visible, name, profile),
+            None => self.put(visible, name),
+        }
+    }
+
+    // Adds that of a procedure of the package with this profile.
+    fn invoke(
+        &mut self,
+        visible: &Visible,
+        name: &NameExpr,
+        profile: &Profile,
+    ) -> Result<(), Refusal>
+        requires sound { SoundScope visible.now.scope }
+        requires names { NamesProfile visible.now.scope name.now.first.name (profile_value profile.now) }
+        requires legal { IsLegal visible.now.scope (Call (name_tree name.now)) }
+        ensures emits { (w : Ways) → OnOk result (EmitsStatement visible.now w self.old (Call (name_tree name.now)) self.new) }
+    {
+        quiet_stays();
+        let Some(number) = visible.subprogram(&name.first.name) else {
+            return Err(Refusal::Outside);
+        };
+        let Some(arguments) = actuals_of(name) else {
+            return Err(Refusal::Outside);
+        };
+        let mut destinations = Vec::new(self.code.alloc);
+        let height = add_actuals(
+            &mut self.code,
+            visible,
+            &profile.formals,
+            arguments,
+            &mut destinations,
+        )?;
+        self.code.emit(height, Operation::Call(number))?;
+        add_copies(&mut self.code, visible, &destinations)
+    }
+}

@@ -1,0 +1,162 @@
+//! Where the words of formal parameters stand in the frame of their body (RM 6.4.1).
+ghost use Rattle.std.specs.Prelude.{◌≡◌, ◌≤◌, ◌+◌, ◌++◌, map, IfOk, OnOk};
+ghost use Rattle.base.specs.declared.limits.TheConstants.{FRAME_WORDS};
+ghost use Rattle.ada_tree.specs.Size.{total};
+ghost use Rattle.types.specs.Layouts.{words_of};
+ghost use Rattle.stmt_code.specs.Formals.{no_subprogram, passed_for, PlacesFormals, slot_for, StandInTurn, StandsAt};
+
+use crate::draft::{Draft, FrameWords, behind};
+use ada_tree::{Formal, Mode};
+use declaring::declare_formals;
+use expr_code::{Refusal, Slot, Visible};
+use image::Region;
+use std::alloc::Global;
+use type_rules::subtype_of;
+use types::{Scope, Subtype};
+
+/// Where the words of a formal parameter stand.
+#[derive(Clone, Copy)]
+pub struct PlacedFormal {
+    pub mode: Mode,
+    pub subtype: Subtype,
+    /// The first word of its value.
+    pub offset: u16,
+    /// The word with the address to which its value is copied back, if it is.
+    pub address: Option<u16>,
+}
+
+/// Those of all formal parameters, and how many words a call passes for them.
+#[derive(Drop)]
+pub struct PlacedFormals {
+    pub formals: Vec<PlacedFormal>,
+    pub passed: u16,
+}
+
+// The words that a call passes for a formal parameter: those of its value, where it is copied in, and the address of its target, where it is copied back.
+fn passed_words(scope: &Scope, formal: &Formal) -> Result<u16, Refusal>
+    ensures { IfOk result (λ many. many ≡ passed_for scope.now formal.now) }
+{
+    let Some(subtype) = subtype_of(scope, &formal.subtype) else {
+        return Err(Refusal::Outside);
+    };
+    let many = scope.words(subtype);
+    match formal.mode {
+        Mode::In => behind(0, many),
+        Mode::Out => Ok(1),
+        Mode::InOut => behind(1, many),
+    }
+}
+
+// Takes those for all of them.
+fn take_passed(words: &mut FrameWords, scope: &Scope, formals: &[Formal]) -> Result<(), Refusal>
+    requires most { words.old.taken ≤ words.old.most }
+    ensures taken { OnOk result (words.new.taken ≡ words.old.taken + total (passed_for scope.now) formals.now) }
+    ensures most { OnOk result (words.new.taken ≤ words.new.most) }
+{
+    for formal in formals {
+        words.take(passed_words(scope, formal)?)?;
+    }
+    Ok(())
+}
+
+// Places a formal parameter, of whose value there are so many words: where it is passed, from a word on, or behind all others, where it is not copied in. Tells
+// where the next one is passed.
+fn place(
+    words: &mut FrameWords,
+    mode: Mode,
+    subtype: Subtype,
+    many: u16,
+    from: u16,
+) -> Result<(PlacedFormal, u16), Refusal>
+    requires most { words.old.taken ≤ words.old.most }
+    ensures subtype { IfOk result (λ placed. placed.0.subtype ≡ subtype) }
+    ensures mode { IfOk result (λ placed. placed.0.mode ≡ mode) }
+    ensures few { OnOk result (many ≤ FRAME_WORDS) }
+    ensures stands { IfOk result (λ placed. StandsAt mode many from words.old.taken placed.0 placed.1 words.new.taken) }
+    ensures most { OnOk result (words.new.taken ≤ words.new.most) }
+{
+    let address = match mode {
+        Mode::In => None,
+        Mode::Out | Mode::InOut => Some(from),
+    };
+    let (offset, next) = match mode {
+        Mode::In => (from, behind(from, many)?),
+        Mode::Out => (words.take(many)?, behind(from, 1)?),
+        Mode::InOut => {
+            let offset = behind(from, 1)?;
+            (offset, behind(offset, many)?)
+        }
+    };
+    let placed = PlacedFormal {
+        mode,
+        subtype,
+        offset,
+        address,
+    };
+    Ok((placed, next))
+}
+
+// Places all of them, those that are not copied in behind the words that are taken.
+fn place_all(
+    words: &mut FrameWords,
+    scope: &Scope,
+    formals: &[Formal],
+    alloc: Global,
+) -> Result<PlacedFormals, Refusal>
+    requires most { words.old.taken ≤ words.old.most }
+    ensures stand { IfOk result (λ placed. StandInTurn scope.now 0 words.old.taken formals.now placed.formals.items placed.passed words.new.taken) }
+    ensures most { OnOk result (words.new.taken ≤ words.new.most) }
+{
+    let mut placed = Vec::new(alloc);
+    let mut from: u16 = 0;
+    for formal in formals {
+        let Some(subtype) = subtype_of(scope, &formal.subtype) else {
+            return Err(Refusal::Outside);
+        };
+        let many = scope.words(subtype);
+        let (one, next) = place(words, formal.mode, subtype, many, from)?;
+        placed.push(one)?;
+        from = next;
+    }
+    Ok(PlacedFormals {
+        formals: placed,
+        passed: from,
+    })
+}
+
+// Makes their places visible.
+fn show(visible: &mut Visible, placed: &[PlacedFormal]) -> Result<(), Refusal>
+    ensures scope { OnOk result (visible.new.scope ≡ visible.old.scope) }
+    ensures slots { OnOk result (visible.new.slots ≡ visible.old.slots ++ map slot_for placed.now) }
+    ensures subprograms { OnOk result (visible.new.subprograms ≡ visible.old.subprograms ++ map no_subprogram placed.now) }
+{
+    for formal in placed {
+        visible.slots.push(Some(Slot {
+            region: Region::Locals,
+            offset: formal.offset,
+        }))?;
+        visible.subprograms.push(None)?;
+    }
+    Ok(())
+}
+
+impl Draft {
+    /// Begins the frame of a body: gives its formal parameters their words, those that are passed first, and makes them visible.
+    pub fn formals(
+        &mut self,
+        visible: &mut Visible,
+        formals: &[Formal],
+    ) -> Result<PlacedFormals, Refusal>
+        ensures places { IfOk result (λ placed. PlacesFormals visible.old formals.now visible.new self.new.words placed) }
+        ensures code { OnOk result (self.new.code ≡ self.old.code) }
+        ensures labels { OnOk result (self.new.labels ≡ self.old.labels) }
+    {
+        let mut words = FrameWords::new();
+        take_passed(&mut words, &visible.scope, formals)?;
+        let placed = place_all(&mut words, &visible.scope, formals, self.code.alloc)?;
+        declare_formals(&mut visible.scope, formals)?;
+        show(visible, &placed.formals)?;
+        self.words = words;
+        Ok(placed)
+    }
+}

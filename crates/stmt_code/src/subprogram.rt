@@ -1,0 +1,139 @@
+//! The code of whole subprograms: procedures and functions of a package (RM 6.3), and main (RM 10.2).
+ghost use Rattle.std.specs.Prelude.{◌≡◌, ◌+◌, length, IfOk, OnOk};
+ghost use Rattle.ada_tree.specs.ExpressionTree.{expr_tree};
+ghost use Rattle.ada_tree.specs.ProgramTree.{body_tree};
+ghost use Rattle.declaring.specs.BodyNames.{formals_scope};
+ghost use Rattle.expr_code.specs.Emitting.{IsFit};
+ghost use Rattle.stmt_code.specs.Emitting.{HasEntries, IsLegalRun};
+ghost use Rattle.stmt_code.specs.Subprograms.{AddsCalls, AddsFunction, AddsMain, AddsMainCall, AddsProcedure};
+ghost use Rattle.well_typed.specs.SoundScopes.{SoundScope};
+
+use crate::body::{initialise_all, return_all};
+use crate::draft::Draft;
+use crate::extent::Extent;
+use ada_tree::{Body, Expr, Formal, Identifier, MainStatement};
+use declaring::laws::names_are_added;
+use expr_code::{Code, Refusal, Visible};
+use image::Operation;
+use types::Subtype;
+
+/// How many words a subprogram has (docs/FORMATS.md): those that it is passed, those that it gives back, and the most of its frame and on its operand stack.
+#[derive(Clone, Copy, PartialEq, Eq, Debug)]
+pub struct SubprogramWords {
+    pub passed: u16,
+    pub results: u16,
+    pub locals: u16,
+    pub stack: u16,
+}
+
+// Adds a call of main.
+fn add_call(code: &mut Code, visible: &Visible, procedure: &Identifier) -> Result<(), Refusal>
+    ensures adds { OnOk result (AddsMainCall visible.now code.old procedure.now code.new) }
+{
+    let Some(number) = visible.subprogram(&procedure.name) else {
+        return Err(Refusal::Outside);
+    };
+    code.emit(0, Operation::Call(number))?;
+    Ok(())
+}
+
+// Adds all of them.
+fn add_calls(
+    code: &mut Code,
+    visible: &Visible,
+    statements: &[MainStatement],
+) -> Result<(), Refusal>
+    ensures calls { OnOk result (AddsCalls visible.now code.old statements.now code.new) }
+{
+    for statement in statements {
+        match statement {
+            MainStatement::Null(_) => {}
+            MainStatement::Call(_, procedure) => add_call(code, visible, procedure)?,
+        }
+    }
+    Ok(())
+}
+
+impl Draft {
+    /// Adds the code of a procedure whose body handles nothing, where the names in front of its parameters are visible.
+    pub fn procedure(
+        &mut self,
+        visible: &mut Visible,
+        formals: &[Formal],
+        body: &Body,
+    ) -> Result<SubprogramWords, Refusal>
+        requires sound { SoundScope (formals_scope visible.old.scope formals.now) }
+        requires entries { HasEntries visible.old }
+        requires new_names { length (formals_scope visible.old.scope formals.now) ≡ length visible.old.scope + length formals.now }
+        requires legal { IsLegalRun (formals_scope visible.old.scope formals.now) (body_tree body.now).declarations (body_tree body.now).statements }
+        ensures adds { IfOk result (λ words. AddsProcedure visible.old self.old formals.now (body_tree body.now) words self.new) }
+        ensures same { OnOk result (visible.new ≡ visible.old) }
+    {
+        if !body.handlers.is_empty() {
+            return Err(Refusal::Outside);
+        }
+        names_are_added();
+        let extent = Extent::of(visible, self.words);
+        let placed = self.formals(visible, formals)?;
+        self.code.deepest = 0;
+        initialise_all(&mut self.code, visible, &placed.formals)?;
+        self.run(visible, &body.declarations, &body.statements)?;
+        let results = return_all(&mut self.code, &visible.scope, &placed.formals)?;
+        let words = SubprogramWords {
+            passed: placed.passed,
+            results,
+            locals: self.words.most,
+            stack: self.code.deepest,
+        };
+        extent.restore(visible, &mut self.words);
+        Ok(words)
+    }
+
+    /// Adds the code of a function that returns the value of an expression, which is checked against the subtype of its result, where the names in front of its parameters are visible.
+    pub fn function(
+        &mut self,
+        visible: &mut Visible,
+        formals: &[Formal],
+        subtype: Subtype,
+        value: &Expr,
+    ) -> Result<SubprogramWords, Refusal>
+        requires sound { SoundScope (formals_scope visible.old.scope formals.now) }
+        requires fit { IsFit (formals_scope visible.old.scope formals.now) subtype (expr_tree value.now) }
+        ensures adds { IfOk result (λ words. AddsFunction visible.old self.old formals.now subtype (expr_tree value.now) words self.new) }
+        ensures same { OnOk result (visible.new ≡ visible.old) }
+    {
+        names_are_added();
+        let extent = Extent::of(visible, self.words);
+        let placed = self.formals(visible, formals)?;
+        self.code.deepest = 0;
+        self.code.checked(visible, 0, subtype, value)?;
+        self.code.emit(1, Operation::Return)?;
+        let words = SubprogramWords {
+            passed: placed.passed,
+            results: 1,
+            locals: self.words.most,
+            stack: self.code.deepest,
+        };
+        extent.restore(visible, &mut self.words);
+        Ok(words)
+    }
+
+    /// Adds the code of main, where the names of its package are visible.
+    pub fn main(
+        &mut self,
+        visible: &Visible,
+        statements: &[MainStatement],
+    ) -> Result<SubprogramWords, Refusal>
+        ensures adds { IfOk result (λ words. AddsMain visible.now self.old statements.now words self.new) }
+    {
+        self.code.deepest = 0;
+        add_calls(&mut self.code, visible, statements)?;
+        self.code.emit(0, Operation::Return)?;
+        Ok(SubprogramWords {
+            passed: 0,
+            results: 0,
+            locals: 0,
+            stack: self.code.deepest,
+        })
+    }
+}
