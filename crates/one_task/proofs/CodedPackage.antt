@@ -7,7 +7,7 @@ use Rattle.ada_tree.specs.ExpressionTree.{ExprTree}
 use Rattle.ada_tree.specs.StatementTree.{SubprogramTree}
 use Rattle.ada_tree.specs.ProgramTree.{BodyItemTree, BodyTree, EntryBody, OperationBody, ProgramTree, ProtectedItemTree, SubprogramBody}
 use Rattle.image.specs.Sections.{Sections}
-use Rattle.types.specs.Places.{Function, function_of, is_of}
+use Rattle.types.specs.Places.{Function, function_of, is_of, or_else}
 use Rattle.checking.specs.ProgramRules.{IsLegal}
 use Rattle.ravenscar.specs.ProgramRules.{IsRestricted}
 use Rattle.meaning.specs.Calls.{procedure_among}
@@ -28,6 +28,10 @@ use Rattle.one_task.proofs.InFront.{LawsOfNames, known, whole}
 outside_all : (o : Option ℕ) → is_of o None ≡ true → o ≡ None
 outside_all (Some n) h = cc
 outside_all None h = refl
+
+once : (o : Option Procedure) {q : Procedure} → or_else o o ≡ Some q → o ≡ Some q
+once (Some q) h = h
+once None h = h
 
 owner_of : (o : Option ℕ) (item : ProtectedItemTree) → (operation_body o item).owner ≡ o
 owner_of o (OperationBody d b) = refl
@@ -108,7 +112,7 @@ module _ (laws : LawsOfNames) (t : ProgramTree) (legal : IsLegal t) (restricted 
       }
 
   module _ (i : Sections) (g : Package) (of_program : IsPackageOf t i g) (numbers : Numbers) where
-    -- what methods show of the bodies of the package, each at its place; no other subprogram has a number
+    -- what methods show of the bodies of the package, each at its place
     pub record HasBodies : Type 1 where
       pub procedures : (place : ℕ) (d : SubprogramTree) (b : BodyTree) → slice_get all place ≡ Some (SubprogramBody d b) → d.result ≡ None → (number : ℕ)
           → numbers (procedure_by program.scope (subprogram_body None d b)) ≡ Some number
@@ -116,13 +120,12 @@ module _ (laws : LawsOfNames) (t : ProgramTree) (legal : IsLegal t) (restricted 
       pub functions : (place : ℕ) (d : SubprogramTree) (b : BodyTree) → slice_get all place ≡ Some (SubprogramBody d b) → (r : Identifier) → d.result ≡ Some r
           → (value : ExprTree) → returned b.statements ≡ Some value → (number : ℕ) → g.subprograms None d.name.name ≡ Some number
           → IsFunctionCode i (library_of g) (function_by program.scope (subprogram_body None d b) r value) number
-      pub numbered : (q : Procedure) (number : ℕ) → numbers q ≡ Some number → procedure_among program.procedures None q.name ≡ Some q
       pub outside : (o : ℕ) (name : List ℕ) → g.subprograms (Some o) name ≡ None
 
     module _ (has : HasBodies) where
       procedures_coded : HasProcedures i program g numbers
-      procedures_coded q number n =
-          let x = procedure_stands q.name q (has.numbered q number n) in
+      procedures_coded name q number found n =
+          let x = procedure_stands name q (once (procedure_among program.procedures None name) found) in
           subst (λ y. IsProcedure i program g numbers y number) (sym x.is)
           (has.procedures x.place x.d x.b x.at x.none number (ap numbers (sym x.is) ∙ n))
 

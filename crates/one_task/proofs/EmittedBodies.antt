@@ -12,7 +12,7 @@ use Rattle.types.specs.declared.entity.Subtype.{Subtype}
 use Rattle.types.specs.Laws.{InitialValuesHaveShape}
 use Rattle.types.specs.Layouts.{words_of}
 use Rattle.types.specs.Scopes.{Scope, form_at}
-use Rattle.types.specs.Shapes.{initial, value_words}
+use Rattle.types.specs.Shapes.{initial, initial_of, shape_of, value_words}
 use Rattle.checking.specs.ProgramRules.{IsLegal}
 use Rattle.ravenscar.specs.ProgramRules.{IsRestricted}
 use Rattle.well_typed.specs.SoundScopes.{IsKnown}
@@ -36,7 +36,9 @@ use Rattle.stmt_code.specs.declared.draft.Draft.{Draft}
 use Rattle.stmt_code.specs.declared.formals.PlacedFormal.{PlacedFormal}
 use Rattle.stmt_code.specs.declared.subprogram.SubprogramWords.{SubprogramWords}
 use Rattle.stmt_code.proofs.GivingBack.{AreGiven, gives_back}
+use Rattle.stmt_code.proofs.Initials.{shape_there}
 use Rattle.one_task.specs.Package.{IsInFront, IsPackageOf}
+use Rattle.one_task.proofs.BodyFrames.{HasWidths}
 use Rattle.one_task.proofs.CodedBodies.{DoesBody, procedure_coded}
 use Rattle.one_task.proofs.EmittedFormals.{AreTold}
 use Rattle.one_task.proofs.EmittedParts.{AreShown, back_words, given_placed, ready_placed, subtypes_back}
@@ -153,14 +155,23 @@ module _ (laws : LawsOfNames) (quiet : QuietStays) (shaped : InitialValuesHaveSh
         → (value_words (initial program.scope u) ≡ word ∷ []) × (words_of adds.later.scope u ≡ 1)
     words_are = word_is laws shaped t legal restricted g place d b x before
 
+    behind_widths : HasWidths laws.stay base last
+    behind_widths = widths_behind laws.stay base xs v last added (record { known = λ y c. c; same = λ y c. refl })
+
+    -- first values are those of the program
+    starts : (u : Subtype) → IsKnown base u → value_words (initial program.scope u) ≡ value_words (initial adds.later.scope u)
+    starts u k =
+        let a = agreed laws shaped t legal restricted g place d b x before in
+        ap (λ y. value_words (initial_of y))
+        (ap (λ z. shape_of z u) (sym a.here) ∙ shape_there last.names.scope a.place a.agrees u (behind_widths.known u k) ∙ ap (λ z. shape_of z u) scope_is)
+
     new_names : AreNew base (map (parameter program.scope) d.formals)
     new_names =
         subst (AreNew base) (texts laws shaped t legal restricted g place d b x before) (fresh_names laws shaped t legal restricted g place d b x before)
 
     widths : (u : Subtype) → IsKnown base u → words_of adds.later.scope u ≡ words_of base u
     widths u k =
-        ap (λ z. words_of z u) (sym scope_is)
-        ∙ (widths_behind laws.stay base xs v last added (record { known = λ y c. c; same = λ y c. refl })).same u k
+        ap (λ z. words_of z u) (sym scope_is) ∙ behind_widths.same u k
 
     showing : AreShown base program.scope last d.formals items
     showing = shown laws shaped t legal restricted g place d b x before
@@ -193,7 +204,7 @@ module _ (laws : LawsOfNames) (quiet : QuietStays) (shaped : InitialValuesHaveSh
           subst (λ n. AreParametersDeclared i program g numbers frames.begins n (here adds.initial) frames.begun
           (left_out (map (parameter program.scope) d.formals))) (sym first_is)
           (subst (AreParametersDeclared i program g numbers frames.begins (here old.code) (here adds.initial) frames.begun) (sym frames.left)
-          (ready_placed base (known laws t legal restricted).kept laws.sized quiet shaped i program g numbers adds.later.scope words_are widths d.formals items 0 passed
+          (ready_placed base (known laws t legal restricted).kept laws.sized quiet shaped i program g numbers adds.later.scope words_are starts widths d.formals items 0 passed
           passed top (here old.code) (here adds.initial) frames.begins frames.begun telling new_names adds.places.stand frames.outs
           (adds.initialises.stands i at_initial)));
       runs = adds.runs.stands i (holds_later i (here old.code) (here adds.initial) adds.run.code grows_initial.longer at_run)

@@ -1,6 +1,6 @@
 -- What a method that placed formal parameters, gave first values to some and returned others, did to the parameters of a program.
-use Rattle.std.proofs.Common.{◌≡◌, ℕ, suc, ◌+◌, ◌<◌, ◌≤◌, ℤ, List, [], ◌∷◌, ◌++◌, map, Bool, true, false, ◌||◌, Option, Some, None, inl, inr, refl, sym, ap, ◌∙◌, subst, arith, rules}
-use Rattle.std.specs.Prelude.{if◌then◌else◌, nat_eq}
+use Rattle.std.proofs.Common.{◌≡◌, ℕ, suc, ◌+◌, ◌<◌, ◌≤◌, ◌⊎◌, ℤ, List, [], ◌∷◌, ◌++◌, length, map, Bool, true, false, ◌||◌, Option, Some, None, inl, inr, refl, sym, ap, ◌∙◌, subst, arith, rules}
+use Rattle.std.specs.Prelude.{if◌then◌else◌, nat_eq, pos}
 use Rattle.kernel.specs.Laws.{QuietStays}
 use Rattle.ada_tree.specs.declared.declaration.Formal.{Formal}
 use Rattle.ada_tree.specs.declared.declaration.Mode.{Mode}
@@ -27,15 +27,16 @@ use Rattle.sound_bodies.proofs.Listing.{Has}
 use Rattle.expr_code.specs.Seeing.{Package, slot_of}
 use Rattle.expr_code.specs.Views.{At}
 use Rattle.stmt_code.specs.Emitting.{first_word}
-use Rattle.stmt_code.specs.Formals.{AddsEach, AreInitial, AreReturned, InitialThen, IsLoaded, Placed, ReturnedThen, StandInTurn, StandsAt, no_subprogram, parameter_at, returned_more, slot_for, words_returned}
+use Rattle.stmt_code.specs.Formals.{AddsEach, AreInitial, AreReturned, InitialThen, IsLoaded, Placed, ReturnedThen, StandInTurn, StandsAt, StoresFirstWord, StoresFirstWords, no_subprogram, parameter_at, returned_more, slot_for, words_returned}
 use Rattle.stmt_code.specs.Layout.{NamesObject}
 use Rattle.stmt_code.specs.Resting.{Framed}
-use Rattle.stmt_code.specs.Statements.{AreParametersDeclared, Numbers}
+use Rattle.stmt_code.specs.Statements.{AreParametersDeclared, IsParameterDeclared, Numbers}
+use Rattle.stmt_code.specs.Storing.{ArePushed}
 use Rattle.stmt_code.specs.declared.formals.PlacedFormal.{PlacedFormal}
-use Rattle.stmt_code.proofs.DeclaringParameters.{declares_parameter}
+use Rattle.stmt_code.proofs.DeclaringParameters.{declares_parameter, declares_parameter_block}
 use Rattle.stmt_code.proofs.GivingBack.{AreGiven, IsGiven, words_back}
 use Rattle.stmt_code.proofs.Opening.{append_again, append_none}
-use Rattle.one_task.proofs.BodyFrames.{OutsBegin}
+use Rattle.one_task.proofs.BodyFrames.{BeginsOut, OutsBegin}
 use Rattle.one_task.proofs.Building.{outs_of}
 use Rattle.one_task.proofs.EmittedFormals.{addresses_of, own_address, placed_in}
 use Rattle.one_task.proofs.Reordered.{slot_at}
@@ -208,6 +209,7 @@ module _ (base : Scope) (kept : AgreementIsKept) (sized : ValuesHaveWords) (quie
     -- a word that is the first one by these names is so in the program, and the only one
     (word_is : (u : Subtype) (word : ℤ) → first_word (form_at s u.type_number) u ≡ Some word
     → (value_words (initial program.scope u) ≡ word ∷ []) × (words_of s u ≡ 1))
+    (starts : (u : Subtype) → IsKnown base u → value_words (initial program.scope u) ≡ value_words (initial s u))
     (widths : (u : Subtype) → IsKnown base u → words_of s u ≡ words_of base u) where
   pub ready_placed : (fs : List Formal) (xs : List PlacedFormal) (from out last top a b : ℕ) (v w : Framed)
       → ((f : Formal) → Has fs f → subtype_of base f.subtype ≡ Some (subtype_named program.scope f.subtype))
@@ -226,6 +228,35 @@ module _ (base : Scope) (kept : AgreementIsKept) (sized : ValuesHaveWords) (quie
       same : x.subtype ≡ subtype_named program.scope f.subtype
       same = same_some x.subtype (subtype_named program.scope f.subtype) (sym h.2 ∙ told f (inl refl))
 
+      up_to : (to : ℕ) → StoresFirstWord i s a to x ⊎ StoresFirstWords i s a to x → a ≤ to
+      up_to to (inl z) = let e = z.end in omega (arith, e)
+      up_to to (inr z) = let e = z.end in let m = z.long in omega (arith, e, m)
+
+      -- its first value, of one word or of several
+      begins : (next : Framed) → BeginsOut g base v (parameter program.scope f, x.offset) next → (to : ℕ)
+          → StoresFirstWord i s a to x ⊎ StoresFirstWords i s a to x
+          → IsParameterDeclared i program g numbers v a to next (parameter program.scope f)
+      begins next begun to (inl z) =
+          let word = word_is x.subtype z.word z.first in
+          let many = widths (subtype_named program.scope f.subtype) new.2 in
+          let single = ap (words_of s) (sym same) ∙ word.1 in
+          let wide = begun.many in
+          subst (λ n. IsParameterDeclared i program g numbers v a n next (parameter program.scope f)) (sym z.end)
+          (declares_parameter kept sized quiet shaped i program g numbers v next (parameter program.scope f) (formal_role f.mode) begun.slot begun.laid
+          begun.widens begun.spares begun.region begun.known a z.word (omega (arith, many, single, wide))
+          (subst (λ u. value_words (initial program.scope u) ≡ z.word ∷ []) same word.0) z.push
+          (subst (λ n. At i (suc a) (op.StoreLocal n)) (sym begun.at) z.store))
+      begins next begun to (inr z) =
+          let words : value_words (initial s x.subtype) ≡ value_words (initial program.scope (subtype_named program.scope f.subtype)) =
+          ap (λ u. value_words (initial s u)) same ∙ sym (starts (subtype_named program.scope f.subtype) new.2) in
+          let wide : words_of s x.subtype ≡ words_of v.names.scope (subtype_named program.scope f.subtype) =
+          ap (words_of s) same ∙ widths (subtype_named program.scope f.subtype) new.2 ∙ sym begun.many in
+          subst (λ n. IsParameterDeclared i program g numbers v a n next (parameter program.scope f)) (sym z.end)
+          (declares_parameter_block kept sized quiet shaped i program g numbers v next (parameter program.scope f) (formal_role f.mode) begun.slot begun.laid
+          begun.widens begun.spares begun.region begun.known a z.mid (subst (λ n. At i a (op.Push (pos n))) (sym begun.at) z.address)
+          (subst (ArePushed i (suc a)) words z.pushed) (subst (λ l. z.mid ≡ suc a + length l) words z.long)
+          (subst (λ n. At i z.mid (op.StoreBlock regions.Locals n)) wide z.store))
+
       by_mode : (o : Bool) → is_out f.mode ≡ o
           → OutsBegin g base v (if o then (parameter program.scope f, x.offset) ∷ outs_in program.scope fs xs else outs_in program.scope fs xs) w
           → InitialThen i s a x (λ n. AreInitial i s n b xs) o
@@ -234,21 +265,13 @@ module _ (base : Scope) (kept : AgreementIsKept) (sized : ValuesHaveWords) (quie
           → AreParametersDeclared i program g numbers v a b w
           (map parameter_at (if o then (parameter program.scope f, x.offset) ∷ outs_in program.scope fs xs else outs_in program.scope fs xs))
       by_mode true e outs code more =
-          let word = word_is x.subtype code.0 code.1 in
-          let begun = outs.1 in
-          let many = widths (subtype_named program.scope f.subtype) new.2 in
-          let single = ap (words_of s) (sym same) ∙ word.1 in
-          let wide = begun.many in
-          let after = more (suc (suc a)) outs.0 outs.2 code.4 in (
-            suc (suc a),
+          let after = more code.0 outs.0 outs.2 code.2 in (
+            code.0,
             outs.0,
-            omega arith,
-            parameters_up i program g numbers (map parameter_at (outs_in program.scope fs xs)) outs.0 w (suc (suc a)) b after,
-            declares_parameter kept sized quiet shaped i program g numbers v outs.0 (parameter program.scope f) (formal_role f.mode) begun.slot begun.laid
-                begun.widens begun.spares begun.region begun.known a code.0 (omega (arith, many, single, wide))
-                (subst (λ u. value_words (initial program.scope u) ≡ code.0 ∷ []) same word.0) code.2
-                (subst (λ n. At i (suc a) (op.StoreLocal n)) (sym begun.at) code.3),
-            begun.narrows,
+            up_to code.0 code.1,
+            parameters_up i program g numbers (map parameter_at (outs_in program.scope fs xs)) outs.0 w code.0 b after,
+            begins outs.0 outs.1 code.0 code.1,
+            outs.1.narrows,
             after,
           )
       by_mode false e outs code more = more a v outs code

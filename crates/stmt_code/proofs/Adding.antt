@@ -6,7 +6,6 @@ use Rattle.ada_tree.specs.declared.statement.Stmt.{Stmt}
 use Rattle.ada_tree.specs.ExpressionTree.{ExprTree}
 use Rattle.ada_tree.specs.StatementTree as statements
 use Rattle.ada_tree.specs.StatementTree.{DeclarationTree, MoreStmts, NoHandlers, NoStmts, StmtTree, StmtTrees, stmt_tree, stmt_trees, stmts_of}
-use Rattle.ada_tree.specs.Size.{stmt_size, stmts_size}
 use Rattle.image.specs.Sections.{Sections}
 use Rattle.image.specs.Operations.{given_by, jump_target, taken_by}
 use Rattle.image.specs.Rules.{has_depth, has_operands, is_return, names_things, none_or}
@@ -35,6 +34,7 @@ use Rattle.expr_code.specs.declared.code.Code.{Code}
 use Rattle.expr_code.specs.declared.visible.Visible.{Visible}
 use Rattle.expr_code.proofs.Flowing.{kept_one, kept_then, widened}
 use Rattle.expr_code.proofs.Growing.{added_at, added_extends, added_here, added_there, extends_self, extends_trans, holds_before, holds_later}
+use Rattle.stmt_code.specs.Bounds.{stmt_bound, stmts_bound, stmts_words}
 use Rattle.stmt_code.specs.Suiting.{SuitsStatements}
 use Rattle.stmt_code.specs.Emitting.{Allows, AreLegal, Emits, EmitsDeclarations, EmitsStatement, EmitsStatements, HasLabels, IsLegal, IsReached, Meant, Serves, seeing}
 use Rattle.stmt_code.specs.Resting.{Framed}
@@ -212,13 +212,15 @@ module _ (v : Visible) where
     pub exit_emits : (a c : Draft) (at place : ℕ) → w.exit ≡ Some place → Adds a.code 0 (op.Jump place) c.code → IsBeside a c
         → EmitsStatement v w a (statements.Exit at None) c
     exit_emits a c at place way q same =
-        jump_emits (λ i program g numbers f from to. IsStatement i program g numbers f w from to (statements.Exit at None)) a c place 1 (omega arith)
+        jump_emits (λ i program g numbers f from to. IsStatement i program g numbers f w from to (statements.Exit at None)) a c place
+        (stmt_bound v.scope (statements.Exit at None)) (omega arith)
         (λ i low high ways. ways.exit place way) (λ i program g numbers f from there. (place, way, there, refl)) q same
 
     pub return_emits : (a c : Draft) (at place : ℕ) → w.return ≡ Some place → Adds a.code 0 (op.Jump place) c.code → IsBeside a c
         → EmitsStatement v w a (statements.Return at None) c
     return_emits a c at place way q same =
-        jump_emits (λ i program g numbers f from to. IsStatement i program g numbers f w from to (statements.Return at None)) a c place 1 (omega arith)
+        jump_emits (λ i program g numbers f from to. IsStatement i program g numbers f w from to (statements.Return at None)) a c place
+        (stmt_bound v.scope (statements.Return at None)) (omega arith)
         (λ i low high ways. ways.return place way) (λ i program g numbers f from there. (place, way, there, refl)) q same
 
     pub exit_when_emits : (a c : Draft) (m : Code) (at place : ℕ) (e : ExprTree) → w.exit ≡ Some place → EmitsExpression v a.code 0 1 e m
@@ -259,12 +261,13 @@ module _ (v : Visible) where
     statements_more i program g numbers f (y ∷ xs) x from mid to up over (at, one, two, first, rest) last =
         (at, one, omega (arith, two, over), first, statements_more i program g numbers f xs x at mid to two over rest last)
 
-    sizes : (xs : List StmtTree) (x : StmtTree) → stmts_size (stmts_of (xs ++ x ∷ [])) ≡ stmts_size (stmts_of xs) + stmt_size x
-    sizes [] x = omega arith
-    sizes (y ∷ xs) x = let e = sizes xs x in omega (arith, e)
+    bounds : (s : Scope) (xs : List StmtTree) (x : StmtTree) → stmts_bound s (stmts_of (xs ++ x ∷ [])) ≡ stmts_bound s (stmts_of xs) + stmt_bound s x
+    bounds s [] x = omega arith
+    bounds s (y ∷ xs) x = let e = bounds s xs x in omega (arith, e)
 
     pub no_statements : (c : Draft) → EmitsStatements v w c NoStmts c
-    no_statements c = none_emits (λ i program g numbers f from to. AreStatements i program g numbers f w from to NoStmts) c 0 (λ i program g numbers f at. refl)
+    no_statements c = none_emits (λ i program g numbers f from to. AreStatements i program g numbers f w from to NoStmts) c (stmts_bound v.scope NoStmts)
+        (λ i program g numbers f at. refl)
 
     pub statements_next : (a b c : Draft) (all : List Stmt) (n : ℕ) (x : Stmt) → n < length all → x ≡ get_or all n x
         → EmitsStatements v w a (stmt_trees (take n all)) b → EmitsStatement v w b (stmt_tree x) c → EmitsStatements v w a (stmt_trees (take (n + 1) all)) c
@@ -274,12 +277,12 @@ module _ (v : Visible) where
         subst (λ l. EmitsStatements v w a (stmts_of l) c) (sym more)
         (emits_as (λ i program g numbers f from to. AreStatements i program g numbers f w from to (stmts_of (front ++ stmt_tree x ∷ [])))
         (λ i program g numbers f from to. AreStatements i program g numbers f w from to (stmts_of (front ++ stmt_tree x ∷ []))) a c
-        (stmts_size (stmts_of front) + stmt_size (stmt_tree x)) (stmts_size (stmts_of (front ++ stmt_tree x ∷ []))) (λ i program g numbers f from to h. h)
-        (let e = sizes front (stmt_tree x) in omega (arith, e))
+        (stmts_bound v.scope (stmts_of front) + stmt_bound v.scope (stmt_tree x)) (stmts_bound v.scope (stmts_of (front ++ stmt_tree x ∷ []))) (λ i program g numbers f from to h. h)
+        (let e = bounds v.scope front (stmt_tree x) in omega (arith, e))
         (emits_then (λ i program g numbers f from to. AreStatements i program g numbers f w from to (stmts_of front))
         (λ i program g numbers f from to. IsStatement i program g numbers f w from to (stmt_tree x))
         (λ i program g numbers f from to. AreStatements i program g numbers f w from to (stmts_of (front ++ stmt_tree x ∷ []))) a b c
-        (stmts_size (stmts_of front)) (stmt_size (stmt_tree x))
+        (stmts_bound v.scope (stmts_of front)) (stmt_bound v.scope (stmt_tree x))
         (λ i program g numbers f from mid to up over one two. statements_more i program g numbers f front (stmt_tree x) from mid to up over one two) p q))
 
     pub all_statements : (a c : Draft) (all : List Stmt) (n : ℕ) → length all ≤ n → EmitsStatements v w a (stmt_trees (take n all)) c
@@ -296,7 +299,7 @@ module _ (v : Visible) where
       labels = labels_then a.labels b.labels c.labels p.labels q.labels;
       taken = refl;
       most = omega (arith, p.most, q.most);
-      sized = omega (arith, p.sized, q.sized);
+      sized = (let k = ap (λ s. stmts_words s body) p.scope in omega (arith, p.sized, q.sized, k));
       stands = λ i h l program g numbers f names serves room.
           let declared = p.stands i (holds_before i (here a.code) b.code c.code q.extends h) (labels_before i b.labels c.labels q.labels l) program g numbers f names serves
           (omega (arith, q.most, room)) in (

@@ -5,7 +5,6 @@ use Rattle.ada_tree.specs.declared.statement.Alternative.{Alternative}
 use Rattle.ada_tree.specs.ExpressionTree.{ExprTree}
 use Rattle.ada_tree.specs.StatementTree as statements
 use Rattle.ada_tree.specs.StatementTree.{AlternativeTrees, ChoicesTree, NoAlternatives, StmtTrees, alternative_tree, alternative_trees, alternatives_of, choices_tree, stmt_trees}
-use Rattle.ada_tree.specs.Size.{alternatives_size, stmt_size}
 use Rattle.image.specs.Sections.{Sections}
 use Rattle.image.specs.Rules.{has_depth}
 use Rattle.image.specs.declared.instruction.Operation.TheVariants as op
@@ -29,6 +28,7 @@ use Rattle.expr_code.specs.declared.visible.Visible.{Visible}
 use Rattle.expr_code.proofs.Flowing.{kept_one, kept_then, widened}
 use Rattle.expr_code.proofs.Growing.{added_extends, added_here, extends_trans}
 use Rattle.stmt_code.specs.Alternatives.{AddsAlternatives, AreLegalAlternatives, AreLegalChoices, AreSelected, in_front}
+use Rattle.stmt_code.specs.Bounds.{alternatives_bound, stmt_bound}
 use Rattle.stmt_code.specs.Emitting.{AreLegal, EmitsOpen, EmitsStatement, EmitsStatements, IsLegal, MeantTo, Serves}
 use Rattle.stmt_code.specs.Statements.{AreAlternatives, IsChoice, IsStatement, Ways}
 use Rattle.stmt_code.specs.declared.draft.Draft.{Draft}
@@ -94,7 +94,7 @@ module _ (v : Visible) (w : Ways) (e : ExprTree) where
       at_close = j.jumps (here valued.code) (ap (λ t. t || false) (same_self (here valued.code)))
 
     pub alternative_emits : EmitsOpen (AreSelected w e ((place, (choices, body)) ∷ [])) v w 1 start
-        (alternatives_size (alternatives_of ((place, (choices, body)) ∷ [])))
+        (alternatives_bound v.scope (alternatives_of ((place, (choices, body)) ∷ [])))
         (here valued.code ∷ []) new
     alternative_emits = record {
       extends = whole_extends;
@@ -167,9 +167,9 @@ module _ (v : Visible) (w : Ways) (e : ExprTree) where
   none_front [] = refl
   none_front (x ∷ xs) = ap (statements.MoreAlternatives x.0 x.1.0 x.1.1) (none_front xs)
 
-  sizes : (xs ys : Parts) → alternatives_size (alternatives_of (xs ++ ys)) ≡ alternatives_size (alternatives_of xs) + alternatives_size (alternatives_of ys)
-  sizes [] ys = omega arith
-  sizes (x ∷ xs) ys = let h = sizes xs ys in omega (arith, h)
+  bounds : (s : Scope) (xs ys : Parts) → alternatives_bound s (alternatives_of (xs ++ ys)) ≡ alternatives_bound s (alternatives_of xs) + alternatives_bound s (alternatives_of ys)
+  bounds s [] ys = omega arith
+  bounds s (x ∷ xs) ys = let h = bounds s xs ys in omega (arith, h)
 
   pub no_alternatives : (c : Draft) (waiting : List ℕ) → AddsAlternatives v w e c [] waiting waiting c
   no_alternatives c waiting = record {
@@ -195,9 +195,9 @@ module _ (v : Visible) (w : Ways) (e : ExprTree) where
   alternatives_then a b c one two before mid after p q = record {
     waiting = p.waiting ++ q.waiting;
     after_is = q.after_is ∙ ap (λ l. l ++ q.waiting) p.after_is ∙ append_again before p.waiting q.waiting;
-    emits = subst (λ n. EmitsOpen (AreSelected w e (one ++ two)) v w 1 a n (p.waiting ++ q.waiting) c) (sym (sizes one two))
-        (open_then v w (AreSelected w e one) (AreSelected w e two) (AreSelected w e (one ++ two)) 1 a b c (alternatives_size (alternatives_of one))
-        (alternatives_size (alternatives_of two)) p.waiting q.waiting
+    emits = subst (λ n. EmitsOpen (AreSelected w e (one ++ two)) v w 1 a n (p.waiting ++ q.waiting) c) (sym (bounds v.scope one two))
+        (open_then v w (AreSelected w e one) (AreSelected w e two) (AreSelected w e (one ++ two)) 1 a b c (alternatives_bound v.scope (alternatives_of one))
+        (alternatives_bound v.scope (alternatives_of two)) p.waiting q.waiting
         (λ i program g numbers f end from m to up over within x y rest code.
         subst (λ t. AreAlternatives i program g numbers f w from end e t) (sym (front one two rest)) (x (in_front two rest) (y rest code))) p.emits q.emits);
   }
@@ -252,7 +252,7 @@ module _ (v : Visible) (w : Ways) (e : ExprTree) where
           (none_behind p.waiting (here selected.code) (here selected.code) (λ m g. (p.emits.inside m g).1) (omega arith))
           (added_is selected.code dropped.code 1 op.Drop drop)
 
-    case_open : EmitsOpen Whole v w 0 start (stmt_size (statements.Case place e (alternatives_of all))) p.waiting dropped
+    case_open : EmitsOpen Whole v w 0 start (stmt_bound v.scope (statements.Case place e (alternatives_of all))) p.waiting dropped
     case_open = record {
       extends = extends_trans start.code valued.code dropped.code first.extends valued_extends;
       labels = labels_then start.labels valued.labels dropped.labels (labels_beside start valued same)
@@ -295,8 +295,8 @@ module _ (v : Visible) (w : Ways) (e : ExprTree) where
         → EmitsStatement v w start (statements.Case place e (alternatives_of all)) d
     case_emits n n_is r still =
         joined v w Whole (λ i program g numbers f from to. IsStatement i program g numbers f w from to (statements.Case place e (alternatives_of all))) start dropped d
-        (stmt_size (statements.Case place e (alternatives_of all))) places (λ i program g numbers f from to h. h)
-        (subst (λ l. EmitsOpen Whole v w 0 start (stmt_size (statements.Case place e (alternatives_of all))) l dropped) waiting_is case_open)
+        (stmt_bound v.scope (statements.Case place e (alternatives_of all))) places (λ i program g numbers f from to h. h)
+        (subst (λ l. EmitsOpen Whole v w 0 start (stmt_bound v.scope (statements.Case place e (alternatives_of all))) l dropped) waiting_is case_open)
         (subst (λ m. Rejoins dropped.code places m d.code) n_is r) still
 
 -- ---- what is legal

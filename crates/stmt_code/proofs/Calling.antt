@@ -21,15 +21,16 @@ use Rattle.ada_tree.specs.StatementTree.{ObjectTree, DeclarationTree, LocalObjec
 use Rattle.types.specs.Evaluations.{Val, Gives, Raises, Meaningless, and_then}
 use Rattle.types.specs.Evaluating.{call}
 use Rattle.ada_tree.specs.declared.program.MainStatement.TheVariants as main
-use Rattle.ada_tree.specs.ExpressionTree.{ArgumentTrees, ExprTree, MoreArguments, Named, NameTree, NoArguments, Text}
+use Rattle.ada_tree.specs.declared.expression.Identifier.{Identifier}
+use Rattle.ada_tree.specs.ExpressionTree.{ArgumentTrees, Arguments, Component, ExprTree, MoreArguments, MoreSelectors, Named, NameTree, NoArguments, NoSelectors, SelectorTrees, Text}
 use Rattle.types.specs.Shapes.{shape_of}
 use Rattle.ada_tree.specs.ExpressionTree as expressions
 use Rattle.ada_tree.specs.StatementTree as tree
 use Rattle.meaning.specs.Meeting.{Last}
 use Rattle.meaning.specs.MeetingLaws.{moves_by, spends_takes}
 use Rattle.meaning.specs.SameMeaning.{frames_of}
-use Rattle.meaning.specs.Calls.{Actuals, Callee, actual_expression, actuals, activation_of, declares_parameters, is_out, results, results_in, with_actuals}
-use Rattle.meaning.specs.Programs.{Parameter, Procedure, Program}
+use Rattle.meaning.specs.Calls.{Actuals, Callee, actual_expression, actuals, activation_of, callee_by, callee_through, callee_with, declares_parameters, is_out, procedure_among, procedure_here, results, results_in, with_actuals}
+use Rattle.meaning.specs.Programs.{Parameter, Procedure, Program, object_numbered}
 use Rattle.meaning.specs.SourceSteps as source
 use Rattle.meaning.specs.SourceSteps.{here_of, place_of, program_behaviour, with_value, work_step}
 use Rattle.meaning.specs.Works.{Item, Declares, DeclaresParameter, Sequence, Does, DoesMain, EndsCall, Goes, Activation, Store, Target, TaskWork, ends_of_calls, frames_left}
@@ -54,6 +55,31 @@ use Rattle.stmt_code.proofs.Sizes.{item_counts}
 use Rattle.stmt_code.proofs.Copying as copy
 use Rattle.stmt_code.proofs.Scenes.{Scene}
 use Rattle.stmt_code.proofs.Scenes as scene
+
+-- a procedure that is not called through a protected object is found by its name
+callee_found : (p : Program) (first : Identifier) (s : SelectorTrees) (c : Callee) → callee_by p None first s ≡ Some c → c.through ≡ None
+    → procedure_here p None first.name ≡ Some c.procedure
+callee_found p first s c h outside = by_selectors s h
+  where
+    by_name : (o : Option Procedure) (a : ArgumentTrees) → callee_with o None a ≡ Some c → o ≡ Some c.procedure
+    by_name (Some q) a e = ap (λ x. elim x [ None ↦ None | Some y ↦ Some y.procedure ]) e
+    by_name None a e = cc
+
+    by_object : (o : Option ℕ) (name : List ℕ) (a : ArgumentTrees) → callee_through p o name a ≡ Some c → procedure_here p None first.name ≡ Some c.procedure
+    by_object (Some n) name a e = by_found (procedure_among p.procedures (Some n) name) e
+      where
+        by_found : (o : Option Procedure) → callee_with o (Some n) a ≡ Some c → procedure_here p None first.name ≡ Some c.procedure
+        by_found (Some q) e =
+            let through = ap (λ x. elim x [ None ↦ None | Some y ↦ y.through ]) e ∙ outside in cc
+        by_found None e = cc
+    by_object None name a e = cc
+
+    by_selectors : (s : SelectorTrees) → callee_by p None first s ≡ Some c → procedure_here p None first.name ≡ Some c.procedure
+    by_selectors NoSelectors e = by_name (procedure_here p None first.name) NoArguments e
+    by_selectors (MoreSelectors (Arguments a) NoSelectors) e = by_name (procedure_here p None first.name) a e
+    by_selectors (MoreSelectors (Component name) NoSelectors) e = by_object (object_numbered p.scope first) name.name NoArguments e
+    by_selectors (MoreSelectors (Component name) (MoreSelectors (Arguments a) NoSelectors)) e = by_object (object_numbered p.scope first) name.name a e
+    by_selectors other e = cc
 
 module _ (this : Scene) where
   abbrev quiet : QuietStays
@@ -195,6 +221,7 @@ module _ (this : Scene) where
         → at ≤ mid
         → suc mid ≤ to
         → numbers q ≡ Some number
+        → (name : List ℕ) → procedure_here program None name ≡ Some q
         → At i mid (op.Call number)
         → Comes i schedule k t m (placed f at []) fs (mid - at) mid (actuals_on now'.names q.parameters []) v
         → length ds ≡ length (results q.parameters)
@@ -208,12 +235,12 @@ module _ (this : Scene) where
         → Removable f fs
         → Unhandled items
         → Meet s
-    met_procedure i' items is stack going a now' at mid to q number ds v same leads le over numbered here comes many copies passes rest rests outside depth inner
-        unhandled =
+    met_procedure i' items is stack going a now' at mid to q number ds v same leads le over numbered name found here comes many copies passes rest rests
+        outside depth inner unhandled =
         by_left (frames_left items) refl
       where
         proc : IsProcedure i program g numbers q number
-        proc = has.procedures q number numbered
+        proc = has.procedures name q number found numbered
 
         names : List (List ℕ)
         names = results q.parameters
@@ -437,10 +464,11 @@ module _ (this : Scene) where
 
     pub met_call : (name : NameTree) (c : Callee) (items : List Item) → w.work ≡ Goes (Does (tree.Call name) ∷ items)
         → (h : IsAtItems (Does (tree.Call name) ∷ items))
+        → callee_by program None name.first name.selectors ≡ Some c
         → source.item_step now (Does (tree.Call name)) items ≡ source.call_of now c c.procedure.barrier items
         → (let r = h.follows in IsCall i program g numbers r.2 r.0 r.1 c)
         → Meet s
-    met_call name c items is h same code =
+    met_call name c items is h found same code =
         let r = h.follows in
         let leads = r.3 in
         let rests = scene.narrowed this s h.around.visible r.2 w.own f.locals leads.narrows h.rests in
@@ -449,7 +477,7 @@ module _ (this : Scene) where
         (passed_actuals (call (frames_left items)) place c.procedure.parameters c.arguments)
         (same ∙ ap (λ q. source.call_of now c q items) code.plain ∙ ap (λ q. source.procedure_call now c q items) code.outside
         ∙ ap (λ q. with_value now q items (λ a. source.plain_call now c.procedure a items)) (actuals_are items c.procedure.parameters c.arguments))
-        leads code.up code.over code.numbered code.calls
+        leads code.up code.over code.numbered name.first.name (callee_found program name.first name.selectors c found code.outside) code.calls
         (scene.evaluates this r.2 r.0 code.mid (actuals_on r.2.names c.procedure.parameters) (λ calls p. passed_actuals calls p c.procedure.parameters c.arguments)
         items f fs code.computes rests h.depth)
         code.many code.copies
@@ -465,7 +493,7 @@ module _ (this : Scene) where
         let code = r.4 in
         let end = code.6 in
         met_procedure (DoesMain (main.Call package_ procedure)) items is h.stack h.going h.around r.2 r.0 r.0 r.1 code.0 code.1 [] (Gives nothing)
-        (ap (λ q. source.main_call now q items) code.2) r.3 (omega arith) (omega (arith, end)) code.3 code.5
+        (ap (λ q. source.main_call now q items) code.2) r.3 (omega arith) (omega (arith, end)) code.3 procedure.name code.2 code.5
         (let e : r.0 - r.0 ≡ 0 = omega arith in
         subst (λ n. Comes i schedule k t m (placed f r.0 []) fs n r.0 (actuals_on r.2.names code.0.parameters []) (Gives nothing)) (sym e)
         (subst (λ ps. Comes i schedule k t m (placed f r.0 []) fs 0 r.0 (actuals_on r.2.names ps []) (Gives nothing)) (sym code.4) Done))

@@ -6,7 +6,7 @@ use Rattle.base.specs.declared.limits.TheConstants.{FRAME_WORDS, WORDS}
 use Rattle.ada_tree.specs.declared.declaration.Declaration.{Declaration}
 use Rattle.ada_tree.specs.ExpressionTree.{ExprTree}
 use Rattle.ada_tree.specs.StatementTree.{DeclarationTree, LocalObject, ObjectTree, declaration_tree}
-use Rattle.ada_tree.specs.Size.{declaration_size, total}
+use Rattle.ada_tree.specs.Size.{declaration_size}
 use Rattle.kernel.specs.Laws.{QuietStays}
 use Rattle.image.specs.Sections.{Sections}
 use Rattle.image.specs.Rules.{has_depth, is_block}
@@ -49,7 +49,8 @@ use Rattle.expr_code.specs.declared.visible.Visible.{Visible}
 use Rattle.expr_code.proofs.Flowing.{Changes, flows_then, instruction_flows, kept_then, widened}
 use Rattle.expr_code.proofs.Growing.{added_at, added_extends, added_here, extends_self, extends_trans, holds_before, holds_later}
 use Rattle.expr_code.proofs.Going.{uncapped_words}
-use Rattle.stmt_code.specs.Emitting.{AddsInitial, EmitsDeclarations, EmitsInitial, EmitsInitialWords, EmitsObject, FitsIfAny, HasEntries, PushesInitial, Serves, Takes, first_word, seeing}
+use Rattle.stmt_code.specs.Bounds.{declarations_bound, locals_words, words_if_any}
+use Rattle.stmt_code.specs.Emitting.{AddsInitial, EmitsDeclarations, EmitsInitial, EmitsInitialWords, EmitsObject, FitsIfAny, HasEntries, Pushes, Serves, Takes, first_word, seeing}
 use Rattle.stmt_code.specs.Layout.{EndsBy, Spares, Widens}
 use Rattle.stmt_code.specs.Resting.{Framed, Narrows}
 use Rattle.stmt_code.specs.Statements.{AreDeclared, IsDeclared, Numbers}
@@ -61,7 +62,7 @@ use Rattle.stmt_code.proofs.Declaring.{IsTypedAs, declares_block, declares_initi
 use Rattle.stmt_code.proofs.Initials.{are_pushed, form_there, initial_word, pushed_extends, pushed_flows, pushed_here, shape_there}
 use Rattle.stmt_code.proofs.Laying.{AddsObject, ends_wider, free_wider, laid_wider, widens_behind}
 use Rattle.stmt_code.proofs.Narrowing.{narrows_wider}
-use Rattle.stmt_code.proofs.StoringCode.{ArePushed}
+use Rattle.stmt_code.specs.Storing.{ArePushed}
 use Rattle.stmt_code.proofs.Stored.{less_true}
 use Rattle.stmt_code.proofs.StoredParts.{store_changes}
 use Rattle.stmt_code.proofs.Suiting.{entries_wider, number_wider, slots_first, stands_wider, subprograms_first, suits_wider}
@@ -123,7 +124,7 @@ module _ (kept : AgreementIsKept) (sized : ValuesHaveWords) (calls : CallsAreTyp
 
     pub record IsInitial : Type 0 where
       pub extends : Extends a.code c.code
-      pub few : here c.code ≤ here a.code + 20 * declaration_size (LocalObject d)
+      pub few : here c.code ≤ here a.code + (20 * declaration_size (LocalObject d) + 2 * size)
       pub some : 1 ≤ size
       pub flows : (i : Sections) (s : Subprogram) (low high : ℕ) → low ≤ here a.code → here c.code ≤ high → Holds i (here a.code) c.code → SuitsStatements v i s
           → c.code.deepest ≤ s.stack → first + size ≤ s.locals → has_depth i (here c.code) 0 ≡ true
@@ -284,12 +285,11 @@ module _ (kept : AgreementIsKept) (sized : ValuesHaveWords) (calls : CallsAreTyp
             (added_at m c.code (1 + size) (op.StoreBlock regions.Locals size) store i (here a.code) (omega (arith, begun, up)) h)));
       }
 
-      none_pushed : d.value ≡ None → PushesInitial v l t m → IsInitial
+      none_pushed : d.value ≡ None → Pushes l 1 (value_words (initial v.scope t)) m → IsInitial
       none_pushed valued p = record {
         extends = words_extend grown runs;
         few = (let n = ap (λ o. 20 * declaration_size (LocalObject (record d { value = o }))) valued in
-            let many = p.few in
-            omega (arith, begun, ended, counted, wide, many, n));
+            omega (arith, begun, ended, counted, wide, n));
         some = block_some size block;
         flows = words_flow grown runs;
         stands = λ i h program g numbers f names serves widens spares.
@@ -304,7 +304,7 @@ module _ (kept : AgreementIsKept) (sized : ValuesHaveWords) (calls : CallsAreTyp
             (added_at a.code l 0 (op.Push (pos first)) address i (here a.code) (omega arith) (holds_before i (here a.code) l m grown in_value))
             (subst (λ n. ArePushed i n (value_words (initial program.scope t))) begun
             (subst (λ x. ArePushed i (here l) (value_words (initial_of x))) shape
-            (are_pushed l m 1 (value_words (initial v.scope t)) p.pushes i (here a.code) (omega (arith, begun)) in_value)))
+            (are_pushed l m 1 (value_words (initial v.scope t)) p i (here a.code) (omega (arith, begun)) in_value)))
             (subst (λ x. here m ≡ suc (here a.code) + length (value_words (initial_of x))) shape (omega (arith, begun, counted)))
             (subst (λ x. At i (here m) (op.StoreBlock regions.Locals (words_of x.scope t))) (sym names)
             (added_at m c.code (1 + size) (op.StoreBlock regions.Locals size) store i (here a.code) (omega (arith, begun, counted)) h)));
@@ -314,13 +314,13 @@ module _ (kept : AgreementIsKept) (sized : ValuesHaveWords) (calls : CallsAreTyp
           wide = (sized (shape_of v.scope t) (initial v.scope t) (shaped (shape_of v.scope t))).sized
 
           counted : here m ≡ here l + length (value_words (initial v.scope t))
-          counted = pushed_here l m 1 (value_words (initial v.scope t)) p.pushes
+          counted = pushed_here l m 1 (value_words (initial v.scope t)) p
 
           grown : Extends l m
-          grown = pushed_extends l m 1 (value_words (initial v.scope t)) p.pushes
+          grown = pushed_extends l m 1 (value_words (initial v.scope t)) p
 
           runs : Flows (Suits v) l 1 m (1 + size)
-          runs = subst (λ n. Flows (Suits v) l 1 m (1 + n)) wide (pushed_flows (Suits v) l m 1 (value_words (initial v.scope t)) p.pushes)
+          runs = subst (λ n. Flows (Suits v) l 1 m (1 + n)) wide (pushed_flows (Suits v) l m 1 (value_words (initial v.scope t)) p)
 
       words_are : (o : Option ExprTree) → d.value ≡ o → EmitsInitialWords v l t o m → IsInitial
       words_are (Some e) is p = words_given e is p
@@ -405,7 +405,7 @@ module _ (kept : AgreementIsKept) (sized : ValuesHaveWords) (calls : CallsAreTyp
       extends = this.extends;
       labels = labels_stay a.labels c.labels same;
       most = takes.grows;
-      sized = (let n = this.few in omega (arith, n));
+      sized = (let n = this.few in let k = ap (words_if_any v.scope) named in omega (arith, n, k));
       scope = scope;
       slots = slots_first stay v later d.name.name r t slot sound entries hidden scope_is slots subprograms;
       subprograms = subprograms_first stay v later d.name.name r t slot sound entries hidden scope_is slots subprograms;
@@ -436,9 +436,9 @@ pub locals_again : (s : Scope) (ds es : List DeclarationTree) → locals_scope s
 locals_again s [] es = refl
 locals_again s (d ∷ ds) es = locals_again (local_scope s d) ds es
 
-sizes : (ds es : List DeclarationTree) → total declaration_size (ds ++ es) ≡ total declaration_size ds + total declaration_size es
-sizes [] es = omega arith
-sizes (d ∷ ds) es = let e = sizes ds es in omega (arith, e)
+bounds : (s : Scope) (ds es : List DeclarationTree) → declarations_bound s (ds ++ es) ≡ declarations_bound s ds + declarations_bound (locals_scope s ds) es
+bounds s [] es = omega arith
+bounds s (d ∷ ds) es = let e = bounds (local_scope s d) ds es in omega (arith, e)
 
 same_head : {X : Type 0} (u w : X) (us vs : List X) → u ∷ us ≡ w ∷ vs → u ≡ w
 same_head u w us vs e = cc
@@ -493,7 +493,7 @@ declarations_then v behind later a b c ds es p q = record {
   extends = extends_trans a.code b.code c.code p.extends q.extends;
   labels = labels_then a.labels b.labels c.labels p.labels q.labels;
   most = omega (arith, p.most, q.most);
-  sized = (let n = sizes ds es in omega (arith, p.sized, q.sized, n));
+  sized = (let n = bounds v.scope ds es in let k = ap (λ s. locals_words s es) p.scope in omega (arith, p.sized, q.sized, n, k));
   scope = q.scope ∙ ap (λ s. locals_scope s es) p.scope ∙ sym (locals_again v.scope ds es);
   slots = taken_again v.slots behind.slots later.slots p.slots q.slots;
   subprograms = taken_again v.subprograms behind.subprograms later.subprograms p.subprograms q.subprograms;

@@ -39,9 +39,9 @@ use Rattle.expr_code.proofs.Coming.{pushes}
 use Rattle.stmt_code.specs.Layout.{IsLaidOut, Widens, IsFree, Spares}
 use Rattle.stmt_code.specs.Resting.{Framed, IsAt, Knows, Rests, StandsFor, AreKept}
 use Rattle.stmt_code.specs.Statements.{IsDeclared, Numbers}
-use Rattle.stmt_code.specs.Storing.{Puts, Stores, declared, declared_from}
+use Rattle.stmt_code.specs.Storing.{ArePushed, Puts, Stores, declared, declared_from}
 use Rattle.stmt_code.proofs.Placing.{declared_knows}
-use Rattle.stmt_code.proofs.StoringCode.{ArePushed, StoresLocally, block_locally, computes_above, computes_pushed, passed_same, same_given, word_locally}
+use Rattle.stmt_code.proofs.StoringCode.{StoresLocally, block_locally, computes_above, computes_pushed, passed_same, same_given, word_locally}
 use Rattle.stmt_code.proofs.Words.{with_words, written, others_kept}
 
 -- what is known of an expression whose value is stored, beside its code: its value is of the subtype's type

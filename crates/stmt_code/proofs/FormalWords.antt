@@ -1,6 +1,6 @@
 -- The words of formal parameters, one after the other: those that are passed, where each stands, and what gives `out` parameters their first values and returns those
 -- that are copied back.
-use Rattle.std.proofs.Common.{◌≡◌, ℕ, suc, ◌+◌, ◌<◌, ◌≤◌, ◌++◌, List, [], ◌∷◌, length, map, take, drop, Bool, true, false, Option, Some, None, refl, sym, ap, ◌∙◌, subst, arith, inl, inr}
+use Rattle.std.proofs.Common.{◌≡◌, ℕ, suc, ◌+◌, ◌*◌, ◌<◌, ◌≤◌, ◌⊎◌, ◌++◌, List, [], ◌∷◌, length, map, take, drop, Bool, true, false, Option, Some, None, refl, sym, ap, ◌∙◌, subst, arith, inl, inr}
 use Rattle.std.specs.Prelude.{get_or, pos}
 use Rattle.std.proofs.lemmas.List.{at_drop_more, drop_all, length-append}
 use Rattle.ada_tree.specs.declared.declaration.Formal.{Formal}
@@ -13,24 +13,35 @@ use Rattle.ada_tree.specs.Size.{total}
 use Rattle.image.specs.Sections.{Sections}
 use Rattle.image.specs.declared.instruction.Operation.TheVariants as op
 use Rattle.image.specs.declared.instruction.Region.TheVariants as regions
+use Rattle.image.specs.Rules.{is_block}
+use Rattle.image.specs.declared.subprograms.Subprogram.{Subprogram}
 use Rattle.types.specs.declared.entity.Subtype.{Subtype}
 use Rattle.types.specs.Layouts.{words_of}
 use Rattle.types.specs.Scopes.{Scope}
+use Rattle.types.specs.Laws.{InitialValuesHaveShape, ValuesHaveWords}
+use Rattle.types.specs.Shapes.{initial, shape_of, value_words}
 use Rattle.type_rules.specs.SubtypeNames.{subtype_of}
 use Rattle.declaring.specs.BodyNames.{formals_scope}
+use Rattle.well_typed.proofs.Positions.{same_some}
 use Rattle.meaning.specs.Calls.{is_out}
 use Rattle.expr_code.specs.Code.{Adds, Extends, Holds, here}
+use Rattle.expr_code.specs.Flows.{AreKept, Flows}
 use Rattle.expr_code.specs.Views.{At}
 use Rattle.expr_code.specs.declared.code.Code.{Code}
 use Rattle.expr_code.specs.declared.visible.Visible.{Visible}
-use Rattle.expr_code.proofs.Growing.{added_at, added_extends, added_here, extends_self, extends_trans, holds_before, holds_later}
-use Rattle.stmt_code.specs.Formals.{AddsInitialised, AddsLoaded, AddsReturned, AreInitial, AreReturned, Initialises, InitialThen, IsLoaded, PlacesFormals, ReturnedThen, Returns, ReturnsOne, StandInTurn, StandsAt, no_subprogram, passed_for, returned_more, slot_for, words_named, words_returned}
+use Rattle.expr_code.proofs.Flowing.{flows_same, flows_then, kept_then}
+use Rattle.expr_code.proofs.Growing.{added_at, added_extends, added_here, added_there, extends_self, extends_trans, holds_before, holds_later}
+use Rattle.stmt_code.specs.Bounds.{words_if_any, words_named}
+use Rattle.stmt_code.specs.Formals.{AddsLoaded, AddsReturned, AreInitial, AreReturned, HasRoom, HasRoomAt, HaveRoom, Initialises, InitialThen, IsLoaded, PlacesFormals, ReturnedThen, Returns, ReturnsOne, StandInTurn, StandsAt, StoresFirstWord, StoresFirstWords, no_subprogram, passed_for, placed_words, returned_more, slot_for, words_returned}
 use Rattle.stmt_code.specs.declared.draft.FrameWords.{FrameWords}
 use Rattle.stmt_code.specs.declared.formals.PlacedFormal.{PlacedFormal}
 use Rattle.stmt_code.specs.declared.formals.PlacedFormals.{PlacedFormals}
-use Rattle.stmt_code.specs.Emitting.{HasEntries}
-use Rattle.stmt_code.specs.Subprograms.{AddsCalls, AddsMainCall, AreCalls}
+use Rattle.stmt_code.specs.Emitting.{AddsInitial, EmitsObject, HasEntries, Pushes}
+use Rattle.stmt_code.specs.Storing.{ArePushed}
+use Rattle.stmt_code.specs.Subprograms.{AddsCalls, AddsMainCall, AreCalls, CallBare}
 use Rattle.stmt_code.proofs.Adding.{mapped_next, take_all}
+use Rattle.stmt_code.proofs.FormalFlows.{address_flows, call_flows, first_block_flows, first_word_flows, flows_under, return_kept, room_at}
+use Rattle.stmt_code.proofs.Initials.{are_pushed, pushed_extends, pushed_here}
 use Rattle.stmt_code.proofs.Opening.{append_again, append_none}
 
 -- ---- the words that are passed
@@ -39,7 +50,7 @@ pub passed_named : (s : Scope) (f : Formal) (t : Subtype) (m : Mode) → subtype
     → passed_for s f ≡ elim m [ mode.In ↦ words_of s t | mode.Out ↦ 1 | mode.InOut ↦ suc (words_of s t) ]
 passed_named s f t m named is =
     ap (λ q. elim q [ mode.In ↦ words_named s f.subtype | mode.Out ↦ 1 | mode.InOut ↦ suc (words_named s f.subtype) ]) is
-    ∙ ap (λ n. elim m [ mode.In ↦ n | mode.Out ↦ 1 | mode.InOut ↦ suc n ]) (ap (λ o. elim o [ None ↦ 0 | Some u ↦ words_of s u ]) named)
+    ∙ ap (λ n. elim m [ mode.In ↦ n | mode.Out ↦ 1 | mode.InOut ↦ suc n ]) (ap (words_if_any s) named)
 
 pub passed_next : (s : Scope) (fs : List Formal) (n : ℕ) (f : Formal) → n < length fs → f ≡ get_or fs n f
     → total (passed_for s) (drop n fs) ≡ passed_for s f + total (passed_for s) (drop (n + 1) fs)
@@ -94,75 +105,126 @@ passed_placed base (f ∷ fs) (x ∷ xs) from out last top h =
 
 -- ---- the first values of `out` parameters
 
+-- at most so many instructions give them
+abbrev most_initial : Scope → List PlacedFormal → ℕ
+most_initial s xs = 2 * length xs + total (placed_words s) xs
+
 pub record InitialSoFar (s : Scope) (old : Code) (xs : List PlacedFormal) (n : ℕ) (now : Code) : Type 0 where
   pub extends : Extends old now
+  pub sized : here now + most_initial s (drop n xs) ≤ here old + most_initial s xs
   pub stands : (i : Sections) (to : ℕ) → Holds i (here old) now → AreInitial i s (here now) to (drop n xs) → AreInitial i s (here old) to xs
+  pub flows : Flows (HaveRoom s xs) old 0 now 0
 
 pub initial_begins : (s : Scope) (old : Code) (xs : List PlacedFormal) → InitialSoFar s old xs 0 old
-initial_begins s old xs = record { extends = extends_self old; stands = λ i to h are. are }
+initial_begins s old xs = record { extends = extends_self old; sized = omega arith; stands = λ i to h are. are; flows = flows_same (HaveRoom s xs) old 0 }
 
-module _ (s : Scope) (old now next : Code) (xs : List PlacedFormal) (n : ℕ) (x other : PlacedFormal) (less : n < length xs) (is : x ≡ get_or xs n other)
-    (so_far : InitialSoFar s old xs n now) where
+module _ (v : Visible) (old now next : Code) (xs : List PlacedFormal) (n : ℕ) (x other : PlacedFormal) (less : n < length xs) (is : x ≡ get_or xs n other)
+    (wide : length (value_words (initial v.scope x.subtype)) ≡ words_of v.scope x.subtype) (so_far : InitialSoFar v.scope old xs n now) where
   first_is : drop n xs ≡ x ∷ drop (n + 1) xs
   first_is = at_drop_more (λ l. l) xs n other less ∙ ap (λ y. y ∷ drop (n + 1) xs) (sym is)
 
+  has_word : (i : Sections) (q : Subprogram) → HaveRoom v.scope xs i q → x.offset < q.locals
+  has_word i q asked = (room_at v.scope xs n x other less is i q asked).value
+
   -- one that is not copied in
-  pub initial_next : is_out x.mode ≡ true → AddsInitialised s now x next → InitialSoFar s old xs (n + 1) next
-  initial_next out q = record {
+  begins_next : is_out x.mode ≡ true → here next ≤ here now + (2 + words_of v.scope x.subtype) → Extends now next → Flows (HaveRoom v.scope xs) now 0 next 0
+      → ((i : Sections) → Holds i (here old) next → StoresFirstWord i v.scope (here now) (here next) x ⊎ StoresFirstWords i v.scope (here now) (here next) x)
+      → InitialSoFar v.scope old xs (n + 1) next
+  begins_next out few grows runs begins = record {
     extends = extends_trans old now next so_far.extends grows;
+    sized = (let e = ap (most_initial v.scope) first_is in let s = so_far.sized in omega (arith, e, s, few));
     stands = λ i to h are.
         so_far.stands i to (holds_before i (here old) now next grows h)
-        (subst (AreInitial i s (here now) to) (sym first_is)
-        (subst (λ b. InitialThen i s (here now) x (λ m. AreInitial i s m to (drop (n + 1) xs)) b) (sym out) (
-          q.word,
-          q.first,
-          added_at now q.pushed 0 (op.Push q.word) q.pushes i (here old) so_far.extends.longer (holds_before i (here old) q.pushed next stored h),
-          subst (λ m. At i m (op.StoreLocal x.offset)) one
-              (added_at q.pushed next 1 (op.StoreLocal x.offset) q.stores i (here old) (omega (arith, so_far.extends.longer, one)) h),
-          subst (λ m. AreInitial i s m to (drop (n + 1) xs)) (two ∙ ap suc one) are,
-        )));
+        (subst (AreInitial i v.scope (here now) to) (sym first_is)
+        (subst (λ b. InitialThen i v.scope (here now) x (λ m. AreInitial i v.scope m to (drop (n + 1) xs)) b) (sym out) (here next, begins i h, are)));
+    flows = flows_then (HaveRoom v.scope xs) old now next 0 0 0 so_far.extends grows so_far.flows runs;
   }
-    where
-      pushed : Extends now q.pushed
-      pushed = added_extends now q.pushed 0 (op.Push q.word) q.pushes
 
-      stored : Extends q.pushed next
-      stored = added_extends q.pushed next 1 (op.StoreLocal x.offset) q.stores
+  -- ... of one word
+  word_next : (pushed : Code) → is_out x.mode ≡ true → here next ≤ here now + (2 + words_of v.scope x.subtype) → AddsInitial v now x.subtype pushed → Adds pushed 1 (op.StoreLocal x.offset) next
+      → InitialSoFar v.scope old xs (n + 1) next
+  word_next pushed out few q store =
+      let pushing = added_extends now pushed 0 (op.Push q.word) q.adds in
+      let storing = added_extends pushed next 1 (op.StoreLocal x.offset) store in
+      let one = added_here now pushed 0 (op.Push q.word) q.adds in
+      begins_next out few (extends_trans now pushed next pushing storing)
+      (first_word_flows (HaveRoom v.scope xs) now pushed next x.offset q.word has_word q.adds store)
+      (λ i h.
+      inl (record {
+        word = q.word;
+        first = q.first;
+        push = added_at now pushed 0 (op.Push q.word) q.adds i (here old) so_far.extends.longer (holds_before i (here old) pushed next storing h);
+        store = subst (λ m. At i m (op.StoreLocal x.offset)) one
+            (added_at pushed next 1 (op.StoreLocal x.offset) store i (here old) (omega (arith, so_far.extends.longer, one)) h);
+        end = added_here pushed next 1 (op.StoreLocal x.offset) store ∙ ap suc one;
+      }))
 
-      grows : Extends now next
-      grows = extends_trans now q.pushed next pushed stored
+  -- ... of several
+  words_next : (placed pushed : Code) → is_block (words_of v.scope x.subtype) ≡ true → is_out x.mode ≡ true
+      → here next ≤ here now + (2 + words_of v.scope x.subtype) → Adds now 0 (op.Push (pos x.offset)) placed
+      → Pushes placed 1 (value_words (initial v.scope x.subtype)) pushed
+      → Adds pushed (1 + words_of v.scope x.subtype) (op.StoreBlock regions.Locals (words_of v.scope x.subtype)) next
+      → InitialSoFar v.scope old xs (n + 1) next
+  words_next placed pushed block out few address q store =
+      let all = value_words (initial v.scope x.subtype) in
+      let size = words_of v.scope x.subtype in
+      let pushing = pushed_extends placed pushed 1 all q in
+      let storing = added_extends pushed next (1 + size) (op.StoreBlock regions.Locals size) store in
+      let one = added_here now placed 0 (op.Push (pos x.offset)) address in
+      let many = pushed_here placed pushed 1 all q in
+      begins_next out few
+      (extends_trans now placed next (added_extends now placed 0 (op.Push (pos x.offset)) address) (extends_trans placed pushed next pushing storing))
+      (first_block_flows (HaveRoom v.scope xs) now placed pushed next x.offset size all block wide address q store)
+      (λ i h.
+      let in_value = holds_before i (here old) pushed next storing h in
+      inr (record {
+        mid = here pushed;
+        address = added_at now placed 0 (op.Push (pos x.offset)) address i (here old) so_far.extends.longer (holds_before i (here old) placed pushed pushing in_value);
+        pushed = subst (λ m. ArePushed i m all) one (are_pushed placed pushed 1 all q i (here old) (omega (arith, so_far.extends.longer, one)) in_value);
+        long = omega (arith, one, many);
+        store = added_at pushed next (1 + size) (op.StoreBlock regions.Locals size) store i (here old) (omega (arith, so_far.extends.longer, one, many)) h;
+        end = added_here pushed next (1 + size) (op.StoreBlock regions.Locals size) store;
+      }))
 
-      one : here q.pushed ≡ suc (here now)
-      one = added_here now q.pushed 0 (op.Push q.word) q.pushes
-
-      two : here next ≡ suc (here q.pushed)
-      two = added_here q.pushed next 1 (op.StoreLocal x.offset) q.stores
+  -- ... of however many
+  initial_next : is_out x.mode ≡ true → here next ≤ here now + (2 + words_of v.scope x.subtype) → EmitsObject v now x.offset x.subtype None next
+      → InitialSoFar v.scope old xs (n + 1) next
+  initial_next out few (inl q) = word_next q.valued out few q.value q.store
+  initial_next out few (inr q) = words_next q.placed q.valued q.block out few q.address q.value q.store
 
   -- another one
-  pub initial_past : is_out x.mode ≡ false → InitialSoFar s old xs (n + 1) now
+  initial_past : is_out x.mode ≡ false → InitialSoFar v.scope old xs (n + 1) now
   initial_past out = record {
     extends = so_far.extends;
+    sized = (let e = ap (most_initial v.scope) first_is in let s = so_far.sized in omega (arith, e, s));
     stands = λ i to h are.
         so_far.stands i to h
-        (subst (AreInitial i s (here now) to) (sym first_is)
-        (subst (λ b. InitialThen i s (here now) x (λ m. AreInitial i s m to (drop (n + 1) xs)) b) (sym out) are));
+        (subst (AreInitial i v.scope (here now) to) (sym first_is)
+        (subst (λ b. InitialThen i v.scope (here now) x (λ m. AreInitial i v.scope m to (drop (n + 1) xs)) b) (sym out) are));
+    flows = so_far.flows;
   }
 
 -- whichever it is
-pub initial_turn : (s : Scope) (old now next : Code) (xs : List PlacedFormal) (n : ℕ) (x other : PlacedFormal) → n < length xs → x ≡ get_or xs n other
-    → InitialSoFar s old xs n now
-    → (is_out x.mode ≡ true → AddsInitialised s now x next) → (is_out x.mode ≡ false → next ≡ now)
-    → InitialSoFar s old xs (n + 1) next
-initial_turn s old now next xs n x other less is so_far out past = by_mode (is_out x.mode) refl
+pub initial_turn : ValuesHaveWords → InitialValuesHaveShape → (v : Visible) (old now next : Code) (xs : List PlacedFormal) (n : ℕ) (x other : PlacedFormal) → n < length xs → x ≡ get_or xs n other
+    → InitialSoFar v.scope old xs n now
+    → (is_out x.mode ≡ true → EmitsObject v now x.offset x.subtype None next) → (is_out x.mode ≡ false → next ≡ now)
+    → here next ≤ here now + (2 + words_of v.scope x.subtype)
+    → InitialSoFar v.scope old xs (n + 1) next
+initial_turn sized shaped v old now next xs n x other less is so_far out past few = by_mode (is_out x.mode) refl
   where
-    by_mode : (b : Bool) → is_out x.mode ≡ b → InitialSoFar s old xs (n + 1) next
-    by_mode true e = initial_next s old now next xs n x other less is so_far e (out e)
-    by_mode false e = subst (InitialSoFar s old xs (n + 1)) (sym (past e)) (initial_past s old now next xs n x other less is so_far e)
+    wide : length (value_words (initial v.scope x.subtype)) ≡ words_of v.scope x.subtype
+    wide = (sized (shape_of v.scope x.subtype) (initial v.scope x.subtype) (shaped (shape_of v.scope x.subtype))).sized
+
+    by_mode : (b : Bool) → is_out x.mode ≡ b → InitialSoFar v.scope old xs (n + 1) next
+    by_mode true e = initial_next v old now next xs n x other less is wide so_far e few (out e)
+    by_mode false e = subst (InitialSoFar v.scope old xs (n + 1)) (sym (past e)) (initial_past v old now next xs n x other less is wide so_far e)
 
 pub initial_all : (s : Scope) (old now : Code) (xs : List PlacedFormal) (n : ℕ) → length xs ≤ n → InitialSoFar s old xs n now → Initialises s old xs now
 initial_all s old now xs n up so_far = record {
   extends = so_far.extends;
+  sized = (let s = so_far.sized in omega (arith, s));
   stands = λ i h. so_far.stands i (here now) h (subst (AreInitial i s (here now) (here now)) (sym (drop_all n xs up)) refl);
+  flows = so_far.flows;
 }
 
 -- ---- what is returned, from the last one to the first
@@ -170,14 +232,18 @@ initial_all s old now xs n up so_far = record {
 -- those behind the first n
 pub record ReturnedSoFar (s : Scope) (old : Code) (xs : List PlacedFormal) (n height : ℕ) (now : Code) : Type 0 where
   pub extends : Extends old now
+  pub sized : here now ≤ here old + 3 * length (drop n xs)
   pub high : height ≡ words_returned s (drop n xs)
   pub stands : (i : Sections) → Holds i (here old) now → AreReturned i s (here old) (here now) (drop n xs)
+  pub flows : Flows (HaveRoom s xs) old 0 now height
 
 pub returned_begins : (s : Scope) (old : Code) (xs : List PlacedFormal) (n : ℕ) → length xs ≤ n → ReturnedSoFar s old xs n 0 old
 returned_begins s old xs n up = record {
   extends = extends_self old;
+  sized = omega arith;
   high = ap (words_returned s) (sym (drop_all n xs up));
   stands = λ i h. subst (AreReturned i s (here old) (here old)) (sym (drop_all n xs up)) refl;
+  flows = flows_same (HaveRoom s xs) old 0;
 }
 
 module _ (s : Scope) (old now next : Code) (xs : List PlacedFormal) (n height : ℕ) (x other : PlacedFormal) (less : n < length xs) (is : x ≡ get_or xs n other)
@@ -187,9 +253,11 @@ module _ (s : Scope) (old now next : Code) (xs : List PlacedFormal) (n height : 
 
   -- one that is copied back
   pub returned_next : (a : ℕ) → x.address ≡ Some a → (higher : ℕ) → higher ≡ suc (height + words_of s x.subtype) → AddsReturned s now a x next
+      → Flows (HasRoom s x) now height next higher
       → ReturnedSoFar s old xs n higher next
-  returned_next a there higher high q = record {
+  returned_next a there higher high q runs = record {
     extends = extends_trans old now next so_far.extends q.extends;
+    sized = (let e = ap length last_is in let s = so_far.sized in let t = q.sized in omega (arith, e, s, t));
     high = (let e = so_far.high in omega (arith, high, e))
         ∙ ap (λ o. returned_more o (words_of s x.subtype) (words_returned s (drop (n + 1) xs))) (sym there)
         ∙ ap (words_returned s) (sym last_is);
@@ -203,16 +271,20 @@ module _ (s : Scope) (old now next : Code) (xs : List PlacedFormal) (n height : 
           q.addresses i (holds_later i (here old) (here now) next so_far.extends.longer h),
           q.loads i (holds_later i (here old) (here now) next so_far.extends.longer h),
         ));
+    flows = flows_then (HaveRoom s xs) old now next 0 height higher so_far.extends q.extends so_far.flows
+        (flows_under (HasRoom s x) (HaveRoom s xs) (room_at s xs n x other less is) now next height higher runs);
   }
 
   -- another one
   pub returned_past : x.address ≡ None → ReturnedSoFar s old xs n height now
   returned_past none = record {
     extends = so_far.extends;
+    sized = (let e = ap length last_is in let s = so_far.sized in omega (arith, e, s));
     high = so_far.high ∙ ap (λ o. returned_more o (words_of s x.subtype) (words_returned s (drop (n + 1) xs))) (sym none) ∙ ap (words_returned s) (sym last_is);
     stands = λ i h.
         subst (AreReturned i s (here old) (here now)) (sym last_is)
         (subst (λ o. ReturnedThen i s (here old) (here now) x (λ m. AreReturned i s (here old) m (drop (n + 1) xs)) o) (sym none) (so_far.stands i h));
+    flows = so_far.flows;
   }
 
 -- whichever it is
@@ -222,7 +294,7 @@ pub returned_turn : (s : Scope) (old now next : Code) (xs : List PlacedFormal) (
 returned_turn s old now next xs n depth height x other less is so_far q = by_address x.address refl
   where
     by_address : (o : Option ℕ) → x.address ≡ o → ReturnedSoFar s old xs n height next
-    by_address (Some a) e = let k = q.some a e in returned_next s old now next xs n depth x other less is so_far a e height k.1 k.0
+    by_address (Some a) e = let k = q.some a e in returned_next s old now next xs n depth x other less is so_far a e height k.1 k.0 q.flows
     by_address None e =
         let k = q.none e in
         subst (λ h. ReturnedSoFar s old xs n h next) (sym k.1)
@@ -232,21 +304,33 @@ pub returned_all : (s : Scope) (old now next : Code) (xs : List PlacedFormal) (h
     → Returns s old xs height next
 returned_all s old now next xs height so_far q = record {
   extends = extends_trans old now next so_far.extends grows;
+  sized = (let e = added_here now next height op.Return q in let s = so_far.sized in omega (arith, e, s));
   back = here now;
-  end = added_here now next height op.Return q;
+  up = so_far.extends.longer;
+  end = ended;
   high = so_far.high;
   stands = λ i h. so_far.stands i (holds_before i (here old) now next grows h);
   returns = λ i h. added_at now next height op.Return q i (here old) so_far.extends.longer h;
+  flows = λ i z h room deep results.
+      let last = return_kept i z (here old) (here now) (here now) height (added_there now next height op.Return q i (here old) so_far.extends.longer h)
+      (omega (arith, q.within, deep)) results in
+      let first = so_far.flows.flows i z (holds_before i (here old) now next grows h) room (omega (arith, q.deeper, deep)) last.shallow last.begins in
+      kept_then i z (here old) (here now) (here old) (here now) (here next) 0 height first
+      (subst (λ n. AreKept i z (here old) (here now) (here now) n height) (sym ended) last);
 }
   where
     grows : Extends now next
     grows = added_extends now next height op.Return q
+
+    ended : here next ≡ suc (here now)
+    ended = added_here now next height op.Return q
 
 -- ---- one value
 
 pub loads_single : (old new : Code) (depth offset many : ℕ) → many ≡ 1 → Adds old depth (op.LoadLocal offset) new → AddsLoaded old offset many new
 loads_single old new depth offset many single q = record {
   extends = added_extends old new depth (op.LoadLocal offset) q;
+  sized = (let e = added_here old new depth (op.LoadLocal offset) q in omega (arith, e));
   loads = λ i h. inl (single, added_at old new depth (op.LoadLocal offset) q i (here old) (omega arith) h, added_here old new depth (op.LoadLocal offset) q);
 }
 
@@ -254,6 +338,7 @@ pub loads_several : (old pushed new : Code) (depth above offset many : ℕ) → 
     → Adds pushed above (op.LoadBlock regions.Locals many) new → AddsLoaded old offset many new
 loads_several old pushed new depth above offset many p q = record {
   extends = extends_trans old pushed new grows more;
+  sized = (let e = added_here pushed new above (op.LoadBlock regions.Locals many) q in omega (arith, e, one));
   loads = λ i h. inr (
     added_at old pushed depth (op.Push (pos offset)) p i (here old) (omega arith) (holds_before i (here old) pushed new more h),
     subst (λ m. At i m (op.LoadBlock regions.Locals many)) one
@@ -276,6 +361,7 @@ pub returns_one : (s : Scope) (old addressed new : Code) (depth address many : �
 returns_one s old addressed new depth address many x wide p q = record {
   extends = extends_trans old addressed new grows q.extends;
   longer = (let e = q.extends.longer in omega (arith, one, e));
+  sized = (let e = q.sized in omega (arith, one, e));
   addresses = λ i h. added_at old addressed depth (op.LoadLocal address) p i (here old) (omega arith) (holds_before i (here old) addressed new q.extends h);
   loads = λ i h.
       subst (λ m. IsLoaded i m (here new) x.offset (words_of s x.subtype)) one
@@ -287,6 +373,15 @@ returns_one s old addressed new depth address many x wide p q = record {
 
     one : here addressed ≡ suc (here old)
     one = added_here old addressed depth (op.LoadLocal address) p
+
+pub returns_some : (s : Scope) (old new : Code) (depth address height : ℕ) (x : PlacedFormal) → x.address ≡ Some address → AddsReturned s old address x new
+    → height ≡ suc (depth + words_of s x.subtype) → Flows (HasRoomAt s address x) old depth new height
+    → ReturnsOne s old depth x height new
+returns_some s old new depth address height x there adds high runs = record {
+  none = λ is. absurd (let never = sym is ∙ there in cc);
+  some = λ a is. (subst (λ n. AddsReturned s old n x new) (same_some address a (sym there ∙ is)) adds, high);
+  flows = address_flows s old new depth address height x there runs;
+}
 
 -- ---- places that are shown, one behind the other
 
@@ -303,10 +398,12 @@ shown_all f front now xs n up before = before ∙ ap (λ l. front ++ map f l) (t
 
 pub record CallsSoFar (v : Visible) (old : Code) (all : List MainStatement) (n : ℕ) (now : Code) : Type 0 where
   pub extends : Extends old now
+  pub sized : here now + length (drop n all) ≤ here old + length all
   pub stands : (i : Sections) (to : ℕ) → Holds i (here old) now → AreCalls i v (here now) to (drop n all) → AreCalls i v (here old) to all
+  pub flows : Flows (CallBare v all) old 0 now 0
 
 pub calls_begin : (v : Visible) (old : Code) (all : List MainStatement) → CallsSoFar v old all 0 old
-calls_begin v old all = record { extends = extends_self old; stands = λ i to h are. are }
+calls_begin v old all = record { extends = extends_self old; sized = omega arith; stands = λ i to h are. are; flows = flows_same (CallBare v all) old 0 }
 
 module _ (v : Visible) (old now next : Code) (all : List MainStatement) (n : ℕ) (s : MainStatement) (less : n < length all) (is : s ≡ get_or all n s)
     (so_far : CallsSoFar v old all n now) where
@@ -316,6 +413,7 @@ module _ (v : Visible) (old now next : Code) (all : List MainStatement) (n : ℕ
   pub call_next : (package_ procedure : Identifier) → s ≡ main.Call package_ procedure → AddsMainCall v now procedure next → CallsSoFar v old all (n + 1) next
   call_next package_ procedure called q = record {
     extends = extends_trans old now next so_far.extends grows;
+    sized = (let e = ap length call_first in let s = so_far.sized in let one = added_here now next 0 (op.Call q.number) q.adds in omega (arith, e, s, one));
     stands = λ i to h are.
         so_far.stands i to (holds_before i (here old) now next grows h)
         (subst (AreCalls i v (here now) to) (sym (call_first ∙ ap (λ y. y ∷ drop (n + 1) all) called)) (
@@ -324,6 +422,8 @@ module _ (v : Visible) (old now next : Code) (all : List MainStatement) (n : ℕ
           added_at now next 0 (op.Call q.number) q.adds i (here old) so_far.extends.longer h,
           subst (λ m. AreCalls i v m to (drop (n + 1) all)) (added_here now next 0 (op.Call q.number) q.adds) are,
         ));
+    flows = flows_then (CallBare v all) old now next 0 0 0 so_far.extends grows so_far.flows
+        (call_flows v all n s package_ procedure q.number now next less is called q.told q.adds);
   }
     where
       grows : Extends now next
@@ -332,19 +432,23 @@ module _ (v : Visible) (old now next : Code) (all : List MainStatement) (n : ℕ
   pub call_past : (place : ℕ) → s ≡ main.Null place → CallsSoFar v old all (n + 1) now
   call_past place is_null = record {
     extends = so_far.extends;
+    sized = (let e = ap length call_first in let s = so_far.sized in omega (arith, e, s));
     stands = λ i to h are.
         so_far.stands i to h (subst (AreCalls i v (here now) to) (sym (call_first ∙ ap (λ y. y ∷ drop (n + 1) all) is_null)) are);
+    flows = so_far.flows;
   }
 
 pub calls_all : (v : Visible) (old now : Code) (all : List MainStatement) (n : ℕ) → length all ≤ n → CallsSoFar v old all n now → AddsCalls v old all now
 calls_all v old now all n up so_far = record {
   extends = so_far.extends;
+  sized = (let s = so_far.sized in omega (arith, s));
   stands = λ i h. so_far.stands i (here now) h (subst (AreCalls i v (here now) (here now)) (sym (drop_all n all up)) refl);
+  flows = so_far.flows;
 }
 
 -- ---- entries for the names of parameters
 
-placed_long : (s : Scope) (fs : List Formal) (xs : List PlacedFormal) (from out last top : ℕ) → StandInTurn s from out fs xs last top → length xs ≡ length fs
+pub placed_long : (s : Scope) (fs : List Formal) (xs : List PlacedFormal) (from out last top : ℕ) → StandInTurn s from out fs xs last top → length xs ≡ length fs
 placed_long s [] [] from out last top h = refl
 placed_long s [] (x ∷ xs) from out last top h = absurd h
 placed_long s (f ∷ fs) [] from out last top h = absurd h

@@ -29,7 +29,7 @@ use Rattle.expr_code.proofs.Flowing.{flows_same, flows_then, instruction_flows}
 use Rattle.expr_code.proofs.Growing.{added_at, added_extends, added_here, extends_self, extends_trans, holds_before, pushes_same}
 use Rattle.expr_code.proofs.Going.{grouped_shape, repeated_shape}
 use Rattle.stmt_code.specs.Emitting.{EmitsInitial, EmitsInitialWords, HasPushed, Pushes, StoresWord, StoresWords, first_word}
-use Rattle.stmt_code.proofs.StoringCode.{ArePushed}
+use Rattle.stmt_code.specs.Storing.{ArePushed}
 
 -- ---- the word of an object without initial value
 

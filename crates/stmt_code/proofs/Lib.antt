@@ -37,7 +37,11 @@ mod Repeating
 mod Testing
 mod Putting
 mod Running
+mod FormalFlows
 pub mod FormalWords
+mod Keeping
+mod Called
+mod Whole
 mod PartValues
 mod StoringParts
 mod Pointing
@@ -62,3 +66,4 @@ mod CallsAdded
 mod Turned
 mod Bounded
 mod Ranged
+mod WholeBounds

@@ -134,7 +134,7 @@ module _ (this : Scene) where
         → (o : Option Callee) → callee_by program None name.first name.selectors ≡ o
         → (let r = h.follows in IsCalled i program g numbers r.2 r.0 r.1 name o) → Meet s
     met_called name items is h (Some c) e code =
-        calls.met_call this s name c items is h (ap (λ q. source.call_or_put now name (callee_by program q name.first name.selectors) items) h.outside ∙ ap
+        calls.met_call this s name c items is h e (ap (λ q. source.call_or_put now name (callee_by program q name.first name.selectors) items) h.outside ∙ ap
         (λ q. source.call_or_put now name q items) e) code
     met_called name items is h None e code =
         by_selectors name.selectors code.1

@@ -49,7 +49,7 @@ pub told_again : {X : Type 0} (s : Scope) (all : List (Option X)) (name : List �
 told_again s all name x h =
     ap (told_by all) h.numbered ∙ ap (λ o. elim o [ None ↦ None | Some y ↦ y ]) h.there
 
-inside : {X : Type 0} (xs : List X) (n : ℕ) (x : X) → slice_get xs n ≡ Some x → n < length xs
+pub inside : {X : Type 0} (xs : List X) (n : ℕ) (x : X) → slice_get xs n ≡ Some x → n < length xs
 inside [] n x h = cc
 inside (y ∷ xs) zero x h = omega arith
 inside (y ∷ xs) (suc n) x h = let k = inside xs n x h in omega (arith, k)

@@ -5,7 +5,6 @@ use Rattle.ada_tree.specs.declared.statement.ElsifPart.{ElsifPart}
 use Rattle.ada_tree.specs.ExpressionTree.{ExprTree, expr_tree}
 use Rattle.ada_tree.specs.StatementTree as statements
 use Rattle.ada_tree.specs.StatementTree.{ElsifTrees, MoreElsifs, NoElsifs, StmtTrees, elsif_tree, elsif_trees, elsifs_of, stmt_trees}
-use Rattle.ada_tree.specs.Size.{elsifs_size, stmt_size, stmts_size}
 use Rattle.image.specs.Sections.{Sections}
 use Rattle.image.specs.Rules.{has_depth}
 use Rattle.image.specs.declared.instruction.Instr.{Instr}
@@ -28,6 +27,7 @@ use Rattle.expr_code.specs.declared.code.Code.{Code}
 use Rattle.expr_code.specs.declared.visible.Visible.{Visible}
 use Rattle.expr_code.proofs.Flowing.{kept_one, kept_then, widened}
 use Rattle.expr_code.proofs.Growing.{added_extends, added_here, extends_trans, get_last, patched_extends, patched_here, patched_other, patched_there}
+use Rattle.stmt_code.specs.Bounds.{elsifs_bound, stmt_bound, stmts_bound}
 use Rattle.stmt_code.specs.Emitting.{AddsParts, AreLegal, AreLegalElsifs, AreParts, Emits, EmitsOpen, EmitsStatement, EmitsStatements, IsLegal, Meant, MeantTo, Serves, in_front}
 use Rattle.stmt_code.specs.Resting.{Framed}
 use Rattle.stmt_code.specs.Statements.{AreStatements, IsOtherwise, IsStatement, Numbers, Ways}
@@ -284,7 +284,7 @@ module _ (v : Visible) (w : Ways) where
       up_is : n ≤ end
       up_is = omega (arith, up, end_is)
 
-    pub branch_emits : EmitsOpen (AreParts w ((e, body) ∷ [])) v w 0 start (elsifs_size (elsifs_of ((e, body) ∷ []))) (here valued.code ∷ []) new
+    pub branch_emits : EmitsOpen (AreParts w ((e, body) ∷ [])) v w 0 start (elsifs_bound v.scope (elsifs_of ((e, body) ∷ []))) (here valued.code ∷ []) new
     branch_emits = record {
       extends = extends_trans start.code tested new.code first.extends tested_extends;
       labels = labels_then start.labels valued.labels new.labels labels_on (labels_beside valued new still);
@@ -345,9 +345,9 @@ module _ (v : Visible) (w : Ways) where
   none_front [] = refl
   none_front (x ∷ xs) = ap (MoreElsifs x.0 x.1) (none_front xs)
 
-  sizes : (xs ys : List (ExprTree × StmtTrees)) → elsifs_size (elsifs_of (xs ++ ys)) ≡ elsifs_size (elsifs_of xs) + elsifs_size (elsifs_of ys)
-  sizes [] ys = omega arith
-  sizes (x ∷ xs) ys = let e = sizes xs ys in omega (arith, e)
+  bounds : (s : Scope) (xs ys : List (ExprTree × StmtTrees)) → elsifs_bound s (elsifs_of (xs ++ ys)) ≡ elsifs_bound s (elsifs_of xs) + elsifs_bound s (elsifs_of ys)
+  bounds s [] ys = omega arith
+  bounds s (x ∷ xs) ys = let e = bounds s xs ys in omega (arith, e)
 
   pub no_parts : (c : Draft) (waiting : List ℕ) → AddsParts v w c [] waiting waiting c
   no_parts c waiting = record {
@@ -372,8 +372,9 @@ module _ (v : Visible) (w : Ways) where
   parts_then a b c one two before mid after p q = record {
     waiting = p.waiting ++ q.waiting;
     after_is = q.after_is ∙ ap (λ l. l ++ q.waiting) p.after_is ∙ append_again before p.waiting q.waiting;
-    emits = subst (λ n. EmitsOpen (AreParts w (one ++ two)) v w 0 a n (p.waiting ++ q.waiting) c) (sym (sizes one two))
-        (open_then (AreParts w one) (AreParts w two) (AreParts w (one ++ two)) 0 a b c (elsifs_size (elsifs_of one)) (elsifs_size (elsifs_of two)) p.waiting q.waiting
+    emits = subst (λ n. EmitsOpen (AreParts w (one ++ two)) v w 0 a n (p.waiting ++ q.waiting) c) (sym (bounds v.scope one two))
+        (open_then (AreParts w one) (AreParts w two) (AreParts w (one ++ two)) 0 a b c (elsifs_bound v.scope (elsifs_of one)) (elsifs_bound v.scope (elsifs_of two))
+        p.waiting q.waiting
         (λ i program g numbers f end from m to up over within x y rest others code.
         subst (λ t. IsOtherwise i program g numbers f w from end t (λ x y. AreStatements i program g numbers f w x y others)) (sym (front one two rest))
         (x (in_front two rest) others (y rest others code))) p.emits q.emits);
@@ -423,13 +424,13 @@ module _ (v : Visible) (w : Ways) where
     abbrev Whole : MeantTo
     Whole i program g numbers f end from to = to ≡ end → IsStatement i program g numbers f w from end (statements.If place e body (elsif_trees elsifs) others)
 
-    ended : EmitsOpen Whole v w 0 start (elsifs_size (elsifs_of parts) + stmts_size others) (both.waiting ++ []) c
+    ended : EmitsOpen Whole v w 0 start (elsifs_bound v.scope (elsifs_of parts) + stmts_bound v.scope others) (both.waiting ++ []) c
     ended = open_then (AreParts w parts) (λ i program g numbers f end from to. AreStatements i program g numbers f w from to others) Whole 0 start parted c
-        (elsifs_size (elsifs_of parts)) (stmts_size others) both.waiting []
+        (elsifs_bound v.scope (elsifs_of parts)) (stmts_bound v.scope others) both.waiting []
         (λ i program g numbers f end from mid to up over within x y last.
         subst (λ t. IsOtherwise i program g numbers f w from end t (λ x y. AreStatements i program g numbers f w x y others)) (none_front parts)
         (x NoElsifs others (subst (λ m. AreStatements i program g numbers f w mid m others) last y)))
-        both.emits (opened (λ i program g numbers f from to. AreStatements i program g numbers f w from to others) parted c (stmts_size others) o)
+        both.emits (opened (λ i program g numbers f from to. AreStatements i program g numbers f w from to others) parted c (stmts_bound v.scope others) o)
 
     waiting_is : both.waiting ++ [] ≡ places
     waiting_is = append_none both.waiting ∙ sym both.after_is ∙ sym same
@@ -439,11 +440,11 @@ module _ (v : Visible) (w : Ways) where
     if_emits n n_is r still =
         emits_as v w (λ i program g numbers f from to. IsStatement i program g numbers f w from to (statements.If place e body (elsif_trees elsifs) others))
         (λ i program g numbers f from to. IsStatement i program g numbers f w from to (statements.If place e body (elsif_trees elsifs) others)) start d
-        (elsifs_size (elsifs_of parts) + stmts_size others) (stmt_size (statements.If place e body (elsif_trees elsifs) others))
+        (elsifs_bound v.scope (elsifs_of parts) + stmts_bound v.scope others) (stmt_bound v.scope (statements.If place e body (elsif_trees elsifs) others))
         (λ i program g numbers f from to h. h) (omega arith)
         (joined Whole (λ i program g numbers f from to. IsStatement i program g numbers f w from to (statements.If place e body (elsif_trees elsifs) others)) start c d
-        (elsifs_size (elsifs_of parts) + stmts_size others) places (λ i program g numbers f from to h. h refl)
-        (subst (λ l. EmitsOpen Whole v w 0 start (elsifs_size (elsifs_of parts) + stmts_size others) l c) waiting_is ended)
+        (elsifs_bound v.scope (elsifs_of parts) + stmts_bound v.scope others) places (λ i program g numbers f from to h. h refl)
+        (subst (λ l. EmitsOpen Whole v w 0 start (elsifs_bound v.scope (elsifs_of parts) + stmts_bound v.scope others) l c) waiting_is ended)
         (subst (λ m. Rejoins c.code places m d.code) n_is r) still)
 
 -- ---- what is legal

@@ -23,6 +23,7 @@ use Rattle.expr_code.specs.declared.code.Code.{Code}
 use Rattle.expr_code.specs.declared.visible.Visible.{Visible}
 use Rattle.expr_code.proofs.Flowing.{kept_one, kept_then, widened}
 use Rattle.expr_code.proofs.Growing.{added_extends, added_here, extends_trans, patched_extends, patched_here, patched_other}
+use Rattle.stmt_code.specs.Bounds.{stmts_words}
 use Rattle.stmt_code.specs.Emitting.{Allows, BeginsLoop, EmitsStatement, EmitsStatements, EndsLoop, HasEntries, HasLabels, IsReached, Serves, seeing}
 use Rattle.stmt_code.specs.Resting.{Framed}
 use Rattle.stmt_code.specs.Suiting.{SuitsStatements}
@@ -449,7 +450,8 @@ module _ (stay : ShapesStay) (v later : Visible) (w : Ways) (a b e c : Draft) (c
         (labels_then b.labels e.labels c.labels (labels_stay b.labels e.labels r.labels) p.labels);
     taken = refl;
     most = (let m = most_beside a b same in omega (arith, m, r.takes.grows, p.most));
-    sized = omega (arith, whole_at, turned_at, counted_at, tested_at, values_at, p.sized, opened_at, compared_at, r.last.sized, r.first.sized, begun_at);
+    sized = (let k = ap (λ s. stmts_words s body) r.scope in
+        omega (arith, whole_at, turned_at, counted_at, tested_at, values_at, p.sized, opened_at, compared_at, r.last.sized, r.first.sized, begun_at, k));
     stands = λ i h l program g numbers f names serves room.
         let frame : seeing f v ≡ f = λ j. record f { names = (sym names) j } in
         subst (λ z. IsStatement i program g numbers z w (here a.code) (here whole) (Loop place (For parameter reversed range) body)) frame

@@ -12,6 +12,7 @@ use Rattle.expr_code.specs.Flows.{AreKept}
 use Rattle.expr_code.specs.declared.visible.Visible.{Visible}
 use Rattle.expr_code.proofs.Flowing.{kept_then}
 use Rattle.expr_code.proofs.Growing.{added_extends, added_here, extends_trans, holds_before, patched_extends, patched_here, patched_holds, patched_other}
+use Rattle.stmt_code.specs.Bounds.{stmts_words}
 use Rattle.stmt_code.specs.Emitting.{Allows, BeginsLoop, EmitsDeclarations, EmitsRun, EmitsStatements, HasLabels, IsReached, Serves, seeing}
 use Rattle.stmt_code.specs.Statements.{AreStatements, Ways}
 use Rattle.stmt_code.specs.declared.draft.Draft.{Draft}
@@ -99,7 +100,7 @@ module _ (v later : Visible) (a b c d e : Draft) (ds : List DeclarationTree) (bo
         (labels_then b.labels c.labels e.labels (labels_beside b c same) (subst (λ l. StandsFrom 0 c.labels l) (sym labels) q.labels));
     taken = ap (λ w. w.taken) words;
     most = omega (arith, p.most, many);
-    sized = omega (arith, one, two, three, p.sized, q.sized);
+    sized = (let k = ap (λ s. stmts_words s body) p.scope in omega (arith, one, two, three, p.sized, q.sized, k));
     stands = λ i h l program g numbers f names serves room.
         let front = p.stands i (in_front i h) (labels_in_front i l) program g numbers f names serves (omega (arith, many, room)) in
         record {

@@ -1,6 +1,6 @@
 -- Instructions that store: what they do to words, and what code in front of them comes to.
 use Rattle.std.proofs.Common.{◌≡◌, ℕ, suc, ◌+◌, ◌-◌, ◌≤◌, ℤ, List, [], ◌∷◌, ◌++◌, append_assoc, length, reverse, cond, Option, Some, None, Bool, true, false, refl, sym, ap, ◌∙◌, subst, arith}
-use Rattle.std.specs.Prelude.{pos, take, drop, ⊤}
+use Rattle.std.specs.Prelude.{pos, take, drop}
 use Rattle.std.proofs.lemmas.List.{length-reverse, reverse-append, reverse-reverse}
 use Rattle.std.proofs.Math.Seq.{drop-append_seam, take-append_seam}
 use Rattle.base.specs.declared.exceptions.PredefinedException.TheVariants.{ConstraintError}
@@ -33,7 +33,7 @@ use Rattle.expr_code.specs.Coming.{Comes, most_steps, on}
 use Rattle.expr_code.specs.Views.{At, Sight, in_frame, placed}
 use Rattle.expr_code.specs.Computing.{Everywhere, Library}
 use Rattle.expr_code.proofs.Coming.{acts, after_first, more, pushes}
-use Rattle.stmt_code.specs.Storing.{Assigned, assigned, assigned_to}
+use Rattle.stmt_code.specs.Storing.{ArePushed, Assigned, assigned, assigned_to}
 use Rattle.stmt_code.proofs.Words.{block_put, one_put, with_words}
 use Rattle.stmt_code.proofs.Names.{object_subtype}
 
@@ -235,10 +235,6 @@ computes_above quiet i library sight from mid offset value up push computes call
     (computes calls left answers schedule k t m f fs p (pos offset ∷ base) calm sees is))
 
 -- ---- words that are put on the operand stack, one by one
-
-abbrev pub ArePushed : Sections → ℕ → List ℤ → Type 0
-ArePushed i from [] = ⊤
-ArePushed i from (w ∷ ws) = At i from (op.Push w) × ArePushed i (suc from) ws
 
 pub one_first : (w : ℤ) (ws base : List ℤ) → reverse (w ∷ ws) ++ base ≡ reverse ws ++ (w ∷ base)
 one_first w ws base = ap (λ l. l ++ base) (reverse-append (w ∷ []) ws) ∙ append_assoc (reverse ws) (w ∷ []) base

@@ -1,6 +1,6 @@
--- Where a name of an object more is visible: what it stands for, what may be called, and what the image and the subprogram have to have for it.
-use Rattle.std.proofs.Common.{◌≡◌, ℕ, suc, ◌+◌, ◌<◌, ◌⊎◌, inl, inr, List, [], ◌∷◌, ◌++◌, length, map, cond, Option, Some, None, true, false, refl, sym, ap, ◌∙◌, subst}
-use Rattle.std.specs.Prelude.{bytes_eq, is_some, take}
+-- Where names of objects more are visible: what one stands for, what may be called, and what the image and the subprogram have to have for them.
+use Rattle.std.proofs.Common.{◌≡◌, ℕ, zero, suc, ◌+◌, ◌<◌, ◌⊎◌, inl, inr, List, [], ◌∷◌, ◌++◌, length, map, cond, Bool, Option, Some, None, true, false, refl, sym, ap, ◌∙◌, subst, arith}
+use Rattle.std.specs.Prelude.{bytes_eq, is_some, option_map, slice_get, take, ⊤}
 use Rattle.std.proofs.Math.Seq.{take-append_seam}
 use Rattle.ada_tree.specs.declared.declaration.Mode.TheVariants as mode
 use Rattle.ada_tree.specs.Size.{total}
@@ -20,7 +20,7 @@ use Rattle.types.specs.Shapes.{words}
 use Rattle.type_rules.specs.SubtypeNames.{entity_at_or_none}
 use Rattle.well_typed.specs.Agreeing.{parameter_subtype}
 use Rattle.well_typed.specs.SoundScopes.{AreKnown, IsKnown, IsSoundResult, SoundScope}
-use Rattle.well_typed.proofs.Positions.{entity_kept, entity_number, item_added, number_added, same_some}
+use Rattle.well_typed.proofs.Positions.{entity_kept, entity_number, first_place, item_added, number_added, number_kept, number_place, same_some, suc_of}
 use Rattle.sound_steps.specs.Fitting.{entity_named}
 use Rattle.expr_code.specs.Seeing.{IsCallable, NamesProfile, Suits, slot_of, subprogram_of, told_of}
 use Rattle.expr_code.specs.declared.visible.Slot.{Slot}
@@ -28,7 +28,170 @@ use Rattle.expr_code.specs.declared.visible.Visible.{Visible}
 use Rattle.stmt_code.specs.Emitting.{HasEntries}
 use Rattle.stmt_code.specs.Suiting.{IsCallableProcedure, SuitsStatements, passed_width, returned_width}
 use Rattle.stmt_code.proofs.Laying.{known_inside}
-use Rattle.stmt_code.proofs.Names.{same_name, told_of_more}
+use Rattle.stmt_code.proofs.Names.{IsTold, WasTold, inside, is_told, same_name, told_again, told_of_more}
+
+-- ---- names behind those that are visible
+
+item_behind : {X : Type 0} (xs ys : List X) (n : ℕ) (x : X) → slice_get (xs ++ ys) n ≡ Some x
+    → (slice_get xs n ≡ Some x) ⊎ ((k : ℕ) × (slice_get ys k ≡ Some x))
+item_behind [] ys n x h = inr (n, h)
+item_behind (z ∷ xs) ys zero x h = inl h
+item_behind (z ∷ xs) ys (suc n) x h = item_behind xs ys n x h
+
+place_before : {X : Type 0} (p : X → Bool) (xs ys : List X) (n : ℕ) → first_place p (xs ++ ys) ≡ Some n → n < length xs → first_place p xs ≡ Some n
+place_before p [] ys n h less = absurd (omega (arith, less))
+place_before {X} p (x ∷ xs) ys n h less = by_test (p x) h (λ m. place_before p xs ys m)
+  where
+    by_test : (b : Bool) → cond b (Some 0) (option_map suc (first_place p (xs ++ ys))) ≡ Some n
+        → ((m : ℕ) → first_place p (xs ++ ys) ≡ Some m → m < length xs → first_place p xs ≡ Some m)
+        → cond b (Some 0) (option_map suc (first_place p xs)) ≡ Some n
+    by_test true k before = k
+    by_test false k before =
+        let m = suc_of (first_place p (xs ++ ys)) n k in
+        let at = m.2 in
+        ap (option_map suc) (before m.0 m.1 (omega (arith, less, at))) ∙ ap Some (sym m.2)
+
+number_before : (s more : Scope) (name : List ℕ) (n : ℕ) → number_of (s ++ more) name ≡ Some n → n < length s → number_of s name ≡ Some n
+number_before s more name n h less =
+    number_place s name ∙ place_before (λ m. bytes_eq name m.name) s more n (sym (number_place (s ++ more) name) ∙ h) less
+
+-- what is told of a name is what was told, or it is told of one behind
+told_behind : {X : Type 0} (s more : Scope) (all others : List (Option X)) (name : List ℕ) (x : X) → length all ≡ length s
+    → told_of (s ++ more) (all ++ others) name ≡ Some x
+    → WasTold s all name x ⊎ ((k : ℕ) × (slice_get others k ≡ Some (Some x)))
+told_behind {X} s more all others name x long h = elim (item_behind all others t.number (Some x) t.there) [ inl e ↦ inl (before e) | inr e ↦ inr e ]
+  where
+    t : IsTold (s ++ more) (all ++ others) name x
+    t = is_told (s ++ more) (all ++ others) name x h
+
+    before : slice_get all t.number ≡ Some (Some x) → WasTold s all name x
+    before e =
+        let less = inside all t.number (Some x) e in
+        let numbered = number_before s more name t.number t.numbered (omega (arith, less, long)) in
+        record { number = t.number; numbered = numbered; told = told_again s all name x (record { number = t.number; numbered = numbered; there = e }) }
+
+-- Those behind are objects of the frame: what suits the names in front suits all.
+module _ (stay : ShapesStay) (v later : Visible) (more : Scope) (slots : List (Option Slot)) (subprograms : List (Option ℕ)) (sound : SoundScope v.scope)
+    (entries : HasEntries v) (scope : later.scope ≡ v.scope ++ more) (slots_are : later.slots ≡ v.slots ++ slots)
+    (subprograms_are : later.subprograms ≡ v.subprograms ++ subprograms)
+    (none : (k : ℕ) (n : ℕ) → slice_get subprograms k ≡ Some (Some n) → ⊥) where
+  abbrev front : Scope
+  front = v.scope
+
+  pub words_behind : (u : Subtype) → IsKnown front u → words_of later.scope u ≡ words_of front u
+  words_behind u known = ap (λ z. words_of z u) scope ∙ ap words (stay front more u (known_inside front u known))
+
+  formals_kept : (fs : List FormalParameter) → AreKnown front fs
+      → total (words_of later.scope) (map parameter_subtype fs) ≡ total (words_of front) (map parameter_subtype fs)
+  formals_kept [] known = refl
+  formals_kept (f ∷ fs) known = λ j. words_behind f.subtype known.0 j + formals_kept fs known.1 j
+
+  passed_kept : (fs : List FormalParameter) → AreKnown front fs → total (passed_width later.scope) fs ≡ total (passed_width front) fs
+  passed_kept [] known = refl
+  passed_kept (f ∷ fs) known =
+      λ j. elim f.mode [ mode.In ↦ words_behind f.subtype known.0 j | mode.Out ↦ 1 | mode.InOut ↦ suc (words_behind f.subtype known.0 j) ]
+      + passed_kept fs known.1 j
+
+  returned_kept : (fs : List FormalParameter) → AreKnown front fs → total (returned_width later.scope) fs ≡ total (returned_width front) fs
+  returned_kept [] known = refl
+  returned_kept (f ∷ fs) known =
+      λ j. elim f.mode [ mode.In ↦ 0 | mode.Out ↦ suc (words_behind f.subtype known.0 j) | mode.InOut ↦ suc (words_behind f.subtype known.0 j) ]
+      + returned_kept fs known.1 j
+
+  slot_before : (other : List ℕ) (x : Slot) → slot_of later other ≡ Some x → (slot_of v other ≡ Some x) ⊎ ((k : ℕ) × (slice_get slots k ≡ Some (Some x)))
+  slot_before other x h =
+      elim (told_behind front more v.slots slots other x entries.slots
+      (sym (ap (λ z. told_of z later.slots other) scope ∙ ap (λ l. told_of (front ++ more) l other) slots_are) ∙ h)) [
+        | inl w ↦ inl w.told
+        | inr e ↦ inr e
+      ]
+
+  number_told : (other : List ℕ) (n : ℕ) → subprogram_of later other ≡ Some n → WasTold front v.subprograms other n
+  number_told other n h =
+      elim (told_behind front more v.subprograms subprograms other n entries.subprograms
+      (sym (ap (λ z. told_of z later.subprograms other) scope ∙ ap (λ l. told_of (front ++ more) l other) subprograms_are) ∙ h)) [
+        | inl w ↦ w
+        | inr e ↦ absurd (none e.0 n e.1)
+      ]
+
+  profile_before : (other : List ℕ) (p : Profile) (n : ℕ) → number_of front other ≡ Some n → NamesProfile later.scope other p → NamesProfile front other p
+  profile_before other p n numbered h =
+      let same : h.number ≡ n =
+      same_some h.number n (sym (ap (λ z. number_of z other) (sym scope) ∙ h.numbered) ∙ number_kept front more other n numbered) in
+      let x = entity_number front other n numbered in
+      record {
+        number = n;
+        numbered = numbered;
+        stands = x.1 ∙ sym (entity_kept front more n x.0 x.1) ∙ ap (entity_at (front ++ more)) (sym same) ∙ ap (λ z. entity_at z h.number) (sym scope)
+            ∙ h.stands;
+      }
+
+  callable_behind : (i : Sections) (number : ℕ) (p : Profile) (result : Subtype) (other : List ℕ) → NamesProfile front other p → p.result ≡ Some result
+      → IsCallable i front number p result
+      → IsCallable i later.scope number p result
+  callable_behind i number p result other n gives c =
+      let profile = sound.each n.number (entity.Subprogram p) n.stands in
+      record {
+        code = c.code;
+        is = c.is;
+        plain = c.plain;
+        parameters = c.parameters ∙ sym (formals_kept p.formals profile.known);
+        results = c.results ∙ sym (words_behind result (result_known p.result profile.result gives));
+      }
+    where
+      result_known : (o : Option Subtype) → IsSoundResult front p.formals o → o ≡ Some result → IsKnown front result
+      result_known (Some u) h is = subst (IsKnown front) (same_some u result is) h.0
+      result_known None h is = cc
+
+  procedure_behind : (i : Sections) (number : ℕ) (p : Profile) (other : List ℕ) → NamesProfile front other p → IsCallableProcedure i front number p
+      → IsCallableProcedure i later.scope number p
+  procedure_behind i number p other n c =
+      let profile = sound.each n.number (entity.Subprogram p) n.stands in
+      record {
+        code = c.code;
+        is = c.is;
+        plain = c.plain;
+        parameters = c.parameters ∙ sym (passed_kept p.formals profile.known);
+        results = c.results ∙ sym (returned_kept p.formals profile.known);
+      }
+
+  module _ (i : Sections) (x : Subprogram)
+      (within : (k : ℕ) (y : Slot) → slice_get slots k ≡ Some (Some y) → (y.region ≡ regions.Locals) × (y.offset < x.locals)) where
+    names_behind : Suits v i x → Suits later i x
+    names_behind h = record {
+      locals = λ other y told local. elim (slot_before other y told) [ inl old ↦ h.locals other y old local | inr e ↦ (within e.0 y e.1).1 ];
+      plain = λ other y told plain. elim (slot_before other y told) [
+        | inl old ↦ h.plain other y old plain
+        | inr e ↦ absurd (let both = sym (within e.0 y e.1).0 ∙ plain in cc)
+      ];
+      object = λ other y told object. elim (slot_before other y told) [
+        | inl old ↦ h.object other y old object
+        | inr e ↦ absurd (let both = sym (within e.0 y e.1).0 ∙ object in cc)
+      ];
+      region = λ other y told. elim (slot_before other y told) [
+        | inl old ↦ h.region other y old
+        | inr e ↦ ap (has_region x) (within e.0 y e.1).0
+      ];
+      calls = λ other number p result told named gives.
+          let before = number_told other number told in
+          let n = profile_before other p before.number before.numbered named in
+          callable_behind i number p result other n gives (h.calls other number p result before.told n gives);
+    }
+
+    pub suits_behind : SuitsStatements v i x → SuitsStatements later i x
+    suits_behind h = record {
+      names = names_behind h.names;
+      procedures = λ other number p told named without.
+          let before = number_told other number told in
+          let n = profile_before other p before.number before.numbered named in
+          procedure_behind i number p other n (h.procedures other number p before.told n without);
+    }
+
+-- ---- one name behind them
+
+-- an object has no subprogram
+abbrev no_number : List (Option ℕ)
+no_number = None ∷ []
 
 longer : {X : Type 0} (xs : List X) (x : X) → length (xs ++ x ∷ []) ≡ suc (length xs)
 longer [] x = refl
@@ -77,35 +240,7 @@ module _ (stay : ShapesStay) (v later : Visible) (name : List ℕ) (r : Role) (t
         | inr at ↦ inr (at.1, same_some e (entity.Object r t) (sym k ∙ ap (entity_at wider) at.0 ∙ ap entity_of (item_added s new)))
       ]
 
-  -- ---- slots
-
-  pub slot_wider : (other : List ℕ) (x : Slot) → slot_of later other ≡ Some x → (slot_of v other ≡ Some x) ⊎ (slot ≡ x)
-  slot_wider other x h =
-      elim (told_of_more s new v.slots (Some slot) other x entries.slots
-      (sym (ap (λ z. told_of z later.slots other) scope_is ∙ ap (λ l. told_of wider l other) slots) ∙ h)) [
-        | inl w ↦ inl w.told
-        | inr e ↦ inr (same_some slot x e.1)
-      ]
-
   -- ---- subprograms
-
-  words_kept : (u : Subtype) → IsKnown s u → words_of later.scope u ≡ words_of s u
-  words_kept u known = ap (λ z. words_of z u) scope_is ∙ ap words (stay s (new ∷ []) u (known_inside s u known))
-
-  formals_kept : (fs : List FormalParameter) → AreKnown s fs → total (words_of later.scope) (map parameter_subtype fs) ≡ total (words_of s) (map parameter_subtype fs)
-  formals_kept [] known = refl
-  formals_kept (f ∷ fs) known = λ j. words_kept f.subtype known.0 j + formals_kept fs known.1 j
-
-  passed_kept : (fs : List FormalParameter) → AreKnown s fs → total (passed_width later.scope) fs ≡ total (passed_width s) fs
-  passed_kept [] known = refl
-  passed_kept (f ∷ fs) known =
-      λ j. elim f.mode [ mode.In ↦ words_kept f.subtype known.0 j | mode.Out ↦ 1 | mode.InOut ↦ suc (words_kept f.subtype known.0 j) ] + passed_kept fs known.1 j
-
-  returned_kept : (fs : List FormalParameter) → AreKnown s fs → total (returned_width later.scope) fs ≡ total (returned_width s) fs
-  returned_kept [] known = refl
-  returned_kept (f ∷ fs) known =
-      λ j. elim f.mode [ mode.In ↦ 0 | mode.Out ↦ suc (words_kept f.subtype known.0 j) | mode.InOut ↦ suc (words_kept f.subtype known.0 j) ]
-      + returned_kept fs known.1 j
 
   pub number_wider : (other : List ℕ) (n : ℕ) → subprogram_of later other ≡ Some n → (subprogram_of v other ≡ Some n) × (bytes_eq other name ≡ false)
   number_wider other n h =
@@ -124,78 +259,18 @@ module _ (stay : ShapesStay) (v later : Visible) (name : List ℕ) (r : Role) (t
           let seen : is_visible s name ≡ true = ap (is_visible s) (sym (same_name other name e)) ∙ ap is_some is in
           let both = sym seen ∙ hidden in cc)
 
-  profile_before : (other : List ℕ) (p : Profile) → bytes_eq other name ≡ false → NamesProfile later.scope other p → NamesProfile s other p
-  profile_before other p apart h =
-      let n = ap (λ z. number_of z other) (sym scope_is) ∙ h.numbered in
-      let e = ap (λ z. entity_at z h.number) (sym scope_is) ∙ h.stands in
-      elim (number_added s new other h.number n) [
-        | inl old ↦ (let x = entity_number s other h.number old in
-            record { number = h.number; numbered = old; stands = x.1 ∙ sym (entity_kept s (new ∷ []) h.number x.0 x.1) ∙ e })
-        | inr at ↦ absurd (let both = sym apart ∙ at.1 in cc)
-      ]
-
-  callable_wider : (i : Sections) (number : ℕ) (p : Profile) (result : Subtype) (other : List ℕ) → NamesProfile s other p → p.result ≡ Some result
-      → IsCallable i s number p result
-      → IsCallable i later.scope number p result
-  callable_wider i number p result other n gives c =
-      let profile = sound.each n.number (entity.Subprogram p) n.stands in
-      record {
-        code = c.code;
-        is = c.is;
-        plain = c.plain;
-        parameters = c.parameters ∙ sym (formals_kept p.formals profile.known);
-        results = c.results ∙ sym (words_kept result (result_known p.result profile.result gives));
-      }
-    where
-      result_known : (o : Option Subtype) → IsSoundResult s p.formals o → o ≡ Some result → IsKnown s result
-      result_known (Some u) h is = subst (IsKnown s) (same_some u result is) h.0
-      result_known None h is = cc
-
-  procedure_wider : (i : Sections) (number : ℕ) (p : Profile) (other : List ℕ) → NamesProfile s other p → IsCallableProcedure i s number p
-      → IsCallableProcedure i later.scope number p
-  procedure_wider i number p other n c =
-      let profile = sound.each n.number (entity.Subprogram p) n.stands in
-      record {
-        code = c.code;
-        is = c.is;
-        plain = c.plain;
-        parameters = c.parameters ∙ sym (passed_kept p.formals profile.known);
-        results = c.results ∙ sym (returned_kept p.formals profile.known);
-      }
-
   -- ---- the image and the subprogram
 
-  names_wider : (i : Sections) (x : Subprogram) → slot.region ≡ regions.Locals → slot.offset < x.locals → Suits v i x → Suits later i x
-  names_wider i x region within h = record {
-    locals = λ other y told local. elim (slot_wider other y told) [
-      | inl old ↦ h.locals other y old local
-      | inr is ↦ subst (λ z. z.offset < x.locals) is within
-    ];
-    plain = λ other y told plain. elim (slot_wider other y told) [
-      | inl old ↦ h.plain other y old plain
-      | inr is ↦ absurd (let both = sym region ∙ ap (λ z. z.region) is ∙ plain in cc)
-    ];
-    object = λ other y told object. elim (slot_wider other y told) [
-      | inl old ↦ h.object other y old object
-      | inr is ↦ absurd (let both = sym region ∙ ap (λ z. z.region) is ∙ object in cc)
-    ];
-    region = λ other y told. elim (slot_wider other y told) [
-      | inl old ↦ h.region other y old
-      | inr is ↦ ap (λ z. has_region x z) (sym (ap (λ z. z.region) is) ∙ region)
-    ];
-    calls = λ other number p result told named gives.
-        let before = number_wider other number told in
-        let n = profile_before other p before.1 named in
-        callable_wider i number p result other n gives (h.calls other number p result before.0 n gives);
-  }
-
-  -- ... and the procedures that are called
   pub suits_wider : (i : Sections) (x : Subprogram) → slot.region ≡ regions.Locals → slot.offset < x.locals → SuitsStatements v i x → SuitsStatements later i x
-  suits_wider i x region within h = record { names = names_wider i x region within h.names; procedures = procedures }
+  suits_wider i x region within h =
+      suits_behind stay v later (new ∷ []) (Some slot ∷ []) no_number sound entries scope_is slots subprograms one_none i x one_slot h
     where
-      procedures : (other : List ℕ) (number : ℕ) (p : Profile) → subprogram_of later other ≡ Some number → NamesProfile later.scope other p → p.result ≡ None
-          → IsCallableProcedure i later.scope number p
-      procedures other number p told named none =
-          let before = number_wider other number told in
-          let n = profile_before other p before.1 named in
-          procedure_wider i number p other n (h.procedures other number p before.0 n none)
+      one_slot : (k : ℕ) (y : Slot) → slice_get (Some slot ∷ []) k ≡ Some (Some y) → (y.region ≡ regions.Locals) × (y.offset < x.locals)
+      one_slot zero y e =
+          let same = same_some slot y (same_some (Some slot) (Some y) e) in
+          (ap (λ z. z.region) (sym same) ∙ region, subst (λ z. z.offset < x.locals) same within)
+      one_slot (suc k) y e = cc
+
+      one_none : (k : ℕ) (n : ℕ) → slice_get no_number k ≡ Some (Some n) → ⊥
+      one_none zero n e = let f : Option ℕ → Type 0 = λ o. elim o [ None ↦ ⊤ | Some y ↦ ⊥ ] in subst f (same_some None (Some n) e) tt
+      one_none (suc k) n e = cc

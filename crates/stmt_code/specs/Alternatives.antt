@@ -2,7 +2,6 @@
 use Rattle.std.specs.Prelude.{◌≡◌, ℕ, ◌+◌, ◌*◌, Bool, List, [], ◌∷◌, ◌++◌, length, ℤ}
 use Rattle.ada_tree.specs.ExpressionTree.{ExprTree}
 use Rattle.ada_tree.specs.StatementTree.{AlternativeTrees, ChoicesTree, MoreAlternatives, OtherValues, StmtTrees, Values, alternatives_of}
-use Rattle.ada_tree.specs.Size.{alternatives_size}
 use Rattle.image.specs.declared.instruction.Operation.TheVariants as op
 use Rattle.types.specs.declared.entity.Value.{Value as Scalar}
 use Rattle.types.specs.declared.statics.StaticForm.TheVariants.{Static}
@@ -18,6 +17,7 @@ use Rattle.expr_code.specs.Code.{Adds, here}
 use Rattle.expr_code.specs.Naming.{scalar_word}
 use Rattle.expr_code.specs.declared.code.Code.{Code}
 use Rattle.expr_code.specs.declared.visible.Visible.{Visible}
+use Rattle.stmt_code.specs.Bounds.{alternatives_bound}
 use Rattle.stmt_code.specs.Emitting.{EmitsOpen, MeantTo}
 use Rattle.stmt_code.specs.Statements.{AreAlternatives, Ways}
 use Rattle.stmt_code.specs.declared.draft.Draft.{Draft}
@@ -94,4 +94,4 @@ pub record AddsAlternatives (v : Visible) (w : Ways) (e : ExprTree) (old : Draft
     (before after : List ℕ) (new : Draft) : Type 0 where
   pub waiting : List ℕ
   pub after_is : after ≡ before ++ waiting
-  pub emits : EmitsOpen (AreSelected w e all) v w 1 old (alternatives_size (alternatives_of all)) waiting new
+  pub emits : EmitsOpen (AreSelected w e all) v w 1 old (alternatives_bound v.scope (alternatives_of all)) waiting new

@@ -1,8 +1,7 @@
 -- What methods that add the code of statements promise.
-use Rattle.std.specs.Prelude.{◌≡◌, ℕ, suc, ◌+◌, ◌*◌, ◌≤◌, ◌<◌, ◌⊎◌, true, List, [], ◌∷◌, ◌++◌, cond, length, nat_eq, take, Option, Some, None, pos, slice_get, ⊤, ℤ}
+use Rattle.std.specs.Prelude.{◌≡◌, ℕ, ◌+◌, ◌≤◌, ◌<◌, ◌⊎◌, true, List, [], ◌∷◌, ◌++◌, cond, length, nat_eq, take, Option, Some, None, pos, slice_get, ⊤, ℤ}
 use Rattle.ada_tree.specs.ExpressionTree.{ExprTree}
 use Rattle.ada_tree.specs.StatementTree.{DeclarationTree, ElsifTrees, MoreElsifs, StmtTree, StmtTrees, elsifs_of}
-use Rattle.ada_tree.specs.Size.{declaration_size, elsifs_size, stmt_size, stmts_size, total}
 use Rattle.image.specs.Sections.{Sections}
 use Rattle.image.specs.Rules.{has_depth, is_block}
 use Rattle.image.specs.declared.instruction.Operation.{Operation}
@@ -32,6 +31,7 @@ use Rattle.expr_code.specs.Seeing.{Package, subprogram_of}
 use Rattle.expr_code.specs.declared.code.Code.{Code}
 use Rattle.expr_code.specs.declared.visible.Slot.{Slot}
 use Rattle.expr_code.specs.declared.visible.Visible.{Visible}
+use Rattle.stmt_code.specs.Bounds.{declarations_bound, elsifs_bound, run_bound, stmt_bound, stmts_bound}
 use Rattle.stmt_code.specs.Layout.{EndsBy, IsLaidOut}
 use Rattle.stmt_code.specs.Suiting.{SuitsStatements}
 use Rattle.stmt_code.specs.Resting.{Framed}
@@ -101,15 +101,15 @@ pub record Allows (i : Sections) (low high : ℕ) (w : Ways) : Type 0 where
 abbrev pub Meant : Type 1
 Meant = Sections → Program → Package → Numbers → Framed → (from to : ℕ) → Type 0
 
--- The code that was added is what is meant, in every image that holds it and has the labels, and in every frame with as many words; it has at most 20
--- instructions for each part; and it keeps the rules of images wherever what is behind it and the ways out are reached with an empty operand stack. The words
+-- The code that was added is what is meant, in every image that holds it and has the labels, and in every frame with as many words; it has at most so
+-- many instructions; and it keeps the rules of images wherever what is behind it and the ways out are reached with an empty operand stack. The words
 -- that it takes for names of its own are given back.
 pub record Emits (Is : Meant) (v : Visible) (w : Ways) (old : Draft) (size : ℕ) (new : Draft) : Type 0 where
   pub extends : Extends old.code new.code
   pub labels : StandsFrom 0 old.labels new.labels
   pub taken : new.words.taken ≡ old.words.taken
   pub most : old.words.most ≤ new.words.most
-  pub sized : here new.code ≤ here old.code + 20 * size
+  pub sized : here new.code ≤ here old.code + size
   pub stands : (i : Sections) → Holds i (here old.code) new.code → HasLabels i new.labels
       → (program : Program) (g : Package) (numbers : Numbers) (f : Framed) → f.names ≡ v → Serves program g numbers f old.words.taken
       → new.words.most ≤ f.room
@@ -120,11 +120,11 @@ pub record Emits (Is : Meant) (v : Visible) (w : Ways) (old : Draft) (size : ℕ
       → AreKept i s low high (here old.code) (here new.code) 0
 
 abbrev pub EmitsStatement : Visible → Ways → Draft → StmtTree → Draft → Type 0
-EmitsStatement v w old x new = Emits (λ i program g numbers f from to. IsStatement i program g numbers f w from to x) v w old (stmt_size x) new
+EmitsStatement v w old x new = Emits (λ i program g numbers f from to. IsStatement i program g numbers f w from to x) v w old (stmt_bound v.scope x) new
 
 abbrev pub EmitsStatements : Visible → Ways → Draft → StmtTrees → Draft → Type 0
 EmitsStatements v w old body new =
-    Emits (λ i program g numbers f from to. AreStatements i program g numbers f w from to body) v w old (stmts_size body) new
+    Emits (λ i program g numbers f from to. AreStatements i program g numbers f w from to body) v w old (stmts_bound v.scope body) new
 
 -- ---- stores
 
@@ -172,15 +172,10 @@ pub record HasPushed (old : Code) (height : ℕ) (ws : List ℤ) (new : Code) (t
   pub pushes : Pushes old height ws new
   pub more : top ≡ height + length ws
 
--- the words of an object without initial value, where they are few
-pub record PushesInitial (v : Visible) (old : Code) (t : Subtype) (new : Code) : Type 0 where
-  pub few : words_of v.scope t ≤ 18
-  pub pushes : Pushes old 1 (value_words (initial v.scope t)) new
-
 -- the code of an initial value of several words was added, above their address: of the one that is given, checked, or of that of an object without
 abbrev pub EmitsInitialWords : Visible → (old : Code) → Subtype → Option ExprTree → (new : Code) → Type 0
 EmitsInitialWords v old t (Some e) new = EmitsFitting v old 1 t e new
-EmitsInitialWords v old t None new = PushesInitial v old t new
+EmitsInitialWords v old t None new = Pushes old 1 (value_words (initial v.scope t)) new
 
 -- the code of an initial value of one word was added, and what stores it at an offset of the frame
 pub record StoresWord (v : Visible) (old : Code) (offset : ℕ) (t : Subtype) (o : Option ExprTree) (new : Code) : Type 0 where
@@ -221,7 +216,7 @@ pub record EmitsDeclarations (v : Visible) (old : Draft) (ds : List DeclarationT
   pub extends : Extends old.code new.code
   pub labels : StandsFrom 0 old.labels new.labels
   pub most : old.words.most ≤ new.words.most
-  pub sized : here new.code ≤ here old.code + 20 * total declaration_size ds
+  pub sized : here new.code ≤ here old.code + declarations_bound v.scope ds
   pub scope : later.scope ≡ locals_scope v.scope ds
   pub slots : take (length v.slots) later.slots ≡ v.slots
   pub subprograms : take (length v.subprograms) later.subprograms ≡ v.subprograms
@@ -249,7 +244,7 @@ pub record EmitsOpen (Is : MeantTo) (v : Visible) (w : Ways) (depth : ℕ) (old 
   pub labels : StandsFrom 0 old.labels new.labels
   pub taken : new.words.taken ≡ old.words.taken
   pub most : old.words.most ≤ new.words.most
-  pub sized : here new.code ≤ here old.code + 20 * size
+  pub sized : here new.code ≤ here old.code + size
   pub inside : (k : ℕ) → is_among waiting k ≡ true → (here old.code ≤ k) × (k < here new.code)
   pub waits : (k : ℕ) → is_among waiting k ≡ true → slice_get new.code.instructions.items k ≡ Some (record { depth = 0; operation = op.Jump 0 })
   pub stands : (i : Sections) (end : ℕ) → here new.code ≤ end → Joins i (here old.code) waiting end 0 new.code → HasLabels i new.labels
@@ -277,7 +272,7 @@ AreParts w all i program g numbers f end from to =
 pub record AddsParts (v : Visible) (w : Ways) (old : Draft) (all : List (ExprTree × StmtTrees)) (before after : List ℕ) (new : Draft) : Type 0 where
   pub waiting : List ℕ
   pub after_is : after ≡ before ++ waiting
-  pub emits : EmitsOpen (AreParts w all) v w 0 old (elsifs_size (elsifs_of all)) waiting new
+  pub emits : EmitsOpen (AreParts w all) v w 0 old (elsifs_bound v.scope (elsifs_of all)) waiting new
 
 -- ---- loops
 
@@ -306,4 +301,4 @@ no_ways = record { exit = None; return = None }
 -- the code of both was added, with a way out of the body between them
 abbrev pub EmitsRun : Visible → Draft → List DeclarationTree → StmtTrees → Draft → Type 0
 EmitsRun v old ds body new =
-    Emits (λ i program g numbers f from to. IsRun i program g numbers f from to ds body) v no_ways old (suc (total declaration_size ds + stmts_size body)) new
+    Emits (λ i program g numbers f from to. IsRun i program g numbers f from to ds body) v no_ways old (run_bound v.scope ds body) new

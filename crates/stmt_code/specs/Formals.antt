@@ -1,27 +1,33 @@
 -- Where the words of formal parameters stand in the frame of a body: those that are passed stand first, in the order of the text, and behind them those of `out`
 -- parameters (RM 6.4.1; docs/CODEGEN.md).
-use Rattle.std.specs.Prelude.{◌≡◌, ℕ, suc, ◌+◌, ◌≤◌, ◌⊎◌, pos, ℤ, List, [], ◌∷◌, ◌++◌, map, Bool, true, false, Option, Some, None, if◌then◌else◌, ⊤}
+use Rattle.std.specs.Prelude.{◌≡◌, ℕ, suc, ◌+◌, ◌*◌, ◌<◌, ◌≤◌, ◌⊎◌, pos, ℤ, List, [], ◌∷◌, ◌++◌, length, map, Bool, true, false, Option, Some, None, if◌then◌else◌, ⊤}
+use Rattle.std.specs.List.{All}
 use Rattle.ada_tree.specs.declared.declaration.Formal.{Formal}
 use Rattle.ada_tree.specs.declared.declaration.Mode.{Mode}
 use Rattle.ada_tree.specs.declared.declaration.Mode.TheVariants as mode
-use Rattle.ada_tree.specs.declared.expression.Identifier.{Identifier}
+use Rattle.ada_tree.specs.Size.{total}
 use Rattle.image.specs.Sections.{Sections}
 use Rattle.image.specs.declared.instruction.Operation.TheVariants as op
 use Rattle.image.specs.declared.instruction.Region.TheVariants as regions
+use Rattle.image.specs.declared.subprograms.Subprogram.{Subprogram}
 use Rattle.types.specs.Entities as entity
 use Rattle.types.specs.Layouts.{words_of}
 use Rattle.types.specs.Scopes.{Scope, form_at, with_name}
+use Rattle.types.specs.Shapes.{initial, value_words}
 use Rattle.type_rules.specs.SubtypeNames.{subtype_of}
 use Rattle.declaring.specs.BodyNames.{formal_role, formals_scope}
 use Rattle.meaning.specs.Calls.{is_out}
 use Rattle.meaning.specs.Programs.{Parameter}
-use Rattle.expr_code.specs.Code.{Adds, Extends, Holds, here}
+use Rattle.expr_code.specs.Code.{Extends, Holds, here}
+use Rattle.expr_code.specs.Flows.{AreKept, Flows}
 use Rattle.expr_code.specs.Views.{At}
 use Rattle.expr_code.specs.declared.code.Code.{Code}
 use Rattle.expr_code.specs.declared.visible.Slot.{Slot}
 use Rattle.expr_code.specs.declared.visible.Visible.{Visible}
+use Rattle.stmt_code.specs.Bounds.{words_named}
 use Rattle.stmt_code.specs.Emitting.{first_word}
 use Rattle.stmt_code.specs.Resting.{Framed}
+use Rattle.stmt_code.specs.Storing.{ArePushed}
 use Rattle.stmt_code.specs.declared.draft.FrameWords.{FrameWords}
 use Rattle.stmt_code.specs.declared.formals.PlacedFormal.{PlacedFormal}
 use Rattle.stmt_code.specs.declared.formals.PlacedFormals.{PlacedFormals}
@@ -86,10 +92,6 @@ outs_end s out (x ∷ xs) = if is_out x.0.mode then outs_end s (out + words_of s
 
 -- ---- as methods place them
 
--- the words of an object of the subtype with this name, where it is one
-abbrev pub words_named : Scope → Identifier → ℕ
-words_named s name = elim (subtype_of s name) [ None ↦ 0 | Some t ↦ words_of s t ]
-
 -- the words that are passed for a formal parameter
 abbrev pub passed_for : Scope → Formal → ℕ
 passed_for s f = elim f.mode [ mode.In ↦ words_named s f.subtype | mode.Out ↦ 1 | mode.InOut ↦ suc (words_named s f.subtype) ]
@@ -115,38 +117,77 @@ slot_for x = Some (record { region = regions.Locals; offset = x.offset })
 abbrev pub no_subprogram : PlacedFormal → Option ℕ
 no_subprogram x = None
 
+-- its value has words
+abbrev pub HasValue : Scope → PlacedFormal → Type 0
+HasValue s x = 1 ≤ words_of s x.subtype
+
 -- formal parameters have words of a frame, of which none was taken, and are visible
 pub record PlacesFormals (v : Visible) (fs : List Formal) (later : Visible) (words : FrameWords) (placed : PlacedFormals) : Type 0 where
   pub stand : StandInTurn v.scope 0 placed.passed fs placed.formals.items placed.passed words.taken
+  pub some : All (HasValue v.scope) placed.formals.items
   pub most : words.taken ≤ words.most
   pub scope : later.scope ≡ formals_scope v.scope fs
   pub slots : later.slots ≡ v.slots ++ map slot_for placed.formals.items
   pub subprograms : later.subprograms ≡ v.subprograms ++ map no_subprogram placed.formals.items
 
+-- ---- what their code asks of a subprogram
+
+-- a frame of so many words has the first one of the value, which has words, and that of the address
+pub record BeginsWithin (s : Scope) (room : ℕ) (x : PlacedFormal) : Type 0 where
+  pub some : 1 ≤ words_of s x.subtype
+  pub value : x.offset < room
+  pub address : (a : ℕ) → x.address ≡ Some a → a < room
+
+-- the frame of a subprogram has this word
+abbrev pub HasWord : (offset : ℕ) → Sections → Subprogram → Type 0
+HasWord offset i q = offset < q.locals
+
+-- ... those of a parameter, of one with this address, and of all
+abbrev pub HasRoom : Scope → PlacedFormal → Sections → Subprogram → Type 0
+HasRoom s x i q = BeginsWithin s q.locals x
+
+abbrev pub HasRoomAt : Scope → (address : ℕ) → PlacedFormal → Sections → Subprogram → Type 0
+HasRoomAt s address x i q = BeginsWithin s q.locals x × (address < q.locals)
+
+abbrev pub HaveRoom : Scope → List PlacedFormal → Sections → Subprogram → Type 0
+HaveRoom s xs i q = All (BeginsWithin s q.locals) xs
+
 -- ---- `out` parameters, which begin as objects without initial value (RM 6.4.1)
 
--- of one that is not copied in the word is pushed, and stored
+-- a single word is pushed, and stored
+pub record StoresFirstWord (i : Sections) (s : Scope) (from to : ℕ) (x : PlacedFormal) : Type 0 where
+  pub word : ℤ
+  pub first : first_word (form_at s x.subtype.type_number) x.subtype ≡ Some word
+  pub push : At i from (op.Push word)
+  pub store : At i (suc from) (op.StoreLocal x.offset)
+  pub end : to ≡ suc (suc from)
+
+-- of several their place is pushed, and each of them, and all are stored from there on
+pub record StoresFirstWords (i : Sections) (s : Scope) (from to : ℕ) (x : PlacedFormal) : Type 0 where
+  pub mid : ℕ
+  pub address : At i from (op.Push (pos x.offset))
+  pub pushed : ArePushed i (suc from) (value_words (initial s x.subtype))
+  pub long : mid ≡ suc from + length (value_words (initial s x.subtype))
+  pub store : At i mid (op.StoreBlock regions.Locals (words_of s x.subtype))
+  pub end : to ≡ suc mid
+
+-- one that is not copied in gets its first value
 abbrev pub InitialThen : Sections → Scope → (from : ℕ) → PlacedFormal → (rest : ℕ → Type 0) → (out : Bool) → Type 0
-InitialThen i s from x rest true =
-    (word : ℤ) × (first_word (form_at s x.subtype.type_number) x.subtype ≡ Some word) × At i from (op.Push word) × At i (suc from) (op.StoreLocal x.offset)
-    × rest (suc (suc from))
+InitialThen i s from x rest true = (mid : ℕ) × (StoresFirstWord i s from mid x ⊎ StoresFirstWords i s from mid x) × rest mid
 InitialThen i s from x rest false = rest from
 
 abbrev pub AreInitial : Sections → Scope → (from to : ℕ) → List PlacedFormal → Type 0
 AreInitial i s from to [] = from ≡ to
 AreInitial i s from to (x ∷ xs) = InitialThen i s from x (λ n. AreInitial i s n to xs) (is_out x.mode)
 
--- the two instructions of one of them were added
-pub record AddsInitialised (s : Scope) (old : Code) (x : PlacedFormal) (new : Code) : Type 0 where
-  pub word : ℤ
-  pub first : first_word (form_at s x.subtype.type_number) x.subtype ≡ Some word
-  pub pushed : Code
-  pub pushes : Adds old 0 (op.Push word) pushed
-  pub stores : Adds pushed 1 (op.StoreLocal x.offset) new
+abbrev pub placed_words : Scope → PlacedFormal → ℕ
+placed_words s x = words_of s x.subtype
 
 pub record Initialises (s : Scope) (old : Code) (xs : List PlacedFormal) (new : Code) : Type 0 where
   pub extends : Extends old new
+  pub sized : here new ≤ here old + (2 * length xs + total (placed_words s) xs)
   pub stands : (i : Sections) → Holds i (here old) new → AreInitial i s (here old) (here new) xs
+  pub flows : Flows (HaveRoom s xs) old 0 new 0
 
 -- ---- what the end of a body gives back
 
@@ -159,12 +200,14 @@ IsLoaded i from to offset size =
 -- the instructions of one value were added
 pub record AddsLoaded (old : Code) (offset many : ℕ) (new : Code) : Type 0 where
   pub extends : Extends old new
+  pub sized : here new ≤ here old + 2
   pub loads : (i : Sections) → Holds i (here old) new → IsLoaded i (here old) (here new) offset many
 
 -- ... and of an address in front of it
 pub record AddsReturned (s : Scope) (old : Code) (address : ℕ) (x : PlacedFormal) (new : Code) : Type 0 where
   pub extends : Extends old new
   pub longer : suc (here old) ≤ here new
+  pub sized : here new ≤ here old + 3
   pub addresses : (i : Sections) → Holds i (here old) new → At i (here old) (op.LoadLocal address)
   pub loads : (i : Sections) → Holds i (here old) new → IsLoaded i (suc (here old)) (here new) x.offset (words_of s x.subtype)
 
@@ -172,6 +215,7 @@ pub record AddsReturned (s : Scope) (old : Code) (address : ℕ) (x : PlacedForm
 pub record ReturnsOne (s : Scope) (old : Code) (depth : ℕ) (x : PlacedFormal) (height : ℕ) (new : Code) : Type 0 where
   pub none : x.address ≡ None → (new ≡ old) × (height ≡ depth)
   pub some : (a : ℕ) → x.address ≡ Some a → AddsReturned s old a x new × (height ≡ suc (depth + words_of s x.subtype))
+  pub flows : Flows (HasRoom s x) old depth new height
 
 -- of one that is copied back the address and the value
 abbrev pub ReturnedThen : Sections → Scope → (from to : ℕ) → PlacedFormal → (rest : ℕ → Type 0) → (address : Option ℕ) → Type 0
@@ -196,8 +240,12 @@ words_returned s (x ∷ xs) = returned_more x.address (words_of s x.subtype) (wo
 -- they are given back: so many words, by a return behind them
 pub record Returns (s : Scope) (old : Code) (xs : List PlacedFormal) (height : ℕ) (new : Code) : Type 0 where
   pub extends : Extends old new
+  pub sized : here new ≤ here old + suc (3 * length xs)
   pub back : ℕ
+  pub up : here old ≤ back
   pub end : here new ≡ suc back
   pub high : height ≡ words_returned s xs
   pub stands : (i : Sections) → Holds i (here old) new → AreReturned i s (here old) back xs
   pub returns : (i : Sections) → Holds i (here old) new → At i back op.Return
+  pub flows : (i : Sections) (q : Subprogram) → Holds i (here old) new → HaveRoom s xs i q → new.deepest ≤ q.stack → q.results ≡ height
+      → AreKept i q (here old) back (here old) (here new) 0

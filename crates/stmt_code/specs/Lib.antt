@@ -9,9 +9,11 @@ pub mod Standing
 pub mod Laws
 pub mod Lines
 pub mod Suiting
+pub mod Bounds
 pub mod Emitting
 pub mod Passing
 pub mod Alternatives
 pub mod Formals
 pub mod Subprograms
+pub mod Whole
 pub mod Turns

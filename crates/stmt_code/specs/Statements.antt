@@ -265,5 +265,7 @@ module _ (i : Sections) (program : Program) (g : Package) (numbers : Numbers) wh
         → length locals ≡ s.locals - s.parameters
         → RestsWith g begins (held_at begins.reserved addresses) (activation_of q args) (passed_words q.parameters args addresses ++ locals)
 
+  -- those that calls find by their names
   abbrev pub HasProcedures : Type 0
-  HasProcedures = (q : Procedure) (number : ℕ) → numbers q ≡ Some number → IsProcedure q number
+  HasProcedures =
+      (name : List ℕ) (q : Procedure) (number : ℕ) → procedure_here program None name ≡ Some q → numbers q ≡ Some number → IsProcedure q number

@@ -1,11 +1,12 @@
 -- What it is that code stores a value: an assignment, or a declaration of an object (RM 3.3.1, 5.2).
-use Rattle.std.specs.Prelude.{◌≡◌, ◌≤◌, ℕ, suc, ℤ, List, [], Option, Some, None}
+use Rattle.std.specs.Prelude.{◌≡◌, ◌≤◌, ℕ, suc, ℤ, List, [], ◌∷◌, Option, Some, None, ⊤}
 use Rattle.base.specs.declared.schedule.ScheduleLine.{ScheduleLine}
 use Rattle.kernel.specs.State.{Kernel}
 use Rattle.kernel.specs.Effects.{Quiet}
 use Rattle.image.specs.Sections.{Sections}
 use Rattle.image.specs.Frames.{Words, Frame}
 use Rattle.image.specs.Steps.{act, does}
+use Rattle.image.specs.declared.instruction.Operation.TheVariants as op
 use Rattle.ada_tree.specs.ExpressionTree.{ExprTree, NameTree}
 use Rattle.ada_tree.specs.StatementTree.{ObjectTree}
 use Rattle.types.specs.Scopes.{Scope}
@@ -17,7 +18,7 @@ use Rattle.types.specs.Evaluating.{Calls, call, passed, value_with}
 use Rattle.meaning.specs.Programs.{Program, subtype_named}
 use Rattle.meaning.specs.Works.{Activation, Store, Target}
 use Rattle.meaning.specs.Targets.{all_selected, object_named, target_or_nothing}
-use Rattle.expr_code.specs.Views.{in_frame, placed, view_of}
+use Rattle.expr_code.specs.Views.{At, in_frame, placed, view_of}
 use Rattle.expr_code.specs.Computing.{Everywhere}
 use Rattle.expr_code.specs.Seeing.{library_of, Package, Sees}
 use Rattle.stmt_code.specs.Resting.{AreKept, Framed, IsAt, Knows, Rests, StandsFor}
@@ -48,6 +49,11 @@ abbrev pub object_declared : Scope → ObjectTree → Value → Object
 object_declared s d v = record { name = d.name.name; subtype = subtype_named s d.subtype; value = v }
 
 -- ---- code that stores
+
+-- these words are put on the operand stack, one by one
+abbrev pub ArePushed : Sections → ℕ → List ℤ → Type 0
+ArePushed i from [] = ⊤
+ArePushed i from (w ∷ ws) = At i from (op.Push w) × ArePushed i (suc from) ws
 
 module _ (i : Sections) (program : Program) (g : Package) where
   -- The instruction at a place takes words off this operand stack, leaves the others on it, and stores them: the words stand for this store then, and the locals

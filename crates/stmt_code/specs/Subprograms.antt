@@ -1,23 +1,39 @@
 -- What methods promise that add the code of whole subprograms: of procedures and functions of a package, and of main (docs/CODEGEN.md).
-use Rattle.std.specs.Prelude.{◌≡◌, ℕ, suc, List, [], ◌∷◌, Some}
+use Rattle.std.specs.Prelude.{◌≡◌, ℕ, suc, ◌+◌, ◌≤◌, List, [], ◌∷◌, length, map, None, Some, true, ⊤}
+use Rattle.std.specs.List.{All}
+use Rattle.base.specs.declared.limits.TheConstants.{FRAME_WORDS, INSTRUCTIONS}
 use Rattle.ada_tree.specs.declared.declaration.Formal.{Formal}
 use Rattle.ada_tree.specs.declared.expression.Identifier.{Identifier}
 use Rattle.ada_tree.specs.declared.program.MainStatement.{MainStatement}
 use Rattle.ada_tree.specs.declared.program.MainStatement.TheVariants as main
 use Rattle.ada_tree.specs.ExpressionTree.{ExprTree}
 use Rattle.ada_tree.specs.ProgramTree.{BodyTree}
+use Rattle.ada_tree.specs.Size.{total}
 use Rattle.ada_tree.specs.StatementTree.{NoHandlers}
+use Rattle.image.specs.Operations.{called}
+use Rattle.image.specs.Rules.{is_plain}
 use Rattle.image.specs.Sections.{Sections}
 use Rattle.image.specs.declared.instruction.Operation.TheVariants as op
+use Rattle.image.specs.declared.subprograms.Subprogram as code
+use Rattle.types.specs.declared.entity.FormalParameter.{FormalParameter}
 use Rattle.types.specs.declared.entity.Subtype.{Subtype}
-use Rattle.expr_code.specs.Code.{Adds, Extends, Holds, here}
+use Rattle.types.specs.Entities.{Profile}
+use Rattle.types.specs.Layouts.{words_of}
+use Rattle.types.specs.Scopes.{Scope}
+use Rattle.type_rules.specs.ProfileRules.{formal_parameters}
+use Rattle.well_typed.specs.Agreeing.{parameter_subtype}
+use Rattle.well_typed.specs.SoundScopes.{AreIn, IsKnown}
+use Rattle.expr_code.specs.Code.{Adds, Extends, Holds, StandsFrom, here}
 use Rattle.expr_code.specs.Emitting.{EmitsChecked}
-use Rattle.expr_code.specs.Seeing.{subprogram_of}
+use Rattle.expr_code.specs.Flows.{AreKept, Flows}
+use Rattle.expr_code.specs.Seeing.{NamesProfile, subprogram_of}
 use Rattle.expr_code.specs.Views.{At}
 use Rattle.expr_code.specs.declared.code.Code.{Code}
 use Rattle.expr_code.specs.declared.visible.Visible.{Visible}
-use Rattle.stmt_code.specs.Emitting.{EmitsRun}
+use Rattle.stmt_code.specs.Bounds.{function_bound, main_bound, procedure_bound}
+use Rattle.stmt_code.specs.Emitting.{EmitsRun, HasLabels}
 use Rattle.stmt_code.specs.Formals.{Initialises, PlacesFormals, Returns}
+use Rattle.stmt_code.specs.Suiting.{SuitsStatements, passed_width, returned_width}
 use Rattle.stmt_code.specs.declared.draft.Draft.{Draft}
 use Rattle.stmt_code.specs.declared.draft.FrameWords.{FrameWords}
 use Rattle.stmt_code.specs.declared.formals.PlacedFormals.{PlacedFormals}
@@ -27,8 +43,10 @@ use Rattle.stmt_code.specs.declared.subprogram.SubprogramWords.{SubprogramWords}
 abbrev pub fresh : Code → Code
 fresh c = record c { deepest = 0 }
 
--- The code of a procedure was added: first values of its `out` parameters, its declarations and statements, and what it gives back.
+-- The code of a procedure was added, of at most so many instructions: first values of its `out` parameters, its declarations and statements, and what it gives
+-- back.
 pub record AddsProcedure (v : Visible) (old : Draft) (fs : List Formal) (b : BodyTree) (words : SubprogramWords) (new : Draft) : Type 0 where
+  pub sized : here new.code ≤ here old.code + procedure_bound v.scope fs b
   pub placed : PlacedFormals
   pub later : Visible
   pub framed : FrameWords
@@ -43,9 +61,11 @@ pub record AddsProcedure (v : Visible) (old : Draft) (fs : List Formal) (b : Bod
   pub passed : words.passed ≡ placed.passed
   pub locals : words.locals ≡ run.words.most
   pub stack : words.stack ≡ new.code.deepest
+  pub fits : words.locals + words.stack ≤ FRAME_WORDS
 
 -- The code of a function was added that returns this value: the value, checked, and the return.
 pub record AddsFunction (v : Visible) (old : Draft) (fs : List Formal) (result : Subtype) (value : ExprTree) (words : SubprogramWords) (new : Draft) : Type 0 where
+  pub sized : here new.code ≤ here old.code + function_bound fs value
   pub placed : PlacedFormals
   pub later : Visible
   pub framed : FrameWords
@@ -58,6 +78,7 @@ pub record AddsFunction (v : Visible) (old : Draft) (fs : List Formal) (result :
   pub results : words.results ≡ 1
   pub locals : words.locals ≡ framed.most
   pub stack : words.stack ≡ new.code.deepest
+  pub fits : words.locals + words.stack ≤ FRAME_WORDS
 
 -- the calls of main, one behind the other
 abbrev pub AreCalls : Sections → Visible → (from to : ℕ) → List MainStatement → Type 0
@@ -72,12 +93,30 @@ pub record AddsMainCall (v : Visible) (old : Code) (procedure : Identifier) (new
   pub told : subprogram_of v procedure.name ≡ Some number
   pub adds : Adds old 0 (op.Call number) new
 
+-- the subprogram that is called by a number takes and gives nothing
+pub record IsBare (i : Sections) (number : ℕ) : Type 0 where
+  pub code : code.Subprogram
+  pub is : called i number ≡ Some code
+  pub plain : is_plain code.kind ≡ true
+  pub parameters : code.parameters ≡ 0
+  pub results : code.results ≡ 0
+
+abbrev pub CallsBare : Visible → Sections → MainStatement → Type 0
+CallsBare v i (main.Null place) = ⊤
+CallsBare v i (main.Call package_ procedure) = (number : ℕ) → subprogram_of v procedure.name ≡ Some number → IsBare i number
+
+abbrev pub CallBare : Visible → List MainStatement → Sections → code.Subprogram → Type 0
+CallBare v all i s = All (CallsBare v i) all
+
 pub record AddsCalls (v : Visible) (old : Code) (all : List MainStatement) (new : Code) : Type 0 where
   pub extends : Extends old new
+  pub sized : here new ≤ here old + length all
   pub stands : (i : Sections) → Holds i (here old) new → AreCalls i v (here old) (here new) all
+  pub flows : Flows (CallBare v all) old 0 new 0
 
 -- The code of main was added: its calls, and the return.
 pub record AddsMain (v : Visible) (old : Draft) (all : List MainStatement) (words : SubprogramWords) (new : Draft) : Type 0 where
+  pub sized : here new.code ≤ here old.code + main_bound all
   pub called : Code
   pub calls : AddsCalls v (fresh old.code) all called
   pub returns : Adds called 0 op.Return new.code
@@ -86,3 +125,54 @@ pub record AddsMain (v : Visible) (old : Draft) (all : List MainStatement) (word
   pub results : words.results ≡ 0
   pub locals : words.locals ≡ 0
   pub stack : words.stack ≡ new.code.deepest
+  pub fits : words.locals + words.stack ≤ FRAME_WORDS
+
+-- ---- the rules of images
+
+-- a procedure without parameters has this name
+pub record NamesBare (s : Scope) (name : List ℕ) : Type 0 where
+  pub profile : Profile
+  pub names : NamesProfile s name profile
+  pub formals : profile.formals ≡ []
+  pub result : profile.result ≡ None
+
+-- main calls such procedures
+abbrev pub NamesIfCalled : Scope → MainStatement → Type 0
+NamesIfCalled s (main.Null place) = ⊤
+NamesIfCalled s (main.Call package_ procedure) = NamesBare s procedure.name
+
+abbrev pub CallsProcedures : Scope → List MainStatement → Type 0
+CallsProcedures s all = All (NamesIfCalled s) all
+
+-- the words that are passed and come back are those of a call of a procedure whose profile has these formals
+pub record IsCalledProcedure (s : Scope) (fs : List Formal) (words : SubprogramWords) : Type 0 where
+  pub passed : (all : List FormalParameter) → formal_parameters s fs ≡ Some all → words.passed ≡ total (passed_width s) all
+  pub results : (all : List FormalParameter) → formal_parameters s fs ≡ Some all → words.results ≡ total (returned_width s) all
+
+-- ... of a function, which has this result
+pub record IsCalledFunction (s : Scope) (fs : List Formal) (result : Subtype) (words : SubprogramWords) : Type 0 where
+  pub passed : (all : List FormalParameter) → formal_parameters s fs ≡ Some all → AreIn all → words.passed ≡ total (words_of s) (map parameter_subtype all)
+  pub results : IsKnown s result → words.results ≡ words_of s result
+
+-- the subprogram has these words
+pub record HasWords (s : code.Subprogram) (words : SubprogramWords) : Type 0 where
+  pub parameters : s.parameters ≡ words.passed
+  pub results : s.results ≡ words.results
+  pub locals : s.locals ≡ words.locals
+  pub stack : s.stack ≡ words.stack
+
+-- The code that was added keeps the rules of images on one subprogram (docs/FORMATS.md, 43 to 47): its words are within a frame, and what is passed within those
+-- of its names; it ends with a return; and in every image that holds it, in a subprogram with these words and whatever has what is visible in front of it, each
+-- instruction keeps the rules, jumps within the subprogram, and the first one finds an empty operand stack.
+pub record KeepsRules (v : Visible) (old : Draft) (words : SubprogramWords) (new : Draft) : Type 0 where
+  pub extends : Extends (fresh old.code) new.code
+  pub labels : StandsFrom 0 old.labels new.labels
+  pub few : here new.code ≤ INSTRUCTIONS
+  pub passed : words.passed ≤ words.locals
+  pub fits : words.locals + words.stack ≤ FRAME_WORDS
+  pub last : ℕ
+  pub up : here old.code ≤ last
+  pub end : here new.code ≡ suc last
+  pub returns : (i : Sections) → Holds i (here old.code) new.code → At i last op.Return
+  pub flows : (i : Sections) (s : code.Subprogram) → Holds i (here old.code) new.code → HasLabels i new.labels → HasWords s words → SuitsStatements v i s
+      → AreKept i s (here old.code) last (here old.code) (here new.code) 0

@@ -1,14 +1,17 @@
 //! The code of bodies of procedures (RM 6.3).
-ghost use Rattle.std.specs.Prelude.{◌≡◌, ◌≤◌, ◌+◌, false, map, suc, true, IfOk, OnOk};
-ghost use Rattle.base.specs.declared.limits.TheConstants.{FRAME_WORDS};
+ghost use Rattle.std.specs.Prelude.{◌≡◌, ◌≤◌, ◌+◌, false, map, suc, true, IfOk, None, OnOk};
+ghost use Rattle.base.specs.declared.limits.TheConstants.{FRAME_WORDS, INSTRUCTIONS};
 ghost use Rattle.ada_tree.specs.StatementTree.{declaration_tree, stmt_trees};
+ghost use Rattle.expr_code.specs.Code.{here};
+ghost use Rattle.expr_code.specs.Flows.{Flows};
+ghost use Rattle.image.specs.Rules.{is_block};
 ghost use Rattle.meaning.specs.Calls.{is_out};
-ghost use Rattle.stmt_code.specs.Emitting.{EmitsRun, HasEntries, IsLegalRun};
-ghost use Rattle.stmt_code.specs.Formals.{AddsInitialised, AddsLoaded, AddsReturned, Initialises, Returns, ReturnsOne};
+ghost use Rattle.stmt_code.specs.Emitting.{EmitsObject, EmitsRun, HasEntries, IsLegalRun};
+ghost use Rattle.stmt_code.specs.Formals.{AddsLoaded, AddsReturned, HasRoomAt, HasWord, Initialises, Returns, ReturnsOne};
 ghost use Rattle.types.specs.Layouts.{words_of};
 ghost use Rattle.well_typed.specs.SoundScopes.{SoundScope};
 
-use crate::declaration::add_initial;
+use crate::declaration::add_object;
 use crate::draft::{Draft, behind};
 use crate::extent::Extent;
 use crate::formals::PlacedFormal;
@@ -19,17 +22,19 @@ use declaring::laws::names_are_added;
 use expr_code::{Code, Refusal, Visible};
 use image::{Operation, Region};
 use types::Scope;
+use types::laws::{initial_values_have_shape, values_have_words};
 
-// Adds what gives a parameter of one word that is not copied in the value of an object without initial value, and nothing for another.
+// Adds what gives a parameter that is not copied in the value of an object without initial value, and nothing for another.
 fn initialise(code: &mut Code, visible: &Visible, formal: &PlacedFormal) -> Result<(), Refusal>
     requires sound { SoundScope visible.now.scope }
-    ensures out { OnOk result (is_out formal.now.mode ≡ true → AddsInitialised visible.now.scope code.old formal.now code.new) }
+    ensures out { OnOk result (is_out formal.now.mode ≡ true → EmitsObject visible.now code.old formal.now.offset formal.now.subtype None code.new) }
     ensures past { OnOk result (is_out formal.now.mode ≡ false → code.new ≡ code.old) }
+    ensures few { OnOk result (here code.new ≤ here code.old + (2 + words_of visible.now.scope formal.now.subtype)) }
 {
+    initial_values_have_shape();
+    values_have_words();
     if formal.mode == Mode::Out {
-        add_initial(code, visible, formal.subtype, &None)?;
-        code.emit(1, Operation::StoreLocal(formal.offset))?;
-        return Ok(());
+        add_object(code, visible, formal.offset, formal.subtype, &None)?;
     }
     Ok(())
 }
@@ -43,6 +48,8 @@ pub(crate) fn initialise_all(
     requires sound { SoundScope visible.now.scope }
     ensures adds { OnOk result (Initialises visible.now.scope code.old formals.now code.new) }
 {
+    initial_values_have_shape();
+    values_have_words();
     for formal in formals {
         initialise(code, visible, formal)?;
     }
@@ -52,6 +59,7 @@ pub(crate) fn initialise_all(
 // Puts several words of the frame on the operand stack.
 fn load_block(code: &mut Code, depth: u16, offset: u16, many: u16) -> Result<(), Refusal>
     ensures adds { OnOk result (AddsLoaded code.old offset many code.new) }
+    ensures flows { OnOk result (is_block many ≡ true → Flows (HasWord offset) code.old depth code.new (depth + many)) }
 {
     let load = Operation::LoadBlock {
         region: Region::Locals,
@@ -67,6 +75,7 @@ fn load(code: &mut Code, depth: u16, offset: u16, many: u16) -> Result<u16, Refu
     ensures high { IfOk result (λ height. height ≡ depth + many) }
     ensures few { OnOk result (many ≤ FRAME_WORDS) }
     ensures adds { OnOk result (AddsLoaded code.old offset many code.new) }
+    ensures flows { IfOk result (λ height. 1 ≤ many → Flows (HasWord offset) code.old depth code.new height) }
 {
     let height = behind(depth, many)?;
     if many == 1 {
@@ -87,6 +96,7 @@ fn give_back(
 ) -> Result<u16, Refusal>
     ensures high { IfOk result (λ height. height ≡ suc (depth + words_of scope.now formal.now.subtype)) }
     ensures adds { OnOk result (AddsReturned scope.now code.old address formal.now code.new) }
+    ensures flows { IfOk result (λ height. Flows (HasRoomAt scope.now address formal.now) code.old depth code.new height) }
 {
     code.emit(depth, Operation::LoadLocal(address))?;
     let many = scope.words(formal.subtype);
@@ -120,6 +130,7 @@ pub(crate) fn return_all(
     formals: &[PlacedFormal],
 ) -> Result<u16, Refusal>
     ensures returns { IfOk result (λ height. Returns scope.now code.old formals.now height code.new) }
+    ensures few { OnOk result (here code.new ≤ INSTRUCTIONS) }
 {
     let mut height = 0;
     for given in 0..formals.len() {

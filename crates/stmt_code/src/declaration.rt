@@ -12,6 +12,7 @@ ghost use Rattle.well_typed.specs.SoundScopes.{SoundScope};
 
 use crate::draft::Draft;
 use ada_tree::{Declaration, Expr, ObjectDeclaration};
+use base::limits::WORDS;
 use expr_code::{Code, Refusal, Slot, Visible, above, raised};
 use image::{Operation, Region};
 use kernel::laws::quiet_stays;
@@ -20,11 +21,8 @@ use types::laws::{initial_values_have_shape, shapes_stay, values_have_words};
 use types::{Subtype, TypeForm};
 use well_typed::laws::{agreement_is_kept, calls_are_typed, scopes_are_sound};
 
-// The words of an object without initial value may be so many: with their address, and what stores them, they take 20 instructions.
-const FEW_WORDS: u16 = 18;
-
 /// Adds the code of an object's initial value of one word: of the one that is given, which is checked, or of that of an object without.
-pub(crate) fn add_initial(
+fn add_initial(
     code: &mut Code,
     visible: &Visible,
     subtype: Subtype,
@@ -100,8 +98,8 @@ fn add_initial_words(
         Some(value) => code.of_subtype(visible, 1, subtype, value),
         None => {
             let words = visible.scope.words(subtype);
-            if words == 0 || FEW_WORDS < words {
-                return Err(Refusal::Outside);
+            if words == 0 || WORDS < usize::from(words) {
+                return Err(Refusal::Limit);
             }
             push_initial(code, visible, 1, subtype)?;
             Ok(words)
@@ -144,7 +142,7 @@ fn add_words(
 }
 
 /// Adds the code of an object's initial value, and what stores its words in the frame from an offset on.
-fn add_object(
+pub(crate) fn add_object(
     code: &mut Code,
     visible: &Visible,
     offset: u16,

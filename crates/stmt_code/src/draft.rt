@@ -45,6 +45,17 @@ impl Labels {
         }
         Ok(number as u16)
     }
+
+    /// The labels by their numbers, as an image has them (docs/FORMATS.md).
+    pub fn texts(&self, alloc: Global) -> Result<Vec<Text>, Refusal>
+        ensures { IfOk result (λ texts. texts.items ≡ self.now) }
+    {
+        let mut texts = Vec::new(alloc);
+        for label in self.labels.iter() {
+            texts.push(label.clone()?)?;
+        }
+        Ok(texts)
+    }
 }
 
 /// The place behind so many words of a frame, which has at most 512 (docs/FORMATS.md).

@@ -1,9 +1,10 @@
 //! Where the words of formal parameters stand in the frame of their body (RM 6.4.1).
 ghost use Rattle.std.specs.Prelude.{◌≡◌, ◌≤◌, ◌+◌, ◌++◌, map, IfOk, OnOk};
+ghost use Rattle.std.specs.List.{All};
 ghost use Rattle.base.specs.declared.limits.TheConstants.{FRAME_WORDS};
 ghost use Rattle.ada_tree.specs.Size.{total};
 ghost use Rattle.types.specs.Layouts.{words_of};
-ghost use Rattle.stmt_code.specs.Formals.{no_subprogram, passed_for, PlacesFormals, slot_for, StandInTurn, StandsAt};
+ghost use Rattle.stmt_code.specs.Formals.{HasValue, no_subprogram, passed_for, PlacesFormals, slot_for, StandInTurn, StandsAt};
 
 use crate::draft::{Draft, FrameWords, behind};
 use ada_tree::{Formal, Mode};
@@ -105,6 +106,7 @@ fn place_all(
 ) -> Result<PlacedFormals, Refusal>
     requires most { words.old.taken ≤ words.old.most }
     ensures stand { IfOk result (λ placed. StandInTurn scope.now 0 words.old.taken formals.now placed.formals.items placed.passed words.new.taken) }
+    ensures some { IfOk result (λ placed. All (HasValue scope.now) placed.formals.items) }
     ensures most { OnOk result (words.new.taken ≤ words.new.most) }
 {
     let mut placed = Vec::new(alloc);
@@ -114,6 +116,9 @@ fn place_all(
             return Err(Refusal::Outside);
         };
         let many = scope.words(subtype);
+        if many == 0 {
+            return Err(Refusal::Outside);
+        }
         let (one, next) = place(words, formal.mode, subtype, many, from)?;
         placed.push(one)?;
         from = next;

@@ -1,5 +1,6 @@
 //! The laws of code that stands for work, each what a function without work ensures.
 ghost use Rattle.stmt_code.specs.Laws.{StepsAreMet};
+ghost use Rattle.stmt_code.specs.Whole.{KeptCodePasses};
 
 use kernel::laws::quiet_stays;
 use sound_steps::laws::{steps_are_sound, stores_are_alike};
@@ -12,3 +13,8 @@ pub fn steps_are_met()
     steps_are_sound();
     stores_are_alike();
 }
+
+/// What the methods of whole subprograms add keeps the rules of images on code, one subprogram behind another.
+pub fn kept_code_passes()
+    ensures { KeptCodePasses }
+{}

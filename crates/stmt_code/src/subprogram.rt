@@ -1,21 +1,23 @@
 //! The code of whole subprograms: procedures and functions of a package (RM 6.3), and main (RM 10.2).
-ghost use Rattle.std.specs.Prelude.{◌≡◌, ◌+◌, length, IfOk, OnOk};
+ghost use Rattle.std.specs.Prelude.{◌≡◌, ◌≤◌, ◌+◌, length, IfOk, OnOk};
+ghost use Rattle.base.specs.declared.limits.TheConstants.{FRAME_WORDS};
 ghost use Rattle.ada_tree.specs.ExpressionTree.{expr_tree};
 ghost use Rattle.ada_tree.specs.ProgramTree.{body_tree};
 ghost use Rattle.declaring.specs.BodyNames.{formals_scope};
 ghost use Rattle.expr_code.specs.Emitting.{IsFit};
 ghost use Rattle.stmt_code.specs.Emitting.{HasEntries, IsLegalRun};
-ghost use Rattle.stmt_code.specs.Subprograms.{AddsCalls, AddsFunction, AddsMain, AddsMainCall, AddsProcedure};
+ghost use Rattle.stmt_code.specs.Subprograms.{AddsCalls, AddsFunction, AddsMain, AddsMainCall, AddsProcedure, CallsProcedures, IsCalledFunction, IsCalledProcedure, KeepsRules};
 ghost use Rattle.well_typed.specs.SoundScopes.{SoundScope};
 
 use crate::body::{initialise_all, return_all};
-use crate::draft::Draft;
+use crate::draft::{Draft, behind};
 use crate::extent::Extent;
 use ada_tree::{Body, Expr, Formal, Identifier, MainStatement};
 use declaring::laws::names_are_added;
 use expr_code::{Code, Refusal, Visible};
 use image::Operation;
 use types::Subtype;
+use types::laws::shapes_stay;
 
 /// How many words a subprogram has (docs/FORMATS.md): those that it is passed, those that it gives back, and the most of its frame and on its operand stack.
 #[derive(Clone, Copy, PartialEq, Eq, Debug)]
@@ -24,6 +26,17 @@ pub struct SubprogramWords {
     pub results: u16,
     pub locals: u16,
     pub stack: u16,
+}
+
+impl SubprogramWords {
+    // The same, where a frame and its operand stack have no more than 512 words together (docs/FORMATS.md).
+    fn within_frame(self) -> Result<SubprogramWords, Refusal>
+        ensures same { IfOk result (λ words. words ≡ self) }
+        ensures fits { OnOk result (self.locals + self.stack ≤ FRAME_WORDS) }
+    {
+        behind(self.locals, self.stack)?;
+        Ok(self)
+    }
 }
 
 // Adds a call of main.
@@ -62,17 +75,21 @@ impl Draft {
         formals: &[Formal],
         body: &Body,
     ) -> Result<SubprogramWords, Refusal>
+        requires front { SoundScope visible.old.scope }
         requires sound { SoundScope (formals_scope visible.old.scope formals.now) }
         requires entries { HasEntries visible.old }
         requires new_names { length (formals_scope visible.old.scope formals.now) ≡ length visible.old.scope + length formals.now }
         requires legal { IsLegalRun (formals_scope visible.old.scope formals.now) (body_tree body.now).declarations (body_tree body.now).statements }
         ensures adds { IfOk result (λ words. AddsProcedure visible.old self.old formals.now (body_tree body.now) words self.new) }
+        ensures called { IfOk result (λ words. IsCalledProcedure visible.old.scope formals.now words) }
+        ensures keeps { IfOk result (λ words. KeepsRules visible.old self.old words self.new) }
         ensures same { OnOk result (visible.new ≡ visible.old) }
     {
         if !body.handlers.is_empty() {
             return Err(Refusal::Outside);
         }
         names_are_added();
+        shapes_stay();
         let extent = Extent::of(visible, self.words);
         let placed = self.formals(visible, formals)?;
         self.code.deepest = 0;
@@ -84,7 +101,8 @@ impl Draft {
             results,
             locals: self.words.most,
             stack: self.code.deepest,
-        };
+        }
+        .within_frame()?;
         extent.restore(visible, &mut self.words);
         Ok(words)
     }
@@ -97,12 +115,17 @@ impl Draft {
         subtype: Subtype,
         value: &Expr,
     ) -> Result<SubprogramWords, Refusal>
+        requires front { SoundScope visible.old.scope }
         requires sound { SoundScope (formals_scope visible.old.scope formals.now) }
+        requires entries { HasEntries visible.old }
         requires fit { IsFit (formals_scope visible.old.scope formals.now) subtype (expr_tree value.now) }
         ensures adds { IfOk result (λ words. AddsFunction visible.old self.old formals.now subtype (expr_tree value.now) words self.new) }
+        ensures called { IfOk result (λ words. IsCalledFunction visible.old.scope formals.now subtype words) }
+        ensures keeps { IfOk result (λ words. KeepsRules visible.old self.old words self.new) }
         ensures same { OnOk result (visible.new ≡ visible.old) }
     {
         names_are_added();
+        shapes_stay();
         let extent = Extent::of(visible, self.words);
         let placed = self.formals(visible, formals)?;
         self.code.deepest = 0;
@@ -113,7 +136,8 @@ impl Draft {
             results: 1,
             locals: self.words.most,
             stack: self.code.deepest,
-        };
+        }
+        .within_frame()?;
         extent.restore(visible, &mut self.words);
         Ok(words)
     }
@@ -124,16 +148,20 @@ impl Draft {
         visible: &Visible,
         statements: &[MainStatement],
     ) -> Result<SubprogramWords, Refusal>
+        requires called { CallsProcedures visible.now.scope statements.now }
         ensures adds { IfOk result (λ words. AddsMain visible.now self.old statements.now words self.new) }
+        ensures keeps { IfOk result (λ words. KeepsRules visible.now self.old words self.new) }
     {
         self.code.deepest = 0;
         add_calls(&mut self.code, visible, statements)?;
         self.code.emit(0, Operation::Return)?;
-        Ok(SubprogramWords {
+        let words = SubprogramWords {
             passed: 0,
             results: 0,
             locals: 0,
             stack: self.code.deepest,
-        })
+        }
+        .within_frame()?;
+        Ok(words)
     }
 }

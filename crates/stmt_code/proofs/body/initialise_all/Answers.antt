@@ -4,5 +4,5 @@ use Rattle.stmt_code.proofs.body.initialise_all.Goals as goal
 
 pub loop-formal-preserved : goal.loop-formal-preserved
 loop-formal-preserved c =
-    initial_turn c.args.visible.now.scope c.args.code.now c.loop-formal.code c.initialise.new.code c.args.formals.now c.loop-formal.formal-index _ _
-    c.loop-formal-test.true refl c.loop-formal.invariant c.in_ok-initialise.ensures.out c.in_ok-initialise.ensures.past
+    initial_turn c.values_have_words.ensures c.initial_values_have_shape.ensures c.args.visible.now c.args.code.now c.loop-formal.code c.initialise.new.code c.args.formals.now c.loop-formal.formal-index _ _
+    c.loop-formal-test.true refl c.loop-formal.invariant c.in_ok-initialise.ensures.out c.in_ok-initialise.ensures.past c.in_ok-initialise.ensures.few

@@ -16,13 +16,11 @@ loop-given-preserved c =
     (c.in-Some.ensures.lookup.1 ∙ ap (λ m. get_or xs m x) (omega (arith, less)))
     (subst (λ m. ReturnedSoFar s old xs m c.loop-given.height c.loop-given.code) next c.loop-given.invariant) c.in_ok-height.ensures.gives
 
-pub returns : goal.returns
-returns c =
+pub returns-clause-returns : goal.returns-clause-returns
+returns-clause-returns c =
     let s = c.args.scope.now in
     let xs = c.args.formals.now in
     let done = c.loop-given-test.false in
     let none : length xs - c.loop-given.given ≡ 0 = omega (arith, done) in
-    record {
-      returns = returned_all s c.args.code.now c.loop-given.code c.emit.new.self xs c.loop-given.height
-          (subst (λ m. ReturnedSoFar s c.args.code.now xs m c.loop-given.height c.loop-given.code) none c.loop-given.invariant) c.in_ok-emit.ensures.adds;
-    }
+    returned_all s c.args.code.now c.loop-given.code c.emit.new.self xs c.loop-given.height
+    (subst (λ m. ReturnedSoFar s c.args.code.now xs m c.loop-given.height c.loop-given.code) none c.loop-given.invariant) c.in_ok-emit.ensures.adds

@@ -1,5 +1,7 @@
-use Rattle.std.proofs.Common.{◌≡◌, ◌+◌, Some, ap, arith, subst, sym, ◌∙◌}
-use Rattle.stmt_code.specs.Formals.{StandsAt}
+use Rattle.std.proofs.Common.{◌≡◌, ◌+◌, ◌≤◌, [], ◌∷◌, Some, ap, arith, subst, sym, ◌∙◌}
+use Rattle.std.specs.List.{All}
+use Rattle.std.proofs.lemmas.List.Elements.{All-append, All-cons, All-nil}
+use Rattle.stmt_code.specs.Formals.{HasValue, StandsAt}
 use Rattle.types.specs.Layouts.{words_of}
 use Rattle.stmt_code.proofs.FormalWords.{PlacedSoFar, placed_all, placed_next}
 use Rattle.stmt_code.proofs.formals.place_all.Goals as goal
@@ -24,6 +26,11 @@ loop-formal-preserved c =
           (subst (λ m. StandsAt f.mode m c.loop-formal.from c.loop-formal.words.taken x c.in_ok-one.next c.place.new.words.taken) wide
           c.in_ok-one.ensures.stands))),
       c.in_ok-one.ensures.most,
+      subst (All (HasValue s)) (sym c.in_ok-push.ensures.items)
+          (All-append (HasValue s) c.loop-formal.placed.items (x ∷ []) c.loop-formal.invariant.2
+          (All-cons (HasValue s) x []
+          (let own : 1 ≤ words_of s c.in-Some.subtype = omega (arith, many) in subst (λ t. 1 ≤ words_of s t) (sym c.in_ok-one.ensures.subtype) own)
+          (All-nil (HasValue s)))),
     )
 
 pub returns-clause-stand : goal.returns-clause-stand

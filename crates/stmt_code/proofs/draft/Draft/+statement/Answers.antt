@@ -535,6 +535,18 @@ statement-returns-in-Case-clause-emits t c =
     (subst (λ l. EmitsStatement v w c.args.self.now (Case c.in-Case.place e (alternative_trees l)) c.case.new.self) c.deref-in-Case.ensures.value p))
     c.case.ensures.emits
 
+pub statement-returns-in-Assignment-clause-emits : goal.statement-returns-in-Assignment-clause-emits
+statement-returns-in-Assignment-clause-emits t c =
+    on_ok_weaker _
+    (λ p. subst (λ x. EmitsStatement c.args.visible.now (ways_of c.args.leaving) c.args.self.now x c.assign.new.self) (sym (ap stmt_tree c.in-Assignment.is)) p)
+    (c.assign.ensures.emits (ways_of c.args.leaving))
+
+pub statement-returns-in-Call-clause-emits : goal.statement-returns-in-Call-clause-emits
+statement-returns-in-Call-clause-emits t c =
+    on_ok_weaker _
+    (λ p. subst (λ x. EmitsStatement c.args.visible.now (ways_of c.args.leaving) c.args.self.now x c.call.new.self) (sym (ap stmt_tree c.in-Call.is)) p)
+    (c.call.ensures.emits (ways_of c.args.leaving))
+
 pub statement-repeated-requires : goal.statement-repeated-requires
 statement-repeated-requires t c =
     let s = c.args.visible.now.scope in

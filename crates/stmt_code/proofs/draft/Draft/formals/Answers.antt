@@ -17,6 +17,7 @@ returns-clause-places c =
     let same : start ≡ placed.passed = omega (arith, last, began, none) in
     record {
       stand = subst (λ n. StandInTurn v.scope 0 n fs placed.formals.items placed.passed top) same stand;
+      some = c.in_ok-placed.ensures.some;
       most = c.in_ok-placed.ensures.most;
       scope = c.in_ok-show.ensures.scope ∙ c.in_ok-declare_formals.ensures;
       slots = c.in_ok-show.ensures.slots ∙ ap (λ l. v.slots ++ map slot_for l) c.deref.ensures.value;

@@ -1,4 +1,6 @@
-use Rattle.std.proofs.Common.{ap, map, refl, rules, subst}
+use Rattle.std.proofs.Common.{◌+◌, ◌≤◌, ap, map, refl, rules, subst, sym}
+use Rattle.base.specs.declared.limits.TheConstants.{FRAME_WORDS}
+use Rattle.ada_tree.specs.ProgramTree.{body_tree}
 use Rattle.ada_tree.specs.StatementTree.{declaration_tree, handler_trees, stmt_trees}
 use Rattle.stmt_code.specs.Emitting.{EmitsRun}
 use Rattle.stmt_code.specs.Formals.{Initialises, Returns}
@@ -6,6 +8,9 @@ use Rattle.stmt_code.specs.Subprograms.{fresh}
 use Rattle.stmt_code.specs.declared.draft.Draft.{Draft}
 use Rattle.stmt_code.proofs.Adding.{none_there}
 use Rattle.stmt_code.proofs.FormalWords.{formals_entries}
+use Rattle.stmt_code.proofs.Called.{procedure_called}
+use Rattle.stmt_code.proofs.Keeping.{procedure_keeps}
+use Rattle.stmt_code.proofs.WholeBounds.{procedure_few}
 use Rattle.stmt_code.proofs.draft.Draft.procedure.Goals as goal
 
 pub run-requires-clause-entries : goal.run-requires-clause-entries
@@ -18,30 +23,48 @@ returns-clause-adds c =
     let v = c.formals.new.visible in
     let xs = c.in_ok-placed.placed.formals.items in
     let begun : Draft = record { code = c.initialise_all.new.code; labels = c.formals.new.self.labels; words = c.formals.new.self.words } in
+    let initialises : Initialises v.scope (fresh c.args.self.now.code) xs c.initialise_all.new.code =
+    subst (λ z. Initialises v.scope (fresh z) xs c.initialise_all.new.code) c.in_ok-placed.ensures.code
+    (subst (λ l. Initialises v.scope (fresh c.formals.new.self.code) l c.initialise_all.new.code) c.deref.ensures.value
+    c.in_ok-initialise_all.ensures.adds) in
+    let runs : EmitsRun v (record begun { labels = c.args.self.now.labels }) (map declaration_tree c.args.body.now.declarations.items)
+    (stmt_trees c.args.body.now.statements.items) c.run.new.self =
+    subst (λ l. EmitsRun v (record begun { labels = l }) (map declaration_tree c.args.body.now.declarations.items)
+    (stmt_trees c.args.body.now.statements.items) c.run.new.self) c.in_ok-placed.ensures.labels
+    (subst (λ l. EmitsRun v begun (map declaration_tree l) (stmt_trees c.args.body.now.statements.items) c.run.new.self) c.deref-2.ensures.value
+    (subst (λ l. EmitsRun v begun (map declaration_tree c.deref-2.result.now) (stmt_trees l) c.run.new.self) c.deref-3.ensures.value
+    c.in_ok-run.ensures.emits)) in
+    let returns : Returns v.scope c.run.new.self.code xs c.in_ok-results.results c.return_all.new.code =
+    subst (λ z. Returns z.scope c.run.new.self.code xs c.in_ok-results.results c.return_all.new.code) c.in_ok-run.ensures.same
+    (subst (λ l. Returns c.run.new.visible.scope c.run.new.self.code l c.in_ok-results.results c.return_all.new.code) c.deref-4.ensures.value
+    c.in_ok-results.ensures.returns) in
     record {
+      sized = procedure_few c.args.visible.now v c.args.formals.now (body_tree c.args.body.now) c.formals.new.self.words c.in_ok-placed.placed
+          (fresh c.args.self.now.code) c.initialise_all.new.code c.run.new.self.code c.return_all.new.code c.in_ok-results.results
+          c.in_ok-placed.ensures.places initialises runs.sized returns;
       placed = c.in_ok-placed.placed;
       later = v;
       framed = c.formals.new.self.words;
       places = c.in_ok-placed.ensures.places;
       initial = c.initialise_all.new.code;
-      initialises =
-          subst (λ z. Initialises v.scope (fresh z) xs c.initialise_all.new.code) c.in_ok-placed.ensures.code
-          (subst (λ l. Initialises v.scope (fresh c.formals.new.self.code) l c.initialise_all.new.code) c.deref.ensures.value
-          c.in_ok-initialise_all.ensures.adds);
+      initialises = initialises;
       run = c.run.new.self;
-      runs =
-          subst (λ l. EmitsRun v (record begun { labels = l }) (map declaration_tree c.args.body.now.declarations.items)
-          (stmt_trees c.args.body.now.statements.items) c.run.new.self) c.in_ok-placed.ensures.labels
-          (subst (λ l. EmitsRun v begun (map declaration_tree l) (stmt_trees c.args.body.now.statements.items) c.run.new.self) c.deref-2.ensures.value
-          (subst (λ l. EmitsRun v begun (map declaration_tree c.deref-2.result.now) (stmt_trees l) c.run.new.self) c.deref-3.ensures.value
-          c.in_ok-run.ensures.emits));
-      returns =
-          subst (λ z. Returns z.scope c.run.new.self.code xs c.in_ok-results.results c.return_all.new.code) c.in_ok-run.ensures.same
-          (subst (λ l. Returns c.run.new.visible.scope c.run.new.self.code l c.in_ok-results.results c.return_all.new.code) c.deref-4.ensures.value
-          c.in_ok-results.ensures.returns);
+      runs = runs;
+      returns = subst (λ n. Returns v.scope c.run.new.self.code xs n c.return_all.new.code) (sym (ap (λ w. w.results) c.in_ok-words.ensures.same)) returns;
       labels = refl;
       unhandled = ap handler_trees (none_there c.args.body.now.handlers.items (search rules));
-      passed = refl;
-      locals = refl;
-      stack = refl;
+      passed = ap (λ w. w.passed) c.in_ok-words.ensures.same;
+      locals = ap (λ w. w.locals) c.in_ok-words.ensures.same;
+      stack = ap (λ w. w.stack) c.in_ok-words.ensures.same;
+      fits = subst (λ w. w.locals + w.stack ≤ FRAME_WORDS) (sym c.in_ok-words.ensures.same) c.in_ok-words.ensures.fits;
     }
+
+pub returns-clause-called : goal.returns-clause-called
+returns-clause-called c =
+    procedure_called c.shapes_stay.ensures c.names_are_added.ensures c.args.visible.now c.args.self.now c.args.formals.now (body_tree c.args.body.now)
+    c.in_ok-words.words _ c.requires.front c.requires.entries (returns-clause-adds c)
+
+pub returns-clause-keeps : goal.returns-clause-keeps
+returns-clause-keeps c =
+    procedure_keeps c.shapes_stay.ensures c.names_are_added.ensures c.args.visible.now c.args.self.now c.args.formals.now (body_tree c.args.body.now)
+    c.in_ok-words.words _ c.requires.front c.requires.entries c.in_ok-results.ensures.few (returns-clause-adds c)

@@ -1,0 +1,59 @@
+-- Subprograms whose code keeps the rules of images, one behind another, make an image that keeps those on code (docs/FORMATS.md, 43 to 47); the contract of a public
+-- function.
+use Rattle.std.specs.Prelude.{◌≡◌, ℕ, suc, ◌+◌, ◌≤◌, List, [], ◌∷◌, length, None, true, ⊤}
+use Rattle.std.specs.List.{list_all}
+use Rattle.base.specs.declared.limits.TheConstants.{FRAME_WORDS}
+use Rattle.image.specs.Rules.{all_begun, all_placed, has_depth, has_ends, has_object, in_holder, is_closed, is_subprogram, is_task_body, jumps_within, keeps_depth, last_end, names_things, operands_in_range}
+use Rattle.image.specs.Sections.{Sections, object_of}
+use Rattle.image.specs.declared.instruction.Operation.TheVariants as op
+use Rattle.image.specs.declared.subprograms.Subprogram.{Subprogram}
+use Rattle.expr_code.specs.Code.{Holds, here}
+use Rattle.expr_code.specs.Flows.{AreKept}
+use Rattle.expr_code.specs.Views.{At}
+use Rattle.expr_code.specs.declared.visible.Visible.{Visible}
+use Rattle.stmt_code.specs.Emitting.{HasLabels}
+use Rattle.stmt_code.specs.Subprograms.{HasWords, KeepsRules}
+use Rattle.stmt_code.specs.Suiting.{SuitsStatements}
+use Rattle.stmt_code.specs.declared.draft.Draft.{Draft}
+use Rattle.stmt_code.specs.declared.subprogram.SubprogramWords.{SubprogramWords}
+
+-- it belongs to no protected object, and is passed and gives back nothing if it is the body of a task
+pub record IsOutside (s : Subprogram) : Type 0 where
+  pub object : object_of s.kind ≡ None
+  pub bare : is_task_body s.kind ≡ true → (s.parameters ≡ 0) × (s.results ≡ 0)
+
+-- the subprogram's code begins there, ends with a return, and keeps the rules
+pub record IsKept (i : Sections) (first : ℕ) (s : Subprogram) : Type 0 where
+  pub outside : IsOutside s
+  pub passed : s.parameters ≤ s.locals
+  pub fits : s.locals + s.stack ≤ FRAME_WORDS
+  pub last : ℕ
+  pub up : first ≤ last
+  pub end : s.end_ ≡ suc last
+  pub returns : At i last op.Return
+  pub kept : AreKept i s first last first s.end_ 0
+
+-- each of them, where the one before it ends
+abbrev pub AreAllKept : Sections → (first : ℕ) → List Subprogram → Type 0
+AreAllKept i first [] = ⊤
+AreAllKept i first (s ∷ rest) = IsKept i first s × AreAllKept i s.end_ rest
+
+-- the tests of an image's instructions and subprograms
+pub record PassesOnCode (i : Sections) : Type 0 where
+  pub operands : operands_in_range i ≡ true
+  pub jumps : all_placed (jumps_within i) 0 i.instructions ≡ true
+  pub closed : list_all (is_closed i) i.subprograms ≡ true
+  pub named : all_placed (λ place x. in_holder i place (λ s. names_things i s x.operation)) 0 i.instructions ≡ true
+  pub have_objects : list_all (has_object i) i.subprograms ≡ true
+  pub depths : all_placed (λ place x. in_holder i place (keeps_depth i place x)) 0 i.instructions ≡ true
+  pub empty : all_begun (λ first s. has_depth i first 0) 0 i.subprograms ≡ true
+  pub ends : has_ends i ≡ true
+  pub subprograms : all_placed (is_subprogram i) 0 i.subprograms ≡ true
+
+pub record KeptCodePasses : Type 0 where
+  -- what methods add is such code
+  pub added : (v : Visible) (old new : Draft) (words : SubprogramWords) → KeepsRules v old words new → (i : Sections) (s : Subprogram) → Holds i (here old.code) new.code
+      → HasLabels i new.labels → HasWords s words → SuitsStatements v i s → s.end_ ≡ here new.code → IsOutside s
+      → IsKept i (here old.code) s
+  -- an image of nothing else passes
+  pub whole : (i : Sections) → AreAllKept i 0 i.subprograms → last_end i.subprograms ≡ length i.instructions → PassesOnCode i
