@@ -25,6 +25,12 @@ def statements(before="", after=""):
     return app("procedure P is begin\n" + before, after + "\nend P;")
 
 
+def known(before="", after=""):
+    """Statements that see a number, a truth value and a function, and a line with the number behind them."""
+    visible = "X:Integer:=0; B:Boolean:=True; function F(A:Integer) return Integer; procedure P;"
+    return app("function F(A:Integer) return Integer is begin return A; end F; procedure P is begin\n" + before, after + '\nPut ("n", X); end P;', visible)
+
+
 def declarations(before="", after=""):
     return app("procedure P is\n" + before, after + "\nbegin null; end P;")
 
@@ -135,18 +141,20 @@ LISTS = [
 ]
 
 
-def deep(name, frame, opening, inside, closing, opens_at=0, each=1, breaks=None):
+def deep(name, frame, opening, inside, closing, opens_at=0, each=1, breaks=None, ends=None):
     """The texts with 40 levels, and with one opening more.
 
-    An opening opens `each` levels, the first of them by the token that stands `opens_at` bytes after the beginning of `opening`. The text with 40 levels is
-    legal, or breaks the rule with the number in `breaks` first, at the part of the text there.
+    An opening opens `each` levels, the first of them by the token that stands `opens_at` bytes after the beginning of `opening`. The text with 40 levels runs,
+    and `ends` has its exit status and what it writes; or it breaks the rule with the number in `breaks` first, at the part of the text there; or it is not
+    compiled today.
     """
     head, tail = frame
     count = LEVELS // each
     texts = [head + opening * times + inside + closing * times + tail for times in (count, count + 1)]
     fault = "fault 7 at " + place_of(texts[1], len(head) + len(opening) * count + opens_at)
     first = fault_at(texts[0], *breaks) if breaks else "fault 90 at 1:1"
-    return [(f"40 levels of {name}", texts[0], 2, "", first), (f"41 levels of {name}", texts[1], 2, "", fault)]
+    status, out, err = (*ends, "") if ends else (2, "", first)
+    return [(f"40 levels of {name}", texts[0], status, out, err), (f"41 levels of {name}", texts[1], 2, "", fault)]
 
 
 def deep_parentheses():
@@ -179,12 +187,19 @@ DEEP = [
     deep("if statements", statements(), "if X then ", "null;", "end if;", breaks=(10, "X then")),
     deep("else parts", statements(), "if X then null; else ", "null;", "end if;", breaks=(10, "X then")),
     deep("case statements", statements(), "case X is when 1=>", "null;", "end case;", breaks=(17, "case")),
-    deep("loops", statements(), "loop ", "null;", "end loop;"),
+    deep("loops", statements(), "loop ", "null;", "end loop;", ends=(5, "step limit at 0")),
     deep("while loops", statements(), "while X loop ", "null;", "end loop;", breaks=(10, "X loop")),
     deep("for loops", statements(), "for X in 1..2 loop ", "null;", "end loop;", breaks=(11, "X in", 2)),
-    deep("blocks", statements(), "begin ", "null;", "end;"),
+    deep("blocks", statements(), "begin ", "null;", "end;", ends=(0, LAST_LINE)),
     deep("blocks with declarations", statements(), "declare X:T; begin ", "null;", "end;", breaks=(10, "T;")),
     deep("blocks in handlers", statements(), "begin null; exception when others=>", "null;", "end;"),
+    deep("parentheses of a number", known("X:=", ";"), "(", "7", ")", ends=(0, lines(7))),
+    deep("if expressions of numbers", known("X:=", ";"), "(if B then ", "7", " else 8)", each=2, ends=(0, lines(7))),
+    deep("calls of a function", known("X:=", ";"), "F(", "7", ")", 1, ends=(0, lines(7))),
+    deep("if statements that are run", known(), "if B then ", "X:=7;", "end if;", ends=(0, lines(7))),
+    deep("else parts that are run", known(), "if not B then null; else ", "X:=7;", "end if;", ends=(0, lines(7))),
+    deep("case statements that are run", known(), "case X is when 0=>", "X:=7;", "when others=>null; end case;", ends=(0, lines(7))),
+    deep("while loops that are run", known(), "while B loop ", "X:=7;B:=False;", "end loop;", ends=(0, lines(7))),
     deep_formals(),
 ]
 
