@@ -1,1 +1,56 @@
+mod Statics
+mod Extending
+mod Subtypes
+mod Initials
+mod Declared
+mod Parts
+mod Walks
+mod Lists
+mod Origins
+mod Matches
+mod Profiles
+mod Functions
+mod Declaring
+mod Globals
+mod Variables
+mod Objects
+mod Barriers
+mod Priorities
+mod Firsts
+mod Awaiting
+mod Outcomes
+mod Entries
+mod Others
+mod Nexts
+mod Runs
+pub mod Listing
+pub mod WiderScopes
+pub mod Walked
+pub mod OneList
+pub mod Known
+pub mod Callables
+pub mod BodyProfiles
+pub mod Whole
+pub mod Called
+pub mod Agreed
+pub mod Same
+pub mod Formals
+pub mod Beginning
+pub mod FormalTrees
+pub mod BodySound
+pub mod PackageBodies
+pub mod ObjectTrees
+pub mod Trees
+pub mod Moved
+pub mod ObjectBodies
+pub mod ObjectCalls
+pub mod Parted
+pub mod Offering
+pub mod ObjectFits
+pub mod Procedures
+pub mod Assembled
+mod Returned
+mod Entering
+mod OfObjects
+mod Gathered
 mod Starts

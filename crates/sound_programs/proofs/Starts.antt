@@ -8,11 +8,11 @@ use Rattle.meaning.specs.Works.{Store}
 use Rattle.sound_steps.specs.Holding.{SameObjects}
 use Rattle.sound_steps.specs.Objects.{first_store}
 use Rattle.sound_steps.specs.Starting.{IsSoundStart}
-use Rattle.sound_scopes.specs.Laws.{BarriersAreTheirOwn, ObjectsAreSound, PartitionsFit}
-use Rattle.sound_bodies.specs.Laws.{HasSoundBodies, IsSoundMemory, PremisesHold, ProceduresAreSound, WorksAreSound}
-use Rattle.sound_functions.specs.Laws.{ProgramFunctionsAreSound}
-use Rattle.sound_runs.specs.Laws.{RunsHaveMeaning}
-use Rattle.sound_programs.specs.Laws.{ProgramsHaveMeaning, StartsAreSound}
+use Rattle.sound_programs.specs.ScopeLaws.{BarriersAreTheirOwn, ObjectsAreSound, PartitionsFit}
+use Rattle.sound_programs.specs.BodyLaws.{HasSoundBodies, IsSoundMemory, PremisesHold, ProceduresAreSound, WorksAreSound}
+use Rattle.sound_programs.specs.FunctionLaws.{ProgramFunctionsAreSound}
+use Rattle.sound_programs.specs.RunLaws.{RunsHaveMeaning}
+use Rattle.sound_programs.specs.ProgramLaws.{ProgramsHaveMeaning, StartsAreSound}
 
 pub record LawsBelow : Type 0 where
   pub partitions : PartitionsFit

@@ -1,2 +1,12 @@
+pub use Rattle.checking.specs.ProgramRules
+pub use Rattle.well_typed.specs.SoundScopes
 pub use Rattle.sound_steps.specs.Starting
-pub mod Laws
+pub use Rattle.well_typed.specs.Answers
+pub mod Points
+pub mod ScopeLaws
+pub mod SoundWorlds
+pub mod RunLaws
+pub mod Fronts
+pub mod BodyLaws
+pub mod FunctionLaws
+pub mod ProgramLaws

@@ -1,4 +1,8 @@
 //! The runs of accepted programs never come to a step without meaning.
 #![tactic(auto)]
 
-pub mod laws;
+pub mod body_laws;
+pub mod function_laws;
+pub mod program_laws;
+pub mod run_laws;
+pub mod scope_laws;

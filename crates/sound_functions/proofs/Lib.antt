@@ -1,4 +1,0 @@
-mod Returned
-mod Entering
-mod OfObjects
-mod Gathered

@@ -1,2 +1,0 @@
-pub use Rattle.well_typed.specs.Answers
-pub mod Laws

@@ -1,4 +1,0 @@
-//! The functions of an accepted program, each as a call finds it.
-#![tactic(auto)]
-
-pub mod laws;

@@ -1,6 +1,0 @@
-mod Awaiting
-mod Outcomes
-mod Entries
-mod Others
-mod Nexts
-mod Runs

@@ -1,5 +1,0 @@
-use Rattle.sound_runs.proofs.Runs.{runs_have_meaning}
-use Rattle.sound_runs.proofs.laws.runs_have_meaning.Goals as goal
-
-pub returns : goal.returns
-returns c = runs_have_meaning c.runs_are_sound.ensures

@@ -1,3 +1,0 @@
-pub use Rattle.sound_steps.specs.Starting
-pub mod SoundWorlds
-pub mod Laws
