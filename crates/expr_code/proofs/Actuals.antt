@@ -202,13 +202,13 @@ counted [] = refl
 counted (a ∷ all) = ap suc (counted all)
 
 module _ (v : Visible) (first : Identifier) (profile : Profile) (names : NamesProfile v.scope first.name profile) where
-  abbrev callee_of : Standing
+  abbrev pub callee_of : Standing
   callee_of = standing.Callee (callee.Direct names.number)
 
-  stands : stands_first v.scope (number_of v.scope first.name) ≡ callee_of
+  pub stands : stands_first v.scope (number_of v.scope first.name) ≡ callee_of
   stands = ap (stands_first v.scope) names.numbered ∙ ap (stands_for names.number) names.stands
 
-  profiled : profile_at v.scope names.number ≡ Some profile
+  pub profiled : profile_at v.scope names.number ≡ Some profile
   profiled = ap profile_of names.stands
 
   -- the rules of what stands behind the name

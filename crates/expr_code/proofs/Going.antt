@@ -79,7 +79,7 @@ repeated_too b t (Repeated n x) inner many e = e
 repeated_too b t (Grouped xs) inner many e = e
 repeated_too b t Shapeless inner many e = e
 
-shape_named : (known : List Shape) (cs : List RecordComponent) (name : List ℕ) (u : Subtype) → component_of cs name ≡ Some u → shape_in (component_shapes known cs) name ≡ Some (shape_among known u)
+pub shape_named : (known : List Shape) (cs : List RecordComponent) (name : List ℕ) (u : Subtype) → component_of cs name ≡ Some u → shape_in (component_shapes known cs) name ≡ Some (shape_among known u)
 shape_named known [] name u found = cc
 shape_named known (c ∷ cs) name u found = by_test (bytes_eq c.name name) refl found (shape_named known cs name u)
   where
@@ -106,7 +106,7 @@ module _ (s : Scope) (sound : SoundScope s) where
       let part = sound_form s sound n (Arrays index many element) form in
       repeated_too (base_range_of n) t (shape_or_none (slice_get (shapes s) n)) (shape_of s element) many (shape.1 ∙ ap (Repeated many) (part_shape s n element part.earlier.before))
 
-  index_integers : (t index : Subtype) (many : ℕ) (element : Subtype) → form_at s t.type_number ≡ Some (Arrays index many element) → form_at s index.type_number ≡ Some Integers
+  pub index_integers : (t index : Subtype) (many : ℕ) (element : Subtype) → form_at s t.type_number ≡ Some (Arrays index many element) → form_at s index.type_number ≡ Some Integers
   index_integers t index many element form = integers (form_at s index.type_number) (sound_form s sound t.type_number (Arrays index many element) form).integers
     where
       integers : (o : Option TypeForm) → is_integers o ≡ true → o ≡ Some Integers

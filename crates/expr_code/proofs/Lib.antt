@@ -22,4 +22,8 @@ pub mod Fitting
 pub mod Actuals
 pub mod Widths
 mod Selecting
-mod Refusals
+pub mod Refusals
+mod FitShapes
+mod LegalNames
+mod NamesRefused
+mod CallsRefused

@@ -9,11 +9,12 @@ use Rattle.ada_tree.specs.ExpressionTree as tree
 use Rattle.ada_tree.specs.ExpressionTree.{bare_name, chain_tree, elsif_value_trees, expr_tree, ExprTree, ElsifValueTrees, NoElsifValues, SelectorTrees, NoSelectors, MoreSelectors}
 use Rattle.ada_tree.specs.Size.{expr_size, elsif_values_size}
 use Rattle.image.specs.declared.instruction.Operation.{Operation}
-use Rattle.types.specs.Scopes.{Scope}
+use Rattle.types.specs.Scopes.{number_of, Scope}
+use Rattle.types.specs.Standings.{stands_first}
 use Rattle.expr_code.specs.Branches.{Branch, branch_of, branches_size, in_front}
 use Rattle.expr_code.specs.Code.{here}
 use Rattle.expr_code.specs.OperatorCode.{binary_operation}
-use Rattle.expr_code.specs.Refusing.{branches_outside, branches_peak, elsifs_outside, elsifs_peak, is_outside, IsRefused, operand_peak, operands_outside, operands_peak, operands_size, peak, RefusesBranches, RefusesExpression, RefusesOperands}
+use Rattle.expr_code.specs.Refusing.{branches_outside, branches_peak, elsifs_outside, elsifs_peak, is_outside, IsRefused, IsRefusedBeside, operand_peak, operands_outside, operands_peak, operands_size, peak, RefusesBranches, RefusesExpression, RefusesOperands, selector_peak, selectors_peak, words_below}
 use Rattle.expr_code.specs.Widths.{width_of}
 use Rattle.expr_code.specs.declared.code.Code.{Code}
 use Rattle.expr_code.specs.declared.refusal.Refusal.{Refusal}
@@ -24,20 +25,25 @@ use Rattle.expr_code.proofs.Growing.{added_here, patched_here}
 use Rattle.expr_code.proofs.Legal.{branches_are}
 use Rattle.expr_code.proofs.Selecting.{taken_all}
 
--- a part ends no later than the whole, needs no more words, and is outside only where the whole is
-pub refused_more : (m n l h : ℕ) (p q : Bool) → m ≤ n → l ≤ h → (p ≡ true → q ≡ true) → (why : Refusal) → IsRefused m l p why → IsRefused n h q why
-refused_more m n l h p q up high outside refusal.Memory r = tt
-refused_more m n l h p q up high outside refusal.Limit (inl r) = inl (omega (arith, r, up))
-refused_more m n l h p q up high outside refusal.Limit (inr (inl r)) = inr (inl (omega (arith, r, high)))
-refused_more m n l h p q up high outside refusal.Limit (inr (inr r)) = inr (inr (outside r))
-refused_more m n l h p q up high outside refusal.Outside r = outside r
+-- a part ends no later than the whole, needs no more words, and is outside only where the whole is; what is unfit for it is so for the whole
+pub refused_beside : {a b : Type 0} (m n l h : ℕ) (p q : Bool) → (a → b) → m ≤ n → l ≤ h → (p ≡ true → q ≡ true) → (why : Refusal)
+    → IsRefusedBeside a m l p why → IsRefusedBeside b n h q why
+refused_beside m n l h p q unfit up high outside refusal.Memory r = tt
+refused_beside m n l h p q unfit up high outside refusal.Limit (inl r) = inl (omega (arith, r, up))
+refused_beside m n l h p q unfit up high outside refusal.Limit (inr (inl r)) = inr (inl (omega (arith, r, high)))
+refused_beside m n l h p q unfit up high outside refusal.Limit (inr (inr r)) = inr (inr (unfit r))
+refused_beside m n l h p q unfit up high outside refusal.Outside r = outside r
+
+pub refused_more : (a : Type 0) (m n l h : ℕ) (p q : Bool) → m ≤ n → l ≤ h → (p ≡ true → q ≡ true) → (why : Refusal) → IsRefusedBeside a m l p why
+    → IsRefusedBeside a n h q why
+refused_more a m n l h p q up high outside why r = refused_beside m n l h p q (λ x. x) up high outside why r
 
 never : (b : Bool) → false ≡ true → b ≡ true
 never b h = cc
 
 -- of an instruction, or of the words of one
-pub instruction_refused : (m n l h : ℕ) (q : Bool) → m ≤ n → l ≤ h → (why : Refusal) → IsRefused m l false why → IsRefused n h q why
-instruction_refused m n l h q up high why r = refused_more m n l h false q up high (never q) why r
+pub instruction_refused : (a : Type 0) (m n l h : ℕ) (q : Bool) → m ≤ n → l ≤ h → (why : Refusal) → IsRefused m l false why → IsRefusedBeside a n h q why
+instruction_refused a m n l h q up high why r = refused_beside m n l h false q (λ x. absurd x) up high (never q) why r
 
 -- ---- tests
 
@@ -49,7 +55,7 @@ pub or_right : (a b : Bool) → b ≡ true → (a || b) ≡ true
 or_right true b h = refl
 or_right false b h = h
 
-or_none : (a b : Bool) → (a || false) ≡ true → (a || b) ≡ true
+pub or_none : (a b : Bool) → (a || false) ≡ true → (a || b) ≡ true
 or_none true b h = refl
 or_none false b h = cc
 
@@ -57,9 +63,20 @@ or_none false b h = cc
 
 module _ (s : Scope) where
   -- each expression has a word on the operand stack
+  pub selectors_some : (below : ℕ) (all : SelectorTrees) → 1 ≤ selectors_peak s below all
+  selectors_some below NoSelectors = omega arith
+  selectors_some below (MoreSelectors x rest) =
+      let more = selectors_some below rest in
+      let up = le-max_right (below + selector_peak s x) (selectors_peak s below rest) in
+      omega (arith, more, up)
+
   pub peak_some : (e : ExprTree) → 1 ≤ peak s e
   peak_some (tree.Number z place) = omega arith
-  peak_some (tree.Named first selectors) = le-max_left 1 (width_of s (tree.Named first selectors))
+  peak_some (tree.Named first selectors) =
+      let below = words_below (stands_first s (number_of s first.name)) in
+      let some = selectors_some below selectors in
+      let up = le-max_right (width_of s (tree.Named first selectors)) (selectors_peak s below selectors) in
+      omega (arith, some, up)
   peak_some (tree.Parenthesized place e) = peak_some e
   peak_some (tree.Unary o place e) = peak_some e
   peak_some (tree.Binary o a b) = let one = peak_some a in let up = le-max_left (peak s a) (operand_peak o (peak s b)) in omega (arith, one, up)
@@ -131,7 +148,7 @@ module _ (v : Visible) where
     first_refused r =
         let size = size_chain left (o ∷ all) in
         let high = peak_left v.scope left (o ∷ all) in
-        whole (refused_more _ _ _ _ _ _ (omega (arith, size)) (omega (arith, high)) (outside_left left (o ∷ all)) why r)
+        whole (refused_more _ _ _ _ _ _ _ (omega (arith, size)) (omega (arith, high)) (outside_left left (o ∷ all)) why r)
 
     pub second_refused : (one : Code) → here one ≤ here old + 20 * expr_size left → RefusesOperands v one depth (o ∷ []) why
         → RefusesExpression v old depth e why
@@ -139,7 +156,7 @@ module _ (v : Visible) where
         let size = size_chain left (o ∷ all) in
         let high = peak_chain v.scope left (o ∷ all) in
         let up = le-max_left (operand_peak o.operator (peak v.scope (expr_tree o.value))) (operands_peak v.scope all) in
-        whole (refused_more _ _ _ _ _ _ (omega (arith, size, before))
+        whole (refused_more _ _ _ _ _ _ _ (omega (arith, size, before))
         (least (operand_peak o.operator (peak v.scope (expr_tree o.value))) (operands_peak v.scope all) (peak v.scope (chain_tree left (o ∷ all))) high)
         (λ h. outside_chain left (o ∷ all) (or_none (is_outside v (expr_tree o.value)) (operands_outside v all) h)) why r)
       where
@@ -151,7 +168,7 @@ module _ (v : Visible) where
     more_refused one two before after r =
         let size = size_chain left (o ∷ all) in
         let high = peak_chain v.scope left (o ∷ all) in
-        whole (refused_more _ _ _ _ _ _ (omega (arith, size, before, after))
+        whole (refused_more _ _ _ _ _ _ _ (omega (arith, size, before, after))
         (last (operand_peak o.operator (peak v.scope (expr_tree o.value))) (operands_peak v.scope all) (peak v.scope (chain_tree left (o ∷ all))) high)
         (λ h. outside_chain left (o ∷ all) (or_right (is_outside v (expr_tree o.value)) (operands_outside v all) h)) why r)
       where
@@ -161,7 +178,7 @@ module _ (v : Visible) where
   -- where a word is wanting for an instruction behind a value
   pub word_refused : (e : ExprTree) (old : Code) (depth m h : ℕ) (why : Refusal) → m ≤ here old → h ≤ depth + 1 → IsRefused m h false why
       → RefusesExpression v old depth e why
-  word_refused e old depth m h why up high r = let some = peak_some v.scope e in instruction_refused _ _ _ _ _ (omega (arith, up))
+  word_refused e old depth m h why up high r = let some = peak_some v.scope e in instruction_refused _ _ _ _ _ _ (omega (arith, up))
       (omega (arith, high, some)) why r
 
   -- ... behind a right operand
@@ -170,7 +187,7 @@ module _ (v : Visible) where
       → IsRefused m h false why
       → RefusesOperands v old depth (o ∷ []) why
   second_word_refused o x old depth second m h why is more up high r =
-      instruction_refused _ _ _ _ _ (omega (arith, up)) (above _ _ (both_peak v.scope o.operator x (peak v.scope (expr_tree o.value)) is)
+      instruction_refused _ _ _ _ _ _ (omega (arith, up)) (above _ _ (both_peak v.scope o.operator x (peak v.scope (expr_tree o.value)) is)
       (peak_some v.scope (expr_tree o.value))) why r
     where
       above : (a n : ℕ) → a ≡ suc n → 1 ≤ n → h ≤ depth + max a 0
@@ -214,7 +231,7 @@ module _ (v : Visible) where
       let it = among_operands all n x less is in
       let size = it.sized in
       let high = it.high in
-      refused_more _ _ _ _ _ _ (omega (arith, size, before)) (omega (arith, high)) it.outside why r
+      refused_more _ _ _ _ _ _ _ (omega (arith, size, before)) (omega (arith, high)) it.outside why r
 
   pub operands_further : (all : List Operand) (n : ℕ) (x : Operand) → n < length all → x ≡ get_or all n x
       → operands_size (take (n + 1) all) ≡ operands_size (take n all) + operands_size (x ∷ [])
@@ -298,13 +315,13 @@ module _ (v : Visible) where
     pub condition_refused : RefusesExpression v c depth (expr_tree x.condition) why → RefusesBranches v start depth width (map branch_of all) why
     condition_refused r =
         let size = it.sized in
-        refused_more _ _ _ _ _ _ (omega (arith, size, before)) (within _ _ it.high_condition) it.outside_condition why r
+        refused_more _ _ _ _ _ _ _ (omega (arith, size, before)) (within _ _ it.high_condition) it.outside_condition why r
 
     pub value_refused : (mid : Code) → here mid ≤ here c + (20 * expr_size (expr_tree x.condition) + 1)
         → RefusesExpression v mid depth (expr_tree x.value) why → RefusesBranches v start depth width (map branch_of all) why
     value_refused mid up r =
         let size = it.sized in
-        refused_more _ _ _ _ _ _ (omega (arith, size, before, up)) (within _ _ it.high_value) it.outside_value why r
+        refused_more _ _ _ _ _ _ _ (omega (arith, size, before, up)) (within _ _ it.high_value) it.outside_value why r
 
     -- an instruction above a word, or above those of the value
     pub jump_refused : (m h : ℕ) → m ≤ here c + 20 * (1 + expr_size (expr_tree x.condition) + expr_size (expr_tree x.value)) → h ≤ depth + max 1 width
@@ -313,7 +330,7 @@ module _ (v : Visible) where
     jump_refused m h up high r =
         let size = it.sized in
         let some = peak_some v.scope (expr_tree x.condition) in
-        instruction_refused _ _ _ _ _ (omega (arith, size, before, up)) (above _ _ some it.high_condition) why r
+        instruction_refused _ _ _ _ _ _ (omega (arith, size, before, up)) (above _ _ some it.high_condition) why r
       where
         above : (a b : ℕ) → 1 ≤ a → a ≤ b → h ≤ depth + max width b
         above a b i j = omega (arith, i, j, high)
@@ -374,14 +391,14 @@ module _ (v : Visible) where
     pub holds_refused : (why : Refusal) → RefusesExpression v old depth condition why → RefusesExpression v old depth e why
     holds_refused why r =
         at_whole why
-        (refused_more _ _ _ _ _ _ (omega (arith, counted)) (bound_two _ _ _ _ _ _ high).0
+        (refused_more _ _ _ _ _ _ _ (omega (arith, counted)) (bound_two _ _ _ _ _ _ high).0
         (λ h. out ∙ or_left (is_outside v condition) (is_outside v value || out_rest) h) why r)
 
     pub then_refused : (mid : Code) (why : Refusal) → here mid ≤ here old + (20 * expr_size condition + 1) → RefusesExpression v mid depth value why
         → RefusesExpression v old depth e why
     then_refused mid why up r =
         at_whole why
-        (refused_more _ _ _ _ _ _ (omega (arith, counted, up)) (bound_two _ _ _ _ _ _ high).1
+        (refused_more _ _ _ _ _ _ _ (omega (arith, counted, up)) (bound_two _ _ _ _ _ _ high).1
         (λ h. out ∙ or_right (is_outside v condition) (is_outside v value || out_rest) (or_left (is_outside v value) out_rest h)) why r)
 
     -- an instruction above a word, or above those of the value
@@ -391,14 +408,14 @@ module _ (v : Visible) where
         → RefusesExpression v old depth e why
     between_refused width m h why is up below r =
         let wide = bound_wide _ _ _ _ _ _ width (is ∙ ap (width_of v.scope) front) (peak_some v.scope condition) high in
-        at_whole why (instruction_refused _ _ _ _ _ (omega (arith, counted, up)) (omega (arith, wide, below)) why r)
+        at_whole why (instruction_refused _ _ _ _ _ _ (omega (arith, counted, up)) (omega (arith, wide, below)) why r)
 
     pub others_refused : (width : ℕ) (mid : Code) (why : Refusal) → width ≡ width_of v.scope e
         → here mid ≤ here old + 20 * (1 + expr_size condition + expr_size value) → RefusesBranches v mid depth width all why
         → RefusesExpression v old depth e why
     others_refused width mid why is up r =
         at_whole why
-        (refused_more _ _ _ _ _ _ (omega (arith, counted, up)) (bound_all _ _ _ _ _ _ width (is ∙ ap (width_of v.scope) front) high)
+        (refused_more _ _ _ _ _ _ _ (omega (arith, counted, up)) (bound_all _ _ _ _ _ _ width (is ∙ ap (width_of v.scope) front) high)
         (λ h. out ∙ or_right (is_outside v condition) (is_outside v value || out_rest)
         (or_right (is_outside v value) out_rest (or_left (branches_outside v all) (is_outside v last) h))) why r)
 
@@ -406,6 +423,6 @@ module _ (v : Visible) where
         → RefusesExpression v mid depth last why → RefusesExpression v old depth e why
     else_refused mid why up r =
         at_whole why
-        (refused_more _ _ _ _ _ _ (omega (arith, counted, up)) (bound_last _ _ _ _ _ _ high)
+        (refused_more _ _ _ _ _ _ _ (omega (arith, counted, up)) (bound_last _ _ _ _ _ _ high)
         (λ h. out ∙ or_right (is_outside v condition) (is_outside v value || out_rest)
         (or_right (is_outside v value) out_rest (or_right (branches_outside v all) (is_outside v last) h))) why r)

@@ -1,26 +1,34 @@
--- When code isn't made of an expression: memory was refused, a limit of images would be passed, or the expression has what nothing is promised of yet.
-use Rattle.std.specs.Prelude.{◌≡◌, ℕ, suc, ◌+◌, ◌*◌, ◌<◌, max, Bool, true, false, ◌&&◌, ◌||◌, not, List, [], ◌∷◌, is_none, is_some, ⊤, ◌⊎◌, if◌then◌else◌}
+-- When code isn't made of an expression: memory was refused, a limit of images would be passed, or the expression has something that code isn't made for yet.
+use Rattle.std.specs.Prelude.{◌≡◌, ℕ, suc, ◌+◌, ◌*◌, ◌<◌, max, Bool, true, false, ◌&&◌, ◌||◌, not, nat_eq, List, [], ◌∷◌, Option, None, Some, is_none, is_some, ⊤, ◌⊎◌, if◌then◌else◌}
 use Rattle.base.specs.declared.limits.TheConstants.{FRAME_WORDS, INSTRUCTIONS}
 use Rattle.image.specs.Rules.{is_block}
 use Rattle.ada_tree.specs.declared.expression.BinaryOperator.{BinaryOperator}
 use Rattle.ada_tree.specs.declared.expression.Identifier.{Identifier}
 use Rattle.ada_tree.specs.declared.expression.Operand.{Operand}
-use Rattle.ada_tree.specs.ExpressionTree.{expr_tree, ExprTree, Number, Named, Parenthesized, Conditional, Unary, Binary, ElsifValueTrees, NoElsifValues, MoreElsifValues, SelectorTrees, NoSelectors}
-use Rattle.ada_tree.specs.Size.{expr_size}
+use Rattle.ada_tree.specs.ExpressionTree.{expr_tree, ExprTree, Number, Named, Parenthesized, Conditional, Unary, Binary, ElsifValueTrees, NoElsifValues, MoreElsifValues, SelectorTrees, NoSelectors, MoreSelectors, SelectorTree, Component, Arguments, Attribute, ArgumentTrees, NoArguments, MoreArguments, ArgumentTree, Value, Text}
+use Rattle.ada_tree.specs.Size.{argument_size, arguments_size, expr_size, selectors_size}
+use Rattle.types.specs.declared.entity.FormalParameter.{FormalParameter}
+use Rattle.types.specs.declared.entity.Role.{Role}
+use Rattle.types.specs.declared.entity.Subtype.{Subtype}
 use Rattle.types.specs.declared.standing.Standing.{Standing}
 use Rattle.types.specs.declared.standing.Standing.TheVariants as standing
+use Rattle.types.specs.Entities.{Profile}
 use Rattle.types.specs.Evaluating.{fixed_value}
 use Rattle.types.specs.Layouts.{words_of}
-use Rattle.types.specs.Scopes.{number_of, Scope}
+use Rattle.types.specs.Scopes.{form_at, number_of, Scope}
+use Rattle.types.specs.Shapes.{Shape, Shapes, Repeated, Grouped, NoShapes, MoreShapes, shape_of, words}
 use Rattle.types.specs.Standings.{standing_of, stands_first}
+use Rattle.expr_rules.specs.Typing.{is_booleans, is_integers}
 use Rattle.expr_code.specs.Branches.{Branch, branches_size}
 use Rattle.expr_code.specs.Code.{here}
+use Rattle.expr_code.specs.Emitting.{is_composite}
 use Rattle.expr_code.specs.OperatorCode.{binary_operation}
-use Rattle.expr_code.specs.Seeing.{slot_of}
+use Rattle.expr_code.specs.Seeing.{profile_named, slot_of, subprogram_of}
 use Rattle.expr_code.specs.Widths.{width_of}
 use Rattle.expr_code.specs.declared.code.Code.{Code}
 use Rattle.expr_code.specs.declared.refusal.Refusal.{Refusal}
 use Rattle.expr_code.specs.declared.refusal.Refusal.TheVariants as refusal
+use Rattle.expr_code.specs.declared.visible.Slot.{Slot}
 use Rattle.expr_code.specs.declared.visible.Visible.{Visible}
 
 -- ---- the operand stack
@@ -29,12 +37,20 @@ use Rattle.expr_code.specs.declared.visible.Visible.{Visible}
 abbrev pub operand_peak : BinaryOperator → (right : ℕ) → ℕ
 operand_peak operator right = if is_none (binary_operation operator) then max 2 right else suc right
 
+-- a value is checked beside the bounds of its subtype
+abbrev pub checked_peak : (value : ℕ) → ℕ
+checked_peak value = max 3 value
+
+-- the words that stand below what is in the parentheses of a name: its address, where the name is that of an object
+abbrev pub words_below : Standing → ℕ
+words_below (standing.Part r t) = 1
+words_below w = 0
+
 abbrev mutual
-  -- the words that the code of an expression has on the operand stack at most, those of its value among them; of names these are all, where a value is known or an
-  -- object loaded as a whole
+  -- the words that the code of an expression has on the operand stack at most, those of its value among them
   pub peak : Scope → ExprTree → ℕ
   peak s (Number z place) = 1
-  peak s (Named first selectors) = max 1 (width_of s (Named first selectors))
+  peak s (Named first selectors) = max (width_of s (Named first selectors)) (selectors_peak s (words_below (stands_first s (number_of s first.name))) selectors)
   peak s (Parenthesized place e) = peak s e
   peak s (Unary operator place e) = peak s e
   peak s (Binary operator a b) = max (peak s a) (operand_peak operator (peak s b))
@@ -45,24 +61,64 @@ abbrev mutual
   elsifs_peak s NoElsifValues = 0
   elsifs_peak s (MoreElsifValues condition value rest) = max (peak s condition) (max (peak s value) (elsifs_peak s rest))
 
--- ---- what refusals are not told of yet
+  pub selectors_peak : Scope → (below : ℕ) → SelectorTrees → ℕ
+  selectors_peak s below NoSelectors = 1
+  selectors_peak s below (MoreSelectors x rest) = max (below + selector_peak s x) (selectors_peak s below rest)
 
--- an object whose words have a place, as many as one instruction loads
-abbrev pub is_object : Visible → Identifier → Standing → Bool
-is_object v first (standing.Part r t) = is_some (slot_of v first.name) && is_block (words_of v.scope t)
-is_object v first _ = false
+  -- the offset of a component stands above the address
+  pub selector_peak : Scope → SelectorTree → ℕ
+  selector_peak s (Component name) = 1
+  selector_peak s (Arguments all) = arguments_peak s all
+  selector_peak s (Attribute name) = 0
 
--- an object as a whole
-abbrev pub is_whole : Visible → Identifier → SelectorTrees → Bool
-is_whole v first NoSelectors = is_object v first (stands_first v.scope (number_of v.scope first.name))
-is_whole v first _ = false
+  -- each above those before it
+  pub arguments_peak : Scope → ArgumentTrees → ℕ
+  arguments_peak s NoArguments = 0
+  arguments_peak s (MoreArguments a rest) = max (argument_peak s a) (suc (arguments_peak s rest))
+
+  pub argument_peak : Scope → ArgumentTree → ℕ
+  argument_peak s (Value e) = checked_peak (peak s e)
+  argument_peak s (Text label place) = 0
+
+-- ---- what code isn't made for yet
+
+-- code checks integers, and passes integers and truth values: no times, no spans, and nothing of more than one word
+abbrev pub is_passable : Scope → Subtype → Bool
+is_passable s t = is_integers (form_at s t.type_number) || is_booleans (form_at s t.type_number)
+
+abbrev pub are_passable : Scope → List FormalParameter → Bool
+are_passable s [] = true
+are_passable s (f ∷ fs) = is_passable s f.subtype && are_passable s fs
+
+-- a result of one word
+abbrev pub is_single : Scope → Option Subtype → Bool
+is_single s None = false
+is_single s (Some t) = nat_eq (words_of s t) 1
+
+-- a function with a subprogram, and a result of one word
+abbrev pub is_called : Scope → (number : Option ℕ) → Profile → Bool
+is_called s number p = is_some number && is_single s p.result
+
+-- ... and with parameters that code passes; an operation of the language has no profile here
+abbrev pub is_callable : Scope → (number : Option ℕ) → Option Profile → Bool
+is_callable s number (Some p) = is_called s number p && are_passable s p.formals
+is_callable s number None = false
+
+-- Whether code is made of a name that begins like this: with an object that has a place, with a type in front of what is converted, or with a function that code
+-- may call; not with a protected object, in front of its function. Nothing else begins a legal name without a known value.
+abbrev pub is_made : Visible → Identifier → Standing → Bool
+is_made v first (standing.Part r t) = is_some (slot_of v first.name)
+is_made v first (standing.Callee f) = is_callable v.scope (subprogram_of v first.name) (profile_named v.scope first.name)
+is_made v first (standing.Protected n) = false
+is_made v first w = true
 
 abbrev mutual
-  -- The expression has something of which it isn't said when its code is refused: a name without a known value that isn't a whole object with a place, that is, a
-  -- part of an object, a conversion or a call.
+  -- The expression has something that code isn't made for. What is in the parentheses of a name with a known value isn't evaluated.
   pub is_outside : Visible → ExprTree → Bool
   is_outside v (Number z place) = false
-  is_outside v (Named first selectors) = is_none (fixed_value (standing_of v.scope first selectors)) && not (is_whole v first selectors)
+  is_outside v (Named first selectors) =
+      is_none (fixed_value (standing_of v.scope first selectors))
+      && (not (is_made v first (stands_first v.scope (number_of v.scope first.name))) || selectors_outside v selectors)
   is_outside v (Parenthesized place e) = is_outside v e
   is_outside v (Unary operator place e) = is_outside v e
   is_outside v (Binary operator a b) = is_outside v a || is_outside v b
@@ -72,18 +128,99 @@ abbrev mutual
   elsifs_outside v NoElsifValues = false
   elsifs_outside v (MoreElsifValues condition value rest) = is_outside v condition || (is_outside v value || elsifs_outside v rest)
 
+  pub selectors_outside : Visible → SelectorTrees → Bool
+  selectors_outside v NoSelectors = false
+  selectors_outside v (MoreSelectors x rest) = selector_outside v x || selectors_outside v rest
+
+  -- an attribute has no place
+  pub selector_outside : Visible → SelectorTree → Bool
+  selector_outside v (Component name) = false
+  selector_outside v (Arguments all) = arguments_outside v all
+  selector_outside v (Attribute name) = true
+
+  pub arguments_outside : Visible → ArgumentTrees → Bool
+  arguments_outside v NoArguments = false
+  arguments_outside v (MoreArguments a rest) = argument_outside v a || arguments_outside v rest
+
+  pub argument_outside : Visible → ArgumentTree → Bool
+  argument_outside v (Value e) = is_outside v e
+  argument_outside v (Text label place) = false
+
+-- ---- the words of objects
+
+abbrev mutual
+  -- values of the shape, and each part of them, take words, and no more than an image may have
+  pub is_fit : Shape → Bool
+  is_fit (Repeated many x) = is_block (many * words x) && is_fit x
+  is_fit (Grouped parts) = is_block (words (Grouped parts)) && are_fit parts
+  is_fit x = is_block (words x)
+
+  pub are_fit : Shapes → Bool
+  are_fit NoShapes = true
+  are_fit (MoreShapes name x rest) = is_fit x && are_fit rest
+
+abbrev pub IsUnfit : Scope → Subtype → Type 0
+IsUnfit s t = is_fit (shape_of s t) ≡ false
+
+-- a part is fit wherever the whole is
+abbrev pub KeepsFit : Scope → (whole part : Subtype) → Type 0
+KeepsFit s t last = IsUnfit s last → IsUnfit s t
+
+-- an object that is visible, or a part of it, takes no words, or more than an image may have
+pub record HasUnfitObject (v : Visible) : Type 0 where
+  pub name : List ℕ
+  pub slot : Slot
+  pub role : Role
+  pub subtype : Subtype
+  pub there : slot_of v name ≡ Some slot
+  pub stands : stands_first v.scope (number_of v.scope name) ≡ standing.Part role subtype
+  pub unfit : IsUnfit v.scope subtype
+
 -- ---- refusals
 
--- Why code is refused that would end behind so many instructions, with so many words on the operand stack at most: memory may always be refused, and of what is
--- outside nothing more is said.
+-- Why code is refused that would end behind so many instructions, with so many words on the operand stack at most: memory may always be refused.
+abbrev pub IsRefusedBeside : (unfit : Type 0) → (instructions words : ℕ) → (outside : Bool) → Refusal → Type 0
+IsRefusedBeside unfit instructions words outside refusal.Memory = ⊤
+IsRefusedBeside unfit instructions words outside refusal.Limit = (INSTRUCTIONS < instructions) ⊎ ((FRAME_WORDS < words) ⊎ unfit)
+IsRefusedBeside unfit instructions words outside refusal.Outside = outside ≡ true
+
+-- ... where no object counts
 abbrev pub IsRefused : (instructions words : ℕ) → (outside : Bool) → Refusal → Type 0
-IsRefused instructions words outside refusal.Memory = ⊤
-IsRefused instructions words outside refusal.Limit = (INSTRUCTIONS < instructions) ⊎ ((FRAME_WORDS < words) ⊎ (outside ≡ true))
-IsRefused instructions words outside refusal.Outside = outside ≡ true
+IsRefused instructions words outside = IsRefusedBeside ⊥ instructions words outside
 
 -- ... that of an expression, which finds so many words on the operand stack
 abbrev pub RefusesExpression : Visible → Code → (depth : ℕ) → ExprTree → Refusal → Type 0
-RefusesExpression v old depth e = IsRefused (here old + 20 * expr_size e) (depth + peak v.scope e) (is_outside v e)
+RefusesExpression v old depth e = IsRefusedBeside (HasUnfitObject v) (here old + 20 * expr_size e) (depth + peak v.scope e) (is_outside v e)
+
+-- ... that of an expression and its check
+abbrev pub RefusesChecked : Visible → Code → (depth : ℕ) → Subtype → ExprTree → Refusal → Type 0
+RefusesChecked v old depth t e =
+    IsRefusedBeside (HasUnfitObject v) (here old + (20 * expr_size e + 3)) (depth + checked_peak (peak v.scope e)) (not (is_passable v.scope t) || is_outside v e)
+
+-- ... where the subtype may have more words; values of arrays and records need no check
+abbrev pub RefusesFitting : Visible → Code → (depth : ℕ) → Subtype → ExprTree → Refusal → Type 0
+RefusesFitting v old depth t e =
+    IsRefusedBeside (HasUnfitObject v ⊎ IsUnfit v.scope t) (here old + (20 * expr_size e + 3)) (depth + checked_peak (peak v.scope e))
+    (not (is_passable v.scope t || is_composite (form_at v.scope t.type_number)) || is_outside v e)
+
+-- ... that of selectors behind the address of an object or part of this subtype
+abbrev pub RefusesPath : Visible → Code → (depth : ℕ) → Subtype → SelectorTrees → Refusal → Type 0
+RefusesPath v old depth t all =
+    IsRefusedBeside (HasUnfitObject v ⊎ IsUnfit v.scope t) (here old + 20 * selectors_size all) (depth + selectors_peak v.scope 1 all) (selectors_outside v all)
+
+-- ... that of the address of an object, and of these selectors
+abbrev pub RefusesAddress : Visible → Code → (depth : ℕ) → Subtype → SelectorTrees → Refusal → Type 0
+RefusesAddress v old depth t all =
+    IsRefusedBeside (HasUnfitObject v ⊎ IsUnfit v.scope t) (here old + (20 * selectors_size all + 1)) (depth + selectors_peak v.scope 1 all) (selectors_outside v all)
+
+-- ... that of actual parameters, and of one
+abbrev pub RefusesActuals : Visible → Code → (depth : ℕ) → List FormalParameter → ArgumentTrees → Refusal → Type 0
+RefusesActuals v old depth formals all =
+    IsRefusedBeside (HasUnfitObject v) (here old + 20 * arguments_size all) (depth + arguments_peak v.scope all) (not (are_passable v.scope formals) || arguments_outside v all)
+
+abbrev pub RefusesActual : Visible → Code → (depth : ℕ) → Subtype → ArgumentTree → Refusal → Type 0
+RefusesActual v old depth t a =
+    IsRefusedBeside (HasUnfitObject v) (here old + 20 * argument_size a) (depth + argument_peak v.scope a) (not (is_passable v.scope t) || argument_outside v a)
 
 -- ... that of operators and the operands behind them
 abbrev pub operands_size : List Operand → ℕ
@@ -99,7 +236,7 @@ operands_outside v [] = false
 operands_outside v (o ∷ rest) = is_outside v (expr_tree o.value) || operands_outside v rest
 
 abbrev pub RefusesOperands : Visible → Code → (depth : ℕ) → List Operand → Refusal → Type 0
-RefusesOperands v old depth all = IsRefused (here old + 20 * operands_size all) (depth + operands_peak v.scope all) (operands_outside v all)
+RefusesOperands v old depth all = IsRefusedBeside (HasUnfitObject v) (here old + 20 * operands_size all) (depth + operands_peak v.scope all) (operands_outside v all)
 
 -- ... that of parts of an if expression, whose values take so many words
 abbrev pub branches_peak : Scope → List Branch → ℕ
@@ -111,4 +248,4 @@ branches_outside v [] = false
 branches_outside v (b ∷ rest) = is_outside v b.condition || (is_outside v b.value || branches_outside v rest)
 
 abbrev pub RefusesBranches : Visible → Code → (depth width : ℕ) → List Branch → Refusal → Type 0
-RefusesBranches v old depth width all = IsRefused (here old + 20 * branches_size all) (depth + max width (branches_peak v.scope all)) (branches_outside v all)
+RefusesBranches v old depth width all = IsRefusedBeside (HasUnfitObject v) (here old + 20 * branches_size all) (depth + max width (branches_peak v.scope all)) (branches_outside v all)

@@ -1,13 +1,16 @@
 //! The code of calls of functions (RM 6.4): the actual parameters in order, each checked against the subtype of its formal, and the call.
-ghost use Rattle.std.specs.Prelude.{◌≡◌, map, take, length, IfOk, OnOk};
+ghost use Rattle.std.specs.Prelude.{◌≡◌, ◌+◌, map, not, take, length, IfErr, IfOk, OnOk};
 ghost use Rattle.ada_tree.specs.ExpressionTree.{argument_tree, argument_trees, Arguments, MoreSelectors, Named, NoSelectors};
+ghost use Rattle.ada_tree.specs.declared.declaration.Mode.TheVariants.{In};
 ghost use Rattle.types.specs.Entities.{profile_value};
 ghost use Rattle.well_typed.specs.Agreeing.{parameter_subtype};
 ghost use Rattle.expr_code.specs.Emitting.{EmitsExpression, IsLegal};
 ghost use Rattle.expr_code.specs.Actuals.{AddsCall, ArePassedLegally, EmitsActual, EmitsActuals, IsPassedLegally};
-ghost use Rattle.expr_code.specs.Seeing.{NamesProfile};
+ghost use Rattle.expr_code.specs.Code.{here};
+ghost use Rattle.expr_code.specs.Refusing.{is_called, IsRefused, RefusesActual, RefusesActuals, RefusesExpression};
+ghost use Rattle.expr_code.specs.Seeing.{NamesProfile, subprogram_of};
 ghost use Rattle.expr_code.specs.Widths.{width_of};
-ghost use Rattle.well_typed.specs.SoundScopes.{SoundScope};
+ghost use Rattle.well_typed.specs.SoundScopes.{AreIn, SoundScope};
 
 use crate::code::{Code, above};
 use crate::refusal::Refusal;
@@ -34,6 +37,7 @@ impl Code {
         requires names { NamesProfile visible.now.scope first.now.name (profile_value profile.now) }
         requires legal { IsLegal visible.now.scope (Named first.now (MoreSelectors (Arguments (argument_trees arguments.now)) NoSelectors)) }
         ensures width { OnOk result (width_of visible.now.scope (Named first.now (MoreSelectors (Arguments (argument_trees arguments.now)) NoSelectors)) ≡ 1) }
+        ensures refused { IfErr result (λ why. RefusesExpression visible.now self.old depth (Named first.now (MoreSelectors (Arguments (argument_trees arguments.now)) NoSelectors)) why) }
         ensures emits { OnOk result (EmitsExpression visible.now self.old depth 1 (Named first.now (MoreSelectors (Arguments (argument_trees arguments.now)) NoSelectors)) self.new) }
     {
         quiet_stays();
@@ -52,6 +56,7 @@ impl Code {
         requires names { NamesProfile visible.now.scope first.now.name (profile_value profile.now) }
         requires legal { IsLegal visible.now.scope (Named first.now NoSelectors) }
         ensures width { OnOk result (width_of visible.now.scope (Named first.now NoSelectors) ≡ 1) }
+        ensures refused { IfErr result (λ why. RefusesExpression visible.now self.old depth (Named first.now NoSelectors) why) }
         ensures emits { OnOk result (EmitsExpression visible.now self.old depth 1 (Named first.now NoSelectors) self.new) }
     {
         quiet_stays();
@@ -66,6 +71,7 @@ impl Code {
         first: &Identifier,
         profile: &Profile,
     ) -> Result<(), Refusal>
+        ensures refused { IfErr result (λ why. IsRefused (here self.old + 1) height (not (is_called visible.now.scope (subprogram_of visible.now first.now.name) (profile_value profile.now))) why) }
         ensures adds { OnOk result (AddsCall visible.now first.now.name (profile_value profile.now) self.old height self.new) }
     {
         let Some(number) = visible.subprogram(&first.name) else {
@@ -89,7 +95,11 @@ impl Code {
         arguments: &[Argument],
     ) -> Result<u16, Refusal>
         requires sound { SoundScope visible.now.scope }
+        requires as_many { length arguments.now ≡ length formals.now }
+        requires ins { AreIn formals.now }
         requires legal { ArePassedLegally visible.now.scope formals.now (map argument_tree arguments.now) }
+        ensures refused { IfErr result (λ why. RefusesActuals visible.now self.old depth formals.now (argument_trees arguments.now) why) }
+        ensures high { IfOk result (λ height. height ≡ depth + length arguments.now) }
         ensures emits { IfOk result (λ height. EmitsActuals visible.now self.old depth (map parameter_subtype (take (length arguments.now) formals.now)) (map argument_tree arguments.now) height self.new) }
     {
         quiet_stays();
@@ -115,7 +125,9 @@ impl Code {
         argument: &Argument,
     ) -> Result<(), Refusal>
         requires sound { SoundScope visible.now.scope }
+        requires ins { formal.now.mode ≡ In }
         requires legal { IsPassedLegally visible.now.scope formal.now (argument_tree argument.now) }
+        ensures refused { IfErr result (λ why. RefusesActual visible.now self.old depth formal.now.subtype (argument_tree argument.now) why) }
         ensures emits { OnOk result (EmitsActual visible.now self.old depth formal.now.subtype (argument_tree argument.now) self.new) }
     {
         arguments_by_parts();

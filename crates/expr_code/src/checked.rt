@@ -1,10 +1,11 @@
 //! The code of expressions whose values are checked against a subtype (RM 4.6, 6.4.1).
-ghost use Rattle.std.specs.Prelude.{◌≡◌, true, IfOk, OnOk};
+ghost use Rattle.std.specs.Prelude.{◌≡◌, true, IfErr, IfOk, OnOk};
 ghost use Rattle.image.specs.Rules.{is_block};
 ghost use Rattle.ada_tree.specs.ExpressionTree.{expr_tree};
 ghost use Rattle.types.specs.Layouts.{words_of};
 ghost use Rattle.types.specs.Scopes.{form_at};
 ghost use Rattle.expr_code.specs.Emitting.{EmitsChecked, EmitsFitting, is_composite, IsFit};
+ghost use Rattle.expr_code.specs.Refusing.{RefusesChecked, RefusesFitting};
 ghost use Rattle.well_typed.specs.SoundScopes.{SoundScope};
 
 use crate::code::{Code, above};
@@ -30,6 +31,7 @@ impl Code {
     ) -> Result<(), Refusal>
         requires sound { SoundScope visible.now.scope }
         requires fit { IsFit visible.now.scope subtype (expr_tree e.now) }
+        ensures refused { IfErr result (λ why. RefusesChecked visible.now self.old depth subtype (expr_tree e.now) why) }
         ensures emits { OnOk result (EmitsChecked visible.now self.old depth subtype (expr_tree e.now) self.new) }
     {
         quiet_stays();
@@ -59,6 +61,7 @@ impl Code {
     ) -> Result<u16, Refusal>
         requires sound { SoundScope visible.now.scope }
         requires fit { IsFit visible.now.scope subtype (expr_tree e.now) }
+        ensures refused { IfErr result (λ why. RefusesFitting visible.now self.old depth subtype (expr_tree e.now) why) }
         ensures words { IfOk result (λ words. words ≡ words_of visible.now.scope subtype) }
         ensures block { IfOk result (λ words. is_block words ≡ true) }
         ensures emits { OnOk result (EmitsFitting visible.now self.old depth subtype (expr_tree e.now) self.new) }
@@ -84,6 +87,7 @@ impl Code {
         requires sound { SoundScope visible.now.scope }
         requires fit { IsFit visible.now.scope subtype (expr_tree e.now) }
         requires composite { is_composite (form_at visible.now.scope subtype.type_number) ≡ true }
+        ensures refused { IfErr result (λ why. RefusesFitting visible.now self.old depth subtype (expr_tree e.now) why) }
         ensures words { IfOk result (λ words. words ≡ words_of visible.now.scope subtype) }
         ensures block { IfOk result (λ words. is_block words ≡ true) }
         ensures emits { OnOk result (EmitsFitting visible.now self.old depth subtype (expr_tree e.now) self.new) }

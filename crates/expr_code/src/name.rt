@@ -1,9 +1,10 @@
 //! The code of names (RM 4.1): values that are known, and objects.
-ghost use Rattle.std.specs.Prelude.{◌≡◌, ◌+◌, None, not, Some, true, IfErr, IfOk, OnOk};
+ghost use Rattle.std.specs.Prelude.{◌≡◌, ◌+◌, None, Some, false, true, IfErr, IfOk, OnOk};
 ghost use Rattle.image.specs.Rules.{is_block};
 ghost use Rattle.image.specs.declared.instruction.Operation.TheVariants.{LoadBlock};
 ghost use Rattle.ada_tree.specs.ExpressionTree.{argument_trees, Arguments, bare_name, MoreSelectors, Named, name_tree, NoSelectors, selector_trees};
 ghost use Rattle.types.specs.declared.entity.Role.{Role};
+ghost use Rattle.types.specs.declared.standing.Callee.{Callee};
 ghost use Rattle.types.specs.Evaluating.{fixed_value};
 ghost use Rattle.types.specs.Scopes.{number_of};
 ghost use Rattle.types.specs.Standings.{standing_of, stands_first};
@@ -12,7 +13,7 @@ ghost use Rattle.expr_code.specs.Code.{Adds, here};
 ghost use Rattle.expr_code.specs.Emitting.{EmitsExpression, IsLegal};
 ghost use Rattle.expr_code.specs.Naming.{load_operation, scalar_word};
 ghost use Rattle.expr_code.specs.Seeing.{slot_of};
-ghost use Rattle.expr_code.specs.Refusing.{IsRefused, RefusesExpression};
+ghost use Rattle.expr_code.specs.Refusing.{IsRefusedBeside, RefusesExpression};
 ghost use Rattle.expr_code.specs.Widths.{width_of};
 ghost use Rattle.well_typed.specs.SoundScopes.{SoundScope};
 
@@ -102,6 +103,7 @@ impl Code {
         requires valueless { fixed_value (standing_of visible.now.scope first.now (selector_trees selectors.now)) ≡ None }
         requires parts { bare_name (Named first.now (selector_trees selectors.now)) ≡ None }
         ensures width { IfOk result (λ width. width ≡ width_of visible.now.scope (Named first.now (selector_trees selectors.now))) }
+        ensures refused { IfErr result (λ why. RefusesExpression visible.now self.old depth (Named first.now (selector_trees selectors.now)) why) }
         ensures emits { IfOk result (λ width. EmitsExpression visible.now self.old depth width (Named first.now (selector_trees selectors.now)) self.new) }
     {
         match visible.scope.stands_first(first) {
@@ -128,16 +130,21 @@ impl Code {
         requires sound { SoundScope visible.now.scope }
         requires stands { stands_first visible.now.scope (number_of visible.now.scope first.now.name) ≡ standing.Named subtype }
         requires legal { IsLegal visible.now.scope (Named first.now (selector_trees selectors.now)) }
+        requires valueless { fixed_value (standing_of visible.now.scope first.now (selector_trees selectors.now)) ≡ None }
         ensures width { IfOk result (λ width. width ≡ width_of visible.now.scope (Named first.now (selector_trees selectors.now))) }
+        ensures refused { IfErr result (λ why. RefusesExpression visible.now self.old depth (Named first.now (selector_trees selectors.now)) why) }
         ensures emits { IfOk result (λ width. EmitsExpression visible.now self.old depth width (Named first.now (selector_trees selectors.now)) self.new) }
     {
         arguments_by_parts();
-        match selectors {
-            [Selector::Arguments(arguments)] => {
+        let [selector] = selectors else {
+            return Err(Refusal::Outside);
+        };
+        match selector {
+            Selector::Arguments(arguments) => {
                 self.conversion(visible, depth, subtype, first, arguments)?;
                 Ok(1)
             }
-            _ => Err(Refusal::Outside),
+            Selector::Component(_) | Selector::Attribute(_) => Err(Refusal::Outside),
         }
     }
 
@@ -152,7 +159,11 @@ impl Code {
     ) -> Result<u16, Refusal>
         requires sound { SoundScope visible.now.scope }
         requires legal { IsLegal visible.now.scope (Named first.now (selector_trees selectors.now)) }
+        requires stands { (f : Callee) × (stands_first visible.now.scope (number_of visible.now.scope first.now.name) ≡ standing.Callee f) }
+        requires valueless { fixed_value (standing_of visible.now.scope first.now (selector_trees selectors.now)) ≡ None }
+        requires parts { bare_name (Named first.now (selector_trees selectors.now)) ≡ None }
         ensures width { IfOk result (λ width. width ≡ width_of visible.now.scope (Named first.now (selector_trees selectors.now))) }
+        ensures refused { IfErr result (λ why. RefusesExpression visible.now self.old depth (Named first.now (selector_trees selectors.now)) why) }
         ensures emits { IfOk result (λ width. EmitsExpression visible.now self.old depth width (Named first.now (selector_trees selectors.now)) self.new) }
     {
         arguments_by_parts();
@@ -167,7 +178,7 @@ impl Code {
                 self.call(visible, depth, first, profile, arguments)?;
                 Ok(1)
             }
-            _ => Err(Refusal::Outside),
+            Selector::Component(_) | Selector::Attribute(_) => Err(Refusal::Outside),
         }
     }
 
@@ -185,6 +196,7 @@ impl Code {
         requires stands { stands_first visible.now.scope (number_of visible.now.scope first.now.name) ≡ standing.Named subtype }
         requires legal { IsLegal visible.now.scope (Named first.now (MoreSelectors (Arguments (argument_trees arguments.now)) NoSelectors)) }
         ensures width { OnOk result (width_of visible.now.scope (Named first.now (MoreSelectors (Arguments (argument_trees arguments.now)) NoSelectors)) ≡ 1) }
+        ensures refused { IfErr result (λ why. RefusesExpression visible.now self.old depth (Named first.now (MoreSelectors (Arguments (argument_trees arguments.now)) NoSelectors)) why) }
         ensures emits { OnOk result (EmitsExpression visible.now self.old depth 1 (Named first.now (MoreSelectors (Arguments (argument_trees arguments.now)) NoSelectors)) self.new) }
     {
         quiet_stays();
@@ -199,6 +211,7 @@ impl Code {
 
     // Adds that of an object as a whole, or of a call without parameters.
     fn bare(&mut self, visible: &Visible, depth: u16, name: &Identifier) -> Result<u16, Refusal>
+        requires sound { SoundScope visible.now.scope }
         requires legal { IsLegal visible.now.scope (Named name.now NoSelectors) }
         requires valueless { fixed_value (standing_of visible.now.scope name.now NoSelectors) ≡ None }
         ensures width { IfOk result (λ width. width ≡ width_of visible.now.scope (Named name.now NoSelectors)) }
@@ -257,7 +270,7 @@ impl Code {
         region: Region,
         words: u16,
     ) -> Result<(), Refusal>
-        ensures refused { IfErr result (λ why. IsRefused (here self.old + 1) height (not (is_block words)) why) }
+        ensures refused { IfErr result (λ why. IsRefusedBeside (is_block words ≡ false) (here self.old + 1) height false why) }
         ensures adds { OnOk result (Adds self.old height (LoadBlock region words) self.new) }
         ensures block { OnOk result (is_block words ≡ true) }
     {

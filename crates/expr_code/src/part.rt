@@ -1,6 +1,6 @@
 //! The code of parts of objects (RM 4.1.1, 4.1.3): the address of the object, what goes from there to the part's, and a load of the words there.
-ghost use Rattle.std.specs.Prelude.{◌≡◌, ◌∷◌, [], map, None, Some, IfOk, OnOk};
-ghost use Rattle.ada_tree.specs.ExpressionTree.{Arguments, argument_trees, bare_name, Component, Named, selector_tree, selector_trees};
+ghost use Rattle.std.specs.Prelude.{◌≡◌, ◌+◌, ◌∷◌, [], false, map, None, Some, IfErr, IfOk, OnOk};
+ghost use Rattle.ada_tree.specs.ExpressionTree.{Arguments, argument_trees, bare_name, Component, MoreSelectors, Named, NoSelectors, selector_tree, selector_trees};
 ghost use Rattle.types.specs.declared.entity.Role.{Role};
 ghost use Rattle.types.specs.declared.standing.Standing.TheVariants as standing;
 ghost use Rattle.types.specs.Entities.{Arrays};
@@ -9,6 +9,8 @@ ghost use Rattle.types.specs.Scopes.{form_at, number_of};
 ghost use Rattle.types.specs.Standings.{standing_of, stands_first};
 ghost use Rattle.expr_code.specs.Emitting.{EmitsExpression, IsLegal};
 ghost use Rattle.expr_code.specs.Going.{AddsOffset, EmitsAddress, EmitsPath, EndsAt, IsLegalPart, IsLegalPath, Selects, SelectsAll};
+ghost use Rattle.expr_code.specs.Code.{here};
+ghost use Rattle.expr_code.specs.Refusing.{IsRefused, KeepsFit, RefusesAddress, RefusesExpression, RefusesPath};
 ghost use Rattle.expr_code.specs.Seeing.{slot_of};
 ghost use Rattle.expr_code.specs.Widths.{width_of};
 ghost use Rattle.well_typed.specs.SoundScopes.{SoundScope};
@@ -37,6 +39,8 @@ impl Code {
     ) -> Result<Subtype, Refusal>
         requires sound { SoundScope visible.now.scope }
         requires legal { IsLegalPath visible.now.scope subtype (selector_trees selectors.now) }
+        ensures refused { IfErr result (λ why. RefusesAddress visible.now self.old depth subtype (selector_trees selectors.now) why) }
+        ensures fit { IfOk result (λ last. KeepsFit visible.now.scope subtype last) }
         ensures ends { IfOk result (λ last. EndsAt visible.now.scope subtype (selector_trees selectors.now) last) }
         ensures emits { IfOk result (λ last. EmitsAddress visible.now self.old depth slot.offset subtype (selector_trees selectors.now) last self.new) }
     {
@@ -62,6 +66,7 @@ impl Code {
         requires there { slot_of visible.now first.now.name ≡ Some slot }
         requires parts { bare_name (Named first.now (selector_trees selectors.now)) ≡ None }
         ensures width { IfOk result (λ width. width ≡ width_of visible.now.scope (Named first.now (selector_trees selectors.now))) }
+        ensures refused { IfErr result (λ why. RefusesExpression visible.now self.old depth (Named first.now (selector_trees selectors.now)) why) }
         ensures emits { IfOk result (λ width. EmitsExpression visible.now self.old depth width (Named first.now (selector_trees selectors.now)) self.new) }
     {
         quiet_stays();
@@ -86,6 +91,8 @@ impl Code {
     ) -> Result<Subtype, Refusal>
         requires sound { SoundScope visible.now.scope }
         requires legal { IsLegalPath visible.now.scope subtype (selector_trees selectors.now) }
+        ensures refused { IfErr result (λ why. RefusesPath visible.now self.old depth subtype (selector_trees selectors.now) why) }
+        ensures fit { IfOk result (λ last. KeepsFit visible.now.scope subtype last) }
         ensures stands { IfOk result (λ last. SelectsAll visible.now.scope subtype (map selector_tree selectors.now) last) }
         ensures emits { IfOk result (λ last. EmitsPath visible.now self.old depth subtype (map selector_tree selectors.now) last self.new) }
     {
@@ -107,6 +114,7 @@ impl Code {
     ) -> Result<Subtype, Refusal>
         requires sound { SoundScope visible.now.scope }
         requires legal { IsLegalPart visible.now.scope subtype (selector_tree selector.now) }
+        ensures refused { IfErr result (λ why. RefusesPath visible.now self.old depth subtype (MoreSelectors (selector_tree selector.now) NoSelectors) why) }
         ensures stands { IfOk result (λ last. Selects visible.now.scope subtype (selector_tree selector.now) last) }
         ensures emits { IfOk result (λ last. EmitsPath visible.now self.old depth subtype (selector_tree selector.now ∷ []) last self.new) }
     {
@@ -126,6 +134,9 @@ impl Code {
         subtype: Subtype,
         name: &Identifier,
     ) -> Result<Subtype, Refusal>
+        requires sound { SoundScope visible.now.scope }
+        requires legal { IsLegalPart visible.now.scope subtype (Component name.now) }
+        ensures refused { IfErr result (λ why. RefusesPath visible.now self.old depth subtype (MoreSelectors (Component name.now) NoSelectors) why) }
         ensures stands { IfOk result (λ last. Selects visible.now.scope subtype (Component name.now) last) }
         ensures emits { IfOk result (λ last. EmitsPath visible.now self.old depth subtype (Component name.now ∷ []) last self.new) }
     {
@@ -161,6 +172,7 @@ impl Code {
     ) -> Result<Subtype, Refusal>
         requires sound { SoundScope visible.now.scope }
         requires legal { IsLegalPart visible.now.scope subtype (Arguments (argument_trees arguments.now)) }
+        ensures refused { IfErr result (λ why. RefusesPath visible.now self.old depth subtype (MoreSelectors (Arguments (argument_trees arguments.now)) NoSelectors) why) }
         ensures stands { IfOk result (λ last. Selects visible.now.scope subtype (Arguments (argument_trees arguments.now)) last) }
         ensures emits { IfOk result (λ last. EmitsPath visible.now self.old depth subtype (Arguments (argument_trees arguments.now) ∷ []) last self.new) }
     {
@@ -188,6 +200,7 @@ impl Code {
 
     // Adds what makes of an address and a checked index above it the address of the component, given the first index and the words of a component.
     fn offset(&mut self, depth: u16, first: i64, words: u16) -> Result<(), Refusal>
+        ensures refused { IfErr result (λ why. IsRefused (here self.old + 5) (depth + 1) false why) }
         ensures adds { OnOk result (AddsOffset self.old depth first words self.new) }
     {
         let two = above(depth)?;

@@ -1,7 +1,8 @@
 //! What is visible to code: names, where the words of objects stand, and which subprograms functions have.
-ghost use Rattle.std.specs.Prelude.{◌≡◌, ◌∷◌, ◌++◌, [], length, option_map, take, IfSome, OnOk};
+ghost use Rattle.std.specs.Prelude.{◌≡◌, ◌∷◌, ◌++◌, [], false, length, option_map, take, IfErr, IfSome, OnOk};
 ghost use Rattle.types.specs.Entities.{profile_value};
 ghost use Rattle.expr_code.specs.Entries.{entry_at};
+ghost use Rattle.expr_code.specs.Refusing.{IsRefused};
 ghost use Rattle.expr_code.specs.Seeing.{NamesProfile, profile_named, slot_of, subprogram_of};
 
 use crate::refusal::Refusal;
@@ -61,7 +62,8 @@ impl<T: Copy> Entries<T> {
 
     /// Adds that of one name more.
     pub fn push(&mut self, entry: Option<T>) -> Result<(), Refusal>
-        ensures { OnOk result (self.new ≡ self.old ++ entry ∷ []) }
+        ensures pushed { OnOk result (self.new ≡ self.old ++ entry ∷ []) }
+        ensures refused { IfErr result (λ why. IsRefused 0 0 false why) }
     {
         self.entries.push(entry)?;
         Ok(())

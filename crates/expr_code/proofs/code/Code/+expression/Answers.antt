@@ -1,6 +1,6 @@
-use Rattle.std.proofs.Common.{◌+◌, ◌*◌, arith, length, ltb-true, map, take, rules, refl, sym, ap, ◌∙◌, ◌≤◌, ◌∷◌, [], subst, ◌≡◌}
+use Rattle.std.proofs.Common.{inr, ◌+◌, ◌*◌, arith, length, ltb-true, map, take, rules, refl, sym, ap, ◌∙◌, ◌≤◌, ◌∷◌, [], subst, ◌≡◌}
 use Rattle.std.specs.Prelude.{IfOk}
-use Rattle.std.proofs.lemmas.Result.{IfOk-weaker, on_ok_weaker}
+use Rattle.std.proofs.lemmas.Result.{IfErr-weaker, IfOk-weaker, on_ok_weaker}
 use Rattle.ada_tree.specs.declared.expression.Expr as expressions
 use Rattle.ada_tree.specs.ExpressionTree.{argument_tree, argument_trees, Arguments, expr_tree, MoreSelectors, Named, NoSelectors, selector_tree, selector_trees}
 use Rattle.expr_code.specs.Branches.{AddsBranches, AreLegalBranches, branch_of}
@@ -11,21 +11,29 @@ use Rattle.expr_code.proofs.Checking.{checked_emits, fit_legal, unchecked_emits}
 use Rattle.expr_code.proofs.Chains.{all_emitted, and_then_at, chain_emits, first_legal, legal_at, more_legal, none_emitted, one_emitted, operand_at, or_else_at, second_legal}
 use Rattle.expr_code.proofs.Emitted.{number_emits, parenthesized_emits, sign_emits, unary_at}
 use Rattle.types.specs.Evaluating.{fixed_value}
+use Rattle.types.specs.Scopes.{number_of}
+use Rattle.types.specs.Standings.{stands_first}
 use Rattle.expr_code.proofs.Conversions.{conversion_emits}
 use Rattle.expr_code.proofs.Names.{fixed_emits}
-use Rattle.expr_code.proofs.Going.{block_words, drop_at, element_goes, first_part, further_path, goes_next, one_argument, part_emits, uncapped_words, whole_path}
+use Rattle.expr_code.proofs.Going.{block_words, drop_at, element_goes, first_part, further_path, goes_next, index_integers, one_argument, part_emits, path_counts, uncapped_words, whole_path}
 use Rattle.expr_code.proofs.Legal.{legal_branch, legal_operand}
 use Rattle.well_typed.specs.Agreeing.{parameter_subtype}
 use Rattle.expr_code.specs.Actuals.{ArePassedLegally, EmitsActuals}
-use Rattle.expr_code.proofs.Actuals.{actuals_next, all_actuals, all_legal, call_emits, got, mapped}
+use Rattle.expr_code.proofs.Actuals.{actuals_next, all_actuals, all_legal, as_many, call_emits, got, mapped, sizes_are}
+use Rattle.expr_code.proofs.CallsRefused.{actual_refused, call_ins, call_refused, counted_high, word_passed}
+use Rattle.expr_code.proofs.FitShapes.{large_unfit, many_unfit, selected_keeps}
+use Rattle.expr_code.proofs.LegalNames.{array_part, begins_otherwise, called_once, converted_once, in_at, one_converted}
+use Rattle.expr_code.proofs.NamesRefused.{begin_outside, behind_outside, index_refused, load_refused, selector_refused}
+use Rattle.well_typed.specs.SoundScopes.{AreIn}
 use Rattle.expr_code.specs.Widths.{AreSingle, AreWide, width_of}
 use Rattle.expr_code.specs.Code.{here}
-use Rattle.expr_code.specs.Refusing.{operands_size, RefusesBranches, RefusesExpression, RefusesOperands}
+use Rattle.expr_code.specs.Refusing.{operands_size, RefusesBranches, RefusesExpression, RefusesOperands, RefusesPath}
 use Rattle.expr_code.proofs.Growing.{added_here}
 use Rattle.expr_code.proofs.Refusals.{between_refused, closed_here, condition_refused, else_refused, first_refused, jump_refused, more_refused, operand_refused, others_refused, second_refused, second_word_refused, sized_all, sized_next, value_refused, word_refused}
 use Rattle.expr_code.proofs.Selecting.{one_selector, selects_next, whole_selects}
 use Rattle.expr_code.proofs.Widths.{call_width, chain_words, conditional_words, conversion_width, booleans_fit_width, fixed_width, integers_fit_width, part_width, single_at, unary_width, wide_at}
 use Rattle.expr_code.proofs.code.Code.+expression.Goals as goal
+use Rattle.expr_code.proofs.code.Code.+expression.Goals.{element-then-from-gt-WORDS-via-then-from-gt-WORDS, element-then-from-gt-WORDS-via-else-from-gt-WORDS+then-from-gt-WORDS-2}
 
 -- ---- chains of operators
 
@@ -83,7 +91,6 @@ expression-returns-in_ok-operands-in-Chain-clause-width t c =
 pub expression-returns-in_ok-operands-in-Chain-clause-emits : goal.expression-returns-in_ok-operands-in-Chain-clause-emits
 expression-returns-in_ok-operands-in-Chain-clause-emits t c =
     let tree = ap expr_tree c.in-Chain.is ∙ c.chains_by_parts.ensures c.in-Chain.first c.in-Chain.second c.in-Chain.more in
-    let words = chain_words c.args.visible.now.scope c.requires.sound _ _ c.in-Chain.second.value c.in-Chain.more.items tree c.requires.legal in
     chain_emits c.args.visible.now _ _ c.in-Chain.second.value c.in-Chain.more.items tree c.requires.legal _ _ _ _ c.args.depth
     (rw c.deref-in-Chain.ensures at c.in_ok-of_width-in-Chain.ensures.emits)
     (rw c.deref-in-Chain-2.ensures at c.in_ok-operand-in-Chain.ensures.emits)
@@ -448,21 +455,8 @@ expression-of_width-requires-in-Conditional-2 t c =
 pub expression-returns-in_ok-rejoin-in-Conditional-clause-width : goal.expression-returns-in_ok-rejoin-in-Conditional-clause-width
 expression-returns-in_ok-rejoin-in-Conditional-clause-width t c =
     let v = c.args.visible.now in
-    let depth = c.args.depth in
-    let width = c.in_ok-width-in-Conditional.width in
     let tree = ap expr_tree c.in-Conditional.is ∙ c.conditional_by_parts.ensures c.in-Conditional.field-0 c.in-Conditional.condition c.in-Conditional.value
     c.in-Conditional.elsifs c.in-Conditional.last in
-    let first = branch_closed v depth width _ _ _ _ _ _ _ _ _ _ _ c.in_ok-raised-in-Conditional.ensures.more c.in_ok-test-in-Conditional.ensures.place
-    (subst (λ e. EmitsExpression v c.args.self.now depth 1 (expr_tree e) c.of_width-in-Conditional.new.self) c.deref-in-Conditional.ensures
-    c.in_ok-of_width-in-Conditional.ensures.emits)
-    c.in_ok-test-in-Conditional.ensures.adds
-    (subst (λ e. EmitsExpression v c.test.new.self depth width (expr_tree e) c.expression-in-Conditional.new.self) c.deref-in-Conditional-2.ensures
-    c.in_ok-width-in-Conditional.ensures.emits)
-    c.in_ok-close-in-Conditional.ensures.closes in
-    let others = subst (λ all. AddsBranches v c.close.new.self depth width (map branch_of all) c.close.new.waiting.items c.elsifs.new.waiting.items
-    c.elsifs.new.self) c.deref-in-Conditional-3.ensures.value c.in_ok-elsifs-in-Conditional.ensures.adds in
-    let last = subst (λ e. EmitsExpression v c.elsifs.new.self depth width (expr_tree e) c.of_width-in-Conditional-2.new.self)
-    c.deref-in-Conditional-4.ensures c.in_ok-of_width-in-Conditional-2.ensures.emits in
     let words = conditional_words v.scope c.requires.sound _ c.in-Conditional.field-0 _ _ c.in-Conditional.elsifs.items _ tree c.requires.legal in
     let told = c.in_ok-width-in-Conditional.ensures.width ∙ ap (λ e. width_of v.scope (expr_tree e)) c.deref-in-Conditional-2.ensures in
     told ∙ words.whole
@@ -485,8 +479,6 @@ expression-returns-in_ok-rejoin-in-Conditional-clause-emits t c =
     c.elsifs.new.self) c.deref-in-Conditional-3.ensures.value c.in_ok-elsifs-in-Conditional.ensures.adds in
     let last = subst (λ e. EmitsExpression v c.elsifs.new.self depth width (expr_tree e) c.of_width-in-Conditional-2.new.self)
     c.deref-in-Conditional-4.ensures c.in_ok-of_width-in-Conditional-2.ensures.emits in
-    let words = conditional_words v.scope c.requires.sound _ c.in-Conditional.field-0 _ _ c.in-Conditional.elsifs.items _ tree c.requires.legal in
-    let told = c.in_ok-width-in-Conditional.ensures.width ∙ ap (λ e. width_of v.scope (expr_tree e)) c.deref-in-Conditional-2.ensures in
     subst (λ e. EmitsExpression v c.args.self.now depth width e c.rejoin.new.self) (sym tree)
     (whole_at v depth width _ _ _ _ _ _ _ _ _ _ _ _ _ c.deref-in-Conditional-5.result.now c.new-waiting.ensures.items
     c.deref-in-Conditional-5.ensures.value first others last c.quiet_stays.ensures refl
@@ -547,38 +539,38 @@ checked-of_width-requires-in-Some-Boolean t c =
       (c.requires.sound, (fit_legal s c.args.subtype _ c.requires.fit, booleans_fit_width s c.requires.sound c.args.subtype _ c.requires.fit (search rules))),
     )
 
-pub checked-returns-in_ok-above-in-Some-Integer : goal.checked-returns-in_ok-above-in-Some-Integer
-checked-returns-in_ok-above-in-Some-Integer t c = record {
-  emits = on_ok_weaker _ (λ p. checked_emits c.quiet_stays.ensures c.expressions_are_typed.ensures c.values_have_words.ensures c.args.visible.now _ _
-      c.args.depth c.args.subtype _ c.requires.fit c.in_ok-of_width-in-Some-Integer.ensures.emits
-      _ _ _ _ _ _ _ _ c.in_ok-one-in-Some-Integer.ensures.more c.in_ok-two-in-Some-Integer.ensures.more c.in_ok-above-in-Some-Integer.ensures.more
-      (search rules) (search rules)
-      c.in_ok-emit-in-Some-Integer.ensures.adds c.in_ok-emit-in-Some-Integer-2.ensures.adds p (search rules)) c.emit-in-Some-Integer-2.ensures.adds;
-}
+pub checked-returns-in_ok-above-in-Some-Integer-clause-emits : goal.checked-returns-in_ok-above-in-Some-Integer-clause-emits
+checked-returns-in_ok-above-in-Some-Integer-clause-emits t c =
+    on_ok_weaker _ (λ p. checked_emits c.quiet_stays.ensures c.expressions_are_typed.ensures c.values_have_words.ensures c.args.visible.now _ _
+    c.args.depth c.args.subtype _ c.requires.fit c.in_ok-of_width-in-Some-Integer.ensures.emits
+    _ _ _ _ _ _ _ _ c.in_ok-one-in-Some-Integer.ensures.more c.in_ok-two-in-Some-Integer.ensures.more c.in_ok-above-in-Some-Integer.ensures.more
+    (search rules) (search rules)
+    c.in_ok-emit-in-Some-Integer.ensures.adds c.in_ok-emit-in-Some-Integer-2.ensures.adds p (search rules)) c.emit-in-Some-Integer-2.ensures.adds
 
-pub checked-returns-in-Some-Boolean : goal.checked-returns-in-Some-Boolean
-checked-returns-in-Some-Boolean t c = record {
-  emits = on_ok_weaker _ (λ p. unchecked_emits c.quiet_stays.ensures c.expressions_are_typed.ensures c.values_have_words.ensures c.args.visible.now _ _
-      c.args.depth c.args.subtype _ c.requires.fit p (search rules)) c.of_width-in-Some-Boolean.ensures.emits;
-}
+pub checked-returns-in-Some-Boolean-clause-emits : goal.checked-returns-in-Some-Boolean-clause-emits
+checked-returns-in-Some-Boolean-clause-emits t c =
+    on_ok_weaker _ (λ p. unchecked_emits c.quiet_stays.ensures c.expressions_are_typed.ensures c.values_have_words.ensures c.args.visible.now _ _
+    c.args.depth c.args.subtype _ c.requires.fit p (search rules)) c.of_width-in-Some-Boolean.ensures.emits
 
-pub conversion-returns-in-Expr : goal.conversion-returns-in-Expr
-conversion-returns-in-Expr t c =
+pub conversion-returns-in-Expr-clause-width : goal.conversion-returns-in-Expr-clause-width
+conversion-returns-in-Expr-clause-width t c =
     let one = one_argument c.args.arguments.now c.in-Expr.e c.argument-item.result c.in-len1.len_at_least c.in-len1.len_below c.argument-item.is c.in-Expr.is in
     let s = c.args.visible.now.scope in
     let words : width_of s (Named c.args.first.now (MoreSelectors (Arguments (argument_trees c.args.arguments.now)) NoSelectors)) ≡ 1 =
     ap (λ all. width_of s (Named c.args.first.now (MoreSelectors (Arguments all) NoSelectors))) one
     ∙ conversion_width s c.args.first.now (expr_tree c.in-Expr.e) c.args.subtype c.requires.stands
     (subst (λ all. IsLegal s (Named c.args.first.now (MoreSelectors (Arguments all) NoSelectors))) one c.requires.legal) in
-    record {
-      width = on_ok_weaker _ (λ p. words) c.checked.ensures.emits;
-      emits = on_ok_weaker _ (λ p. subst
-          (λ all. EmitsExpression c.args.visible.now c.args.self.now c.args.depth 1 (Named c.args.first.now (MoreSelectors (Arguments all) NoSelectors))
-          c.checked.new.self) (sym one)
-          (conversion_emits c.quiet_stays.ensures c.args.visible.now _ _ c.args.depth c.args.first.now (expr_tree c.in-Expr.e) c.args.subtype c.requires.stands
-          (subst (λ all. IsLegal c.args.visible.now.scope (Named c.args.first.now (MoreSelectors (Arguments all) NoSelectors))) one c.requires.legal) p))
-          c.checked.ensures.emits;
-    }
+    on_ok_weaker _ (λ p. words) c.checked.ensures.emits
+
+pub conversion-returns-in-Expr-clause-emits : goal.conversion-returns-in-Expr-clause-emits
+conversion-returns-in-Expr-clause-emits t c =
+    let one = one_argument c.args.arguments.now c.in-Expr.e c.argument-item.result c.in-len1.len_at_least c.in-len1.len_below c.argument-item.is c.in-Expr.is in
+    on_ok_weaker _ (λ p. subst
+    (λ all. EmitsExpression c.args.visible.now c.args.self.now c.args.depth 1 (Named c.args.first.now (MoreSelectors (Arguments all) NoSelectors))
+    c.checked.new.self) (sym one)
+    (conversion_emits c.quiet_stays.ensures c.args.visible.now _ _ c.args.depth c.args.first.now (expr_tree c.in-Expr.e) c.args.subtype c.requires.stands
+    (subst (λ all. IsLegal c.args.visible.now.scope (Named c.args.first.now (MoreSelectors (Arguments all) NoSelectors))) one c.requires.legal) p))
+    c.checked.ensures.emits
 
 -- ---- names
 
@@ -614,20 +606,21 @@ element-returns-clause-emits t c =
     (subst (λ all. IsLegalPart v.scope c.args.subtype (Arguments all)) one c.requires.legal)
     few (uncapped_words _ _ c.words-words.ensures (search rules)) c.in_ok-checked.ensures.emits c.in_ok-offset.ensures.adds)
 
-pub part-returns : goal.part-returns
-part-returns t c = record {
-  width =
-      sym (part_width c.args.visible.now.scope c.args.first.now (selector_trees c.args.selectors.now) c.requires.stands.0 c.args.subtype c.in_ok-last.last
-      c.requires.stands.1
-      (whole_selects c.args.visible.now.scope c.requires.stands.0 c.args.subtype c.in_ok-last.last c.args.selectors.now c.in_ok-last.ensures.stands)
-      ∙ block_words _ _ c.words-words.ensures c.in_ok-load_block.ensures.block);
-  emits = part_emits c.quiet_stays.ensures c.values_have_words.ensures c.parts_have_places.ensures c.args.visible.now _ _ _ _ c.args.depth _
-      c.words-words.result c.args.first.now c.args.selectors.now
-      c.requires.stands.0 c.args.subtype c.in_ok-last.last c.args.slot _ c.in_ok-address.ensures.more (search rules) c.requires.legal c.requires.stands.1
-      c.requires.valueless c.requires.there c.requires.parts
-      (block_words _ _ c.words-words.ensures c.in_ok-load_block.ensures.block) c.in_ok-load_block.ensures.block c.in_ok-emit.ensures.adds
-      c.in_ok-last.ensures.emits c.in_ok-load_block.ensures.adds;
-}
+pub part-returns-clause-width : goal.part-returns-clause-width
+part-returns-clause-width t c =
+    sym (part_width c.args.visible.now.scope c.args.first.now (selector_trees c.args.selectors.now) c.requires.stands.0 c.args.subtype c.in_ok-last.last
+    c.requires.stands.1
+    (whole_selects c.args.visible.now.scope c.requires.stands.0 c.args.subtype c.in_ok-last.last c.args.selectors.now c.in_ok-last.ensures.stands)
+    ∙ block_words _ _ c.words-words.ensures c.in_ok-load_block.ensures.block)
+
+pub part-returns-clause-emits : goal.part-returns-clause-emits
+part-returns-clause-emits t c =
+    part_emits c.quiet_stays.ensures c.values_have_words.ensures c.parts_have_places.ensures c.args.visible.now _ _ _ _ c.args.depth _
+    c.words-words.result c.args.first.now c.args.selectors.now
+    c.requires.stands.0 c.args.subtype c.in_ok-last.last c.args.slot _ c.in_ok-address.ensures.more (search rules) c.requires.legal c.requires.stands.1
+    c.requires.valueless c.requires.there c.requires.parts
+    (block_words _ _ c.words-words.ensures c.in_ok-load_block.ensures.block) c.in_ok-load_block.ensures.block c.in_ok-emit.ensures.adds
+    c.in_ok-last.ensures.emits c.in_ok-load_block.ensures.adds
 
 pub path-select-requires : goal.path-select-requires
 path-select-requires t c =
@@ -653,6 +646,8 @@ path-loop-selector-preserved t c =
       selects_next s c.args.subtype c.loop-selector.last c.in_ok-last.last c.args.selectors.now c.loop-selector.selector-index c.selector-item.result
           c.loop-selector-test.true c.selector-item.is
           c.loop-selector.invariant.2 c.in_ok-last.ensures.stands,
+      (λ h. c.loop-selector.invariant.3 (selected_keeps s c.requires.sound c.loop-selector.last c.in_ok-last.last (selector_tree c.selector-item.result)
+          c.in_ok-last.ensures.stands h)),
     )
 
 pub select-element-requires : goal.select-element-requires
@@ -675,28 +670,65 @@ call-actuals-requires t c = (
   search (rules, expressions.the_lemmas),
   (
     c.requires.sound,
-    subst (λ l. ArePassedLegally c.args.visible.now.scope l (map argument_tree c.args.arguments.now)) (sym c.deref.ensures.value)
-        (all_legal c.args.visible.now c.args.first.now _ c.requires.names c.args.arguments.now c.requires.legal),
+    (
+      as_many c.args.visible.now c.args.first.now _ c.requires.names c.args.arguments.now c.requires.legal ∙ ap length (sym c.deref.ensures.value),
+      (
+        subst AreIn (sym c.deref.ensures.value)
+            (call_ins c.args.visible.now c.args.first.now _ c.requires.names (argument_trees c.args.arguments.now) c.requires.sound c.requires.legal),
+        subst (λ l. ArePassedLegally c.args.visible.now.scope l (map argument_tree c.args.arguments.now)) (sym c.deref.ensures.value)
+            (all_legal c.args.visible.now c.args.first.now _ c.requires.names c.args.arguments.now c.requires.legal),
+      ),
+    ),
   ),
 )
 
-pub call-returns : goal.call-returns
-call-returns t c = record {
-  width = on_ok_weaker _ (λ p. call_width c.args.visible.now.scope c.args.first.now _ p.result c.requires.names p.is p.single
-      (argument_trees c.args.arguments.now)) c.invoke.ensures.adds;
-  emits = on_ok_weaker _ (λ p. call_emits c.args.visible.now c.args.first.now _ c.requires.names c.quiet_stays.ensures c.args.arguments.now c.requires.legal
-      _ _ _ c.args.depth _
-      (subst (λ l. EmitsActuals c.args.visible.now c.args.self.now c.args.depth (map parameter_subtype (take (length c.args.arguments.now) l))
-      (map argument_tree c.args.arguments.now) c.in_ok-height.height c.actuals.new.self)
-      c.deref.ensures.value c.in_ok-height.ensures.emits) p) c.invoke.ensures.adds;
-}
+pub call-returns-clause-width : goal.call-returns-clause-width
+call-returns-clause-width t c =
+    on_ok_weaker _ (λ p. call_width c.args.visible.now.scope c.args.first.now _ p.result c.requires.names p.is p.single
+    (argument_trees c.args.arguments.now)) c.invoke.ensures.adds
 
-pub actuals-returns : goal.actuals-returns
-actuals-returns t c = record {
-  emits = all_actuals c.args.visible.now c.args.self.now c.loop-index.self c.args.depth c.loop-index.height c.args.formals.now c.args.arguments.now
-      c.loop-index.index c.loop-index.auto.index-end c.loop-index-test.false
-      c.loop-index.invariant;
-}
+pub call-returns-clause-refused : goal.call-returns-clause-refused
+call-returns-clause-refused t c =
+    let v = c.args.visible.now in
+    let before = (subst (λ l. EmitsActuals v c.args.self.now c.args.depth (map parameter_subtype (take (length c.args.arguments.now) l))
+    (map argument_tree c.args.arguments.now) c.in_ok-height.height c.actuals.new.self) c.deref.ensures.value c.in_ok-height.ensures.emits).sized in
+    let counts = sizes_are c.args.arguments.now in
+    let high = counted_high v c.args.arguments.now in
+    let told = c.in_ok-height.ensures.high in
+    IfErr-weaker _ _ _ (λ why p. call_refused v c.args.first.now _ c.requires.names c.args.self.now c.args.depth why (argument_trees c.args.arguments.now) _ _
+    (omega (arith, before, counts)) (omega (arith, high, told)) p) c.invoke.ensures.refused
+
+pub call-returns-clause-emits : goal.call-returns-clause-emits
+call-returns-clause-emits t c =
+    on_ok_weaker _ (λ p. call_emits c.args.visible.now c.args.first.now _ c.requires.names c.quiet_stays.ensures c.args.arguments.now c.requires.legal
+    _ _ _ c.args.depth _
+    (subst (λ l. EmitsActuals c.args.visible.now c.args.self.now c.args.depth (map parameter_subtype (take (length c.args.arguments.now) l))
+    (map argument_tree c.args.arguments.now) c.in_ok-height.height c.actuals.new.self)
+    c.deref.ensures.value c.in_ok-height.ensures.emits) p) c.invoke.ensures.adds
+
+pub actuals-returns-clause-emits : goal.actuals-returns-clause-emits
+actuals-returns-clause-emits t c =
+    all_actuals c.args.visible.now c.args.self.now c.loop-index.self c.args.depth c.loop-index.height c.args.formals.now c.args.arguments.now
+    c.loop-index.index c.loop-index.auto.index-end c.loop-index-test.false
+    c.loop-index.invariant.0
+
+pub actuals-returns-in_err-actual-clause-refused : goal.actuals-returns-in_err-actual-clause-refused
+actuals-returns-in_err-actual-clause-refused t c =
+    let v = c.args.visible.now in
+    let formal = got c.args.formals.now c.loop-index.index c.in-Some.formal.now
+    (ltb-true c.loop-index.index (length c.args.formals.now) (sym c.in-Some.ensures.lookup.0)) c.in-Some.ensures.lookup.1 in
+    let argument = got c.args.arguments.now c.loop-index.index _ c.loop-index-test.true c.index-arguments-index.is in
+    let before = c.loop-index.invariant.0.sized in
+    let whole = actual_refused v c.args.self.now c.loop-index.self c.args.depth c.loop-index.height c.args.formals.now c.args.arguments.now c.loop-index.index _
+    c.in_err-actual.field-0.0 argument c.loop-index.invariant.1 c.in-Some.formal.now formal before c.in_err-actual.ensures.refused in
+    search (rules, whole)
+
+pub actuals-returns-in_err-height-clause-refused : goal.actuals-returns-in_err-height-clause-refused
+actuals-returns-in_err-height-clause-refused t c =
+    let argument = got c.args.arguments.now c.loop-index.index _ c.loop-index-test.true c.index-arguments-index.is in
+    let whole = word_passed c.args.visible.now c.args.self.now c.loop-index.self c.args.depth c.loop-index.height c.args.formals.now c.args.arguments.now
+    c.loop-index.index _ c.in_err-height.field-0.0 argument c.loop-index.invariant.1 _ _ (omega arith) (omega arith) c.in_err-height.ensures.refused in
+    search (rules, whole)
 
 pub actuals-actual-requires : goal.actuals-actual-requires
 actuals-actual-requires t c =
@@ -705,9 +737,12 @@ actuals-actual-requires t c =
       search (rules, expressions.the_lemmas),
       (
         c.requires.sound,
-        c.requires.legal c.loop-index.index c.in-Some.formal.now _ formal
-            (mapped argument_tree c.args.arguments.now c.loop-index.index _
-            (got c.args.arguments.now c.loop-index.index _ c.loop-index-test.true c.index-arguments-index.is)),
+        (
+          in_at c.args.formals.now c.loop-index.index c.in-Some.formal.now formal c.requires.ins,
+          c.requires.legal c.loop-index.index c.in-Some.formal.now _ formal
+              (mapped argument_tree c.args.arguments.now c.loop-index.index _
+              (got c.args.arguments.now c.loop-index.index _ c.loop-index-test.true c.index-arguments-index.is)),
+        ),
       ),
     )
 
@@ -715,10 +750,14 @@ pub actuals-loop-index-preserved : goal.actuals-loop-index-preserved
 actuals-loop-index-preserved t c =
     let formal = got c.args.formals.now c.loop-index.index c.in-Some.formal.now
     (ltb-true c.loop-index.index (length c.args.formals.now) (sym c.in-Some.ensures.lookup.0)) c.in-Some.ensures.lookup.1 in
-    actuals_next c.quiet_stays.ensures c.values_have_words.ensures c.args.visible.now c.args.self.now _ _ c.args.depth _ _ c.args.formals.now
-    c.args.arguments.now c.loop-index.index c.in-Some.formal.now _ formal
-    (got c.args.arguments.now c.loop-index.index _ c.loop-index-test.true c.index-arguments-index.is) c.in_ok-height.ensures.more c.loop-index.invariant
-    c.in_ok-actual.ensures.emits
+    let told = c.loop-index.invariant.1 in
+    let more = c.in_ok-height.ensures.more in (
+      actuals_next c.quiet_stays.ensures c.values_have_words.ensures c.args.visible.now c.args.self.now _ _ c.args.depth _ _ c.args.formals.now
+          c.args.arguments.now c.loop-index.index c.in-Some.formal.now _ formal
+          (got c.args.arguments.now c.loop-index.index _ c.loop-index-test.true c.index-arguments-index.is) c.in_ok-height.ensures.more c.loop-index.invariant.0
+          c.in_ok-actual.ensures.emits,
+      omega (arith, told, more),
+    )
 
 -- ---- parts
 
@@ -727,3 +766,104 @@ part-path-requires t c = (
   search (rules, expressions.the_lemmas),
   (c.requires.sound, whole_path c.args.visible.now.scope c.args.first.now _ c.requires.stands.0 c.args.subtype c.requires.legal c.requires.stands.1),
 )
+
+-- ---- refusals of names, parts, conversions and calls
+
+pub called-call-requires : goal.called-call-requires
+called-call-requires t c =
+    let tree = ap selector_tree c.in-Arguments.is ∙ c.arguments_by_parts.ensures c.in-Arguments.arguments ∙ ap (λ l. Arguments (argument_trees l))
+    (sym c.deref.ensures.value) in
+    let same = one_selector c.args.selectors.now c.selector-item.result _ c.in-len1.len_at_least c.in-len1.len_below c.selector-item.is tree in (
+      search (rules, expressions.the_lemmas),
+      (c.requires.sound, (search rules, subst (λ x. IsLegal c.args.visible.now.scope (Named c.args.first.now x)) same c.requires.legal)),
+    )
+
+pub called-returns-in_err-call-in-Arguments-clause-refused : goal.called-returns-in_err-call-in-Arguments-clause-refused
+called-returns-in_err-call-in-Arguments-clause-refused t c =
+    let tree = ap selector_tree c.in-Arguments.is ∙ c.arguments_by_parts.ensures c.in-Arguments.arguments ∙ ap (λ l. Arguments (argument_trees l))
+    (sym c.deref.ensures.value) in
+    let same = one_selector c.args.selectors.now c.selector-item.result _ c.in-len1.len_at_least c.in-len1.len_below c.selector-item.is tree in
+    let why = c.in_err-call-in-Arguments.field-0.0 in
+    let whole = subst (λ x. RefusesExpression c.args.visible.now c.args.self.now c.args.depth (Named c.args.first.now x) why) (sym same)
+    c.in_err-call-in-Arguments.ensures.refused in
+    search (rules, whole)
+
+pub called-returns-in_default-selectors-2-clause-refused : goal.called-returns-in_default-selectors-2-clause-refused
+called-returns-in_default-selectors-2-clause-refused t c =
+    absurd (called_once c.args.visible.now.scope c.requires.sound c.args.first.now c.args.selectors.now c.requires.stands.0 c.requires.stands.1
+    c.requires.legal (omega (arith, c.in_default-selectors.len_at_least)))
+
+pub converted-returns-in_default-2-clause-refused : goal.converted-returns-in_default-2-clause-refused
+converted-returns-in_default-2-clause-refused t c =
+    behind_outside c.args.visible.now c.args.first.now (selector_trees c.args.selectors.now) c.requires.valueless
+    (converted_once c.args.visible.now.scope c.requires.sound c.args.first.now c.args.visible.now c.args.selectors.now c.args.subtype c.requires.stands
+    c.requires.legal (omega (arith, c.in_default.len_at_least)))
+
+pub conversion-returns-in_default-2-clause-refused : goal.conversion-returns-in_default-2-clause-refused
+conversion-returns-in_default-2-clause-refused t c =
+    absurd (one_converted c.args.visible.now.scope c.requires.sound c.args.first.now c.args.arguments.now c.args.subtype c.requires.stands c.requires.legal
+    (omega (arith, c.in_default.len_at_least)))
+
+pub named-returns-in_default : goal.named-returns-in_default
+named-returns-in_default t c =
+    let v = c.args.visible.now in
+    let all = selector_trees c.args.selectors.now in
+    let made = begins_otherwise v.scope c.args.first.now all c.requires.legal c.requires.sound c.requires.valueless v
+    (stands_first v.scope (number_of v.scope c.args.first.now.name)) refl
+    (λ r u e. c.in_default.not-Part r u (c.stands_first.ensures ∙ e)) (λ u e. c.in_default.not-Named u (c.stands_first.ensures ∙ e))
+    (λ f e. c.in_default.not-Callee f (c.stands_first.ensures ∙ e)) in
+    record { width = tt; refused = begin_outside v c.args.first.now all c.requires.valueless made; emits = tt }
+
+pub element-returns-in_default-2-clause-refused : goal.element-returns-in_default-2-clause-refused
+element-returns-in_default-2-clause-refused t c =
+    let it = array_part c.args.visible.now.scope c.args.subtype c.args.arguments.now c.requires.legal in
+    let one = it.4 in
+    let long = c.in_default.len_at_least in
+    absurd (omega (arith, one, long))
+
+pub element-returns-then-from-gt-WORDS-clause-refused : goal.element-returns-then-from-gt-WORDS-clause-refused
+element-returns-then-from-gt-WORDS-clause-refused t c =
+    let s = c.args.visible.now.scope in
+    inr (inr (inr (elim c.then-from-gt-WORDS.branch [
+      | element-then-from-gt-WORDS-via-then-from-gt-WORDS w ↦ let more = w.if-from-gt-WORDS.true in
+          many_unfit s c.requires.sound c.args.subtype c.in-Some-Array.index c.in-Some-Array.many c.in-Some-Array.last (search rules) (search (rules, more))
+      | element-then-from-gt-WORDS-via-else-from-gt-WORDS+then-from-gt-WORDS-2 w ↦
+          let more = w.if-from-gt-WORDS-2.true in
+          let same = w.from-else-from-gt-WORDS.ensures in
+          large_unfit s c.requires.sound c.args.subtype c.in-Some-Array.index c.in-Some-Array.many c.in-Some-Array.last (search rules) c.words-words.result
+          c.words-words.ensures (search (rules, more, same))
+    ])))
+
+pub element-returns-in_err-checked-clause-refused : goal.element-returns-in_err-checked-clause-refused
+element-returns-in_err-checked-clause-refused t c =
+    let v = c.args.visible.now in
+    let one = one_argument c.args.arguments.now c.in-Expr.e c.argument-item.result c.in-len1.len_at_least c.in-len1.len_below c.argument-item.is c.in-Expr.is in
+    let why = c.in_err-checked.field-0.0 in
+    let whole = subst (λ all. RefusesPath v c.args.self.now c.args.depth c.args.subtype (MoreSelectors (Arguments all) NoSelectors) why) (sym one)
+    (index_refused v c.args.self.now c.args.depth c.args.subtype (expr_tree c.in-Expr.e) c.args.self.now _ c.in-Some-Array.index why (omega arith)
+    c.in_ok-address.ensures.more
+    (index_integers v.scope c.requires.sound c.args.subtype c.in-Some-Array.index c.in-Some-Array.many c.in-Some-Array.last (search rules))
+    c.in_err-checked.ensures.refused) in
+    search (rules, whole)
+
+pub part-returns-in_err-load_block-clause-refused : goal.part-returns-in_err-load_block-clause-refused
+part-returns-in_err-load_block-clause-refused t c =
+    let v = c.args.visible.now in
+    let next = added_here _ _ _ _ c.in_ok-emit.ensures.adds in
+    let behind = c.in_ok-last.ensures.emits.sized in
+    let same = path_counts c.args.selectors.now in
+    let above = c.in_ok-address.ensures.more in
+    let whole = load_refused v c.args.first.now c.args.slot c.requires.stands.0 c.args.subtype c.requires.stands.1 c.requires.there
+    (selector_trees c.args.selectors.now) c.requires.valueless c.args.self.now c.args.depth _ _ c.words-words.result c.in_ok-last.last
+    c.in_err-load_block.field-0.0 c.words-words.ensures c.in_ok-last.ensures.fit (omega (arith, next, behind, same)) (omega (arith, above))
+    c.in_err-load_block.ensures.refused in
+    search (rules, whole)
+
+pub path-returns-in_err-last-clause-refused : goal.path-returns-in_err-last-clause-refused
+path-returns-in_err-last-clause-refused t c =
+    let v = c.args.visible.now in
+    let before = c.loop-selector.invariant.0.sized in
+    let whole = selector_refused v c.args.self.now c.loop-selector.self c.args.depth c.args.subtype c.loop-selector.last c.args.selectors.now
+    c.loop-selector.selector-index c.selector-item.result c.in_err-last.field-0.0 c.loop-selector-test.true c.selector-item.is before
+    c.loop-selector.invariant.3 c.in_err-last.ensures.refused in
+    search (rules, whole)

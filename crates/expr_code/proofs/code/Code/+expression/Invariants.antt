@@ -1,11 +1,11 @@
-use Rattle.std.proofs.Common.{drop, map, take, ◌≤◌, ◌+◌, ◌*◌}
+use Rattle.std.proofs.Common.{drop, map, take, ◌≡◌, ◌≤◌, ◌+◌, ◌*◌}
 use Rattle.ada_tree.specs.ExpressionTree.{argument_tree, selector_tree, selector_trees}
 use Rattle.well_typed.specs.Agreeing.{parameter_subtype}
 use Rattle.expr_code.specs.Actuals.{EmitsActuals}
 use Rattle.expr_code.specs.Branches.{AddsBranches, branch_of}
 use Rattle.expr_code.specs.Code.{here}
 use Rattle.expr_code.specs.Emitting.{EmitsOperands}
-use Rattle.expr_code.specs.Refusing.{operands_size}
+use Rattle.expr_code.specs.Refusing.{KeepsFit, operands_size}
 use Rattle.expr_code.specs.Going.{EmitsPath, IsLegalPath, SelectsAll}
 use Rattle.expr_code.proofs.code.Code.+expression.Given as goal
 
@@ -15,6 +15,7 @@ invariant-elsifs-loop-elsif l = AddsBranches l.visible l.fn.self l.depth l.width
 abbrev pub invariant-actuals-loop-index : goal.invariant-actuals-loop-index
 invariant-actuals-loop-index l =
     EmitsActuals l.visible l.fn.self l.depth (map parameter_subtype (take l.index l.formals)) (map argument_tree (take l.index l.arguments)) l.height l.self
+    × (l.height ≡ l.depth + l.index)
 
 abbrev pub invariant-operands-loop-operand : goal.invariant-operands-loop-operand
 invariant-operands-loop-operand l =
@@ -25,3 +26,4 @@ invariant-path-loop-selector l =
     EmitsPath l.visible l.fn.self l.depth l.fn.subtype (map selector_tree (take l.selector-index l.selectors)) l.last l.self
     × IsLegalPath l.visible.scope l.last (selector_trees (drop l.selector-index l.selectors))
     × SelectsAll l.visible.scope l.fn.subtype (map selector_tree (take l.selector-index l.selectors)) l.last
+    × KeepsFit l.visible.scope l.fn.subtype l.last

@@ -7,22 +7,20 @@ use Rattle.expr_code.specs.Going.{AddsOffset}
 use Rattle.expr_code.proofs.Growing.{pushes_same}
 use Rattle.expr_code.proofs.code.Code.offset.Goals as goal
 
-pub returns : goal.returns
-returns c =
+pub returns-clause-adds : goal.returns-clause-adds
+returns-clause-adds c =
     let subtract : Adds c.emit.new.self (c.args.depth + 1) op.Subtract c.emit-2.new.self = subst (λ n. Adds c.emit.new.self n op.Subtract c.emit-2.new.self) c.in_ok-two.ensures.more c.in_ok-emit-2.ensures.adds in
     let size = pushes_same c.emit-2.new.self c.emit-3.new.self c.args.depth _ (pos c.args.words) (search rules) c.in_ok-emit-3.ensures.adds in
     let multiply : Adds c.emit-3.new.self (c.args.depth + 1) op.Multiply c.emit-4.new.self = subst (λ n. Adds c.emit-3.new.self n op.Multiply c.emit-4.new.self) c.in_ok-two.ensures.more c.in_ok-emit-4.ensures.adds in
-    record {
-      adds = on_ok_weaker _ (λ p.
-          let all : AddsOffset c.args.self.now c.args.depth c.args.first c.args.words c.emit-5.new.self = record {
-            pushed = c.emit.new.self;
-            counted = c.emit-2.new.self;
-            sized = c.emit-3.new.self;
-            scaled = c.emit-4.new.self;
-            push = pushes_same c.args.self.now c.emit.new.self c.args.depth _ c.args.first (search rules) c.in_ok-emit.ensures.adds;
-            subtract = subtract;
-            size = size;
-            multiply = multiply;
-            add = p;
-          } in all) c.emit-5.ensures.adds;
-    }
+    on_ok_weaker _ (λ p.
+    let all : AddsOffset c.args.self.now c.args.depth c.args.first c.args.words c.emit-5.new.self = record {
+      pushed = c.emit.new.self;
+      counted = c.emit-2.new.self;
+      sized = c.emit-3.new.self;
+      scaled = c.emit-4.new.self;
+      push = pushes_same c.args.self.now c.emit.new.self c.args.depth _ c.args.first (search rules) c.in_ok-emit.ensures.adds;
+      subtract = subtract;
+      size = size;
+      multiply = multiply;
+      add = p;
+    } in all) c.emit-5.ensures.adds

@@ -1,0 +1,270 @@
+-- What legality says of the names that code is made of: what stands behind a type, a function or an object, and in the parentheses there.
+use Rattle.std.proofs.Common.{◌≡◌, ◌≤◌, ◌++◌, ◌⊎◌, inl, inr, ℕ, zero, suc, List, [], ◌∷◌, length, Bool, true, false, not, Option, Some, None, refl, sym, ap, ◌∙◌, subst, arith}
+use Rattle.std.specs.Prelude.{slice_get}
+use Rattle.base.specs.declared.faults.TheConstants.{NAME_NOT_VISIBLE, NO_MEANING}
+use Rattle.ada_tree.specs.declared.declaration.Mode.TheVariants as mode
+use Rattle.ada_tree.specs.declared.expression.Argument.{Argument}
+use Rattle.ada_tree.specs.declared.expression.Identifier.{Identifier}
+use Rattle.ada_tree.specs.declared.expression.Selector.{Selector}
+use Rattle.ada_tree.specs.ExpressionTree as tree
+use Rattle.ada_tree.specs.ExpressionTree.{argument_tree, argument_trees, ArgumentTree, ArgumentTrees, Arguments, Attribute, Component, MoreArguments, MoreSelectors, NoArguments, NoSelectors, selector_trees, SelectorTree, SelectorTrees, Text}
+use Rattle.types.specs.declared.entity.FormalParameter.{FormalParameter}
+use Rattle.types.specs.declared.entity.Role.{Role}
+use Rattle.types.specs.declared.entity.Subtype.{Subtype}
+use Rattle.types.specs.declared.standing.Callee.{Callee}
+use Rattle.types.specs.declared.standing.Standing.{Standing}
+use Rattle.types.specs.declared.standing.Standing.TheVariants as standing
+use Rattle.types.specs.Entities.{Arrays, Constant, Doubtful, Entity, Entry, Exception, Integers, LibraryUnit, Literal, Object, OfSubtype, OfType, Predefined, Profile, Protected, Put, Subprogram, Task, TypeForm}
+use Rattle.types.specs.Evaluating.{fixed_value}
+use Rattle.types.specs.Scopes.{form_at, is_visible, number_of, Scope}
+use Rattle.types.specs.Standings.{call_stands, callee_profile, conversion_stands, count, element_stands, is_single, result_stands, select, select_all, standing_of, stands_first, stands_for}
+use Rattle.expr_rules.specs.declared.own.Wanted.TheVariants.{OfType}
+use Rattle.expr_rules.specs.ExpressionRules.{arguments_faults, selector_faults, selectors_faults}
+use Rattle.expr_rules.specs.Faults.{Faults, rule}
+use Rattle.expr_rules.specs.NameRules.{is_doubtful, part_rule, value_rule}
+use Rattle.expr_rules.proofs.TypedLaw.{back_empty, front_empty, same_number, unbroken}
+use Rattle.well_typed.specs.SoundScopes.{AreIn, IsSoundProfile, IsSoundResult, SoundScope}
+use Rattle.well_typed.proofs.Denoting.{empty_ends, is_empty}
+use Rattle.well_typed.proofs.Expressions.{not_false}
+use Rattle.well_typed.proofs.Goods.{Good, GoodCallee, good_first, good_select, part_unbroken}
+use Rattle.well_typed.proofs.Positions.{named, same_some}
+use Rattle.expr_code.specs.Emitting.{IsLegal}
+use Rattle.expr_code.specs.Going.{IsLegalPart}
+use Rattle.expr_code.specs.Refusing.{is_made, selectors_outside}
+use Rattle.expr_code.specs.Seeing.{NamesProfile}
+use Rattle.expr_code.specs.declared.visible.Visible.{Visible}
+use Rattle.expr_code.proofs.Actuals.{counted}
+
+-- ---- lists of one
+
+-- two selectors are no single one
+two_selectors : (all : List Selector) (a : ArgumentTrees) → 2 ≤ length all → selector_trees all ≡ MoreSelectors (Arguments a) NoSelectors → ⊥
+two_selectors [] a more is = absurd (omega (arith, more))
+two_selectors (x ∷ []) a more is = absurd (omega (arith, more))
+two_selectors (x ∷ y ∷ all) a more is = cc
+
+some_selectors : (all : List Selector) → 2 ≤ length all → selector_trees all ≡ NoSelectors → ⊥
+some_selectors [] more is = absurd (omega (arith, more))
+some_selectors (x ∷ all) more is = cc
+
+counts_one : (all : List Argument) → is_single (argument_trees all) ≡ true → length all ≡ 1
+counts_one all h = sym (counted all) ∙ same_number (count (argument_trees all)) 1 h
+
+-- ---- legal names
+
+module _ (s : Scope) (first : Identifier) (selectors : SelectorTrees) (legal : IsLegal s (tree.Named first selectors)) where
+  abbrev begins : Standing
+  begins = stands_first s (number_of s first.name)
+
+  abbrev hidden : Faults
+  hidden = rule NAME_NOT_VISIBLE first.place (not (is_visible s first.name))
+
+  abbrev behind : Faults
+  behind = selectors_faults s first.place begins selectors
+
+  two : hidden ++ behind ≡ []
+  two = front_empty (hidden ++ behind) (value_rule first.place (standing_of s first selectors)) legal.unbroken
+
+  -- the rules of its parts, and of the whole
+  pub parts_unbroken : (w : Standing) → begins ≡ w → selectors_faults s first.place w selectors ≡ []
+  parts_unbroken w is = subst (λ u. selectors_faults s first.place u selectors ≡ []) is (back_empty hidden behind two)
+
+  pub end_unbroken : (w : Standing) → begins ≡ w → value_rule first.place (select_all s w selectors) ≡ []
+  end_unbroken w is = subst (λ u. value_rule first.place (select_all s u selectors) ≡ []) is
+      (back_empty (hidden ++ behind) (value_rule first.place (standing_of s first selectors)) legal.unbroken)
+
+  visible_first : is_visible s first.name ≡ true
+  visible_first = not_false (is_visible s first.name) (unbroken NAME_NOT_VISIBLE first.place (not (is_visible s first.name)) (front_empty hidden behind two))
+
+  never_given : (n : ℕ) (e : Entity) (t : Subtype) → stands_for n (Some e) ≡ standing.Given t None → ⊥
+  never_given n (OfType form u) t h = cc
+  never_given n (OfSubtype u) t h = cc
+  never_given n (Object r u) t h = cc
+  never_given n (Constant u v) t h = cc
+  never_given n (Literal b) t h = cc
+  never_given n Exception t h = cc
+  never_given n (Subprogram p) t h = cc
+  never_given n (Entry p) t h = cc
+  never_given n (Predefined o p) t h = cc
+  never_given n Put t h = cc
+  never_given n (Task priority) t h = cc
+  never_given n (Protected o) t h = cc
+  never_given n LibraryUnit t h = cc
+  never_given n Doubtful t h = cc
+
+  module _ (sound : SoundScope s) where
+    good_begin : (w : Standing) → begins ≡ w → Good s w
+    good_begin w is =
+        let x = named s first.name visible_first in
+        subst (Good s) (sym (ap (stands_first s) x.numbered ∙ ap (stands_for x.number) x.stands) ∙ is) (good_first s sound x.number x.entity x.stands)
+
+    -- a name without a known value begins with an object, a type, a function or a protected object
+    module _ (valueless : fixed_value (standing_of s first selectors) ≡ None) where
+      nothing_else : (w : Standing) → begins ≡ w → is_empty s w ≡ true → ⊥
+      nothing_else w is none =
+          empty_ends s sound first.place selectors w none (good_begin w is) (parts_unbroken w is) (end_unbroken w is)
+          (subst (λ u. fixed_value (select_all s u selectors) ≡ None) is valueless)
+
+      not_given : (t : Subtype) → begins ≡ standing.Given t None → ⊥
+      not_given t is =
+          let x = named s first.name visible_first in
+          never_given x.number x.entity t (sym (ap (stands_first s) x.numbered ∙ ap (stands_for x.number) x.stands) ∙ is)
+
+      pub begins_otherwise : (v : Visible) (w : Standing) → begins ≡ w
+          → ((r : Role) (t : Subtype) → w ≡ standing.Part r t → ⊥)
+          → ((t : Subtype) → w ≡ standing.Named t → ⊥)
+          → ((f : Callee) → w ≡ standing.Callee f → ⊥)
+          → is_made v first w ≡ false
+      begins_otherwise v (standing.Part r t) is part type callee = absurd (part r t refl)
+      begins_otherwise v (standing.Named t) is part type callee = absurd (type t refl)
+      begins_otherwise v (standing.Callee f) is part type callee = absurd (callee f refl)
+      begins_otherwise v (standing.Protected n) is part type callee = refl
+      begins_otherwise v (standing.Given t None) is part type callee = absurd (not_given t is)
+      begins_otherwise v (standing.Given t (Some x)) is part type callee = absurd (nothing_else (standing.Given t (Some x)) is refl)
+      begins_otherwise v (standing.Fixed t x) is part type callee = absurd (nothing_else (standing.Fixed t x) is refl)
+      begins_otherwise v (standing.Plain z) is part type callee = absurd (nothing_else (standing.Plain z) is refl)
+      begins_otherwise v standing.Put is part type callee = absurd (nothing_else standing.Put is refl)
+      begins_otherwise v standing.Statement is part type callee = absurd (nothing_else standing.Statement is refl)
+      begins_otherwise v standing.Task is part type callee = absurd (nothing_else standing.Task is refl)
+      begins_otherwise v standing.Other is part type callee = absurd (nothing_else standing.Other is refl)
+      begins_otherwise v standing.Doubtful is part type callee = absurd (nothing_else standing.Doubtful is refl)
+
+-- a type is no value
+pub no_type_alone : (s : Scope) (first : Identifier) (t : Subtype) → IsLegal s (tree.Named first NoSelectors)
+    → stands_first s (number_of s first.name) ≡ standing.Named t → ⊥
+no_type_alone s first t legal is = let h = end_unbroken s first NoSelectors legal (standing.Named t) is in cc
+
+module _ (s : Scope) (sound : SoundScope s) where
+  -- nothing stands behind a value
+  no_more : (place : ℕ) (t : Subtype) (rest : SelectorTrees) → selectors_faults s place (standing.Given t None) rest ≡ [] → rest ≡ NoSelectors
+  no_more place t NoSelectors h = refl
+  no_more place t (MoreSelectors x rest) h =
+      absurd (good_select s sound place (standing.Given t None) x tt
+      (part_unbroken s sound place (standing.Given t None) x (front_empty (selector_faults s place (standing.Given t None) x)
+      (selectors_faults s place (select s (standing.Given t None) x) rest) h)))
+
+  no_more_statement : (place : ℕ) (rest : SelectorTrees) → selectors_faults s place standing.Statement rest ≡ [] → rest ≡ NoSelectors
+  no_more_statement place NoSelectors h = refl
+  no_more_statement place (MoreSelectors x rest) h =
+      absurd (good_select s sound place standing.Statement x tt
+      (part_unbroken s sound place standing.Statement x (front_empty (selector_faults s place standing.Statement x)
+      (selectors_faults s place (select s standing.Statement x) rest) h)))
+
+  module _ (place : ℕ) (w : Standing) (x : SelectorTree) (rest : SelectorTrees) (h : selectors_faults s place w (MoreSelectors x rest) ≡ []) where
+    part_here : part_rule s place w x ≡ []
+    part_here = part_unbroken s sound place w x (front_empty (selector_faults s place w x) (selectors_faults s place (select s w x) rest) h)
+
+    parts_later : selectors_faults s place (select s w x) rest ≡ []
+    parts_later = back_empty (selector_faults s place w x) (selectors_faults s place (select s w x) rest) h
+
+  -- ---- conversions
+
+  converts_single : (t : Subtype) (o : Option TypeForm) (b : Bool) → is_doubtful (conversion_stands t o b) ≡ false → (o ≡ Some Integers) × (b ≡ true)
+  converts_single t (Some Integers) true h = (refl, refl)
+  converts_single t o b h = absurd cc
+
+  module _ (place : ℕ) (t : Subtype) where
+    converted_alone : (a : ArgumentTrees) (rest : SelectorTrees) → selectors_faults s place (standing.Named t) (MoreSelectors (Arguments a) rest) ≡ []
+        → rest ≡ NoSelectors
+    converted_alone a rest h =
+        let two = converts_single t (form_at s t.type_number) (is_single a)
+        (unbroken NO_MEANING place _ (part_here place (standing.Named t) (Arguments a) rest h)) in
+        no_more place t rest
+        (subst (λ w. selectors_faults s place w rest ≡ []) ((λ j. conversion_stands t (two.0 j) (two.1 j)))
+        (parts_later place (standing.Named t) (Arguments a) rest h))
+
+    -- a type's name has one operand behind it, or an attribute
+    conversion_shape : (v : Visible) (selectors : SelectorTrees) → selectors_faults s place (standing.Named t) selectors ≡ []
+        → value_rule place (select_all s (standing.Named t) selectors) ≡ []
+        → (selectors_outside v selectors ≡ true) ⊎ ((a : ArgumentTrees) × (selectors ≡ MoreSelectors (Arguments a) NoSelectors))
+    conversion_shape v NoSelectors h e = cc
+    conversion_shape v (MoreSelectors (Component name) rest) h e =
+        absurd (let k = part_here place (standing.Named t) (Component name) rest h in cc)
+    conversion_shape v (MoreSelectors (Attribute name) rest) h e = inl refl
+    conversion_shape v (MoreSelectors (Arguments a) rest) h e = inr (a, ap (MoreSelectors (Arguments a)) (converted_alone a rest h))
+
+    converts_one : (all : List Argument) → selectors_faults s place (standing.Named t) (MoreSelectors (Arguments (argument_trees all)) NoSelectors) ≡ []
+        → length all ≡ 1
+    converts_one all h =
+        counts_one all (converts_single t (form_at s t.type_number) (is_single (argument_trees all))
+        (unbroken NO_MEANING place _ (part_here place (standing.Named t) (Arguments (argument_trees all)) NoSelectors h))).1
+
+  -- ---- calls
+
+  module _ (place : ℕ) (f : Callee) (good : Good s (standing.Callee f)) where
+    result_alone : (r : Option Subtype) (rest : SelectorTrees) → selectors_faults s place (result_stands r) rest ≡ [] → rest ≡ NoSelectors
+    result_alone (Some t) rest h = no_more place t rest h
+    result_alone None rest h = no_more_statement place rest h
+
+    called_alone : (o : Option Profile) → callee_profile s f ≡ o → (rest : SelectorTrees) → selectors_faults s place (call_stands o) rest ≡ []
+        → rest ≡ NoSelectors
+    called_alone (Some p) is rest h = result_alone p.result rest h
+    called_alone None is rest h = absurd (subst (GoodCallee s) is good)
+
+    -- a function's name has its actual parameters behind it, and nothing more
+    call_shape : (selectors : SelectorTrees) → selectors_faults s place (standing.Callee f) selectors ≡ []
+        → (selectors ≡ NoSelectors) ⊎ ((a : ArgumentTrees) × (selectors ≡ MoreSelectors (Arguments a) NoSelectors))
+    call_shape NoSelectors h = inl refl
+    call_shape (MoreSelectors (Component name) rest) h = absurd (let k = part_here place (standing.Callee f) (Component name) rest h in cc)
+    call_shape (MoreSelectors (Attribute name) rest) h = absurd (let k = part_here place (standing.Callee f) (Attribute name) rest h in cc)
+    call_shape (MoreSelectors (Arguments a) rest) h =
+        inr (a, ap (MoreSelectors (Arguments a)) (called_alone (callee_profile s f) refl rest (parts_later place (standing.Callee f) (Arguments a) rest h)))
+
+-- ---- lists of selectors and arguments
+
+module _ (s : Scope) (sound : SoundScope s) (first : Identifier) where
+  pub called_once : (all : List Selector) (f : Callee) → stands_first s (number_of s first.name) ≡ standing.Callee f
+      → IsLegal s (tree.Named first (selector_trees all)) → 2 ≤ length all → ⊥
+  called_once all f stands legal long =
+      elim (call_shape s sound first.place f (good_begin s first (selector_trees all) legal sound (standing.Callee f) stands) (selector_trees all)
+      (parts_unbroken s first (selector_trees all) legal (standing.Callee f) stands)) [
+        | inl none ↦ some_selectors all long none
+        | inr one ↦ two_selectors all one.0 long one.1
+      ]
+
+  pub converted_once : (v : Visible) (all : List Selector) (t : Subtype) → stands_first s (number_of s first.name) ≡ standing.Named t
+      → IsLegal s (tree.Named first (selector_trees all)) → 2 ≤ length all → selectors_outside v (selector_trees all) ≡ true
+  converted_once v all t stands legal long =
+      elim (conversion_shape s sound first.place t v (selector_trees all) (parts_unbroken s first (selector_trees all) legal (standing.Named t) stands)
+      (end_unbroken s first (selector_trees all) legal (standing.Named t) stands)) [
+        | inl out ↦ out
+        | inr one ↦ absurd (two_selectors all one.0 long one.1)
+      ]
+
+  pub one_converted : (all : List Argument) (t : Subtype) → stands_first s (number_of s first.name) ≡ standing.Named t
+      → IsLegal s (tree.Named first (MoreSelectors (Arguments (argument_trees all)) NoSelectors)) → 2 ≤ length all → ⊥
+  one_converted all t stands legal long =
+      let one = converts_one s sound first.place t all
+      (parts_unbroken s first (MoreSelectors (Arguments (argument_trees all)) NoSelectors) legal (standing.Named t) stands) in
+      omega (arith, one, long)
+
+-- a function's formals are all of mode `in`
+pub ins : (s : Scope) (sound : SoundScope s) (name : List ℕ) (profile : Profile) → NamesProfile s name profile → (t : Subtype) → profile.result ≡ Some t
+    → AreIn profile.formals
+ins s sound name profile names t is =
+    let x : IsSoundProfile s profile = sound.each names.number (Subprogram profile) names.stands in
+    let r : IsSoundResult s profile.formals (Some t) = subst (IsSoundResult s profile.formals) is x.result in
+    r.1
+
+pub in_at : (all : List FormalParameter) (n : ℕ) (f : FormalParameter) → slice_get all n ≡ Some f → AreIn all → f.mode ≡ mode.In
+in_at [] n f is h = cc
+in_at (x ∷ all) zero f is h = subst (λ y. y.mode ≡ mode.In) (same_some x f is) h.0
+in_at (x ∷ all) (suc n) f is h = in_at all n f is h.1
+
+-- ---- parts
+
+module _ (s : Scope) (t : Subtype) where
+  arrays : (r : Role) (o : Option TypeForm) (b : Bool) → is_doubtful (element_stands r o b) ≡ false
+      → (index : Subtype) × (many : ℕ) × (element : Subtype) × (o ≡ Some (Arrays index many element)) × (b ≡ true)
+  arrays r (Some (Arrays index many element)) true h = (index, many, element, refl, refl)
+  arrays r o b h = absurd cc
+
+  -- what has an index is an array, and the index is one expression
+  pub array_part : (all : List Argument) → IsLegalPart s t (Arguments (argument_trees all))
+      → (index : Subtype) × (many : ℕ) × (element : Subtype) × (form_at s t.type_number ≡ Some (Arrays index many element)) × (length all ≡ 1)
+  array_part all h =
+      let given = argument_trees all in
+      let it = arrays h.role (form_at s t.type_number) (is_single given)
+      (unbroken NO_MEANING h.place _ (front_empty (part_rule s h.place (standing.Part h.role t) (Arguments given))
+      (arguments_faults s (standing.Part h.role t) 0 given) h.unbroken)) in
+      (it.0, it.1, it.2, it.3, counts_one all it.4)
