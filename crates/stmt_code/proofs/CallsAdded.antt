@@ -73,7 +73,7 @@ callee_is program first (MoreSelectors (Arguments a) (MoreSelectors y rest)) x h
 callee_is program first (MoreSelectors (Component name) rest) x h = cc
 callee_is program first (MoreSelectors (Attribute name) rest) x h = cc
 
-size_is : (path : SelectorTrees) (x : ArgumentTrees) → actuals_behind path ≡ Some x → arguments_size x ≤ selectors_size path
+pub size_is : (path : SelectorTrees) (x : ArgumentTrees) → actuals_behind path ≡ Some x → arguments_size x ≤ selectors_size path
 size_is NoSelectors x h = (let same = ap arguments_size (same_some NoArguments x h) in omega (arith, same))
 size_is (MoreSelectors (Arguments a) NoSelectors) x h = (let same = ap arguments_size (same_some a x h) in omega (arith, same))
 size_is (MoreSelectors (Arguments a) (MoreSelectors y rest)) x h = cc

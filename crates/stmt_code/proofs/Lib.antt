@@ -31,7 +31,7 @@ mod Targeting
 mod AssigningParts
 mod Deciding
 mod Widening
-mod Adding
+pub mod Adding
 pub mod Opening
 mod Repeating
 mod Testing
@@ -67,3 +67,10 @@ mod Turned
 mod Bounded
 mod Ranged
 mod WholeBounds
+mod Refused
+mod Lacking
+mod PartsRefused
+mod FormalsRefused
+mod CallsRefused
+mod BodiesRefused
+mod Choosable

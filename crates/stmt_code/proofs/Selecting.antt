@@ -79,7 +79,7 @@ tests_extend s label [] old new same = subst (Extends old) (sym same) (extends_s
 tests_extend s label (c ∷ cs) old new (mid, t, rest) =
     extends_trans old mid new (test_extends old (scalar_word t.value) label mid t.adds) (tests_extend s label cs mid new rest)
 
-tests_here : (s : Scope) (label : ℕ) (cs : List ExprTree) (old new : Code) → TestsAll s label old cs new → here new ≡ here old + 4 * length cs
+pub tests_here : (s : Scope) (label : ℕ) (cs : List ExprTree) (old new : Code) → TestsAll s label old cs new → here new ≡ here old + 4 * length cs
 tests_here s label [] old new same = let e = ap here same in omega (arith, e)
 tests_here s label (c ∷ cs) old new (mid, t, rest) =
     let one = test_here old (scalar_word t.value) label mid t.adds in
@@ -100,7 +100,7 @@ expr_counts (tree.Conditional place c v more last) = omega arith
 expr_counts (tree.Unary operator place e) = omega arith
 expr_counts (tree.Binary operator a b) = omega arith
 
-all_count : (cs : List ExprTree) → length cs ≤ total expr_size cs
+pub all_count : (cs : List ExprTree) → length cs ≤ total expr_size cs
 all_count [] = omega arith
 all_count (c ∷ cs) = let one = expr_counts c in let more = all_count cs in omega (arith, one, more)
 

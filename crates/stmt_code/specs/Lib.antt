@@ -17,3 +17,4 @@ pub mod Formals
 pub mod Subprograms
 pub mod Whole
 pub mod Turns
+pub mod Refusing

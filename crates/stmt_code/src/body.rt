@@ -1,13 +1,15 @@
 //! The code of bodies of procedures (RM 6.3).
-ghost use Rattle.std.specs.Prelude.{◌≡◌, ◌≤◌, ◌+◌, false, map, suc, true, IfOk, None, OnOk};
+ghost use Rattle.std.specs.Prelude.{◌≡◌, ◌≤◌, ◌+◌, false, map, max, suc, true, IfErr, IfOk, None, OnOk};
 ghost use Rattle.base.specs.declared.limits.TheConstants.{FRAME_WORDS, INSTRUCTIONS};
 ghost use Rattle.ada_tree.specs.StatementTree.{declaration_tree, stmt_trees};
 ghost use Rattle.expr_code.specs.Code.{here};
+ghost use Rattle.expr_code.specs.Refusing.{IsRefused};
 ghost use Rattle.expr_code.specs.Flows.{Flows};
 ghost use Rattle.image.specs.Rules.{is_block};
 ghost use Rattle.meaning.specs.Calls.{is_out};
 ghost use Rattle.stmt_code.specs.Emitting.{EmitsObject, EmitsRun, HasEntries, IsLegalRun};
 ghost use Rattle.stmt_code.specs.Formals.{AddsLoaded, AddsReturned, HasRoomAt, HasWord, Initialises, Returns, ReturnsOne};
+ghost use Rattle.stmt_code.specs.Refusing.{given_back, given_if_any, RefusesOut, RefusesOuts, RefusesReturned, RefusesRun};
 ghost use Rattle.types.specs.Layouts.{words_of};
 ghost use Rattle.well_typed.specs.SoundScopes.{SoundScope};
 
@@ -30,6 +32,7 @@ fn initialise(code: &mut Code, visible: &Visible, formal: &PlacedFormal) -> Resu
     ensures out { OnOk result (is_out formal.now.mode ≡ true → EmitsObject visible.now code.old formal.now.offset formal.now.subtype None code.new) }
     ensures past { OnOk result (is_out formal.now.mode ≡ false → code.new ≡ code.old) }
     ensures few { OnOk result (here code.new ≤ here code.old + (2 + words_of visible.now.scope formal.now.subtype)) }
+    ensures refused { IfErr result (λ why. RefusesOut visible.now code.old formal.now why) }
 {
     initial_values_have_shape();
     values_have_words();
@@ -47,6 +50,7 @@ pub(crate) fn initialise_all(
 ) -> Result<(), Refusal>
     requires sound { SoundScope visible.now.scope }
     ensures adds { OnOk result (Initialises visible.now.scope code.old formals.now code.new) }
+    ensures refused { IfErr result (λ why. RefusesOuts visible.now code.old formals.now why) }
 {
     initial_values_have_shape();
     values_have_words();
@@ -60,6 +64,7 @@ pub(crate) fn initialise_all(
 fn load_block(code: &mut Code, depth: u16, offset: u16, many: u16) -> Result<(), Refusal>
     ensures adds { OnOk result (AddsLoaded code.old offset many code.new) }
     ensures flows { OnOk result (is_block many ≡ true → Flows (HasWord offset) code.old depth code.new (depth + many)) }
+    ensures refused { IfErr result (λ why. IsRefused (here code.old + 2) (depth + 1) false why) }
 {
     let load = Operation::LoadBlock {
         region: Region::Locals,
@@ -76,6 +81,7 @@ fn load(code: &mut Code, depth: u16, offset: u16, many: u16) -> Result<u16, Refu
     ensures few { OnOk result (many ≤ FRAME_WORDS) }
     ensures adds { OnOk result (AddsLoaded code.old offset many code.new) }
     ensures flows { IfOk result (λ height. 1 ≤ many → Flows (HasWord offset) code.old depth code.new height) }
+    ensures refused { IfErr result (λ why. IsRefused (here code.old + 2) (depth + max 1 many) false why) }
 {
     let height = behind(depth, many)?;
     if many == 1 {
@@ -97,6 +103,7 @@ fn give_back(
     ensures high { IfOk result (λ height. height ≡ suc (depth + words_of scope.now formal.now.subtype)) }
     ensures adds { OnOk result (AddsReturned scope.now code.old address formal.now code.new) }
     ensures flows { IfOk result (λ height. Flows (HasRoomAt scope.now address formal.now) code.old depth code.new height) }
+    ensures refused { IfErr result (λ why. IsRefused (here code.old + 3) (depth + given_back scope.now formal.now) false why) }
 {
     code.emit(depth, Operation::LoadLocal(address))?;
     let many = scope.words(formal.subtype);
@@ -112,6 +119,7 @@ fn give_back_if_any(
     formal: &PlacedFormal,
 ) -> Result<u16, Refusal>
     ensures gives { IfOk result (λ height. ReturnsOne scope.now code.old depth formal.now height code.new) }
+    ensures refused { IfErr result (λ why. IsRefused (here code.old + 3) (depth + given_if_any scope.now formal.now) false why) }
 {
     match formal.address {
         Some(address) => {
@@ -131,6 +139,7 @@ pub(crate) fn return_all(
 ) -> Result<u16, Refusal>
     ensures returns { IfOk result (λ height. Returns scope.now code.old formals.now height code.new) }
     ensures few { OnOk result (here code.new ≤ INSTRUCTIONS) }
+    ensures refused { IfErr result (λ why. RefusesReturned scope.now code.old formals.now why) }
 {
     let mut height = 0;
     for given in 0..formals.len() {
@@ -156,6 +165,7 @@ impl Draft {
         requires entries { HasEntries visible.old }
         requires legal { IsLegalRun visible.old.scope (map declaration_tree declarations.now) (stmt_trees statements.now) }
         ensures emits { OnOk result (EmitsRun visible.old self.old (map declaration_tree declarations.now) (stmt_trees statements.now) self.new) }
+        ensures refused { IfErr result (λ why. RefusesRun visible.old self.old (map declaration_tree declarations.now) (stmt_trees statements.now) self.new why) }
         ensures same { OnOk result (visible.new ≡ visible.old) }
     {
         names_are_added();

@@ -1,5 +1,5 @@
 //! The code of calls of procedures (RM 6.4): the actual parameters in order, each checked against the subtype of its formal, the call, and what is copied back.
-ghost use Rattle.std.specs.Prelude.{◌≡◌, ◌∷◌, ◌++◌, [], length, map, option_map, take, true, IfOk, OnOk};
+ghost use Rattle.std.specs.Prelude.{◌≡◌, ◌∷◌, ◌++◌, [], length, map, option_map, take, true, IfErr, IfOk, OnOk};
 ghost use Rattle.ada_tree.specs.ExpressionTree.{argument_tree, argument_trees, expr_tree, name_tree};
 ghost use Rattle.ada_tree.specs.Size.{total};
 ghost use Rattle.ada_tree.specs.StatementTree.{Call};
@@ -9,6 +9,8 @@ ghost use Rattle.expr_code.specs.Seeing.{NamesProfile};
 ghost use Rattle.image.specs.Rules.{is_block};
 ghost use Rattle.stmt_code.specs.Emitting.{EmitsStatement, IsLegal};
 ghost use Rattle.stmt_code.specs.Passing.{actuals_behind, AddsActuals, AddsCheck, AddsCopy, AddsRange, AddsValue, copied_width, EmitsCopies, EmitsTarget, holds_variables, loaded_at};
+ghost use Rattle.stmt_code.specs.Bounds.{stmt_bound};
+ghost use Rattle.stmt_code.specs.Refusing.{actuals_needs, call_needs, copies_needs, invoked_needs, IsNeeding, Refuses};
 ghost use Rattle.stmt_code.specs.Statements.{Ways};
 ghost use Rattle.types.specs.Entities.{profile_value};
 ghost use Rattle.types.specs.Layouts.{words_of};
@@ -210,6 +212,7 @@ fn add_actuals(
     requires known { AreKnown visible.now.scope formals.now }
     requires legal { ArePassedLegally visible.now.scope formals.now (map argument_tree arguments.now) }
     ensures emits { IfOk result (λ height. AddsActuals visible.now code.old 0 (take (length arguments.now) formals.now) (map argument_tree arguments.now) destinations.old.items destinations.new.items height code.new) }
+    ensures refused { IfErr result (λ why. IsNeeding 0 (actuals_needs (map argument_tree arguments.now)) why) }
 {
     let mut height = 0;
     for (index, argument) in arguments.iter().enumerate() {
@@ -223,7 +226,8 @@ fn add_actuals(
 
 // How many words come back with what is copied back.
 fn copied_words(visible: &Visible, destinations: &[Destination]) -> Result<u16, Refusal>
-    ensures { IfOk result (λ words. words ≡ total (copied_width visible.now.scope) destinations.now) }
+    ensures words { IfOk result (λ words. words ≡ total (copied_width visible.now.scope) destinations.now) }
+    ensures refused { IfErr result (λ why. IsNeeding 0 (copies_needs destinations.now) why) }
 {
     let mut words = 0;
     for destination in destinations {
@@ -261,6 +265,7 @@ fn add_copies(
     destinations: &[Destination],
 ) -> Result<(), Refusal>
     ensures emits { OnOk result (EmitsCopies visible.now code.old destinations.now 0 code.new) }
+    ensures refused { IfErr result (λ why. IsNeeding 0 (copies_needs destinations.now) why) }
 {
     agreement_is_kept();
     quiet_stays();
@@ -278,6 +283,7 @@ impl Draft {
         requires sound { SoundScope visible.now.scope }
         requires legal { IsLegal visible.now.scope (Call (name_tree name.now)) }
         ensures emits { (w : Ways) → OnOk result (EmitsStatement visible.now w self.old (Call (name_tree name.now)) self.new) }
+        ensures refused { IfErr result (λ why. Refuses self.old self.new (stmt_bound visible.now.scope (Call (name_tree name.now))) (call_needs visible.now (name_tree name.now)) why) }
     {
         match visible.profile(&name.first.name) {
             Some(profile) => self.invoke(visible, name, profile),
@@ -296,6 +302,7 @@ impl Draft {
         requires names { NamesProfile visible.now.scope name.now.first.name (profile_value profile.now) }
         requires legal { IsLegal visible.now.scope (Call (name_tree name.now)) }
         ensures emits { (w : Ways) → OnOk result (EmitsStatement visible.now w self.old (Call (name_tree name.now)) self.new) }
+        ensures refused { IfErr result (λ why. Refuses self.old self.new (stmt_bound visible.now.scope (Call (name_tree name.now))) (invoked_needs visible.now (name_tree name.now)) why) }
     {
         quiet_stays();
         let Some(number) = visible.subprogram(&name.first.name) else {

@@ -1,10 +1,13 @@
 //! The code of case statements (RM 5.4): the value stays on the operand stack until an alternative is found.
-ghost use Rattle.std.specs.Prelude.{◌≡◌, ◌+◌, ◌*◌, ◌∷◌, [], map, IfOk, OnOk};
+ghost use Rattle.std.specs.Prelude.{◌≡◌, ◌+◌, ◌*◌, ◌∷◌, [], false, length, map, IfErr, IfOk, OnOk};
 ghost use Rattle.ada_tree.specs.ExpressionTree.{expr_tree};
-ghost use Rattle.ada_tree.specs.StatementTree.{alternative_tree, alternative_trees, Case, choices_tree, stmt_trees};
+ghost use Rattle.ada_tree.specs.StatementTree.{alternative_tree, alternative_trees, alternatives_of, Case, choices_tree, stmt_trees, Values};
+ghost use Rattle.ada_tree.specs.Size.{choices_size};
 ghost use Rattle.expr_code.specs.Code.{here};
+ghost use Rattle.expr_code.specs.Refusing.{IsRefused};
 ghost use Rattle.stmt_code.specs.Alternatives.{AddsAlternatives, AddsChoices, AddsTest, AddsValues, AreLegalAlternatives, AreLegalChoices, TestsAll};
 ghost use Rattle.stmt_code.specs.Emitting.{AreLegal, EmitsStatement, HasEntries, IsLegal, ways_of};
+ghost use Rattle.stmt_code.specs.Refusing.{choices_fault, IsNeeding, RefusesAlternatives, RefusesChoices, RefusesStatement, stacked_unless};
 ghost use Rattle.stmt_rules.specs.CaseRules.{selecting_faults};
 ghost use Rattle.well_typed.specs.SoundScopes.{SoundScope};
 
@@ -22,6 +25,7 @@ use well_typed::laws::calls_are_typed;
 // Adds a test of the value: a copy of it, the word of a choice, whether they are equal, and a jump where they are.
 fn add_test(code: &mut Code, word: i64, label: u16) -> Result<(), Refusal>
     ensures adds { OnOk result (AddsTest code.old word label code.new) }
+    ensures refused { IfErr result (λ why. IsRefused (here code.old + 4) 3 false why) }
 {
     code.emit(1, Operation::Duplicate)?;
     code.emit(2, Operation::Push(word))?;
@@ -31,7 +35,8 @@ fn add_test(code: &mut Code, word: i64, label: u16) -> Result<(), Refusal>
 
 // The place behind so many tests and the jump that follows them.
 fn behind_tests(code: &Code, tests: usize) -> Result<u16, Refusal>
-    ensures { IfOk result (λ label. label ≡ here code.now + 4 * tests + 1) }
+    ensures label { IfOk result (λ label. label ≡ here code.now + 4 * tests + 1) }
+    ensures refused { IfErr result (λ why. IsRefused (here code.now + 4 * tests + 1) 0 false why) }
 {
     let start = usize::from(code.end()?);
     if INSTRUCTIONS < tests {
@@ -43,6 +48,7 @@ fn behind_tests(code: &Code, tests: usize) -> Result<u16, Refusal>
 // Adds the tests of choices by their static values.
 fn add_tests(code: &mut Code, scope: &Scope, label: u16, choices: &[Expr]) -> Result<(), Refusal>
     ensures tests { OnOk result (TestsAll scope.now label code.old (map expr_tree choices.now) code.new) }
+    ensures refused { IfErr result (λ why. IsNeeding (here code.old + 4 * length choices.now) (stacked_unless (choices_fault scope.now (map expr_tree choices.now)) 3) why) }
 {
     for choice in choices {
         let Ok(value) = static_value(scope, choice) else {
@@ -56,6 +62,7 @@ fn add_tests(code: &mut Code, scope: &Scope, label: u16, choices: &[Expr]) -> Re
 // Adds the code of choices by their values: their tests, a jump to the next alternative, whose place waits and is told, and what drops the value behind them.
 fn add_values(code: &mut Code, scope: &Scope, choices: &[Expr]) -> Result<Vec<usize>, Refusal>
     ensures adds { IfOk result (λ next. AddsValues scope.now code.old (map expr_tree choices.now) next.items code.new) }
+    ensures refused { IfErr result (λ why. RefusesChoices scope.now code.old (Values (map expr_tree choices.now)) (4 * length choices.now + 2) why) }
 {
     let label = behind_tests(code, choices.len())?;
     add_tests(code, scope, label, choices)?;
@@ -70,6 +77,7 @@ fn add_values(code: &mut Code, scope: &Scope, choices: &[Expr]) -> Result<Vec<us
 // alternative, which wait for it.
 fn add_choices(code: &mut Code, scope: &Scope, choices: &CaseChoices) -> Result<Vec<usize>, Refusal>
     ensures adds { IfOk result (λ next. AddsChoices scope.now code.old (choices_tree choices.now) next.items code.new) }
+    ensures refused { IfErr result (λ why. RefusesChoices scope.now code.old (choices_tree choices.now) (20 * choices_size (choices_tree choices.now) + 2) why) }
 {
     match choices {
         CaseChoices::Values(choices) => add_values(code, scope, choices),
@@ -95,6 +103,7 @@ impl Draft {
         requires entries { HasEntries visible.old }
         requires legal { IsLegal visible.old.scope (Case place (expr_tree value.now) (alternative_trees alternatives.now)) }
         ensures emits { OnOk result (EmitsStatement visible.old (ways_of leaving) self.old (Case place (expr_tree value.now) (alternative_trees alternatives.now)) self.new) }
+        ensures refused { IfErr result (λ why. RefusesStatement visible.old (ways_of leaving) self.old (Case place (expr_tree value.now) (alternative_trees alternatives.now)) self.new why) }
         ensures same { OnOk result (visible.new ≡ visible.old) }
     {
         let mut waiting = Vec::new(self.code.alloc);
@@ -119,6 +128,7 @@ impl Draft {
         requires selecting { selecting_faults visible.old.scope (expr_tree value.now) ≡ [] }
         requires legal { AreLegalAlternatives visible.old.scope (expr_tree value.now) (alternative_trees all.now) }
         ensures adds { OnOk result (AddsAlternatives visible.old (ways_of leaving) (expr_tree value.now) self.old (map alternative_tree all.now) waiting.old.items waiting.new.items self.new) }
+        ensures refused { IfErr result (λ why. RefusesAlternatives visible.old (ways_of leaving) self.old (alternative_trees all.now) self.new why) }
         ensures same { OnOk result (visible.new ≡ visible.old) }
     {
         for alternative in all {
@@ -143,6 +153,7 @@ impl Draft {
         requires choices { AreLegalChoices visible.old.scope (expr_tree value.now) (choices_tree alternative.now.choices) }
         requires legal { AreLegal visible.old.scope (stmt_trees alternative.now.statements.items) }
         ensures adds { OnOk result (AddsAlternatives visible.old (ways_of leaving) (expr_tree value.now) self.old (alternative_tree alternative.now ∷ []) waiting.old.items waiting.new.items self.new) }
+        ensures refused { IfErr result (λ why. RefusesAlternatives visible.old (ways_of leaving) self.old (alternatives_of (alternative_tree alternative.now ∷ [])) self.new why) }
         ensures same { OnOk result (visible.new ≡ visible.old) }
     {
         calls_are_typed();

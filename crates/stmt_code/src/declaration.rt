@@ -1,13 +1,19 @@
 //! The code of declarations of objects in bodies and blocks (RM 3.3.1).
-ghost use Rattle.std.specs.Prelude.{◌≡◌, ◌∷◌, [], map, true, IfOk, OnOk};
+ghost use Rattle.std.specs.Prelude.{◌≡◌, ◌+◌, ◌∷◌, [], false, map, true, IfErr, IfOk, OnOk};
 ghost use Rattle.ada_tree.specs.ExpressionTree.{expr_tree};
 ghost use Rattle.ada_tree.specs.StatementTree.{declaration_tree, LocalObject, object_tree, optional_tree};
 ghost use Rattle.declaring.specs.LocalRules.{local_faults, locals_faults};
 ghost use Rattle.type_rules.specs.ObjectRules.{local_object_faults};
+ghost use Rattle.expr_code.specs.Code.{here};
+ghost use Rattle.expr_code.specs.Emitting.{is_composite};
+ghost use Rattle.expr_code.specs.Refusing.{IsRefused};
 ghost use Rattle.image.specs.Rules.{is_block};
 ghost use Rattle.types.specs.Layouts.{words_of};
+ghost use Rattle.types.specs.Scopes.{form_at};
 ghost use Rattle.types.specs.Shapes.{initial, value_words};
 ghost use Rattle.stmt_code.specs.Emitting.{EmitsDeclarations, EmitsInitial, EmitsInitialWords, EmitsObject, FitsIfAny, HasEntries, HasPushed, StoresWord, StoresWords};
+ghost use Rattle.stmt_code.specs.Bounds.{local_words, locals_words};
+ghost use Rattle.stmt_code.specs.Refusing.{local_visible, locals_visible, RefusesDeclarations, RefusesInitial, RefusesSingle, RefusesWords};
 ghost use Rattle.well_typed.specs.SoundScopes.{SoundScope};
 
 use crate::draft::Draft;
@@ -31,6 +37,7 @@ fn add_initial(
     requires sound { SoundScope visible.now.scope }
     requires fit { FitsIfAny visible.now.scope subtype (optional_tree expr_tree value.now) }
     ensures emits { OnOk result (EmitsInitial visible.now code.old subtype (optional_tree expr_tree value.now) code.new) }
+    ensures refused { IfErr result (λ why. RefusesSingle visible.now code.old subtype (optional_tree expr_tree value.now) 0 why) }
 {
     match value {
         Some(value) => code.checked(visible, 0, subtype, value),
@@ -45,6 +52,7 @@ fn add_initial(
 // Puts a word on the operand stack above `height` others, and tells how many stand there then.
 fn push_word(code: &mut Code, height: u16, word: i64) -> Result<u16, Refusal>
     ensures pushes { IfOk result (λ top. HasPushed code.old height (word ∷ []) code.new top) }
+    ensures refused { IfErr result (λ why. IsRefused (here code.old + 1) (height + 1) false why) }
 {
     let top = above(height)?;
     code.emit(height, Operation::Push(word))?;
@@ -60,7 +68,10 @@ fn push_initial(
 ) -> Result<u16, Refusal>
     requires sound { SoundScope visible.now.scope }
     ensures pushes { IfOk result (λ top. HasPushed code.old height (value_words (initial visible.now.scope subtype)) code.new top) }
+    ensures refused { IfErr result (λ why. RefusesWords visible.now.scope code.old height subtype why) }
 {
+    initial_values_have_shape();
+    values_have_words();
     let mut top = height;
     match visible.scope.form(subtype.type_number) {
         Some(TypeForm::Integer) => push_word(code, height, subtype.first),
@@ -77,7 +88,9 @@ fn push_initial(
             }
             Ok(top)
         }
-        _ => Err(Refusal::Outside),
+        Some(TypeForm::Time) => Err(Refusal::Outside),
+        Some(TypeForm::TimeSpan) => Err(Refusal::Outside),
+        None => Err(Refusal::Outside),
     }
 }
 
@@ -93,12 +106,16 @@ fn add_initial_words(
     ensures words { IfOk result (λ words. words ≡ words_of visible.now.scope subtype) }
     ensures block { IfOk result (λ words. is_block words ≡ true) }
     ensures emits { OnOk result (EmitsInitialWords visible.now code.old subtype (optional_tree expr_tree value.now) code.new) }
+    ensures refused { IfErr result (λ why. RefusesInitial visible.now code.old subtype (optional_tree expr_tree value.now) 0 why) }
 {
     match value {
         Some(value) => code.of_subtype(visible, 1, subtype, value),
         None => {
             let words = visible.scope.words(subtype);
-            if words == 0 || WORDS < usize::from(words) {
+            if words == 0 {
+                return Err(Refusal::Outside);
+            }
+            if WORDS < usize::from(words) {
                 return Err(Refusal::Limit);
             }
             push_initial(code, visible, 1, subtype)?;
@@ -118,6 +135,7 @@ fn add_word(
     requires sound { SoundScope visible.now.scope }
     requires fit { FitsIfAny visible.now.scope subtype (optional_tree expr_tree value.now) }
     ensures stores { OnOk result (StoresWord visible.now code.old offset subtype (optional_tree expr_tree value.now) code.new) }
+    ensures refused { IfErr result (λ why. RefusesSingle visible.now code.old subtype (optional_tree expr_tree value.now) 1 why) }
 {
     add_initial(code, visible, subtype, value)?;
     code.emit(1, Operation::StoreLocal(offset))
@@ -134,11 +152,24 @@ fn add_words(
     requires sound { SoundScope visible.now.scope }
     requires fit { FitsIfAny visible.now.scope subtype (optional_tree expr_tree value.now) }
     ensures stores { OnOk result (StoresWords visible.now code.old offset subtype (optional_tree expr_tree value.now) code.new) }
+    ensures refused { IfErr result (λ why. RefusesInitial visible.now code.old subtype (optional_tree expr_tree value.now) 2 why) }
 {
+    initial_values_have_shape();
+    values_have_words();
     code.emit(0, Operation::Push(i64::from(offset)))?;
     let words = add_initial_words(code, visible, subtype, value)?;
     let region = Region::Locals;
     code.emit(raised(1, words)?, Operation::StoreBlock { region, words })
+}
+
+// Whether it is a subtype of arrays or records.
+fn is_composite(visible: &Visible, subtype: Subtype) -> bool
+    ensures { result ≡ is_composite (form_at visible.now.scope subtype.type_number) }
+{
+    matches!(
+        visible.scope.form(subtype.type_number),
+        Some(TypeForm::Array(..) | TypeForm::Record(_))
+    )
 }
 
 /// Adds the code of an object's initial value, and what stores its words in the frame from an offset on.
@@ -152,11 +183,12 @@ pub(crate) fn add_object(
     requires sound { SoundScope visible.now.scope }
     requires fit { FitsIfAny visible.now.scope subtype (optional_tree expr_tree value.now) }
     ensures emits { OnOk result (EmitsObject visible.now code.old offset subtype (optional_tree expr_tree value.now) code.new) }
+    ensures refused { IfErr result (λ why. RefusesInitial visible.now code.old subtype (optional_tree expr_tree value.now) 2 why) }
 {
-    match visible.scope.form(subtype.type_number) {
-        Some(TypeForm::Array(..)) => add_words(code, visible, offset, subtype, value),
-        Some(TypeForm::Record(_)) => add_words(code, visible, offset, subtype, value),
-        _ => add_word(code, visible, offset, subtype, value),
+    if is_composite(visible, subtype) {
+        add_words(code, visible, offset, subtype, value)
+    } else {
+        add_word(code, visible, offset, subtype, value)
     }
 }
 
@@ -171,6 +203,9 @@ impl Draft {
         requires entries { HasEntries visible.old }
         requires legal { locals_faults visible.old.scope (map declaration_tree all.now) ≡ [] }
         ensures emits { OnOk result (EmitsDeclarations visible.old self.old (map declaration_tree all.now) visible.new self.new) }
+        ensures shown { OnOk result (visible.new ≡ locals_visible visible.old self.old.words.taken (map declaration_tree all.now)) }
+        ensures taken { OnOk result (self.new.words.taken ≡ self.old.words.taken + locals_words visible.old.scope (map declaration_tree all.now)) }
+        ensures refused { IfErr result (λ why. RefusesDeclarations visible.old self.old (map declaration_tree all.now) self.new why) }
     {
         for declaration in all {
             self.declaration(visible, declaration)?;
@@ -188,6 +223,9 @@ impl Draft {
         requires entries { HasEntries visible.old }
         requires legal { local_faults visible.old.scope (declaration_tree declaration.now) ≡ [] }
         ensures emits { OnOk result (EmitsDeclarations visible.old self.old (declaration_tree declaration.now ∷ []) visible.new self.new) }
+        ensures shown { OnOk result (visible.new ≡ local_visible visible.old self.old.words.taken (declaration_tree declaration.now)) }
+        ensures taken { OnOk result (self.new.words.taken ≡ self.old.words.taken + local_words visible.old.scope (declaration_tree declaration.now)) }
+        ensures refused { IfErr result (λ why. RefusesDeclarations visible.old self.old (declaration_tree declaration.now ∷ []) self.new why) }
     {
         match declaration {
             Declaration::Object(object) => self.object(visible, object),
@@ -201,6 +239,9 @@ impl Draft {
         requires entries { HasEntries visible.old }
         requires legal { local_object_faults visible.old.scope (object_tree object.now) ≡ [] }
         ensures emits { OnOk result (EmitsDeclarations visible.old self.old (LocalObject (object_tree object.now) ∷ []) visible.new self.new) }
+        ensures shown { OnOk result (visible.new ≡ local_visible visible.old self.old.words.taken (LocalObject (object_tree object.now))) }
+        ensures taken { OnOk result (self.new.words.taken ≡ self.old.words.taken + local_words visible.old.scope (LocalObject (object_tree object.now))) }
+        ensures refused { IfErr result (λ why. RefusesDeclarations visible.old self.old (LocalObject (object_tree object.now) ∷ []) self.new why) }
     {
         agreement_is_kept();
         calls_are_typed();

@@ -1,7 +1,9 @@
 //! Code as statements add to it, with the labels of its lines.
-ghost use Rattle.std.specs.Prelude.{◌≡◌, ◌+◌, ◌≤◌, [], Some, slice_get, IfOk, OnOk};
+ghost use Rattle.std.specs.Prelude.{◌≡◌, ◌+◌, ◌≤◌, ◌⊎◌, [], false, Some, slice_get, IfErr, IfOk, OnOk};
 ghost use Rattle.expr_code.specs.Code.{StandsFrom};
+ghost use Rattle.expr_code.specs.Refusing.{IsRefused};
 ghost use Rattle.stmt_code.specs.Emitting.{Takes};
+ghost use Rattle.stmt_code.specs.Refusing.{HasManyLabels};
 
 use base::limits::{FRAME_WORDS, LABELS};
 use expr_code::{Code, Refusal};
@@ -38,6 +40,7 @@ impl Labels {
     pub fn number(&mut self, label: &Text) -> Result<u16, Refusal>
         ensures stay { OnOk result (StandsFrom 0 self.old self.new) }
         ensures number { IfOk result (λ number. slice_get self.new number ≡ Some label.now) }
+        ensures refused { IfErr result (λ why. IsRefused 0 0 false why ⊎ HasManyLabels self.new why) }
     {
         let (number, _) = self.labels.insert_full(label.clone()?)?;
         if LABELS <= number {
@@ -48,10 +51,11 @@ impl Labels {
 
     /// The labels by their numbers, as an image has them (docs/FORMATS.md).
     pub fn texts(&self, alloc: Global) -> Result<Vec<Text>, Refusal>
-        ensures { IfOk result (λ texts. texts.items ≡ self.now) }
+        ensures texts { IfOk result (λ texts. texts.items ≡ self.now) }
+        ensures refused { IfErr result (λ why. IsRefused 0 0 false why) }
     {
         let mut texts = Vec::new(alloc);
-        for label in self.labels.iter() {
+        for label in self.labels.as_slice() {
             texts.push(label.clone()?)?;
         }
         Ok(texts)
@@ -62,6 +66,7 @@ impl Labels {
 pub(crate) fn behind(first: u16, words: u16) -> Result<u16, Refusal>
     ensures end { IfOk result (λ end. end ≡ first + words) }
     ensures within { IfOk result (λ end. end ≤ FRAME_WORDS) }
+    ensures refused { IfErr result (λ why. IsRefused 0 (first + words) false why) }
 {
     match first.checked_add(words) {
         Some(end) if usize::from(end) <= FRAME_WORDS => Ok(end),
@@ -90,6 +95,7 @@ impl FrameWords {
         ensures first { IfOk result (λ first. first ≡ self.old.taken) }
         ensures takes { OnOk result (Takes self.old words self.new) }
         ensures within { OnOk result (self.new.taken ≤ FRAME_WORDS) }
+        ensures refused { IfErr result (λ why. IsRefused 0 (self.old.taken + words) false why) }
     {
         let first = self.taken;
         self.taken = behind(first, words)?;

@@ -1,10 +1,12 @@
 //! Where the words of formal parameters stand in the frame of their body (RM 6.4.1).
-ghost use Rattle.std.specs.Prelude.{◌≡◌, ◌≤◌, ◌+◌, ◌++◌, map, IfOk, OnOk};
+ghost use Rattle.std.specs.Prelude.{◌≡◌, ◌≤◌, ◌+◌, ◌++◌, false, map, max, IfErr, IfOk, OnOk};
 ghost use Rattle.std.specs.List.{All};
 ghost use Rattle.base.specs.declared.limits.TheConstants.{FRAME_WORDS};
 ghost use Rattle.ada_tree.specs.Size.{total};
 ghost use Rattle.types.specs.Layouts.{words_of};
+ghost use Rattle.expr_code.specs.Refusing.{IsRefused};
 ghost use Rattle.stmt_code.specs.Formals.{HasValue, no_subprogram, passed_for, PlacesFormals, slot_for, StandInTurn, StandsAt};
+ghost use Rattle.stmt_code.specs.Refusing.{are_wordless, IsNeeding, is_wordless, out_for, placed_end, RefusesFormals, stacked_unless};
 
 use crate::draft::{Draft, FrameWords, behind};
 use ada_tree::{Formal, Mode};
@@ -35,7 +37,8 @@ pub struct PlacedFormals {
 
 // The words that a call passes for a formal parameter: those of its value, where it is copied in, and the address of its target, where it is copied back.
 fn passed_words(scope: &Scope, formal: &Formal) -> Result<u16, Refusal>
-    ensures { IfOk result (λ many. many ≡ passed_for scope.now formal.now) }
+    ensures passed { IfOk result (λ many. many ≡ passed_for scope.now formal.now) }
+    ensures refused { IfErr result (λ why. IsNeeding 0 (stacked_unless (is_wordless scope.now formal.now) (passed_for scope.now formal.now)) why) }
 {
     let Some(subtype) = subtype_of(scope, &formal.subtype) else {
         return Err(Refusal::Outside);
@@ -53,6 +56,7 @@ fn take_passed(words: &mut FrameWords, scope: &Scope, formals: &[Formal]) -> Res
     requires most { words.old.taken ≤ words.old.most }
     ensures taken { OnOk result (words.new.taken ≡ words.old.taken + total (passed_for scope.now) formals.now) }
     ensures most { OnOk result (words.new.taken ≤ words.new.most) }
+    ensures refused { IfErr result (λ why. IsNeeding 0 (stacked_unless (are_wordless scope.now formals.now) (words.old.taken + total (passed_for scope.now) formals.now)) why) }
 {
     for formal in formals {
         words.take(passed_words(scope, formal)?)?;
@@ -75,6 +79,7 @@ fn place(
     ensures few { OnOk result (many ≤ FRAME_WORDS) }
     ensures stands { IfOk result (λ placed. StandsAt mode many from words.old.taken placed.0 placed.1 words.new.taken) }
     ensures most { OnOk result (words.new.taken ≤ words.new.most) }
+    ensures refused { IfErr result (λ why. IsRefused 0 (placed_end mode many from words.old.taken) false why) }
 {
     let address = match mode {
         Mode::In => None,
@@ -108,6 +113,7 @@ fn place_all(
     ensures stand { IfOk result (λ placed. StandInTurn scope.now 0 words.old.taken formals.now placed.formals.items placed.passed words.new.taken) }
     ensures some { IfOk result (λ placed. All (HasValue scope.now) placed.formals.items) }
     ensures most { OnOk result (words.new.taken ≤ words.new.most) }
+    ensures refused { IfErr result (λ why. IsNeeding 0 (stacked_unless (are_wordless scope.now formals.now) (max (total (passed_for scope.now) formals.now) (words.old.taken + total (out_for scope.now) formals.now))) why) }
 {
     let mut placed = Vec::new(alloc);
     let mut from: u16 = 0;
@@ -134,6 +140,7 @@ fn show(visible: &mut Visible, placed: &[PlacedFormal]) -> Result<(), Refusal>
     ensures scope { OnOk result (visible.new.scope ≡ visible.old.scope) }
     ensures slots { OnOk result (visible.new.slots ≡ visible.old.slots ++ map slot_for placed.now) }
     ensures subprograms { OnOk result (visible.new.subprograms ≡ visible.old.subprograms ++ map no_subprogram placed.now) }
+    ensures refused { IfErr result (λ why. IsRefused 0 0 false why) }
 {
     for formal in placed {
         visible.slots.push(Some(Slot {
@@ -155,6 +162,7 @@ impl Draft {
         ensures places { IfOk result (λ placed. PlacesFormals visible.old formals.now visible.new self.new.words placed) }
         ensures code { OnOk result (self.new.code ≡ self.old.code) }
         ensures labels { OnOk result (self.new.labels ≡ self.old.labels) }
+        ensures refused { IfErr result (λ why. RefusesFormals visible.old.scope formals.now why) }
     {
         let mut words = FrameWords::new();
         take_passed(&mut words, &visible.scope, formals)?;

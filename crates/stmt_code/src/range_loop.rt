@@ -1,8 +1,11 @@
 //! The code of loops over ranges (RM 5.5): the bounds are evaluated once, and each turn goes by two words of the frame.
-ghost use Rattle.std.specs.Prelude.{◌≡◌, [], if◌then◌else◌, IfOk, OnOk};
+ghost use Rattle.std.specs.Prelude.{◌≡◌, ◌+◌, [], false, if◌then◌else◌, IfErr, IfOk, OnOk};
 ghost use Rattle.ada_tree.specs.StatementTree.{For, Loop, range_tree, stmt_trees};
 ghost use Rattle.declaring.specs.BodyNames.{loop_faults};
+ghost use Rattle.expr_code.specs.Code.{here};
+ghost use Rattle.expr_code.specs.Refusing.{IsRefused};
 ghost use Rattle.stmt_code.specs.Emitting.{EmitsStatement, HasEntries, IsLegal, ways_of};
+ghost use Rattle.stmt_code.specs.Refusing.{RefusesRange, RefusesStatement};
 ghost use Rattle.stmt_code.specs.Turns.{BeginsRange, BeginsTurns, EndsTurn, next_operation, word_of_first, word_of_last};
 ghost use Rattle.well_typed.specs.SoundScopes.{SoundScope};
 
@@ -64,6 +67,7 @@ impl Turns {
     // Adds what stores the bounds, the last one on top, and a jump where the range is null, whose place is told and waits for the end.
     fn begin(self, code: &mut Code) -> Result<usize, Refusal>
         ensures begins { IfOk result (λ null. BeginsTurns code.old self null code.new) }
+        ensures refused { IfErr result (λ why. IsRefused (here code.old + 6) 2 false why) }
     {
         let first = self.of_first();
         let last = self.of_last();
@@ -80,6 +84,7 @@ impl Turns {
     // Adds a jump where the parameter has its last value, whose place is told and waits for the end, and what gives it the next one.
     fn end_turn(self, code: &mut Code) -> Result<usize, Refusal>
         ensures ends { IfOk result (λ last. EndsTurn code.old self last code.new) }
+        ensures refused { IfErr result (λ why. IsRefused (here code.old + 8) 2 false why) }
     {
         code.emit(0, Operation::LoadLocal(self.counter))?;
         code.emit(1, Operation::LoadLocal(self.limit))?;
@@ -106,6 +111,7 @@ impl Draft {
         requires sound { SoundScope visible.old.scope }
         requires legal { loop_faults visible.old.scope parameter.now (range_tree range.now) ≡ [] }
         ensures begins { IfOk result (λ begun. BeginsRange visible.old self.old parameter.now reversed (range_tree range.now) begun.0 begun.1 visible.new self.new) }
+        ensures refused { IfErr result (λ why. RefusesRange visible.old self.old parameter.now reversed (range_tree range.now) self.new why) }
     {
         self.code.of_width(visible, 0, 1, &range.first)?;
         self.code.of_width(visible, 1, 1, &range.last)?;
@@ -141,6 +147,7 @@ impl Draft {
         requires entries { HasEntries visible.old }
         requires legal { IsLegal visible.old.scope (Loop place (For parameter.now reversed (range_tree range.now)) (stmt_trees body.now)) }
         ensures emits { OnOk result (EmitsStatement visible.old (ways_of leaving) self.old (Loop place (For parameter.now reversed (range_tree range.now)) (stmt_trees body.now)) self.new) }
+        ensures refused { IfErr result (λ why. RefusesStatement visible.old (ways_of leaving) self.old (Loop place (For parameter.now reversed (range_tree range.now)) (stmt_trees body.now)) self.new why) }
         ensures same { OnOk result (visible.new ≡ visible.old) }
     {
         agreement_is_kept();

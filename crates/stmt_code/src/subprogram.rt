@@ -1,10 +1,15 @@
 //! The code of whole subprograms: procedures and functions of a package (RM 6.3), and main (RM 10.2).
-ghost use Rattle.std.specs.Prelude.{◌≡◌, ◌≤◌, ◌+◌, length, IfOk, OnOk};
+ghost use Rattle.std.specs.Prelude.{◌≡◌, ◌≤◌, ◌+◌, false, is_none, length, IfErr, IfOk, OnOk};
 ghost use Rattle.base.specs.declared.limits.TheConstants.{FRAME_WORDS};
 ghost use Rattle.ada_tree.specs.ExpressionTree.{expr_tree};
 ghost use Rattle.ada_tree.specs.ProgramTree.{body_tree};
 ghost use Rattle.declaring.specs.BodyNames.{formals_scope};
 ghost use Rattle.expr_code.specs.Emitting.{IsFit};
+ghost use Rattle.expr_code.specs.Refusing.{IsRefused};
+ghost use Rattle.expr_code.specs.Code.{here};
+ghost use Rattle.expr_code.specs.Seeing.{subprogram_of};
+ghost use Rattle.stmt_code.specs.Bounds.{main_bound};
+ghost use Rattle.stmt_code.specs.Refusing.{beyond_if, IsNeeding, RefusesMain};
 ghost use Rattle.stmt_code.specs.Emitting.{HasEntries, IsLegalRun};
 ghost use Rattle.stmt_code.specs.Subprograms.{AddsCalls, AddsFunction, AddsMain, AddsMainCall, AddsProcedure, CallsProcedures, IsCalledFunction, IsCalledProcedure, KeepsRules};
 ghost use Rattle.well_typed.specs.SoundScopes.{SoundScope};
@@ -33,6 +38,7 @@ impl SubprogramWords {
     fn within_frame(self) -> Result<SubprogramWords, Refusal>
         ensures same { IfOk result (λ words. words ≡ self) }
         ensures fits { OnOk result (self.locals + self.stack ≤ FRAME_WORDS) }
+        ensures refused { IfErr result (λ why. IsRefused 0 (self.locals + self.stack) false why) }
     {
         behind(self.locals, self.stack)?;
         Ok(self)
@@ -42,6 +48,8 @@ impl SubprogramWords {
 // Adds a call of main.
 fn add_call(code: &mut Code, visible: &Visible, procedure: &Identifier) -> Result<(), Refusal>
     ensures adds { OnOk result (AddsMainCall visible.now code.old procedure.now code.new) }
+    ensures shallow { OnOk result (code.new.deepest ≡ code.old.deepest) }
+    ensures refused { IfErr result (λ why. IsNeeding (here code.old + 1) (beyond_if (is_none (subprogram_of visible.now procedure.now.name))) why) }
 {
     let Some(number) = visible.subprogram(&procedure.name) else {
         return Err(Refusal::Outside);
@@ -57,6 +65,8 @@ fn add_calls(
     statements: &[MainStatement],
 ) -> Result<(), Refusal>
     ensures calls { OnOk result (AddsCalls visible.now code.old statements.now code.new) }
+    ensures shallow { OnOk result (code.new.deepest ≡ code.old.deepest) }
+    ensures refused { IfErr result (λ why. RefusesMain visible.now code.old statements.now (length statements.now) why) }
 {
     for statement in statements {
         match statement {
@@ -150,6 +160,7 @@ impl Draft {
     ) -> Result<SubprogramWords, Refusal>
         requires called { CallsProcedures visible.now.scope statements.now }
         ensures adds { IfOk result (λ words. AddsMain visible.now self.old statements.now words self.new) }
+        ensures refused { IfErr result (λ why. RefusesMain visible.now self.old.code statements.now (main_bound statements.now) why) }
         ensures keeps { IfOk result (λ words. KeepsRules visible.now self.old words self.new) }
     {
         self.code.deepest = 0;

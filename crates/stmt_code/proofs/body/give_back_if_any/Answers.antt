@@ -1,10 +1,7 @@
 use Rattle.stmt_code.proofs.FormalWords.{returns_some}
 use Rattle.stmt_code.proofs.body.give_back_if_any.Goals as goal
 
-pub returns-in_ok-height-in-Some : goal.returns-in_ok-height-in-Some
-returns-in_ok-height-in-Some c =
-    let given = c.in_ok-height-in-Some.ensures in
-    record {
-      gives = returns_some c.args.scope.now c.args.code.now c.give_back.new.code c.args.depth c.in-Some.address c.in_ok-height-in-Some.height
-          c.args.formal.now c.in-Some.is given.adds given.high given.flows;
-    }
+pub returns-in_ok-height-in-Some-clause-gives : goal.returns-in_ok-height-in-Some-clause-gives
+returns-in_ok-height-in-Some-clause-gives c =
+    let given = c.in_ok-height-in-Some.ensures in returns_some c.args.scope.now c.args.code.now c.give_back.new.code c.args.depth c.in-Some.address c.in_ok-height-in-Some.height
+    c.args.formal.now c.in-Some.is given.adds given.high given.flows

@@ -1,4 +1,5 @@
-use Rattle.std.proofs.Common.{length, ltb-true, sym}
+use Rattle.std.proofs.Common.{length, ltb-true, rules, sym}
+use Rattle.stmt_code.proofs.CallsRefused.{actuals_refused}
 use Rattle.ada_tree.specs.ExpressionTree.{argument_tree}
 use Rattle.expr_code.proofs.Actuals.{got, mapped}
 use Rattle.stmt_code.proofs.InTurn.{adds_next, adds_none, all_adds}
@@ -28,8 +29,11 @@ loop-index-preserved c =
     (ltb-true c.loop-index.index (length c.args.formals.now) (sym c.in-Some.ensures.lookup.0)) c.in-Some.ensures.lookup.1 c.loop-index-test.true
     c.index-arguments-index.is c.loop-index.invariant c.in_ok-height.ensures.emits
 
-pub returns : goal.returns
-returns c = record {
-  emits = all_adds c.args.visible.now c.args.code.now c.loop-index.code 0 c.loop-index.height c.args.formals.now c.args.arguments.now _ _
-      c.loop-index.index c.loop-index.auto.index-end c.loop-index-test.false c.loop-index.invariant;
-}
+pub returns-clause-emits : goal.returns-clause-emits
+returns-clause-emits c = all_adds c.args.visible.now c.args.code.now c.loop-index.code 0 c.loop-index.height c.args.formals.now c.args.arguments.now _ _
+    c.loop-index.index c.loop-index.auto.index-end c.loop-index-test.false c.loop-index.invariant
+
+pub returns-in_err-height-clause-refused : goal.returns-in_err-height-clause-refused
+returns-in_err-height-clause-refused c =
+    let whole = actuals_refused c.args.arguments.now c.loop-index.index 0 c.in_err-height.field-0.0 c.loop-index-test.true in
+    search (rules, whole)

@@ -1,4 +1,6 @@
+use Rattle.std.proofs.Common.{rules}
 use Rattle.ada_tree.specs.Size.{total}
+use Rattle.stmt_code.proofs.CallsRefused.{copies_refused}
 use Rattle.stmt_code.specs.Passing.{copied_width}
 use Rattle.stmt_code.proofs.ChecksAdded.{all_copies, copies_next, left_next}
 use Rattle.stmt_code.proofs.call.add_copies.Goals as goal
@@ -15,8 +17,11 @@ loop-destination-preserved c =
           c.in_ok-height-2.ensures.adds,
     )
 
-pub returns : goal.returns
-returns c = record {
-  emits = all_copies c.args.visible.now c.args.code.now c.loop-destination.code c.args.destinations.now c.loop-destination.destination-index
-      c.loop-destination.height c.loop-destination-test.false c.loop-destination.invariant.1 c.loop-destination.invariant.0;
-}
+pub returns-clause-emits : goal.returns-clause-emits
+returns-clause-emits c = all_copies c.args.visible.now c.args.code.now c.loop-destination.code c.args.destinations.now c.loop-destination.destination-index
+    c.loop-destination.height c.loop-destination-test.false c.loop-destination.invariant.1 c.loop-destination.invariant.0
+
+pub returns-in_err-height-2-clause-refused : goal.returns-in_err-height-2-clause-refused
+returns-in_err-height-2-clause-refused c =
+    let whole = copies_refused c.args.destinations.now c.loop-destination.destination-index 0 c.in_err-height-2.field-0.0 c.loop-destination-test.true in
+    search (rules, whole)

@@ -1,3 +1,5 @@
+use Rattle.std.proofs.Common.{rules}
+use Rattle.stmt_code.proofs.CallsRefused.{copies_refused}
 use Rattle.stmt_code.proofs.ChecksAdded.{words_next}
 use Rattle.stmt_code.proofs.call.copied_words.Goals as goal
 
@@ -6,3 +8,18 @@ loop-destination-preserved c =
     words_next c.args.visible.now c.args.destinations.now c.loop-destination.destination-index _ c.loop-destination.words c.in_ok-own.own
     c.in_ok-raised.field-0 c.in_ok-words.words c.loop-destination-test.true c.loop-destination.invariant c.in_ok-own.ensures.words
     c.in_ok-raised.ensures.more c.in_ok-words.ensures.more
+
+pub returns-in_err-own-clause-refused : goal.returns-in_err-own-clause-refused
+returns-in_err-own-clause-refused c =
+    let whole = copies_refused c.args.destinations.now c.loop-destination.destination-index 0 c.in_err-own.field-0.0 c.loop-destination-test.true in
+    search (rules, whole)
+
+pub returns-in_err-raised-clause-refused : goal.returns-in_err-raised-clause-refused
+returns-in_err-raised-clause-refused c =
+    let whole = copies_refused c.args.destinations.now c.loop-destination.destination-index 0 c.in_err-raised.field-0.0 c.loop-destination-test.true in
+    search (rules, whole)
+
+pub returns-in_err-words-clause-refused : goal.returns-in_err-words-clause-refused
+returns-in_err-words-clause-refused c =
+    let whole = copies_refused c.args.destinations.now c.loop-destination.destination-index 0 c.in_err-words.field-0.0 c.loop-destination-test.true in
+    search (rules, whole)

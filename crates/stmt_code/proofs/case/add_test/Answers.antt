@@ -4,19 +4,17 @@ use Rattle.expr_code.proofs.Growing.{pushes_same}
 use Rattle.stmt_code.specs.Alternatives.{AddsTest}
 use Rattle.stmt_code.proofs.case.add_test.Goals as goal
 
-pub returns : goal.returns
-returns c = record {
-  adds = on_ok_weaker _
-      (λ q.
-      let test : AddsTest c.args.code.now c.args.word c.args.label c.emit-4.new.self = record {
-        copied = c.emit.new.self;
-        pushed = c.emit-2.new.self;
-        compared = c.emit-3.new.self;
-        copies = c.in_ok-emit.ensures.adds;
-        pushes = pushes_same c.emit.new.self c.emit-2.new.self 2 _ c.args.word (search rules) c.in_ok-emit-2.ensures.adds;
-        compares = c.in_ok-emit-3.ensures.adds;
-        jumps = q;
-      } in
-      test)
-      c.emit-4.ensures.adds;
-}
+pub returns-clause-adds : goal.returns-clause-adds
+returns-clause-adds c = on_ok_weaker _
+    (λ q.
+    let test : AddsTest c.args.code.now c.args.word c.args.label c.emit-4.new.self = record {
+      copied = c.emit.new.self;
+      pushed = c.emit-2.new.self;
+      compared = c.emit-3.new.self;
+      copies = c.in_ok-emit.ensures.adds;
+      pushes = pushes_same c.emit.new.self c.emit-2.new.self 2 _ c.args.word (search rules) c.in_ok-emit-2.ensures.adds;
+      compares = c.in_ok-emit-3.ensures.adds;
+      jumps = q;
+    } in
+    test)
+    c.emit-4.ensures.adds

@@ -1,8 +1,10 @@
-use Rattle.std.proofs.Common.{◌≡◌, map, rules, refl, sym, subst, take, to_z, of_z, w64}
+use Rattle.std.specs.Prelude.{is_some}
+use Rattle.std.proofs.Common.{◌≡◌, ap, map, rules, refl, sym, subst, take, to_z, of_z, w64}
 use Rattle.ada_tree.specs.ExpressionTree.{expr_tree}
 use Rattle.expr_code.specs.Naming.{scalar_word}
 use Rattle.stmt_code.specs.Alternatives.{AddsTest, TestsAll}
 use Rattle.stmt_code.proofs.Adding.{mapped_next, take_all}
+use Rattle.stmt_code.proofs.Choosable.{fault_among, test_among}
 use Rattle.stmt_code.proofs.Selecting.{tests_more}
 use Rattle.stmt_code.proofs.case.add_tests.Goals as goal
 
@@ -24,8 +26,17 @@ loop-choice-preserved c =
       adds = subst (λ z. AddsTest c.loop-choice.code z c.args.label c.add_test.new.code) word c.in_ok-add_test.ensures.adds;
     }))
 
-pub returns : goal.returns
-returns c = record {
-  tests = subst (λ l. TestsAll c.args.scope.now c.args.label c.args.code.now (map expr_tree l) c.loop-choice.code)
-      (take_all c.args.choices.now c.loop-choice.choice-index c.loop-choice-test.false) c.loop-choice.invariant;
-}
+pub returns-clause-tests : goal.returns-clause-tests
+returns-clause-tests c = subst (λ l. TestsAll c.args.scope.now c.args.label c.args.code.now (map expr_tree l) c.loop-choice.code)
+    (take_all c.args.choices.now c.loop-choice.choice-index c.loop-choice-test.false) c.loop-choice.invariant
+
+pub returns-in_default-clause-refused : goal.returns-in_default-clause-refused
+returns-in_default-clause-refused c =
+    fault_among c.args.scope.now c.args.choices.now c.loop-choice.choice-index c.choice-item.result c.loop-choice-test.true c.choice-item.is
+    (ap is_some c.in_default.ensures.fault)
+
+pub returns-in_err-add_test-clause-refused : goal.returns-in_err-add_test-clause-refused
+returns-in_err-add_test-clause-refused c =
+    let whole = test_among c.args.scope.now c.args.label c.args.choices.now c.loop-choice.choice-index c.args.code.now c.loop-choice.code
+    c.in_err-add_test.field-0.0 c.loop-choice-test.true c.loop-choice.invariant c.in_err-add_test.ensures.refused in
+    search (rules, whole)

@@ -1,4 +1,5 @@
-use Rattle.std.proofs.Common.{refl, arith}
+use Rattle.std.proofs.Common.{refl, rules, arith}
+use Rattle.stmt_code.proofs.PartsRefused.{first_refused, last_refused}
 use Rattle.ada_tree.specs.StatementTree.{range_tree}
 use Rattle.stmt_code.proofs.Bounded.{first_legal, integer_legal, integer_width, last_legal}
 use Rattle.stmt_code.proofs.draft.Draft.begin_range.Goals as goal
@@ -27,21 +28,31 @@ of_width-requires-2-clause-wide c =
     let range = range_tree c.args.range.now in
     integer_width s c.requires.sound range.last (last_legal s c.args.parameter.now range c.requires.legal)
 
-pub returns : goal.returns
-returns c = record {
-  begins = record {
-    middle = c.of_width.new.self;
-    first = c.in_ok-of_width.ensures.emits;
-    bounded = c.of_width-2.new.self;
-    last = c.in_ok-of_width-2.ensures.emits;
-    begins = c.in_ok-null.ensures.begins;
-    takes = c.in_ok-counter.ensures.takes;
-    counter = c.in_ok-counter.ensures.first;
-    limit = omega arith;
-    goes = refl;
-    labels = refl;
-    scope = c.in_ok-declare_loop_parameter.ensures.ok;
-    slots = c.in_ok-push.ensures;
-    subprograms = c.in_ok-push-2.ensures;
-  };
+pub returns-clause-begins : goal.returns-clause-begins
+returns-clause-begins c = record {
+  middle = c.of_width.new.self;
+  first = c.in_ok-of_width.ensures.emits;
+  bounded = c.of_width-2.new.self;
+  last = c.in_ok-of_width-2.ensures.emits;
+  begins = c.in_ok-null.ensures.begins;
+  takes = c.in_ok-counter.ensures.takes;
+  counter = c.in_ok-counter.ensures.first;
+  limit = omega arith;
+  goes = refl;
+  labels = refl;
+  scope = c.in_ok-declare_loop_parameter.ensures.ok;
+  slots = c.in_ok-push.ensures.pushed;
+  subprograms = c.in_ok-push-2.ensures.pushed;
 }
+
+pub returns-in_err-of_width-clause-refused : goal.returns-in_err-of_width-clause-refused
+returns-in_err-of_width-clause-refused c =
+    let whole = first_refused c.args.visible.now c.args.self.now c.args.self.now c.args.parameter.now c.args.reversed (range_tree c.args.range.now)
+    c.in_err-of_width.field-0.0 c.in_err-of_width.ensures.refused in
+    search (rules, whole)
+
+pub returns-in_err-of_width-2-clause-refused : goal.returns-in_err-of_width-2-clause-refused
+returns-in_err-of_width-2-clause-refused c =
+    let whole = last_refused c.args.visible.now c.args.self.now c.args.self.now c.args.parameter.now c.args.reversed (range_tree c.args.range.now)
+    c.in_err-of_width-2.field-0.0 c.of_width.new.self c.in_ok-of_width.ensures.emits.sized c.in_err-of_width-2.ensures.refused in
+    search (rules, whole)

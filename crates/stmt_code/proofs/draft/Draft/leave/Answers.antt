@@ -6,13 +6,11 @@ use Rattle.stmt_code.specs.Emitting.{EmitsStatement, ways_of}
 use Rattle.stmt_code.proofs.Adding.{return_emits}
 use Rattle.stmt_code.proofs.draft.Draft.leave.Goals as goal
 
-pub returns-in-Some-None : goal.returns-in-Some-None
-returns-in-Some-None c = record {
-  emits = on_ok_weaker _
-      (λ q.
-      subst (λ x. EmitsStatement c.args.visible.now (ways_of c.args.leaving) c.args.self.now (Return c.args.place (optional_tree expr_tree x))
-      (record { code = c.emit.new.self; labels = c.args.self.now.labels; words = c.args.self.now.words })) (sym c.in-Some-None.is-1)
-      (return_emits c.args.visible.now (ways_of c.args.leaving) c.args.self.now (record { code = c.emit.new.self; labels = c.args.self.now.labels; words = c.args.self.now.words }) c.args.place
-      c.in-Some-None.end c.in-Some-None.is-0 q (refl, refl)))
-      c.emit.ensures.adds;
-}
+pub returns-in-Some-None-clause-emits : goal.returns-in-Some-None-clause-emits
+returns-in-Some-None-clause-emits c = on_ok_weaker _
+    (λ q.
+    subst (λ x. EmitsStatement c.args.visible.now (ways_of c.args.leaving) c.args.self.now (Return c.args.place (optional_tree expr_tree x))
+    (record { code = c.emit.new.self; labels = c.args.self.now.labels; words = c.args.self.now.words })) (sym c.in-Some-None.is-1)
+    (return_emits c.args.visible.now (ways_of c.args.leaving) c.args.self.now (record { code = c.emit.new.self; labels = c.args.self.now.labels; words = c.args.self.now.words }) c.args.place
+    c.in-Some-None.end c.in-Some-None.is-0 q (refl, refl)))
+    c.emit.ensures.adds

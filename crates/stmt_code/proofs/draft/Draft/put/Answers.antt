@@ -1,4 +1,6 @@
-use Rattle.std.proofs.Common.{refl, sym}
+use Rattle.std.proofs.Common.{refl, rules, sym}
+use Rattle.stmt_code.specs.Emitting.{no_ways}
+use Rattle.stmt_code.proofs.PartsRefused.{line_refused}
 use Rattle.std.proofs.lemmas.Result.{on_ok_weaker}
 use Rattle.ada_tree.specs.ExpressionTree.{expr_tree, name_tree}
 use Rattle.types.specs.Scopes.{integer_type}
@@ -20,14 +22,18 @@ of_width-requires-clause-wide c =
     (line_faults c.args.visible.now.scope (name_tree c.args.name.now) c.in-Some.label.now (expr_tree c.in-Some.value.now) c.requires.legal
     (put_is (entity_named c.args.visible.now.scope c.args.name.now.first.name) (sym c.if-not-is_put.ensures)) (sym c.in-Some.ensures))
 
-pub returns-in_ok-number-in-Some : goal.returns-in_ok-number-in-Some
-returns-in_ok-number-in-Some c = record {
-  emits = λ w.
-      on_ok_weaker _
-      (λ q.
-      put_emits c.args.visible.now w c.args.self.now (record { code = c.emit.new.self; labels = c.number.new.self; words = c.args.self.now.words }) c.of_width.new.self (name_tree c.args.name.now)
-      c.in-Some.label.now (expr_tree c.in-Some.value.now) c.in_ok-number-in-Some.number
-      (put_is (entity_named c.args.visible.now.scope c.args.name.now.first.name) (sym c.if-not-is_put.ensures)) (sym c.in-Some.ensures)
-      c.in_ok-of_width-in-Some.ensures.emits q c.in_ok-number-in-Some.ensures.stay refl c.in_ok-number-in-Some.ensures.number)
-      c.emit.ensures.adds;
-}
+pub returns-in_ok-number-in-Some-clause-emits : goal.returns-in_ok-number-in-Some-clause-emits
+returns-in_ok-number-in-Some-clause-emits c = λ w.
+    on_ok_weaker _
+    (λ q.
+    put_emits c.args.visible.now w c.args.self.now (record { code = c.emit.new.self; labels = c.number.new.self; words = c.args.self.now.words }) c.of_width.new.self (name_tree c.args.name.now)
+    c.in-Some.label.now (expr_tree c.in-Some.value.now) c.in_ok-number-in-Some.number
+    (put_is (entity_named c.args.visible.now.scope c.args.name.now.first.name) (sym c.if-not-is_put.ensures)) (sym c.in-Some.ensures)
+    c.in_ok-of_width-in-Some.ensures.emits q c.in_ok-number-in-Some.ensures.stay refl c.in_ok-number-in-Some.ensures.number)
+    c.emit.ensures.adds
+
+pub returns-in_err-of_width-in-Some-clause-refused : goal.returns-in_err-of_width-in-Some-clause-refused
+returns-in_err-of_width-in-Some-clause-refused c =
+    let whole = line_refused c.args.visible.now no_ways c.args.self.now c.args.self.now c.in_err-of_width-in-Some.field-0.0 (name_tree c.args.name.now)
+    (record { label = c.in-Some.label.now; value = expr_tree c.in-Some.value.now }) (sym c.in-Some.ensures) c.in_err-of_width-in-Some.ensures.refused in
+    search (rules, whole)

@@ -1,8 +1,10 @@
-use Rattle.std.proofs.Common.{◌∙◌, ap, length, map, refl, subst, take}
+use Rattle.std.proofs.Common.{◌∙◌, ap, arith, length, map, refl, rules, subst, take}
 use Rattle.ada_tree.specs.StatementTree.{declaration_tree, stmt_trees}
 use Rattle.image.specs.declared.instruction.Operation.TheVariants as op
 use Rattle.expr_code.specs.Code.{Patches}
 use Rattle.stmt_code.specs.declared.draft.Draft.{Draft}
+use Rattle.stmt_code.specs.Bounds.{stmts_bound}
+use Rattle.stmt_code.proofs.PartsRefused.{begun_here, run_body_refused, run_locals_refused, run_refused}
 use Rattle.stmt_code.proofs.Running.{run_emits}
 use Rattle.stmt_code.proofs.draft.Draft.run.Goals as goal
 
@@ -26,3 +28,38 @@ returns-clause-same c =
     let slots = (λ j. take (c.of-extent.ensures.slots j) (there j).slots) ∙ declared.slots in
     let subprograms = (λ j. take (c.of-extent.ensures.subprograms j) (there j).subprograms) ∙ declared.subprograms in
     c.restore.ensures.visible ∙ (λ j. record { scope = scope j; slots = slots j; subprograms = subprograms j })
+
+pub returns-in_err-declarations-clause-refused : goal.returns-in_err-declarations-clause-refused
+returns-in_err-declarations-clause-refused c =
+    let whole = run_locals_refused c.args.visible.now c.args.self.now c.declarations.new.self c.in_err-declarations.field-0.0
+    (map declaration_tree c.args.declarations.now) (stmt_trees c.args.statements.now) c.in_err-declarations.ensures.refused in
+    search (rules, whole)
+
+pub returns-in_err-head-clause-refused : goal.returns-in_err-head-clause-refused
+returns-in_err-head-clause-refused c =
+    let one = c.in_ok-declarations.ensures.emits.sized in
+    let whole = run_refused c.args.visible.now c.args.self.now c.declarations.new.self c.in_err-head.field-0.0
+    (map declaration_tree c.args.declarations.now) (stmt_trees c.args.statements.now) _ (omega (arith, one)) c.in_err-head.ensures.refused in
+    search (rules, whole)
+
+pub returns-in_err-statements-clause-refused : goal.returns-in_err-statements-clause-refused
+returns-in_err-statements-clause-refused c =
+    let declared = c.in_ok-declarations.ensures.emits in
+    let one = declared.sized in
+    let two = begun_here _ _ c.in_ok-head.ensures.begins in
+    let begun : Draft = record { code = c.begin_loop.new.code; labels = c.declarations.new.self.labels; words = c.declarations.new.self.words } in
+    let whole = run_body_refused c.args.visible.now c.args.self.now c.statements.new.self c.in_err-statements.field-0.0
+    (map declaration_tree c.args.declarations.now) (stmt_trees c.args.statements.now) c.declarations.new.visible c.in_ok-head.head.exit begun
+    c.in_ok-declarations.ensures.shown declared.scope c.in_ok-declarations.ensures.taken (omega (arith, one, two)) c.in_err-statements.ensures.refused in
+    search (rules, whole)
+
+pub returns-in_err-end-clause-refused : goal.returns-in_err-end-clause-refused
+returns-in_err-end-clause-refused c =
+    let declared = c.in_ok-declarations.ensures.emits in
+    let one = declared.sized in
+    let two = begun_here _ _ c.in_ok-head.ensures.begins in
+    let three = c.in_ok-statements.ensures.emits.sized in
+    let inner = ap (λ s. stmts_bound s (stmt_trees c.args.statements.now)) declared.scope in
+    let whole = run_refused c.args.visible.now c.args.self.now c.statements.new.self c.in_err-end.field-0.0
+    (map declaration_tree c.args.declarations.now) (stmt_trees c.args.statements.now) _ (omega (arith, one, two, three, inner)) c.in_err-end.ensures.refused in
+    search (rules, whole)

@@ -1,0 +1,415 @@
+-- What refuses the code of a statement at each place of its method: its parts, one behind the other, and the instructions between them.
+use Rattle.std.proofs.Common.{◌≡◌, ◌≤◌, ◌<◌, ◌+◌, ◌*◌, ◌∷◌, ◌++◌, ◌⊎◌, inl, ℕ, List, [], length, take, Bool, true, false, Some, None, refl, sym, ap, ◌∙◌, subst, arith}
+use Rattle.std.specs.Prelude.{get_or, is_some, max, not}
+use Rattle.ada_tree.specs.declared.expression.Identifier.{Identifier}
+use Rattle.ada_tree.specs.declared.statement.Alternative.{Alternative}
+use Rattle.ada_tree.specs.declared.statement.ElsifPart.{ElsifPart}
+use Rattle.ada_tree.specs.declared.statement.Handler.{Handler}
+use Rattle.ada_tree.specs.declared.statement.Stmt.{Stmt}
+use Rattle.ada_tree.specs.ExpressionTree.{ExprTree, NameTree}
+use Rattle.ada_tree.specs.StatementTree as tree
+use Rattle.ada_tree.specs.StatementTree.{AlternativeTrees, Block, Case, ChoicesTree, DeclarationTree, ElsifTrees, Exit, For, Forever, HandlerTrees, If, IterationTree, Loop, NoHandlers, RangeTree, Return, StmtTree, StmtTrees, While, alternative_tree, alternative_trees, alternatives_of, declaration_tree, elsif_tree, elsif_trees, elsifs_of, handler_trees, stmt_tree, stmt_trees}
+use Rattle.ada_tree.specs.Size.{choices_size, expr_size, selectors_size}
+use Rattle.image.specs.declared.instruction.Operation.TheVariants as op
+use Rattle.image.specs.declared.instruction.Region.TheVariants as regions
+use Rattle.declaring.specs.BodyNames.{loop_scope}
+use Rattle.declaring.specs.LocalRules.{locals_scope}
+use Rattle.expr_code.specs.Code.{here}
+use Rattle.expr_code.specs.Refusing.{IsRefused, RefusesExpression}
+use Rattle.expr_code.specs.declared.code.Code.{Code}
+use Rattle.expr_code.specs.declared.refusal.Refusal.{Refusal}
+use Rattle.expr_code.specs.declared.visible.Visible.{Visible}
+use Rattle.expr_code.proofs.Growing.{added_here}
+use Rattle.expr_code.proofs.Refusals.{peak_some}
+use Rattle.stmt_code.specs.Emitting.{BeginsLoop}
+use Rattle.stmt_code.specs.Bounds.{alternatives_bound, declarations_bound, elsifs_bound, locals_words, run_bound, stmt_bound, stmts_bound}
+use Rattle.stmt_code.specs.Refusing.{Around, HasManyLabels, IsNeeding, Needs, Refuses, RefusesAlternatives, RefusesChoices, RefusesDeclarations, RefusesParts, RefusesRange, RefusesRun, RefusesStatement, RefusesStatements, alternatives_needs, around, behind_locals, beyond_if, both, choices_needs, counted_visible, elsifs_needs, framed, head_needs, in_body, in_loop, inside_counted, inside_loop, locals_needs, locals_visible, line_needs, needs_above, nothing, put_needs, run_needs, stmt_needs, stmts_needs, value_needs, with_object}
+use Rattle.stmt_code.specs.Statements.{Ways, within_loop}
+use Rattle.stmt_code.specs.Turns.{BeginsRange, EndsTurn, bounds_compared, value_counted, values_compared}
+use Rattle.stmt_code.specs.declared.draft.Draft.{Draft}
+use Rattle.stmt_code.specs.declared.range_loop.Turns.{Turns}
+use Rattle.sound_steps.specs.Fitting.{entity_named}
+use Rattle.stmt_code.specs.Lines.{Line, is_put, line_of}
+use Rattle.stmt_code.proofs.Putting.{line_written}
+use Rattle.stmt_code.proofs.Turned.{all_here}
+use Rattle.stmt_code.proofs.Refused.{Within, alternatives_among, front_within, in_left, in_right, needing_refused, of_right, part_refused, parts_among, plain_refused, stack_within, statements_among, value_refused, within_self}
+
+-- words that a part has on the operand stack
+pub part_high : (h : ℕ) (p b : Needs) → Within p b → h ≤ p.stack → h ≤ max b.stack b.frame
+part_high h p b within up = stack_within h b (let more = within.stack in omega (arith, up, more))
+
+-- where as many words are taken
+pub around_same : (v : Visible) (w : Ways) (old mid : Draft) → mid.words.taken ≡ old.words.taken → around v w mid ≡ around v w old
+around_same v w old mid same = ap (λ n. record { visible = v; taken = n; looped = is_some w.exit; returns = is_some w.return }) same
+
+pub placed_refused : (v : Visible) (w : Ways) (old mid : Draft) (labels : List (List ℕ)) (f : Around → Needs) (m n : ℕ) (b : Needs) (why : Refusal)
+    → mid.words.taken ≡ old.words.taken → m ≤ n → Within (f (around v w old)) b
+    → (IsNeeding m (f (around v w mid)) why ⊎ HasManyLabels labels why) → (IsNeeding n b why ⊎ HasManyLabels labels why)
+placed_refused v w old mid labels f m n b why same up within r =
+    part_refused m n (f (around v w mid)) b labels why up (subst (λ a. Within (f a) b) (sym (around_same v w old mid same)) within) r
+
+module _ (v : Visible) (w : Ways) (old new : Draft) (why : Refusal) where
+  abbrev at : Around
+  at = around v w old
+
+  -- ---- a part of an `if`
+
+  module _ (e : ExprTree) (body : StmtTrees) where
+    abbrev part : ElsifTrees
+    part = elsifs_of ((e, body) ∷ [])
+
+    condition_in : Within (value_needs v e) (elsifs_needs at part)
+    condition_in = in_left (value_needs v e) (both (stmts_needs at body) nothing)
+
+    body_in : Within (stmts_needs at body) (elsifs_needs at part)
+    body_in = of_right (stmts_needs at body) (value_needs v e) (both (stmts_needs at body) nothing) (in_left (stmts_needs at body) nothing)
+
+    pub condition_refused : RefusesExpression v old.code 0 e why → RefusesParts v w old part new why
+    condition_refused r =
+        value_refused v old.code 0 e (here old.code + elsifs_bound v.scope part) (elsifs_needs at part) new.labels why (omega arith) condition_in r
+
+    pub test_refused : (m : Code) → here m ≤ here old.code + 20 * expr_size e → IsRefused (here m + 1) 1 false why → RefusesParts v w old part new why
+    test_refused m up r =
+        plain_refused (here m + 1) (here old.code + elsifs_bound v.scope part) 1 (elsifs_needs at part) new.labels why (omega (arith, up))
+        (part_high 1 (value_needs v e) (elsifs_needs at part) condition_in (let some = peak_some v.scope e in omega (arith, some))) r
+
+    pub body_refused : (mid : Draft) → mid.words.taken ≡ old.words.taken → here mid.code ≤ here old.code + (20 * expr_size e + 1)
+        → RefusesStatements v w mid body new why → RefusesParts v w old part new why
+    body_refused mid same up r =
+        placed_refused v w old mid new.labels (λ a. stmts_needs a body) (here mid.code + stmts_bound v.scope body) (here old.code + elsifs_bound v.scope part)
+        (elsifs_needs at part) why same (omega (arith, up)) body_in r
+
+    pub close_refused : (m : Code) → here m ≤ here old.code + (20 * expr_size e + 1 + stmts_bound v.scope body) → IsRefused (here m + 1) 0 false why
+        → RefusesParts v w old part new why
+    close_refused m up r =
+        plain_refused (here m + 1) (here old.code + elsifs_bound v.scope part) 0 (elsifs_needs at part) new.labels why (omega (arith, up)) (omega arith) r
+
+  -- one of those behind it
+  pub part_refuses : (mid : Draft) (all : List ElsifPart) (n : ℕ) (x : ElsifPart) → n < length all → x ≡ get_or all n x → mid.words.taken ≡ old.words.taken
+      → here mid.code ≤ here old.code + elsifs_bound v.scope (elsif_trees (take n all))
+      → RefusesParts v w mid (elsifs_of (elsif_tree x ∷ [])) new why → RefusesParts v w old (elsif_trees all) new why
+  part_refuses mid all n x less is same up r =
+      let among = parts_among at all n x less is in
+      let sum = among.0 in
+      placed_refused v w old mid new.labels (λ a. elsifs_needs a (elsifs_of (elsif_tree x ∷ [])))
+      (here mid.code + elsifs_bound v.scope (elsifs_of (elsif_tree x ∷ []))) (here old.code + elsifs_bound v.scope (elsif_trees all))
+      (elsifs_needs at (elsif_trees all)) why same (omega (arith, up, sum)) among.1 r
+
+  -- ---- an `if`
+
+  module _ (place : ℕ) (e : ExprTree) (body : StmtTrees) (elsifs : ElsifTrees) (others : StmtTrees) where
+    abbrev if_whole : StmtTree
+    if_whole = If place e body elsifs others
+
+    abbrev if_rest : Needs
+    if_rest = both (elsifs_needs at elsifs) (stmts_needs at others)
+
+    pub first_refuses : RefusesParts v w old (elsifs_of ((e, body) ∷ [])) new why → RefusesStatement v w old if_whole new why
+    first_refuses r =
+        part_refused (here old.code + elsifs_bound v.scope (elsifs_of ((e, body) ∷ []))) (here old.code + stmt_bound v.scope if_whole)
+        (elsifs_needs at (elsifs_of ((e, body) ∷ []))) (stmt_needs at if_whole) new.labels why (omega arith)
+        (front_within (value_needs v e) (stmts_needs at body) if_rest) r
+
+    pub elsifs_refuse : (mid : Draft) → mid.words.taken ≡ old.words.taken → here mid.code ≤ here old.code + elsifs_bound v.scope (elsifs_of ((e, body) ∷ []))
+        → RefusesParts v w mid elsifs new why → RefusesStatement v w old if_whole new why
+    elsifs_refuse mid same up r =
+        placed_refused v w old mid new.labels (λ a. elsifs_needs a elsifs) (here mid.code + elsifs_bound v.scope elsifs)
+        (here old.code + stmt_bound v.scope if_whole) (stmt_needs at if_whole) why same (omega (arith, up))
+        (of_right (elsifs_needs at elsifs) (value_needs v e) (both (stmts_needs at body) if_rest)
+        (of_right (elsifs_needs at elsifs) (stmts_needs at body) if_rest (in_left (elsifs_needs at elsifs) (stmts_needs at others)))) r
+
+    pub others_refuse : (mid : Draft) → mid.words.taken ≡ old.words.taken
+        → here mid.code ≤ here old.code + (elsifs_bound v.scope (elsifs_of ((e, body) ∷ [])) + elsifs_bound v.scope elsifs)
+        → RefusesStatements v w mid others new why → RefusesStatement v w old if_whole new why
+    others_refuse mid same up r =
+        placed_refused v w old mid new.labels (λ a. stmts_needs a others) (here mid.code + stmts_bound v.scope others)
+        (here old.code + stmt_bound v.scope if_whole) (stmt_needs at if_whole) why same (omega (arith, up))
+        (of_right (stmts_needs at others) (value_needs v e) (both (stmts_needs at body) if_rest)
+        (of_right (stmts_needs at others) (stmts_needs at body) if_rest (in_right (elsifs_needs at elsifs) (stmts_needs at others)))) r
+
+    pub rejoin_refuses : (m : Code)
+        → here m ≤ here old.code + (elsifs_bound v.scope (elsifs_of ((e, body) ∷ [])) + elsifs_bound v.scope elsifs + stmts_bound v.scope others)
+        → IsRefused (here m) 0 false why → RefusesStatement v w old if_whole new why
+    rejoin_refuses m up r =
+        plain_refused (here m) (here old.code + stmt_bound v.scope if_whole) 0 (stmt_needs at if_whole) new.labels why (omega (arith, up)) (omega arith) r
+
+  -- ---- loops
+
+  module _ (place : ℕ) (iteration : IterationTree) (body : StmtTrees) where
+    abbrev loop_whole : StmtTree
+    loop_whole = Loop place iteration body
+
+    pub instruction_refuses : (m h : ℕ) → m ≤ here old.code + stmt_bound v.scope loop_whole → h ≤ (head_needs at iteration).stack → IsRefused m h false why
+        → RefusesStatement v w old loop_whole new why
+    instruction_refuses m h up high r =
+        plain_refused m (here old.code + stmt_bound v.scope loop_whole) h (stmt_needs at loop_whole) new.labels why up
+        (part_high h (head_needs at iteration) (stmt_needs at loop_whole) (in_left (head_needs at iteration) (stmts_needs (in_loop at iteration) body)) high) r
+
+  -- statements in a loop with a way out
+  looped_same : (exit : ℕ) (mid : Draft) → mid.words.taken ≡ old.words.taken → around v (within_loop exit w) mid ≡ inside_loop at
+  looped_same exit mid same = ap (λ n. record { visible = v; taken = n; looped = true; returns = is_some w.return }) same
+
+  pub forever_body : (place exit : ℕ) (body : StmtTrees) (mid : Draft) → mid.words.taken ≡ old.words.taken → here mid.code ≤ here old.code + 2
+      → RefusesStatements v (within_loop exit w) mid body new why → RefusesStatement v w old (Loop place Forever body) new why
+  forever_body place exit body mid same up r =
+      part_refused (here mid.code + stmts_bound v.scope body) (here old.code + stmt_bound v.scope (Loop place Forever body))
+      (stmts_needs (around v (within_loop exit w) mid) body) (stmt_needs at (Loop place Forever body)) new.labels why (omega (arith, up))
+      (subst (λ a. Within (stmts_needs a body) (stmt_needs at (Loop place Forever body))) (sym (looped_same exit mid same))
+      (in_right nothing (stmts_needs (inside_loop at) body))) r
+
+  module _ (place : ℕ) (e : ExprTree) (body : StmtTrees) where
+    abbrev while_whole : StmtTree
+    while_whole = Loop place (While e) body
+
+    pub while_condition_refused : (m : Code) → here m ≤ here old.code + 2 → RefusesExpression v m 0 e why → RefusesStatement v w old while_whole new why
+    while_condition_refused m up r =
+        value_refused v m 0 e (here old.code + stmt_bound v.scope while_whole) (stmt_needs at while_whole) new.labels why (omega (arith, up))
+        (in_left (value_needs v e) (stmts_needs (inside_loop at) body)) r
+
+    pub while_body_refused : (exit : ℕ) (mid : Draft) → mid.words.taken ≡ old.words.taken → here mid.code ≤ here old.code + (20 * expr_size e + 3)
+        → RefusesStatements v (within_loop exit w) mid body new why → RefusesStatement v w old while_whole new why
+    while_body_refused exit mid same up r =
+        part_refused (here mid.code + stmts_bound v.scope body) (here old.code + stmt_bound v.scope while_whole)
+        (stmts_needs (around v (within_loop exit w) mid) body) (stmt_needs at while_whole) new.labels why (omega (arith, up))
+        (subst (λ a. Within (stmts_needs a body) (stmt_needs at while_whole)) (sym (looped_same exit mid same))
+        (in_right (value_needs v e) (stmts_needs (inside_loop at) body))) r
+
+  module _ (place : ℕ) (parameter : Identifier) (reversed : Bool) (range : RangeTree) (body : StmtTrees) where
+    abbrev counted : StmtTree
+    counted = Loop place (For parameter reversed range) body
+
+    pub range_refused : (mid : Draft) → mid.words.taken ≡ old.words.taken → here mid.code ≤ here old.code + 2
+        → RefusesRange v mid parameter reversed range new why → RefusesStatement v w old counted new why
+    range_refused mid same up r =
+        part_refused (here mid.code + (6 + 20 * (expr_size range.first + expr_size range.last))) (here old.code + stmt_bound v.scope counted)
+        (range_needs mid.words.taken) (stmt_needs at counted) new.labels why (omega (arith, up))
+        (subst (λ n. Within (range_needs n) (stmt_needs at counted)) (sym same)
+        (in_left (range_needs old.words.taken) (stmts_needs (inside_counted at parameter range) body))) r
+      where
+        range_needs : ℕ → Needs
+        range_needs n = both (framed (n + 2)) (both (value_needs v range.first) (needs_above 1 v range.last))
+
+    pub counted_body : (exit : ℕ) (later : Visible) (mid : Draft) → later ≡ counted_visible at parameter range → mid.words.taken ≡ old.words.taken + 2
+        → here mid.code ≤ here old.code + (8 + 20 * (expr_size range.first + expr_size range.last))
+        → RefusesStatements later (within_loop exit w) mid body new why → RefusesStatement v w old counted new why
+    counted_body exit later mid seen same up r =
+        part_refused (here mid.code + stmts_bound later.scope body) (here old.code + stmt_bound v.scope counted)
+        (stmts_needs (around later (within_loop exit w) mid) body) (stmt_needs at counted) new.labels why
+        (let scope = ap (λ x. stmts_bound x.scope body) seen in omega (arith, up, scope))
+        (subst (λ a. Within (stmts_needs a body) (stmt_needs at counted)) (sym inside)
+        (in_right (head_needs at (For parameter reversed range)) (stmts_needs (inside_counted at parameter range) body))) r
+      where
+        inside : around later (within_loop exit w) mid ≡ inside_counted at parameter range
+        inside = λ j. record { visible = seen j; taken = same j; looped = true; returns = is_some w.return }
+
+  -- ---- a `case`
+
+  -- an alternative: its choices, its statements, and the jump behind them
+  module _ (place : ℕ) (choices : ChoicesTree) (body : StmtTrees) where
+    abbrev choice : AlternativeTrees
+    choice = alternatives_of ((place, (choices, body)) ∷ [])
+
+    choices_in : Within (choices_needs v.scope choices) (alternatives_needs at choice)
+    choices_in = in_left (choices_needs v.scope choices) (both (stmts_needs at body) nothing)
+
+    chosen_in : Within (stmts_needs at body) (alternatives_needs at choice)
+    chosen_in =
+        of_right (stmts_needs at body) (choices_needs v.scope choices) (both (stmts_needs at body) nothing) (in_left (stmts_needs at body) nothing)
+
+    pub choices_refused : RefusesChoices v.scope old.code choices (20 * choices_size choices + 2) why → RefusesAlternatives v w old choice new why
+    choices_refused r =
+        inl (needing_refused (here old.code + (20 * choices_size choices + 2)) (here old.code + alternatives_bound v.scope choice) (choices_needs v.scope choices)
+        (alternatives_needs at choice) (omega arith) choices_in why r)
+
+    pub chosen_refused : (mid : Draft) → mid.words.taken ≡ old.words.taken → here mid.code ≤ here old.code + (20 * choices_size choices + 2)
+        → RefusesStatements v w mid body new why → RefusesAlternatives v w old choice new why
+    chosen_refused mid same up r =
+        placed_refused v w old mid new.labels (λ a. stmts_needs a body) (here mid.code + stmts_bound v.scope body)
+        (here old.code + alternatives_bound v.scope choice) (alternatives_needs at choice) why same (omega (arith, up)) chosen_in r
+
+    pub leaving_refused : (m : ℕ) → m ≤ here old.code + (20 * choices_size choices + 3 + stmts_bound v.scope body) → IsRefused m 0 false why
+        → RefusesAlternatives v w old choice new why
+    leaving_refused m up r =
+        plain_refused m (here old.code + alternatives_bound v.scope choice) 0 (alternatives_needs at choice) new.labels why (omega (arith, up)) (omega arith) r
+
+  pub alternative_refuses : (mid : Draft) (all : List Alternative) (n : ℕ) (x : Alternative) → n < length all → x ≡ get_or all n x
+      → mid.words.taken ≡ old.words.taken
+      → here mid.code ≤ here old.code + alternatives_bound v.scope (alternative_trees (take n all))
+      → RefusesAlternatives v w mid (alternatives_of (alternative_tree x ∷ [])) new why → RefusesAlternatives v w old (alternative_trees all) new why
+  alternative_refuses mid all n x less is same up r =
+      let among = alternatives_among at all n x less is in
+      let sum = among.0 in
+      placed_refused v w old mid new.labels (λ a. alternatives_needs a (alternatives_of (alternative_tree x ∷ [])))
+      (here mid.code + alternatives_bound v.scope (alternatives_of (alternative_tree x ∷ []))) (here old.code + alternatives_bound v.scope (alternative_trees all))
+      (alternatives_needs at (alternative_trees all)) why same (omega (arith, up, sum)) among.1 r
+
+  module _ (place : ℕ) (e : ExprTree) (all : AlternativeTrees) where
+    abbrev case_whole : StmtTree
+    case_whole = Case place e all
+
+    selected_in : Within (value_needs v e) (stmt_needs at case_whole)
+    selected_in = in_left (value_needs v e) (alternatives_needs at all)
+
+    pub selected_refused : RefusesExpression v old.code 0 e why → RefusesStatement v w old case_whole new why
+    selected_refused r =
+        value_refused v old.code 0 e (here old.code + stmt_bound v.scope case_whole) (stmt_needs at case_whole) new.labels why (omega arith) selected_in r
+
+    pub alternatives_refused : (mid : Draft) → mid.words.taken ≡ old.words.taken → here mid.code ≤ here old.code + 20 * expr_size e
+        → RefusesAlternatives v w mid all new why → RefusesStatement v w old case_whole new why
+    alternatives_refused mid same up r =
+        placed_refused v w old mid new.labels (λ a. alternatives_needs a all) (here mid.code + alternatives_bound v.scope all)
+        (here old.code + stmt_bound v.scope case_whole) (stmt_needs at case_whole) why same (omega (arith, up))
+        (in_right (value_needs v e) (alternatives_needs at all)) r
+
+    pub dropped_refused : (m h : ℕ) → m ≤ here old.code + (20 * expr_size e + alternatives_bound v.scope all + 1) → h ≤ 1 → IsRefused m h false why
+        → RefusesStatement v w old case_whole new why
+    dropped_refused m h up high r =
+        plain_refused m (here old.code + stmt_bound v.scope case_whole) h (stmt_needs at case_whole) new.labels why (omega (arith, up))
+        (part_high h (value_needs v e) (stmt_needs at case_whole) selected_in (let some = peak_some v.scope e in omega (arith, high, some))) r
+
+  -- ---- ways out, and lines
+
+  pub exit_refused : (place : ℕ) (e : ExprTree) → RefusesExpression v old.code 0 e why → RefusesStatement v w old (Exit place (Some e)) new why
+  exit_refused place e r =
+      value_refused v old.code 0 e (here old.code + stmt_bound v.scope (Exit place (Some e))) (stmt_needs at (Exit place (Some e))) new.labels why (omega arith)
+      (in_right (beyond_if (not at.looped)) (value_needs v e)) r
+
+  pub line_refused : (name : NameTree) (line : Line) → line_of name ≡ Some line → RefusesExpression v old.code 0 line.value why
+      → Refuses old new (stmt_bound v.scope (tree.Call name)) (put_needs v name) why
+  line_refused name line is r =
+      let size = ap selectors_size (line_written name.selectors line.label line.value is).is in
+      value_refused v old.code 0 line.value (here old.code + stmt_bound v.scope (tree.Call name)) (put_needs v name) new.labels why (omega (arith, size))
+      (of_right (value_needs v line.value) (beyond_if (not (is_put (entity_named v.scope name.first.name)))) (line_needs v (line_of name))
+      (subst (λ o. Within (value_needs v line.value) (line_needs v o)) (sym is) (within_self (value_needs v line.value)))) r
+
+  -- ---- statements one behind another
+
+  pub statement_refuses : (mid : Draft) (all : List Stmt) (n : ℕ) (x : Stmt) → n < length all → x ≡ get_or all n x → mid.words.taken ≡ old.words.taken
+      → here mid.code ≤ here old.code + stmts_bound v.scope (stmt_trees (take n all))
+      → RefusesStatement v w mid (stmt_tree x) new why → RefusesStatements v w old (stmt_trees all) new why
+  statement_refuses mid all n x less is same up r =
+      let among = statements_among at all n x less is in
+      let sum = among.0 in
+      placed_refused v w old mid new.labels (λ a. stmt_needs a (stmt_tree x)) (here mid.code + stmt_bound v.scope (stmt_tree x))
+      (here old.code + stmts_bound v.scope (stmt_trees all)) (stmts_needs at (stmt_trees all)) why same (omega (arith, up, sum)) among.1 r
+
+  -- ---- blocks
+
+  pub handlers_refused : (place : ℕ) (ds : List DeclarationTree) (body : StmtTrees) (hs : List Handler) → 1 ≤ length hs
+      → (stmt_needs at (Block place ds body (handler_trees hs))).outside ≡ true
+  handlers_refused place ds body [] some = absurd (omega (arith, some))
+  handlers_refused place ds body (h ∷ hs) some = refl
+
+  module _ (place : ℕ) (ds : List DeclarationTree) (body : StmtTrees) where
+    abbrev block : StmtTree
+    block = Block place ds body NoHandlers
+
+    abbrev block_needs : Needs
+    block_needs = both (locals_needs v old.words.taken ds) (stmts_needs (behind_locals at ds) body)
+
+    pub locals_refused : RefusesDeclarations v old ds new why → RefusesStatement v w old block new why
+    locals_refused r =
+        part_refused (here old.code + declarations_bound v.scope ds) (here old.code + stmt_bound v.scope block) (locals_needs v old.words.taken ds)
+        (stmt_needs at block) new.labels why (omega arith)
+        (of_right (locals_needs v old.words.taken ds) nothing block_needs
+        (in_left (locals_needs v old.words.taken ds) (stmts_needs (behind_locals at ds) body))) r
+
+    pub block_body_refused : (later : Visible) (mid : Draft) → later ≡ locals_visible v old.words.taken ds → later.scope ≡ locals_scope v.scope ds
+        → mid.words.taken ≡ old.words.taken + locals_words v.scope ds → here mid.code ≤ here old.code + declarations_bound v.scope ds
+        → RefusesStatements later w mid body new why → RefusesStatement v w old block new why
+    block_body_refused later mid seen scope same up r =
+        part_refused (here mid.code + stmts_bound later.scope body) (here old.code + stmt_bound v.scope block) (stmts_needs (around later w mid) body)
+        (stmt_needs at block) new.labels why (let inner = ap (λ s. stmts_bound s body) scope in omega (arith, up, inner))
+        (subst (λ a. Within (stmts_needs a body) (stmt_needs at block)) (sym inside)
+        (of_right (stmts_needs (behind_locals at ds) body) nothing block_needs
+        (in_right (locals_needs v old.words.taken ds) (stmts_needs (behind_locals at ds) body)))) r
+      where
+        inside : around later w mid ≡ behind_locals at ds
+        inside = λ j. record { visible = seen j; taken = same j; looped = is_some w.exit; returns = is_some w.return }
+
+-- ---- where instructions stand
+
+pub begun_here : (old new : Code) → BeginsLoop old new → here new ≡ here old + 2
+begun_here old new p =
+    let one = added_here old p.skipped 0 (op.Jump (here old + 2)) p.skips in
+    let two = added_here p.skipped new 0 (op.Jump 0) p.leaves in
+    omega (arith, one, two)
+
+pub range_here : (v : Visible) (old : Draft) (parameter : Identifier) (reversed : Bool) (range : RangeTree) (t : Turns) (null : ℕ) (later : Visible) (new : Draft)
+    → BeginsRange v old parameter reversed range t null later new → here new.code ≤ here old.code + (6 + 20 * (expr_size range.first + expr_size range.last))
+range_here v old parameter reversed range t null later new p =
+    let one = p.first.sized in
+    let two = p.last.sized in
+    let three = all_here p.bounded p.begins.compared (bounds_compared t) p.begins.compares in
+    let four = added_here p.begins.compared new.code 1 (op.JumpIfNotZero 0) p.begins.jumps in
+    omega (arith, one, two, three, four)
+
+pub range_seen : (v : Visible) (old : Draft) (parameter : Identifier) (reversed : Bool) (range : RangeTree) (t : Turns) (null : ℕ) (later : Visible) (new : Draft)
+    → BeginsRange v old parameter reversed range t null later new → later ≡ with_object v (loop_scope v.scope parameter range) old.words.taken
+range_seen v old parameter reversed range t null later new p =
+    let slots = p.slots ∙ ap (λ n. v.slots ++ Some (record { region = regions.Locals; offset = n }) ∷ []) p.counter in
+    λ j. record { scope = p.scope j; slots = slots j; subprograms = p.subprograms j }
+
+pub turn_here : (old : Code) (t : Turns) (last : ℕ) (new : Code) → EndsTurn old t last new → here new ≡ here old + 8
+turn_here old t last new p =
+    let one = all_here old p.compared (values_compared t) p.compares in
+    let two = added_here p.compared p.tested 1 (op.JumpIfNotZero 0) p.jumps in
+    let three = all_here p.tested new (value_counted t) p.counts in
+    omega (arith, one, two, three)
+
+module _ (v : Visible) (old new : Draft) (parameter : Identifier) (reversed : Bool) (range : RangeTree) (why : Refusal) where
+  abbrev headed : Needs
+  headed = both (framed (old.words.taken + 2)) (both (value_needs v range.first) (needs_above 1 v range.last))
+
+  pub first_refused : RefusesExpression v old.code 0 range.first why → RefusesRange v old parameter reversed range new why
+  first_refused r =
+      value_refused v old.code 0 range.first (here old.code + (6 + 20 * (expr_size range.first + expr_size range.last))) headed new.labels why (omega arith)
+      (of_right (value_needs v range.first) (framed (old.words.taken + 2)) (both (value_needs v range.first) (needs_above 1 v range.last))
+      (in_left (value_needs v range.first) (needs_above 1 v range.last))) r
+
+  pub last_refused : (m : Code) → here m ≤ here old.code + 20 * expr_size range.first → RefusesExpression v m 1 range.last why
+      → RefusesRange v old parameter reversed range new why
+  last_refused m up r =
+      value_refused v m 1 range.last (here old.code + (6 + 20 * (expr_size range.first + expr_size range.last))) headed new.labels why (omega (arith, up))
+      (of_right (needs_above 1 v range.last) (framed (old.words.taken + 2)) (both (value_needs v range.first) (needs_above 1 v range.last))
+      (in_right (value_needs v range.first) (needs_above 1 v range.last))) r
+
+-- both bounds have a word
+pub range_two : (a : Around) (parameter : Identifier) (reversed : Bool) (range : RangeTree) → 2 ≤ (head_needs a (For parameter reversed range)).stack
+range_two a parameter reversed range =
+    let last = needs_above 1 a.visible range.last in
+    let inner = in_right (value_needs a.visible range.first) last in
+    let outer = of_right last (framed (a.taken + 2)) (both (value_needs a.visible range.first) last) inner in
+    let some = peak_some a.visible.scope range.last in
+    let up = outer.stack in
+    omega (arith, some, up)
+
+-- ---- bodies
+
+module _ (v : Visible) (old new : Draft) (why : Refusal) (ds : List DeclarationTree) (body : StmtTrees) where
+  abbrev needed : Needs
+  needed = run_needs v old.words.taken ds body
+
+  abbrev own : Around
+  own = in_body v old.words.taken
+
+  pub run_locals_refused : RefusesDeclarations v old ds new why → RefusesRun v old ds body new why
+  run_locals_refused r =
+      part_refused (here old.code + declarations_bound v.scope ds) (here old.code + run_bound v.scope ds body) (locals_needs v old.words.taken ds) needed
+      new.labels why (omega arith) (in_left (locals_needs v old.words.taken ds) (stmts_needs (behind_locals own ds) body)) r
+
+  pub run_refused : (m : ℕ) → m ≤ here old.code + run_bound v.scope ds body → IsRefused m 0 false why → RefusesRun v old ds body new why
+  run_refused m up r = plain_refused m (here old.code + run_bound v.scope ds body) 0 needed new.labels why up (omega arith) r
+
+  pub run_body_refused : (later : Visible) (out : ℕ) (mid : Draft) → later ≡ locals_visible v old.words.taken ds → later.scope ≡ locals_scope v.scope ds
+      → mid.words.taken ≡ old.words.taken + locals_words v.scope ds → here mid.code ≤ here old.code + (declarations_bound v.scope ds + 2)
+      → RefusesStatements later (record { exit = None; return = Some out }) mid body new why → RefusesRun v old ds body new why
+  run_body_refused later out mid seen scope same up r =
+      part_refused (here mid.code + stmts_bound later.scope body) (here old.code + run_bound v.scope ds body)
+      (stmts_needs (around later (record { exit = None; return = Some out }) mid) body) needed new.labels why
+      (let inner = ap (λ s. stmts_bound s body) scope in omega (arith, up, inner))
+      (subst (λ a. Within (stmts_needs a body) needed) (sym inside)
+      (in_right (locals_needs v old.words.taken ds) (stmts_needs (behind_locals own ds) body))) r
+    where
+      inside : around later (record { exit = None; return = Some out }) mid ≡ behind_locals own ds
+      inside = λ j. record { visible = seen j; taken = same j; looped = false; returns = true }

@@ -1,0 +1,14 @@
+use Rattle.std.proofs.Common.{◌∙◌, sym}
+use Rattle.std.proofs.lemmas.Result.{IfErr-weaker}
+use Rattle.ada_tree.specs.ExpressionTree.{expr_tree}
+use Rattle.ada_tree.specs.StatementTree.{optional_tree}
+use Rattle.stmt_code.proofs.Lacking.{single_refused}
+use Rattle.stmt_code.proofs.declaration.add_object.Goals as goal
+
+pub returns-else-is_composite-clause-refused : goal.returns-else-is_composite-clause-refused
+returns-else-is_composite-clause-refused c =
+    IfErr-weaker _ _ _
+    (λ why r.
+    single_refused c.args.visible.now c.args.code.now c.args.subtype (optional_tree expr_tree c.args.value.now) why
+    (sym c.is_composite.ensures ∙ c.if-is_composite.false) r)
+    c.add_word.ensures.refused

@@ -1,0 +1,435 @@
+-- When code of statements isn't made: memory was refused, a limit of images would be passed, or a statement has what nothing is promised of yet.
+use Rattle.std.specs.Prelude.{◌≡◌, ℕ, suc, ◌+◌, ◌*◌, ◌<◌, max, Bool, true, false, ◌||◌, not, nat_eq, List, [], ◌∷◌, ◌++◌, length, Option, Some, None, is_none, is_some, ◌⊎◌}
+use Rattle.base.specs.declared.limits.TheConstants.{LABELS}
+use Rattle.ada_tree.specs.declared.declaration.Formal.{Formal}
+use Rattle.ada_tree.specs.declared.declaration.Mode.{Mode}
+use Rattle.ada_tree.specs.declared.declaration.Mode.TheVariants as mode
+use Rattle.ada_tree.specs.declared.expression.Identifier.{Identifier}
+use Rattle.ada_tree.specs.declared.program.MainStatement.{MainStatement}
+use Rattle.ada_tree.specs.declared.program.MainStatement.TheVariants as main
+use Rattle.ada_tree.specs.ExpressionTree.{ArgumentTree, ExprTree, NameTree, NoSelectors, SelectorTrees}
+use Rattle.ada_tree.specs.StatementTree.{AlternativeTrees, Assignment, Block, Call, Case, ChoicesTree, DeclarationTree, ElsifTrees, Exit, For, Forever, HandlerTrees, If, IterationTree, LocalObject, Loop, MoreAlternatives, MoreElsifs, MoreStmts, NoAlternatives, NoElsifs, NoHandlers, NoStmts, Null, OtherValues, RangeTree, Return, StmtTree, StmtTrees, Values, While}
+use Rattle.ada_tree.specs.Size.{expr_size, total}
+use Rattle.image.specs.declared.instruction.Region.TheVariants as regions
+use Rattle.types.specs.declared.entity.Subtype.{Subtype}
+use Rattle.types.specs.Entities.{Booleans, Entity, Integers, Object, Profile, TypeForm}
+use Rattle.types.specs.Layouts.{words_of}
+use Rattle.types.specs.Scopes.{Named, Scope, form_at}
+use Rattle.types.specs.Shapes.{Grouped, Logical, MoreShapes, NoShapes, Ranged, Repeated, Shape, Shapeless, Shapes, Timed, shape_of}
+use Rattle.types.specs.Statics.{static_fault}
+use Rattle.type_rules.specs.SubtypeNames.{subtype_of}
+use Rattle.declaring.specs.BodyNames.{loop_scope}
+use Rattle.declaring.specs.LocalRules.{local_scope}
+use Rattle.sound_steps.specs.Fitting.{entity_named}
+use Rattle.expr_code.specs.Code.{here}
+use Rattle.expr_code.specs.Emitting.{is_composite}
+use Rattle.expr_code.specs.Refusing.{IsRefused, IsRefusedBeside, checked_peak, is_fit, is_outside, is_passable, peak}
+use Rattle.expr_code.specs.Seeing.{profile_named, subprogram_of}
+use Rattle.expr_code.specs.declared.code.Code.{Code}
+use Rattle.expr_code.specs.declared.refusal.Refusal.{Refusal}
+use Rattle.expr_code.specs.declared.refusal.Refusal.TheVariants as refusal
+use Rattle.expr_code.specs.declared.visible.Visible.{Visible}
+use Rattle.stmt_code.specs.Formals.{passed_for, placed_words, returned_more}
+use Rattle.stmt_code.specs.Bounds.{alternatives_bound, declarations_bound, elsifs_bound, local_words, locals_words, run_bound, stmt_bound, stmts_bound, words_named}
+use Rattle.stmt_code.specs.Lines.{Line, is_put, line_of}
+use Rattle.stmt_code.specs.Statements.{Ways}
+use Rattle.stmt_code.specs.declared.call.Destination.{Destination}
+use Rattle.stmt_code.specs.declared.draft.Draft.{Draft}
+use Rattle.stmt_code.specs.declared.formals.PlacedFormal.{PlacedFormal}
+
+-- ---- what code needs
+
+-- The words on the operand stack, and those of the frame with all that are taken in front of it, where they are most; whether a value of its expressions may have
+-- words that no image has; and whether code isn't made for a part.
+pub record Needs : Type 0 where
+  pub stack : ℕ
+  pub frame : ℕ
+  pub unfit : Bool
+  pub outside : Bool
+
+abbrev pub nothing : Needs
+nothing = record { stack = 0; frame = 0; unfit = false; outside = false }
+
+-- of what code isn't made for, where a test says so
+abbrev pub beyond_if : Bool → Needs
+beyond_if b = record { stack = 0; frame = 0; unfit = false; outside = b }
+
+abbrev pub beyond : Needs
+beyond = beyond_if true
+
+-- of what nothing is said yet
+abbrev pub unsaid : Needs
+unsaid = record { stack = 0; frame = 0; unfit = true; outside = true }
+
+-- so many words of the operand stack, or of the frame
+abbrev pub stacked : ℕ → Needs
+stacked n = record { stack = n; frame = 0; unfit = false; outside = false }
+
+abbrev pub framed : ℕ → Needs
+framed n = record { stack = 0; frame = n; unfit = false; outside = false }
+
+-- so many words of the operand stack, where a test says whether code is made
+abbrev pub stacked_unless : Bool → ℕ → Needs
+stacked_unless b n = record { stack = n; frame = 0; unfit = false; outside = b }
+
+-- the code of both, one behind the other or beside each other
+abbrev pub both : Needs → Needs → Needs
+both a b = record { stack = max a.stack b.stack; frame = max a.frame b.frame; unfit = a.unfit || b.unfit; outside = a.outside || b.outside }
+
+-- an object that is visible takes no words, or more than an image may have, or a part of it does
+abbrev pub is_unfit : Scope → Entity → Bool
+is_unfit s (Object r t) = not (is_fit (shape_of s t))
+is_unfit s e = false
+
+abbrev pub are_unfit : Scope → List Named → Bool
+are_unfit s [] = false
+are_unfit s (n ∷ rest) = is_unfit s n.entity || are_unfit s rest
+
+abbrev pub has_unfit : Visible → Bool
+has_unfit v = are_unfit v.scope v.scope
+
+-- of a value above so many words
+abbrev pub needs_above : (depth : ℕ) → Visible → ExprTree → Needs
+needs_above depth v e = record { stack = depth + peak v.scope e; frame = 0; unfit = has_unfit v; outside = is_outside v e }
+
+abbrev pub value_needs : Visible → ExprTree → Needs
+value_needs v e = needs_above 0 v e
+
+abbrev pub needs_if_any : Visible → Option ExprTree → Needs
+needs_if_any v None = nothing
+needs_if_any v (Some e) = value_needs v e
+
+-- ---- where a statement stands
+
+-- what is visible there, the words of the frame that are taken, whether a loop stands around it, and whether a return may be left by
+pub record Around : Type 0 where
+  pub visible : Visible
+  pub taken : ℕ
+  pub looped : Bool
+  pub returns : Bool
+
+abbrev pub around : Visible → Ways → Draft → Around
+around v w d = record { visible = v; taken = d.words.taken; looped = is_some w.exit; returns = is_some w.return }
+
+abbrev pub inside_loop : Around → Around
+inside_loop a = record a { looped = true }
+
+-- a name more is visible, of an object whose words are taken next
+abbrev pub with_object : Visible → Scope → (taken : ℕ) → Visible
+with_object v s taken =
+    record {
+      scope = s;
+      slots = v.slots ++ Some (record { region = regions.Locals; offset = taken }) ∷ [];
+      subprograms = v.subprograms ++ None ∷ [];
+    }
+
+abbrev pub local_visible : Visible → (taken : ℕ) → DeclarationTree → Visible
+local_visible v taken d = with_object v (local_scope v.scope d) taken
+
+-- what is visible behind declarations
+abbrev pub locals_visible : Visible → (taken : ℕ) → List DeclarationTree → Visible
+locals_visible v taken [] = v
+locals_visible v taken (d ∷ ds) = locals_visible (local_visible v taken d) (taken + local_words v.scope d) ds
+
+-- in a loop over a range, which takes two words: those of its parameter and of the parameter's last value
+abbrev pub counted_visible : Around → Identifier → RangeTree → Visible
+counted_visible a parameter range = with_object a.visible (loop_scope a.visible.scope parameter range) a.taken
+
+abbrev pub inside_counted : Around → Identifier → RangeTree → Around
+inside_counted a parameter range = record { visible = counted_visible a parameter range; taken = a.taken + 2; looped = true; returns = a.returns }
+
+abbrev pub behind_locals : Around → List DeclarationTree → Around
+behind_locals a ds =
+    record {
+      visible = locals_visible a.visible a.taken ds;
+      taken = a.taken + locals_words a.visible.scope ds;
+      looped = a.looped;
+      returns = a.returns;
+    }
+
+-- ---- declarations
+
+-- code has no word for the value of an object without initial value: one of times or spans, or what is no value
+abbrev mutual
+  pub lacks_word : Shape → Bool
+  lacks_word (Ranged first) = false
+  lacks_word Logical = false
+  lacks_word Timed = true
+  lacks_word (Repeated many x) = lacks_word x
+  lacks_word (Grouped parts) = lack_word parts
+  lacks_word Shapeless = true
+
+  pub lack_word : Shapes → Bool
+  lack_word NoShapes = false
+  lack_word (MoreShapes name x rest) = lacks_word x || lack_word rest
+
+-- ... the single word of one that is neither an array nor a record
+abbrev pub lacks_single : Option TypeForm → Bool
+lacks_single (Some Integers) = false
+lacks_single (Some Booleans) = false
+lacks_single form = true
+
+abbrev pub single_needs : Visible → Subtype → Option ExprTree → Needs
+single_needs v t None = stacked_unless (lacks_single (form_at v.scope t.type_number)) 1
+single_needs v t (Some e) = record { stack = checked_peak (peak v.scope e); frame = 0; unfit = has_unfit v; outside = not (is_passable v.scope t) || is_outside v e }
+
+-- That of an initial value of a subtype, above the place of several words.
+abbrev pub initial_needs : Visible → Subtype → Option ExprTree → Needs
+initial_needs v t None = stacked_unless (lacks_word (shape_of v.scope t) || nat_eq (words_of v.scope t) 0) (suc (words_of v.scope t))
+initial_needs v t (Some e) =
+    record {
+      stack = suc (max (words_of v.scope t) (checked_peak (peak v.scope e)));
+      frame = 0;
+      unfit = has_unfit v || not (is_fit (shape_of v.scope t));
+      outside = not (is_passable v.scope t || is_composite (form_at v.scope t.type_number)) || is_outside v e;
+    }
+
+abbrev pub object_needs : Visible → (taken : ℕ) → Option Subtype → Option ExprTree → Needs
+object_needs v taken None value = beyond
+object_needs v taken (Some t) value = both (framed (taken + words_of v.scope t)) (initial_needs v t value)
+
+abbrev pub local_needs : Visible → (taken : ℕ) → DeclarationTree → Needs
+local_needs v taken (LocalObject d) = object_needs v taken (subtype_of v.scope d.subtype) d.value
+local_needs v taken d = beyond
+
+abbrev pub locals_needs : Visible → (taken : ℕ) → List DeclarationTree → Needs
+locals_needs v taken [] = nothing
+locals_needs v taken (d ∷ ds) = both (local_needs v taken d) (locals_needs (local_visible v taken d) (taken + local_words v.scope d) ds)
+
+-- ---- statements without others within
+
+-- of a line: its value
+abbrev pub line_needs : Visible → Option Line → Needs
+line_needs v None = beyond
+line_needs v (Some line) = value_needs v line.value
+
+-- of a call of a procedure with a number: without actual parameters. Of one with them nothing is said yet.
+abbrev pub passed_needs : SelectorTrees → Needs
+passed_needs NoSelectors = nothing
+passed_needs behind = unsaid
+
+abbrev pub actuals_needs : List ArgumentTree → Needs
+actuals_needs [] = nothing
+actuals_needs (a ∷ all) = unsaid
+
+abbrev pub copies_needs : List Destination → Needs
+copies_needs [] = nothing
+copies_needs (d ∷ ds) = unsaid
+
+abbrev pub invoked_needs : Visible → NameTree → Needs
+invoked_needs v name = both (beyond_if (is_none (subprogram_of v name.first.name))) (passed_needs name.selectors)
+
+abbrev pub put_needs : Visible → NameTree → Needs
+put_needs v name = both (beyond_if (not (is_put (entity_named v.scope name.first.name)))) (line_needs v (line_of name))
+
+abbrev pub called_needs : Visible → NameTree → Option Profile → Needs
+called_needs v name (Some profile) = invoked_needs v name
+called_needs v name None = put_needs v name
+
+abbrev pub call_needs : Visible → NameTree → Needs
+call_needs v name = called_needs v name (profile_named v.scope name.first.name)
+
+-- a return of a value has no code yet
+abbrev pub return_needs : (returns : Bool) → Option ExprTree → Needs
+return_needs returns None = beyond_if (not returns)
+return_needs returns (Some e) = beyond
+
+-- ---- statements
+
+-- choices are static, and tested by three words
+abbrev pub choices_fault : Scope → List ExprTree → Bool
+choices_fault s [] = false
+choices_fault s (c ∷ cs) = is_some (static_fault s c) || choices_fault s cs
+
+abbrev pub choices_needs : Scope → ChoicesTree → Needs
+choices_needs s (Values cs) = stacked_unless (choices_fault s cs) 3
+choices_needs s (OtherValues place) = stacked 1
+
+-- of the head of a loop: its condition, or the bounds of its range, of which the second is evaluated above the first
+abbrev pub head_needs : Around → IterationTree → Needs
+head_needs a Forever = nothing
+head_needs a (While condition) = value_needs a.visible condition
+head_needs a (For parameter reversed range) =
+    both (framed (a.taken + 2)) (both (value_needs a.visible range.first) (needs_above 1 a.visible range.last))
+
+abbrev pub in_loop : Around → IterationTree → Around
+in_loop a (For parameter reversed range) = inside_counted a parameter range
+in_loop a iteration = inside_loop a
+
+-- of handlers there is no code yet
+abbrev pub handlers_needs : HandlerTrees → Needs
+handlers_needs NoHandlers = nothing
+handlers_needs all = beyond
+
+abbrev mutual
+  pub stmt_needs : Around → StmtTree → Needs
+  stmt_needs a (Null place) = nothing
+  stmt_needs a (Assignment target value) = unsaid
+  stmt_needs a (Call name) = call_needs a.visible name
+  stmt_needs a (Exit place condition) = both (beyond_if (not a.looped)) (needs_if_any a.visible condition)
+  stmt_needs a (Return place value) = return_needs a.returns value
+  stmt_needs a (If place condition body elsifs others) =
+      both (value_needs a.visible condition) (both (stmts_needs a body) (both (elsifs_needs a elsifs) (stmts_needs a others)))
+  stmt_needs a (Case place value all) = both (value_needs a.visible value) (alternatives_needs a all)
+  stmt_needs a (Loop place iteration body) = both (head_needs a iteration) (stmts_needs (in_loop a iteration) body)
+  stmt_needs a (Block place ds body all) =
+      both (handlers_needs all) (both (locals_needs a.visible a.taken ds) (stmts_needs (behind_locals a ds) body))
+  stmt_needs a other = beyond
+
+  pub stmts_needs : Around → StmtTrees → Needs
+  stmts_needs a NoStmts = nothing
+  stmts_needs a (MoreStmts x rest) = both (stmt_needs a x) (stmts_needs a rest)
+
+  pub elsifs_needs : Around → ElsifTrees → Needs
+  elsifs_needs a NoElsifs = nothing
+  elsifs_needs a (MoreElsifs condition body rest) = both (value_needs a.visible condition) (both (stmts_needs a body) (elsifs_needs a rest))
+
+  pub alternatives_needs : Around → AlternativeTrees → Needs
+  alternatives_needs a NoAlternatives = nothing
+  alternatives_needs a (MoreAlternatives place choices body rest) =
+      both (choices_needs a.visible.scope choices) (both (stmts_needs a body) (alternatives_needs a rest))
+
+-- ---- refusals
+
+-- Why code is refused that would end behind so many instructions and needs this: memory may always be refused, and the words of the frame are as few as those of
+-- the operand stack may be.
+abbrev pub IsNeeding : (instructions : ℕ) → Needs → Refusal → Type 0
+IsNeeding instructions n why = IsRefusedBeside (n.unfit ≡ true) instructions (max n.stack n.frame) n.outside why
+
+-- There are too many labels, with those of the lines up to the one that is refused.
+abbrev pub HasManyLabels : (labels : List (List ℕ)) → Refusal → Type 0
+HasManyLabels labels refusal.Limit = LABELS < length labels
+HasManyLabels labels why = ⊥
+
+-- Why code isn't added to a draft.
+abbrev pub Refuses : (old new : Draft) → (bound : ℕ) → Needs → Refusal → Type 0
+Refuses old new bound n why = IsNeeding (here old.code + bound) n why ⊎ HasManyLabels new.labels why
+
+abbrev pub RefusesStatement : Visible → Ways → (old : Draft) → StmtTree → (new : Draft) → Refusal → Type 0
+RefusesStatement v w old x new why = Refuses old new (stmt_bound v.scope x) (stmt_needs (around v w old) x) why
+
+abbrev pub RefusesStatements : Visible → Ways → (old : Draft) → StmtTrees → (new : Draft) → Refusal → Type 0
+RefusesStatements v w old body new why = Refuses old new (stmts_bound v.scope body) (stmts_needs (around v w old) body) why
+
+abbrev pub RefusesParts : Visible → Ways → (old : Draft) → ElsifTrees → (new : Draft) → Refusal → Type 0
+RefusesParts v w old all new why = Refuses old new (elsifs_bound v.scope all) (elsifs_needs (around v w old) all) why
+
+abbrev pub RefusesAlternatives : Visible → Ways → (old : Draft) → AlternativeTrees → (new : Draft) → Refusal → Type 0
+RefusesAlternatives v w old all new why = Refuses old new (alternatives_bound v.scope all) (alternatives_needs (around v w old) all) why
+
+abbrev pub RefusesDeclarations : Visible → (old : Draft) → List DeclarationTree → (new : Draft) → Refusal → Type 0
+RefusesDeclarations v old ds new why = Refuses old new (declarations_bound v.scope ds) (locals_needs v old.words.taken ds) why
+
+-- ---- code that is added by parts
+
+-- the instructions of an object's initial value, and so many more
+abbrev pub initial_bound : Scope → Subtype → Option ExprTree → ℕ
+initial_bound s t None = words_of s t
+initial_bound s t (Some e) = 3 + 20 * expr_size e
+
+abbrev pub RefusesInitial : Visible → (old : Code) → Subtype → Option ExprTree → (more : ℕ) → Refusal → Type 0
+RefusesInitial v old t value more why = IsNeeding (here old + (more + initial_bound v.scope t value)) (initial_needs v t value) why
+
+-- ... of one of a single word
+abbrev pub single_bound : Option ExprTree → ℕ
+single_bound None = 1
+single_bound (Some e) = 3 + 20 * expr_size e
+
+abbrev pub RefusesSingle : Visible → (old : Code) → Subtype → Option ExprTree → (more : ℕ) → Refusal → Type 0
+RefusesSingle v old t value more why = IsNeeding (here old + (more + single_bound value)) (single_needs v t value) why
+
+-- the words of an object without initial value, one by one, above so many others
+abbrev pub RefusesWords : Scope → (old : Code) → (height : ℕ) → Subtype → Refusal → Type 0
+RefusesWords s old height t why = IsNeeding (here old + words_of s t) (stacked_unless (lacks_word (shape_of s t)) (height + words_of s t)) why
+
+-- choices of an alternative, by so many instructions
+abbrev pub RefusesChoices : Scope → (old : Code) → ChoicesTree → (bound : ℕ) → Refusal → Type 0
+RefusesChoices s old choices bound why = IsNeeding (here old + bound) (choices_needs s choices) why
+
+-- the head of a loop over a range
+abbrev pub RefusesRange : Visible → (old : Draft) → Identifier → (reversed : Bool) → RangeTree → (new : Draft) → Refusal → Type 0
+RefusesRange v old parameter reversed range new why =
+    Refuses old new (6 + 20 * (expr_size range.first + expr_size range.last)) (head_needs (around v (record { exit = None; return = None }) old) (For parameter reversed range)) why
+
+-- ---- bodies
+
+-- the ways out of a body: a return alone
+abbrev pub in_body : Visible → (taken : ℕ) → Around
+in_body v taken = record { visible = v; taken = taken; looped = false; returns = true }
+
+abbrev pub run_needs : Visible → (taken : ℕ) → List DeclarationTree → StmtTrees → Needs
+run_needs v taken ds body = both (locals_needs v taken ds) (stmts_needs (behind_locals (in_body v taken) ds) body)
+
+abbrev pub RefusesRun : Visible → (old : Draft) → List DeclarationTree → StmtTrees → (new : Draft) → Refusal → Type 0
+RefusesRun v old ds body new why = Refuses old new (run_bound v.scope ds body) (run_needs v old.words.taken ds body) why
+
+-- ---- formal parameters
+
+-- the word behind one, of those that are passed or of the others
+abbrev pub placed_end : Mode → (many from out : ℕ) → ℕ
+placed_end mode.In many from out = from + many
+placed_end mode.Out many from out = max (from + 1) (out + many)
+placed_end mode.InOut many from out = (from + 1) + many
+
+-- The words that are passed for them, and those of values that are not copied in.
+abbrev pub out_for : Scope → Formal → ℕ
+out_for s f = elim f.mode [ mode.In ↦ 0 | mode.Out ↦ words_named s f.subtype | mode.InOut ↦ 0 ]
+
+abbrev pub formals_frame : Scope → List Formal → ℕ
+formals_frame s fs = total (passed_for s) fs + total (out_for s) fs
+
+-- what is named as its subtype is none, or one whose values have no words
+abbrev pub is_wordless : Scope → Formal → Bool
+is_wordless s f = nat_eq (words_named s f.subtype) 0
+
+abbrev pub are_wordless : Scope → List Formal → Bool
+are_wordless s [] = false
+are_wordless s (f ∷ fs) = is_wordless s f || are_wordless s fs
+
+abbrev pub formals_needs : Scope → List Formal → Needs
+formals_needs s fs = record { stack = 0; frame = formals_frame s fs; unfit = false; outside = are_wordless s fs }
+
+abbrev pub RefusesFormals : Scope → List Formal → Refusal → Type 0
+RefusesFormals s fs why = IsNeeding 0 (formals_needs s fs) why
+
+-- the first values of `out` parameters, placed in the frame
+abbrev pub out_needs : Visible → PlacedFormal → Needs
+out_needs v x = elim x.mode [ mode.In ↦ nothing | mode.Out ↦ initial_needs v x.subtype None | mode.InOut ↦ nothing ]
+
+abbrev pub outs_needs : Visible → List PlacedFormal → Needs
+outs_needs v [] = nothing
+outs_needs v (x ∷ xs) = both (out_needs v x) (outs_needs v xs)
+
+abbrev pub RefusesOut : Visible → (old : Code) → PlacedFormal → Refusal → Type 0
+RefusesOut v old x why = IsNeeding (here old + (2 + words_of v.scope x.subtype)) (out_needs v x) why
+
+abbrev pub RefusesOuts : Visible → (old : Code) → List PlacedFormal → Refusal → Type 0
+RefusesOuts v old xs why = IsNeeding (here old + (2 * length xs + total (placed_words v.scope) xs)) (outs_needs v xs) why
+
+-- The address and the value that are given back, on the operand stack: a value has a word at least.
+abbrev pub given_back : Scope → PlacedFormal → ℕ
+given_back s x = suc (max 1 (words_of s x.subtype))
+
+abbrev pub given_if_any : Scope → PlacedFormal → ℕ
+given_if_any s x = returned_more x.address (max 1 (words_of s x.subtype)) 0
+
+abbrev pub all_given : Scope → List PlacedFormal → ℕ
+all_given s [] = 0
+all_given s (x ∷ xs) = given_if_any s x + all_given s xs
+
+abbrev pub RefusesReturned : Scope → (old : Code) → List PlacedFormal → Refusal → Type 0
+RefusesReturned s old xs why = IsRefused (here old + suc (3 * length xs)) (all_given s xs) false why
+
+-- ---- main
+
+-- a procedure that it calls has no number
+abbrev pub is_unknown : Visible → MainStatement → Bool
+is_unknown v (main.Null place) = false
+is_unknown v (main.Call package_ procedure) = is_none (subprogram_of v procedure.name)
+
+abbrev pub are_unknown : Visible → List MainStatement → Bool
+are_unknown v [] = false
+are_unknown v (x ∷ rest) = is_unknown v x || are_unknown v rest
+
+abbrev pub RefusesMain : Visible → (old : Code) → List MainStatement → (bound : ℕ) → Refusal → Type 0
+RefusesMain v old all bound why = IsNeeding (here old + bound) (beyond_if (are_unknown v all)) why
