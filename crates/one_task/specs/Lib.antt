@@ -1,3 +1,0 @@
-pub mod Linked
-pub mod Package
-pub mod Laws

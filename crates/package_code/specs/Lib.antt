@@ -1,0 +1,9 @@
+pub mod Linked
+pub mod Package
+pub mod LinkLaws
+pub mod Globals
+pub mod Directory
+pub mod Counts
+pub mod Walking
+pub mod Program
+pub mod Laws
