@@ -2,8 +2,8 @@
 use Rattle.std.proofs.Common.{◌≡◌, ◌<◌, arith, ℕ, List, [], true, Result, Ok, Err, ap, inl, inr, subst, sym}
 use Rattle.std.proofs.lemmas.List.Elements.{All-contains}
 use Rattle.std.specs.List.{Contains}
-use Rattle.std.specs.Prelude.{IfOk, IfErr, OnOk}
-use Rattle.base.specs.declared.faults.TheConstants.{LIMIT_PASSED, LOCAL_TASKING, NAME_NOT_VISIBLE, OUTSIDE_LANGUAGE, WRONG_PRAGMAS}
+use Rattle.std.specs.Prelude.{IfOk, IfErr}
+use Rattle.base.specs.declared.faults.TheConstants.{LIMIT_PASSED, LOCAL_TASKING, NAME_NOT_VISIBLE, WRONG_PRAGMAS}
 use Rattle.lexer.specs.Spelling.{Spells}
 use Rattle.lexer.specs.declared.fault.Fault.{Fault}
 use Rattle.lexer.specs.declared.token.Token.{Token}
@@ -18,43 +18,38 @@ use Rattle.ravenscar.specs.ProgramRules.{IsRestricted, RefusesUnrestricted, rest
 use Rattle.fault_numbers.specs.Numbers.{AreNumbered, GrammarNumbers, IsNumbered, LegalityNumbers, RestrictionNumbers, SpellingNumbers}
 use Rattle.meaning.specs.SameMeaning.{KeepsCount, SameMeaning}
 use Rattle.ada_link.specs.FirstLanguage.{is_first_program}
-use Rattle.ada_link.specs.Refusals.{RefusesTree}
-use Rattle.ada_link.specs.Size.{most_steps}
-use Rattle.compile_and_go.specs.Accepted.{Compiles, IsAccepted, IsGiven, IsJudged, IsLeftOut, IsTreeOf, RefusesText}
+use Rattle.compile_and_go.specs.Accepted.{Compiles, IsAccepted, IsBounded, IsGiven, IsJudged, IsLeftOut, IsTreeOf, RefusesAccepted, RefusesText, most_steps}
 
 -- the program that was read is the one that was checked
 pub compiles : {E : Type 0} (r : Result Sections E) (text : List ℕ) (tokens list : List Token) (read : Program)
     → Spells text tokens → list ≡ tokens → Derives (program_tree read) list
     → (checked : Program) → checked ≡ read → IsLegal (program_tree checked) → IsRestricted (program_tree checked)
     → IfOk r (λ i. SameMeaning (program_tree checked) i)
-    → IfOk r (λ i. KeepsCount (program_tree checked) i (most_steps (program_tree checked)))
+    → IfOk r (λ i. KeepsCount (program_tree checked) i (most_steps (program_tree checked) i))
+    → IfOk r (λ i. IsBounded (program_tree checked) i)
     → IfOk r (λ i. IsWellFormed i)
-    → OnOk r (is_first_program (program_tree checked) ≡ true)
     → IfOk r (λ i. Compiles text i)
-compiles (Ok i) text tokens list read spells same derives checked is legal restricted means counted well_formed first =
+compiles (Ok i) text tokens list read spells same derives checked is legal restricted means counted bounded well_formed =
     let derived = subst (λ p. Derives (program_tree p) tokens) (sym is) (subst (Derives (program_tree read)) same derives) in
     record {
       tree = program_tree checked;
-      accepted = record {
-        accepted = record { is_tree = record { tokens = tokens; spells = spells; derives = derived }; legal = legal; restricted = restricted };
-        is_first = first;
-      };
+      accepted = record { is_tree = record { tokens = tokens; spells = spells; derives = derived }; legal = legal; restricted = restricted };
       means = means;
       counted = counted;
+      bounded = bounded;
       well_formed = well_formed;
     }
-compiles (Err e) text tokens list read spells same derives checked is legal restricted means counted well_formed first = tt
+compiles (Err e) text tokens list read spells same derives checked is legal restricted means counted bounded well_formed = tt
 
 -- a refusal of the text's tree, where the text is of the first language
-not_outside : (tree : ProgramTree) (fault : Fault) → is_first_program tree ≡ true → RefusesTree tree fault → IsGiven tree (Err fault)
-not_outside tree fault first (inl memory) = inl memory
-not_outside tree fault first (inr (inl outside)) = let wrong = outside.1 in absurd cc
-not_outside tree fault first (inr (inr large)) = inr large
+not_outside : (tree : ProgramTree) (fault : Fault) → is_first_program tree ≡ true → RefusesAccepted tree fault → IsGiven tree (Err fault)
+not_outside tree fault first (inl only) = only
+not_outside tree fault first (inr other) = let wrong = other.0 in absurd cc
 
 pub given : (r : Result Sections Fault) (tree made : ProgramTree) → made ≡ tree → is_first_program tree ≡ true
-    → IfOk r (λ i. SameMeaning made i) → IfErr r (λ f. RefusesTree made f) → IsGiven tree r
+    → IfOk r (λ i. SameMeaning made i) → IfErr r (λ f. RefusesAccepted made f) → IsGiven tree r
 given (Ok i) tree made same first means refused = subst (λ t. SameMeaning t i) same means
-given (Err f) tree made same first means refused = not_outside tree f first (subst (λ t. RefusesTree t f) same refused)
+given (Err f) tree made same first means refused = not_outside tree f first (subst (λ t. RefusesAccepted t f) same refused)
 
 -- ---- where nothing is broken nothing is the least
 
@@ -89,10 +84,10 @@ judged_legal tree made fault same legal (inr least) = inr (inr (inl (subst IsLeg
 
 -- what breaks no rule
 pub judged_accepted : (r : Result Sections Fault) (tree made : ProgramTree) → made ≡ tree → IsLegal made → IsRestricted made
-    → IfErr r (λ f. RefusesTree made f) → IsJudged tree r
+    → IfErr r (λ f. RefusesAccepted made f) → IsJudged tree r
 judged_accepted (Ok i) tree made same legal restricted refused = (subst IsLegal same legal, subst IsRestricted same restricted)
 judged_accepted (Err fault) tree made same legal restricted refused =
-    inr (inr (inr (subst IsLegal same legal, (subst IsRestricted same restricted, subst (λ t. RefusesTree t fault) same refused))))
+    inr (inr (inr (subst IsLegal same legal, (subst IsRestricted same restricted, subst (λ t. RefusesAccepted t fault) same refused))))
 
 -- ---- texts that are not compiled
 
@@ -123,7 +118,7 @@ unrestricted_text text tokens list read checked fault spells same derives is leg
 pub refused_text : {A : Type 0} (r : Result A Fault) (text : List ℕ) (tokens list : List Token) (read checked : Program)
     → Spells text tokens → list ≡ tokens → Derives (program_tree read) list → checked ≡ read
     → IsLegal (program_tree checked) → IsRestricted (program_tree checked)
-    → IfErr r (λ f. RefusesTree (program_tree checked) f)
+    → IfErr r (λ f. RefusesAccepted (program_tree checked) f)
     → IfErr r (λ f. RefusesText text f)
 refused_text (Ok a) text tokens list read checked spells same derives is legal restricted refused = tt
 refused_text (Err fault) text tokens list read checked spells same derives is legal restricted refused =
@@ -139,10 +134,12 @@ module _ (spelling : SpellingNumbers) (grammar : GrammarNumbers) (legality : Leg
   among : (first last : ℕ) (faults : Faults) (fault : Fault) → AreNumbered first last faults → IsLeast faults fault → IsNumbered first last fault
   among first last faults fault all least = All-contains (IsNumbered first last) faults fault all least.listed
 
-  of_tree : (text : List ℕ) (tree : ProgramTree) (fault : Fault) → IsAccepted tree text → RefusesTree tree fault → IsLeftOut text fault
-  of_tree text tree fault accepted (inl memory) = λ is. let n = ap (λ f. f.number) memory in absurd (omega (arith, n, is))
-  of_tree text tree fault accepted (inr (inl out)) = λ is. (out.0, (tree, (accepted, out.1)))
-  of_tree text tree fault accepted (inr (inr large)) = λ is. let n = ap (λ f. f.number) large.0 in absurd (omega (arith, n, is))
+  of_tree : (text : List ℕ) (tree : ProgramTree) (fault : Fault) → IsAccepted tree text → RefusesAccepted tree fault → IsLeftOut text fault
+  of_tree text tree fault accepted (inl (inl memory)) = λ is. let n = ap (λ f. f.number) memory in absurd (omega (arith, n, is))
+  of_tree text tree fault accepted (inl (inr large)) = λ is. let n = ap (λ f. f.number) large.0 in absurd (omega (arith, n, is))
+  of_tree text tree fault accepted (inr (other, inl memory)) = λ is. let n = ap (λ f. f.number) memory in absurd (omega (arith, n, is))
+  of_tree text tree fault accepted (inr (other, inr (inl out))) = λ is. (out, (tree, (accepted, other)))
+  of_tree text tree fault accepted (inr (other, inr (inr large))) = λ is. let n = ap (λ f. f.number) large in absurd (omega (arith, n, is))
 
   left_out : (text : List ℕ) (fault : Fault) → RefusesText text fault → IsLeftOut text fault
   left_out text fault (inl memory) = λ is. let n = ap (λ f. f.number) memory in absurd (omega (arith, n, is))

@@ -1,2 +1,4 @@
 pub mod Compiling
 pub mod Running
+pub mod Ways
+pub mod Refused

@@ -76,6 +76,7 @@ runs outcome t input i schedule limit old new stays c read appends ends =
       image = i;
       means = c.means;
       counted = c.counted;
+      bounded = c.bounded;
       well_formed = c.well_formed;
       appends = appends;
       ends = ends;

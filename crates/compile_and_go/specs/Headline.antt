@@ -15,8 +15,7 @@ use Rattle.machine.specs.Outcomes.{ending_of, time_of}
 use Rattle.machine.specs.Stands.{EndsBy}
 use Rattle.machine.specs.Written.{AppendsBeginning}
 use Rattle.machine.specs.declared.reports.Outcome as machine
-use Rattle.ada_link.specs.Size.{most_steps}
-use Rattle.compile_and_go.specs.Accepted.{Compiles, IsOfFirstLanguage}
+use Rattle.compile_and_go.specs.Accepted.{Compiles, IsAccepted, IsBounded, most_steps}
 
 -- the text of a run that is cut: a beginning of the lines of the source, and the line that says so
 pub record IsCut (tree : ProgramTree) (schedule : List ScheduleLine) (outcome : machine.Outcome) (written : List ℕ) : Type 0 where
@@ -43,17 +42,18 @@ ComesToTheSame tree schedule image =
     → (source tree schedule steps).kernel.outcome ≡ Some o
     → (enough : ℕ) × ((limit : ℕ) → enough ≤ limit → ((code image schedule limit).kernel.outcome ≡ Some o) × (code_text image schedule limit ≡ source_text tree schedule steps))
 
--- A run of a text of the first language under the schedule that the input is, for at most `limit` steps of its code. There is an image that
+-- A run of an accepted text under the schedule that the input is, for at most `limit` steps of its code. There is an image that
 -- means the same as the text's tree and keeps the count of steps, and the run has written what its code writes within the limit: the source's
 -- whole text where it has come to an outcome, which is the source's; else, cut at the limit, a beginning of the source's lines.
 pub record Runs (text input : List ℕ) (limit : ℕ) (outcome : machine.Outcome) (old new : Option (List ℕ)) : Type 0 where
   pub schedule : List ScheduleLine
   pub is_schedule : IsScheduleText input schedule
   pub tree : ProgramTree
-  pub accepted : IsOfFirstLanguage tree text
+  pub accepted : IsAccepted tree text
   pub image : Sections
   pub means : SameMeaning tree image
-  pub counted : KeepsCount tree image (most_steps tree)
+  pub counted : KeepsCount tree image (most_steps tree image)
+  pub bounded : IsBounded tree image
   pub well_formed : IsWellFormed image
   pub appends : Appends old new (code_text image schedule limit)
   pub ends : EndsBy outcome (code image schedule limit)

@@ -1,10 +1,9 @@
 //! From a source text to an image.
 ghost use Rattle.std.specs.Prelude.{IfErr, IfOk};
-ghost use Rattle.image.specs.Taken.{IsTaken};
 ghost use Rattle.ada_tree.specs.ProgramTree.{ProgramTree};
 ghost use Rattle.compile_and_go.specs.Accepted.{Compiles, IsGiven, IsJudged, IsLeftOut, IsOfFirstLanguage, IsTreeOf, RefusesText};
 
-use ada_link::link::compile_tree;
+use crate::choosing::compile_accepted;
 use checking::check;
 use fault_numbers::{grammar_numbers, legality_numbers, restriction_numbers, spelling_numbers};
 use image::Image;
@@ -13,7 +12,7 @@ use parser::parse;
 use ravenscar::restrict;
 use std::alloc::Global;
 
-/// Compiles a source text (docs/LANGUAGE.md) to an image that means the same, and that the machine runs today.
+/// Compiles a source text (docs/LANGUAGE.md) to an image that means the same.
 ///
 /// # Errors
 /// 1 to 5 where no tokens spell the text, 6 or 7 where they have no tree, 10 to 23 where the program is illegal, at the place that breaks the rule, which is the
@@ -21,7 +20,6 @@ use std::alloc::Global;
 /// the language that is compiled today; 23, at main, where the code passes a limit of images; 60, at byte 0, where memory was refused.
 pub fn compile(alloc: Global, source: &[u8]) -> Result<Image, Fault>
     ensures means { IfOk result (λ image. Compiles source.now image) }
-    ensures taken { IfOk result (λ image. IsTaken image) }
     ensures accepted { (tree : ProgramTree) → IsOfFirstLanguage tree source.now → IsGiven tree result }
     ensures judged { (tree : ProgramTree) → IsTreeOf tree source.now → IsJudged tree result }
     ensures refused { IfErr result (λ fault. RefusesText source.now fault) }
@@ -35,5 +33,5 @@ pub fn compile(alloc: Global, source: &[u8]) -> Result<Image, Fault>
     let program = parse(alloc, &list)?;
     let checked = check(alloc, program)?;
     let accepted = restrict(alloc, checked)?;
-    compile_tree(alloc, accepted.program())
+    compile_accepted(alloc, &accepted)
 }

@@ -45,7 +45,7 @@ pub fn go<S: Sink>(
     ensures kept { OnOk result (S.failures sink.new ≡ S.failures sink.old) }
     // A refusal is that of the call it comes from, where the calls before it gave their answers.
     ensures refused { IfErr result (Refuses source.now schedule.now) }
-    // A text of the language that is compiled today is refused only for want of memory or because its code is too large.
+    // A text of the first language is refused only for want of memory or because its code is too large.
     ensures accepted { (tree : ProgramTree) (fault : Fault) → IsOfFirstLanguage tree source.now → result ≡ Err (GoFault.Source fault) → IsRefusedOnlyBy tree fault }
     ensures source { (fault : Fault) → result ≡ Err (GoFault.Source fault) → sink.new ≡ sink.old }
     ensures schedule { (fault : ScheduleFault) → result ≡ Err (GoFault.Schedule fault) → sink.new ≡ sink.old }

@@ -1,6 +1,7 @@
 //! From a source text to its image, and to the timed lines of its run.
 #![tactic(auto)]
 
+mod choosing;
 mod compilation;
 mod going;
 pub mod laws;

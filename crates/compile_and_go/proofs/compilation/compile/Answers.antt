@@ -2,7 +2,6 @@ use Rattle.std.proofs.Common.{◌≡◌, Err, ap, inl, rules, subst, sym, ◌∙
 use Rattle.std.specs.Prelude.{IfErr}
 use Rattle.ada_tree.specs.ProgramTree.{program_tree}
 use Rattle.checking.specs.ProgramRules.{IsLegal}
-use Rattle.ravenscar.specs.ProgramRules.{IsRestricted}
 use Rattle.parser.specs.Parsing.{Derives}
 use Rattle.compile_and_go.specs.Accepted.{IsGiven, IsJudged, RefusesText}
 use Rattle.compile_and_go.proofs.Compiling.{compiles, given, judged, judged_accepted, judged_legal, legal_given, refused_left_out, refused_text, restricted_given, unrestricted_text}
@@ -35,22 +34,22 @@ returns-in_err-accepted-clause-judged c = λ tree is_tree.
 pub returns-clause-judged : goal.returns-clause-judged
 returns-clause-judged c = λ tree is_tree.
     let same = c.deref.ensures.value ∙ c.in_ok-list.ensures.complete is_tree.tokens is_tree.spells in
-    let lent = ap program_tree (c.program.ensures.same ∙ c.in_ok-accepted.ensures.same ∙ c.in_ok-checked.ensures.same) in
+    let lent = ap program_tree (c.in_ok-accepted.ensures.same ∙ c.in_ok-checked.ensures.same) in
     judged_accepted _ _ _ (lent ∙ c.in_ok-program.ensures.only tree (subst (Derives tree) (sym same) is_tree.derives))
-    (subst (λ p. IsLegal (program_tree p)) (sym c.program.ensures.same) c.program.ensures.legal)
-    (subst (λ p. IsRestricted (program_tree p)) (sym c.program.ensures.same) c.program.ensures.restricted)
-    c.compile_tree.ensures.refused
+    c.compile_accepted.ensures.legal
+    c.compile_accepted.ensures.restricted
+    c.compile_accepted.ensures.refused
 
 pub returns-clause-means : goal.returns-clause-means
 returns-clause-means c =
     compiles _ _ _ _ _ c.in_ok-list.ensures.sound c.deref.ensures.value c.in_ok-program.ensures.found _
-    (c.program.ensures.same ∙ c.in_ok-accepted.ensures.same ∙ c.in_ok-checked.ensures.same)
-    (subst (λ p. IsLegal (program_tree p)) (sym c.program.ensures.same) c.program.ensures.legal)
-    (subst (λ p. IsRestricted (program_tree p)) (sym c.program.ensures.same) c.program.ensures.restricted)
-    c.compile_tree.ensures.means
-    c.compile_tree.ensures.counted
-    c.compile_tree.ensures.well_formed
-    c.compile_tree.ensures.first
+    (c.in_ok-accepted.ensures.same ∙ c.in_ok-checked.ensures.same)
+    c.compile_accepted.ensures.legal
+    c.compile_accepted.ensures.restricted
+    c.compile_accepted.ensures.means
+    c.compile_accepted.ensures.counted
+    c.compile_accepted.ensures.bounded
+    c.compile_accepted.ensures.well_formed
 
 pub returns-in_err-checked-clause-accepted : goal.returns-in_err-checked-clause-accepted
 returns-in_err-checked-clause-accepted c = λ tree first.
@@ -73,10 +72,10 @@ pub returns-clause-accepted : goal.returns-clause-accepted
 returns-clause-accepted c = λ tree first.
     let is_tree = first.accepted.is_tree in
     let same = c.deref.ensures.value ∙ c.in_ok-list.ensures.complete is_tree.tokens is_tree.spells in
-    let lent = ap program_tree (c.program.ensures.same ∙ c.in_ok-accepted.ensures.same ∙ c.in_ok-checked.ensures.same) in
+    let lent = ap program_tree (c.in_ok-accepted.ensures.same ∙ c.in_ok-checked.ensures.same) in
     given _ _ _ (lent ∙ c.in_ok-program.ensures.only tree (subst (Derives tree) (sym same) is_tree.derives)) first.is_first
-    c.compile_tree.ensures.means
-    c.compile_tree.ensures.refused
+    c.compile_accepted.ensures.means
+    c.compile_accepted.ensures.refused
 
 pub returns-in_err-accepted-clause-refused : goal.returns-in_err-accepted-clause-refused
 returns-in_err-accepted-clause-refused c =
@@ -88,10 +87,10 @@ returns-in_err-accepted-clause-refused c =
 pub returns-clause-refused : goal.returns-clause-refused
 returns-clause-refused c =
     refused_text _ _ _ _ _ _ c.in_ok-list.ensures.sound c.deref.ensures.value c.in_ok-program.ensures.found
-    (c.program.ensures.same ∙ c.in_ok-accepted.ensures.same ∙ c.in_ok-checked.ensures.same)
-    (subst (λ p. IsLegal (program_tree p)) (sym c.program.ensures.same) c.program.ensures.legal)
-    (subst (λ p. IsRestricted (program_tree p)) (sym c.program.ensures.same) c.program.ensures.restricted)
-    c.compile_tree.ensures.refused
+    (c.in_ok-accepted.ensures.same ∙ c.in_ok-checked.ensures.same)
+    c.compile_accepted.ensures.legal
+    c.compile_accepted.ensures.restricted
+    c.compile_accepted.ensures.refused
 
 pub returns-in_err-checked-clause-left_out : goal.returns-in_err-checked-clause-left_out
 returns-in_err-checked-clause-left_out c =
