@@ -6,6 +6,8 @@ ghost use Rattle.std.specs.Prelude.{◌≡◌};
 #[cfg(test)]
 mod commands;
 #[cfg(test)]
+mod declarations;
+#[cfg(test)]
 mod exclusion;
 #[cfg(test)]
 mod expressions;
@@ -33,5 +35,7 @@ mod statements;
 mod tables;
 #[cfg(test)]
 mod task_rows;
+#[cfg(test)]
+mod tasking_scripts;
 #[cfg(test)]
 mod virtual_time;

@@ -135,6 +135,18 @@ fn programs_write_their_lines(rt: HostRuntime) -> Result<(), Fail> {
             "unhandled CONSTRAINT_ERROR in MAIN at 0\n",
         ),
         (SUMS, "0", 5, "step limit at 0\n"),
+        (
+            "procedure Run is X : Integer := 7; begin while X > 1 loop X := X / 2; Put (\"x\", +X); end loop; end Run;",
+            "100000",
+            0,
+            "0 MAIN x 3\n0 MAIN x 1\nended at 0\n",
+        ),
+        (
+            "procedure Run is begin Run; end Run;",
+            "100000",
+            3,
+            "unhandled STORAGE_ERROR in MAIN at 0\n",
+        ),
     ];
     for (body, limit, status, out) in rows {
         let source = source_of(alloc, body)?;
@@ -193,7 +205,7 @@ fn other_bodies_are_refused(rt: HostRuntime) -> Result<(), Fail> {
     let alloc = rt.alloc();
     let bodies = [
         (
-            "procedure Run is begin Put (\"a\", 1 / 1); end Run;",
+            "procedure Run is begin Put (\"a\", Read (1)); end Run;",
             "fault 90 at 1:1\n",
         ),
         (
@@ -209,14 +221,17 @@ fn other_bodies_are_refused(rt: HostRuntime) -> Result<(), Fail> {
             "fault 4 at 9:34\n",
         ),
         (
-            "procedure Run is begin Put (\"a\", +1); end Run;",
+            "procedure Run is begin raise Constraint_Error; end Run;",
             "fault 90 at 1:1\n",
         ),
         (
-            "procedure Run is X : Integer; begin null; end Run;",
+            "procedure Run is begin null; exception when others => null; end Run;",
             "fault 90 at 1:1\n",
         ),
-        ("procedure Run is begin Run; end Run;", "fault 90 at 1:1\n"),
+        (
+            "procedure Run is begin delay until Clock; end Run;",
+            "fault 90 at 1:1\n",
+        ),
         (
             "procedure Other is begin null; end Other;",
             "fault 18 at 6:14\n",
