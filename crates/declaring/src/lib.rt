@@ -5,8 +5,6 @@ mod bodies;
 mod items;
 pub mod laws;
 mod locals;
-#[cfg(test)]
-mod package_test;
 mod protected;
 mod tasks;
 

@@ -6,7 +6,6 @@ mod Moved
 mod Moves
 mod Objects
 mod Places
-mod Scripts
 mod Standing
 mod Starting
 mod Waking

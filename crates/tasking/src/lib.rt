@@ -4,8 +4,6 @@
 mod effects;
 pub mod laws;
 mod reports;
-#[cfg(test)]
-mod scripts_test;
 mod tasking;
 
 pub use protected::Refusal;
