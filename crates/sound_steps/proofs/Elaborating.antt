@@ -33,7 +33,7 @@ use Rattle.sound_steps.specs.Holding.{IsSoundStep, inside}
 use Rattle.sound_steps.specs.Laws.{Premises}
 use Rattle.sound_steps.proofs.Lookups.{named_number}
 use Rattle.sound_steps.proofs.Sights.{fits_declared, initial_suited}
-use Rattle.sound_steps.proofs.Going.{Current, agrees_here, comes_then, raised}
+use Rattle.sound_steps.proofs.Going.{Current, agrees_here, comes_then, raised_predefined}
 use Rattle.sound_steps.proofs.Valued.{passed_comes, value_comes}
 use Rattle.sound_steps.proofs.Turning.{added, begins_ready}
 
@@ -175,7 +175,7 @@ module _ (h : Here) (s : Scope) (outer : List Waiting) (laws : Premises h.progra
           subst (λ u. Fits h.program u (inside h.program h.memory (record h.own { locals = (let y : Object = record { name = d.name.name; subtype = t; value = v } in y) ∷ h.own.locals }) p)) scope_is
           (fits_declared h.program laws s (inside h.program h.memory h.own p) d.name.name (role_of d.constant) t v fits unseen x.known (object_known d.constant x.known) suited))
           (begins_ready h.program _ (local_object_scope s d) outer a items begins) refl)
-      by_value (Raises y) positive = raised h s outer c a items y held positive leaves
+      by_value (Raises y) known = raised_predefined h s outer c a items y held known leaves
       by_value Meaningless never = absurd never
 
   pub declares_sound : (d : DeclarationTree) → IsLegalLocal s d → Begins h.program (local_scope s d) outer a items → Leaves h.program s outer a items

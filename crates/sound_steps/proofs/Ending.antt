@@ -14,14 +14,14 @@ use Rattle.meaning.specs.Works.{Item, Declares, DeclaresParameter, Sequence, Doe
 use Rattle.meaning.specs.Targets.{activation_with}
 use Rattle.meaning.specs.Calls.{is_open, results_in, with_value_of}
 use Rattle.meaning.specs.SourceSteps.{Here, before, call_ended, call_raised, completed, completion_of, copy_step, copying, handled, handler_for, items_of, leaves, place_of, raise_step, raises, stores, with_value, works}
-use Rattle.sound_steps.specs.Objects.{AreOf, AreTargets, Comes, IsOf}
+use Rattle.sound_steps.specs.Objects.{AreOf, AreTargets, Comes, IsException, IsOf}
 use Rattle.sound_steps.specs.Fitting.{Narrows, result_types}
 use Rattle.sound_steps.specs.Opened.{ForCall, ForCaller, IsHeld, Opened, opened_by, opened_in}
 use Rattle.sound_steps.specs.Judged.{AreResults, IsCompletion, IsWork, IsWorkOf, Judged, Leaves, Waiting}
 use Rattle.sound_steps.specs.Holding.{Accounts, IsGiven, IsSoundServer, IsSoundStep, WhenEnds, waiting_activation, waits_after}
 use Rattle.sound_steps.specs.Laws.{Premises}
 use Rattle.sound_steps.proofs.Sights.{narrows_same, narrows_then}
-use Rattle.sound_steps.proofs.Going.{Behind, Current, before_judged, leaves_of, opened_before, raised, ready_of, same_store, went, worked}
+use Rattle.sound_steps.proofs.Going.{Behind, Current, before_judged, leaves_of, opened_before, raised, raised_predefined, ready_of, same_store, went, worked}
 use Rattle.sound_steps.proofs.Valued.{passed_comes}
 use Rattle.sound_steps.proofs.Walking.{IsLegalHandler, handler_found}
 use Rattle.sound_steps.proofs.Storing.{after_stored, object_sound, object_there, stores_sound, targets_moved}
@@ -106,7 +106,7 @@ module _ (h : Here) (s : Scope) (outer : List Waiting) (laws : Premises h.progra
           stores_sound h s outer laws c a items x w (copying vs xs items) s held (narrows_same h.program s) targets.1 suited
           (copying_work h.program own s outer a types vs xs items of.1 (targets_moved h.program h.own own after.within after.locals types xs targets.2) j)
           (opened_copying vs xs items)
-      by_value (Raises y) positive = raised h s outer c a items y held positive (leaves_of h.program s outer a items (s, narrows_same h.program s, j))
+      by_value (Raises y) known = raised_predefined h s outer c a items y held known (leaves_of h.program s outer a items (s, narrows_same h.program s, j))
       by_value Meaningless never = absurd never
   copy_sound a [] [] (x ∷ xs) items held of targets j = absurd targets
   copy_sound a [] (v ∷ vs) xs items held of targets j = absurd of
@@ -148,12 +148,12 @@ module _ (h : Here) (s : Scope) (w : Waiting) (outer : List Waiting) (c : Curren
       left_sound h s w outer c a Quiet (ForCall o ∷ opened_in items) (Goes (EndsAction o (Completed vs xs) ∷ items)) None refl ((types, of, targets), held, j)
       (held_more w.activation.within (ForCall o) (opened_in items) held) (refl, refl) tt
 
-  call_raised_sound : (a : Around) (x : ℕ) (opened : Option ℕ) (items : List Item) → 0 < x → IsHeld w.activation.within (opened_in items) → Judged h.program w.scope outer a items
+  call_raised_sound : (a : Around) (x : ℕ) (opened : Option ℕ) (items : List Item) → IsException h.program x → IsHeld w.activation.within (opened_in items) → Judged h.program w.scope outer a items
       → IsSoundStep h (opened_by opened (opened_in items)) (leaves h Quiet h.callers (call_raised x opened items) None)
-  call_raised_sound a x None items positive held j =
-      left_sound h s w outer c a Quiet (opened_in items) (Raising x items) None refl (positive, leaves_of h.program w.scope outer a items (w.scope, narrows_same h.program w.scope, j)) held (refl, refl) tt
-  call_raised_sound a x (Some o) items positive held j =
-      left_sound h s w outer c a Quiet (ForCall o ∷ opened_in items) (Goes (EndsAction o (Pending x) ∷ items)) None refl (positive, held, j)
+  call_raised_sound a x None items known held j =
+      left_sound h s w outer c a Quiet (opened_in items) (Raising x items) None refl (known, leaves_of h.program w.scope outer a items (w.scope, narrows_same h.program w.scope, j)) held (refl, refl) tt
+  call_raised_sound a x (Some o) items known held j =
+      left_sound h s w outer c a Quiet (ForCall o ∷ opened_in items) (Goes (EndsAction o (Pending x) ∷ items)) None refl (known, held, j)
       (held_more w.activation.within (ForCall o) (opened_in items) held) (refl, refl) tt
 
   -- the end of a served body, which gives its caller results or an exception
@@ -222,54 +222,54 @@ fewer h s t outer narrows c =
     record { store = c.store; own = record { fits = λ p. narrows _ (c.own.fits p); locals = c.own.locals }; callers = c.callers; all = c.all }
 
 raised_at_call : (h : Here) (s : Scope) (outer : List Waiting) (c : Current h s outer) (a : Around) (x : ℕ) (names : List (List ℕ)) (opened : Option ℕ) (xs : List Target) (items : List Item)
-    → 0 < x → Judged h.program s outer a (EndsCall names opened xs ∷ items)
+    → IsException h.program x → Judged h.program s outer a (EndsCall names opened xs ∷ items)
     → IsSoundStep h (opened_by opened (opened_in items)) (leaves h Quiet h.callers (call_raised x opened items) None)
-raised_at_call h s [] c a x names opened xs items positive j = absurd j
-raised_at_call h s (w ∷ outer) c a x names opened xs items positive j = call_raised_sound h s w outer c j.5 x opened items positive j.4 j.6
+raised_at_call h s [] c a x names opened xs items known j = absurd j
+raised_at_call h s (w ∷ outer) c a x names opened xs items known j = call_raised_sound h s w outer c j.5 x opened items known j.4 j.6
 
 raised_at_served : (h : Here) (s : Scope) (outer : List Waiting) (c : Current h s outer) (a : Around) (x o : ℕ) (names : List (List ℕ)) (completion : Completion) (items : List Item)
-    → 0 < x → Judged h.program s outer a (EndsServed o names completion ∷ items)
+    → IsException h.program x → Judged h.program s outer a (EndsServed o names completion ∷ items)
     → IsSoundStep h (ForCaller o ∷ opened_in items) (leaves h (Ends (is_open h.program h.memory o)) h.callers (completed completion items) (Some (Raised x)))
-raised_at_served h s [] c a x o names completion items positive j = absurd j
-raised_at_served h s (w ∷ outer) c a x o names completion items positive j = served_sound h s w outer c j.6 o completion (Raised x) items j.4 j.5 j.7 positive
+raised_at_served h s [] c a x o names completion items known j = absurd j
+raised_at_served h s (w ∷ outer) c a x o names completion items known j = served_sound h s w outer c j.6 o completion (Raised x) items j.4 j.5 j.7 known
 
 module _ (h : Here) (s : Scope) (outer : List Waiting) (laws : Premises h.program) (c : Current h s outer) where
   -- a handler, or none for this exception
-  handled_sound : (a : Around) (x : ℕ) (o : Option StmtTrees) (items : List Item) → IsHeld h.own.within (opened_in items) → 0 < x → IsLegalHandler h.program s a o → Behind h.program s outer a items
+  handled_sound : (a : Around) (x : ℕ) (o : Option StmtTrees) (items : List Item) → IsHeld h.own.within (opened_in items) → IsException h.program x → IsLegalHandler h.program s a o → Behind h.program s outer a items
       → IsSoundStep h (opened_in items) (handled h x o items)
-  handled_sound a x (Some body) items held positive legal b =
-      let behind : Behind h.program s outer (in_handler a) (EndsHandler x ∷ items) = (s, narrows_same h.program s, (positive, b.0, a.in_handler, b.1, b.2)) in
+  handled_sound a x (Some body) items held known legal b =
+      let behind : Behind h.program s outer (in_handler a) (EndsHandler x ∷ items) = (s, narrows_same h.program s, (known, b.0, a.in_handler, b.1, b.2)) in
       went h s outer c (in_handler a) items (before body (EndsHandler x ∷ items)) held (before_judged h.program s outer (in_handler a) body (EndsHandler x ∷ items) legal behind)
       (opened_before body (EndsHandler x ∷ items))
-  handled_sound a x None items held positive legal b = raised h s outer c a items x held positive (leaves_of h.program s outer a items b)
+  handled_sound a x None items held known legal b = raised h s outer c a items x held known (leaves_of h.program s outer a items b)
 
 -- the same where fewer names are visible
 handled_at : (h : Here) (t : Scope) (outer : List Waiting) (c : Current h t outer) (laws : Premises h.program) (a : Around) (x : ℕ) (o : Option StmtTrees) (items : List Item)
-    → IsHeld h.own.within (opened_in items) → 0 < x → IsLegalHandler h.program t a o → Behind h.program t outer a items → IsSoundStep h (opened_in items) (handled h x o items)
-handled_at h t outer c laws a x o items held positive legal b = handled_sound h t outer laws c a x o items held positive legal b
+    → IsHeld h.own.within (opened_in items) → IsException h.program x → IsLegalHandler h.program t a o → Behind h.program t outer a items → IsSoundStep h (opened_in items) (handled h x o items)
+handled_at h t outer c laws a x o items held known legal b = handled_sound h t outer laws c a x o items held known legal b
 
 module _ (h : Here) (s : Scope) (outer : List Waiting) (laws : Premises h.program) (c : Current h s outer) where
   -- an item that is left as it is
-  dropped : (t : Scope) (a b : Around) (x : ℕ) (items : List Item) → IsHeld h.own.within (opened_in items) → 0 < x → Narrows h.program s t → Behind h.program t outer b items
+  dropped : (t : Scope) (a b : Around) (x : ℕ) (items : List Item) → IsHeld h.own.within (opened_in items) → IsException h.program x → Narrows h.program s t → Behind h.program t outer b items
       → IsSoundStep h (opened_in items) (raises h x items)
-  dropped t a b x items held positive narrows rest =
-      raised h s outer c b items x held positive (leaves_of h.program s outer b items (rest.0, narrows_then h.program s t rest.0 narrows rest.1, rest.2))
+  dropped t a b x items held known narrows rest =
+      raised h s outer c b items x held known (leaves_of h.program s outer b items (rest.0, narrows_then h.program s t rest.0 narrows rest.1, rest.2))
 
-  pub raise_step_sound : (a : Around) (x : ℕ) (i : Item) (items : List Item) → IsHeld h.own.within (opened_in (i ∷ items)) → 0 < x → Leaves h.program s outer a (i ∷ items)
+  pub raise_step_sound : (a : Around) (x : ℕ) (i : Item) (items : List Item) → IsHeld h.own.within (opened_in (i ∷ items)) → IsException h.program x → Leaves h.program s outer a (i ∷ items)
       → IsSoundStep h (opened_in (i ∷ items)) (raise_step h x i items)
-  raise_step_sound a x (Declares d) items held positive l = raised h s outer c a items x held positive l
-  raise_step_sound a x (DeclaresParameter f) items held positive l = raised h s outer c a items x held positive l
-  raise_step_sound a x (Sequence body all) items held positive l = raised h s outer c a items x held positive l
-  raise_step_sound a x (Does st) items held positive l = dropped l.0 a a x items held positive l.1 (l.2.1, l.2.2, l.2.3)
-  raise_step_sound a x (DoesMain m) items held positive l = dropped l.0 a a x items held positive l.1 (l.0, narrows_same h.program l.0, l.2.1)
-  raise_step_sound a x (Repeats body) items held positive l = dropped l.0 a (record a { in_loop = l.2.2 }) x items held positive l.1 (l.2.1, l.2.3, l.2.4)
-  raise_step_sound a x (RepeatsWhile e body) items held positive l = dropped l.0 a (record a { in_loop = l.2.3 }) x items held positive l.1 (l.2.2, l.2.4, l.2.5)
-  raise_step_sound a x (RepeatsFor parameter reversed now last body) items held positive l =
-      dropped l.0 a (record a { in_loop = l.2.7 }) x items held positive l.1 (l.2.6, narrows_then h.program l.0 l.2.0 l.2.6 l.2.2 l.2.8, l.2.9)
-  raise_step_sound a x (Handles all) items held positive l =
-      handled_at h l.0 outer (fewer h s l.0 outer l.1 c) laws a x (handler_for h.program x all) items held positive (handler_found h.program l.0 a x all l.2.0.0 l.2.0.1) (l.2.1, l.2.2, l.2.3)
-  raise_step_sound a x (EndsHandler y) items held positive l = dropped l.0 a (record a { in_handler = l.2.2 }) x items held positive l.1 (l.2.1, l.2.3, l.2.4)
-  raise_step_sound a x (EndsCall names opened xs) items held positive l = raised_at_call h l.0 outer (fewer h s l.0 outer l.1 c) a x names opened xs items positive l.2
-  raise_step_sound a x (EndsServed o names completion) items held positive l = raised_at_served h l.0 outer (fewer h s l.0 outer l.1 c) a x o names completion items positive l.2
-  raise_step_sound a x (EndsAction o completion) items held positive l = absurd l.2
-  raise_step_sound a x (Queued q vs xs) items held positive l = absurd l.2
+  raise_step_sound a x (Declares d) items held known l = raised h s outer c a items x held known l
+  raise_step_sound a x (DeclaresParameter f) items held known l = raised h s outer c a items x held known l
+  raise_step_sound a x (Sequence body all) items held known l = raised h s outer c a items x held known l
+  raise_step_sound a x (Does st) items held known l = dropped l.0 a a x items held known l.1 (l.2.1, l.2.2, l.2.3)
+  raise_step_sound a x (DoesMain m) items held known l = dropped l.0 a a x items held known l.1 (l.0, narrows_same h.program l.0, l.2.1)
+  raise_step_sound a x (Repeats body) items held known l = dropped l.0 a (record a { in_loop = l.2.2 }) x items held known l.1 (l.2.1, l.2.3, l.2.4)
+  raise_step_sound a x (RepeatsWhile e body) items held known l = dropped l.0 a (record a { in_loop = l.2.3 }) x items held known l.1 (l.2.2, l.2.4, l.2.5)
+  raise_step_sound a x (RepeatsFor parameter reversed now last body) items held known l =
+      dropped l.0 a (record a { in_loop = l.2.7 }) x items held known l.1 (l.2.6, narrows_then h.program l.0 l.2.0 l.2.6 l.2.2 l.2.8, l.2.9)
+  raise_step_sound a x (Handles all) items held known l =
+      handled_at h l.0 outer (fewer h s l.0 outer l.1 c) laws a x (handler_for h.program x all) items held known (handler_found h.program l.0 a x all l.2.0.0 l.2.0.1) (l.2.1, l.2.2, l.2.3)
+  raise_step_sound a x (EndsHandler y) items held known l = dropped l.0 a (record a { in_handler = l.2.2 }) x items held known l.1 (l.2.1, l.2.3, l.2.4)
+  raise_step_sound a x (EndsCall names opened xs) items held known l = raised_at_call h l.0 outer (fewer h s l.0 outer l.1 c) a x names opened xs items known l.2
+  raise_step_sound a x (EndsServed o names completion) items held known l = raised_at_served h l.0 outer (fewer h s l.0 outer l.1 c) a x o names completion items known l.2
+  raise_step_sound a x (EndsAction o completion) items held known l = absurd l.2
+  raise_step_sound a x (Queued q vs xs) items held known l = absurd l.2

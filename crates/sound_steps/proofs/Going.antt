@@ -1,5 +1,5 @@
 -- How a task goes on behind a step: the work after it, where store and activations stay, and where a value or an exception comes.
-use Rattle.std.proofs.Common.{◌≡◌, ◌<◌, ℕ, List, [], ◌∷◌, map, Bool, true, false, inl, Option, None, cond, refl, sym, subst}
+use Rattle.std.proofs.Common.{◌≡◌, ℕ, List, [], ◌∷◌, map, Bool, true, false, inl, Option, None, cond, refl, sym, subst}
 use Rattle.base.specs.Exceptions.{number_of}
 use Rattle.base.specs.declared.exceptions.PredefinedException.{PredefinedException}
 use Rattle.kernel.specs.Effects.{Effect, Quiet}
@@ -16,12 +16,12 @@ use Rattle.well_typed.specs.Answers.{FunctionsAreSound}
 use Rattle.meaning.specs.Programs.{Program}
 use Rattle.meaning.specs.Works.{Item, Declares, DeclaresParameter, Sequence, Does, DoesMain, Repeats, RepeatsWhile, RepeatsFor, Handles, EndsHandler, EndsCall, EndsAction, EndsServed, Queued, Work, Goes, Raising, Activation, Store}
 use Rattle.meaning.specs.SourceSteps.{Here, Stepped, before, goes, items_of, place_of, raises, with_value, works}
-use Rattle.sound_steps.specs.Objects.{Comes}
+use Rattle.sound_steps.specs.Objects.{Comes, IsException, IsPredefinedException}
 use Rattle.sound_steps.specs.Fitting.{Narrows}
 use Rattle.sound_steps.specs.Opened.{IsHeld, Opened, opened_in}
 use Rattle.sound_steps.specs.Judged.{AreLegal, IsReady, IsWorkOf, Judged, Leaves, Waiting}
 use Rattle.sound_steps.specs.Holding.{Accounts, AllFit, FitsActivation, IsSoundServer, IsSoundStep, IsSoundStore, KeepsStore, WhenEnds, waiting_activation, waits_after}
-use Rattle.sound_steps.proofs.Raising.{exception_positive}
+use Rattle.sound_steps.proofs.Raising.{exception_predefined}
 use Rattle.sound_steps.proofs.Sights.{narrows_same}
 
 -- ---- what comes
@@ -167,18 +167,24 @@ module _ (h : Here) (s : Scope) (outer : List Waiting) where
   went c a items next held b same =
       worked c a Quiet (Goes next) (opened_in items) b.0 b.1 (ready_of h.program h.own b.0 outer a next b.2) (same, refl) (subst (IsHeld h.own.within) (sym same) held) tt
 
-  pub raised : Current h s outer → (a : Around) (items : List Item) (x : ℕ) → IsHeld h.own.within (opened_in items) → 0 < x → Leaves h.program s outer a items
+  pub raised : Current h s outer → (a : Around) (items : List Item) (x : ℕ) → IsHeld h.own.within (opened_in items) → IsException h.program x → Leaves h.program s outer a items
       → IsSoundStep h (opened_in items) (raises h x items)
-  raised c a items x held positive leaves = worked c a Quiet (Raising x items) (opened_in items) s (narrows_same h.program s) (positive, leaves) (refl, refl) held tt
+  raised c a items x held known leaves = worked c a Quiet (Raising x items) (opened_in items) s (narrows_same h.program s) (known, leaves) (refl, refl) held tt
+
+  -- ... of a predefined one
+  pub raised_predefined : Current h s outer → (a : Around) (items : List Item) (x : ℕ) → IsHeld h.own.within (opened_in items) → IsPredefinedException x
+      → Leaves h.program s outer a items
+      → IsSoundStep h (opened_in items) (raises h x items)
+  raised_predefined c a items x held known leaves = raised c a items x held (known.0, inl known.1) leaves
 
   -- ---- behind a statement
 
   module _ (a : Around) (items : List Item) where
-    pub at_raised : At h s outer a items → (x : ℕ) → 0 < x → IsSoundStep h (opened_in items) (raises h x items)
-    at_raised c x positive = raised c.current a items x c.held positive (leaves_of h.program s outer a items c.behind)
+    pub at_raised : At h s outer a items → (x : ℕ) → IsException h.program x → IsSoundStep h (opened_in items) (raises h x items)
+    at_raised c x known = raised c.current a items x c.held known (leaves_of h.program s outer a items c.behind)
 
     pub at_refused : At h s outer a items → (x : PredefinedException) → IsSoundStep h (opened_in items) (raises h (number_of x) items)
-    at_refused c x = at_raised c (number_of x) (exception_positive x)
+    at_refused c x = let known = exception_predefined x in at_raised c (number_of x) (known.0, inl known.1)
 
     pub at_goes : At h s outer a items → IsSoundStep h (opened_in items) (goes h items)
     at_goes c = went c.current a items items c.held c.behind refl
@@ -189,7 +195,7 @@ module _ (h : Here) (s : Scope) (outer : List Waiting) where
     pub at_value : {A : Type 0} (P : A → Type 0) → At h s outer a items → (v : Val A) (go : A → Stepped) → Comes P v → ((x : A) → P x → IsSoundStep h (opened_in items) (go x))
         → IsSoundStep h (opened_in items) (with_value h v items go)
     at_value P c (Gives x) go comes f = f x comes
-    at_value P c (Raises x) go comes f = at_raised c x comes
+    at_value P c (Raises x) go comes f = at_raised c x (comes.0, inl comes.1)
     at_value P c Meaningless go comes f = absurd comes
 
     pub at_chosen : (b : Bool) (x y : Stepped) → (b ≡ true → IsSoundStep h (opened_in items) x) → (b ≡ false → IsSoundStep h (opened_in items) y) → IsSoundStep h (opened_in items) (cond b x y)

@@ -36,7 +36,7 @@ use Rattle.sound_steps.specs.Judged.{Waiting}
 use Rattle.sound_steps.specs.Laws.{Premises}
 use Rattle.sound_steps.proofs.Aiming.{IsNamedTarget, NamesTarget, objects_at, names_target, part_valued}
 use Rattle.sound_steps.proofs.Reaching.{target_reached}
-use Rattle.sound_steps.proofs.Raising.{target_positive}
+use Rattle.sound_steps.proofs.Raising.{target_predefined}
 use Rattle.sound_steps.proofs.Going.{At, Current, agrees_here, comes_then, comes_weaker, functions_here}
 use Rattle.sound_steps.proofs.Valued.{passed_comes, value_comes}
 use Rattle.sound_steps.proofs.Storing.{object_sound, object_there}
@@ -144,7 +144,7 @@ module _ (h : Here) (s : Scope) (outer : List Waiting) (a : Around) (items : Lis
   variable_comes (Named first selectors) n legal =
       comes_weaker (λ x. IsNamedTarget s (place_of h items) w x × IsReached h.own.within x.home)
       (λ x. (x.subtype.type_number ≡ n) × IsPartIn h.program.scope (objects_at (place_of h items) x.home) x × IsTarget h.program h.own x) (target (place_of h items) first.name selectors)
-      (target_comes s (place_of h items) w (target (place_of h items) first.name selectors) (target_positive (place_of h items) first.name selectors)
+      (target_comes s (place_of h items) w (target (place_of h items) first.name selectors) (target_predefined (place_of h items) first.name selectors)
       (target_reached (place_of h items) first.name selectors) named)
       (λ x f. (sym (variable_type s first.place n x.subtype.type_number w rule f.0.own), f.0.part, target_of_place h s outer a items laws at w x f))
     where

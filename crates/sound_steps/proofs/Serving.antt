@@ -70,7 +70,7 @@ received_work : (program : Program) (o : ℕ) (own : Activation) (s : Scope) (ou
 received_work program o own s outer a (Results vs) (Goes (Queued q given xs ∷ items)) is of =
     let same : of.0 ≡ q = same_some of.0 q (sym of.1 ∙ is.0.only) in
     copying_work program own s outer a (result_types q.parameters) vs xs items (subst (λ r. AreOf program.scope (result_types r.parameters) vs) same of.2) is.0.targets is.1
-received_work program o own s outer a (Raised x) (Goes (Queued q given xs ∷ items)) is positive = (positive, leaves_of program s outer a items (s, narrows_same program s, is.1))
+received_work program o own s outer a (Raised x) (Goes (Queued q given xs ∷ items)) is known = (known, leaves_of program s outer a items (s, narrows_same program s, is.1))
 received_work program o own s outer a g w is of = absurd is
 
 received_held : (program : Program) (o : ℕ) (own : Activation) (s : Scope) (outer : List Waiting) (a : Around) (g : Given) (w : Work) → IsQueuedWork program o own s outer a w

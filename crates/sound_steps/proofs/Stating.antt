@@ -1,7 +1,9 @@
 -- Statements: each that breaks no rule has a step with a meaning (RM 5).
-use Rattle.std.proofs.Common.{◌≡◌, ◌<◌, ℕ, suc, List, [], ◌∷◌, ◌++◌, map, Bool, true, false, not, Option, Some, None, cond, refl, sym, ap, ◌∙◌, subst}
+use Rattle.std.proofs.Common.{◌≡◌, ◌≤◌, inr, ℕ, suc, List, [], ◌∷◌, ◌++◌, length, map, Bool, true, false, not, Option, Some, None, cond, refl, sym, ap, ◌∙◌, subst}
 use Rattle.std.proofs.Common.{arith}
 use Rattle.std.specs.Prelude.{option_map, position, bytes_eq}
+use Rattle.std.proofs.lemmas.List.Quantifiers.{position-Some}
+use Rattle.std.proofs.lemmas.Option.{same_Some}
 use Rattle.base.specs.declared.faults.TheConstants.{MISPLACED_STATEMENT, WRONG_CHOICES}
 use Rattle.base.specs.declared.exceptions.PredefinedException.TheVariants.{ProgramError}
 use Rattle.kernel.specs.Effects.{Delays, is_inside_any}
@@ -39,17 +41,17 @@ use Rattle.stmt_rules.specs.CaseRules.{choices_faults, choices_wanted, chosen_by
 use Rattle.stmt_rules.specs.CaseRules as alternatives
 use Rattle.stmt_rules.specs.StatementRules.{alternatives_faults, elsifs_faults, in_loop, iteration_faults, iteration_scope, more_handlers_faults, stmt_faults, stmts_faults}
 use Rattle.ravenscar.specs.BodyRules as profile
-use Rattle.meaning.specs.Programs.{Program}
+use Rattle.meaning.specs.Programs.{Program, exception_number}
 use Rattle.meaning.specs.Works.{Item, Declares, Sequence, Does, Goes, Home, InActivation, InPackage, InObject, Part, Target}
 use Rattle.meaning.specs.Targets.{activation_with, objects_of, target}
 use Rattle.meaning.specs.SourceSteps.{Here, alternative, alternative_for, assign, before, behind_loop, condition, delay_until, end_of_body, evaluate, goes, otherwise, place_of, raise_named, raise_number, raises_predefined, some_chosen, statement_step, stores, with_value}
-use Rattle.sound_steps.specs.Objects.{Comes, IsOf, IsReached, IsTarget, first_store, subtype_in}
+use Rattle.sound_steps.specs.Objects.{Comes, IsException, IsOf, IsReached, IsTarget, first_store, subtype_in}
 use Rattle.sound_steps.specs.Opened.{IsHeld, opened_in}
 use Rattle.sound_steps.specs.Judged.{AreLegal, AreLegalHandlers, Begins, IsLegal, Leaves, Waiting}
 use Rattle.sound_steps.specs.Holding.{IsSoundStep}
 use Rattle.sound_steps.specs.Laws.{Premises}
 use Rattle.sound_steps.proofs.Aiming.{IsNamedTarget, NamesTarget, objects_at, names_target}
-use Rattle.sound_steps.proofs.Raising.{Positive, target_positive}
+use Rattle.sound_steps.proofs.Raising.{RaisesPredefined, target_predefined}
 use Rattle.sound_steps.proofs.Reaching.{IsReachedBy, target_reached}
 use Rattle.sound_steps.proofs.Sights.{fits_fewer, narrows_same, narrows_then}
 use Rattle.sound_steps.proofs.Going.{At, Current, agrees_here, at_before, at_chosen, at_goes, at_raised, at_refused, at_value, comes_then, functions_here, leaves_of, ready_of, went, worked}
@@ -122,16 +124,22 @@ raised_is place (Some (entity.Task priority)) h doubt = cc
 raised_is place (Some (entity.Protected p)) h doubt = cc
 raised_is place (Some entity.LibraryUnit) h doubt = cc
 
-number_positive : (o : Option ℕ) (x : ℕ) → option_map suc o ≡ Some x → 0 < x
-number_positive (Some n) x h = let f : Option ℕ → ℕ = λ o. elim o [ Some y ↦ y | None ↦ x ] in subst (λ y. 0 < y) (ap f h) (omega arith)
-number_positive None x h = cc
+number_known : (program : Program) (name : List ℕ) (x : ℕ) → exception_number program name ≡ Some x → IsException program x
+number_known program name x h = by_place (position (bytes_eq name) program.exceptions) refl h
+  where
+    by_place : (o : Option ℕ) → position (bytes_eq name) program.exceptions ≡ o → option_map suc o ≡ Some x → IsException program x
+    by_place (Some n) at e =
+        let there = position-Some (bytes_eq name) program.exceptions n [] at in
+        let less : suc n ≤ length program.exceptions = there.0 in
+        subst (IsException program) (same_Some (suc n) x e) (omega arith, inr less)
+    by_place None at e = cc
 
 -- ---- targets
 
-pub target_comes : (s : Scope) (p : Place) (w : Standing) (v : Val Target) → Positive v → IsReachedBy p.within v → NamesTarget s p w v → Comes (λ x. IsNamedTarget s p w x × IsReached p.within x.home) v
-target_comes s p w (Gives x) positive reached h = (h, reached)
-target_comes s p w (Raises x) positive reached h = positive
-target_comes s p w Meaningless positive reached h = h
+pub target_comes : (s : Scope) (p : Place) (w : Standing) (v : Val Target) → RaisesPredefined v → IsReachedBy p.within v → NamesTarget s p w v → Comes (λ x. IsNamedTarget s p w x × IsReached p.within x.home) v
+target_comes s p w (Gives x) known reached h = (h, reached)
+target_comes s p w (Raises x) known reached h = known
+target_comes s p w Meaningless known reached h = h
 
 module _ (h : Here) (s : Scope) (outer : List Waiting) (a : Around) (items : List Item) (laws : Premises h.program) (at : At h s outer a items) where
   c : Current h s outer
@@ -176,7 +184,7 @@ module _ (h : Here) (s : Scope) (outer : List Waiting) (a : Around) (items : Lis
       let fits = c.own.fits (place_of h items) in
       let x = fits.finds name.name entity.Exception (raised_is name.place (named_entity s name) legal (not_doubtful name)) in
       subst (λ o. IsSoundStep h (opened_in items) (raise_number h o items)) (sym x.1)
-      (at_raised h s outer a items at x.0 (number_positive (position (bytes_eq name.name) h.program.exceptions) x.0 x.1))
+      (at_raised h s outer a items at x.0 (number_known h.program name.name x.0 x.1))
   raise_sound place None legal =
       let x = handling h.program at.behind.0 outer a items (not_false a.in_handler (unbroken MISPLACED_STATEMENT place (not a.in_handler) legal)) at.behind.2 in
       subst (λ o. IsSoundStep h (opened_in items) (raise_number h o items)) (sym x.1) (at_raised h s outer a items at x.0 x.2)
@@ -303,7 +311,7 @@ module _ (h : Here) (s : Scope) (outer : List Waiting) (a : Around) (items : Lis
   assign_sound name e legal =
       at_value h s outer a items (λ x. IsNamedTarget s (place_of h items) w x × IsReached h.own.within x.home) at (target (place_of h items) name.first.name name.selectors)
       (λ x. with_value h (and_then (evaluate h items e) (passed x.subtype)) items (λ v. stores h x v (Goes items)))
-      (target_comes s (place_of h items) w (target (place_of h items) name.first.name name.selectors) (target_positive (place_of h items) name.first.name name.selectors)
+      (target_comes s (place_of h items) w (target (place_of h items) name.first.name name.selectors) (target_predefined (place_of h items) name.first.name name.selectors)
       (target_reached (place_of h items) name.first.name name.selectors) named)
       (λ x f.
       at_value h s outer a items (IsOf h.program.scope x.subtype.type_number) at (and_then (evaluate h items e) (passed x.subtype)) (λ v. stores h x v (Goes items))

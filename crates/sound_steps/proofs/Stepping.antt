@@ -65,7 +65,7 @@ module _ (h : Here) (s : Scope) (outer : List Waiting) (laws : Premises h.progra
   work_sound (Goes []) held is = worked h s outer c a Finishes (Goes []) [] s (narrows_same h.program s) is (refl, refl, refl) held tt
   work_sound (Goes (i ∷ items)) held is = item_sound i items held is
   work_sound (Copies vs xs items) held is = copy_sound h s outer laws c a is.0 vs xs items held is.1 is.2 is.3
-  work_sound (Raising x []) held is = worked h s outer c a (Dies x) (Goes []) [] is.1.0 is.1.1 is.1.2 (refl, refl, refl, is.0) held tt
+  work_sound (Raising x []) held is = worked h s outer c a (Dies x) (Goes []) [] is.1.0 is.1.1 is.1.2 (refl, refl, refl, is.0.0) held tt
   work_sound (Raising x (i ∷ items)) held is = raise_step_sound h s outer laws c a x i items held is.0 is.1
 
 pub steps_are_sound : StepsAreSound

@@ -34,7 +34,7 @@ use Rattle.sound_steps.specs.Judged.{AreLegal, Begins, IsLoopParameter, IsReady,
 use Rattle.sound_steps.specs.Holding.{IsSoundStep, inside}
 use Rattle.sound_steps.specs.Laws.{Premises}
 use Rattle.sound_steps.proofs.Sights.{fits_fewer, fits_turn, narrows_same, narrows_then}
-use Rattle.sound_steps.proofs.Raising.{exception_positive}
+use Rattle.sound_steps.proofs.Raising.{exception_predefined}
 use Rattle.sound_steps.proofs.Going.{At, Behind, Current, agrees_here, at_chosen, at_goes, at_value, before_judged, opened_before, ready_of, same_store, went}
 use Rattle.sound_steps.proofs.Valued.{IsNumber, condition_comes, fitting_own, number_comes}
 
@@ -127,7 +127,7 @@ module _ (h : Here) (s : Scope) (outer : List Waiting) (laws : Premises h.progra
       where
         next_comes : (r : Checked) → Comes (λ (next : ℤ). Unit {0}) (number_computed r)
         next_comes (Ok z) = tt
-        next_comes (Err x) = exception_positive x
+        next_comes (Err x) = exception_predefined x
 
   -- ---- loop statements
 

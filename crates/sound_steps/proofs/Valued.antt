@@ -26,16 +26,16 @@ use Rattle.meaning.specs.SourceSteps.{Here, condition, evaluate, place_of}
 use Rattle.sound_steps.specs.Objects.{Comes, IsOf}
 use Rattle.sound_steps.specs.Judged.{Waiting}
 use Rattle.sound_steps.specs.Laws.{Premises}
-use Rattle.sound_steps.proofs.Raising.{Positive, exception_positive, val_positive}
+use Rattle.sound_steps.proofs.Raising.{RaisesPredefined, exception_predefined, val_predefined}
 use Rattle.sound_steps.proofs.Sights.{value_here}
 use Rattle.sound_steps.proofs.Going.{Current, agrees_here, comes_then, comes_weaker, functions_here}
 
 -- ---- values by what they suit
 
-pub suited_comes : (s : Scope) (own : Own) (v : Val Value) → Positive v → suits s own v ≡ true → Comes (λ w. is_value_of s own w ≡ true) v
-suited_comes s own (Gives w) positive h = h
-suited_comes s own (Raises x) positive h = positive
-suited_comes s own Meaningless positive h = cc
+pub suited_comes : (s : Scope) (own : Own) (v : Val Value) → RaisesPredefined v → suits s own v ≡ true → Comes (λ w. is_value_of s own w ≡ true) v
+suited_comes s own (Gives w) known h = h
+suited_comes s own (Raises x) known h = known
+suited_comes s own Meaningless known h = cc
 
 abbrev pub IsNumber : Value → Type 0
 IsNumber v = (z : ℤ) × (v ≡ Number z)
@@ -54,7 +54,7 @@ truth_comes (Record fs) h = cc
 
 passed_comes_by : (P : Value → Type 0) (b : Bool) (v : Value) → P v → Comes P (cond b (Gives v) (raise ConstraintError))
 passed_comes_by P true v h = h
-passed_comes_by P false v h = exception_positive ConstraintError
+passed_comes_by P false v h = exception_predefined ConstraintError
 
 -- the check against a subtype keeps what is known of the value
 pub passed_comes : (P : Value → Type 0) (t : Subtype) (v : Value) → P v → Comes P (passed t v)
@@ -84,19 +84,19 @@ module _ (h : Here) (s : Scope) (outer : List Waiting) (laws : Premises h.progra
       let v = evaluate h items e in
       let agrees = agrees_here h s outer c items in
       let suited = laws.typed.wanted s (place_of h items) agrees (functions_here h s outer c items) e n legal in
-      comes_weaker (IsOf s n) (IsOf h.program.scope n) v (suited_comes s (Typed n) v (val_positive (place_of h items) e) suited) (λ w i. value_here s (place_of h items) agrees n known w i)
+      comes_weaker (IsOf s n) (IsOf h.program.scope n) v (suited_comes s (Typed n) v (val_predefined (place_of h items) e) suited) (λ w i. value_here s (place_of h items) agrees n known w i)
 
   -- any value
   pub some_value : (e : ExprTree) (w : Wanted) → faults_in s w e ≡ [] → Comes (λ v. Unit {0}) (evaluate h items e)
   some_value e w legal =
       let v = evaluate h items e in
-      comes_weaker (λ x. is_value_of s (own_of s e) x ≡ true) (λ x. Unit {0}) v (suited_comes s (own_of s e) v (val_positive (place_of h items) e) (typed_here e w legal).suited) (λ x i. tt)
+      comes_weaker (λ x. is_value_of s (own_of s e) x ≡ true) (λ x. Unit {0}) v (suited_comes s (own_of s e) v (val_predefined (place_of h items) e) (typed_here e w legal).suited) (λ x i. tt)
 
   -- a number, of a numeric type
   pub number_comes : (e : ExprTree) (w : Wanted) → faults_in s w e ≡ [] → is_numeric s (own_of s e) ≡ true → Comes IsNumber (evaluate h items e)
   number_comes e w legal numeric =
       let v = evaluate h items e in
-      comes_weaker (λ x. is_value_of s (own_of s e) x ≡ true) IsNumber v (suited_comes s (own_of s e) v (val_positive (place_of h items) e) (typed_here e w legal).suited)
+      comes_weaker (λ x. is_value_of s (own_of s e) x ≡ true) IsNumber v (suited_comes s (own_of s e) v (val_predefined (place_of h items) e) (typed_here e w legal).suited)
       (λ x i. number_is x (sym (numeric_value s (own_of s e) numeric x) ∙ i))
 
   -- an Integer
@@ -105,7 +105,7 @@ module _ (h : Here) (s : Scope) (outer : List Waiting) (laws : Premises h.progra
       let v = evaluate h items e in
       let suited = laws.typed.wanted s (place_of h items) (agrees_here h s outer c items) (functions_here h s outer c items) e integer_type legal in
       let integers : is_integral s (Typed integer_type) ≡ true = ap is_integers sound_scope.integer in
-      comes_weaker (λ x. is_value_of s (Typed integer_type) x ≡ true) IsNumber v (suited_comes s (Typed integer_type) v (val_positive (place_of h items) e) suited)
+      comes_weaker (λ x. is_value_of s (Typed integer_type) x ≡ true) IsNumber v (suited_comes s (Typed integer_type) v (val_predefined (place_of h items) e) suited)
       (λ x i. number_is x (sym (numeric_value s (Typed integer_type) (integral_numeric s (Typed integer_type) integers) x) ∙ i))
 
   -- conditions are true or false
@@ -114,5 +114,5 @@ module _ (h : Here) (s : Scope) (outer : List Waiting) (laws : Premises h.progra
       let v = evaluate h items e in
       let suited = laws.typed.wanted s (place_of h items) (agrees_here h s outer c items) (functions_here h s outer c items) e boolean_type legal in
       let booleans : is_boolean s (Typed boolean_type) ≡ true = ap is_booleans sound_scope.boolean in
-      comes_then (λ x. is_value_of s (Typed boolean_type) x ≡ true) (λ b. Unit {0}) v truth_of (suited_comes s (Typed boolean_type) v (val_positive (place_of h items) e) suited)
+      comes_then (λ x. is_value_of s (Typed boolean_type) x ≡ true) (λ b. Unit {0}) v truth_of (suited_comes s (Typed boolean_type) v (val_predefined (place_of h items) e) suited)
       (λ x i. truth_comes x (sym (boolean_value s (Typed boolean_type) booleans x) ∙ i))

@@ -1,5 +1,5 @@
 -- What is left of judged items by `exit`, `return` and `raise`, and the handlers among them.
-use Rattle.std.proofs.Common.{◌≡◌, ◌<◌, ℕ, List, [], ◌∷◌, ◌++◌, Bool, true, false, Option, Some, None, cond, refl}
+use Rattle.std.proofs.Common.{◌≡◌, ℕ, List, [], ◌∷◌, ◌++◌, Bool, true, false, Option, Some, None, cond, refl}
 use Rattle.std.specs.Prelude.{◌&&◌}
 use Rattle.ada_tree.specs.StatementTree.{HandlerTrees, NoHandlers, MoreHandlers, StmtTrees}
 use Rattle.types.specs.Scopes.{Scope}
@@ -9,6 +9,7 @@ use Rattle.stmt_rules.specs.StatementRules.{in_handler, more_handlers_faults, st
 use Rattle.ravenscar.specs.BodyRules as profile
 use Rattle.expr_rules.proofs.TypedLaw.{back_empty, front_empty}
 use Rattle.meaning.specs.Programs.{Program}
+use Rattle.sound_steps.specs.Objects.{IsException}
 use Rattle.meaning.specs.Works.{Item, Declares, DeclaresParameter, Sequence, Does, DoesMain, Repeats, RepeatsWhile, RepeatsFor, Handles, EndsHandler, EndsCall, EndsAction, EndsServed, Queued}
 use Rattle.meaning.specs.SourceSteps.{behind_loop, end_of_body, handled_exception, handler_for, some_covers}
 use Rattle.stmt_rules.specs.SimpleRules.{is_function}
@@ -69,7 +70,7 @@ module _ (program : Program) where
 
   -- the exception that is handled
   pub handling : (s : Scope) (outer : List Waiting) (a : Around) (items : List Item) → a.in_handler ≡ true → Judged program s outer a items
-      → (x : ℕ) × (handled_exception items ≡ Some x) × (0 < x)
+      → (x : ℕ) × (handled_exception items ≡ Some x) × IsException program x
   handling s [] a [] inner j = absurd (not_both a.in_handler inner j.handler)
   handling s (w ∷ outer) a [] inner j = absurd j
   handling s outer a (Does x ∷ items) inner j = handling j.1 outer a items inner j.3

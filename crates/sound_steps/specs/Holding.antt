@@ -11,7 +11,7 @@ use Rattle.meaning.specs.Programs.{Procedure, Program}
 use Rattle.meaning.specs.Works.{Item, Activation, Given, Results, Raised, Store, TaskWork}
 use Rattle.meaning.specs.Calls.{activation_of, body_items, is_open, procedure_among, results}
 use Rattle.meaning.specs.SourceSteps.{Here, Stepped, completion_of, items_of}
-use Rattle.sound_steps.specs.Objects.{AreOf, AreSoundObjects, first_store, subtype_in}
+use Rattle.sound_steps.specs.Objects.{AreOf, AreSoundObjects, IsException, first_store, subtype_in}
 use Rattle.sound_steps.specs.Fitting.{Fits, entry_of, result_types, taken_types}
 use Rattle.sound_steps.specs.Opened.{ForCall, ForCaller, IsHeld, Opened, object_opened, opened_in}
 use Rattle.sound_steps.specs.Judged.{AreResults, Begins, IsCompletion, IsPlain, IsWorkOf, Judged, Waiting}
@@ -110,7 +110,7 @@ pub record KeepsStore (program : Program) (within : Option ℕ) (before after : 
 -- what the caller is given: values of the results of the object's entry, or an exception
 abbrev pub IsGiven : Program → (object : ℕ) → Given → Type 0
 IsGiven program o (Results vs) = (q : Procedure) × (entry_of program.procedures o ≡ Some q) × AreOf program.scope (result_types q.parameters) vs
-IsGiven program o (Raised x) = 0 < x
+IsGiven program o (Raised x) = IsException program x
 
 -- a caller is given something where its body ends, and only there
 abbrev pub IsGivenAt : Program → Opened → Option Given → Type 0

@@ -1,5 +1,5 @@
 -- Work that was judged: items each of which breaks no rule where it is worked, with what is visible there (RM 5, 6.4, 11.4).
-use Rattle.std.specs.Prelude.{◌≡◌, ◌<◌, ℕ, Bool, true, false, List, [], ◌∷◌, Option, Some, None, ⊤}
+use Rattle.std.specs.Prelude.{◌≡◌, ℕ, Bool, true, false, List, [], ◌∷◌, Option, Some, None, ⊤}
 use Rattle.ada_tree.specs.declared.program.MainStatement.{MainStatement}
 use Rattle.ada_tree.specs.declared.program.MainStatement.TheVariants as main
 use Rattle.ada_tree.specs.StatementTree.{DeclarationTree, StmtTree, StmtTrees, HandlerTrees}
@@ -19,7 +19,7 @@ use Rattle.well_typed.specs.SoundScopes.{IsKnown}
 use Rattle.meaning.specs.Programs.{Parameter, Procedure, Program}
 use Rattle.meaning.specs.Works.{Item, Declares, DeclaresParameter, Sequence, Does, DoesMain, Repeats, RepeatsWhile, RepeatsFor, Handles, EndsHandler, EndsCall, EndsAction, EndsServed, Queued, Completion, Completed, Pending, Target, Work, Goes, Copies, Raising, Activation}
 use Rattle.meaning.specs.Calls.{procedure_here}
-use Rattle.sound_steps.specs.Objects.{AreOf, AreTargets}
+use Rattle.sound_steps.specs.Objects.{AreOf, AreTargets, IsException}
 use Rattle.sound_steps.specs.Fitting.{Narrows, entity_named, entry_of, is_result, result_types, taken_types}
 use Rattle.sound_steps.specs.Opened.{IsHeld, opened_in}
 
@@ -79,7 +79,7 @@ module _ (program : Program) where
   -- what comes after the end of an action: results with their targets, or an exception
   abbrev pub IsCompletion : Activation → Completion → Type 0
   IsCompletion a (Completed vs xs) = (types : List ℕ) × AreOf program.scope types vs × AreTargets program a types xs
-  IsCompletion a (Pending x) = 0 < x
+  IsCompletion a (Pending x) = IsException program x
 
   -- main calls procedures of the package without parameters (RM 10.2)
   abbrev pub IsMainStatement : MainStatement → Type 0
@@ -106,7 +106,7 @@ module _ (program : Program) where
       × Narrows program (turn_scope outside parameter n) outside × (later : Scope) × (b : Bool) × Narrows program outside later
       × Judged later outer (record a { in_loop = b }) items
   Judged s outer a (Handles all ∷ items) = AreLegalHandlers s a all × (later : Scope) × Narrows program s later × Judged later outer a items
-  Judged s outer a (EndsHandler x ∷ items) = (0 < x) × (later : Scope) × (b : Bool) × Narrows program s later
+  Judged s outer a (EndsHandler x ∷ items) = IsException program x × (later : Scope) × (b : Bool) × Narrows program s later
       × Judged later outer (record a { in_handler = b }) items
   Judged s [] a (EndsCall names opened xs ∷ items) = ⊥
   Judged s (w ∷ outer) a (EndsCall names opened xs ∷ items) =
@@ -148,7 +148,7 @@ module _ (program : Program) where
   abbrev pub IsWork : Activation → Scope → (outer : List Waiting) → Around → Work → Type 0
   IsWork own s outer a (Goes items) = IsReady own s outer a items
   IsWork own s outer a (Copies vs xs items) = (types : List ℕ) × AreOf program.scope types vs × AreTargets program own types xs × Judged s outer a items
-  IsWork own s outer a (Raising x items) = (0 < x) × Leaves s outer a items
+  IsWork own s outer a (Raising x items) = IsException program x × Leaves s outer a items
 
   -- a call that waits in the entry queue of the object, or is being served (RM 9.5.3)
   pub record IsQueuedCall (object : ℕ) (own : Activation) (q : Procedure) (vs : List Value) (xs : List Target) : Type 0 where

@@ -1,5 +1,5 @@
 -- Values of types, objects with values of their types, and targets: objects and parts of them that are there (RM 3.2, 4.1, 5.2).
-use Rattle.std.specs.Prelude.{◌≡◌, ◌<◌, ℕ, true, List, [], ◌∷◌, option_map, Option, Some, ⊤}
+use Rattle.std.specs.Prelude.{◌≡◌, ◌<◌, ◌≤◌, ◌⊎◌, ℕ, true, List, [], ◌∷◌, length, option_map, Option, Some, ⊤}
 use Rattle.types.specs.declared.entity.Subtype.{Subtype}
 use Rattle.types.specs.declared.entity.RecordComponent.{RecordComponent}
 use Rattle.types.specs.Entities.{Arrays, Records}
@@ -16,10 +16,18 @@ use Rattle.meaning.specs.Targets.{objects_of}
 
 -- ---- evaluations that come to something
 
--- it gives what has this property, or raises an exception, whose number is above 0; never what has no meaning
+-- the number of a predefined exception (RM 11.1)
+abbrev pub IsPredefinedException : ℕ → Type 0
+IsPredefinedException x = (0 < x) × (x ≤ 4)
+
+-- the number of an exception: of a predefined one, or of one that the program declares
+abbrev pub IsException : Program → ℕ → Type 0
+IsException program x = (0 < x) × ((x ≤ 4) ⊎ (x ≤ length program.exceptions))
+
+-- it gives what has this property, or raises a predefined exception; never what has no meaning
 abbrev pub Comes : {A : Type 0} → (A → Type 0) → Val A → Type 0
 Comes P (Gives a) = P a
-Comes P (Raises x) = 0 < x
+Comes P (Raises x) = IsPredefinedException x
 Comes P Meaningless = ⊥
 
 -- ---- values
