@@ -3,7 +3,7 @@ use Rattle.std.proofs.Common.{◌≡◌, ℕ, suc, ◌≤◌, List, map, length,
 use Rattle.std.specs.Prelude.{slice_get}
 use Rattle.ada_tree.specs.declared.expression.Identifier.{Identifier}
 use Rattle.ada_tree.specs.ExpressionTree.{ExprTree}
-use Rattle.ada_tree.specs.StatementTree.{NoHandlers, SubprogramTree}
+use Rattle.ada_tree.specs.StatementTree.{SubprogramTree}
 use Rattle.ada_tree.specs.ProgramTree.{BodyTree, ProgramTree, SubprogramBody}
 use Rattle.handlers.specs.Innermost.{handler_of}
 use Rattle.image.specs.Operations.{called}
@@ -67,16 +67,15 @@ module _ (laws : LawsOfNames) (t : ProgramTree) (legal : IsLegal t) (restricted 
       pub stop : ℕ
       pub down : first_place i number ≤ first
       pub ready : AreParametersDeclared i program g numbers frames.begins (first_place i number) first frames.begun (left_out ps)
-      pub runs : IsRun i program g numbers middle first stop b.declarations b.statements
+      pub runs : IsRun i program g numbers middle first stop b.declarations b.statements b.handlers
       pub gives : GivesBack i program g middle (results ps) number stop
       pub within : suc gives.back ≤ s.end_
 
-    pub procedure_coded : b.handlers ≡ NoHandlers → DoesBody → IsProcedure i program g numbers procedure number
-    procedure_coded unhandled does = record {
+    pub procedure_coded : DoesBody → IsProcedure i program g numbers procedure number
+    procedure_coded does = record {
       s = s;
       there = there;
       outside = refl;
-      unhandled = unhandled;
       parameters = λ args addresses passed many.
           procedure_takes laws t legal restricted i g of_program place d b at v frames.begins before top frames.holds (fits top takes) small args addresses passed
           many

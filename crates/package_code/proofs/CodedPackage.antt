@@ -1,6 +1,8 @@
 -- All subprograms of a package have their code where each body among its declarations has it.
-use Rattle.std.proofs.Common.{◌≡◌, ℕ, List, [], ◌⊎◌, inl, inr, Option, Some, None, true, refl, sym, ap, ◌∙◌, subst}
+use Rattle.std.proofs.Common.{◌≡◌, ◌≤◌, ℕ, List, [], ◌++◌, length, ◌⊎◌, inl, inr, Option, Some, None, true, refl, sym, ap, ◌∙◌, subst, arith}
 use Rattle.std.specs.Prelude.{slice_get}
+use Rattle.std.proofs.lemmas.List.{length-append}
+use Rattle.base.specs.Names.{predefined}
 use Rattle.kernel.specs.Laws.{QuietStays}
 use Rattle.ada_tree.specs.declared.expression.Identifier.{Identifier}
 use Rattle.ada_tree.specs.ExpressionTree.{ExprTree}
@@ -11,7 +13,7 @@ use Rattle.types.specs.Places.{Function, function_of, is_of, or_else}
 use Rattle.checking.specs.ProgramRules.{IsLegal}
 use Rattle.ravenscar.specs.ProgramRules.{IsRestricted}
 use Rattle.meaning.specs.Calls.{procedure_among}
-use Rattle.meaning.specs.Programs.{Procedure, Program, object_numbered, program_of, returned}
+use Rattle.meaning.specs.Programs.{Procedure, Program, exceptions_among, object_numbered, package_items, program_of, returned}
 use Rattle.sound_programs.specs.Fronts.{declared_in, start_in}
 use Rattle.sound_programs.proofs.Callables.{Bodied, InObject, InPackage, bodies_among, body_place, found_function, found_procedure, function_by, functions_are, operation_body, procedure_by, procedures_are, subprogram_body}
 use Rattle.sound_programs.proofs.Listing.{Has}
@@ -36,6 +38,13 @@ once None h = h
 owner_of : (o : Option ℕ) (item : ProtectedItemTree) → (operation_body o item).owner ≡ o
 owner_of o (OperationBody d b) = refl
 owner_of o (EntryBody d barrier b) = refl
+
+-- the predefined exceptions are the first ones
+four_first : (xs : List (List ℕ)) → 4 ≤ length (predefined ++ xs)
+four_first xs =
+    let both = length-append predefined xs in
+    let four : length predefined ≡ 4 = refl in
+    omega (arith, both, four)
 
 module _ (laws : LawsOfNames) (t : ProgramTree) (legal : IsLegal t) (restricted : IsRestricted t) where
   abbrev program : Program
@@ -141,9 +150,10 @@ module _ (laws : LawsOfNames) (t : ProgramTree) (legal : IsLegal t) (restricted 
               subst (λ y. IsFunctionCode i (library_of g) y number) (sym x.is)
               (has.functions x.place x.d x.b x.at x.result x.some x.value x.returns number called)
 
-      pub package_coded : QuietStays → i.rows ≡ [] → HasCode i program g numbers
-      package_coded quiet rows = record {
-        rows = rows;
+      pub package_coded : QuietStays → i.exceptions ≡ program.exceptions → HasCode i program g numbers
+      package_coded quiet exceptions = record {
+        exceptions = exceptions;
+        predefined = four_first (exceptions_among (package_items t.package_));
         functions = functions_answer quiet i (library_of g) functions_coded
             (λ left p sound. (known laws t legal restricted).typed.answered p sound left);
         procedures = procedures_coded;

@@ -30,7 +30,7 @@ use Rattle.stmt_code.specs.Emitting.{HasLabels, Serves, first_word}
 use Rattle.stmt_code.specs.Layout.{EndsBy}
 use Rattle.stmt_code.specs.Formals.{AddsEach, AreReturned, Placed, outs_end, passed_end, words_returned}
 use Rattle.stmt_code.specs.Resting.{Framed}
-use Rattle.stmt_code.specs.Statements.{AreParametersDeclared, IsProcedure, Numbers}
+use Rattle.stmt_code.specs.Statements.{AreParametersDeclared, IsProcedure, IsRun, Numbers}
 use Rattle.stmt_code.specs.Subprograms.{AddsProcedure, fresh}
 use Rattle.stmt_code.specs.declared.draft.Draft.{Draft}
 use Rattle.stmt_code.specs.declared.formals.PlacedFormal.{PlacedFormal}
@@ -207,8 +207,9 @@ module _ (laws : LawsOfNames) (quiet : QuietStays) (shaped : InitialValuesHaveSh
           (ready_placed base (known laws t legal restricted).kept laws.sized quiet shaped i program g numbers adds.later.scope words_are starts widths d.formals items 0 passed
           passed top (here old.code) (here adds.initial) frames.begins frames.begun telling new_names adds.places.stand frames.outs
           (adds.initialises.stands i at_initial)));
-      runs = adds.runs.stands i (holds_later i (here old.code) (here adds.initial) adds.run.code grows_initial.longer at_run)
-          (subst (HasLabels i) adds.labels labels) program g numbers last names_same serves room_enough;
+      runs = subst (IsRun i program g numbers last (here adds.initial) (here adds.run.code) b.declarations b.statements) (sym adds.unhandled)
+          (adds.runs.stands i (holds_later i (here old.code) (here adds.initial) adds.run.code grows_initial.longer at_run)
+          (subst (HasLabels i) adds.labels labels) program g numbers last names_same serves room_enough);
       gives = giving.0;
       within = (let e = adds.returns.end in let b = giving.1 in omega (arith, e, b, end_is));
     }
@@ -222,4 +223,4 @@ module _ (laws : LawsOfNames) (quiet : QuietStays) (shaped : InitialValuesHaveSh
     pub procedure_emitted : IsProcedure i program g numbers (procedure_by program.scope (subprogram_body None d b)) number
     procedure_emitted =
         procedure_coded laws t legal restricted i well_formed g of_program numbers place d b at v before number s there refl last xs passed frames
-        (parameters_are ∙ adds.passed ∙ sym ending) adds.unhandled does
+        (parameters_are ∙ adds.passed ∙ sym ending) does

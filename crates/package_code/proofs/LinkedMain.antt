@@ -13,6 +13,7 @@ use Rattle.meaning.specs.Programs.{program_of}
 use Rattle.sound_programs.specs.Fronts.{declared_in}
 use Rattle.expr_code.specs.Seeing.{Package}
 use Rattle.expr_code.specs.Views.{At}
+use Rattle.stmt_code.specs.Handling.{GoesBy, unhandled}
 use Rattle.stmt_code.specs.Laws.{HasCode}
 use Rattle.stmt_code.specs.Resting.{Framed}
 use Rattle.stmt_code.specs.Statements.{Numbers}
@@ -37,6 +38,7 @@ pub record DoesMain (t : ProgramTree) (i : Sections) (g : Package) (numbers : Nu
   pub within : suc stop ≤ s.end_
   pub statements : AreMain i (program_of t) g numbers (first_place i number) stop t.main.statements
   pub return : At i stop op.Return
+  pub uncovered : GoesBy i unhandled (first_place i number) stop
   pub code : HasCode i (program_of t) g numbers
 
 module _ (laws : LawsOfNames) (sizes : ImagesHaveSize) (t : ProgramTree) (legal : IsLegal t) (restricted : IsRestricted t) (i : Sections)
@@ -58,6 +60,7 @@ module _ (laws : LawsOfNames) (sizes : ImagesHaveSize) (t : ProgramTree) (legal 
     within = does.within;
     statements = does.statements;
     return = does.return;
+    uncovered = does.uncovered;
     begins = v;
     rests = bare_rests laws t legal restricted i g of_program v (length (declared_in t.package_)) behind reserved does.s.locals room
         (few_locals i well_formed does.number does.s does.there).1;

@@ -42,6 +42,7 @@ use Rattle.stmt_code.specs.Emitting.{HasLabels}
 use Rattle.stmt_code.specs.Laws.{HasCode}
 use Rattle.stmt_code.specs.Resting.{Framed}
 use Rattle.stmt_code.specs.Statements.{IsProcedure, Numbers}
+use Rattle.stmt_code.proofs.Handling.{goes_nowhere}
 use Rattle.stmt_code.specs.Subprograms.{AddsProcedure, fresh}
 use Rattle.stmt_code.specs.declared.draft.Draft.{Draft}
 use Rattle.stmt_code.specs.declared.subprogram.SubprogramWords.{SubprogramWords}
@@ -242,7 +243,7 @@ module _ (t : ProgramTree) (i : Sections) (h : HasProgram t i) where
         ap (λ l. slice_get l k) h.instructions ∙ grows.instructions k y (omega arith) (body.kept.instructions k y (omega arith) e)
 
     pub labels_there : HasLabels i body.new.labels
-    labels_there = record { labels = λ k y le e. ap (λ l. slice_get l k) (h.labels ∙ h.main.labels) ∙ body.kept.labels k y (omega arith) e }
+    labels_there = record { rows = h.rows; labels = λ k y le e. ap (λ l. slice_get l k) (h.labels ∙ h.main.labels) ∙ body.kept.labels k y (omega arith) e }
 
   module _ (laws : LawsOfNames) (quiet : QuietStays) (shaped : InitialValuesHaveShape) (legal : IsLegal t) (restricted : IsRestricted t)
       (well_formed : IsWellFormed i) where
@@ -301,7 +302,7 @@ module _ (t : ProgramTree) (i : Sections) (h : HasProgram t i) where
     }
 
     code : HasCode i program g numbers
-    code = package_coded laws t legal restricted i g of_program numbers bodies quiet h.rows
+    code = package_coded laws t legal restricted i g of_program numbers bodies quiet (h.exceptions ∙ h.are.exceptions)
 
     -- ---- main
 
@@ -341,6 +342,7 @@ module _ (t : ProgramTree) (i : Sections) (h : HasProgram t i) where
       statements =
           main_emitted i program g numbers h.walk.visible h.walk.draft h.draft h.words t.main.statements h.main holds_main calls (length all) first_main;
       return = main_returns i program g numbers h.walk.visible h.walk.draft h.draft h.words t.main.statements h.main holds_main calls (length all) first_main;
+      uncovered = goes_nowhere i h.rows (first_place i (length all)) (here h.main.called);
       code = code;
     }
 

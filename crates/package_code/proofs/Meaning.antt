@@ -36,10 +36,12 @@ use Rattle.sound_programs.specs.BodyLaws.{PremisesHold}
 use Rattle.sound_programs.specs.ProgramLaws.{StartsAreSound}
 use Rattle.expr_code.specs.Coming.{most_steps}
 use Rattle.expr_code.specs.Seeing.{Package}
+use Rattle.stmt_code.specs.Handling.{unhandled}
 use Rattle.stmt_code.specs.Laws.{StepsAreMet}
 use Rattle.stmt_code.specs.Resting.{Shows}
 use Rattle.stmt_code.specs.Statements.{Numbers}
-use Rattle.stmt_code.specs.Standing.{Around, CodeStands, Follows, Going, Here, Inside, Left, Shares, Unhandled, WorkStands, relation, work_size}
+use Rattle.stmt_code.specs.Standing.{Around, CodeStands, Follows, Going, Here, Inside, Left, Shares, WorkStands, relation, work_size}
+use Rattle.stmt_code.proofs.Handling.{goes_within}
 use Rattle.package_code.specs.LinkLaws.{LinkedKeepsCount, LinkedMeansTheSame}
 use Rattle.package_code.specs.Linked.{AreMain, IsLinked}
 use Rattle.package_code.proofs.Single.{Single, begins_single, single_after}
@@ -178,10 +180,12 @@ module _ (laws : LawsBelow) (p : ProgramTree) (i : Sections) (g : Package) (numb
     abbrev around : Setting
     around = record {
       visible = linked.begins;
-      ways = record { exit = None; return = None };
+      ways = record { exit = None; return = None; handled = None };
+      raised = unhandled;
       held = [];
       behind = linked.begins;
       ending = linked.begins;
+      handling = linked.begins;
     }
 
     abbrev In : ℕ → Type 0
@@ -190,7 +194,7 @@ module _ (laws : LawsBelow) (p : ProgramTree) (i : Sections) (g : Package) (numb
     shown : Shows g linked.begins linked.begins
     shown q view h = h
 
-    all_in : (place : ℕ) → first_place i linked.number ≤ place → place ≤ suc linked.stop → In place
+    all_in : (place : ℕ) → first_place i linked.number ≤ place → place ≤ linked.stop → In place
     all_in place low high =
         let ended : end_of (called i linked.number) ≡ linked.s.end_ = ap end_of linked.there in
         let within = linked.within in
@@ -204,9 +208,9 @@ module _ (laws : LawsBelow) (p : ProgramTree) (i : Sections) (g : Package) (numb
         jumps = Here;
         return = linked.return;
         results = ap results_of linked.there ∙ linked.results;
-        exit = refl;
+        outermost = record { exit = refl; handled = refl; raised = λ x. refl };
         from_inside = all_in linked.stop linked.up (omega arith);
-        to_inside = all_in (suc linked.stop) (let up = linked.up in omega (arith, up)) (omega arith);
+        to_inside = all_in linked.stop linked.up (omega arith);
       },
       refl,
       refl,
@@ -225,22 +229,19 @@ module _ (laws : LawsBelow) (p : ProgramTree) (i : Sections) (g : Package) (numb
           record {
             jumps = Here;
             narrows = record { shows = shown; reserved = refl };
-            reaches = (shown, shown);
+            reaches = (shown, shown, shown);
             from_inside = x;
             up = le;
             to_inside = mid_in;
           },
           code.3,
           main_follows rest code.0 code.4 mid_in,
+          goes_within i unhandled (first_place i linked.number) from code.0 linked.stop linked.uncovered x.0 up,
         )
 
     main_ends : (all : List MainStatement) → 0 ≡ ends_of_calls (map DoesMain all)
     main_ends [] = refl
     main_ends (s ∷ rest) = main_ends rest
-
-    main_unhandled : (all : List MainStatement) → Unhandled (map DoesMain all)
-    main_unhandled [] = tt
-    main_unhandled (s ∷ rest) = main_unhandled rest
 
     abbrev first_work : TaskWork
     first_work = record { work = Goes (map DoesMain p.main.statements); own = record { within = None; locals = [] }; callers = [] }
@@ -277,7 +278,6 @@ module _ (laws : LawsBelow) (p : ProgramTree) (i : Sections) (g : Package) (numb
       going = refl;
       depth = main_ends p.main.statements;
       inner = tt;
-      unhandled = main_unhandled p.main.statements;
     })
 
     stands_first : (u : ℕ) → Stands (source_start p).kernel u (initial_work program u) (initial_state i u)

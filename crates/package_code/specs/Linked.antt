@@ -12,6 +12,7 @@ use Rattle.meaning.specs.Programs.{OfMain, Program, program_of}
 use Rattle.sound_steps.specs.Objects.{first_store}
 use Rattle.expr_code.specs.Seeing.{Package}
 use Rattle.expr_code.specs.Views.{At}
+use Rattle.stmt_code.specs.Handling.{GoesBy, unhandled}
 use Rattle.stmt_code.specs.Laws.{HasCode}
 use Rattle.stmt_code.specs.Resting.{Framed, RestsWith, StandsFor}
 use Rattle.stmt_code.specs.Statements.{IsMainStatement, Numbers}
@@ -44,6 +45,7 @@ pub record IsLinked (p : ProgramTree) (i : Sections) (g : Package) (numbers : Nu
   pub within : suc stop ≤ s.end_
   pub statements : AreMain i (program_of p) g numbers (first_place i number) stop p.main.statements
   pub return : At i stop op.Return
+  pub uncovered : GoesBy i unhandled (first_place i number) stop
   pub begins : Framed
   pub rests : RestsWith g begins [] (record { within = None; locals = [] }) (replicate s.locals (pos 0))
   -- procedures and functions, and the first words of variables

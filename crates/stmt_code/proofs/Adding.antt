@@ -34,12 +34,14 @@ use Rattle.expr_code.specs.declared.code.Code.{Code}
 use Rattle.expr_code.specs.declared.visible.Visible.{Visible}
 use Rattle.expr_code.proofs.Flowing.{kept_one, kept_then, widened}
 use Rattle.expr_code.proofs.Growing.{added_at, added_extends, added_here, added_there, extends_self, extends_trans, holds_before, holds_later}
+use Rattle.stmt_code.specs.Handling.{unhandled}
 use Rattle.stmt_code.specs.Bounds.{stmt_bound, stmts_bound, stmts_words}
 use Rattle.stmt_code.specs.Suiting.{SuitsStatements}
 use Rattle.stmt_code.specs.Emitting.{Allows, AreLegal, Emits, EmitsDeclarations, EmitsStatement, EmitsStatements, HasLabels, IsLegal, IsReached, Meant, Serves, seeing}
 use Rattle.stmt_code.specs.Resting.{Framed}
 use Rattle.stmt_code.specs.Statements.{AreStatements, IsStatement, Numbers, Ways}
 use Rattle.stmt_code.specs.declared.draft.Draft.{Draft}
+use Rattle.stmt_code.proofs.Handling.{goes_nowhere}
 
 -- ---- lists
 
@@ -65,7 +67,7 @@ pub labels_stay : (old new : List (List ℕ)) → new ≡ old → StandsFrom 0 o
 labels_stay old new same = subst (λ l. StandsFrom 0 old l) (sym same) (λ k x le h. h)
 
 pub labels_before : (i : Sections) (old new : List (List ℕ)) → StandsFrom 0 old new → HasLabels i new → HasLabels i old
-labels_before i old new e h = record { labels = λ k x le is. h.labels k x le (e k x le is) }
+labels_before i old new e h = record { rows = h.rows; labels = λ k x le is. h.labels k x le (e k x le is) }
 
 pub labels_then : (a b c : List (List ℕ)) → StandsFrom 0 a b → StandsFrom 0 b c → StandsFrom 0 a c
 labels_then a b c p q = λ k x le is. q k x le (p k x le is)
@@ -212,14 +214,14 @@ module _ (v : Visible) where
     pub exit_emits : (a c : Draft) (at place : ℕ) → w.exit ≡ Some place → Adds a.code 0 (op.Jump place) c.code → IsBeside a c
         → EmitsStatement v w a (statements.Exit at None) c
     exit_emits a c at place way q same =
-        jump_emits (λ i program g numbers f from to. IsStatement i program g numbers f w from to (statements.Exit at None)) a c place
+        jump_emits (λ i program g numbers f from to. IsStatement i program g numbers f w unhandled from to (statements.Exit at None)) a c place
         (stmt_bound v.scope (statements.Exit at None)) (omega arith)
         (λ i low high ways. ways.exit place way) (λ i program g numbers f from there. (place, way, there, refl)) q same
 
     pub return_emits : (a c : Draft) (at place : ℕ) → w.return ≡ Some place → Adds a.code 0 (op.Jump place) c.code → IsBeside a c
         → EmitsStatement v w a (statements.Return at None) c
     return_emits a c at place way q same =
-        jump_emits (λ i program g numbers f from to. IsStatement i program g numbers f w from to (statements.Return at None)) a c place
+        jump_emits (λ i program g numbers f from to. IsStatement i program g numbers f w unhandled from to (statements.Return at None)) a c place
         (stmt_bound v.scope (statements.Return at None)) (omega arith)
         (λ i low high ways. ways.return place way) (λ i program g numbers f from there. (place, way, there, refl)) q same
 
@@ -236,14 +238,17 @@ module _ (v : Visible) where
           most = (let m = most_beside a c same in omega (arith, m));
           sized = omega (arith, next, p.sized);
           stands = λ i h l program g numbers f names serves room. (
-            place,
-            here m,
-            way,
-            p.extends.longer,
-            subst (λ x. Computes i (library_of g) (Sees g x) (here a.code) (here m) e) (sym names)
-                (p.computes i (holds_before i (here a.code) m c.code grows h) g),
-            added_at m c.code 1 o q i (here a.code) p.extends.longer h,
-            next,
+            (
+              place,
+              here m,
+              way,
+              p.extends.longer,
+              subst (λ x. Computes i (library_of g) (Sees g x) (here a.code) (here m) e) (sym names)
+                  (p.computes i (holds_before i (here a.code) m c.code grows h) g),
+              added_at m c.code 1 o q i (here a.code) p.extends.longer h,
+              next,
+            ),
+            goes_nowhere i l.rows (here a.code) (here c.code),
           );
           flows = λ i s low high down up h l suits deep wide ends ways.
               value_kept a.code m c.code o p.extends p.flows q i s low high down up h suits deep refl refl (omega arith) (omega arith) refl ends
@@ -254,10 +259,10 @@ module _ (v : Visible) where
 
     statements_more : (i : Sections) (program : Program) (g : Package) (numbers : Numbers) (f : Framed) (xs : List StmtTree) (x : StmtTree) (from mid to : ℕ)
         → from ≤ mid → mid ≤ to
-        → AreStatements i program g numbers f w from mid (stmts_of xs) → IsStatement i program g numbers f w mid to x
-        → AreStatements i program g numbers f w from to (stmts_of (xs ++ x ∷ []))
+        → AreStatements i program g numbers f w unhandled from mid (stmts_of xs) → IsStatement i program g numbers f w unhandled mid to x
+        → AreStatements i program g numbers f w unhandled from to (stmts_of (xs ++ x ∷ []))
     statements_more i program g numbers f [] x from mid to up over same last =
-        (to, omega (arith, up, over), omega arith, subst (λ n. IsStatement i program g numbers f w n to x) (sym same) last, refl)
+        (to, omega (arith, up, over), omega arith, subst (λ n. IsStatement i program g numbers f w unhandled n to x) (sym same) last, refl)
     statements_more i program g numbers f (y ∷ xs) x from mid to up over (at, one, two, first, rest) last =
         (at, one, omega (arith, two, over), first, statements_more i program g numbers f xs x at mid to two over rest last)
 
@@ -266,7 +271,7 @@ module _ (v : Visible) where
     bounds s (y ∷ xs) x = let e = bounds s xs x in omega (arith, e)
 
     pub no_statements : (c : Draft) → EmitsStatements v w c NoStmts c
-    no_statements c = none_emits (λ i program g numbers f from to. AreStatements i program g numbers f w from to NoStmts) c (stmts_bound v.scope NoStmts)
+    no_statements c = none_emits (λ i program g numbers f from to. AreStatements i program g numbers f w unhandled from to NoStmts) c (stmts_bound v.scope NoStmts)
         (λ i program g numbers f at. refl)
 
     pub statements_next : (a b c : Draft) (all : List Stmt) (n : ℕ) (x : Stmt) → n < length all → x ≡ get_or all n x
@@ -275,13 +280,13 @@ module _ (v : Visible) where
         let front = map stmt_tree (take n all) in
         let more = mapped_next stmt_tree all n x less is in
         subst (λ l. EmitsStatements v w a (stmts_of l) c) (sym more)
-        (emits_as (λ i program g numbers f from to. AreStatements i program g numbers f w from to (stmts_of (front ++ stmt_tree x ∷ [])))
-        (λ i program g numbers f from to. AreStatements i program g numbers f w from to (stmts_of (front ++ stmt_tree x ∷ []))) a c
+        (emits_as (λ i program g numbers f from to. AreStatements i program g numbers f w unhandled from to (stmts_of (front ++ stmt_tree x ∷ [])))
+        (λ i program g numbers f from to. AreStatements i program g numbers f w unhandled from to (stmts_of (front ++ stmt_tree x ∷ []))) a c
         (stmts_bound v.scope (stmts_of front) + stmt_bound v.scope (stmt_tree x)) (stmts_bound v.scope (stmts_of (front ++ stmt_tree x ∷ []))) (λ i program g numbers f from to h. h)
         (let e = bounds v.scope front (stmt_tree x) in omega (arith, e))
-        (emits_then (λ i program g numbers f from to. AreStatements i program g numbers f w from to (stmts_of front))
-        (λ i program g numbers f from to. IsStatement i program g numbers f w from to (stmt_tree x))
-        (λ i program g numbers f from to. AreStatements i program g numbers f w from to (stmts_of (front ++ stmt_tree x ∷ []))) a b c
+        (emits_then (λ i program g numbers f from to. AreStatements i program g numbers f w unhandled from to (stmts_of front))
+        (λ i program g numbers f from to. IsStatement i program g numbers f w unhandled from to (stmt_tree x))
+        (λ i program g numbers f from to. AreStatements i program g numbers f w unhandled from to (stmts_of (front ++ stmt_tree x ∷ []))) a b c
         (stmts_bound v.scope (stmts_of front)) (stmt_bound v.scope (stmt_tree x))
         (λ i program g numbers f from mid to up over one two. statements_more i program g numbers f front (stmt_tree x) from mid to up over one two) p q))
 
@@ -309,6 +314,7 @@ module _ (v : Visible) where
             q.extends.longer,
             declared.0,
             q.stands i (holds_later i (here a.code) (here b.code) c.code p.extends.longer h) l program g numbers (seeing f later) refl declared.1 room,
+            goes_nowhere i l.rows (here a.code) (here b.code),
           );
       flows = λ i s low high down up h l suits deep wide ends ways.
           let second = q.flows i s low high (omega (arith, down, p.extends.longer)) up (holds_later i (here a.code) (here b.code) c.code p.extends.longer h) l

@@ -27,6 +27,7 @@ use Rattle.expr_code.specs.declared.code.Code.{Code}
 use Rattle.expr_code.specs.declared.visible.Visible.{Visible}
 use Rattle.expr_code.proofs.Flowing.{kept_one, kept_then, widened}
 use Rattle.expr_code.proofs.Growing.{added_extends, added_here, extends_trans}
+use Rattle.stmt_code.specs.Handling.{unhandled}
 use Rattle.stmt_code.specs.Alternatives.{AddsAlternatives, AreLegalAlternatives, AreLegalChoices, AreSelected, in_front}
 use Rattle.stmt_code.specs.Bounds.{alternatives_bound, stmt_bound}
 use Rattle.stmt_code.specs.Emitting.{AreLegal, EmitsOpen, EmitsStatement, EmitsStatements, IsLegal, MeantTo, Serves}
@@ -35,6 +36,7 @@ use Rattle.stmt_code.specs.declared.draft.Draft.{Draft}
 use Rattle.stmt_code.proofs.Adding.{IsBeside, jump_kept, labels_before, labels_beside, labels_then, mapped_next, most_beside, take_all, taken_beside}
 use Rattle.stmt_code.proofs.Opening.{added_is, alone, append_again, append_none, joined, none_before, none_behind, not_alone, open_then, same_self, shorter}
 use Rattle.stmt_code.proofs.Selecting.{Selects, selecting_inside}
+use Rattle.stmt_code.proofs.Handling.{goes_nowhere}
 
 module _ (v : Visible) (w : Ways) (e : ExprTree) where
   -- ---- choices, the statements for them, and a jump to the end; where no choice is the value, the jumps in the choices lead behind that
@@ -116,7 +118,7 @@ module _ (v : Visible) (w : Ways) (e : ExprTree) where
         second.stands i (in_valued i end up j) (labels_before i valued.labels new.labels (labels_beside valued new still) l) program g numbers f names
             (subst (Serves program g numbers f) (sym (taken_beside start chosen same)) serves) (let m = most_beside valued new still in omega (arith, m, room)),
         (0, at_close i end up j),
-        subst (λ n. AreAlternatives i program g numbers f w n end e rest) (patch.long ∙ four) code,
+        subst (λ n. AreAlternatives i program g numbers f w unhandled n end e rest) (patch.long ∙ four) code,
       );
       flows = λ i s low high end down up over j l suits deep wide shallow ends more ways.
           let deepest : closed.deepest ≤ s.stack = omega (arith, ap (λ m. m) patch.deepest, deep) in
@@ -199,7 +201,7 @@ module _ (v : Visible) (w : Ways) (e : ExprTree) where
         (open_then v w (AreSelected w e one) (AreSelected w e two) (AreSelected w e (one ++ two)) 1 a b c (alternatives_bound v.scope (alternatives_of one))
         (alternatives_bound v.scope (alternatives_of two)) p.waiting q.waiting
         (λ i program g numbers f end from m to up over within x y rest code.
-        subst (λ t. AreAlternatives i program g numbers f w from end e t) (sym (front one two rest)) (x (in_front two rest) (y rest code))) p.emits q.emits);
+        subst (λ t. AreAlternatives i program g numbers f w unhandled from end e t) (sym (front one two rest)) (x (in_front two rest) (y rest code))) p.emits q.emits);
   }
 
   pub alternatives_next : (a b c : Draft) (all : List Alternative) (n : ℕ) (x : Alternative) (before mid after : List ℕ) → n < length all → x ≡ get_or all n x
@@ -221,7 +223,7 @@ module _ (v : Visible) (w : Ways) (e : ExprTree) where
       (p : AddsAlternatives v w e valued all none after selected)
       (drop : Adds selected.code 1 op.Drop dropped.code) (kept : IsBeside selected dropped) where
     abbrev Whole : MeantTo
-    Whole i program g numbers f end from to = IsStatement i program g numbers f w from end (statements.Case place e (alternatives_of all))
+    Whole i program g numbers f end from to = IsStatement i program g numbers f w unhandled from end (statements.Case place e (alternatives_of all))
 
     waiting_is : p.waiting ≡ places
     waiting_is = sym (is ∙ p.after_is ∙ ap (λ l. l ++ p.waiting) is_none)
@@ -267,11 +269,12 @@ module _ (v : Visible) (w : Ways) (e : ExprTree) where
         first.extends.longer,
         omega (arith, valued_extends.longer, up),
         subst (λ x. Computes i (library_of g) (Sees g x) (here start.code) (here valued.code) e) (sym names) (first.computes i (in_value i end j) g),
-        subst (λ t. AreAlternatives i program g numbers f w (here valued.code) end e t) (none_front all)
+        subst (λ t. AreAlternatives i program g numbers f w unhandled (here valued.code) end e t) (none_front all)
             (p.emits.stands i end (omega (arith, dropping.longer, up)) (in_selected i end j)
             (labels_before i selected.labels dropped.labels (labels_beside selected dropped kept) l) program g numbers f names
             (subst (Serves program g numbers f) (sym (taken_beside start valued same)) serves) (let m = most_beside selected dropped kept in omega (arith, m, room))
             NoAlternatives tt),
+        goes_nowhere i l.rows (here start.code) (here valued.code),
       );
       flows = λ i s low high end down up over j l suits deep wide shallow ends next ways.
           let one : 1 ≤ s.stack = omega (arith, drop.within, deep) in
@@ -294,7 +297,7 @@ module _ (v : Visible) (w : Ways) (e : ExprTree) where
     pub case_emits : (n : ℕ) → n ≡ here dropped.code → Rejoins dropped.code places n d.code → IsBeside dropped d
         → EmitsStatement v w start (statements.Case place e (alternatives_of all)) d
     case_emits n n_is r still =
-        joined v w Whole (λ i program g numbers f from to. IsStatement i program g numbers f w from to (statements.Case place e (alternatives_of all))) start dropped d
+        joined v w Whole (λ i program g numbers f from to. IsStatement i program g numbers f w unhandled from to (statements.Case place e (alternatives_of all))) start dropped d
         (stmt_bound v.scope (statements.Case place e (alternatives_of all))) places (λ i program g numbers f from to h. h)
         (subst (λ l. EmitsOpen Whole v w 0 start (stmt_bound v.scope (statements.Case place e (alternatives_of all))) l dropped) waiting_is case_open)
         (subst (λ m. Rejoins dropped.code places m d.code) n_is r) still

@@ -47,12 +47,14 @@ use Rattle.expr_code.specs.declared.visible.Visible.{Visible}
 use Rattle.stmt_code.specs.Resting.{AreHeld, Framed, Narrows, RestsWith}
 use Rattle.stmt_code.specs.Copying.{AreCopies, ArePlaced, actuals_on, addresses_of, copies_on, held_at, left_out, passed_actuals, passed_expression, passed_words, taken}
 use Rattle.stmt_code.specs.declared.call.Destination.{Destination}
+use Rattle.stmt_code.specs.Handling.{GoesBy, unhandled}
 use Rattle.stmt_code.specs.Statements.{IsCall, IsProcedure, Numbers, parameter_subtype, shapes_of}
-use Rattle.stmt_code.specs.Standing.{Going, Here, Jumps, Leads, LeadsEnd, Shares, There, Unhandled, WaitsFor, items_size, relation, work_size}
+use Rattle.stmt_code.specs.Standing.{Going, Here, Jumps, Leads, LeadsEnd, Shares, There, WaitsFor, items_size, relation, work_size}
 use Rattle.stmt_code.specs.Laws.{HasCode}
-use Rattle.stmt_code.proofs.Going.{declares_end, declares_follow, declares_unhandled, earlier, jumps_up, narrows_same, parameters_end, parameters_follow, parameters_unhandled, same_end}
+use Rattle.stmt_code.proofs.Going.{declares_end, declares_follow, earlier, jumps_up, narrows_same, parameters_end, parameters_follow, same_end}
 use Rattle.stmt_code.proofs.Sizes.{item_counts}
 use Rattle.stmt_code.proofs.Copying as copy
+use Rattle.stmt_code.proofs.Handling.{goes_within}
 use Rattle.stmt_code.proofs.Scenes.{Scene}
 use Rattle.stmt_code.proofs.Scenes as scene
 
@@ -197,7 +199,7 @@ module _ (this : Scene) where
     ending_of q xs items = EndsCall (results q.parameters) None xs ∷ items
 
     abbrev statements_of : Procedure → List Target → List Item → List Item
-    statements_of q xs items = Sequence q.body.statements NoHandlers ∷ ending_of q xs items
+    statements_of q xs items = Sequence q.body.statements q.body.handlers ∷ ending_of q xs items
 
     abbrev declarations_of : Procedure → List Target → List Item → List Item
     declarations_of q xs items = map Declares q.body.declarations ++ statements_of q xs items
@@ -205,13 +207,11 @@ module _ (this : Scene) where
     abbrev body_of : Procedure → List Target → List Item → List Item
     body_of q xs items = map DeclaresParameter (left_out q.parameters) ++ declarations_of q xs items
 
-    runs : (q : Procedure) (a : Actuals) (items : List Item) → q.body.handlers ≡ NoHandlers
+    runs : (q : Procedure) (a : Actuals) (items : List Item)
         → source.run_body now Quiet None q a items ≡ source.enters now Quiet (activation_of q a.values) (body_of q a.targets items)
-    runs q a items handlers =
+    runs q a items =
         ap (λ all. source.enters now Quiet (activation_of q a.values) all)
         (all_declared q.parameters (map Declares q.body.declarations ++ Sequence q.body.statements q.body.handlers ∷ ending_of q a.targets items))
-        ∙ ap (λ hs. source.enters now Quiet (activation_of q a.values) (map DeclaresParameter (left_out q.parameters) ++ (map Declares q.body.declarations
-        ++ Sequence q.body.statements hs ∷ ending_of q a.targets items))) handlers
 
     -- the call of a procedure, where its actual parameters are computed
     met_procedure : (i' : Item) (items : List Item) → w.work ≡ Goes (i' ∷ items) → s.frame.stack ≡ [] → s.raising ≡ None
@@ -233,10 +233,10 @@ module _ (this : Scene) where
         → w.own.within ≡ None
         → length fs ≡ ends_of_calls items
         → Removable f fs
-        → Unhandled items
+        → GoesBy i a.raised at to
         → Meet s
     met_procedure i' items is stack going a now' at mid to q number ds v same leads le over numbered name found here comes many copies passes rest rests
-        outside depth inner unhandled =
+        outside depth inner goes =
         by_left (frames_left items) refl
       where
         proc : IsProcedure i program g numbers q number
@@ -254,7 +254,7 @@ module _ (this : Scene) where
         up : ⊤ → f.place ≤ at
         up u = jumps_up i program g numbers f.place at leads.jumps
 
-        low : (n : ℕ) → n ≤ 1 → (at - f.place) + ((mid - at) + n) ≤ size_of i f.subprogram + size_of i f.subprogram
+        low : (n : ℕ) → n ≤ 1 → (at - f.place) + ((mid - at) + n) < size_of i f.subprogram + size_of i f.subprogram
         low n few = let u = up tt in omega (arith, x.0, y.1, le, over, u, few)
 
         less : ⊤ → items_size items < work_size w.work
@@ -284,7 +284,7 @@ module _ (this : Scene) where
             → with_value now v items (λ z. source.plain_call now q z items)
             ≡ with_value now v items step_of
         entered_step n e (Gives z) =
-            ap (λ n. source.if_frame_left now n items (source.run_body now Quiet None q z items)) e ∙ runs q z items proc.unhandled
+            ap (λ n. source.if_frame_left now n items (source.run_body now Quiet None q z items)) e ∙ runs q z items
         entered_step n e (Raises y) = refl
         entered_step n e Meaningless = refl
 
@@ -313,20 +313,22 @@ module _ (this : Scene) where
             let u4 = proc.within in
             let u = up tt in
             let ended : end_of (called i number) ≡ proc.s.end_ = ap end_of proc.there in
-            let all_in : (place : ℕ) → first ≤ place → place ≤ suc back → In number place =
+            let all_in : (place : ℕ) → first ≤ place → place ≤ back → In number place =
             λ place low high. (low, omega (arith, low, high, u0, u1, u2, u3, u4, ended)) in
             let first_in = all_in first (omega arith) (omega (arith, u0, u1, u2, u3)) in
             let ready_in = all_in proc.first u0 (omega (arith, u1, u2, u3)) in
             let mid_in = all_in proc.runs.mid (omega (arith, u0, u1)) (omega (arith, u2, u3)) in
             let way_in = all_in (proc.runs.mid + 1) (omega (arith, u0, u1)) (omega (arith, u2, u3)) in
             let stop_in = all_in proc.stop (omega (arith, u0, u1, u2)) (omega (arith, u3)) in
-            let last_in = all_in (suc back) (omega (arith, u0, u1, u2, u3)) (omega arith) in
+            let last_in = all_in back (omega (arith, u0, u1, u2, u3)) (omega arith) in
             let around : Setting = record {
               visible = proc.begins;
-              ways = record { exit = None; return = Some (proc.runs.mid + 1) };
+              ways = record { exit = None; return = Some (proc.runs.mid + 1); handled = None };
+              raised = unhandled;
               held = held_at proc.begins.reserved addresses;
               behind = proc.middle;
               ending = proc.middle;
+              handling = proc.middle;
             } in
             let enter = proc.enters z.values addresses locals given.0 given.1 (as_many z ez) (replicated (proc.s.locals - proc.s.parameters)) in
             let ending : (last : Framed) → (from : ℕ) → Jumps i program g numbers from proc.stop → In number from → Narrows g last proc.middle
@@ -339,7 +341,7 @@ module _ (this : Scene) where
               narrows = nar;
               gives = proc.gives;
               held = ap (λ l. held_at l addresses) same;
-              exit = refl;
+              outermost = record { exit = refl; handled = refl; raised = λ x. refl };
               from_inside = inside;
               to_inside = last_in;
             } in
@@ -350,6 +352,7 @@ module _ (this : Scene) where
               stack = refl;
               here = (omega (arith, x.0, u, le), omega (arith, y.1, over));
               next = (omega (arith, x.0, u, le), omega (arith, y.1, over));
+              handles = leads.reaches.2;
             } in
             let last : (begun : Narrows g proc.begun proc.begins) → Narrows g proc.runs.later proc.middle → Follow (seeing proc.runs.later around) number proc.runs.mid
             (statements_of q z.targets items) (caller ∷ fs) (w.own ∷ w.callers) =
@@ -358,11 +361,10 @@ module _ (this : Scene) where
               proc.runs.mid + 2,
               proc.stop,
               proc.runs.later,
-              refl,
               (record {
                 jumps = There proc.runs.skip (omega arith) Here;
                 narrows = narrows_same g proc.runs.later;
-                reaches = (nar.shows, nar.shows);
+                reaches = (nar.shows, nar.shows, nar.shows);
                 from_inside = mid_in;
                 up = u2;
                 to_inside = stop_in;
@@ -392,6 +394,7 @@ module _ (this : Scene) where
                 y,
                 copies,
                 rest,
+                goes_within i a.raised at mid to to goes le (omega arith),
               ),
             ) in
             let middle : (begun : Narrows g proc.begun proc.begins) → Follow (seeing proc.begun around) number proc.first (declarations_of q z.targets items)
@@ -400,8 +403,8 @@ module _ (this : Scene) where
             earlier i program g numbers (declarations_of q z.targets items) (seeing proc.middle around) proc.begun number proc.first proc.first (caller ∷ fs)
             (w.own ∷ w.callers) Here proc.orders ready_in
             (declares_follow i program g numbers q.body.declarations around proc.middle proc.runs.later number proc.first proc.runs.mid (statements_of q z.targets items)
-            (caller ∷ fs) (w.own ∷ w.callers) proc.runs.declared u1 ready_in mid_in
-            ((narrows_same g proc.middle).shows, (narrows_same g proc.middle).shows) (λ nar. last begun nar)) in (
+            (caller ∷ fs) (w.own ∷ w.callers) proc.runs.declared proc.runs.uncovered u1 ready_in mid_in
+            ((narrows_same g proc.middle).shows, (narrows_same g proc.middle).shows, (narrows_same g proc.middle).shows) (λ nar. last begun nar)) in (
               steps.does Quiet m (callee quiet i number proc.s proc.there schedule k t m f fs mid [] words here (passed_many z ez)) (caller ∷ fs) None None,
               enters quiet i number proc.s proc.there schedule k t m f fs mid [] words here (passed_many z ez) (few n e),
               record {
@@ -419,12 +422,15 @@ module _ (this : Scene) where
                   depth = ap suc depth ∙ sym (parameters_end i program g numbers (left_out q.parameters) (declarations_of q z.targets items)
                       ∙ declares_end i program g numbers q.body.declarations (statements_of q z.targets items));
                   inner = (refl, scene.inner_placed this f fs mid [] inner);
-                  unhandled = parameters_unhandled i program g numbers (left_out q.parameters) (declarations_of q z.targets items)
-                      (declares_unhandled i program g numbers q.body.declarations (statements_of q z.targets items) (refl, unhandled));
                 });
                 words = shares.stands;
               },
             )
+
+        handled : {A : Type 0} (u : Val A) (end : ℕ) → end ≤ to → scene.Handled this f fs u items at end
+        handled u end below =
+            scene.handled_by this s (seeing now' a) now' to items u at end rest (goes_within i a.raised at at end to goes (omega arith) below)
+            (scene.narrowed this s a.visible now' w.own f.locals leads.narrows rests) refl leads.reaches.2 outside depth inner
 
         by_left : (n : ℕ) → frames_left items ≡ n → Meet s
         by_left zero e =
@@ -448,7 +454,8 @@ module _ (this : Scene) where
                     (passed_many z ez) (full e);
               },
             )))
-            (low 1 (omega arith)) (ap (λ q. work_step now q) is ∙ same ∙ refused_step e v) (less tt) inner unhandled
+            (low 1 (omega arith)) (ap (λ q. work_step now q) is ∙ same ∙ refused_step e v) (less tt) inner
+            (handled (and_then v (λ z. Raises (number_of StorageError))) (suc mid) over)
             (λ z ez. absurd (never v z ez)))
           where
             never : (v : Val Actuals) (z : Actuals) → and_then v (λ (y : Actuals). Raises (number_of StorageError)) ≡ Gives z → ⊥
@@ -459,7 +466,8 @@ module _ (this : Scene) where
             subst Meet (sym (scene.going_is this s stack going))
             (scene.met_comes this f fs (at - f.place) at (mid - at) mid (actuals_on now'.names q.parameters []) v items step_of
             (scene.jumps_spend this f fs f.place at leads.jumps) comes
-            (let h = low 0 (omega arith) in omega (arith, h)) (ap (λ q. work_step now q) is ∙ same ∙ entered_step n e v) (less tt) inner unhandled
+            (let h = low 0 (omega arith) in omega (arith, h)) (ap (λ q. work_step now q) is ∙ same ∙ entered_step n e v) (less tt) inner
+            (handled v mid (omega (arith, over)))
             (λ z ez. begins z ez n e))
 
     pub met_call : (name : NameTree) (c : Callee) (items : List Item) → w.work ≡ Goes (Does (tree.Call name) ∷ items)
@@ -483,7 +491,7 @@ module _ (this : Scene) where
         code.many code.copies
         (λ z ez. code.passes (call (frames_left items)) place (view_of i schedule k m f fs) z (has.functions (frames_left items)).sound
         (scene.sees_here this r.2 items f fs rests) h.outside ez)
-        r.5 h.rests h.outside h.depth h.inner h.unhandled
+        r.5 h.rests h.outside h.depth h.inner r.4.1
 
     -- a call that main makes
     pub met_main_call : (package_ : _) (procedure : _) (items : List Item) → w.work ≡ Goes (DoesMain (main.Call package_ procedure) ∷ items)
@@ -501,7 +509,7 @@ module _ (this : Scene) where
         (λ z ez. subst (λ y. ArePassed (shapes_of i program g numbers code.0) y.values × AreOf program.scope (taken_types code.0.parameters) y.values
         × ArePlaced r.2.names [] y.targets) (given z ez)
         (subst (λ ps. ArePassed (map (shape_of g.scope) (map parameter_subtype (taken ps))) [] × AreOf program.scope (taken_types ps) [] × ⊤) (sym code.4) (tt, tt, tt)))
-        r.5 h.rests h.outside h.depth h.inner h.unhandled
+        r.5 h.rests h.outside h.depth h.inner r.6
       where
         nothing : Actuals
         nothing = record { values = []; targets = [] }
@@ -575,21 +583,20 @@ module _ (this : Scene) where
         ∙ (λ j. steps.does Quiet m (record { subprogram = c.subprogram; place = following c.place j; locals = c.locals; stack = resting waits.stack stack j; role = c.role })
         below None None) in
         subst Meet (sym (scene.going_is this s h.stack h.going))
-        (moves_by (program_behaviour program schedule) (behaviour i schedule) (relation i program g numbers) frames_of (most_steps i) k t
-        (record { memory = store; task = w }) (in_frame m (placed f f.place []) fs)
-        (((at - f.place) + (back - at)) + 1) (in_frame m (placed f back stack) fs) after' (steps.does Quiet m next below None None) there does_
+        (scene.moves_from this (in_frame m (placed f f.place []) fs).task (((at - f.place) + (back - at)) + 1) (in_frame m (placed f back stack) fs) after'
+        (steps.does Quiet m next below None None) there does_
         (spends_takes (behaviour i schedule) t frames_of (most_steps i) 1 k (in_frame m (placed f back stack) fs)
         (spends_trans (behaviour i schedule) t frames_of (most_steps i) (back - at) k (in_frame m (placed f back stack) fs)
         (scene.jumps_spend this f fs f.place at end.jumps) pushed.2) (Last refl))
-        (omega (arith, x.0, y.1, up, on_)) refl
-        (record { sound = scene.store_after this after' there; stands = shares.stands })
+        (omega (arith, x.0, y.1, up, on_), λ some. omega (arith, x.0, y.1, up, on_))
         (record {
+          effect = refl;
+          waits = refl;
           alone = tt;
-          stands = record {
-            sound = scene.task_after this after' there refl;
-            code = copy.copying_stands this vs xs items o older (after t Quiet k) next below outer ds r.7 r.17 (omega (arith, counted, many, same, targets)) r.18 r.20
-                waits.next r.19 r.21 waits.rests waits.outside refl (omega (arith, d, l)) (inner_next c (suc c.place) stack below inner.1) h.unhandled.1;
-          };
+          code = copy.copying_stands this vs xs items o older (after t Quiet k) next below outer ds r.7 r.17 (omega (arith, counted, many, same, targets)) r.18 r.20
+              waits.next r.19 r.21 waits.rests waits.outside refl (omega (arith, d, l)) (inner_next c (suc c.place) stack below inner.1)
+              (goes_within i outer.raised c.place (suc c.place) r.7 r.7 r.22 (omega arith) (omega arith)) waits.handles;
+          words = shares.stands;
         }))
       where
         following : (place : ℕ) → place + 1 ≡ suc place

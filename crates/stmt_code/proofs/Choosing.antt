@@ -30,9 +30,10 @@ use Rattle.expr_code.specs.Views.{At, in_frame, placed, view_of}
 use Rattle.expr_code.specs.Coming.{most_steps, on}
 use Rattle.expr_code.specs.Seeing.{Package, Sees}
 use Rattle.stmt_code.specs.Resting.{Framed}
+use Rattle.stmt_code.specs.Handling.{Handling}
 use Rattle.stmt_code.specs.Statements.{AreAlternatives, AreStatements, Numbers, Ways}
 use Rattle.stmt_code.specs.Standing.{CodeStands, Going, Here, Shares, There, items_size, work_size}
-use Rattle.stmt_code.proofs.Going.{before_ends, before_follows, before_unhandled, earlier, jumps_up, narrows_same}
+use Rattle.stmt_code.proofs.Going.{before_ends, before_follows, earlier, jumps_up, narrows_same}
 use Rattle.stmt_code.proofs.Sizes.{before_size, item_counts}
 use Rattle.stmt_code.proofs.Scenes.{Scene}
 use Rattle.stmt_code.proofs.Scenes as scene
@@ -117,7 +118,7 @@ module _ (this : Scene) where
     abbrev IsAtItems : List Item → Type 0
     IsAtItems items = scene.IsAtItems this s items
 
-    module _ (v : Framed) (ways : Ways) (e : ExprTree) (p : Place) (x : Value) (sees : Sees g v.names p (view_of i schedule k m f fs))
+    module _ (v : Framed) (ways : Ways) (raised : Handling) (e : ExprTree) (p : Place) (x : Value) (sees : Sees g v.names p (view_of i schedule k m f fs))
         (ev : val p e ≡ Gives x) where
       -- where the statements of the alternative stand that is chosen
       record IsTaken (from to : ℕ) (body : StmtTrees) : Type 0 where
@@ -126,7 +127,7 @@ module _ (this : Scene) where
         up : from ≤ start
         over : start ≤ joint
         below : suc joint ≤ to
-        statements : AreStatements i program g numbers v ways start joint body
+        statements : AreStatements i program g numbers v ways raised start joint body
         jump : At i joint (op.Jump to)
         spends : Spends (behaviour i schedule) t frames_of (most_steps i) (suc (length fs)) (to - from) k (in_frame m (placed f from (on [] x)) fs) k
             (in_frame m (placed f start []) fs)
@@ -150,7 +151,7 @@ module _ (this : Scene) where
                 (spends_trans (behaviour i schedule) t frames_of (most_steps i) (to - mid) k (in_frame m (placed f h.start []) fs) first h.spends);
           }
 
-      taken_from : (all : AlternativeTrees) (from to : ℕ) (body : StmtTrees) → AreAlternatives i program g numbers v ways from to e all
+      taken_from : (all : AlternativeTrees) (from to : ℕ) (body : StmtTrees) → AreAlternatives i program g numbers v ways raised from to e all
           → source.alternative_for p x all ≡ Some body → IsTaken from to body
       taken_from NoAlternatives from to body code is = cc
       taken_from (MoreAlternatives at choices statements rest) from to body code is = by_choice (source.chooses p choices x) refl is
@@ -169,7 +170,7 @@ module _ (this : Scene) where
                 up = up;
                 over = over;
                 below = below;
-                statements = subst (λ q. AreStatements i program g numbers v ways code.0 code.1 q) (same_statements is) code.6;
+                statements = subst (λ q. AreStatements i program g numbers v ways raised code.0 code.1 q) (same_statements is) code.6;
                 jump = code.7;
                 spends = spends_more (behaviour i schedule) t frames_of (most_steps i) (to - from) less
                     (subst (λ b. Spends (behaviour i schedule) t frames_of (most_steps i) (suc (length fs)) (suc code.1 - from) k
@@ -226,7 +227,9 @@ module _ (this : Scene) where
         (scene.evaluates this r.2 r.0 mid on (λ calls p. value_with calls p e) items f fs code.3 rests h.depth)
         (omega (arith, x.0, y.1, up, le, up'))
         (ap (λ q. work_step now q) is)
-        (subst (λ q. items_size items < work_size q) (sym is) (let c = item_counts (Does (Case place e all)) items in omega (arith, c))) h.inner h.unhandled
+        (subst (λ q. items_size items < work_size q) (sym is) (let c = item_counts (Does (Case place e all)) items in omega (arith, c))) h.inner
+        (scene.handled_by this s (seeing r.2 h.around) r.2 r.1 items (source.evaluate now items e) r.0 mid r.5 code.5 rests refl leads.reaches.2 h.outside h.depth
+        h.inner)
         (λ v ev there spends. chosen v ev (source.alternative_for p v all) refl there spends))
       where
         chosen : (v : Value) → source.evaluate now items e ≡ Gives v → (o : Option StmtTrees) → source.alternative_for (place_of now items) v all ≡ o
@@ -246,7 +249,7 @@ module _ (this : Scene) where
             let y = leads.to_inside in
             let up = jumps_up i program g numbers f.place r.0 leads.jumps in
             let rests = scene.narrowed this s h.around.visible r.2 w.own f.locals leads.narrows h.rests in
-            let taken = taken_from r.2 h.around.ways e (place_of now items) v (scene.sees_here this r.2 items f fs rests).sees ev all mid r.1 body code.4
+            let taken = taken_from r.2 h.around.ways h.around.raised e (place_of now items) v (scene.sees_here this r.2 items f fs rests).sees ev all mid r.1 body code.4
             found in
             let start = taken.start in
             let joint = taken.joint in
@@ -272,7 +275,6 @@ module _ (this : Scene) where
                   leads.reaches
                   (earlier i program g numbers items (seeing r.2 h.around) r.2 f.subprogram joint r.1 fs w.callers (There taken.jump u3 Here)
                   (narrows_same g r.2) joint_in r.5))
-                  rests h.outside (h.depth ∙ sym (before_ends i program g numbers body items)) h.inner
-                  (before_unhandled i program g numbers body items h.unhandled)));
+                  rests h.outside (h.depth ∙ sym (before_ends i program g numbers body items)) h.inner));
             })
             (subst (λ q. suc (items_size all') < work_size q) (sym is) (omega (arith, size, total)))

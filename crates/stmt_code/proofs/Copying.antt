@@ -31,12 +31,14 @@ use Rattle.expr_code.specs.Views.{in_frame, placed}
 use Rattle.expr_code.specs.Coming.{Comes, on}
 use Rattle.expr_code.specs.Seeing.{Package}
 use Rattle.expr_code.specs.declared.visible.Visible.{Visible}
-use Rattle.stmt_code.specs.Resting.{RestsWith}
+use Rattle.stmt_code.specs.Resting.{RestsWith, Shows}
 use Rattle.stmt_code.specs.Copying.{AreCopies, ArePlaced, address_of, addresses_of, copies_on}
 use Rattle.stmt_code.specs.declared.call.Destination.{Destination}
+use Rattle.stmt_code.specs.Handling.{GoesBy}
 use Rattle.stmt_code.specs.Statements.{Numbers}
-use Rattle.stmt_code.specs.Standing.{CodeStands, Copying, Going, IsCopying, Shares, Unhandled, items_size, work_size}
+use Rattle.stmt_code.specs.Standing.{CodeStands, Copying, Going, IsCopying, Shares, items_size, work_size}
 use Rattle.stmt_code.proofs.Holding.{held_kept}
+use Rattle.stmt_code.proofs.Handling.{goes_within}
 use Rattle.stmt_code.proofs.Scenes.{Scene}
 use Rattle.stmt_code.proofs.Scenes as scene
 
@@ -131,10 +133,10 @@ module _ (this : Scene) where
       → In f'.subprogram f'.place → In f'.subprogram to → Follow a f'.subprogram to items above os
       → RestsWith g a.visible a.held own f'.locals → own.within ≡ None
       → f'.stack ≡ copies_on vs (addresses_of a.visible.names xs) []
-      → length above ≡ ends_of_calls items → Removable f' above → Unhandled items
+      → length above ≡ ends_of_calls items → Removable f' above → GoesBy i a.raised f'.place to → Shows g a.visible a.handling
       → CodeStands i program g numbers k' (record { work = source.copying vs xs items; own = own; callers = os })
       (record { frame = f'; callers = above; raising = None })
-  copying_stands [] [] items own os k' f' above a [] to places many up copies x y follows rests outside stack depth inner unhandled =
+  copying_stands [] [] items own os k' f' above a [] to places many up copies x y follows rests outside stack depth inner goes handles =
       Going items refl (record {
         around = a;
         follows = subst (λ q. Follow a f'.subprogram q items above os) (sym copies) follows;
@@ -144,14 +146,13 @@ module _ (this : Scene) where
         going = refl;
         depth = depth;
         inner = inner;
-        unhandled = unhandled;
       })
-  copying_stands [] [] items own os k' f' above a (d ∷ ds) to places many up copies x y follows rests outside stack depth inner unhandled = absurd places
-  copying_stands [] (z ∷ xs) items own os k' f' above a ds to places many up copies x y follows rests outside stack depth inner unhandled =
+  copying_stands [] [] items own os k' f' above a (d ∷ ds) to places many up copies x y follows rests outside stack depth inner goes handles = absurd places
+  copying_stands [] (z ∷ xs) items own os k' f' above a ds to places many up copies x y follows rests outside stack depth inner goes handles =
       absurd (omega (arith, many))
-  copying_stands (v ∷ vs) [] items own os k' f' above a ds to places many up copies x y follows rests outside stack depth inner unhandled =
+  copying_stands (v ∷ vs) [] items own os k' f' above a ds to places many up copies x y follows rests outside stack depth inner goes handles =
       absurd (omega (arith, many))
-  copying_stands (v ∷ vs) (z ∷ xs) items own os k' f' above a ds to places many up copies x y follows rests outside stack depth inner unhandled =
+  copying_stands (v ∷ vs) (z ∷ xs) items own os k' f' above a ds to places many up copies x y follows rests outside stack depth inner goes handles =
       Copying (v ∷ vs) (z ∷ xs) items refl (record {
         around = a;
         destinations = ds;
@@ -169,7 +170,8 @@ module _ (this : Scene) where
         going = refl;
         depth = depth;
         inner = inner;
-        unhandled = unhandled;
+        goes = goes;
+        handles = handles;
       })
 
   module _ (s : TaskState) where
@@ -195,7 +197,7 @@ module _ (this : Scene) where
         (subst (λ q. CodeStands i program g numbers k (record { work = source.copying [] [] items; own = w.own; callers = w.callers }) q)
         (sym (stands_is [] h.stack h.going))
         (copying_stands [] [] items w.own w.callers k (placed f f.place []) fs h.around h.destinations h.to h.placed h.many h.up h.copies h.from_inside
-        h.to_inside h.follows h.rests h.outside refl h.depth (scene.inner_placed this f fs f.place [] h.inner) h.unhandled))
+        h.to_inside h.follows h.rests h.outside refl h.depth (scene.inner_placed this f fs f.place [] h.inner) h.goes h.handles))
         (subst (λ q. suc (items_size items) < work_size q) (sym is) (omega arith))
     met_copies [] (x ∷ xs) items is h = let e = h.many in absurd (omega (arith, e))
     met_copies (v ∷ vs) [] items is h = let e = h.many in absurd (omega (arith, e))
@@ -247,7 +249,9 @@ module _ (this : Scene) where
             (copy.checks schedule k t m f fs (pos at ∷ rest) v calm fit))
             (omega (arith, l.0, r.1, up, end, le))
             (ap (λ q. work_step now q) is)
-            (subst (λ q. items_size items < work_size q) (sym is) (omega arith)) h.inner h.unhandled
+            (subst (λ q. items_size items < work_size q) (sym is) (omega arith)) h.inner
+            (scene.handled_by this s a a.visible h.to items (passed x.subtype v) f.place copy.mid h.follows
+            (goes_within i a.raised f.place f.place copy.mid h.to h.goes (omega arith) (omega (arith, end, le))) h.rests refl h.handles h.outside h.depth h.inner)
             (λ y ey.
             let same = passed_is x.subtype v y ey in
             let put = copy.puts schedule k t m f fs store w.own (place_of now items) x y rest
@@ -268,7 +272,8 @@ module _ (this : Scene) where
                       held = held_kept a.held a.visible.reserved f.locals put.locals h.rests.apart put.keeps h.rests.held;
                       apart = h.rests.apart;
                     })
-                    (same_within x y w.own ∙ h.outside) refl h.depth (inner_next fs put.locals rest c.0 h.inner) h.unhandled;
+                    (same_within x y w.own ∙ h.outside) refl h.depth (inner_next fs put.locals rest c.0 h.inner)
+                    (goes_within i a.raised f.place c.0 h.to h.to h.goes (omega (arith, up, end)) (omega arith)) h.handles;
                 words = put.shared;
               },
             )))

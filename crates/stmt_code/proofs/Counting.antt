@@ -33,10 +33,11 @@ use Rattle.expr_code.proofs.Coming.{acts}
 use Rattle.stmt_code.specs.Resting.{Framed, RestsWith}
 use Rattle.stmt_code.specs.Counting.{Bounds, GoesOn, IsCounted, IsRange, bounds, in_turn, number_bounds, turn_first, turn_last, with_last, with_parameter}
 use Rattle.stmt_code.specs.Statements.{Numbers}
-use Rattle.stmt_code.specs.Standing.{CodeStands, Going, Here, Shares, Unhandled, in_range, items_size, relation, work_size}
-use Rattle.stmt_code.proofs.Going.{before_ends, before_follows, before_unhandled, jumps_up, narrows_same, rest_of}
+use Rattle.stmt_code.specs.Standing.{CodeStands, Going, Here, Shares, in_range, items_size, relation, work_size}
+use Rattle.stmt_code.proofs.Going.{before_ends, before_follows, jumps_up, narrows_same, rest_of}
 use Rattle.stmt_code.proofs.Sizes.{before_size, item_counts}
 use Rattle.stmt_code.proofs.Turning as turn
+use Rattle.stmt_code.proofs.Handling.{goes_within}
 use Rattle.stmt_code.proofs.Scenes.{Scene}
 use Rattle.stmt_code.proofs.Scenes as scene
 
@@ -136,16 +137,15 @@ module _ (this : Scene) where
         → work_step now w.work ≡ left_with own items
         → Spent n (placed f f.place []) (placed f mid start)
         → Spent n' (placed f mid start) (goes_at f target locals)
-        → n + (n' + 1) ≤ most_steps i (in_frame m f fs).task
+        → n + (n' + 1) < most_steps i (in_frame m f fs).task
         → Follow a f.subprogram target items fs w.callers
         → RestsWith g a.visible a.held own locals
         → own.within ≡ None
         → length fs ≡ ends_of_calls items
         → Removable f fs
-        → Unhandled items
         → suc (items_size items) < work_size w.work
         → Meet (in_frame m (placed f f.place []) fs).task
-    met_goes_on n n' mid target start locals items own a is first second low follows rests outside depth inner unhandled less =
+    met_goes_on n n' mid target start locals items own a is first second low follows rests outside depth inner less =
         let end = in_frame m (goes_at f target locals) fs in
         scene.met_quiet this f fs (n + (n' + 1)) end.task (left_with own items) is refl refl
         (spends_takes (behaviour i schedule) t frames_of (most_steps i) (n' + 1) k end first
@@ -154,7 +154,7 @@ module _ (this : Scene) where
         (λ other e. record {
           sound = scene.task_after this (left_with own items) is refl;
           code = subst (λ q. CodeStands i program g numbers k (left_with own items).solo.task q) (sym e)
-              (Going items refl (scene.goes_on this s items own a target locals follows rests outside depth inner unhandled));
+              (Going items refl (scene.goes_on this s items own a target locals follows rests outside depth inner));
         })
         less
 
@@ -200,7 +200,9 @@ module _ (this : Scene) where
         (ap (λ q. work_step now q) is ∙ range_is range (source.for_range now parameter reversed body items) items p)
         (subst (λ q. items_size items < work_size q) (sym is)
         (let e = item_counts (Does (Loop place (For parameter reversed range) body)) items in omega (arith, e)))
-        h.inner h.unhandled
+        h.inner
+        (scene.handled_by this s outer r.2 r.1 items (bounds range (call (frames_left items)) p) (r.0 + 2) begin.mid r.5
+        (goes_within i outer.raised (r.0 + 2) (r.0 + 2) begin.mid c.start r.4.3 (omega arith) u6) here refl r.3.reaches.2 h.outside h.depth h.inner)
         (λ b eb there spends. by_bounds b.first b.last eb there spends))
       where
         r : Follow h.around f.subprogram f.place (Does (Loop place (For parameter reversed range) body) ∷ items) fs w.callers
@@ -225,7 +227,7 @@ module _ (this : Scene) where
             let up = jumps_up i program g numbers f.place r.0 r.3.jumps in
             (omega (arith, x.0, up, low), omega (arith, y.1, high))
 
-        few : ⊤ → (((r.0 - f.place) + 1) + (begin.mid - (r.0 + 2))) + ((c.start - begin.mid) + 1) ≤ most_steps i (in_frame m f fs).task
+        few : ⊤ → (((r.0 - f.place) + 1) + (begin.mid - (r.0 + 2))) + ((c.start - begin.mid) + 1) < most_steps i (in_frame m f fs).task
         few u =
             let x = r.3.from_inside in
             let y = r.3.to_inside in
@@ -260,7 +262,7 @@ module _ (this : Scene) where
             met_goes_on (((r.0 - f.place) + 1) + (begin.mid - (r.0 + 2))) (c.start - begin.mid) begin.mid c.start (begin.stack [] b) on.locals
             (source.before body loop) (with_parameter parameter.name now' w.own) turn_setting there spends on.spends (few tt)
             (before_follows i program g numbers body turn_setting c.inner f.subprogram c.start c.back loop fs w.callers r.4.2 u2 start_in back_in
-            (c.shows, λ q view z. r.3.reaches.1 q view (c.shows q view z)) (
+            (c.shows, (λ q view z. r.3.reaches.1 q view (c.shows q view z)), λ q view z. r.3.reaches.2 q view (c.shows q view z)) (
               r.0,
               r.1,
               outer,
@@ -270,14 +272,16 @@ module _ (this : Scene) where
                 loop = refl;
                 narrows = narrows_same g c.inner;
                 reaches = r.3.reaches.1;
+                handles = r.3.reaches.2;
                 from_inside = back_in;
                 head_inside = head_in;
                 to_inside = r.3.to_inside;
               },
               r.4.2,
               r.5,
+              r.4.4,
             ))
-            on.rests h.outside (h.depth ∙ sym (before_ends i program g numbers body loop)) h.inner (before_unhandled i program g numbers body loop h.unhandled)
+            on.rests h.outside (h.depth ∙ sym (before_ends i program g numbers body loop)) h.inner
             (subst (λ q. suc (items_size (source.before body loop)) < work_size q) (sym is) (omega (arith, total)))
 
         of_numbers : (x y : ℤ) → bounds range (call (frames_left items)) (place_of now items) ≡ Gives (number_bounds x y)
@@ -290,7 +294,7 @@ module _ (this : Scene) where
                 let on = begin.null schedule k t m f fs h.around.held w.own (place_of now items) x y calm refl (scene.sees_here this r.2 items f fs here) here eb null in
                 met_goes_on (((r.0 - f.place) + 1) + (begin.mid - (r.0 + 2))) (c.start - begin.mid) begin.mid r.1 (begin.stack [] (number_bounds x y)) on.locals
                 items w.own outer (there ∙ ap (λ q. if q then source.goes now items else started) null) spends on.spends (few tt) r.5 on.rests h.outside h.depth
-                h.inner h.unhandled
+                h.inner
                 (subst (λ q. suc (items_size items) < work_size q) (sym is)
                 (let e = item_counts (Does (Loop place (For parameter reversed range) body)) items in omega (arith, e)))
               where
@@ -364,7 +368,7 @@ module _ (this : Scene) where
             met_goes_on (c.back - f.place) (c.turn - c.back) c.back r.1 [] on.locals items w.own outer
             (step ∙ ap (λ q. if q then source.goes now items else with_value now (source.next_number now reversed now') items go) same)
             (scene.jumps_spend this f fs f.place c.back r.4.jumps) on.spends (omega (arith, x.0, y.1, up, u3, u4)) r.6 (behind on.locals on.rests) h.outside h.depth
-            h.inner h.unhandled (subst (λ q. suc (items_size items) < work_size q) (sym is) (omega arith))
+            h.inner (subst (λ q. suc (items_size items) < work_size q) (sym is) (omega arith))
         by_end false other =
             let x = r.4.from_inside in
             let y = r.4.to_inside in
@@ -380,7 +384,10 @@ module _ (this : Scene) where
             (c.next.counts schedule k t m f fs outer.held w.own now' last calm here other)
             (omega (arith, x.0, y.1, up, u3, u4, u5, u6))
             (step ∙ ap (λ q. if q then source.goes now items else with_value now (source.next_number now reversed now') items go) other)
-            (subst (λ q. items_size items < work_size q) (sym is) (omega arith)) h.inner h.unhandled
+            (subst (λ q. items_size items < work_size q) (sym is) (omega arith)) h.inner
+            (scene.handled_by this s outer outer.visible r.1 items (source.next_number now reversed now') c.back c.next.mid r.6
+            (goes_within i outer.raised c.back c.back c.next.mid r.1 r.7 (omega arith) (omega (arith, u4, u6))) (behind f.locals here) refl r.4.handles h.outside
+            h.depth h.inner)
             (λ next ez there spends.
             let on = c.next.goes schedule k t m f fs outer.held w.own now' last next calm here in
             let own' = with_parameter parameter next w.own in
@@ -391,37 +398,37 @@ module _ (this : Scene) where
             let back_in : In f.subprogram c.back = (omega (arith, z.0, u1, u2), omega (arith, y.1, u3, u4)) in
             let last_frame = goes_at f c.turn on.locals in
             let y' : steps.Stepped = steps.does Quiet m (goes_at f c.start on.locals) fs None None in
-            moves_by (program_behaviour program schedule) (behaviour i schedule) (relation i program g numbers) frames_of (most_steps i) k t
-            (record { memory = store; task = w }) (in_frame m (placed f f.place []) fs)
-            (((c.back - f.place) + (c.next.mid - c.back)) + ((c.turn - c.next.mid) + 1)) (in_frame m last_frame fs) (go next) y' there
+            scene.moves_from this (in_frame m (placed f f.place []) fs).task (((c.back - f.place) + (c.next.mid - c.back)) + ((c.turn - c.next.mid) + 1))
+            (in_frame m last_frame fs) (go next) y' there
             (acts quiet i c.turn (op.Jump c.start) c.jump schedule k t m last_frame fs [])
             (spends_takes (behaviour i schedule) t frames_of (most_steps i) ((c.turn - c.next.mid) + 1) k (in_frame m last_frame fs) spends
             (spends_takes (behaviour i schedule) t frames_of (most_steps i) 1 k (in_frame m last_frame fs) on.spends (Last refl)))
-            (omega (arith, x.0, y.1, up, u3, u4, u5, u6)) refl
-            (record { sound = scene.store_after this (go next) there; stands = shares.stands })
+            (omega (arith, x.0, y.1, up, u3, u4, u5, u6), λ some. omega (arith, x.0, y.1, up, u3, u4, u5, u6))
             (record {
+              effect = refl;
+              waits = refl;
               alone = tt;
-              stands = record {
-                sound = scene.task_after this (go next) there refl;
-                code = Going (source.before body loop) refl (scene.goes_on this s (source.before body loop) own' turn_setting c.start on.locals
-                    (before_follows i program g numbers body turn_setting c.inner f.subprogram c.start c.back loop fs w.callers r.5 u2 start_in back_in
-                    (c.shows, λ q view z. r.4.reaches q view (c.shows q view z)) (
-                      r.0,
-                      r.1,
-                      outer,
-                      c,
-                      record {
-                        jumps = Here;
-                        loop = refl;
-                        narrows = narrows_same g c.inner;
-                        reaches = r.4.reaches;
-                        from_inside = back_in;
-                        head_inside = r.4.head_inside;
-                        to_inside = r.4.to_inside;
-                      },
-                      r.5,
-                      r.6,
-                    ))
-                    on.rests h.outside (h.depth ∙ sym (before_ends i program g numbers body loop)) h.inner (before_unhandled i program g numbers body loop h.unhandled));
-              };
+              code = Going (source.before body loop) refl (scene.goes_on this s (source.before body loop) own' turn_setting c.start on.locals
+                  (before_follows i program g numbers body turn_setting c.inner f.subprogram c.start c.back loop fs w.callers r.5 u2 start_in back_in
+                  (c.shows, (λ q view z. r.4.reaches q view (c.shows q view z)), λ q view z. r.4.handles q view (c.shows q view z)) (
+                    r.0,
+                    r.1,
+                    outer,
+                    c,
+                    record {
+                      jumps = Here;
+                      loop = refl;
+                      narrows = narrows_same g c.inner;
+                      reaches = r.4.reaches;
+                      handles = r.4.handles;
+                      from_inside = back_in;
+                      head_inside = r.4.head_inside;
+                      to_inside = r.4.to_inside;
+                    },
+                    r.5,
+                    r.6,
+                    r.7,
+                  ))
+                  on.rests h.outside (h.depth ∙ sym (before_ends i program g numbers body loop)) h.inner);
+              words = shares.stands;
             }))

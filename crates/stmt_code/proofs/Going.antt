@@ -2,16 +2,18 @@
 use Rattle.std.proofs.Common.{◌≡◌, ℕ, ℤ, ◌+◌, ◌≤◌, List, [], ◌∷◌, map, ◌++◌, Bool, Some, refl, sym, ap, ◌∙◌, subst, arith}
 use Rattle.image.specs.Sections.{Sections}
 use Rattle.image.specs.Frames.{Frame}
-use Rattle.ada_tree.specs.StatementTree.{DeclarationTree, StmtTrees, NoStmts, MoreStmts}
+use Rattle.ada_tree.specs.StatementTree.{DeclarationTree, StmtTrees, NoStmts, MoreStmts, NoHandlers, MoreHandlers}
 use Rattle.meaning.specs.Programs.{Parameter, Program}
-use Rattle.meaning.specs.Works.{Item, Declares, DeclaresParameter, Sequence, Does, DoesMain, Repeats, RepeatsWhile, RepeatsFor, Handles, EndsCall, Activation, ends_of_calls}
+use Rattle.meaning.specs.Works.{Item, Declares, DeclaresParameter, Sequence, Does, DoesMain, Repeats, RepeatsWhile, RepeatsFor, Handles, EndsHandler, EndsCall, Activation, ends_of_calls}
 use Rattle.meaning.specs.SourceSteps.{before, behind_loop, end_of_body}
 use Rattle.expr_code.specs.Seeing.{Package}
 use Rattle.stmt_code.specs.Resting.{AreHeld, Framed, Narrows, Shows, held_offset}
+use Rattle.stmt_code.specs.Handling.{GoesBy, exception_in}
 use Rattle.stmt_code.specs.Copying.{addresses_of}
 use Rattle.stmt_code.specs.Counting.{IsCounted, in_turn}
 use Rattle.stmt_code.specs.Statements.{AreDeclared, AreParametersDeclared, AreStatements, Numbers}
-use Rattle.stmt_code.specs.Standing.{Around, Follows, Here, Inside, Jumps, Leads, LeadsBack, LeadsEnd, LeadsInto, LeadsNext, LeadsOut, Reaches, There, Unhandled, with_visible}
+use Rattle.stmt_code.specs.Standing.{Around, Follows, Here, Inside, IsOutermost, Jumps, Leads, LeadsBack, LeadsBehind, LeadsEnd, LeadsInto, LeadsNext, LeadsOut, LeadsOver, Reaches, There, with_visible}
+use Rattle.stmt_code.proofs.Handling.{goes_within}
 
 pub narrows_same : (g : Package) (v : Framed) → Narrows g v v
 narrows_same g v = record { shows = λ p view h. h; reserved = refl }
@@ -77,6 +79,9 @@ module _ (i : Sections) (program : Program) (g : Package) (numbers : Numbers) wh
       → LeadsInto i program g numbers a.visible n from at to now
   into a n from at to now h = record { jumps = h.jumps; narrows = h.narrows; from_inside = h.from_inside; up = h.up; to_inside = h.to_inside }
 
+  pub outermost_seeing : (a : Setting) (more : Framed) → IsOutermost i program g numbers a → IsOutermost i program g numbers (seeing more a)
+  outermost_seeing a more h = record { exit = h.exit; handled = h.handled; raised = h.raised }
+
   earlier_out : (a : Setting) (more : Framed) (n x y : ℕ) → Jump x y → In n x → LeadsOut i program g numbers a n y
       → LeadsOut i program g numbers (seeing more a) n x
   earlier_out a more n x y j ins h = record {
@@ -84,9 +89,8 @@ module _ (i : Sections) (program : Program) (g : Package) (numbers : Numbers) wh
     jumps = jumps_both j h.jumps;
     return = h.return;
     results = h.results;
-    exit = h.exit;
-    from_inside =
-        ins;
+    outermost = outermost_seeing a more h.outermost;
+    from_inside = ins;
     to_inside = h.to_inside;
   }
 
@@ -102,7 +106,7 @@ module _ (i : Sections) (program : Program) (g : Package) (numbers : Numbers) wh
     narrows = narrows_both g now a.visible h.last nar h.narrows;
     gives = h.gives;
     held = h.held;
-    exit = h.exit;
+    outermost = outermost_seeing a more h.outermost;
     from_inside = ins;
     to_inside = h.to_inside;
   }
@@ -116,7 +120,7 @@ module _ (i : Sections) (program : Program) (g : Package) (numbers : Numbers) wh
     narrows = h.narrows;
     gives = h.gives;
     held = h.held;
-    exit = h.exit;
+    outermost = outermost_seeing a more h.outermost;
     from_inside = h.from_inside;
     to_inside = h.to_inside;
   }
@@ -129,6 +133,7 @@ module _ (i : Sections) (program : Program) (g : Package) (numbers : Numbers) wh
     loop = ap (λ q. seeing more q) h.loop;
     narrows = narrows_both g more a.visible inner nar h.narrows;
     reaches = h.reaches;
+    handles = h.handles;
     from_inside = ins;
     head_inside = h.head_inside;
     to_inside = h.to_inside;
@@ -145,21 +150,48 @@ module _ (i : Sections) (program : Program) (g : Package) (numbers : Numbers) wh
     loop = ap (λ q. seeing more q) h.loop;
     narrows = narrows_both g more a.visible outer.visible nar h.narrows;
     reaches = h.reaches;
+    handles = h.handles;
     from_inside = ins;
     head_inside = h.head_inside;
+    to_inside = h.to_inside;
+  }
+
+  earlier_over : (a : Setting) (more : Framed) (n x y at to : ℕ) (outer : Setting) → Jump x y → Narrows g more a.visible → In n x
+      → LeadsOver i program g numbers a n y at to outer → LeadsOver i program g numbers (seeing more a) n x at to outer
+  earlier_over a more n x y at to outer j nar ins h = record {
+    jumps = jumps_both j h.jumps;
+    sequence = ap (λ q. seeing more q) h.sequence;
+    narrows = narrows_both g more a.visible outer.visible nar h.narrows;
+    reaches = h.reaches;
+    from_inside = ins;
+    at_inside = h.at_inside;
+    to_inside = h.to_inside;
+  }
+
+  earlier_behind : (a : Setting) (more : Framed) (n x y to word exception : ℕ) (outer : Setting) → Jump x y → Narrows g more a.visible → In n x
+      → LeadsBehind i program g numbers a n y to word exception outer → LeadsBehind i program g numbers (seeing more a) n x to word exception outer
+  earlier_behind a more n x y to word exception outer j nar ins h = record {
+    jumps = jumps_both j h.jumps;
+    handler = ap (λ q. seeing more q) h.handler;
+    shows = shows_then g more a.visible outer.visible nar h.shows;
+    reserved = nar.reserved ∙ h.reserved;
+    from_inside = ins;
     to_inside = h.to_inside;
   }
 
   pub earlier : (items : List Item) (a : Setting) (more : Framed) (n x y : ℕ) (fs : List Frame) (os : List Activation)
       → Jump x y → Narrows g more a.visible → In n x → Follow a n y items fs os → Follow (seeing more a) n x items fs os
   earlier [] a more n x y fs os j nar ins h = (earlier_out a more n x y j ins h.0, h.1, h.2)
-  earlier (Declares d ∷ items) a more n x y fs os j nar ins h = (h.0, h.1, h.2, h.3, earlier_leads a more n x y h.0 h.1 h.2 j nar ins h.4, h.5, h.6, h.7)
+  earlier (Declares d ∷ items) a more n x y fs os j nar ins h = (h.0, h.1, h.2, h.3, earlier_leads a more n x y h.0 h.1 h.2 j nar ins h.4, h.5, h.6, h.7, h.8)
   earlier (DeclaresParameter d ∷ items) a more n x y fs os j nar ins h =
       (h.0, h.1, h.2, h.3, earlier_into a.visible more n x y h.0 h.1 h.2 j nar ins h.4, h.5, h.6, h.7)
-  earlier (Sequence body hs ∷ items) a more n x y fs os j nar ins h = (h.0, h.1, h.2, h.3, earlier_leads a more n x y h.0 h.1 h.2 j nar ins h.4, h.5, h.6)
+  earlier (Sequence body hs ∷ items) a more n x y fs os j nar ins h = (h.0, h.1, h.2, earlier_leads a more n x y h.0 h.1 h.2 j nar ins h.3, h.4, h.5)
   earlier (Does s ∷ items) a more n x y fs os j nar ins h = (h.0, h.1, h.2, earlier_leads a more n x y h.0 h.1 h.2 j nar ins h.3, h.4, h.5)
-  earlier (DoesMain s ∷ items) a more n x y fs os j nar ins h = (h.0, h.1, h.2, earlier_leads a more n x y h.0 h.1 h.2 j nar ins h.3, h.4, h.5)
-  earlier (Handles hs ∷ items) a more n x y fs os j nar ins h = (h.0, earlier items a more n x y fs os j nar ins h.1)
+  earlier (DoesMain s ∷ items) a more n x y fs os j nar ins h = (h.0, h.1, h.2, earlier_leads a more n x y h.0 h.1 h.2 j nar ins h.3, h.4, h.5, h.6)
+  earlier (Handles NoHandlers ∷ items) a more n x y fs os j nar ins h = earlier items a more n x y fs os j nar ins h
+  earlier (Handles (MoreHandlers choices body rest) ∷ items) a more n x y fs os j nar ins h =
+      (h.0, h.1, h.2, earlier_over a more n x y h.0 h.1 h.2 j nar ins h.3, h.4, h.5)
+  earlier (EndsHandler z ∷ items) a more n x y fs os j nar ins h = (h.0, h.1, h.2, earlier_behind a more n x y h.0 h.1 z h.2 j nar ins h.3, h.4)
   earlier (Repeats body ∷ items) a more n x y fs os j nar ins h = (h.0, h.1, h.2, earlier_back a more n x y h.0 h.1 h.2 j nar ins h.3, h.4, h.5)
   earlier (RepeatsWhile e body ∷ items) a more n x y fs os j nar ins h = (h.0, h.1, h.2, earlier_back a more n x y h.0 h.1 h.2 j nar ins h.3, h.4, h.5)
   earlier (RepeatsFor parameter reversed now last body ∷ items) a more n x y fs os j nar ins h =
@@ -171,6 +203,7 @@ module _ (i : Sections) (program : Program) (g : Package) (numbers : Numbers) wh
         earlier_next a more n x y h.0 h.1 c.back c.counter c.limit now last c.inner h.2 j nar ins h.4,
         h.5,
         h.6,
+        h.7,
       )
   earlier (EndsCall names opened xs ∷ items) a more n x y fs os j nar ins h =
       let outer = h.5 in
@@ -197,12 +230,13 @@ module _ (i : Sections) (program : Program) (g : Package) (numbers : Numbers) wh
         h.19,
         h.20,
         h.21,
+        h.22,
       )
   earlier (i' ∷ items) a more n x y fs os j nar ins h = absurd h
 
   -- statements, and then the items
   pub before_follows : (stmts : StmtTrees) (a : Setting) (now : Framed) (n from to : ℕ) (items : List Item) (fs : List Frame) (os : List Activation)
-      → AreStatements i program g numbers now a.ways from to stmts → from ≤ to → In n from → In n to → Reaches i program g numbers a now
+      → AreStatements i program g numbers now a.ways a.raised from to stmts → from ≤ to → In n from → In n to → Reaches i program g numbers a now
       → Follow (seeing now a) n to items fs os
       → Follow (seeing now a) n from (before stmts items) fs os
   before_follows NoStmts a now n from to items fs os code le x y reach rest = subst (λ q. Follow (seeing now a) n q items fs os) (sym code) rest
@@ -223,26 +257,23 @@ module _ (i : Sections) (program : Program) (g : Package) (numbers : Numbers) wh
   before_ends NoStmts items = refl
   before_ends (MoreStmts s rest) items = before_ends rest items
 
-  pub before_unhandled : (stmts : StmtTrees) (items : List Item) → Unhandled items → Unhandled (before stmts items)
-  before_unhandled NoStmts items h = h
-  before_unhandled (MoreStmts s rest) items h = before_unhandled rest items h
-
   -- declarations, and then the items
   pub declares_follow : (ds : List DeclarationTree) (a : Setting) (now later : Framed) (n from to : ℕ) (items : List Item) (fs : List Frame)
       (os : List Activation)
-      → AreDeclared i program g numbers now from to later ds → from ≤ to → In n from → In n to → Reaches i program g numbers a now
+      → AreDeclared i program g numbers now from to later ds → GoesBy i a.raised from to → from ≤ to → In n from → In n to → Reaches i program g numbers a now
       → (Narrows g later now → Follow (seeing later a) n to items fs os)
       → Follow (seeing now a) n from (map Declares ds ++ items) fs os
-  declares_follow [] a now later n from to items fs os code le x y reach rest =
+  declares_follow [] a now later n from to items fs os code goes le x y reach rest =
       subst (λ q. Follow (seeing now a) n q items fs os) (sym code.0)
       (subst (λ q. Follow (seeing q a) n to items fs os) code.1 (rest (subst (λ q. Narrows g q now) (sym code.1) (narrows_same g now))))
-  declares_follow (d ∷ ds) a now later n from to items fs os code le x y reach rest =
+  declares_follow (d ∷ ds) a now later n from to items fs os code goes le x y reach rest =
       let mid = code.0 in
       let next = code.1 in
       let u = code.2 in
       let v = code.3 in
       let inside : In n mid = (omega (arith, x.0, u), omega (arith, y.1, v)) in
-      let further : Reaches i program g numbers a next = (shows_then g next now a.behind code.5 reach.0, shows_then g next now a.ending code.5 reach.1) in (
+      let further : Reaches i program g numbers a next =
+      (shows_then g next now a.behind code.5 reach.0, shows_then g next now a.ending code.5 reach.1, shows_then g next now a.handling code.5 reach.2) in (
         from,
         mid,
         now,
@@ -250,7 +281,9 @@ module _ (i : Sections) (program : Program) (g : Package) (numbers : Numbers) wh
         (record { jumps = Here; narrows = narrows_same g now; reaches = reach; from_inside = x; up = u; to_inside = inside }),
         code.5,
         code.4,
-        declares_follow ds a next later n mid to items fs os code.6 v inside y further (λ nar. rest (narrows_both g later next now nar code.5)),
+        declares_follow ds a next later n mid to items fs os code.6 (goes_within i a.raised from mid to to goes u (omega arith)) v inside y further
+            (λ nar. rest (narrows_both g later next now nar code.5)),
+        goes_within i a.raised from from mid to goes (omega arith) v,
       )
 
   -- `out` parameters, and then the items
@@ -281,17 +314,9 @@ module _ (i : Sections) (program : Program) (g : Package) (numbers : Numbers) wh
   parameters_end [] items = refl
   parameters_end (f ∷ ps) items = parameters_end ps items
 
-  pub parameters_unhandled : (ps : List Parameter) (items : List Item) → Unhandled items → Unhandled (map DeclaresParameter ps ++ items)
-  parameters_unhandled [] items h = h
-  parameters_unhandled (f ∷ ps) items h = parameters_unhandled ps items h
-
   pub declares_end : (ds : List DeclarationTree) (items : List Item) → ends_of_calls (map Declares ds ++ items) ≡ ends_of_calls items
   declares_end [] items = refl
   declares_end (d ∷ ds) items = declares_end ds items
-
-  pub declares_unhandled : (ds : List DeclarationTree) (items : List Item) → Unhandled items → Unhandled (map Declares ds ++ items)
-  declares_unhandled [] items h = h
-  declares_unhandled (d ∷ ds) items h = declares_unhandled ds items h
 
   -- what is held at the one point is held at the other, where all that is held is reserved
   pub record Drops (a b : Setting) : Type 0 where
@@ -317,43 +342,78 @@ module _ (i : Sections) (program : Program) (g : Package) (numbers : Numbers) wh
         apart = λ h. ap (λ l. rest_of (rest_of l)) (ap (λ q. map held_offset q) (sym same) ∙ h ∙ next.narrows.reserved ∙ c.reserved);
       }
 
+  drops_sequence : (a : Setting) (n from at to : ℕ) (outer : Setting) → LeadsOver i program g numbers a n from at to outer → Drops a outer
+  drops_sequence a n from at to outer over =
+      let same : a.held ≡ outer.held = ap (λ q. q.held) over.sequence in record {
+        held = λ locals h. subst (λ q. AreHeld locals q) same h;
+        apart = λ h. ap (λ q. map held_offset q) (sym same) ∙ h ∙ over.narrows.reserved;
+      }
+
+  pub drops_handler : (a : Setting) (n from to word exception : ℕ) (outer : Setting) → LeadsBehind i program g numbers a n from to word exception outer
+      → Drops a outer
+  drops_handler a n from to word exception outer behind =
+      let same : a.held ≡ exception_in word exception ∷ outer.held = ap (λ q. q.held) behind.handler in record {
+        held = λ locals h. (subst (λ q. AreHeld locals q) same h).1;
+        apart = λ h. ap (λ l. rest_of l) (ap (λ q. map held_offset q) (sym same) ∙ h ∙ behind.reserved);
+      }
+
+  drops_then : (a b c : Setting) → Drops a b → Drops b c → Drops a c
+  drops_then a b c x y = record { held = λ locals h. y.held locals (x.held locals h); apart = λ h. y.apart (x.apart h) }
+
   -- where the frame goes on behind the innermost loop
   pub record IsOut (a : Setting) (n e : ℕ) (items : List Item) (fs : List Frame) (os : List Activation) : Type 0 where
     pub outer : Setting
     pub visible : a.behind ≡ outer.visible
     pub follows : Follow outer n e (behind_loop items) fs os
     pub ends : ends_of_calls (behind_loop items) ≡ ends_of_calls items
-    pub unhandled : Unhandled items → Unhandled (behind_loop items)
     pub drops : Drops a outer
 
   out_seeing : (a : Setting) (v : Framed) (n e : ℕ) (items : List Item) (i' : Item) (fs : List Frame) (os : List Activation) → a.visible.reserved ≡ v.reserved
-      → behind_loop (i' ∷ items) ≡ behind_loop items → ends_of_calls (i' ∷ items) ≡ ends_of_calls items → (Unhandled (i' ∷ items) → Unhandled items)
+      → behind_loop (i' ∷ items) ≡ behind_loop items → ends_of_calls (i' ∷ items) ≡ ends_of_calls items
       → IsOut (seeing v a) n e items fs os → IsOut a n e (i' ∷ items) fs os
-  out_seeing a v n e items i' fs os same behind ends handled r = record {
+  out_seeing a v n e items i' fs os same behind ends r = record {
     outer = r.outer;
     visible = r.visible;
     follows = subst (λ q. Follow r.outer n e q fs os) (sym behind) r.follows;
     ends = ap ends_of_calls behind ∙ r.ends ∙ sym ends;
-    unhandled = λ u. subst Unhandled (sym behind) (r.unhandled (handled u));
     drops = drops_seeing a v r.outer same r.drops;
+  }
+
+  -- from a sequence or a handler, of which this is around
+  out_outer : (a outer : Setting) (n e : ℕ) (items : List Item) (i' : Item) (fs : List Frame) (os : List Activation) → a.behind ≡ outer.behind → Drops a outer
+      → behind_loop (i' ∷ items) ≡ behind_loop items → ends_of_calls (i' ∷ items) ≡ ends_of_calls items
+      → IsOut outer n e items fs os → IsOut a n e (i' ∷ items) fs os
+  out_outer a outer n e items i' fs os same d behind ends r = record {
+    outer = r.outer;
+    visible = same ∙ r.visible;
+    follows = subst (λ q. Follow r.outer n e q fs os) (sym behind) r.follows;
+    ends = ap ends_of_calls behind ∙ r.ends ∙ sym ends;
+    drops = drops_then a outer r.outer d r.drops;
   }
 
   pub way_out : (items : List Item) (a : Setting) (n from e : ℕ) (fs : List Frame) (os : List Activation) → Follow a n from items fs os → a.ways.exit ≡ Some e
       → IsOut a n e items fs os
-  way_out [] a n from e fs os h is = let none = h.0.exit in absurd cc
+  way_out [] a n from e fs os h is = let none = h.0.outermost.exit in absurd cc
   way_out (Declares d ∷ items) a n from e fs os h is =
-      out_seeing a h.3 n e items (Declares d) fs os (h.4.narrows.reserved ∙ sym h.5.reserved) refl refl (λ u. u) (way_out items (seeing h.3 a) n h.1 e fs os h.7 is)
+      out_seeing a h.3 n e items (Declares d) fs os (h.4.narrows.reserved ∙ sym h.5.reserved) refl refl (way_out items (seeing h.3 a) n h.1 e fs os h.7 is)
   way_out (DeclaresParameter f ∷ items) a n from e fs os h is =
-      out_seeing a h.3 n e items (DeclaresParameter f) fs os (h.4.narrows.reserved ∙ sym h.5.reserved) refl refl (λ u. u)
+      out_seeing a h.3 n e items (DeclaresParameter f) fs os (h.4.narrows.reserved ∙ sym h.5.reserved) refl refl
       (way_out items (seeing h.3 a) n h.1 e fs os h.7 is)
   way_out (Sequence body hs ∷ items) a n from e fs os h is =
-      out_seeing a h.2 n e items (Sequence body hs) fs os h.4.narrows.reserved refl refl (λ u. u) (way_out items (seeing h.2 a) n h.1 e fs os h.6 is)
+      out_seeing a h.2 n e items (Sequence body hs) fs os h.3.narrows.reserved refl refl (way_out items (seeing h.2 a) n h.1 e fs os h.5 is)
   way_out (Does s ∷ items) a n from e fs os h is =
-      out_seeing a h.2 n e items (Does s) fs os h.3.narrows.reserved refl refl (λ u. u) (way_out items (seeing h.2 a) n h.1 e fs os h.5 is)
+      out_seeing a h.2 n e items (Does s) fs os h.3.narrows.reserved refl refl (way_out items (seeing h.2 a) n h.1 e fs os h.5 is)
   way_out (DoesMain s ∷ items) a n from e fs os h is =
-      out_seeing a h.2 n e items (DoesMain s) fs os h.3.narrows.reserved refl refl (λ u. u) (way_out items (seeing h.2 a) n h.1 e fs os h.5 is)
-  way_out (Handles hs ∷ items) a n from e fs os h is =
-      out_seeing a a.visible n e items (Handles hs) fs os refl refl refl (λ u. u.1) (way_out items a n from e fs os h.1 is)
+      out_seeing a h.2 n e items (DoesMain s) fs os h.3.narrows.reserved refl refl (way_out items (seeing h.2 a) n h.1 e fs os h.5 is)
+  way_out (Handles NoHandlers ∷ items) a n from e fs os h is =
+      out_seeing a a.visible n e items (Handles NoHandlers) fs os refl refl refl (way_out items a n from e fs os h is)
+  way_out (Handles (MoreHandlers choices body rest) ∷ items) a n from e fs os h is =
+      out_outer a h.2 n e items (Handles (MoreHandlers choices body rest)) fs os (ap (λ q. q.behind) h.3.sequence) (drops_sequence a n from h.0 h.1 h.2 h.3)
+      refl refl
+      (way_out items h.2 n h.1 e fs os h.5 (sym (ap (λ q. q.ways.exit) h.3.sequence) ∙ is))
+  way_out (EndsHandler x ∷ items) a n from e fs os h is =
+      out_outer a h.2 n e items (EndsHandler x) fs os (ap (λ q. q.behind) h.3.handler) (drops_handler a n from h.0 h.1 x h.2 h.3) refl refl
+      (way_out items h.2 n h.0 e fs os h.4 (sym (ap (λ q. q.ways.exit) h.3.handler) ∙ is))
   way_out (Repeats body ∷ items) a n from e fs os h is =
       let head = h.0 in
       let to = h.1 in
@@ -372,7 +432,6 @@ module _ (i : Sections) (program : Program) (g : Package) (numbers : Numbers) wh
             (earlier items outer outer.visible n (head + 1) to fs os (There code.3 (omega (arith, up, end)) Here) (narrows_same g outer.visible)
             (omega (arith, x.0), omega (arith, y.1, up, end)) h.5);
         ends = refl;
-        unhandled = λ u. u;
         drops = drops_loop a n from head to outer back;
       }
   way_out (RepeatsWhile c body ∷ items) a n from e fs os h is =
@@ -394,7 +453,6 @@ module _ (i : Sections) (program : Program) (g : Package) (numbers : Numbers) wh
             (earlier items outer outer.visible n (head + 1) to fs os (There code.5 (omega (arith, up, over, end)) Here) (narrows_same g outer.visible)
             (omega (arith, x.0), omega (arith, y.1, up, over, end)) h.5);
         ends = refl;
-        unhandled = λ u. u;
         drops = drops_loop a n from head to outer back;
       }
   way_out (RepeatsFor parameter reversed now last body ∷ items) a n from e fs os h is =
@@ -417,10 +475,9 @@ module _ (i : Sections) (program : Program) (g : Package) (numbers : Numbers) wh
             (earlier items outer outer.visible n (head + 1) to fs os (There c.out (omega (arith, up, over, on, end)) Here) (narrows_same g outer.visible)
             (omega (arith, x.0), omega (arith, y.1, up, over, on, end)) h.6);
         ends = refl;
-        unhandled = λ u. u;
         drops = drops_turn a n from head to parameter reversed now last outer c next;
       }
-  way_out (EndsCall names opened xs ∷ items) a n from e fs os h is = let none = h.9.exit in absurd cc
+  way_out (EndsCall names opened xs ∷ items) a n from e fs os h is = let none = h.9.outermost.exit in absurd cc
   way_out (i' ∷ items) a n from e fs os h is = absurd h
 
   -- where it goes on at the end of the body
@@ -429,32 +486,30 @@ module _ (i : Sections) (program : Program) (g : Package) (numbers : Numbers) wh
     pub visible : a.ending ≡ end.visible
     pub follows : Follow end n e (end_of_body items) fs os
     pub ends : ends_of_calls (end_of_body items) ≡ ends_of_calls items
-    pub unhandled : Unhandled items → Unhandled (end_of_body items)
     pub drops : Drops a end
 
   back_seeing : (a : Setting) (v : Framed) (n e : ℕ) (items : List Item) (i' : Item) (fs : List Frame) (os : List Activation) → a.visible.reserved ≡ v.reserved
-      → end_of_body (i' ∷ items) ≡ end_of_body items → ends_of_calls (i' ∷ items) ≡ ends_of_calls items → (Unhandled (i' ∷ items) → Unhandled items)
+      → end_of_body (i' ∷ items) ≡ end_of_body items → ends_of_calls (i' ∷ items) ≡ ends_of_calls items
       → IsBack (seeing v a) n e items fs os → IsBack a n e (i' ∷ items) fs os
-  back_seeing a v n e items i' fs os same behind ends handled r = record {
+  back_seeing a v n e items i' fs os same behind ends r = record {
     end = r.end;
     visible = r.visible;
     follows = subst (λ q. Follow r.end n e q fs os) (sym behind) r.follows;
     ends = ap ends_of_calls behind ∙ r.ends ∙ sym ends;
-    unhandled = λ u. subst Unhandled (sym behind) (r.unhandled (handled u));
     drops = drops_seeing a v r.end same r.drops;
   }
 
   -- from a loop, of which this is around
+  -- ... or from what else is left there
   back_outer : (a outer : Setting) (n e : ℕ) (items : List Item) (i' : Item) (fs : List Frame) (os : List Activation) → a.ending ≡ outer.ending → Drops a outer
-      → end_of_body (i' ∷ items) ≡ end_of_body items → ends_of_calls (i' ∷ items) ≡ ends_of_calls items → (Unhandled (i' ∷ items) → Unhandled items)
+      → end_of_body (i' ∷ items) ≡ end_of_body items → ends_of_calls (i' ∷ items) ≡ ends_of_calls items
       → IsBack outer n e items fs os → IsBack a n e (i' ∷ items) fs os
-  back_outer a outer n e items i' fs os same d behind ends handled r = record {
+  back_outer a outer n e items i' fs os same d behind ends r = record {
     end = r.end;
     visible = same ∙ r.visible;
     follows = subst (λ q. Follow r.end n e q fs os) (sym behind) r.follows;
     ends = ap ends_of_calls behind ∙ r.ends ∙ sym ends;
-    unhandled = λ u. subst Unhandled (sym behind) (r.unhandled (handled u));
-    drops = record { held = λ locals h. r.drops.held locals (d.held locals h); apart = λ h. r.drops.apart (d.apart h) };
+    drops = drops_then a outer r.end d r.drops;
   }
 
   pub way_back : (items : List Item) (a : Setting) (n from e : ℕ) (fs : List Frame) (os : List Activation) → Follow a n from items fs os
@@ -462,28 +517,35 @@ module _ (i : Sections) (program : Program) (g : Package) (numbers : Numbers) wh
       → IsBack a n e items fs os
   way_back [] a n from e fs os h is = let none = h.1 in absurd cc
   way_back (Declares d ∷ items) a n from e fs os h is =
-      back_seeing a h.3 n e items (Declares d) fs os (h.4.narrows.reserved ∙ sym h.5.reserved) refl refl (λ u. u)
+      back_seeing a h.3 n e items (Declares d) fs os (h.4.narrows.reserved ∙ sym h.5.reserved) refl refl
       (way_back items (seeing h.3 a) n h.1 e fs os h.7 is)
   way_back (DeclaresParameter f ∷ items) a n from e fs os h is =
-      back_seeing a h.3 n e items (DeclaresParameter f) fs os (h.4.narrows.reserved ∙ sym h.5.reserved) refl refl (λ u. u)
+      back_seeing a h.3 n e items (DeclaresParameter f) fs os (h.4.narrows.reserved ∙ sym h.5.reserved) refl refl
       (way_back items (seeing h.3 a) n h.1 e fs os h.7 is)
   way_back (Sequence body hs ∷ items) a n from e fs os h is =
-      back_seeing a h.2 n e items (Sequence body hs) fs os h.4.narrows.reserved refl refl (λ u. u) (way_back items (seeing h.2 a) n h.1 e fs os h.6 is)
+      back_seeing a h.2 n e items (Sequence body hs) fs os h.3.narrows.reserved refl refl (way_back items (seeing h.2 a) n h.1 e fs os h.5 is)
   way_back (Does s ∷ items) a n from e fs os h is =
-      back_seeing a h.2 n e items (Does s) fs os h.3.narrows.reserved refl refl (λ u. u) (way_back items (seeing h.2 a) n h.1 e fs os h.5 is)
+      back_seeing a h.2 n e items (Does s) fs os h.3.narrows.reserved refl refl (way_back items (seeing h.2 a) n h.1 e fs os h.5 is)
   way_back (DoesMain s ∷ items) a n from e fs os h is =
-      back_seeing a h.2 n e items (DoesMain s) fs os h.3.narrows.reserved refl refl (λ u. u) (way_back items (seeing h.2 a) n h.1 e fs os h.5 is)
-  way_back (Handles hs ∷ items) a n from e fs os h is =
-      back_seeing a a.visible n e items (Handles hs) fs os refl refl refl (λ u. u.1) (way_back items a n from e fs os h.1 is)
+      back_seeing a h.2 n e items (DoesMain s) fs os h.3.narrows.reserved refl refl (way_back items (seeing h.2 a) n h.1 e fs os h.5 is)
+  way_back (Handles NoHandlers ∷ items) a n from e fs os h is =
+      back_seeing a a.visible n e items (Handles NoHandlers) fs os refl refl refl (way_back items a n from e fs os h is)
+  way_back (Handles (MoreHandlers choices body rest) ∷ items) a n from e fs os h is =
+      back_outer a h.2 n e items (Handles (MoreHandlers choices body rest)) fs os (ap (λ q. q.ending) h.3.sequence) (drops_sequence a n from h.0 h.1 h.2 h.3)
+      refl refl
+      (way_back items h.2 n h.1 e fs os h.5 (sym (ap (λ q. q.ways.return) h.3.sequence) ∙ is))
+  way_back (EndsHandler x ∷ items) a n from e fs os h is =
+      back_outer a h.2 n e items (EndsHandler x) fs os (ap (λ q. q.ending) h.3.handler) (drops_handler a n from h.0 h.1 x h.2 h.3) refl refl
+      (way_back items h.2 n h.0 e fs os h.4 (sym (ap (λ q. q.ways.return) h.3.handler) ∙ is))
   way_back (Repeats body ∷ items) a n from e fs os h is =
-      back_outer a h.2 n e items (Repeats body) fs os (ap (λ q. q.ending) h.3.loop) (drops_loop a n from h.0 h.1 h.2 h.3) refl refl (λ u. u)
+      back_outer a h.2 n e items (Repeats body) fs os (ap (λ q. q.ending) h.3.loop) (drops_loop a n from h.0 h.1 h.2 h.3) refl refl
       (way_back items h.2 n h.1 e fs os h.5 (sym (ap (λ q. q.ways.return) h.3.loop) ∙ is))
   way_back (RepeatsWhile c body ∷ items) a n from e fs os h is =
-      back_outer a h.2 n e items (RepeatsWhile c body) fs os (ap (λ q. q.ending) h.3.loop) (drops_loop a n from h.0 h.1 h.2 h.3) refl refl (λ u. u)
+      back_outer a h.2 n e items (RepeatsWhile c body) fs os (ap (λ q. q.ending) h.3.loop) (drops_loop a n from h.0 h.1 h.2 h.3) refl refl
       (way_back items h.2 n h.1 e fs os h.5 (sym (ap (λ q. q.ways.return) h.3.loop) ∙ is))
   way_back (RepeatsFor parameter reversed now last body ∷ items) a n from e fs os h is =
       back_outer a h.2 n e items (RepeatsFor parameter reversed now last body) fs os (ap (λ q. q.ending) h.4.loop)
-      (drops_turn a n from h.0 h.1 parameter reversed now last h.2 h.3 h.4) refl refl (λ u. u)
+      (drops_turn a n from h.0 h.1 parameter reversed now last h.2 h.3 h.4) refl refl
       (way_back items h.2 n h.1 e fs os h.6 (sym (ap (λ q. q.ways.return) h.4.loop) ∙ is))
   way_back (EndsCall names opened xs ∷ items) a n from e fs os h is =
       let there : Some h.0 ≡ Some e = sym h.10 ∙ is in
@@ -515,9 +577,9 @@ module _ (i : Sections) (program : Program) (g : Package) (numbers : Numbers) wh
           h.19,
           h.20,
           h.21,
+          h.22,
         );
         ends = refl;
-        unhandled = λ u. u;
         drops = record { held = λ locals x. x; apart = λ x. x ∙ h.11 };
       }
   way_back (i' ∷ items) a n from e fs os h is = absurd h

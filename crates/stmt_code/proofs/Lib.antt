@@ -1,5 +1,10 @@
 mod Going
 mod Sizes
+pub mod Handling
+mod Catching
+mod Raising
+mod Sequences
+mod ExceptionWords
 mod Holding
 mod Scenes
 mod Turning

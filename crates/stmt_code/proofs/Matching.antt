@@ -19,20 +19,22 @@ use Rattle.meaning.specs.Calls.{Callee, callee_by}
 use Rattle.meaning.specs.Programs.{Program}
 use Rattle.meaning.specs.SourceSteps as source
 use Rattle.meaning.specs.SourceSteps.{here_of, place_of, program_behaviour, with_value, work_step}
-use Rattle.meaning.specs.Works.{Item, Declares, DeclaresParameter, Sequence, Does, DoesMain, Repeats, RepeatsWhile, RepeatsFor, Handles, EndsCall, Goes, Activation, Store, TaskWork}
+use Rattle.meaning.specs.Works.{Item, Declares, DeclaresParameter, Sequence, Does, DoesMain, Repeats, RepeatsWhile, RepeatsFor, Handles, EndsHandler, EndsCall, Goes, Activation, Store, TaskWork}
 use Rattle.sound_steps.specs.Laws.{StepsAreSound, StoresAreAlike}
 use Rattle.expr_code.specs.Seeing.{Package}
 use Rattle.stmt_code.specs.Resting.{Framed}
 use Rattle.stmt_code.specs.Statements.{IsCalled, IsPut, Numbers}
-use Rattle.stmt_code.specs.Standing.{CodeStands, Copying, Going, Over as Ended, Raised, Shares, items_size, work_size}
+use Rattle.stmt_code.specs.Standing.{Catching, CodeStands, Copying, Going, IsCatching, Over as Ended, Raised, Shares, items_size, work_size}
 use Rattle.stmt_code.specs.Laws.{HasCode, StepsAreMet}
-use Rattle.stmt_code.proofs.Scenes.{Scene}
+use Rattle.stmt_code.proofs.Scenes.{AtOnce, Keeping, Scene}
 use Rattle.stmt_code.proofs.Scenes as scene
 use Rattle.stmt_code.proofs.Turning as turn
 use Rattle.stmt_code.proofs.Choosing as choose
 use Rattle.stmt_code.proofs.Copying as copy
 use Rattle.stmt_code.proofs.Calling as calls
 use Rattle.stmt_code.proofs.Counting as count
+use Rattle.stmt_code.proofs.Raising as raising
+use Rattle.stmt_code.proofs.Sequences as sequences
 
 module _ (this : Scene) where
   abbrev quiet : QuietStays
@@ -125,7 +127,7 @@ module _ (this : Scene) where
         (seeing h.around.visible h.around)
         (scene.reached this s h.around f.place r.0 r.1 r.2 items r.3
         (subst (λ q. Follow (seeing r.2 h.around) f.subprogram q items fs w.callers) (sym r.4) r.5))
-        h.rests h.outside h.depth h.inner h.unhandled
+        h.rests h.outside h.depth h.inner
     met_main (main.Call package_ procedure) items is h = calls.met_main_call this s package_ procedure items is h
 
     -- ---- all
@@ -150,25 +152,27 @@ module _ (this : Scene) where
     met_statement : (st : StmtTree) (items : List Item) → w.work ≡ Goes (Does st ∷ items) → (h : IsAtItems (Does st ∷ items)) → Meet s
     met_statement (Null place) items is h = scene.met_null this s place items is h
     met_statement (Assignment name e) items is h = turn.met_assignment this s name e items is h
-    met_statement (tree.Call name) items is h = met_called name items is h (callee_by program None name.first name.selectors) refl h.follows.4
+    met_statement (tree.Call name) items is h = met_called name items is h (callee_by program None name.first name.selectors) refl h.follows.4.0
     met_statement (Exit place None) items is h = scene.met_exit this s place items is h
     met_statement (Exit place (Some e)) items is h = turn.met_exit_when this s place e items is h
     met_statement (Return place None) items is h = scene.met_return this s place items is h
+    met_statement (Raise place name) items is h = raising.met_raise this s place name items is h
     met_statement (If place e body elsifs others) items is h = turn.met_if this s place e body elsifs others items is h
     met_statement (Case place e all) items is h = choose.met_case this s place e all items is h
     met_statement (Loop place Forever body) items is h = turn.met_forever this s place body items is h
     met_statement (Loop place (While e) body) items is h = turn.met_while this s place e body items is h
     met_statement (Loop place (For parameter reversed range) body) items is h = count.met_for this s place parameter reversed range body items is h
-    met_statement (Block place ds body NoHandlers) items is h = scene.met_block this s place ds body items is h
+    met_statement (Block place ds body hs) items is h = sequences.met_block this s place ds body hs items is h
     met_statement other items is h = absurd h.follows.4
 
     met_going : (all : List Item) → w.work ≡ Goes all → IsAtItems all → Meet s
     met_going [] is h = scene.met_end this s is h
     met_going (Declares (LocalObject d) ∷ items) is h = turn.met_declares this s d items is h
-    met_going (Sequence body hs ∷ items) is h = scene.met_sequence this s body hs items is h
+    met_going (Sequence body hs ∷ items) is h = sequences.met_sequence this s body hs items is h
     met_going (Does st ∷ items) is h = met_statement st items is h
     met_going (DoesMain st ∷ items) is h = met_main st items is h
-    met_going (Handles hs ∷ items) is h = scene.met_handles this s hs items is h
+    met_going (Handles hs ∷ items) is h = sequences.met_handles this s hs items is h
+    met_going (EndsHandler x ∷ items) is h = sequences.met_ends_handler this s x items is h
     met_going (Repeats body ∷ items) is h = turn.met_repeats this s body items is h
     met_going (RepeatsWhile e body ∷ items) is h = turn.met_repeats_while this s e body items is h
     met_going (DeclaresParameter p ∷ items) is h = turn.met_parameter this s p items is h
@@ -178,10 +182,18 @@ module _ (this : Scene) where
     met_going (Declares (LocalProtected d) ∷ items) is h = absurd h.follows.6
     met_going (other ∷ items) is h = absurd h.follows
 
-  pub met_by : (s : TaskState) → CodeStands i program g numbers k w s → Meet s
-  met_by s (Going items is h) = met_going s items is h
-  met_by s (Copying vs xs items is h) = copy.met_copies this s vs xs items is h
-  met_by s (Raised x items g' gs is throws inner unhandled) = scene.met_raised this s x items g' gs is throws inner unhandled
+  -- the instruction that keeps the exception, and then the step
+  met_catching : (s : TaskState) (items : List Item) → w.work ≡ Goes items → IsCatching i program g numbers items w.own w.callers s → scene.MetFrom this s
+  met_catching s items is h =
+      let inside = h.inside in
+      let kept : TaskState = record { frame = record s.frame { place = h.place; locals = h.locals; stack = [] }; callers = s.callers; raising = None } in
+      met_going kept items is h.going s (Keeping (h.acts schedule k t m) refl refl refl (omega (arith, inside.0, inside.1)))
+
+  pub met_by : (s : TaskState) → CodeStands i program g numbers k w s → scene.MetFrom this s
+  met_by s (Going items is h) = met_going s items is h s (AtOnce refl)
+  met_by s (Copying vs xs items is h) = copy.met_copies this s vs xs items is h s (AtOnce refl)
+  met_by s (Catching items is h) = met_catching s items is h
+  met_by s (Raised x items g' gs is throws inner caught) = raising.met_raised this s x items g' gs is throws inner caught
   met_by s (Ended o h) = let e = calm.runs.on in absurd cc
 
 pub steps_are_met : QuietStays → StepsAreSound → StoresAreAlike → StepsAreMet

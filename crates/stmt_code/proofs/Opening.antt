@@ -27,12 +27,14 @@ use Rattle.expr_code.specs.declared.code.Code.{Code}
 use Rattle.expr_code.specs.declared.visible.Visible.{Visible}
 use Rattle.expr_code.proofs.Flowing.{kept_one, kept_then, widened}
 use Rattle.expr_code.proofs.Growing.{added_extends, added_here, extends_trans, get_last, patched_extends, patched_here, patched_other, patched_there}
+use Rattle.stmt_code.specs.Handling.{unhandled}
 use Rattle.stmt_code.specs.Bounds.{elsifs_bound, stmt_bound, stmts_bound}
 use Rattle.stmt_code.specs.Emitting.{AddsParts, AreLegal, AreLegalElsifs, AreParts, Emits, EmitsOpen, EmitsStatement, EmitsStatements, IsLegal, Meant, MeantTo, Serves, in_front}
 use Rattle.stmt_code.specs.Resting.{Framed}
 use Rattle.stmt_code.specs.Statements.{AreStatements, IsOtherwise, IsStatement, Numbers, Ways}
 use Rattle.stmt_code.specs.declared.draft.Draft.{Draft}
 use Rattle.stmt_code.proofs.Adding.{IsBeside, emits_as, jump_kept, labels_before, labels_beside, labels_then, mapped_next, most_beside, same_place, take_all, taken_beside}
+use Rattle.stmt_code.proofs.Handling.{goes_nowhere}
 
 -- ---- lists
 
@@ -302,12 +304,13 @@ module _ (v : Visible) (w : Ways) where
             omega (arith, four, up_is i end up j),
             subst (λ x. Computes i (library_of g) (Sees g x) (here start.code) (here tested) e) (sym names) (first.computes i (in_tested i end up j) g),
             subst (λ m. At i (here tested) (op.JumpIfZero m)) next (1, at_test i end up j),
-            subst (λ m. AreStatements i program g numbers f w m (here valued.code) body) two
+            subst (λ m. AreStatements i program g numbers f w unhandled m (here valued.code) body) two
                 (second.stands i (in_valued i end up j)
                 (labels_before i valued.labels new.labels (labels_beside valued new still) l) program g numbers f names
                 (subst (Serves program g numbers f) (sym (taken_beside start jumped same)) serves) (let m = most_beside valued new still in omega (arith, m, room))),
             (0, at_close i end up j),
-            subst (λ m. IsOtherwise i program g numbers f w m end rest (λ x y. AreStatements i program g numbers f w x y others)) (end_is ∙ four) code,
+            subst (λ m. IsOtherwise i program g numbers f w unhandled m end rest (λ x y. AreStatements i program g numbers f w unhandled x y others)) (end_is ∙ four) code,
+            goes_nowhere i l.rows (here start.code) (here tested),
           );
       flows = λ i s low high end down up over j l suits deep wide shallow ends next ways.
           let to : n ≡ here new.code = sym end_is in
@@ -376,7 +379,7 @@ module _ (v : Visible) (w : Ways) where
         (open_then (AreParts w one) (AreParts w two) (AreParts w (one ++ two)) 0 a b c (elsifs_bound v.scope (elsifs_of one)) (elsifs_bound v.scope (elsifs_of two))
         p.waiting q.waiting
         (λ i program g numbers f end from m to up over within x y rest others code.
-        subst (λ t. IsOtherwise i program g numbers f w from end t (λ x y. AreStatements i program g numbers f w x y others)) (sym (front one two rest))
+        subst (λ t. IsOtherwise i program g numbers f w unhandled from end t (λ x y. AreStatements i program g numbers f w unhandled x y others)) (sym (front one two rest))
         (x (in_front two rest) others (y rest others code))) p.emits q.emits);
   }
 
@@ -422,15 +425,15 @@ module _ (v : Visible) (w : Ways) where
         omega (arith, inside.1, o.extends.longer)
 
     abbrev Whole : MeantTo
-    Whole i program g numbers f end from to = to ≡ end → IsStatement i program g numbers f w from end (statements.If place e body (elsif_trees elsifs) others)
+    Whole i program g numbers f end from to = to ≡ end → IsStatement i program g numbers f w unhandled from end (statements.If place e body (elsif_trees elsifs) others)
 
     ended : EmitsOpen Whole v w 0 start (elsifs_bound v.scope (elsifs_of parts) + stmts_bound v.scope others) (both.waiting ++ []) c
-    ended = open_then (AreParts w parts) (λ i program g numbers f end from to. AreStatements i program g numbers f w from to others) Whole 0 start parted c
+    ended = open_then (AreParts w parts) (λ i program g numbers f end from to. AreStatements i program g numbers f w unhandled from to others) Whole 0 start parted c
         (elsifs_bound v.scope (elsifs_of parts)) (stmts_bound v.scope others) both.waiting []
         (λ i program g numbers f end from mid to up over within x y last.
-        subst (λ t. IsOtherwise i program g numbers f w from end t (λ x y. AreStatements i program g numbers f w x y others)) (none_front parts)
-        (x NoElsifs others (subst (λ m. AreStatements i program g numbers f w mid m others) last y)))
-        both.emits (opened (λ i program g numbers f from to. AreStatements i program g numbers f w from to others) parted c (stmts_bound v.scope others) o)
+        subst (λ t. IsOtherwise i program g numbers f w unhandled from end t (λ x y. AreStatements i program g numbers f w unhandled x y others)) (none_front parts)
+        (x NoElsifs others (subst (λ m. AreStatements i program g numbers f w unhandled mid m others) last y)))
+        both.emits (opened (λ i program g numbers f from to. AreStatements i program g numbers f w unhandled from to others) parted c (stmts_bound v.scope others) o)
 
     waiting_is : both.waiting ++ [] ≡ places
     waiting_is = append_none both.waiting ∙ sym both.after_is ∙ sym same
@@ -438,11 +441,11 @@ module _ (v : Visible) (w : Ways) where
     pub if_emits : (n : ℕ) → n ≡ here c.code → Rejoins c.code places n d.code → IsBeside c d
         → EmitsStatement v w start (statements.If place e body (elsif_trees elsifs) others) d
     if_emits n n_is r still =
-        emits_as v w (λ i program g numbers f from to. IsStatement i program g numbers f w from to (statements.If place e body (elsif_trees elsifs) others))
-        (λ i program g numbers f from to. IsStatement i program g numbers f w from to (statements.If place e body (elsif_trees elsifs) others)) start d
+        emits_as v w (λ i program g numbers f from to. IsStatement i program g numbers f w unhandled from to (statements.If place e body (elsif_trees elsifs) others))
+        (λ i program g numbers f from to. IsStatement i program g numbers f w unhandled from to (statements.If place e body (elsif_trees elsifs) others)) start d
         (elsifs_bound v.scope (elsifs_of parts) + stmts_bound v.scope others) (stmt_bound v.scope (statements.If place e body (elsif_trees elsifs) others))
         (λ i program g numbers f from to h. h) (omega arith)
-        (joined Whole (λ i program g numbers f from to. IsStatement i program g numbers f w from to (statements.If place e body (elsif_trees elsifs) others)) start c d
+        (joined Whole (λ i program g numbers f from to. IsStatement i program g numbers f w unhandled from to (statements.If place e body (elsif_trees elsifs) others)) start c d
         (elsifs_bound v.scope (elsifs_of parts) + stmts_bound v.scope others) places (λ i program g numbers f from to h. h refl)
         (subst (λ l. EmitsOpen Whole v w 0 start (elsifs_bound v.scope (elsifs_of parts) + stmts_bound v.scope others) l c) waiting_is ended)
         (subst (λ m. Rejoins c.code places m d.code) n_is r) still)

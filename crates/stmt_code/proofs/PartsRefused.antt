@@ -403,13 +403,13 @@ module _ (v : Visible) (old new : Draft) (why : Refusal) (ds : List DeclarationT
 
   pub run_body_refused : (later : Visible) (out : ℕ) (mid : Draft) → later ≡ locals_visible v old.words.taken ds → later.scope ≡ locals_scope v.scope ds
       → mid.words.taken ≡ old.words.taken + locals_words v.scope ds → here mid.code ≤ here old.code + (declarations_bound v.scope ds + 2)
-      → RefusesStatements later (record { exit = None; return = Some out }) mid body new why → RefusesRun v old ds body new why
+      → RefusesStatements later (record { exit = None; return = Some out; handled = None }) mid body new why → RefusesRun v old ds body new why
   run_body_refused later out mid seen scope same up r =
       part_refused (here mid.code + stmts_bound later.scope body) (here old.code + run_bound v.scope ds body)
-      (stmts_needs (around later (record { exit = None; return = Some out }) mid) body) needed new.labels why
+      (stmts_needs (around later (record { exit = None; return = Some out; handled = None }) mid) body) needed new.labels why
       (let inner = ap (λ s. stmts_bound s body) scope in omega (arith, up, inner))
       (subst (λ a. Within (stmts_needs a body) needed) (sym inside)
       (in_right (locals_needs v old.words.taken ds) (stmts_needs (behind_locals own ds) body))) r
     where
-      inside : around later (record { exit = None; return = Some out }) mid ≡ behind_locals own ds
+      inside : around later (record { exit = None; return = Some out; handled = None }) mid ≡ behind_locals own ds
       inside = λ j. record { visible = seen j; taken = same j; looped = false; returns = true }

@@ -35,6 +35,7 @@ use Rattle.expr_code.specs.Seeing.{library_of, Package, Sees}
 use Rattle.expr_code.specs.Views.{At, in_frame, placed, view_of}
 use Rattle.expr_code.specs.declared.visible.Slot.{Slot}
 use Rattle.expr_code.proofs.Coming.{acts, after_first, more, then_comes, steps}
+use Rattle.stmt_code.specs.Handling.{GoesBy, unhandled}
 use Rattle.stmt_code.specs.Counting.{Bounds, GoesOn, IsCounted, IsNext, IsRange, bounds, in_turn, number_bounds, turn_first, turn_last, with_last, with_parameter}
 use Rattle.stmt_code.specs.Layout.{IsLaidOut}
 use Rattle.stmt_code.specs.Resting.{Framed, Held, Knows, RestsWith}
@@ -42,6 +43,7 @@ use Rattle.stmt_code.specs.Statements.{AreStatements, IsStatement, Numbers, Ways
 use Rattle.stmt_code.specs.Turns.{next_operation}
 use Rattle.stmt_code.proofs.Parameters.{HoldsRange, both_swapped, inside, next_rests, null_rests, parameter_fits, parameter_shows, turn_rests, with_both, with_word, word_long}
 use Rattle.stmt_code.proofs.Walking.{Walks, behind, compares, jumps_if, loads_local, orders, puts, stores_local, then_step}
+use Rattle.stmt_code.proofs.Handling.{goes_nowhere}
 
 -- ---- the bounds
 
@@ -366,16 +368,20 @@ module _ (quiet : QuietStays) (kept : AgreementIsKept) (sized : ValuesHaveWords)
       → At i from (op.Jump (from + 2)) → At i (from + 1) (op.Jump to)
       → Computes i (library_of g) (Sees g v.names) (from + 2) middle range.first → Computes i (library_of g) (Sees g v.names) middle mid range.last
       → Begins i counter limit mid to reversed
-      → AreStatements i program g numbers inner (within_loop (from + 1) w) (behind 6 mid) back body
+      → AreStatements i program g numbers inner (within_loop (from + 1) w) unhandled (behind 6 mid) back body
       → Advances i counter limit back to reversed → At i (behind 8 back) (op.Jump (behind 6 mid))
-      → IsStatement i program g numbers v w from to (Loop place (For parameter reversed range) body)
+      → i.rows ≡ []
+      → IsStatement i program g numbers v w unhandled from to (Loop place (For parameter reversed range) body)
   stands_counted program numbers w parameter same place reversed range body from middle mid back to low high over end skip out first last begin statements code
-      jump =
+      jump rows =
       subst
       (λ q. (c : IsCounted i g v from to q reversed)
       × IsRange i g v c.inner c.counter c.limit (from + 2) c.start to q reversed range
-      × AreStatements i program g numbers c.inner (within_loop (from + 1) w) c.start c.back body) (sym same) (
+      × AreStatements i program g numbers c.inner (within_loop (from + 1) w) unhandled c.start c.back body × GoesBy i unhandled (from + 2) c.start
+      × GoesBy i unhandled c.back to) (sym same) (
         is_counted reversed from (behind 6 mid) back to (omega (arith, low, high)) over end skip out code jump,
         is_range range reversed (from + 2) middle mid to low high first last begin,
         statements,
+        goes_nowhere i rows (from + 2) (behind 6 mid),
+        goes_nowhere i rows back to,
       )

@@ -18,6 +18,7 @@ use Rattle.expr_code.specs.Flows.{AreKept}
 use Rattle.expr_code.specs.declared.visible.Visible.{Visible}
 use Rattle.expr_code.proofs.Flowing.{kept_then}
 use Rattle.expr_code.proofs.Growing.{added_extends, added_here, extends_trans, patched_extends, patched_here, patched_holds, patched_other}
+use Rattle.stmt_code.specs.Handling.{unhandled}
 use Rattle.stmt_code.specs.Emitting.{Allows, AreLegal, BeginsLoop, EmitsStatement, EmitsStatements, EndsLoop, HasLabels, IsLegal, IsReached, Serves}
 use Rattle.stmt_code.specs.Statements.{AreStatements, Ways, within_loop}
 use Rattle.stmt_code.specs.declared.draft.Draft.{Draft}
@@ -111,9 +112,9 @@ module _ (v : Visible) (w : Ways) where
         omega (arith, one, two, p.extends.longer),
         (0, at_skip i h),
         subst (λ n. At i n (op.Jump (here d.code))) out_is (subst (λ m. At i out (op.Jump m)) (sym four) (0, at_out i h)),
-        subst (λ n. AreStatements i program g numbers f (within_loop n w) (here a.code + 2) (here c.code) body)
+        subst (λ n. AreStatements i program g numbers f (within_loop n w) unhandled (here a.code + 2) (here c.code) body)
             out_is
-            (subst (λ n. AreStatements i program g numbers f (within_loop out w) n (here c.code) body) head_is
+            (subst (λ n. AreStatements i program g numbers f (within_loop out w) unhandled n (here c.code) body) head_is
             (p.stands i (in_body i h) (inner_labels i l) program g numbers f names (subst (Serves program g numbers f) (sym (taken_beside a b same)) serves)
             (let m = most_beside c d still in omega (arith, m, room)))),
         (0, subst (λ n. slice_get i.instructions (here c.code) ≡ Some (record { depth = 0; operation = op.Jump n })) back_is (at_back i h)),

@@ -12,16 +12,18 @@ use Rattle.expr_code.specs.Flows.{AreKept}
 use Rattle.expr_code.specs.declared.visible.Visible.{Visible}
 use Rattle.expr_code.proofs.Flowing.{kept_then}
 use Rattle.expr_code.proofs.Growing.{added_extends, added_here, extends_trans, holds_before, patched_extends, patched_here, patched_holds, patched_other}
+use Rattle.stmt_code.specs.Handling.{unhandled}
 use Rattle.stmt_code.specs.Bounds.{stmts_words}
 use Rattle.stmt_code.specs.Emitting.{Allows, BeginsLoop, EmitsDeclarations, EmitsRun, EmitsStatements, HasLabels, IsReached, Serves, seeing}
 use Rattle.stmt_code.specs.Statements.{AreStatements, Ways}
 use Rattle.stmt_code.specs.declared.draft.Draft.{Draft}
 use Rattle.stmt_code.proofs.Adding.{IsBeside, depth_there, jump_kept, labels_before, labels_beside, labels_then, most_beside, taken_beside}
 use Rattle.stmt_code.proofs.Opening.{added_is, patched_is, some_same}
+use Rattle.stmt_code.proofs.Handling.{goes_nowhere}
 
 -- a return leads to the way out, and there is no loop to leave
 abbrev pub returning : ℕ → Ways
-returning out = record { exit = None; return = Some out }
+returning out = record { exit = None; return = Some out; handled = None }
 
 module _ (v later : Visible) (a b c d e : Draft) (ds : List DeclarationTree) (body : StmtTrees) (out end : ℕ) (p : EmitsDeclarations v a ds later b)
     (begins : BeginsLoop b.code c.code) (same : IsBeside b c) (out_is : out ≡ here b.code + 1) (q : EmitsStatements later (returning out) c body d)
@@ -109,12 +111,13 @@ module _ (v later : Visible) (a b c d e : Draft) (ds : List DeclarationTree) (bo
           up = p.extends.longer;
           over = omega (arith, one, two, three, q.extends.longer);
           declared = front.0;
+          uncovered = goes_nowhere i l.rows (here a.code) (here b.code);
           skip = (0, at_skip i h);
           way = subst (λ n. At i n (op.Jump (here e.code))) out_is (subst (λ m. At i out (op.Jump m)) end_here (0, at_way i h));
           statements =
-              subst (λ n. AreStatements i program g numbers (seeing f later) (returning n) (here b.code + 2) (here e.code) body) out_is
-              (subst (λ n. AreStatements i program g numbers (seeing f later) (returning out) n (here e.code) body) head_is
-              (subst (λ n. AreStatements i program g numbers (seeing f later) (returning out) (here c.code) n body) (sym three)
+              subst (λ n. AreStatements i program g numbers (seeing f later) (returning n) unhandled (here b.code + 2) (here e.code) body) out_is
+              (subst (λ n. AreStatements i program g numbers (seeing f later) (returning out) unhandled n (here e.code) body) head_is
+              (subst (λ n. AreStatements i program g numbers (seeing f later) (returning out) unhandled (here c.code) n body) (sym three)
               (q.stands i (in_body i h) (labels_of i l) program g numbers (seeing f later) refl
               (subst (Serves program g numbers (seeing f later)) (sym (taken_beside b c same)) front.1) (omega (arith, most_is, room)))));
         };

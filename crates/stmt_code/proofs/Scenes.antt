@@ -3,36 +3,35 @@ use Rattle.std.proofs.Common.{◌≡◌, ℕ, suc, ◌+◌, ◌-◌, ◌<◌, �
 use Rattle.std.specs.Prelude.{◌++◌}
 use Rattle.base.specs.declared.schedule.ScheduleLine.{ScheduleLine}
 use Rattle.base.specs.declared.limits.TheConstants.{FRAMES}
-use Rattle.kernel.specs.State.{Kernel, Outcome}
-use Rattle.kernel.specs.State as kernels
-use Rattle.kernel.specs.Effects.{Quiet, Finishes, Dies, after}
+use Rattle.kernel.specs.State.{Kernel}
+use Rattle.kernel.specs.Effects.{Quiet, Finishes, after}
 use Rattle.kernel.specs.Worlds.{Solo}
 use Rattle.kernel.specs.Calm.{Calm}
 use Rattle.kernel.specs.Counting.{Spends, Done}
 use Rattle.kernel.specs.Laws.{QuietStays}
 use Rattle.kernel.specs.RunLaws.{spends_trans, spends_more}
-use Rattle.handlers.specs.Innermost.{handler_of}
 use Rattle.image.specs.Sections.{Sections}
-use Rattle.image.specs.Frames.{Words, Frame, TaskState, object_words, own_object}
+use Rattle.image.specs.Frames.{Inner, Words, Frame, TaskState, object_words, own_object}
 use Rattle.image.specs.Steps as steps
-use Rattle.image.specs.Steps.{act, behaviour, caught, does_operation, removed, unwind}
+use Rattle.image.specs.Steps.{act, behaviour, does_operation}
 use Rattle.image.specs.declared.instruction.Operation.{Operation}
 use Rattle.image.specs.declared.instruction.Operation.TheVariants as op
 use Rattle.image.specs.declared.instruction.Region.TheVariants as regions
-use Rattle.ada_tree.specs.StatementTree.{DeclarationTree, Null, Exit, Return, Block, StmtTrees, HandlerTrees, NoHandlers}
+use Rattle.ada_tree.specs.StatementTree.{Null, Exit, Return}
 use Rattle.types.specs.Evaluations.{Val, Gives, Raises, Meaningless}
 use Rattle.types.specs.Evaluating.{Calls, call}
 use Rattle.types.specs.Places.{Place}
 use Rattle.meaning.specs.Meeting.{Takes, Last, OwnStep, Over, Within, taken, spent, Met}
-use Rattle.meaning.specs.MeetingLaws.{spends_takes, still_by, moves_by, walks_by}
+use Rattle.meaning.specs.MeetingLaws.{spends_takes, still_by, moves_by, walks_by, quiet_takes}
 use Rattle.meaning.specs.Lifting.{taken_unseen}
 use Rattle.meaning.specs.Programs.{Program}
 use Rattle.meaning.specs.SameMeaning.{frames_of}
 use Rattle.meaning.specs.SourceSteps as source
 use Rattle.meaning.specs.SourceSteps.{here_of, place_of, program_behaviour, with_value, work_step}
-use Rattle.meaning.specs.Works.{Item, Declares, DeclaresParameter, Sequence, Does, DoesMain, Repeats, RepeatsWhile, RepeatsFor, Handles, EndsHandler, EndsCall, EndsAction, EndsServed, Queued, Goes, Raising, Activation, Store, Target, TaskWork, ends_of_calls, frames_left}
+use Rattle.meaning.specs.Works.{Item, Declares, Sequence, Does, Handles, EndsHandler, Goes, Activation, Store, TaskWork, ends_of_calls, frames_left}
 use Rattle.sound_steps.specs.Holding.{IsSoundStep, IsSoundStore, IsSoundTask, waits_after}
 use Rattle.sound_steps.specs.Laws.{Premises, StepsAreSound, StoresAreAlike}
+use Rattle.sound_steps.specs.Objects.{IsException}
 use Rattle.sound_steps.specs.Opened.{opened_in}
 use Rattle.expr_code.specs.Views.{At, in_frame, placed, view_of}
 use Rattle.expr_code.specs.Coming.{Comes, Throws, most_steps, size_of}
@@ -41,10 +40,12 @@ use Rattle.expr_code.specs.Seeing.{Package, Sees, SeesPackage, library_of}
 use Rattle.expr_code.proofs.Coming.{acts, after_first}
 use Rattle.expr_code.proofs.Coming as coming
 use Rattle.stmt_code.specs.Resting.{Framed, Held, IsSmall, Knows, Narrows, Rests, RestsWith, Shows, StandsFor}
-use Rattle.stmt_code.specs.Statements.{Numbers}
-use Rattle.stmt_code.specs.Standing.{AreInner, Around, CodeStands, Follows, Going, Here, Inside, IsGoing, IsSound, Jumps, Leads, Over as Ended, with_visible, Raised, Shares, StaysAlone, There, Unhandled, WorkStands, items_size, relation, work_size}
+use Rattle.stmt_code.specs.Handling.{GoesBy}
+use Rattle.stmt_code.specs.Statements.{IsSequence, Numbers}
+use Rattle.stmt_code.specs.Standing.{AreInner, Around, Catches, CodeStands, Follows, Going, Here, Inside, IsGoing, IsOutermost, IsSound, Jumps, Leads, with_visible, Raised, Reaches, Shares, StaysAlone, There, WorkStands, in_sequence, items_size, relation, work_size}
 use Rattle.stmt_code.specs.Laws.{HasCode}
-use Rattle.stmt_code.proofs.Going.{before_ends, before_follows, before_unhandled, declares_end, declares_follow, declares_unhandled, Drops, earlier, jumps_up, narrows_same, shows_then, way_back, way_out}
+use Rattle.stmt_code.proofs.Going.{before_ends, before_follows, declares_end, declares_follow, Drops, drops_handler, earlier, jumps_up, narrows_same, shows_then, way_back, way_out}
+use Rattle.stmt_code.proofs.Catching.{catches}
 use Rattle.stmt_code.proofs.Sizes.{before_size, declares_size, item_counts}
 
 -- what is known where a task takes a step: of the image, of the program, and of both sides
@@ -126,9 +127,21 @@ module _ (this : Scene) where
   abbrev pub now : source.Here
   now = here_of program schedule k t (record { memory = store; task = w })
 
-  abbrev pub Meet : TaskState → Type 0
-  Meet s = Met (program_behaviour program schedule) (behaviour i schedule) (relation i program g numbers) frames_of (most_steps i) k t
+  -- the next step of the task is met from this state of the frames
+  abbrev pub MetFrom : TaskState → Type 0
+  MetFrom s = Met (program_behaviour program schedule) (behaviour i schedule) (relation i program g numbers) frames_of (most_steps i) k t
       (record { memory = store; task = w }) (record { memory = m; task = s })
+
+  -- at once, or by one instruction of the same subprogram, with which the code of a handler begins
+  pub data ComesTo (b s : TaskState) : Type 0 where
+    AtOnce : b ≡ s → ComesTo b s
+    Keeping : act i schedule k t (record { memory = m; task = b }) ≡ steps.does Quiet m s.frame s.callers None None → s.raising ≡ None
+        → b.callers ≡ s.callers → b.frame.subprogram ≡ s.frame.subprogram → 0 < size_of i s.frame.subprogram
+        → ComesTo b s
+
+  -- ... from each state that comes to this one
+  abbrev pub Meet : TaskState → Type 0
+  Meet s = (b : TaskState) → ComesTo b s → MetFrom b
 
   abbrev pub Setting : Type 0
   Setting = Around i program g numbers
@@ -161,6 +174,10 @@ module _ (this : Scene) where
     task_after none m' s' = alike program None x.solo.memory m' x.solo.task store_after s'
         (subst (λ q. IsSoundTask program x.solo.memory q x.solo.task) none step_is.task)
 
+  -- what is raised is an exception
+  pub raises_known : (x : ℕ) (items : List Item) → work_step now w.work ≡ source.raises now x items → IsException program x
+  raises_known x items is = (task_after (source.raises now x items) is refl store shares.sound).work.0
+
   -- no step of a sound task is without meaning
   pub has_meaning : (items : List Item) → work_step now w.work ≡ source.means_nothing now items → ⊥
   has_meaning items is = let e = (step_is (source.means_nothing now items) is).effect.3 in omega (arith, e)
@@ -182,6 +199,16 @@ module _ (this : Scene) where
       shares.stands.shared (place_of now items) (view_of i schedule k m f fs)
       (record { scope = refl; functions = refl; variables = refl; components = refl }) refl refl refl refl (is_small f small fs)
       (shares.sound.functions (place_of now items))
+
+  -- a frame has the words of its own that it ought to have
+  has_room : (v : Framed) (a : Activation) (locals : List ℤ) → Rests g v a locals → v.room ≤ length locals
+  has_room v a locals rests =
+      let f : Frame = record { subprogram = 0; place = 0; locals = locals; stack = []; role = Inner } in
+      let p : Place = record (place_of now []) { locals = a.locals; within = a.within } in
+      let view = view_of i schedule k m f [] in
+      (rests.sees p view
+      (shares.stands.shared p view (record { scope = refl; functions = refl; variables = refl; components = refl }) refl refl refl refl
+      (is_small f rests.small []) (shares.sound.functions p)) refl refl refl).room
 
   pub sees_here : {held : List Held} (v : Framed) (items : List Item) (f : Frame) (fs : List Frame) → RestsWith g v held w.own f.locals
       → Knows g v (place_of now items) (view_of i schedule k m f fs)
@@ -246,86 +273,134 @@ module _ (this : Scene) where
   inner_placed f [] place stack h = tt
   inner_placed f (c ∷ fs) place stack h = h
 
+  -- no more steps than a frame may take, and fewer where its subprogram has code
+  abbrev pub IsLow : TaskState → ℕ → Type 0
+  IsLow s n = (n ≤ most_steps i s) × (0 < size_of i s.frame.subprogram → n < most_steps i s)
+
+  -- as many as it may take: the first of them may be one that leads there
+  abbrev Led : TaskState → Solo Words TaskState → Type 0
+  Led b c = (n : ℕ) × Takes (behaviour i schedule) t frames_of (most_steps i) (frames_of b) n k (record { memory = m; task = b }) k c × (n ≤ most_steps i b)
+
+  led : (b s : TaskState) (n : ℕ) (c : Solo Words TaskState) → ComesTo b s
+      → Takes (behaviour i schedule) t frames_of (most_steps i) (frames_of s) n k (record { memory = m; task = s }) k c → IsLow s n → Led b c
+  led b s n c (AtOnce e) all low = subst (λ q. Led q c) (sym e) (n, all, low.0)
+  led b s n c (Keeping there going callers subprogram some) all low =
+      let frames : frames_of s ≡ frames_of b = ap (λ l. suc (length l)) (sym callers) in
+      let most : most_steps i s ≡ most_steps i b = ap (λ p. suc (size_of i p + size_of i p)) (sym subprogram) in
+      let here : (act i schedule k t (record { memory = m; task = b })).solo ≡ record { memory = m; task = s } =
+      ap (λ y. y.solo) there ∙ (λ j. record { memory = m; task = record { frame = s.frame; callers = s.callers; raising = (sym going) j } }) in (
+        suc n,
+        quiet_takes (behaviour i schedule) t frames_of (most_steps i) quiet k calm (record { memory = m; task = b }) (record { memory = m; task = s })
+            (ap (λ y. y.effect) there) here refl
+            (subst (λ d. Takes (behaviour i schedule) t frames_of (most_steps i) d n k (record { memory = m; task = s }) k c) frames all),
+        (let less = low.1 some in omega (arith, less, most)),
+      )
+
   -- a quiet step, met by steps up to one that is still to be taken, if there are any
+  pub quiet_from : (s : TaskState) (n : ℕ) (c : TaskState) (x : source.Stepped) → work_step now w.work ≡ x → x.effect ≡ Quiet → x.solo.memory ≡ store
+      → Takes (behaviour i schedule) t frames_of (most_steps i) (frames_of s) n k (record { memory = m; task = s }) k (record { memory = m; task = c })
+      → IsLow s n
+      → ((s' : TaskState) → s' ≡ c → WorkStands i program g numbers k x.solo.task s')
+      → work_size x.solo.task.work < work_size w.work
+      → Meet s
+  quiet_from s n c x is e same all low stands less = λ b from.
+      let sh : Shares i program g numbers x.solo.memory m = record
+      { sound = store_after x is; stands = subst (λ q. StandsFor program g q m) (sym same) shares.stands } in
+      let l = led b s n (record { memory = m; task = c }) from all low in
+      ⊎_elim
+      (λ stays. still_by (program_behaviour program schedule) (behaviour i schedule) (relation i program g numbers) frames_of (most_steps i) k t
+      (record { memory = store; task = w }) (record { memory = m; task = b })
+      x is e sh (stands b (ap (λ q. q.task) stays)) less)
+      (λ j. walks_by (program_behaviour program schedule) (behaviour i schedule) (relation i program g numbers) frames_of (most_steps i) k t
+      (record { memory = store; task = w }) (record { memory = m; task = b })
+      j.0 l.0 (record { memory = m; task = c }) x is l.1 j.1 l.2 e sh (stands c refl))
+      (begun l.1)
+
+  -- a step that is met by the last of some steps
+  pub moves_from : (s : TaskState) (n : ℕ) (c : Solo Words TaskState) (x : source.Stepped) (y : steps.Stepped) → work_step now w.work ≡ x
+      → act i schedule k t c ≡ y
+      → Takes (behaviour i schedule) t frames_of (most_steps i) (frames_of s) n k (record { memory = m; task = s }) k c
+      → IsLow s n
+      → Meets x y
+      → Meet s
+  moves_from s n c x y is there all low meets = λ b from.
+      let l = led b s n c from all low in
+      moves_by (program_behaviour program schedule) (behaviour i schedule) (relation i program g numbers) frames_of (most_steps i) k t
+      (record { memory = store; task = w }) (record { memory = m; task = b })
+      l.0 c x y is there l.1 l.2 meets.effect
+      (record { sound = store_after x is; stands = meets.words })
+      (record { alone = meets.alone; stands = record { sound = task_after x is meets.waits; code = meets.code } })
+
   pub met_quiet_on : (base : List ℤ) (f : Frame) (fs : List Frame) (n : ℕ) (c : TaskState) (x : source.Stepped) → work_step now w.work ≡ x → x.effect ≡ Quiet
       → x.solo.memory ≡ store
       → (all : Takes (behaviour i schedule) t frames_of (most_steps i) (suc (length fs)) n k (in_frame m (placed f f.place base) fs) k
       (record { memory = m; task = c }))
-      → n ≤ most_steps i (in_frame m f fs).task
+      → n < most_steps i (in_frame m f fs).task
       → ((s : TaskState) → s ≡ c → WorkStands i program g numbers k x.solo.task s)
       → work_size x.solo.task.work < work_size w.work
       → Meet (in_frame m (placed f f.place base) fs).task
   met_quiet_on base f fs n c x is e same all low stands less =
-      let sh : Shares i program g numbers x.solo.memory m = record
-      { sound = store_after x is; stands = subst (λ q. StandsFor program g q m) (sym same) shares.stands } in
-      ⊎_elim
-      (λ stays. still_by (program_behaviour program schedule) (behaviour i schedule) (relation i program g numbers) frames_of (most_steps i) k t
-      (record { memory = store; task = w }) (in_frame m (placed f f.place base) fs)
-      x is e sh (stands (in_frame m (placed f f.place base) fs).task (ap (λ q. q.task) stays)) less)
-      (λ j. walks_by (program_behaviour program schedule) (behaviour i schedule) (relation i program g numbers) frames_of (most_steps i) k t
-      (record { memory = store; task = w }) (in_frame m (placed f f.place base) fs)
-      j.0 n (record { memory = m; task = c }) x is all j.1 low e sh (stands c refl))
-      (begun all)
+      quiet_from (in_frame m (placed f f.place base) fs).task n c x is e same all (omega (arith, low), λ some. low) stands less
+
+  -- wherever in this part of the code the value is raised, there is what takes it
+  abbrev pub Handled : {A : Type 0} → Frame → List Frame → Val A → List Item → (from to : ℕ) → Type 0
+  Handled f fs v items from to =
+      (x place : ℕ) (left : List ℤ) → IsException program x → v ≡ Raises x → from ≤ place → place < to → Catches i program g numbers x (placed f place left) fs w.own w.callers items
 
   -- a step of the source that evaluates: what raises is met, and what has no meaning is excluded
   pub met_value_on : {A : Type 0} (base start : List ℤ) (f : Frame) (fs : List Frame) (n from n' to : ℕ) (stack : A → List ℤ) (v : Val A) (items : List Item) (go : A → source.Stepped)
       → Spends (behaviour i schedule) t frames_of (most_steps i) (suc (length fs)) n k (in_frame m (placed f f.place base) fs) k
       (in_frame m (placed f from start) fs)
       → Comes i schedule k t m (placed f from start) fs n' to stack v
-      → n + n' ≤ size_of i f.subprogram + size_of i f.subprogram
+      → n + n' < size_of i f.subprogram + size_of i f.subprogram
       → work_step now w.work ≡ with_value now v items go
       → items_size items < work_size w.work
       → Removable f fs
-      → Unhandled items
+      → Handled f fs v items from to
       → ((x : A) → v ≡ Gives x → work_step now w.work ≡ go x
       → Spends (behaviour i schedule) t frames_of (most_steps i) (suc (length fs)) (n + n') k (in_frame m (placed f f.place base) fs) k
       (in_frame m (placed f to (stack x)) fs)
       → Meet (in_frame m (placed f f.place base) fs).task)
       → Meet (in_frame m (placed f f.place base) fs).task
-  met_value_on base start f fs n from n' to stack (Gives x) items go first comes low is less inner unhandled last =
+  met_value_on base start f fs n from n' to stack (Gives x) items go first comes low is less inner handled last =
       last x refl is (spends_trans (behaviour i schedule) t frames_of (most_steps i) n' k (in_frame m (placed f to (stack x)) fs) first comes)
-  met_value_on base start f fs n from n' to stack (Raises x) items go first comes low is less inner unhandled last =
+  met_value_on base start f fs n from n' to stack (Raises x) items go first comes low is less inner handled last =
       let place = comes.1 in
       let left = comes.2 in
       let f' = placed f place left in
       let raised = source.raises now x items in
       let all = spends_takes (behaviour i schedule) t frames_of (most_steps i) n' k (record { memory = m; task = comes.0 }) first comes.3 in
       let stands : (s : TaskState) → Throws i x s f' fs → WorkStands i program g numbers k raised.solo.task s =
-      λ s throws. record { sound = task_after raised is refl; code = Raised x items f' fs refl throws (inner_placed f fs place left inner) unhandled } in
+      λ s throws. record { sound = task_after raised is refl; code = Raised x items f' fs refl throws (inner_placed f fs place left inner) (handled x place left (raises_known x items is) refl comes.4 comes.5) } in
       met_quiet_on base f fs (n + n') comes.0 raised is refl refl all (omega (arith, low)) (λ s e. stands s (subst (λ q. Throws i x q f' fs) (sym e) comes.6)) less
-  met_value_on base start f fs n from n' to stack Meaningless items go first comes low is less inner unhandled last = absurd (has_meaning items is)
+  met_value_on base start f fs n from n' to stack Meaningless items go first comes low is less inner handled last = absurd (has_meaning items is)
 
   -- ... and is then met by the code's last instruction
   pub met_comes_on : {A : Type 0} (base start : List ℤ) (f : Frame) (fs : List Frame) (n from n' to : ℕ) (stack : A → List ℤ) (v : Val A) (items : List Item) (go : A → source.Stepped)
       → Spends (behaviour i schedule) t frames_of (most_steps i) (suc (length fs)) n k (in_frame m (placed f f.place base) fs) k
       (in_frame m (placed f from start) fs)
       → Comes i schedule k t m (placed f from start) fs n' to stack v
-      → n + n' ≤ size_of i f.subprogram + size_of i f.subprogram
+      → n + n' < size_of i f.subprogram + size_of i f.subprogram
       → work_step now w.work ≡ with_value now v items go
       → items_size items < work_size w.work
       → Removable f fs
-      → Unhandled items
+      → Handled f fs v items from to
       → ((x : A) → v ≡ Gives x → (y : steps.Stepped) × (act i schedule k t (in_frame m (placed f to (stack x)) fs) ≡ y) × Meets (go x) y)
       → Meet (in_frame m (placed f f.place base) fs).task
-  met_comes_on base start f fs n from n' to stack v items go first comes low is less inner unhandled last =
-      met_value_on base start f fs n from n' to stack v items go first comes low is less inner unhandled
+  met_comes_on base start f fs n from n' to stack v items go first comes low is less inner handled last =
+      met_value_on base start f fs n from n' to stack v items go first comes low is less inner handled
       (λ x ev there spends.
       let y = last x ev in
-      let meets = y.2 in
-      moves_by (program_behaviour program schedule) (behaviour i schedule) (relation i program g numbers) frames_of (most_steps i) k t
-      (record { memory = store; task = w }) (in_frame m (placed f f.place base) fs)
-      ((n + n') + 1) (in_frame m (placed f to (stack x)) fs) (go x) y.0 there y.1
+      moves_from (in_frame m (placed f f.place base) fs).task ((n + n') + 1) (in_frame m (placed f to (stack x)) fs) (go x) y.0 there y.1
       (spends_takes (behaviour i schedule) t frames_of (most_steps i) 1 k (in_frame m (placed f to (stack x)) fs) spends (Last refl))
-      (omega (arith, low)) meets.effect
-      (record { sound = store_after (go x) there; stands = meets.words })
-      (record { alone = meets.alone; stands = record { sound = task_after (go x) there meets.waits; code = meets.code } }))
+      (omega (arith, low), λ some. omega (arith, low)) y.2)
 
   -- ... from an empty operand stack
   pub met_quiet : (f : Frame) (fs : List Frame) (n : ℕ) (c : TaskState) (x : source.Stepped) → work_step now w.work ≡ x → x.effect ≡ Quiet
       → x.solo.memory ≡ store
       → (all : Takes (behaviour i schedule) t frames_of (most_steps i) (suc (length fs)) n k (in_frame m (placed f f.place []) fs) k
       (record { memory = m; task = c }))
-      → n ≤ most_steps i (in_frame m f fs).task
+      → n < most_steps i (in_frame m f fs).task
       → ((s : TaskState) → s ≡ c → WorkStands i program g numbers k x.solo.task s)
       → work_size x.solo.task.work < work_size w.work
       → Meet (in_frame m (placed f f.place []) fs).task
@@ -334,11 +409,11 @@ module _ (this : Scene) where
   pub met_value : {A : Type 0} (f : Frame) (fs : List Frame) (n from n' to : ℕ) (stack : A → List ℤ) (v : Val A) (items : List Item) (go : A → source.Stepped)
       → Reaching f fs n f.place from
       → Comes i schedule k t m (placed f from []) fs n' to stack v
-      → n + n' ≤ size_of i f.subprogram + size_of i f.subprogram
+      → n + n' < size_of i f.subprogram + size_of i f.subprogram
       → work_step now w.work ≡ with_value now v items go
       → items_size items < work_size w.work
       → Removable f fs
-      → Unhandled items
+      → Handled f fs v items from to
       → ((x : A) → v ≡ Gives x → work_step now w.work ≡ go x
       → Spends (behaviour i schedule) t frames_of (most_steps i) (suc (length fs)) (n + n') k (in_frame m (placed f f.place []) fs) k
       (in_frame m (placed f to (stack x)) fs)
@@ -349,11 +424,11 @@ module _ (this : Scene) where
   pub met_comes : {A : Type 0} (f : Frame) (fs : List Frame) (n from n' to : ℕ) (stack : A → List ℤ) (v : Val A) (items : List Item) (go : A → source.Stepped)
       → Reaching f fs n f.place from
       → Comes i schedule k t m (placed f from []) fs n' to stack v
-      → n + n' ≤ size_of i f.subprogram + size_of i f.subprogram
+      → n + n' < size_of i f.subprogram + size_of i f.subprogram
       → work_step now w.work ≡ with_value now v items go
       → items_size items < work_size w.work
       → Removable f fs
-      → Unhandled items
+      → Handled f fs v items from to
       → ((x : A) → v ≡ Gives x → (y : steps.Stepped) × (act i schedule k t (in_frame m (placed f to (stack x)) fs) ≡ y) × Meets (go x) y)
       → Meet (in_frame m (placed f f.place []) fs).task
   met_comes f fs n from n' to stack v items go = met_comes_on [] [] f fs n from n' to stack v items go
@@ -364,90 +439,9 @@ module _ (this : Scene) where
       → work_size x.solo.task.work < work_size w.work
       → Meet s
   met_still s x is e same stands less =
-      still_by (program_behaviour program schedule) (behaviour i schedule) (relation i program g numbers) frames_of (most_steps i) k t
-      (record { memory = store; task = w }) (record { memory = m; task = s })
-      x is e
-      (record { sound = store_after x is; stands = subst (λ q. StandsFor program g q m) (sym same) shares.stands })
-      (record { sound = task_after x is (ap waits_after e); code = stands })
+      quiet_from s 1 s x is e same (Last refl) (omega arith, λ some. omega (arith, some))
+      (λ s' there. record { sound = task_after x is (ap waits_after e); code = subst (λ q. CodeStands i program g numbers k x.solo.task q) (sym there) stands })
       less
-
-  -- ---- raising
-
-  pub unwound : (x : ℕ) (f : Frame) (fs : List Frame) → Removable f fs → (unwind i m x f fs).effect ≡ Dies x
-  unwound x f [] h = ap (λ rows. (caught i m x (handler_of rows f.place x) f [] (steps.does (Dies x) m (record f { stack = [] }) [] (Some x) None)).effect)
-      has.rows
-  unwound x f (c ∷ fs) h =
-      ap (λ rows. (caught i m x (handler_of rows f.place x) f (c ∷ fs) (removed i m x f.role c fs (unwind i m x c fs))).effect) has.rows
-      ∙ ap (λ r. (removed i m x r c fs (unwind i m x c fs)).effect) h.0
-      ∙ unwound x c fs h.1
-
-  pub unwound_words : (x : ℕ) (f : Frame) (fs : List Frame) → Removable f fs → (unwind i m x f fs).solo.memory ≡ m
-  unwound_words x f [] h = ap (λ rows.
-      (caught i m x (handler_of rows f.place x) f [] (steps.does (Dies x) m (record f { stack = [] }) [] (Some x) None)).solo.memory) has.rows
-  unwound_words x f (c ∷ fs) h =
-      ap (λ rows. (caught i m x (handler_of rows f.place x) f (c ∷ fs) (removed i m x f.role c fs (unwind i m x c fs))).solo.memory) has.rows
-      ∙ ap (λ r. (removed i m x r c fs (unwind i m x c fs)).solo.memory) h.0
-      ∙ unwound_words x c fs h.1
-
-  -- where an item is dropped
-  pub met_dropped : (s : TaskState) (x : ℕ) (i' : Item) (items : List Item) (f : Frame) (fs : List Frame) → w.work ≡ Raising x (i' ∷ items)
-      → work_step now w.work ≡ source.raises now x items
-      → Throws i x s f fs → Removable f fs → Unhandled items → Meet s
-  met_dropped s x i' items f fs is step throws inner unhandled =
-      met_still s (source.raises now x items) step refl refl (Raised x items f fs refl throws inner unhandled)
-      (subst (λ q. items_size items < work_size q) (sym is) (item_counts i' items))
-
-  pub met_left : (s : TaskState) (x : ℕ) (names : List (List ℕ)) (opened : Option ℕ) (xs : List Target) (items : List Item) (f : Frame) (fs : List Frame)
-      (cs : List Activation)
-      → w.work ≡ Raising x (EndsCall names opened xs ∷ items) → work_step now w.work ≡ source.leaves now Quiet cs (Raising x items) None
-      → Throws i x s f fs → Removable f fs → Unhandled items → Meet s
-  met_left s x names opened xs items f fs [] is step throws inner unhandled =
-      met_still s (source.leaves now Quiet [] (Raising x items) None) step refl refl (Raised x items f fs refl throws inner unhandled)
-      (subst (λ q. items_size items < work_size q) (sym is) (item_counts (EndsCall names opened xs) items))
-  met_left s x names opened xs items f fs (c ∷ cs) is step throws inner unhandled =
-      met_still s (source.leaves now Quiet (c ∷ cs) (Raising x items) None) step refl refl (Raised x items f fs refl throws inner unhandled)
-      (subst (λ q. items_size items < work_size q) (sym is) (item_counts (EndsCall names opened xs) items))
-
-  pub met_raised : (s : TaskState) (x : ℕ) (items : List Item) (f : Frame) (fs : List Frame) → w.work ≡ Raising x items → Throws i x s f fs → Removable f fs
-      → Unhandled items → Meet s
-  met_raised s x [] f fs is throws inner unhandled =
-      let y = act i schedule k t (record { memory = m; task = s }) in
-      let there = throws.throws schedule k t m in
-      let dies = source.works now (Dies x) (Goes []) in
-      let step = ap (λ q. work_step now q) is in
-      moves_by (program_behaviour program schedule) (behaviour i schedule) (relation i program g numbers) frames_of (most_steps i) k t
-      (record { memory = store; task = w }) (record { memory = m; task = s })
-      1 (record { memory = m; task = s }) dies y step refl (Last refl) (omega arith)
-      (ap (λ y. y.effect) there ∙ unwound x f fs inner)
-      (record {
-        sound = store_after dies step;
-        stands = subst (λ q. StandsFor program g store q)
-            (sym (ap (λ y. y.solo.memory) there ∙ unwound_words x f fs inner)) shares.stands;
-      })
-      (record { alone = tt; stands = record { sound = task_after dies step refl; code = Ended (kernels.Unhandled x t) refl } })
-  met_raised s x (Declares d ∷ items) f fs is throws inner u = met_dropped s x (Declares d) items f fs is (ap (λ q. work_step now q) is) throws inner u
-  met_raised s x (DeclaresParameter p ∷ items) f fs is throws inner u = met_dropped s x (DeclaresParameter p) items f fs is (ap (λ q. work_step now q) is)
-      throws inner u
-  met_raised s x (Sequence body hs ∷ items) f fs is throws inner u = met_dropped s x (Sequence body hs) items f fs is (ap (λ q. work_step now q) is) throws
-      inner u
-  met_raised s x (Does st ∷ items) f fs is throws inner u = met_dropped s x (Does st) items f fs is (ap (λ q. work_step now q) is) throws inner u
-  met_raised s x (DoesMain st ∷ items) f fs is throws inner u = met_dropped s x (DoesMain st) items f fs is (ap (λ q. work_step now q) is) throws inner u
-  met_raised s x (Repeats body ∷ items) f fs is throws inner u = met_dropped s x (Repeats body) items f fs is (ap (λ q. work_step now q) is) throws inner u
-  met_raised s x (RepeatsWhile e body ∷ items) f fs is throws inner u = met_dropped s x (RepeatsWhile e body) items f fs is (ap (λ q. work_step now q) is)
-      throws inner u
-  met_raised s x (RepeatsFor p r a b body ∷ items) f fs is throws inner u = met_dropped s x (RepeatsFor p r a b body) items f fs is
-      (ap (λ q. work_step now q) is) throws inner u
-  met_raised s x (Handles hs ∷ items) f fs is throws inner u =
-      met_dropped s x (Handles hs) items f fs is
-      (ap (λ q. work_step now q) is ∙ ap (λ q. source.handled now x (source.handler_for program x q) items) u.0) throws inner u.1
-  met_raised s x (EndsHandler y ∷ items) f fs is throws inner u = met_dropped s x (EndsHandler y) items f fs is (ap (λ q. work_step now q) is) throws inner u
-  met_raised s x (EndsCall names opened xs ∷ items) f fs is throws inner u =
-      met_left s x names opened xs items f fs w.callers is
-      (ap (λ q. work_step now q) is ∙ ap (λ q. source.leaves now Quiet w.callers (source.call_raised x q items) None) u.0) throws inner u.1
-  met_raised s x (EndsAction o completion ∷ items) f fs is throws inner u = met_dropped s x (EndsAction o completion) items f fs is
-      (ap (λ q. work_step now q) is) throws inner u
-  met_raised s x (EndsServed o names completion ∷ items) f fs is throws inner u = absurd u
-  met_raised s x (Queued q vs xs ∷ items) f fs is throws inner u = met_dropped s x (Queued q vs xs) items f fs is (ap (λ q. work_step now q) is) throws inner u
 
   -- ---- going on
 
@@ -475,9 +469,9 @@ module _ (this : Scene) where
     -- the same frame goes on elsewhere
     pub goes_on : (items : List Item) (own : Activation) (a : Setting) (place : ℕ) (locals : List ℤ) → Follow a f.subprogram place items fs w.callers
         → RestsWith g a.visible a.held own locals
-        → own.within ≡ None → length fs ≡ ends_of_calls items → Removable f fs → Unhandled items
+        → own.within ≡ None → length fs ≡ ends_of_calls items → Removable f fs
         → IsGoing i program g numbers items own w.callers (record { frame = goes_at f place locals; callers = fs; raising = None })
-    goes_on items own a place locals follows rests outside depth inner unhandled =
+    goes_on items own a place locals follows rests outside depth inner =
         record {
           around = a;
           follows = follows;
@@ -486,9 +480,7 @@ module _ (this : Scene) where
           stack = refl;
           going = refl;
           depth = depth;
-          inner = inner_at f fs place
-              locals inner;
-          unhandled = unhandled;
+          inner = inner_at f fs place locals inner;
         }
 
     pub shown : (a b : Framed) (own : Activation) (locals : List ℤ) → Shows g a b → Rests g a own locals → Rests g b own locals
@@ -506,10 +498,28 @@ module _ (this : Scene) where
       apart = rests.apart ∙ nar.reserved;
     }
 
+    -- what takes the exceptions of these places, where the items follow
+    pub handled_by : {A : Type 0} (a : Setting) (now' : Framed) (to : ℕ) (items : List Item) (v : Val A) (from' to' : ℕ)
+        → Follow a f.subprogram to items fs w.callers
+        → GoesBy i a.raised from' to' → RestsWith g now' a.held w.own f.locals → now'.reserved ≡ a.visible.reserved → Shows g now' a.handling → w.own.within ≡ None
+        → length fs ≡ ends_of_calls items → Removable f fs → Handled f fs v items from' to'
+    handled_by a now' to items v from' to' follows goes rests same shows outside depth inner = λ x place left known is low high.
+        catches i program g numbers has_room items a to x (placed f place left) fs w.own w.callers follows
+        (record {
+          known = known;
+          goes = goes place x low high;
+          rests = shown now' a.handling w.own f.locals shows rests.rests;
+          held = rests.held;
+          apart = rests.apart ∙ same;
+          outside = outside;
+          depth = depth;
+          inner = inner_placed f fs place left inner;
+        })
+
     -- a step without a value: jumps, and one instruction
     pub met_plain : (o : Operation) (x : source.Stepped) (y : steps.Stepped) (at : ℕ) (items : List Item) → work_step now w.work ≡ x → s.frame.stack ≡ []
         → s.raising ≡ None
-        → Jumps i program g numbers f.place at → In f.subprogram f.place → In f.subprogram (suc at)
+        → Jumps i program g numbers f.place at → In f.subprogram f.place → In f.subprogram at
         → At i at o
         → does_operation i schedule k t m (placed f at []) fs o ≡ y
         → Meets x y
@@ -517,23 +527,20 @@ module _ (this : Scene) where
     met_plain o x y at items is stack going jumps a b here there meets =
         let up = jumps_up i program g numbers f.place at jumps in
         subst Meet (sym (going_is s stack going))
-        (moves_by (program_behaviour program schedule) (behaviour i schedule) (relation i program g numbers) frames_of (most_steps i) k t
-        (record { memory = store; task = w }) (in_frame m (placed f f.place []) fs)
-        ((at - f.place) + 1) (in_frame m (placed f at []) fs) x y is (acts quiet i at o here schedule k t m f fs [] ∙ there)
+        (moves_from (in_frame m (placed f f.place []) fs).task ((at - f.place) + 1) (in_frame m (placed f at []) fs) x y is
+        (acts quiet i at o here schedule k t m f fs [] ∙ there)
         (spends_takes (behaviour i schedule) t frames_of (most_steps i) 1 k (in_frame m (placed f at []) fs) (jumps_spend f fs f.place at jumps) (Last refl))
-        (omega (arith, a.0, b.1, up)) meets.effect
-        (record { sound = store_after x is; stands = meets.words })
-        (record { alone = meets.alone; stands = record { sound = task_after x is meets.waits; code = meets.code } }))
+        (omega (arith, a.0, b.1, up), λ some. omega (arith, a.0, b.1, up)) meets)
 
     -- it goes on with other items at a place, and nothing else changes
     pub goes_to : (items : List Item) (a : Setting) (place : ℕ) → Follow a f.subprogram place items fs w.callers
-        → RestsWith g a.visible a.held w.own f.locals → w.own.within ≡ None → length fs ≡ ends_of_calls items → Removable f fs → Unhandled items
+        → RestsWith g a.visible a.held w.own f.locals → w.own.within ≡ None → length fs ≡ ends_of_calls items → Removable f fs
         → Meets (source.goes now items) (steps.does Quiet m (goes_at f place f.locals) fs None None)
-    goes_to items a place follows rests outside depth inner unhandled = record {
+    goes_to items a place follows rests outside depth inner = record {
       effect = refl;
       waits = refl;
       alone = tt;
-      code = Going items refl (goes_on items w.own a place f.locals follows rests outside depth inner unhandled);
+      code = Going items refl (goes_on items w.own a place f.locals follows rests outside depth inner);
       words = shares.stands;
     }
 
@@ -561,9 +568,8 @@ module _ (this : Scene) where
                 jumps = Here;
                 return = out.return;
                 results = out.results;
-                exit = out.exit;
-                from_inside =
-                    (omega (arith, x.0, up), omega (arith, y.1));
+                outermost = out.outermost;
+                from_inside = (omega (arith, x.0, up), omega (arith, y.1));
                 to_inside = y;
               }),
               r.1,
@@ -575,28 +581,9 @@ module _ (this : Scene) where
             going = refl;
             depth = refl;
             inner = tt;
-            unhandled = tt;
           });
           words = shares.stands;
         })
-
-    -- items without code
-    pub met_handles : (hs : HandlerTrees) (items : List Item) → w.work ≡ Goes (Handles hs ∷ items) → (h : IsAtItems (Handles hs ∷ items)) → Meet s
-    met_handles hs items is h =
-        met_still s (source.goes now items) (ap (λ q. work_step now q) is) refl refl
-        (Going items refl (record {
-          around = h.around;
-          follows = h.follows.1;
-          rests = h.rests;
-          outside = h.outside;
-          stack = h.stack;
-          going = h.going;
-          depth
-              = h.depth;
-          inner = h.inner;
-          unhandled = h.unhandled.1;
-        }))
-        (subst (λ q. suc (items_size items) < work_size q) (sym is) (omega arith))
 
     -- the code of the next items is reached by jumps
     pub reached : (a : Setting) (from at to : ℕ) (now' : Framed) (items : List Item) → Leads i program g numbers a f.subprogram from at to now'
@@ -610,8 +597,8 @@ module _ (this : Scene) where
         → s.frame.stack ≡ [] → s.raising ≡ None
         → (a : Setting) → Follow a f.subprogram f.place items fs w.callers → RestsWith g a.visible a.held w.own f.locals → w.own.within ≡ None
         → length fs ≡ ends_of_calls items
-        → Removable f fs → Unhandled items → Meet s
-    met_items x items is less stack going a follows rests outside depth inner unhandled =
+        → Removable f fs → Meet s
+    met_items x items is less stack going a follows rests outside depth inner =
         met_still s (source.goes now items) is refl refl
         (Going items refl (record {
           around = a;
@@ -621,9 +608,7 @@ module _ (this : Scene) where
           stack = stack;
           going = going;
           depth = depth;
-          inner =
-              inner;
-          unhandled = unhandled;
+          inner = inner;
         })) less
 
     pub met_null : (place : ℕ) (items : List Item) → w.work ≡ Goes (Does (Null place) ∷ items) → (h : IsAtItems (Does (Null place) ∷ items)) → Meet s
@@ -633,66 +618,7 @@ module _ (this : Scene) where
         h.stack h.going
         (seeing h.around.visible h.around)
         (reached h.around f.place r.0 r.1 r.2 items r.3 (subst (λ q. Follow (seeing r.2 h.around) f.subprogram q items fs w.callers) (sym r.4) r.5))
-        h.rests h.outside h.depth h.inner h.unhandled
-
-    pub met_sequence : (body : StmtTrees) (hs : HandlerTrees) (items : List Item) → w.work ≡ Goes (Sequence body hs ∷ items)
-        → (h : IsAtItems (Sequence body hs ∷ items)) → Meet s
-    met_sequence body hs items is h =
-        let r = h.follows in
-        let leads = r.4 in
-        let e = before_size body (Handles hs ∷ items) in
-        let x = leads.from_inside in
-        let y = leads.to_inside in
-        let up = jumps_up i program g numbers f.place r.0 leads.jumps in
-        let le = leads.up in
-        met_items (source.goes now (source.before body (Handles hs ∷ items))) (source.before body (Handles hs ∷ items)) (ap (λ q. work_step now q) is)
-        (subst (λ q. suc (items_size (source.before body (Handles hs ∷ items))) < work_size q) (sym is) (omega (arith, e))) h.stack h.going
-        (seeing h.around.visible h.around)
-        (reached h.around f.place r.0 r.1 r.2 (source.before body (Handles hs ∷ items)) leads
-        (before_follows i program g numbers body h.around r.2 f.subprogram r.0 r.1 (Handles hs ∷ items) fs w.callers r.5 le
-        (omega (arith, x.0, up), omega (arith, y.1, le)) y leads.reaches (r.3, r.6)))
-        h.rests h.outside (h.depth ∙ sym (before_ends i program g numbers body (Handles hs ∷ items))) h.inner
-        (before_unhandled i program g numbers body (Handles hs ∷ items) (r.3, h.unhandled))
-
-    pub met_block : (place : ℕ) (ds : List DeclarationTree) (body : StmtTrees) (items : List Item)
-        → w.work ≡ Goes (Does (Block place ds body NoHandlers) ∷ items)
-        → (h : IsAtItems (Does (Block place ds body NoHandlers) ∷ items)) → Meet s
-    met_block place ds body items is h =
-        let r = h.follows in
-        let leads = r.3 in
-        let code = r.4 in
-        let all = Sequence body NoHandlers ∷ items in
-        let e = declares_size ds all in
-        let x = leads.from_inside in
-        let y = leads.to_inside in
-        let up = jumps_up i program g numbers f.place r.0 leads.jumps in
-        let one = code.2 in
-        let two = code.3 in
-        let at_in : In f.subprogram r.0 = (omega (arith, x.0, up), omega (arith, y.1, one, two)) in
-        let mid_in : In f.subprogram code.0 = (omega (arith, x.0, up, one), omega (arith, y.1, two)) in
-        met_items (source.goes now (map Declares ds ++ all)) (map Declares ds ++ all) (ap (λ q. work_step now q) is)
-        (subst (λ q. suc (items_size (map Declares ds ++ all)) < work_size q) (sym is) (omega (arith, e))) h.stack h.going
-        (seeing h.around.visible h.around)
-        (reached h.around f.place r.0 r.1 r.2 (map Declares ds ++ all) leads
-        (declares_follow i program g numbers ds h.around r.2 code.1 f.subprogram r.0 code.0 all fs w.callers code.4 one at_in mid_in leads.reaches
-        (λ nar. (
-          code.0,
-          r.1,
-          code.1,
-          refl,
-          (record {
-            jumps = Here;
-            narrows = narrows_same g code.1;
-            reaches = (shows_then g code.1 r.2 h.around.behind nar leads.reaches.0, shows_then g code.1 r.2 h.around.ending nar leads.reaches.1);
-            from_inside = mid_in;
-            up = two;
-            to_inside = y;
-          }),
-          code.5,
-          earlier i program g numbers items (seeing r.2 h.around) code.1 f.subprogram r.1 r.1 fs w.callers Here nar y r.5,
-        ))))
-        h.rests h.outside (h.depth ∙ sym (declares_end i program g numbers ds all)) h.inner
-        (declares_unhandled i program g numbers ds all h.unhandled)
+        h.rests h.outside h.depth h.inner
 
     -- ---- ways out
 
@@ -721,7 +647,7 @@ module _ (this : Scene) where
         leads.jumps x (omega (arith, x.0, up), omega (arith, y.1, end)) code.2 refl
         (goes_to (source.behind_loop items) out.outer e out.follows
         (way_rests h.around out.outer r.2 h.around.behind h.rests leads.narrows leads.reaches.0 out.visible out.drops) h.outside
-        (h.depth ∙ sym out.ends) h.inner (out.unhandled h.unhandled))
+        (h.depth ∙ sym out.ends) h.inner)
 
     pub met_return : (place : ℕ) (items : List Item) → w.work ≡ Goes (Does (Return place None) ∷ items) → (h : IsAtItems (Does (Return place None) ∷ items))
         → Meet s
@@ -740,4 +666,4 @@ module _ (this : Scene) where
         leads.jumps x (omega (arith, x.0, up), omega (arith, y.1, end)) code.2 refl
         (goes_to (source.end_of_body items) out.end e out.follows
         (way_rests h.around out.end r.2 h.around.ending h.rests leads.narrows leads.reaches.1 out.visible out.drops) h.outside
-        (h.depth ∙ sym out.ends) h.inner (out.unhandled h.unhandled))
+        (h.depth ∙ sym out.ends) h.inner)

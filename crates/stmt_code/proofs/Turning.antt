@@ -35,11 +35,13 @@ use Rattle.expr_code.proofs.Coming.{acts, after_first}
 use Rattle.expr_code.proofs.Coming as coming
 use Rattle.stmt_code.specs.Resting.{Framed, Held, RestsWith, Shows}
 use Rattle.stmt_code.proofs.Holding.{held_kept}
+use Rattle.stmt_code.specs.Handling.{GoesBy}
 use Rattle.stmt_code.specs.Storing.{Assigned, Puts, Stores, assigned, assigned_to, declared, declared_from, object_declared}
 use Rattle.stmt_code.specs.Statements.{AreStatements, IsOtherwise, IsPut, IsWhile, Numbers, within_loop}
-use Rattle.stmt_code.specs.Standing.{Going, Here, Jumps, LeadsInto, Reaches, in_loop, Shares, There, Unhandled, items_size, work_size}
-use Rattle.stmt_code.proofs.Going.{before_ends, before_follows, before_unhandled, earlier, into, jumps_up, narrows_same, way_out}
+use Rattle.stmt_code.specs.Standing.{Going, Here, Jumps, Leads, LeadsInto, Reaches, in_loop, Shares, There, items_size, work_size}
+use Rattle.stmt_code.proofs.Going.{before_ends, before_follows, earlier, into, jumps_up, narrows_same, way_out}
 use Rattle.stmt_code.proofs.Sizes.{item_counts}
+use Rattle.stmt_code.proofs.Handling.{goes_within}
 use Rattle.stmt_code.proofs.Scenes.{Scene}
 use Rattle.stmt_code.proofs.Scenes as scene
 
@@ -123,6 +125,18 @@ module _ (this : Scene) where
     abbrev IsAtItems : List Item → Type 0
     IsAtItems items = scene.IsAtItems this s items
 
+    abbrev Handled : {A : Type 0} → Val A → List Item → (from to : ℕ) → Type 0
+    Handled v items from to = scene.Handled this f fs v items from to
+
+    -- what takes the exceptions of these places of a statement
+    pub handled_at : {A : Type 0} {i' : Item} (items : List Item) (v : Val A) (h : IsAtItems (i' ∷ items)) (now' : Framed) (at to end : ℕ)
+        → ends_of_calls (i' ∷ items) ≡ ends_of_calls items
+        → Leads i program g numbers h.around f.subprogram f.place at to now' → Follow (seeing now' h.around) f.subprogram to items fs w.callers
+        → GoesBy i h.around.raised at to → end ≤ to → Handled v items at end
+    handled_at items v h now' at to end ends leads rest goes le =
+        scene.handled_by this s (seeing now' h.around) now' to items v at end rest (goes_within i h.around.raised at at end to goes (omega arith) le)
+        (scene.narrowed this s h.around.visible now' w.own f.locals leads.narrows h.rests) refl leads.reaches.2 h.outside (h.depth ∙ ends) h.inner
+
     -- ---- conditions
 
     -- the word of a truth value
@@ -141,21 +155,21 @@ module _ (this : Scene) where
         → work_step now w.work ≡ with_value now (source.condition now items e) items
         (λ holds. source.goes now (if holds then (if jumps_on then when_jumps else when_not) else (if jumps_on then when_not else when_jumps)))
         → items_size items < work_size w.work
-        → Removable f fs → Unhandled items
+        → Removable f fs → Handled (source.condition now items e) items from mid
         → Reaching f fs n f.place from
         → Comes i schedule k t m (placed f from []) fs (mid - from) mid (on []) (source.evaluate now items e)
-        → n + (mid - from) ≤ size_of i f.subprogram + size_of i f.subprogram
+        → n + (mid - from) < size_of i f.subprogram + size_of i f.subprogram
         → At i mid o
         → ((b : Bool) → does_operation i schedule k t m (placed f mid (word_of b ∷ [])) fs o ≡ steps.does Quiet m
         (goes_at f (if b then (if jumps_on then target else mid + 1) else (if jumps_on then mid + 1 else target)) f.locals) fs None None)
         → Meets (source.goes now when_jumps) (steps.does Quiet m (goes_at f target f.locals) fs None None)
         → Meets (source.goes now when_not) (steps.does Quiet m (goes_at f (mid + 1) f.locals) fs None None)
         → Meet s
-    met_test o jumps_on items when_jumps when_not stack going v from mid n target e is less inner unhandled first comes low here there at_target at_next =
+    met_test o jumps_on items when_jumps when_not stack going v from mid n target e is less inner handled first comes low here there at_target at_next =
         subst Meet (sym (scene.going_is this s stack going))
         (scene.met_comes this f fs n from (mid - from) mid (λ b. word_of b ∷ []) (source.condition now items e) items
         (λ holds. source.goes now (if holds then (if jumps_on then when_jumps else when_not) else (if jumps_on then when_not else when_jumps)))
-        first (holds_comes from mid (mid - from) (source.evaluate now items e) comes) low is less inner unhandled
+        first (holds_comes from mid (mid - from) (source.evaluate now items e) comes) low is less inner handled
         (λ b eb. (
           steps.does Quiet m (goes_at f (if b then (if jumps_on then target else mid + 1) else (if jumps_on then mid + 1 else target)) f.locals) fs None None,
           acts quiet i mid o here schedule k t m f fs (word_of b ∷ []) ∙ there b,
@@ -188,7 +202,7 @@ module _ (this : Scene) where
     met_exit_when place e items is h =
         let r = h.follows in
         let leads = r.3 in
-        let code = r.4 in
+        let code = r.4.0 in
         let target = code.0 in
         let mid = code.1 in
         let le = code.3 in
@@ -201,19 +215,20 @@ module _ (this : Scene) where
         let next : r.1 ≡ mid + 1 = omega (arith, end) in
         met_test (op.JumpIfNotZero target) true items (source.behind_loop items) items h.stack h.going r.2 r.0 mid (r.0 - f.place) target e
         (ap (λ q. work_step now q) is)
-        (subst (λ q. items_size items < work_size q) (sym is) (let c = item_counts (Does (Exit place (Some e))) items in omega (arith, c))) h.inner h.unhandled
+        (subst (λ q. items_size items < work_size q) (sym is) (let c = item_counts (Does (Exit place (Some e))) items in omega (arith, c))) h.inner
+        (handled_at items (source.condition now items e) h r.2 r.0 r.1 mid refl leads r.5 r.4.1 (omega (arith, end)))
         (scene.jumps_spend this f fs f.place r.0 leads.jumps) (scene.evaluates this r.2 r.0 mid on (λ calls p. value_with calls p e) items f fs code.4 rests
         h.depth)
         (omega (arith, x.0, y.1, up, le, end)) code.5 (on_one mid target)
         (scene.goes_to this s (source.behind_loop items) out.outer target out.follows
         (scene.way_rests this s h.around out.outer r.2 h.around.behind h.rests leads.narrows leads.reaches.0 out.visible out.drops) h.outside
-        (h.depth ∙ sym out.ends) h.inner (out.unhandled h.unhandled))
+        (h.depth ∙ sym out.ends) h.inner)
         (scene.goes_to this s items (seeing r.2 h.around) (mid + 1) (subst (λ q. Follow (seeing r.2 h.around) f.subprogram q items fs w.callers) next r.5)
-        rests h.outside h.depth h.inner h.unhandled)
+        rests h.outside h.depth h.inner)
 
     -- the parts of an `if` behind its first statements
     pub otherwise_follows : (place : ℕ) (elsifs : ElsifTrees) (others : StmtTrees) (a : Setting) (now' : Framed) (from to : ℕ) (items : List Item)
-        → IsOtherwise i program g numbers now' a.ways from to elsifs (λ x y. AreStatements i program g numbers now' a.ways x y others) → from ≤ to
+        → IsOtherwise i program g numbers now' a.ways a.raised from to elsifs (λ x y. AreStatements i program g numbers now' a.ways a.raised x y others) → from ≤ to
         → In f.subprogram from → In f.subprogram to → Reaches i program g numbers a now'
         → Follow (seeing now' a) f.subprogram to items fs w.callers
         → Follow (seeing now' a) f.subprogram from (source.otherwise place elsifs others items) fs w.callers
@@ -226,11 +241,6 @@ module _ (this : Scene) where
         → ends_of_calls (source.otherwise place elsifs others items) ≡ ends_of_calls items
     otherwise_ends place NoElsifs others items = before_ends i program g numbers others items
     otherwise_ends place (MoreElsifs e body more) others items = refl
-
-    pub otherwise_unhandled : (place : ℕ) (elsifs : ElsifTrees) (others : StmtTrees) (items : List Item) → Unhandled items
-        → Unhandled (source.otherwise place elsifs others items)
-    otherwise_unhandled place NoElsifs others items h = before_unhandled i program g numbers others items h
-    otherwise_unhandled place (MoreElsifs e body more) others items h = h
 
     pub met_if : (place : ℕ) (e : ExprTree) (body : StmtTrees) (elsifs : ElsifTrees) (others : StmtTrees) (items : List Item)
         → w.work ≡ Goes (Does (If place e body elsifs others) ∷ items)
@@ -257,19 +267,19 @@ module _ (this : Scene) where
         (r.0 - f.place) (suc joint) e
         (ap (λ q. work_step now q) is)
         (subst (λ q. items_size items < work_size q) (sym is) (let c = item_counts (Does (If place e body elsifs others)) items in omega (arith, c)))
-        h.inner h.unhandled
+        h.inner (scene.handled_by this s a r.2 r.1 items (source.condition now items e) r.0 mid r.5 code.10 rests refl leads.reaches.2 h.outside h.depth h.inner)
         (scene.jumps_spend this f fs f.place r.0 leads.jumps) (scene.evaluates this r.2 r.0 mid on (λ calls p. value_with calls p e) items f fs code.5 rests
         h.depth)
         (omega (arith, x.0, y.1, up, le, between, above)) code.6 (on_zero mid (suc joint))
         (scene.goes_to this s (source.otherwise place elsifs others items) a (suc joint)
         (otherwise_follows place elsifs others h.around r.2 (suc joint) r.1 items code.9 above else_in y leads.reaches r.5) rests h.outside
-        (h.depth ∙ sym (otherwise_ends place elsifs others items)) h.inner (otherwise_unhandled place elsifs others items h.unhandled))
+        (h.depth ∙ sym (otherwise_ends place elsifs others items)) h.inner)
         (scene.goes_to this s (source.before body items) a (mid + 1)
         (before_follows i program g numbers body h.around r.2 f.subprogram (mid + 1) joint items fs w.callers
-        (subst (λ q. AreStatements i program g numbers r.2 h.around.ways q joint body) one code.7) (omega (arith, between)) then_in joint_in leads.reaches
+        (subst (λ q. AreStatements i program g numbers r.2 h.around.ways h.around.raised q joint body) one code.7) (omega (arith, between)) then_in joint_in leads.reaches
         (earlier i program g numbers items a r.2 f.subprogram joint r.1 fs w.callers (There code.8 above Here) (narrows_same g r.2) joint_in r.5)) rests
         h.outside
-        (h.depth ∙ sym (before_ends i program g numbers body items)) h.inner (before_unhandled i program g numbers body items h.unhandled))
+        (h.depth ∙ sym (before_ends i program g numbers body items)) h.inner)
 
     -- ---- loops
 
@@ -298,7 +308,7 @@ module _ (this : Scene) where
         leads.jumps x (omega (arith, x.0, up), omega (arith, y.1, le, end)) code.2 refl
         (scene.goes_to this s all inner (at + 2)
         (before_follows i program g numbers body inner r.2 f.subprogram (at + 2) back (Repeats body ∷ items) fs w.callers code.4 le turn_in back_in
-        ((narrows_same g r.2).shows, leads.reaches.1) (
+        ((narrows_same g r.2).shows, leads.reaches.1, leads.reaches.2) (
           at,
           r.1,
           outer,
@@ -311,6 +321,7 @@ module _ (this : Scene) where
             loop = refl;
             narrows = narrows_same g r.2;
             reaches = leads.reaches.1;
+            handles = leads.reaches.2;
             from_inside = back_in;
             head_inside = head_in;
             to_inside = y;
@@ -318,8 +329,7 @@ module _ (this : Scene) where
           code,
           r.5,
         ))
-        rests h.outside (h.depth ∙ sym (before_ends i program g numbers body (Repeats body ∷ items))) h.inner
-        (before_unhandled i program g numbers body (Repeats body ∷ items) h.unhandled))
+        rests h.outside (h.depth ∙ sym (before_ends i program g numbers body (Repeats body ∷ items))) h.inner)
 
     -- a loop holds the same words as what is around it
     turned : (v : Framed) (one other : List Held) → one ≡ other → RestsWith g v one w.own f.locals → RestsWith g v other w.own f.locals
@@ -351,7 +361,7 @@ module _ (this : Scene) where
         leads.jumps x (omega (arith, x.0, up), omega (arith, y.1, there)) leads.jump refl
         (scene.goes_to this s all inner (head + 2)
         (before_follows i program g numbers body inner outer.visible f.subprogram (head + 2) last (Repeats body ∷ items) fs w.callers code.4 le turn_in
-        back_in ((narrows_same g outer.visible).shows, leads.reaches) (
+        back_in ((narrows_same g outer.visible).shows, leads.reaches, leads.handles) (
           head,
           r.1,
           outer,
@@ -364,6 +374,7 @@ module _ (this : Scene) where
             loop = refl;
             narrows = narrows_same g outer.visible;
             reaches = leads.reaches;
+            handles = leads.handles;
             from_inside = back_in;
             head_inside = z;
             to_inside = y;
@@ -371,29 +382,28 @@ module _ (this : Scene) where
           code,
           r.5,
         ))
-        rests h.outside (h.depth ∙ sym (before_ends i program g numbers body (Repeats body ∷ items))) h.inner
-        (before_unhandled i program g numbers body (Repeats body ∷ items) h.unhandled))
+        rests h.outside (h.depth ∙ sym (before_ends i program g numbers body (Repeats body ∷ items))) h.inner)
 
     -- a loop whose condition is evaluated
     pub met_turn : (i' : Item) (e : ExprTree) (body : StmtTrees) (items : List Item) → w.work ≡ Goes (i' ∷ items)
         → source.item_step now i' items ≡ source.while_turn now e body items
         → s.frame.stack ≡ [] → s.raising ≡ None
         → (head to n : ℕ) (outer : Setting)
-        → (code : IsWhile i program g numbers outer.visible head to e
-        (λ exit x y. AreStatements i program g numbers outer.visible (within_loop exit outer.ways) x y body))
+        → (code : IsWhile i program g numbers outer.visible outer.raised head to e
+        (λ exit x y. AreStatements i program g numbers outer.visible (within_loop exit outer.ways) outer.raised x y body))
         → Shows g outer.visible outer.ending
+        → Shows g outer.visible outer.handling
         → Follow outer f.subprogram to items fs w.callers
         → RestsWith g outer.visible outer.held w.own f.locals
         → w.own.within ≡ None
         → length fs ≡ ends_of_calls items
         → Removable f fs
-        → Unhandled items
         → In f.subprogram head
         → In f.subprogram to
         → Reaching f fs n f.place (head + 2)
-        → n + (code.0 - (head + 2)) ≤ size_of i f.subprogram + size_of i f.subprogram
+        → n + (code.0 - (head + 2)) < size_of i f.subprogram + size_of i f.subprogram
         → Meet s
-    met_turn i' e body items is same stack going head to n outer code reaches rest rests outside depth inner unhandled z y first low =
+    met_turn i' e body items is same stack going head to n outer code reaches handles rest rests outside depth inner z y first low =
         let mid = code.0 in
         let back = code.1 in
         let le = code.2 in
@@ -406,13 +416,14 @@ module _ (this : Scene) where
         let back_in : In f.subprogram back = (omega (arith, z.0, le, between), omega (arith, y.1, end)) in
         met_test (op.JumpIfZero to) false items items all stack going outer.visible (head + 2) mid n to e
         (ap (λ q. work_step now q) is ∙ same)
-        (subst (λ q. items_size items < work_size q) (sym is) (let c = item_counts i' items in omega (arith, c))) inner unhandled first
+        (subst (λ q. items_size items < work_size q) (sym is) (let c = item_counts i' items in omega (arith, c))) inner
+        (scene.handled_by this s outer outer.visible to items (source.condition now items e) (head + 2) mid rest code.11 rests refl handles outside depth inner) first
         (scene.evaluates this outer.visible (head + 2) mid on (λ calls p. value_with calls p e) items f fs code.6 rests depth) low code.7 (on_zero mid to)
-        (scene.goes_to this s items outer to rest rests outside depth inner unhandled)
+        (scene.goes_to this s items outer to rest rests outside depth inner)
         (scene.goes_to this s all loop (mid + 1)
         (before_follows i program g numbers body loop outer.visible f.subprogram (mid + 1) back (RepeatsWhile e body ∷ items) fs w.callers
-        (subst (λ q. AreStatements i program g numbers outer.visible (within_loop (head + 1) outer.ways) q back body) one code.8) (omega (arith, between))
-        turn_in back_in ((narrows_same g outer.visible).shows, reaches) (
+        (subst (λ q. AreStatements i program g numbers outer.visible (within_loop (head + 1) outer.ways) outer.raised q back body) one code.8) (omega (arith, between))
+        turn_in back_in ((narrows_same g outer.visible).shows, reaches, handles) (
           head,
           to,
           outer,
@@ -425,6 +436,7 @@ module _ (this : Scene) where
             loop = refl;
             narrows = narrows_same g outer.visible;
             reaches = reaches;
+            handles = handles;
             from_inside = back_in;
             head_inside = z;
             to_inside = y;
@@ -432,8 +444,7 @@ module _ (this : Scene) where
           code,
           rest,
         ))
-        rests outside (depth ∙ sym (before_ends i program g numbers body (RepeatsWhile e body ∷ items))) inner
-        (before_unhandled i program g numbers body (RepeatsWhile e body ∷ items) unhandled))
+        rests outside (depth ∙ sym (before_ends i program g numbers body (RepeatsWhile e body ∷ items))) inner)
 
     -- jumps, and one more jump to the condition of a loop
     pub reaches_head : (at head : ℕ) → Jumps i program g numbers f.place at → At i at (op.Jump (head + 2))
@@ -460,8 +471,8 @@ module _ (this : Scene) where
         let up = jumps_up i program g numbers f.place at leads.jumps in
         let head_in : In f.subprogram at = (omega (arith, x.0, up), omega (arith, y.1, le, between, end)) in
         met_turn (Does (Loop place (While e) body)) e body items is refl h.stack h.going at r.1 ((at - f.place) + 1) (seeing r.2 h.around) code
-        leads.reaches.1 r.5
-        (scene.narrowed this s h.around.visible r.2 w.own f.locals leads.narrows h.rests) h.outside h.depth h.inner h.unhandled head_in y
+        leads.reaches.1 leads.reaches.2 r.5
+        (scene.narrowed this s h.around.visible r.2 w.own f.locals leads.narrows h.rests) h.outside h.depth h.inner head_in y
         (reaches_head at at leads.jumps code.4)
         (omega (arith, x.0, y.1, up, le, between, end))
 
@@ -480,9 +491,9 @@ module _ (this : Scene) where
         let z = leads.head_inside in
         let there = leads.end in
         let up = jumps_up i program g numbers f.place leads.back leads.jumps in
-        met_turn (RepeatsWhile e body) e body items is refl h.stack h.going r.0 r.1 ((leads.back - f.place) + 1) r.2 code leads.reaches r.5
+        met_turn (RepeatsWhile e body) e body items is refl h.stack h.going r.0 r.1 ((leads.back - f.place) + 1) r.2 code leads.reaches leads.handles r.5
         (turned r.2.visible h.around.held r.2.held (ap (λ q. q.held) leads.loop)
-        (scene.narrowed this s h.around.visible r.2.visible w.own f.locals leads.narrows h.rests)) h.outside h.depth h.inner h.unhandled z y
+        (scene.narrowed this s h.around.visible r.2.visible w.own f.locals leads.narrows h.rests)) h.outside h.depth h.inner z y
         (reaches_head leads.back r.0 leads.jumps leads.jump)
         (omega (arith, x.0, y.1, z.0, up, le, between, end, there))
 
@@ -509,9 +520,9 @@ module _ (this : Scene) where
         → ((x : A) → (own_after x w.own).within ≡ None)
         → length fs ≡ ends_of_calls items
         → Removable f fs
-        → Unhandled items
+        → Handled (value (call (frames_left items)) (place_of now items)) items at to
         → Meet s
-    met_stores i' items is stack going v later at to value store_after' own_after same a now' leads code rest rests before outside depth inner unhandled =
+    met_stores i' items is stack going v later at to value store_after' own_after same a now' leads code rest rests before outside depth inner handled =
         let mid = code.mid in
         let le = code.up in
         let end = code.end in
@@ -539,7 +550,8 @@ module _ (this : Scene) where
         (scene.evaluates this now' at mid code.stack value items f fs code.computes here depth)
         (omega (arith, x.0, y.1, up, le, end))
         (ap (λ q. work_step now q) is ∙ same)
-        (subst (λ q. items_size items < work_size q) (sym is) (let c = item_counts i' items in omega (arith, c))) inner unhandled
+        (subst (λ q. items_size items < work_size q) (sym is) (let c = item_counts i' items in omega (arith, c))) inner
+        (λ x place left known e low high. handled x place left known e low (omega (arith, high, end)))
         (λ z ez.
         let put = code.puts schedule k t m f fs store w.own (place_of now items) z
         (record { scope = refl; functions = refl; variables = refl; components = refl }) refl refl shares.stands here.rests
@@ -550,8 +562,7 @@ module _ (this : Scene) where
             effect = refl;
             waits = refl;
             alone = tt;
-            code = Going items refl (scene.goes_on this s items (own_after z w.own) (seeing later a) to put.locals rest (kept z put) (outside z) depth inner
-                unhandled);
+            code = Going items refl (scene.goes_on this s items (own_after z w.own) (seeing later a) to put.locals rest (kept z put) (outside z) depth inner);
             words = put.shared;
           },
         )))
@@ -563,7 +574,7 @@ module _ (this : Scene) where
         let r = h.follows in
         met_stores (DeclaresParameter p) items is h.stack h.going r.2 r.3 r.0 r.1 (λ calls q. Gives (initial program.scope p.subtype)) (λ x m. m)
         (λ x a. record a { locals = record { name = p.name; subtype = p.subtype; value = x } ∷ a.locals })
-        refl h.around r.2 r.4 r.6 r.7 h.rests h.outside (λ x. h.outside) h.depth h.inner h.unhandled
+        refl h.around r.2 r.4 r.6 r.7 h.rests h.outside (λ x. h.outside) h.depth h.inner (λ x place left known e low high. absurd cc)
 
     pub met_declares : (d : ObjectTree) (items : List Item) → w.work ≡ Goes (Declares (LocalObject d) ∷ items)
         → (h : IsAtItems (Declares (LocalObject d) ∷ items)) → Meet s
@@ -571,7 +582,9 @@ module _ (this : Scene) where
         let r = h.follows in
         met_stores (Declares (LocalObject d)) items is h.stack h.going r.2 r.3 r.0 r.1 (declared program.scope d) (λ x m. m)
         (λ x a. record a { locals = object_declared program.scope d x ∷ a.locals })
-        (by_value d d.value) h.around r.2 (into i program g numbers h.around f.subprogram f.place r.0 r.1 r.2 r.4) r.6 r.7 h.rests h.outside (λ x. h.outside) h.depth h.inner h.unhandled
+        (by_value d d.value) h.around r.2 (into i program g numbers h.around f.subprogram f.place r.0 r.1 r.2 r.4) r.6 r.7 h.rests h.outside (λ x. h.outside) h.depth h.inner
+        (scene.handled_by this s (seeing r.3 h.around) r.2 r.1 items (declared program.scope d (call (frames_left items)) (place_of now items)) r.0 r.1 r.7 r.8
+        (scene.narrowed this s h.around.visible r.2 w.own f.locals r.4.narrows h.rests) (sym r.5.reserved) r.4.reaches.2 h.outside h.depth h.inner)
       where
         by_value : (d : ObjectTree) (e : Option ExprTree)
             → with_value now (source.declared_value now items d e) items (λ v. source.with_object now (object_declared program.scope d v) items)
@@ -594,8 +607,9 @@ module _ (this : Scene) where
         let r = h.follows in
         met_stores (Does (Assignment name e)) items is h.stack h.going r.2 r.2 r.0 r.1 (assigned name e) (λ x m. store_with x.target x.value m)
         (λ x a. activation_with x.target x.value a)
-        (by_target (target (place_of now items) name.first.name name.selectors)) h.around r.2 (into i program g numbers h.around f.subprogram f.place r.0 r.1 r.2 r.3) r.4 r.5 h.rests
-        h.outside (λ x. same_object x.target x.value w.own ∙ h.outside) h.depth h.inner h.unhandled
+        (by_target (target (place_of now items) name.first.name name.selectors)) h.around r.2 (into i program g numbers h.around f.subprogram f.place r.0 r.1 r.2 r.3) r.4.0 r.5 h.rests
+        h.outside (λ x. same_object x.target x.value w.own ∙ h.outside) h.depth h.inner
+        (handled_at items (assigned name e (call (frames_left items)) (place_of now items)) h r.2 r.0 r.1 r.1 refl r.3 r.5 r.4.1 (omega arith))
       where
         go : Assigned → source.Stepped
         go x = record {
@@ -662,7 +676,8 @@ module _ (this : Scene) where
         h.depth))
         (omega (arith, x.0, y.1, up, le, end))
         (ap (λ q. work_step now q) is ∙ same ∙ by_number (source.evaluate now items e))
-        (subst (λ q. items_size items < work_size q) (sym is) (let c = item_counts (Does (tree.Call name)) items in omega (arith, c))) h.inner h.unhandled
+        (subst (λ q. items_size items < work_size q) (sym is) (let c = item_counts (Does (tree.Call name)) items in omega (arith, c))) h.inner
+        (handled_at items (and_then (source.evaluate now items e) number_of_value) h r.2 r.0 r.1 mid refl leads r.5 r.4.1 (omega (arith, end)))
         (λ z ez. (
           steps.does (Says label z) m (goes_at f r.1 f.locals) fs None None,
           acts quiet i mid (op.PutLine number) code.4 schedule k t m f fs (z ∷ []) ∙
@@ -671,7 +686,7 @@ module _ (this : Scene) where
             effect = refl;
             waits = refl;
             alone = tt;
-            code = Going items refl (scene.goes_on this s items w.own (seeing r.2 h.around) r.1 f.locals r.5 rests h.outside h.depth h.inner h.unhandled);
+            code = Going items refl (scene.goes_on this s items w.own (seeing r.2 h.around) r.1 f.locals r.5 rests h.outside h.depth h.inner);
             words = shares.stands;
           },
         )))

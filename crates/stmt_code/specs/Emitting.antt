@@ -1,7 +1,7 @@
 -- What methods that add the code of statements promise.
 use Rattle.std.specs.Prelude.{◌≡◌, ℕ, ◌+◌, ◌≤◌, ◌<◌, ◌⊎◌, true, List, [], ◌∷◌, ◌++◌, cond, length, nat_eq, take, Option, Some, None, pos, slice_get, ⊤, ℤ}
 use Rattle.ada_tree.specs.ExpressionTree.{ExprTree}
-use Rattle.ada_tree.specs.StatementTree.{DeclarationTree, ElsifTrees, MoreElsifs, StmtTree, StmtTrees, elsifs_of}
+use Rattle.ada_tree.specs.StatementTree.{DeclarationTree, ElsifTrees, MoreElsifs, NoHandlers, StmtTree, StmtTrees, elsifs_of}
 use Rattle.image.specs.Sections.{Sections}
 use Rattle.image.specs.Rules.{has_depth, is_block}
 use Rattle.image.specs.declared.instruction.Operation.{Operation}
@@ -35,6 +35,7 @@ use Rattle.stmt_code.specs.Bounds.{declarations_bound, elsifs_bound, run_bound, 
 use Rattle.stmt_code.specs.Layout.{EndsBy, IsLaidOut}
 use Rattle.stmt_code.specs.Suiting.{SuitsStatements}
 use Rattle.stmt_code.specs.Resting.{Framed}
+use Rattle.stmt_code.specs.Handling.{unhandled}
 use Rattle.stmt_code.specs.Statements.{AreDeclared, AreStatements, IsOtherwise, IsRun, IsStatement, Numbers, Ways}
 use Rattle.stmt_code.specs.declared.draft.Draft.{Draft}
 use Rattle.stmt_code.specs.declared.draft.FrameWords.{FrameWords}
@@ -57,7 +58,7 @@ pub record AreLegalElsifs (s : Scope) (all : ElsifTrees) : Type 0 where
 
 -- the ways out, as places of code
 abbrev pub ways_of : Leaving → Ways
-ways_of l = record { exit = l.exit; return = l.return_ }
+ways_of l = record { exit = l.exit; return = l.return_; handled = None }
 
 -- so many words of the frame more are taken
 pub record Takes (old : FrameWords) (many : ℕ) (new : FrameWords) : Type 0 where
@@ -67,8 +68,9 @@ pub record Takes (old : FrameWords) (many : ℕ) (new : FrameWords) : Type 0 whe
 
 -- ---- what is known where the code stands
 
--- the image has these labels at their numbers
+-- the image has these labels at their numbers; and nothing is handled
 pub record HasLabels (i : Sections) (texts : List (List ℕ)) : Type 0 where
+  pub rows : i.rows ≡ []
   pub labels : StandsFrom 0 texts i.labels
 
 -- The program in whose body the statements stand: what is visible names what the program has, and means the same at some place of it; each procedure that is
@@ -120,11 +122,11 @@ pub record Emits (Is : Meant) (v : Visible) (w : Ways) (old : Draft) (size : ℕ
       → AreKept i s low high (here old.code) (here new.code) 0
 
 abbrev pub EmitsStatement : Visible → Ways → Draft → StmtTree → Draft → Type 0
-EmitsStatement v w old x new = Emits (λ i program g numbers f from to. IsStatement i program g numbers f w from to x) v w old (stmt_bound v.scope x) new
+EmitsStatement v w old x new = Emits (λ i program g numbers f from to. IsStatement i program g numbers f w unhandled from to x) v w old (stmt_bound v.scope x) new
 
 abbrev pub EmitsStatements : Visible → Ways → Draft → StmtTrees → Draft → Type 0
 EmitsStatements v w old body new =
-    Emits (λ i program g numbers f from to. AreStatements i program g numbers f w from to body) v w old (stmts_bound v.scope body) new
+    Emits (λ i program g numbers f from to. AreStatements i program g numbers f w unhandled from to body) v w old (stmts_bound v.scope body) new
 
 -- ---- stores
 
@@ -265,8 +267,8 @@ in_front (x ∷ all) rest = MoreElsifs x.0 x.1 (in_front all rest)
 abbrev pub AreParts : Ways → List (ExprTree × StmtTrees) → MeantTo
 AreParts w all i program g numbers f end from to =
     (rest : ElsifTrees) (others : StmtTrees)
-    → IsOtherwise i program g numbers f w to end rest (λ x y. AreStatements i program g numbers f w x y others)
-    → IsOtherwise i program g numbers f w from end (in_front all rest) (λ x y. AreStatements i program g numbers f w x y others)
+    → IsOtherwise i program g numbers f w unhandled to end rest (λ x y. AreStatements i program g numbers f w unhandled x y others)
+    → IsOtherwise i program g numbers f w unhandled from end (in_front all rest) (λ x y. AreStatements i program g numbers f w unhandled x y others)
 
 -- code of these parts was added, and the places of their jumps to what waits
 pub record AddsParts (v : Visible) (w : Ways) (old : Draft) (all : List (ExprTree × StmtTrees)) (before after : List ℕ) (new : Draft) : Type 0 where
@@ -296,9 +298,9 @@ pub record IsLegalRun (s : Scope) (ds : List DeclarationTree) (body : StmtTrees)
   pub statements : AreLegal (locals_scope s ds) body
 
 abbrev pub no_ways : Ways
-no_ways = record { exit = None; return = None }
+no_ways = record { exit = None; return = None; handled = None }
 
 -- the code of both was added, with a way out of the body between them
 abbrev pub EmitsRun : Visible → Draft → List DeclarationTree → StmtTrees → Draft → Type 0
 EmitsRun v old ds body new =
-    Emits (λ i program g numbers f from to. IsRun i program g numbers f from to ds body) v no_ways old (run_bound v.scope ds body) new
+    Emits (λ i program g numbers f from to. IsRun i program g numbers f from to ds body NoHandlers) v no_ways old (run_bound v.scope ds body) new

@@ -1,5 +1,5 @@
 -- What is proved of code that stands for work, as a statement; it is the contract of a public function.
-use Rattle.std.specs.Prelude.{◌≡◌, ℕ, List, []}
+use Rattle.std.specs.Prelude.{◌≡◌, ◌≤◌, ℕ, List, length}
 use Rattle.base.specs.declared.schedule.ScheduleLine.{ScheduleLine}
 use Rattle.kernel.specs.State.{Kernel}
 use Rattle.kernel.specs.Calm.{Calm}
@@ -19,9 +19,10 @@ use Rattle.expr_code.specs.Seeing.{library_of, Package}
 use Rattle.stmt_code.specs.Statements.{HasProcedures, Numbers}
 use Rattle.stmt_code.specs.Standing.{Shares, WorkStands, relation}
 
--- an image that has the code of a program's functions and procedures
+-- an image that has the exceptions of a program, the predefined ones among them, and the code of its functions and procedures
 pub record HasCode (i : Sections) (program : Program) (g : Package) (numbers : Numbers) : Type 0 where
-  pub rows : i.rows ≡ []
+  pub exceptions : i.exceptions ≡ program.exceptions
+  pub predefined : 4 ≤ length program.exceptions
   pub functions : (left : ℕ) → Answers i (library_of g) (call left) left
   pub procedures : HasProcedures i program g numbers
 

@@ -1,4 +1,5 @@
 pub mod Resting
+pub mod Handling
 pub mod Storing
 pub mod Layout
 pub mod Parts

@@ -349,7 +349,7 @@ RefusesChoices s old choices bound why = IsNeeding (here old + bound) (choices_n
 -- the head of a loop over a range
 abbrev pub RefusesRange : Visible → (old : Draft) → Identifier → (reversed : Bool) → RangeTree → (new : Draft) → Refusal → Type 0
 RefusesRange v old parameter reversed range new why =
-    Refuses old new (6 + 20 * (expr_size range.first + expr_size range.last)) (head_needs (around v (record { exit = None; return = None }) old) (For parameter reversed range)) why
+    Refuses old new (6 + 20 * (expr_size range.first + expr_size range.last)) (head_needs (around v (record { exit = None; return = None; handled = None }) old) (For parameter reversed range)) why
 
 -- ---- bodies
 

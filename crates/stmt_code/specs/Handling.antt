@@ -1,0 +1,44 @@
+-- Where exceptions go on that code raises, and how the code of a handler begins (RM 11.4; docs/CODEGEN.md).
+use Rattle.std.specs.Prelude.{◌≡◌, ◌≤◌, ◌<◌, ℕ, suc, ℤ, pos, List, [], ◌∷◌, length, Option, None}
+use Rattle.base.specs.declared.schedule.ScheduleLine.{ScheduleLine}
+use Rattle.kernel.specs.State.{Kernel}
+use Rattle.kernel.specs.Effects.{Quiet}
+use Rattle.handlers.specs.Innermost.{handler_of}
+use Rattle.image.specs.Sections.{Sections}
+use Rattle.image.specs.Frames.{Frame, Words}
+use Rattle.image.specs.Steps.{act, does}
+use Rattle.meaning.specs.Works.{Activation}
+use Rattle.expr_code.specs.Seeing.{Package}
+use Rattle.expr_code.specs.Views.{in_frame, placed}
+use Rattle.stmt_code.specs.Resting.{Framed, Held, RestsWith, Shows}
+
+-- where each exception goes on in the same subprogram, if it does
+abbrev pub Handling : Type 0
+Handling = ℕ → Option ℕ
+
+abbrev pub unhandled : Handling
+unhandled x = None
+
+-- so goes on what these places raise, by the rows of the image
+abbrev pub GoesBy : Sections → Handling → (from to : ℕ) → Type 0
+GoesBy i r from to = (place x : ℕ) → from ≤ place → place < to → handler_of i.rows place x ≡ r x
+
+-- the word of a frame that holds an exception
+abbrev pub exception_in : (word x : ℕ) → Held
+exception_in word x = record { offset = word; word = pos x }
+
+module _ (i : Sections) (g : Package) where
+  -- The instruction takes the exception off the operand stack into a word of the frame, which is held from there on.
+  pub record IsKept (inner : Framed) (word place : ℕ) (f : Frame) (held : List Held) (a : Activation) (x : ℕ) : Type 0 where
+    pub locals : List ℤ
+    pub acts : (schedule : List ScheduleLine) (k : Kernel) (t : ℕ) (m : Words) (fs : List Frame)
+        → act i schedule k t (in_frame m (placed f place (pos x ∷ [])) fs)
+        ≡ does Quiet m (record f { place = suc place; locals = locals; stack = [] }) fs None None
+    pub rests : RestsWith g inner (exception_in word x ∷ held) a locals
+
+  -- ... whatever frame and exception it is
+  pub record KeepsException (v inner : Framed) (word place : ℕ) : Type 0 where
+    pub shows : Shows g inner v
+    pub reserved : inner.reserved ≡ word ∷ v.reserved
+    pub keeps : (f : Frame) (held : List Held) (a : Activation) (x : ℕ) → v.room ≤ length f.locals → RestsWith g v held a f.locals
+        → IsKept inner word place f held a x
