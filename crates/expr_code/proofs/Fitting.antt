@@ -66,7 +66,7 @@ module _ (s : Scope) (sound : SoundScope s) (t : Subtype) where
       by_wanted Anything same own f = absurd same
 
   -- an array or a record lies in each subtype of its type
-  composite_passes : is_composite (form_at s t.type_number) ≡ true → (x : Value) → has_shape (shape_of s t) x ≡ true → passed t x ≡ Gives x
+  pub composite_passes : is_composite (form_at s t.type_number) ≡ true → (x : Value) → has_shape (shape_of s t) x ≡ true → passed t x ≡ Gives x
   composite_passes composite x h = by_form (form_at s t.type_number) refl composite
     where
       by_form : (o : Option TypeForm) → form_at s t.type_number ≡ o → is_composite o ≡ true → passed t x ≡ Gives x

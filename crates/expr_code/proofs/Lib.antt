@@ -5,7 +5,7 @@ pub mod Passing
 pub mod Calling
 pub mod Naming
 pub mod Locating
-mod Paths
+pub mod Paths
 pub mod Growing
 pub mod Flowing
 mod Legal
@@ -13,8 +13,8 @@ mod Emitted
 mod ShortCircuits
 mod Chains
 mod Branching
-mod Names
-mod Checking
+pub mod Names
+pub mod Checking
 mod Conversions
 pub mod Going
 mod Addressing

@@ -38,6 +38,7 @@ use Rattle.stmt_code.specs.Storing.{Assigned, Puts, assigned}
 use Rattle.stmt_code.proofs.Declaring.{IsTypedAs, value_suits}
 use Rattle.stmt_code.proofs.Names.{found_meant, meant_width, object_subtype, same_name, variable_meant}
 use Rattle.stmt_code.proofs.Placing.{stored_knows}
+use Rattle.stmt_code.proofs.Arriving.{stores_assign}
 use Rattle.stmt_code.proofs.StoringCode.{NamesWhole, StoresLocally, StoresPlainly, assigned_is, block_locally, block_plainly, comes_assigned, computes_above, given_value, local_named, named_whole, package_meant, package_named, whole_of, whole_there, word_locally, word_plainly}
 use Rattle.stmt_code.proofs.Variables.{variable_stands}
 use Rattle.stmt_code.proofs.Words.{lies_within, with_words, written, others_kept}
@@ -113,7 +114,7 @@ module _ (kept : AgreementIsKept) (sized : ValuesHaveWords) (calls : CallsAreTyp
         → Everywhere i (library_of g) (Sees g v.names) from mid (λ base z. on (stack base) z) (λ c p. and_then (value_with c p e) (passed t))
         → StoresLocally i mid slot.offset (words_of v.names.scope t) (on (stack []))
         → IsAssigned i program g numbers v from (suc mid) name e
-    assigns_local from mid up stack computes stores = record {
+    assigns_local from mid up stack computes stores = stores_assign i program g (record {
       mid = mid;
       up = up;
       end = refl;
@@ -121,7 +122,7 @@ module _ (kept : AgreementIsKept) (sized : ValuesHaveWords) (calls : CallsAreTyp
       stack = λ base y. on (stack base) y.value;
       computes = computes_assigned from mid stack computes;
       puts = puts;
-    }
+    })
       where
         puts : (schedule : List ScheduleLine) (k : Kernel) (task : ℕ) (m : Words) (f : Frame) (fs : List Frame) (store : Store) (a : Activation) (p : Place)
             (y : Assigned)
@@ -193,7 +194,7 @@ module _ (kept : AgreementIsKept) (sized : ValuesHaveWords) (calls : CallsAreTyp
         → Everywhere i (library_of g) (Sees g v.names) from mid (λ base z. on (stack base) z) (λ c p. and_then (value_with c p e) (passed t))
         → StoresPlainly i mid slot.offset (words_of v.names.scope t) (on (stack []))
         → IsAssigned i program g numbers v from (suc mid) name e
-    assigns_plain from mid up stack computes stores = record {
+    assigns_plain from mid up stack computes stores = stores_assign i program g (record {
       mid = mid;
       up = up;
       end = refl;
@@ -201,7 +202,7 @@ module _ (kept : AgreementIsKept) (sized : ValuesHaveWords) (calls : CallsAreTyp
       stack = λ base y. on (stack base) y.value;
       computes = computes_assigned from mid stack computes;
       puts = puts;
-    }
+    })
       where
         puts : (schedule : List ScheduleLine) (k : Kernel) (task : ℕ) (m : Words) (f : Frame) (fs : List Frame) (store : Store) (a : Activation) (p : Place)
             (y : Assigned)

@@ -37,12 +37,13 @@ use Rattle.stmt_code.specs.Layout.{IsLaidOut, IsVariable, NamesObject}
 use Rattle.stmt_code.specs.Resting.{Framed, IsAt, Knows, Rests, StandsFor}
 use Rattle.stmt_code.specs.Statements.{IsAssigned, Numbers}
 use Rattle.stmt_code.specs.Storing.{Assigned, Puts, assigned, assigned_to}
+use Rattle.stmt_code.proofs.Arriving.{stores_assign}
 use Rattle.stmt_code.proofs.Declaring.{IsTypedAs, value_suits}
 use Rattle.stmt_code.proofs.Pointing.{PointsTo, address_here, computes_pointed, part_here, place_in, placed_here, pointed}
 use Rattle.stmt_code.proofs.StoringCode.{comes_part, given_value}
 use Rattle.stmt_code.proofs.StoringParts.{HoldsVariables, StoresIn, address_is, block_in, part_puts, place_of, word_in}
 
-form_there : (o : Option TypeForm) → is_some o ≡ true → (form : TypeForm) × (o ≡ Some form)
+pub form_there : (o : Option TypeForm) → is_some o ≡ true → (form : TypeForm) × (o ≡ Some form)
 form_there (Some form) h = (form, refl)
 form_there None h = cc
 
@@ -97,7 +98,7 @@ module _ (kept : AgreementIsKept) (sized : ValuesHaveWords) (calls : CallsAreTyp
     -- the value is stored where the target is placed
     assigns_part : HoldsVariables slot.region → ((a : ℕ) → StoresIn i slot.region mid a (words_of v.names.scope last) [] (on (pos a ∷ [])))
         → IsAssigned i program g numbers v from (suc mid) name e
-    assigns_part holds stores = record {
+    assigns_part holds stores = stores_assign i program g (record {
       mid = mid;
       up = omega (arith, le, up);
       end = refl;
@@ -105,7 +106,7 @@ module _ (kept : AgreementIsKept) (sized : ValuesHaveWords) (calls : CallsAreTyp
       stack = both_on;
       computes = computes_part;
       puts = puts;
-    }
+    })
       where
         puts : (schedule : List ScheduleLine) (k : Kernel) (task : ℕ) (m : Words) (f : Frame) (fs : List Frame) (store : Store) (a : Activation) (p : Place)
             (y : Assigned)

@@ -19,6 +19,7 @@ mod Placing
 mod Variables
 pub mod StoringCode
 mod Declaring
+mod Arriving
 mod Assigning
 pub mod Narrowing
 pub mod Laying
@@ -79,3 +80,5 @@ mod FormalsRefused
 mod CallsRefused
 mod BodiesRefused
 mod Choosable
+mod MovingParts
+mod Moved

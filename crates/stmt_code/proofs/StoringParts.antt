@@ -1,11 +1,13 @@
 -- A value is stored where a target is placed: the words stand for the store and the activation then, and what is below on the operand stack stays.
-use Rattle.std.proofs.Common.{◌≡◌, ℕ, ◌+◌, ◌≤◌, ℤ, List, ◌∷◌, length, inl, inr, Some, None, true, refl, sym, ap, ◌∙◌, subst, arith}
+use Rattle.std.proofs.Common.{◌≡◌, ℕ, suc, ◌+◌, ◌≤◌, ℤ, List, ◌∷◌, length, inl, inr, Some, None, true, refl, sym, ap, ◌∙◌, subst, arith}
 use Rattle.std.specs.Prelude.{pos, ⊤}
 use Rattle.base.specs.declared.schedule.ScheduleLine.{ScheduleLine}
 use Rattle.kernel.specs.State.{Kernel}
+use Rattle.kernel.specs.Effects.{Quiet}
 use Rattle.kernel.specs.Laws.{QuietStays}
 use Rattle.image.specs.Sections.{Sections}
 use Rattle.image.specs.Frames.{Words, Frame}
+use Rattle.image.specs.Steps.{act, does}
 use Rattle.image.specs.declared.instruction.Operation.TheVariants as op
 use Rattle.image.specs.declared.instruction.Region.{Region}
 use Rattle.image.specs.declared.instruction.Region.TheVariants as regions
@@ -29,7 +31,7 @@ use Rattle.meaning.specs.Works.{Activation, InActivation, InPackage, Store, Targ
 use Rattle.expr_code.specs.Coming.{on}
 use Rattle.expr_code.specs.Naming.{Lies}
 use Rattle.expr_code.specs.Seeing.{Package, Sees, slot_of}
-use Rattle.expr_code.specs.Views.{At, View, view_of}
+use Rattle.expr_code.specs.Views.{At, View, in_frame, placed, view_of}
 use Rattle.expr_code.specs.declared.visible.Visible.{Visible}
 use Rattle.stmt_code.specs.Copying.{IsHomeOf, IsPlaced, address_of, entity_shape, offset_or_none, shape_named}
 use Rattle.stmt_code.specs.declared.call.Destination.{Destination}
@@ -188,8 +190,27 @@ module _ (kept : AgreementIsKept) (sized : ValuesHaveWords) (i : Sections) (prog
     abbrev HasPut : Type 0
     HasPut = Puts i program g schedule k task m f fs mid (stack y) base v (store_with x y store) (activation_with x y a)
 
+    -- the instruction stores the words of the value there, where there is room for them
+    abbrev PutsLocally : Type 0
+    PutsLocally =
+        place_here + size_here ≤ length f.locals
+        → act i schedule k task (in_frame m (placed f mid (stack y)) fs)
+        ≡ does Quiet m (record f { place = suc mid; locals = with_words place_here (value_words y) f.locals; stack = base }) fs None None
+
+    abbrev PutsPlainly : Type 0
+    PutsPlainly =
+        place_here + size_here ≤ length m.plain
+        → act i schedule k task (in_frame m (placed f mid (stack y)) fs)
+        ≡ does Quiet (record m { plain = with_words place_here (value_words y) m.plain }) (record f { place = suc mid; locals = f.locals; stack = base }) fs
+        None None
+
+    abbrev pub PutsIn : Region → Type 0
+    PutsIn regions.Locals = PutsLocally
+    PutsIn regions.Plain = PutsPlainly
+    PutsIn regions.Object = ⊥
+
     -- in the frame, for an object of the running activation
-    puts_locally : d.region ≡ regions.Locals → StoresLocallyAbove i mid place_here size_here base stack → HasPut
+    puts_locally : d.region ≡ regions.Locals → PutsLocally → HasPut
     puts_locally is stores =
         let region = h.region ∙ is in
         let home = subst (λ q. IsHomeOf q x.home) is h.home in
@@ -212,7 +233,7 @@ module _ (kept : AgreementIsKept) (sized : ValuesHaveWords) (i : Sections) (prog
         (record {
           words = m;
           locals = after;
-          acts = stores schedule k task m f fs y many part_room;
+          acts = stores part_room;
           shared = stands;
           rests = record {
             small = (let l = put.long in let s = rests.small in omega (arith, l, s));
@@ -228,7 +249,7 @@ module _ (kept : AgreementIsKept) (sized : ValuesHaveWords) (i : Sections) (prog
         }))
 
     -- in the plain words, for a variable of the package
-    puts_plainly : d.region ≡ regions.Plain → StoresPlainlyAbove i mid place_here size_here base stack → HasPut
+    puts_plainly : d.region ≡ regions.Plain → PutsPlainly → HasPut
     puts_plainly is stores =
         let region = h.region ∙ is in
         let home = subst (λ q. IsHomeOf q x.home) is h.home in
@@ -254,7 +275,7 @@ module _ (kept : AgreementIsKept) (sized : ValuesHaveWords) (i : Sections) (prog
         (record {
           words = record m { plain = after };
           locals = f.locals;
-          acts = stores schedule k task m f fs y many part_room;
+          acts = stores part_room;
           shared = variable_stands kept sized program g laid.unit store m stands p is_at knows.sees.unit.sound (sym is_at.scope ∙ knows.sees.unit.scope) new old
               (subst (λ q. object_of store.variables q ≡ Some old) called found) refl
               (new_outside p here knows.sees old meant) (new_wide p here knows.sees old meant ∙ sym (old_wide p here knows.sees old meant)) h.slot
@@ -263,10 +284,18 @@ module _ (kept : AgreementIsKept) (sized : ValuesHaveWords) (i : Sections) (prog
           keeps = λ n among. refl;
         }))
 
-    pub part_puts : StoresIn i d.region mid place_here size_here base stack → HasPut
-    part_puts stores = by_region d.region refl stores
+    pub put_there : PutsIn d.region → HasPut
+    put_there puts = by_region d.region refl puts
       where
-        by_region : (r : Region) → d.region ≡ r → StoresIn i r mid place_here size_here base stack → HasPut
+        by_region : (r : Region) → d.region ≡ r → PutsIn r → HasPut
         by_region regions.Locals is s = puts_locally is s
         by_region regions.Plain is s = puts_plainly is s
         by_region regions.Object is s = absurd s
+
+    pub part_puts : StoresIn i d.region mid place_here size_here base stack → HasPut
+    part_puts stores = put_there (in_region d.region stores)
+      where
+        in_region : (r : Region) → StoresIn i r mid place_here size_here base stack → PutsIn r
+        in_region regions.Locals s = λ room. s schedule k task m f fs y many room
+        in_region regions.Plain s = λ room. s schedule k task m f fs y many room
+        in_region regions.Object s = absurd s

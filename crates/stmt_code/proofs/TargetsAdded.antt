@@ -75,7 +75,7 @@ where_variables regions.Locals h = tt
 where_variables regions.Plain h = tt
 where_variables regions.Object h = cc
 
-has_place : (s : Subprogram) (r : Region) → holds_variables r ≡ true → has_region s r ≡ true
+pub has_place : (s : Subprogram) (r : Region) → holds_variables r ≡ true → has_region s r ≡ true
 has_place s regions.Locals h = refl
 has_place s regions.Plain h = refl
 has_place s regions.Object h = cc

@@ -1,6 +1,7 @@
 -- Steps that evaluate: conditions, loops, values that are stored, lines.
 use Rattle.std.proofs.Common.{◌≡◌, ℕ, suc, ◌+◌, ◌-◌, ◌<◌, ◌≤◌, ℤ, List, [], ◌∷◌, length, Option, Some, None, Bool, true, false, refl, sym, ap, ◌∙◌, subst, arith}
 use Rattle.std.specs.Prelude.{if◌then◌else◌}
+use Rattle.base.specs.declared.limits.TheConstants.{FRAMES}
 use Rattle.base.specs.declared.schedule.ScheduleLine.{ScheduleLine}
 use Rattle.kernel.specs.State.{Kernel}
 use Rattle.kernel.specs.Effects.{Quiet, Says}
@@ -36,12 +37,14 @@ use Rattle.expr_code.proofs.Coming as coming
 use Rattle.stmt_code.specs.Resting.{Framed, Held, RestsWith, Shows}
 use Rattle.stmt_code.proofs.Holding.{held_kept}
 use Rattle.stmt_code.specs.Handling.{GoesBy}
-use Rattle.stmt_code.specs.Storing.{Assigned, Puts, Stores, assigned, assigned_to, declared, declared_from, object_declared}
+use Rattle.stmt_code.specs.Storing.{Arrives, Assigned, Assigns, Puts, assigned, assigned_to, declared, declared_from, object_declared}
 use Rattle.stmt_code.specs.Statements.{AreStatements, IsOtherwise, IsPut, IsWhile, Numbers, within_loop}
 use Rattle.stmt_code.specs.Standing.{Going, Here, Jumps, Leads, LeadsInto, Reaches, in_loop, Shares, There, items_size, work_size}
 use Rattle.stmt_code.proofs.Going.{before_ends, before_follows, earlier, into, jumps_up, narrows_same, way_out}
 use Rattle.stmt_code.proofs.Sizes.{item_counts}
 use Rattle.stmt_code.proofs.Handling.{goes_within}
+use Rattle.stmt_code.proofs.StoringCode.{same_given}
+use Rattle.stmt_code.proofs.Arriving.{by_evaluation, stores_assign}
 use Rattle.stmt_code.proofs.Scenes.{Scene}
 use Rattle.stmt_code.proofs.Scenes as scene
 
@@ -499,7 +502,69 @@ module _ (this : Scene) where
 
     -- ---- values that are stored
 
-    pub met_stores : {A : Type 0} (i' : Item) (items : List Item) → w.work ≡ Goes (i' ∷ items) → s.frame.stack ≡ [] → s.raising ≡ None
+    -- the instruction that stores a value meets the step that does
+    stored_meets : (items : List Item) (now' later : Framed) (mid to : ℕ) (store' : Store) (own' : Activation) (a : Setting) (stack : List ℤ)
+        → to ≡ suc mid → later.reserved ≡ now'.reserved
+        → RestsWith g now' a.held w.own f.locals
+        → Follow (seeing later a) f.subprogram to items fs w.callers
+        → own'.within ≡ None
+        → length fs ≡ ends_of_calls items
+        → Removable f fs
+        → Puts i program g schedule k t m f fs mid stack [] later store' own'
+        → (y : steps.Stepped) × (act i schedule k t (in_frame m (placed f mid stack) fs) ≡ y)
+        × Meets
+        (record {
+          effect = Quiet;
+          solo = record { memory = store'; task = record { work = Goes items; own = own'; callers = w.callers } };
+          given = None;
+        }) y
+    stored_meets items now' later mid to store' own' a stack end same here rest outside depth inner put =
+        let kept : RestsWith g later a.held own' put.locals =
+        record {
+          rests = put.rests;
+          held = held_kept a.held later.reserved f.locals put.locals (here.apart ∙ sym same) put.keeps here.held;
+          apart = here.apart ∙ sym same;
+        } in (
+          steps.does Quiet put.words (goes_at f to put.locals) fs None None,
+          put.acts ∙ ap (λ q. steps.does Quiet put.words (goes_at f q put.locals) fs None None) (sym end),
+          record {
+            effect = refl;
+            waits = refl;
+            alone = tt;
+            code = Going items refl (scene.goes_on this s items own' (seeing later a) to put.locals rest kept outside depth inner);
+            words = put.shared;
+          },
+        )
+
+    -- code that arrives at an instruction which meets the step meets it
+    met_arrived : {A : Type 0} (items : List Item) (go : A → source.Stepped) (n from mid : ℕ) (later : Framed) (store_after' : A → Store)
+        (own_after : A → Activation) (u : Val A)
+        → work_step now w.work ≡ with_value now u items go
+        → items_size items < work_size w.work
+        → Removable f fs
+        → Handled u items from mid
+        → Reaching f fs n f.place from
+        → n + (mid - from) < size_of i f.subprogram + size_of i f.subprogram
+        → ((z : A) (stack : List ℤ) → Puts i program g schedule k t m f fs mid stack [] later (store_after' z) (own_after z)
+        → (y : steps.Stepped) × (act i schedule k t (in_frame m (placed f mid stack) fs) ≡ y) × Meets (go z) y)
+        → Arrives i program g schedule k t m f fs from mid later store_after' own_after u
+        → Meet (in_frame m (placed f f.place []) fs).task
+    met_arrived {A} items go n from mid later store_after' own_after u is less inner handled first low meets h =
+        by_evaluation (Arrives i program g schedule k t m f fs from mid later store_after' own_after) (Meet (in_frame m (placed f f.place []) fs).task) u
+        (λ z e it.
+        scene.met_comes this f fs n from (mid - from) mid (λ y. it.0) (Gives z) items go first it.1 low (is ∙ ap (λ q. with_value now q items go) e) less inner
+        (λ x place left known ex low' high. absurd cc)
+        (λ x ex. meets x it.0
+        (subst (λ y. Puts i program g schedule k t m f fs mid it.0 [] later (store_after' y) (own_after y)) (same_given z x ex) it.2)))
+        (λ x e it.
+        scene.met_comes this f fs n from (mid - from) mid (λ (y : A). []) (Raises x) items go first it low (is ∙ ap (λ q. with_value now q items go) e) less
+        inner (λ y place left known ey low' high. handled y place left known (e ∙ ey) low' high) (λ y ey. cc))
+        (λ e it.
+        scene.met_comes this f fs n from (mid - from) mid (λ (y : A). []) Meaningless items go first tt low (is ∙ ap (λ q. with_value now q items go) e) less
+        inner (λ x place left known ex low' high. absurd cc) (λ y ey. cc))
+        h
+
+    pub met_assigns : {A : Type 0} (i' : Item) (items : List Item) → w.work ≡ Goes (i' ∷ items) → s.frame.stack ≡ [] → s.raising ≡ None
         → (v later : Framed) (at to : ℕ) (value : Calls → Place → Val A) (store_after' : A → Store → Store) (own_after : A → Activation → Activation)
         → source.item_step now i' items ≡ with_value now (value (call (frames_left items)) (place_of now items)) items
         (λ x. record {
@@ -513,7 +578,7 @@ module _ (this : Scene) where
         })
         → (a : Setting) (now' : Framed)
         → LeadsInto i program g numbers a.visible f.subprogram f.place at to now'
-        → Stores i program g now' later at to value store_after' own_after
+        → Assigns i program g now' later at to value store_after' own_after
         → Follow (seeing later a) f.subprogram to items fs w.callers
         → RestsWith g a.visible a.held w.own f.locals
         → w.own.within ≡ None
@@ -522,7 +587,7 @@ module _ (this : Scene) where
         → Removable f fs
         → Handled (value (call (frames_left items)) (place_of now items)) items at to
         → Meet s
-    met_stores i' items is stack going v later at to value store_after' own_after same a now' leads code rest rests before outside depth inner handled =
+    met_assigns i' items is stack going v later at to value store_after' own_after same a now' leads code rest rests before outside depth inner handled =
         let mid = code.mid in
         let le = code.up in
         let end = code.end in
@@ -530,59 +595,40 @@ module _ (this : Scene) where
         let y = leads.to_inside in
         let up = jumps_up i program g numbers f.place at leads.jumps in
         let here = scene.narrowed this s a.visible now' w.own f.locals leads.narrows rests in
-        let kept : (z : _) (put : Puts i program g schedule k t m f fs mid (code.stack [] z) [] later (store_after' z store) (own_after z w.own))
-        → RestsWith g later a.held (own_after z w.own) put.locals =
-        λ z put. record {
-          rests = put.rests;
-          held = held_kept a.held later.reserved f.locals put.locals (here.apart ∙ sym code.same) put.keeps here.held;
-          apart = here.apart ∙ sym code.same;
-        } in
-        let v = value (call (frames_left items)) (place_of now items) in
-        let go : _ → source.Stepped = λ x. record {
-          effect = Quiet;
-          solo = record
-              { memory = store_after' x store; task = record { work = Goes items; own = own_after x w.own; callers = w.callers } };
-          given = None;
-        } in
         subst Meet (sym (scene.going_is this s stack going))
-        (scene.met_comes this f fs (at - f.place) at (mid - at) mid (code.stack []) v items go
-        (scene.jumps_spend this f fs f.place at leads.jumps)
-        (scene.evaluates this now' at mid code.stack value items f fs code.computes here depth)
-        (omega (arith, x.0, y.1, up, le, end))
-        (ap (λ q. work_step now q) is ∙ same)
-        (subst (λ q. items_size items < work_size q) (sym is) (let c = item_counts i' items in omega (arith, c))) inner
+        (met_arrived items
+        (λ z. record {
+          effect = Quiet;
+          solo = record { memory = store_after' z store; task = record { work = Goes items; own = own_after z w.own; callers = w.callers } };
+          given = None;
+        }) (at - f.place) at mid later (λ z. store_after' z store) (λ z. own_after z w.own)
+        (value (call (frames_left items)) (place_of now items)) (ap (λ q. work_step now q) is ∙ same)
+        (subst (λ q. items_size items < work_size q) (sym is) (let h = item_counts i' items in omega (arith, h))) inner
         (λ x place left known e low high. handled x place left known e low (omega (arith, high, end)))
-        (λ z ez.
-        let put = code.puts schedule k t m f fs store w.own (place_of now items) z
+        (scene.jumps_spend this f fs f.place at leads.jumps) (omega (arith, x.0, y.1, up, le, end))
+        (λ z left put.
+        stored_meets items now' later mid to (store_after' z store) (own_after z w.own) a left end code.same here rest (outside z) depth inner put)
+        (code.arrives schedule k t m f fs store w.own (place_of now items) this.has.functions calm
         (record { scope = refl; functions = refl; variables = refl; components = refl }) refl refl shares.stands here.rests
-        (scene.sees_here this now' items f fs here) before ez in (
-          steps.does Quiet put.words (goes_at f to put.locals) fs None None,
-          put.acts ∙ ap (λ q. steps.does Quiet put.words (goes_at f q put.locals) fs None None) (sym end),
-          record {
-            effect = refl;
-            waits = refl;
-            alone = tt;
-            code = Going items refl (scene.goes_on this s items (own_after z w.own) (seeing later a) to put.locals rest (kept z put) (outside z) depth inner);
-            words = put.shared;
-          },
-        )))
+        (scene.sees_here this now' items f fs here) before (ap (λ n. FRAMES - suc n) (sym depth))))
 
     -- an `out` parameter
     pub met_parameter : (p : Parameter) (items : List Item) → w.work ≡ Goes (DeclaresParameter p ∷ items) → (h : IsAtItems (DeclaresParameter p ∷ items))
         → Meet s
     met_parameter p items is h =
         let r = h.follows in
-        met_stores (DeclaresParameter p) items is h.stack h.going r.2 r.3 r.0 r.1 (λ calls q. Gives (initial program.scope p.subtype)) (λ x m. m)
+        met_assigns (DeclaresParameter p) items is h.stack h.going r.2 r.3 r.0 r.1 (λ calls q. Gives (initial program.scope p.subtype)) (λ x m. m)
         (λ x a. record a { locals = record { name = p.name; subtype = p.subtype; value = x } ∷ a.locals })
-        refl h.around r.2 r.4 r.6 r.7 h.rests h.outside (λ x. h.outside) h.depth h.inner (λ x place left known e low high. absurd cc)
+        refl h.around r.2 r.4 (stores_assign i program g r.6) r.7 h.rests h.outside (λ x. h.outside) h.depth h.inner (λ x place left known e low high. absurd cc)
 
     pub met_declares : (d : ObjectTree) (items : List Item) → w.work ≡ Goes (Declares (LocalObject d) ∷ items)
         → (h : IsAtItems (Declares (LocalObject d) ∷ items)) → Meet s
     met_declares d items is h =
         let r = h.follows in
-        met_stores (Declares (LocalObject d)) items is h.stack h.going r.2 r.3 r.0 r.1 (declared program.scope d) (λ x m. m)
+        met_assigns (Declares (LocalObject d)) items is h.stack h.going r.2 r.3 r.0 r.1 (declared program.scope d) (λ x m. m)
         (λ x a. record a { locals = object_declared program.scope d x ∷ a.locals })
-        (by_value d d.value) h.around r.2 (into i program g numbers h.around f.subprogram f.place r.0 r.1 r.2 r.4) r.6 r.7 h.rests h.outside (λ x. h.outside) h.depth h.inner
+        (by_value d d.value) h.around r.2 (into i program g numbers h.around f.subprogram f.place r.0 r.1 r.2 r.4) (stores_assign i program g r.6) r.7 h.rests h.outside
+        (λ x. h.outside) h.depth h.inner
         (scene.handled_by this s (seeing r.3 h.around) r.2 r.1 items (declared program.scope d (call (frames_left items)) (place_of now items)) r.0 r.1 r.7 r.8
         (scene.narrowed this s h.around.visible r.2 w.own f.locals r.4.narrows h.rests) (sym r.5.reserved) r.4.reaches.2 h.outside h.depth h.inner)
       where
@@ -605,7 +651,7 @@ module _ (this : Scene) where
         → (h : IsAtItems (Does (Assignment name e) ∷ items)) → Meet s
     met_assignment name e items is h =
         let r = h.follows in
-        met_stores (Does (Assignment name e)) items is h.stack h.going r.2 r.2 r.0 r.1 (assigned name e) (λ x m. store_with x.target x.value m)
+        met_assigns (Does (Assignment name e)) items is h.stack h.going r.2 r.2 r.0 r.1 (assigned name e) (λ x m. store_with x.target x.value m)
         (λ x a. activation_with x.target x.value a)
         (by_target (target (place_of now items) name.first.name name.selectors)) h.around r.2 (into i program g numbers h.around f.subprogram f.place r.0 r.1 r.2 r.3) r.4.0 r.5 h.rests
         h.outside (λ x. same_object x.target x.value w.own ∙ h.outside) h.depth h.inner

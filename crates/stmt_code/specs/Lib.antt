@@ -13,6 +13,7 @@ pub mod Suiting
 pub mod Bounds
 pub mod Emitting
 pub mod Passing
+pub mod Moving
 pub mod Alternatives
 pub mod Formals
 pub mod Subprograms

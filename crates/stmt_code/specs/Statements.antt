@@ -40,7 +40,7 @@ use Rattle.stmt_code.specs.Copying.{AreCopies, ArePlaced, GivesBack, actuals_on,
 use Rattle.stmt_code.specs.declared.call.Destination.{Destination}
 use Rattle.stmt_code.specs.Counting.{IsCounted, IsRange}
 use Rattle.stmt_code.specs.Handling.{GoesBy, Handling, KeepsException, unhandled}
-use Rattle.stmt_code.specs.Storing.{Stores, assigned, declared, object_declared}
+use Rattle.stmt_code.specs.Storing.{Assigns, Stores, assigned, declared, object_declared}
 use Rattle.meaning.specs.Targets.{activation_with, store_with}
 
 -- the ways out of a statement: behind the innermost loop, and to the end of the body; and the word that holds the exception of the handler around it
@@ -116,7 +116,7 @@ module _ (i : Sections) (program : Program) (g : Package) (numbers : Numbers) wh
   IsCalled v from to name None = (named_entity program.scope name.first ≡ Some Put) × IsPut v from to name.selectors
 
   abbrev pub IsAssigned : Framed → (from to : ℕ) → NameTree → ExprTree → Type 0
-  IsAssigned v from to name e = Stores i program g v v from to (assigned name e) (λ x m. store_with x.target x.value m)
+  IsAssigned v from to name e = Assigns i program g v v from to (assigned name e) (λ x m. store_with x.target x.value m)
       (λ x a. activation_with x.target x.value a)
 
   -- a jump to one of the ways out

@@ -1,25 +1,29 @@
 -- What it is that code stores a value: an assignment, or a declaration of an object (RM 3.3.1, 5.2).
-use Rattle.std.specs.Prelude.{◌≡◌, ◌≤◌, ℕ, suc, ℤ, List, [], ◌∷◌, Option, Some, None, ⊤}
+use Rattle.std.specs.Prelude.{◌≡◌, ◌≤◌, ◌-◌, ℕ, suc, ℤ, List, [], ◌∷◌, length, Option, Some, None, ⊤}
 use Rattle.base.specs.declared.schedule.ScheduleLine.{ScheduleLine}
 use Rattle.kernel.specs.State.{Kernel}
+use Rattle.kernel.specs.Calm.{Calm}
+use Rattle.kernel.specs.Counting.{Spends}
 use Rattle.kernel.specs.Effects.{Quiet}
 use Rattle.image.specs.Sections.{Sections}
 use Rattle.image.specs.Frames.{Words, Frame}
-use Rattle.image.specs.Steps.{act, does}
+use Rattle.image.specs.Steps.{act, behaviour, does}
 use Rattle.image.specs.declared.instruction.Operation.TheVariants as op
 use Rattle.ada_tree.specs.ExpressionTree.{ExprTree, NameTree}
 use Rattle.ada_tree.specs.StatementTree.{ObjectTree}
 use Rattle.types.specs.Scopes.{Scope}
 use Rattle.types.specs.Shapes.{initial}
 use Rattle.types.specs.Values.{Value}
-use Rattle.types.specs.Evaluations.{Val, Gives, and_then}
+use Rattle.types.specs.Evaluations.{Val, Gives, Meaningless, Raises, and_then}
 use Rattle.types.specs.Places.{Object, Place}
 use Rattle.types.specs.Evaluating.{Calls, call, passed, value_with}
 use Rattle.meaning.specs.Programs.{Program, subtype_named}
+use Rattle.meaning.specs.SameMeaning.{frames_of}
 use Rattle.meaning.specs.Works.{Activation, Store, Target}
 use Rattle.meaning.specs.Targets.{all_selected, object_named, target_or_nothing}
-use Rattle.expr_code.specs.Views.{At, in_frame, placed, view_of}
-use Rattle.expr_code.specs.Computing.{Everywhere}
+use Rattle.expr_code.specs.Views.{At, frames_above, in_frame, placed, view_of}
+use Rattle.expr_code.specs.Coming.{Comes, most_steps}
+use Rattle.expr_code.specs.Computing.{Answers, Everywhere}
 use Rattle.expr_code.specs.Seeing.{library_of, Package, Sees}
 use Rattle.stmt_code.specs.Resting.{AreKept, Framed, IsAt, Knows, Rests, StandsFor}
 
@@ -88,3 +92,35 @@ module _ (i : Sections) (program : Program) (g : Package) where
         → a.within ≡ None
         → value (call p.frames_left) p ≡ Gives x
         → Puts schedule k t m f fs mid (stack [] x) [] later (store_after x store) (own_after x a)
+
+  -- From its place the frame comes to the instruction that stores the value, with whatever that one stores it by on the operand stack; or it raises.
+  abbrev pub Arrives : {A : Type 0} → (schedule : List ScheduleLine) → Kernel → ℕ → Words → Frame → List Frame → (from mid : ℕ) → (later : Framed)
+      → (store_after : A → Store) → (own_after : A → Activation) → Val A → Type 0
+  Arrives schedule k t m f fs from mid later store_after own_after (Gives x) =
+      (stack : List ℤ)
+      × Spends (behaviour i schedule) t frames_of (most_steps i) (suc (length fs)) (mid - from) k (in_frame m (placed f from []) fs) k
+      (in_frame m (placed f mid stack) fs)
+      × Puts schedule k t m f fs mid stack [] later (store_after x) (own_after x)
+  Arrives schedule k t m f fs from mid later store_after own_after (Raises e) =
+      Comes i schedule k t m (placed f from []) fs (mid - from) mid (λ (stack : List ℤ). stack) (Raises e)
+  Arrives schedule k t m f fs from mid later store_after own_after Meaningless = ⊤
+
+  -- The code between two places stores what is computed, wherever a frame stands for the place of evaluation; its last instruction stores it.
+  pub record Assigns {A : Type 0} (v later : Framed) (from to : ℕ) (value : Calls → Place → Val A) (store_after : A → Store → Store)
+      (own_after : A → Activation → Activation) : Type 0 where
+    pub mid : ℕ
+    pub up : from ≤ mid
+    pub end : to ≡ suc mid
+    pub same : later.reserved ≡ v.reserved
+    pub arrives : (schedule : List ScheduleLine) (k : Kernel) (t : ℕ) (m : Words) (f : Frame) (fs : List Frame) (store : Store) (a : Activation) (p : Place)
+        → ((left : ℕ) → Answers i (library_of g) (call left) left)
+        → Calm k t
+        → IsAt program store p
+        → p.locals ≡ a.locals
+        → p.within ≡ a.within
+        → StandsFor program g store m
+        → Rests g v a f.locals
+        → Knows g v p (view_of i schedule k m f fs)
+        → a.within ≡ None
+        → p.frames_left ≡ frames_above fs
+        → Arrives schedule k t m f fs from mid later (λ x. store_after x store) (λ x. own_after x a) (value (call p.frames_left) p)

@@ -13,6 +13,7 @@ ghost use Rattle.stmt_code.specs.Statements.{Ways};
 ghost use Rattle.well_typed.specs.SoundScopes.{SoundScope};
 
 use crate::draft::Draft;
+use crate::moving::names_composite;
 use ada_tree::{Expr, NameExpr};
 use expr_code::{Refusal, Slot, Visible, raised};
 use image::{Operation, Region};
@@ -66,6 +67,9 @@ impl Draft {
         let Some(slot) = visible.slot(&name.first.name) else {
             return Err(Refusal::Outside);
         };
+        if names_composite(visible, name) {
+            return self.assign_composite(visible, slot, subtype, name, value);
+        }
         if visible.scope.words(subtype) != 1 {
             return self.assign_part(visible, slot, subtype, name, value);
         }
@@ -103,8 +107,8 @@ impl Draft {
         self.code.emit(1, store)
     }
 
-    // To an object or a part of one: its address, the value, which is checked, and what stores its words there.
-    fn assign_part(
+    /// Adds that to an object or a part of one: its address, the value, which is checked, and what stores its words there.
+    pub(crate) fn assign_part(
         &mut self,
         visible: &Visible,
         slot: Slot,

@@ -50,8 +50,8 @@ fn actuals_of(name: &NameExpr) -> Option<&[Argument]>
     }
 }
 
-// Whether variables have their words in the region.
-fn holds_variables(region: Region) -> bool
+/// Whether variables have their words in the region.
+pub(crate) fn holds_variables(region: Region) -> bool
     ensures { result ≡ holds_variables region }
 {
     match region {
@@ -72,8 +72,11 @@ fn loaded_at(region: Region, words: u16) -> Operation
     }
 }
 
-// How many words values of a subtype take, if they are as many as one instruction moves (docs/FORMATS.md).
-fn words_of(visible: &Visible, subtype: Subtype) -> Result<u16, Refusal>
+/// How many words values of a subtype take, if they are as many as one instruction moves (docs/FORMATS.md).
+///
+/// # Errors
+/// `Limit` where they take none, or more.
+pub(crate) fn words_of(visible: &Visible, subtype: Subtype) -> Result<u16, Refusal>
     ensures words { IfOk result (λ words. words ≡ words_of visible.now.scope subtype) }
     ensures block { IfOk result (λ words. is_block words ≡ true) }
 {

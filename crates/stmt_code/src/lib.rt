@@ -12,6 +12,7 @@ mod formals;
 pub mod laws;
 mod leaving;
 mod looping;
+mod moving;
 mod put;
 mod range_loop;
 mod statement;
