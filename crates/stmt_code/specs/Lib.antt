@@ -18,3 +18,5 @@ pub mod Subprograms
 pub mod Whole
 pub mod Turns
 pub mod Refusing
+pub mod Labels
+pub mod WholeRefusals
