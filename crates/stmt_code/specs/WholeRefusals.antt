@@ -7,7 +7,6 @@ use Rattle.ada_tree.specs.ExpressionTree.{ExprTree}
 use Rattle.ada_tree.specs.ProgramTree.{BodyTree}
 use Rattle.ada_tree.specs.Size.{total}
 use Rattle.types.specs.declared.entity.Subtype.{Subtype}
-use Rattle.types.specs.Layouts.{words_of}
 use Rattle.types.specs.Scopes.{Scope}
 use Rattle.type_rules.specs.SubtypeNames.{subtype_of}
 use Rattle.declaring.specs.BodyNames.{formals_scope}
@@ -15,7 +14,7 @@ use Rattle.expr_code.specs.Code.{here}
 use Rattle.expr_code.specs.Refusing.{checked_peak, is_outside, is_passable, peak}
 use Rattle.expr_code.specs.declared.refusal.Refusal.{Refusal}
 use Rattle.expr_code.specs.declared.visible.Visible.{Visible}
-use Rattle.stmt_code.specs.Bounds.{function_bound, procedure_bound}
+use Rattle.stmt_code.specs.Bounds.{function_bound, procedure_bound, words_named}
 use Rattle.stmt_code.specs.Formals.{no_subprogram, passed_for, slot_for}
 use Rattle.stmt_code.specs.Labels.{stmts_labels}
 use Rattle.stmt_code.specs.Refusing.{HasManyLabels, IsNeeding, Needs, all_given, both, formals_frame, formals_needs, handlers_needs, has_unfit, outs_needs, run_needs, stacked}
@@ -46,15 +45,15 @@ out_behind mode.Out many out = out + many
 out_behind mode.InOut many out = out
 
 -- all of them; code isn't made where what is named is no subtype
-abbrev mutual
-  pub placed_formals : Scope → (from out : ℕ) → List Formal → List PlacedFormal
-  placed_formals s from out [] = []
-  placed_formals s from out (f ∷ fs) = placed_with s from out f fs (subtype_of s f.subtype)
+abbrev pub placed_if : Mode → (from out : ℕ) → Option Subtype → (rest : List PlacedFormal) → List PlacedFormal
+placed_if m from out None rest = []
+placed_if m from out (Some t) rest = placed_as m t from out ∷ rest
 
-  pub placed_with : Scope → (from out : ℕ) → Formal → List Formal → Option Subtype → List PlacedFormal
-  placed_with s from out f fs None = []
-  placed_with s from out f fs (Some t) =
-      placed_as f.mode t from out ∷ placed_formals s (from_behind f.mode (words_of s t) from) (out_behind f.mode (words_of s t) out) fs
+abbrev pub placed_formals : Scope → (from out : ℕ) → List Formal → List PlacedFormal
+placed_formals s from out [] = []
+placed_formals s from out (f ∷ fs) =
+    placed_if f.mode from out (subtype_of s f.subtype)
+    (placed_formals s (from_behind f.mode (words_named s f.subtype) from) (out_behind f.mode (words_named s f.subtype) out) fs)
 
 -- those of a body: the ones that are not copied in stand behind all that is passed
 abbrev pub formals_placed : Scope → List Formal → List PlacedFormal
