@@ -74,3 +74,13 @@ mod FormalsRefused
 mod CallsRefused
 mod BodiesRefused
 mod Choosable
+mod AssignmentsRefused
+mod TargetsRefused
+mod Labelled
+mod Staying
+mod PartsStay
+mod LeavesStay
+mod WholePlaces
+mod WholeRefused
+mod GivenStays
+mod CallsStay

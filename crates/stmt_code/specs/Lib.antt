@@ -20,3 +20,4 @@ pub mod Turns
 pub mod Refusing
 pub mod Labels
 pub mod WholeRefusals
+pub mod Staying
