@@ -27,3 +27,4 @@ mod FitShapes
 mod LegalNames
 mod NamesRefused
 mod CallsRefused
+pub mod Shallow

@@ -95,14 +95,14 @@ module _ (s : Scope) where
   pub short_peak : (o : BinaryOperator) (n : ℕ) → binary_operation o ≡ None → operand_peak o n ≡ max 2 n
   short_peak o n is = ap (λ y. cond (is_none y) (max 2 n) (suc n)) is
 
-  peak_left : (left : ExprTree) (all : List Operand) → peak s left ≤ peak s (chain_tree left all)
+  pub peak_left : (left : ExprTree) (all : List Operand) → peak s left ≤ peak s (chain_tree left all)
   peak_left left [] = omega arith
   peak_left left (o ∷ all) =
       let more = peak_left (tree.Binary o.operator left (expr_tree o.value)) all in
       let up = le-max_left (peak s left) (operand_peak o.operator (peak s (expr_tree o.value))) in
       omega (arith, more, up)
 
-  peak_chain : (left : ExprTree) (all : List Operand) → operands_peak s all ≤ peak s (chain_tree left all)
+  pub peak_chain : (left : ExprTree) (all : List Operand) → operands_peak s all ≤ peak s (chain_tree left all)
   peak_chain left [] = omega arith
   peak_chain left (o ∷ all) =
       let inner = tree.Binary o.operator left (expr_tree o.value) in
@@ -340,7 +340,7 @@ module _ (v : Visible) where
   branches_counted [] = refl
   branches_counted (b ∷ all) = let more = branches_counted all in omega (arith, more)
 
-  branches_high : (all : List Branch) → elsifs_peak v.scope (in_front all NoElsifValues) ≡ branches_peak v.scope all
+  pub branches_high : (all : List Branch) → elsifs_peak v.scope (in_front all NoElsifValues) ≡ branches_peak v.scope all
   branches_high [] = refl
   branches_high (b ∷ all) = ap (λ n. max (peak v.scope b.condition) (max (peak v.scope b.value) n)) (branches_high all)
 

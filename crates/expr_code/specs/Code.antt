@@ -1,5 +1,5 @@
 -- What it is that code is added to, and that an image holds it.
-use Rattle.std.specs.Prelude.{◌≡◌, ℕ, ◌≤◌, List, [], ◌∷◌, ◌++◌, length, Some, slice_get, slice_set}
+use Rattle.std.specs.Prelude.{◌≡◌, ℕ, ◌≤◌, List, [], ◌∷◌, ◌++◌, length, max, Some, slice_get, slice_set}
 use Rattle.image.specs.Sections.{Sections}
 use Rattle.image.specs.declared.instruction.Instr.{Instr}
 use Rattle.image.specs.declared.instruction.Operation.{Operation}
@@ -23,11 +23,16 @@ pub record Extends (old new : Code) : Type 0 where
   pub longer : here old ≤ here new
   pub deeper : old.deepest ≤ new.deepest
 
+-- nothing was added that finds more than so many words on the operand stack
+abbrev pub IsShallow : (old new : Code) → (words : ℕ) → Type 0
+IsShallow old new words = new.deepest ≤ max old.deepest words
+
 -- one more instruction, which finds so many words on the operand stack
 pub record Adds (old : Code) (depth : ℕ) (operation : Operation) (new : Code) : Type 0 where
   pub instructions : new.instructions.items ≡ old.instructions.items ++ (record { depth = depth; operation = operation }) ∷ []
   pub deeper : old.deepest ≤ new.deepest
   pub within : depth ≤ new.deepest
+  pub shallow : IsShallow old new depth
 
 -- the instruction at a place is another one, at the same depth; nothing else changes
 pub record Patches (old : Code) (place : ℕ) (operation : Operation) (new : Code) : Type 0 where

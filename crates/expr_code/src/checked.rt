@@ -1,11 +1,12 @@
 //! The code of expressions whose values are checked against a subtype (RM 4.6, 6.4.1).
-ghost use Rattle.std.specs.Prelude.{◌≡◌, true, IfErr, IfOk, OnOk};
+ghost use Rattle.std.specs.Prelude.{◌≡◌, true, IfErr, IfOk, OnOk, ◌+◌};
 ghost use Rattle.image.specs.Rules.{is_block};
 ghost use Rattle.ada_tree.specs.ExpressionTree.{expr_tree};
 ghost use Rattle.types.specs.Layouts.{words_of};
 ghost use Rattle.types.specs.Scopes.{form_at};
 ghost use Rattle.expr_code.specs.Emitting.{EmitsChecked, EmitsFitting, is_composite, IsFit};
-ghost use Rattle.expr_code.specs.Refusing.{RefusesChecked, RefusesFitting};
+ghost use Rattle.expr_code.specs.Code.{IsShallow};
+ghost use Rattle.expr_code.specs.Refusing.{RefusesChecked, RefusesFitting, checked_peak, peak};
 ghost use Rattle.well_typed.specs.SoundScopes.{SoundScope};
 
 use crate::code::{Code, above};
@@ -32,6 +33,7 @@ impl Code {
         requires sound { SoundScope visible.now.scope }
         requires fit { IsFit visible.now.scope subtype (expr_tree e.now) }
         ensures refused { IfErr result (λ why. RefusesChecked visible.now self.old depth subtype (expr_tree e.now) why) }
+        ensures shallow { OnOk result (IsShallow self.old self.new (depth + checked_peak (peak visible.now.scope (expr_tree e.now)))) }
         ensures emits { OnOk result (EmitsChecked visible.now self.old depth subtype (expr_tree e.now) self.new) }
     {
         quiet_stays();
@@ -62,6 +64,7 @@ impl Code {
         requires sound { SoundScope visible.now.scope }
         requires fit { IsFit visible.now.scope subtype (expr_tree e.now) }
         ensures refused { IfErr result (λ why. RefusesFitting visible.now self.old depth subtype (expr_tree e.now) why) }
+        ensures shallow { OnOk result (IsShallow self.old self.new (depth + checked_peak (peak visible.now.scope (expr_tree e.now)))) }
         ensures words { IfOk result (λ words. words ≡ words_of visible.now.scope subtype) }
         ensures block { IfOk result (λ words. is_block words ≡ true) }
         ensures emits { OnOk result (EmitsFitting visible.now self.old depth subtype (expr_tree e.now) self.new) }
@@ -88,6 +91,7 @@ impl Code {
         requires fit { IsFit visible.now.scope subtype (expr_tree e.now) }
         requires composite { is_composite (form_at visible.now.scope subtype.type_number) ≡ true }
         ensures refused { IfErr result (λ why. RefusesFitting visible.now self.old depth subtype (expr_tree e.now) why) }
+        ensures shallow { OnOk result (IsShallow self.old self.new (depth + checked_peak (peak visible.now.scope (expr_tree e.now)))) }
         ensures words { IfOk result (λ words. words ≡ words_of visible.now.scope subtype) }
         ensures block { IfOk result (λ words. is_block words ≡ true) }
         ensures emits { OnOk result (EmitsFitting visible.now self.old depth subtype (expr_tree e.now) self.new) }

@@ -1,9 +1,9 @@
 //! The code of if expressions (RM 4.5.7): each condition, a jump behind its value where it does not hold, the value, a jump to the end.
-ghost use Rattle.std.specs.Prelude.{◌≡◌, ◌+◌, ◌<◌, false, map, true, ℕ, IfErr, IfOk, OnOk};
+ghost use Rattle.std.specs.Prelude.{◌≡◌, ◌+◌, ◌<◌, false, map, true, ℕ, IfErr, IfOk, OnOk, max};
 ghost use Rattle.types.specs.Places.{is_among};
 ghost use Rattle.expr_code.specs.Branches.{AddsBranches, AreLegalBranches, branch_of, Closes, Rejoins};
-ghost use Rattle.expr_code.specs.Code.{Adds, here};
-ghost use Rattle.expr_code.specs.Refusing.{IsRefused, RefusesBranches};
+ghost use Rattle.expr_code.specs.Code.{Adds, here, IsShallow};
+ghost use Rattle.expr_code.specs.Refusing.{IsRefused, RefusesBranches, branches_peak};
 ghost use Rattle.expr_code.specs.Widths.{AreWide};
 ghost use Rattle.well_typed.specs.SoundScopes.{SoundScope};
 ghost use Rattle.image.specs.declared.instruction.Operation.TheVariants.{JumpIfZero};
@@ -59,6 +59,7 @@ impl Code {
         requires legal { AreLegalBranches visible.now.scope (map branch_of elsifs.now) }
         requires wide { AreWide visible.now.scope width (map branch_of elsifs.now) }
         ensures refused { IfErr result (λ why. RefusesBranches visible.now self.old depth width (map branch_of elsifs.now) why) }
+        ensures shallow { OnOk result (IsShallow self.old self.new (depth + max width (branches_peak visible.now.scope (map branch_of elsifs.now)))) }
         ensures adds { OnOk result (AddsBranches visible.now self.old depth width (map branch_of elsifs.now) waiting.old.items waiting.new.items self.new) }
     {
         for elsif in elsifs {

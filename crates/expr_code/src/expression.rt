@@ -3,8 +3,8 @@ ghost use Rattle.std.specs.Prelude.{◌≡◌, ◌+◌, ◌*◌, ◌≤◌, ◌�
 ghost use Rattle.ada_tree.specs.ExpressionTree.{chain_tree, expr_tree};
 ghost use Rattle.expr_code.specs.Emitting.{AreLegal, EmitsExpression, EmitsOperands, IsLegal};
 ghost use Rattle.expr_code.specs.OperatorCode.{binary_operation};
-ghost use Rattle.expr_code.specs.Code.{here};
-ghost use Rattle.expr_code.specs.Refusing.{operands_size, RefusesExpression, RefusesOperands};
+ghost use Rattle.expr_code.specs.Code.{here, IsShallow};
+ghost use Rattle.expr_code.specs.Refusing.{operands_size, RefusesExpression, RefusesOperands, operands_peak, peak};
 ghost use Rattle.expr_code.specs.Widths.{AreSingle, width_of};
 ghost use Rattle.well_typed.specs.SoundScopes.{SoundScope};
 
@@ -27,6 +27,7 @@ impl Code {
         requires legal { IsLegal visible.now.scope (expr_tree e.now) }
         ensures width { IfOk result (λ width. width ≡ width_of visible.now.scope (expr_tree e.now)) }
         ensures refused { IfErr result (λ why. RefusesExpression visible.now self.old depth (expr_tree e.now) why) }
+        ensures shallow { OnOk result (IsShallow self.old self.new (depth + peak visible.now.scope (expr_tree e.now))) }
         ensures emits { IfOk result (λ width. EmitsExpression visible.now self.old depth width (expr_tree e.now) self.new) }
     {
         quiet_stays();
@@ -83,6 +84,7 @@ impl Code {
         requires legal { IsLegal visible.now.scope (expr_tree e.now) }
         requires wide { width_of visible.now.scope (expr_tree e.now) ≡ width }
         ensures refused { IfErr result (λ why. RefusesExpression visible.now self.old depth (expr_tree e.now) why) }
+        ensures shallow { OnOk result (IsShallow self.old self.new (depth + peak visible.now.scope (expr_tree e.now))) }
         ensures emits { OnOk result (EmitsExpression visible.now self.old depth width (expr_tree e.now) self.new) }
     {
         self.expression(visible, depth, e)?;
@@ -96,6 +98,7 @@ impl Code {
         requires legal { IsLegal visible.now.scope (expr_tree operand.now.value) }
         requires single { width_of visible.now.scope (expr_tree operand.now.value) ≡ 1 }
         ensures refused { IfErr result (λ why. RefusesOperands visible.now self.old depth (operand.now ∷ []) why) }
+        ensures shallow { OnOk result (IsShallow self.old self.new (depth + operands_peak visible.now.scope (operand.now ∷ []))) }
         ensures sized { OnOk result (here self.new ≤ here self.old + 20 * operands_size (operand.now ∷ [])) }
         ensures emits { OnOk result (EmitsOperands visible.now self.old depth (operand.now ∷ []) self.new) }
     {
@@ -123,6 +126,7 @@ impl Code {
         requires single { width_of visible.now.scope (expr_tree operand.now.value) ≡ 1 }
         requires short { binary_operation operand.now.operator ≡ None }
         ensures refused { IfErr result (λ why. RefusesOperands visible.now self.old depth (operand.now ∷ []) why) }
+        ensures shallow { OnOk result (IsShallow self.old self.new (depth + operands_peak visible.now.scope (operand.now ∷ []))) }
         ensures sized { OnOk result (here self.new ≤ here self.old + 20 * operands_size (operand.now ∷ [])) }
         ensures emits { OnOk result (EmitsOperands visible.now self.old depth (operand.now ∷ []) self.new) }
     {
@@ -149,6 +153,7 @@ impl Code {
         requires legal { AreLegal visible.now.scope all.now }
         requires single { AreSingle visible.now.scope all.now }
         ensures refused { IfErr result (λ why. RefusesOperands visible.now self.old depth all.now why) }
+        ensures shallow { OnOk result (IsShallow self.old self.new (depth + operands_peak visible.now.scope all.now)) }
         ensures sized { OnOk result (here self.new ≤ here self.old + 20 * operands_size all.now) }
         ensures emits { OnOk result (EmitsOperands visible.now self.old depth all.now self.new) }
     {

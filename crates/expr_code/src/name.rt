@@ -9,11 +9,11 @@ ghost use Rattle.types.specs.Evaluating.{fixed_value};
 ghost use Rattle.types.specs.Scopes.{number_of};
 ghost use Rattle.types.specs.Standings.{standing_of, stands_first};
 ghost use Rattle.types.specs.declared.standing.Standing.TheVariants as standing;
-ghost use Rattle.expr_code.specs.Code.{Adds, here};
+ghost use Rattle.expr_code.specs.Code.{Adds, here, IsShallow};
 ghost use Rattle.expr_code.specs.Emitting.{EmitsExpression, IsLegal};
 ghost use Rattle.expr_code.specs.Naming.{load_operation, scalar_word};
 ghost use Rattle.expr_code.specs.Seeing.{slot_of};
-ghost use Rattle.expr_code.specs.Refusing.{IsRefusedBeside, RefusesExpression};
+ghost use Rattle.expr_code.specs.Refusing.{IsRefusedBeside, RefusesExpression, peak};
 ghost use Rattle.expr_code.specs.Widths.{width_of};
 ghost use Rattle.well_typed.specs.SoundScopes.{SoundScope};
 
@@ -74,6 +74,7 @@ impl Code {
         requires legal { IsLegal visible.now.scope (Named (name_tree name.now).first (name_tree name.now).selectors) }
         ensures width { IfOk result (λ width. width ≡ width_of visible.now.scope (Named (name_tree name.now).first (name_tree name.now).selectors)) }
         ensures refused { IfErr result (λ why. RefusesExpression visible.now self.old depth (Named (name_tree name.now).first (name_tree name.now).selectors) why) }
+        ensures shallow { OnOk result (IsShallow self.old self.new (depth + peak visible.now.scope (Named (name_tree name.now).first (name_tree name.now).selectors))) }
         ensures emits { IfOk result (λ width. EmitsExpression visible.now self.old depth width (Named (name_tree name.now).first (name_tree name.now).selectors) self.new) }
     {
         quiet_stays();
@@ -104,6 +105,7 @@ impl Code {
         requires parts { bare_name (Named first.now (selector_trees selectors.now)) ≡ None }
         ensures width { IfOk result (λ width. width ≡ width_of visible.now.scope (Named first.now (selector_trees selectors.now))) }
         ensures refused { IfErr result (λ why. RefusesExpression visible.now self.old depth (Named first.now (selector_trees selectors.now)) why) }
+        ensures shallow { OnOk result (IsShallow self.old self.new (depth + peak visible.now.scope (Named first.now (selector_trees selectors.now)))) }
         ensures emits { IfOk result (λ width. EmitsExpression visible.now self.old depth width (Named first.now (selector_trees selectors.now)) self.new) }
     {
         match visible.scope.stands_first(first) {
@@ -133,6 +135,7 @@ impl Code {
         requires valueless { fixed_value (standing_of visible.now.scope first.now (selector_trees selectors.now)) ≡ None }
         ensures width { IfOk result (λ width. width ≡ width_of visible.now.scope (Named first.now (selector_trees selectors.now))) }
         ensures refused { IfErr result (λ why. RefusesExpression visible.now self.old depth (Named first.now (selector_trees selectors.now)) why) }
+        ensures shallow { OnOk result (IsShallow self.old self.new (depth + peak visible.now.scope (Named first.now (selector_trees selectors.now)))) }
         ensures emits { IfOk result (λ width. EmitsExpression visible.now self.old depth width (Named first.now (selector_trees selectors.now)) self.new) }
     {
         arguments_by_parts();
@@ -164,6 +167,7 @@ impl Code {
         requires parts { bare_name (Named first.now (selector_trees selectors.now)) ≡ None }
         ensures width { IfOk result (λ width. width ≡ width_of visible.now.scope (Named first.now (selector_trees selectors.now))) }
         ensures refused { IfErr result (λ why. RefusesExpression visible.now self.old depth (Named first.now (selector_trees selectors.now)) why) }
+        ensures shallow { OnOk result (IsShallow self.old self.new (depth + peak visible.now.scope (Named first.now (selector_trees selectors.now)))) }
         ensures emits { IfOk result (λ width. EmitsExpression visible.now self.old depth width (Named first.now (selector_trees selectors.now)) self.new) }
     {
         arguments_by_parts();
@@ -197,6 +201,7 @@ impl Code {
         requires legal { IsLegal visible.now.scope (Named first.now (MoreSelectors (Arguments (argument_trees arguments.now)) NoSelectors)) }
         ensures width { OnOk result (width_of visible.now.scope (Named first.now (MoreSelectors (Arguments (argument_trees arguments.now)) NoSelectors)) ≡ 1) }
         ensures refused { IfErr result (λ why. RefusesExpression visible.now self.old depth (Named first.now (MoreSelectors (Arguments (argument_trees arguments.now)) NoSelectors)) why) }
+        ensures shallow { OnOk result (IsShallow self.old self.new (depth + peak visible.now.scope (Named first.now (MoreSelectors (Arguments (argument_trees arguments.now)) NoSelectors)))) }
         ensures emits { OnOk result (EmitsExpression visible.now self.old depth 1 (Named first.now (MoreSelectors (Arguments (argument_trees arguments.now)) NoSelectors)) self.new) }
     {
         quiet_stays();
@@ -216,6 +221,7 @@ impl Code {
         requires valueless { fixed_value (standing_of visible.now.scope name.now NoSelectors) ≡ None }
         ensures width { IfOk result (λ width. width ≡ width_of visible.now.scope (Named name.now NoSelectors)) }
         ensures refused { IfErr result (λ why. RefusesExpression visible.now self.old depth (Named name.now NoSelectors) why) }
+        ensures shallow { OnOk result (IsShallow self.old self.new (depth + peak visible.now.scope (Named name.now NoSelectors))) }
         ensures emits { IfOk result (λ width. EmitsExpression visible.now self.old depth width (Named name.now NoSelectors) self.new) }
     {
         match visible.scope.stands_first(name) {
@@ -249,6 +255,7 @@ impl Code {
         requires there { slot_of visible.now name.now.name ≡ Some slot }
         ensures width { IfOk result (λ width. width ≡ width_of visible.now.scope (Named name.now NoSelectors)) }
         ensures refused { IfErr result (λ why. RefusesExpression visible.now self.old depth (Named name.now NoSelectors) why) }
+        ensures shallow { OnOk result (IsShallow self.old self.new (depth + peak visible.now.scope (Named name.now NoSelectors))) }
         ensures emits { IfOk result (λ width. EmitsExpression visible.now self.old depth width (Named name.now NoSelectors) self.new) }
     {
         quiet_stays();

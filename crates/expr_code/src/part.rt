@@ -9,8 +9,8 @@ ghost use Rattle.types.specs.Scopes.{form_at, number_of};
 ghost use Rattle.types.specs.Standings.{standing_of, stands_first};
 ghost use Rattle.expr_code.specs.Emitting.{EmitsExpression, IsLegal};
 ghost use Rattle.expr_code.specs.Going.{AddsOffset, EmitsAddress, EmitsPath, EndsAt, IsLegalPart, IsLegalPath, Selects, SelectsAll};
-ghost use Rattle.expr_code.specs.Code.{here};
-ghost use Rattle.expr_code.specs.Refusing.{IsRefused, KeepsFit, RefusesAddress, RefusesExpression, RefusesPath};
+ghost use Rattle.expr_code.specs.Code.{here, IsShallow};
+ghost use Rattle.expr_code.specs.Refusing.{IsRefused, KeepsFit, RefusesAddress, RefusesExpression, RefusesPath, peak, selectors_peak};
 ghost use Rattle.expr_code.specs.Seeing.{slot_of};
 ghost use Rattle.expr_code.specs.Widths.{width_of};
 ghost use Rattle.well_typed.specs.SoundScopes.{SoundScope};
@@ -40,6 +40,7 @@ impl Code {
         requires sound { SoundScope visible.now.scope }
         requires legal { IsLegalPath visible.now.scope subtype (selector_trees selectors.now) }
         ensures refused { IfErr result (λ why. RefusesAddress visible.now self.old depth subtype (selector_trees selectors.now) why) }
+        ensures shallow { OnOk result (IsShallow self.old self.new (depth + selectors_peak visible.now.scope 1 (selector_trees selectors.now))) }
         ensures fit { IfOk result (λ last. KeepsFit visible.now.scope subtype last) }
         ensures ends { IfOk result (λ last. EndsAt visible.now.scope subtype (selector_trees selectors.now) last) }
         ensures emits { IfOk result (λ last. EmitsAddress visible.now self.old depth slot.offset subtype (selector_trees selectors.now) last self.new) }
@@ -67,6 +68,7 @@ impl Code {
         requires parts { bare_name (Named first.now (selector_trees selectors.now)) ≡ None }
         ensures width { IfOk result (λ width. width ≡ width_of visible.now.scope (Named first.now (selector_trees selectors.now))) }
         ensures refused { IfErr result (λ why. RefusesExpression visible.now self.old depth (Named first.now (selector_trees selectors.now)) why) }
+        ensures shallow { OnOk result (IsShallow self.old self.new (depth + peak visible.now.scope (Named first.now (selector_trees selectors.now)))) }
         ensures emits { IfOk result (λ width. EmitsExpression visible.now self.old depth width (Named first.now (selector_trees selectors.now)) self.new) }
     {
         quiet_stays();
@@ -92,6 +94,7 @@ impl Code {
         requires sound { SoundScope visible.now.scope }
         requires legal { IsLegalPath visible.now.scope subtype (selector_trees selectors.now) }
         ensures refused { IfErr result (λ why. RefusesPath visible.now self.old depth subtype (selector_trees selectors.now) why) }
+        ensures shallow { OnOk result (IsShallow self.old self.new (depth + selectors_peak visible.now.scope 1 (selector_trees selectors.now))) }
         ensures fit { IfOk result (λ last. KeepsFit visible.now.scope subtype last) }
         ensures stands { IfOk result (λ last. SelectsAll visible.now.scope subtype (map selector_tree selectors.now) last) }
         ensures emits { IfOk result (λ last. EmitsPath visible.now self.old depth subtype (map selector_tree selectors.now) last self.new) }
@@ -115,6 +118,7 @@ impl Code {
         requires sound { SoundScope visible.now.scope }
         requires legal { IsLegalPart visible.now.scope subtype (selector_tree selector.now) }
         ensures refused { IfErr result (λ why. RefusesPath visible.now self.old depth subtype (MoreSelectors (selector_tree selector.now) NoSelectors) why) }
+        ensures shallow { OnOk result (IsShallow self.old self.new (depth + selectors_peak visible.now.scope 1 (MoreSelectors (selector_tree selector.now) NoSelectors))) }
         ensures stands { IfOk result (λ last. Selects visible.now.scope subtype (selector_tree selector.now) last) }
         ensures emits { IfOk result (λ last. EmitsPath visible.now self.old depth subtype (selector_tree selector.now ∷ []) last self.new) }
     {
@@ -137,6 +141,7 @@ impl Code {
         requires sound { SoundScope visible.now.scope }
         requires legal { IsLegalPart visible.now.scope subtype (Component name.now) }
         ensures refused { IfErr result (λ why. RefusesPath visible.now self.old depth subtype (MoreSelectors (Component name.now) NoSelectors) why) }
+        ensures shallow { OnOk result (IsShallow self.old self.new (depth + selectors_peak visible.now.scope 1 (MoreSelectors (Component name.now) NoSelectors))) }
         ensures stands { IfOk result (λ last. Selects visible.now.scope subtype (Component name.now) last) }
         ensures emits { IfOk result (λ last. EmitsPath visible.now self.old depth subtype (Component name.now ∷ []) last self.new) }
     {
@@ -173,6 +178,7 @@ impl Code {
         requires sound { SoundScope visible.now.scope }
         requires legal { IsLegalPart visible.now.scope subtype (Arguments (argument_trees arguments.now)) }
         ensures refused { IfErr result (λ why. RefusesPath visible.now self.old depth subtype (MoreSelectors (Arguments (argument_trees arguments.now)) NoSelectors) why) }
+        ensures shallow { OnOk result (IsShallow self.old self.new (depth + selectors_peak visible.now.scope 1 (MoreSelectors (Arguments (argument_trees arguments.now)) NoSelectors))) }
         ensures stands { IfOk result (λ last. Selects visible.now.scope subtype (Arguments (argument_trees arguments.now)) last) }
         ensures emits { IfOk result (λ last. EmitsPath visible.now self.old depth subtype (Arguments (argument_trees arguments.now) ∷ []) last self.new) }
     {

@@ -42,11 +42,11 @@ given_one s x rest = by_address x.address
     by_address None = omega arith
     by_address (Some a) = omega arith
 
-given_more : (s : Scope) (xs : List PlacedFormal) → words_returned s xs ≤ all_given s xs
+pub given_more : (s : Scope) (xs : List PlacedFormal) → words_returned s xs ≤ all_given s xs
 given_more s [] = omega arith
 given_more s (x ∷ xs) = let one = given_one s x (words_returned s xs) in let rest = given_more s xs in omega (arith, one, rest)
 
-given_all : (s : Scope) (xs : List PlacedFormal) (n : ℕ) → all_given s (drop n xs) ≤ all_given s xs
+pub given_all : (s : Scope) (xs : List PlacedFormal) (n : ℕ) → all_given s (drop n xs) ≤ all_given s xs
 given_all s [] zero = omega arith
 given_all s [] (suc n) = omega arith
 given_all s (x ∷ xs) zero = omega arith

@@ -82,3 +82,14 @@ mod BodiesRefused
 mod Choosable
 mod MovingParts
 mod Moved
+mod AssignmentsRefused
+mod TargetsRefused
+mod Labelled
+mod Staying
+mod PartsStay
+mod LeavesStay
+mod WholePlaces
+mod WholeRefused
+mod GivenStays
+mod CallsStay
+mod MovesRefused

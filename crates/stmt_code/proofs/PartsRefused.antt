@@ -1,5 +1,5 @@
 -- What refuses the code of a statement at each place of its method: its parts, one behind the other, and the instructions between them.
-use Rattle.std.proofs.Common.{◌≡◌, ◌≤◌, ◌<◌, ◌+◌, ◌*◌, ◌∷◌, ◌++◌, ◌⊎◌, inl, ℕ, List, [], length, take, Bool, true, false, Some, None, refl, sym, ap, ◌∙◌, subst, arith}
+use Rattle.std.proofs.Common.{◌≡◌, ◌≤◌, ◌<◌, ◌+◌, ◌*◌, ◌∷◌, ◌++◌, ◌⊎◌, inl, inr, ℕ, List, [], length, take, Bool, true, false, Some, None, refl, sym, ap, ◌∙◌, subst, arith}
 use Rattle.std.specs.Prelude.{get_or, is_some, max, not}
 use Rattle.ada_tree.specs.declared.expression.Identifier.{Identifier}
 use Rattle.ada_tree.specs.declared.statement.Alternative.{Alternative}
@@ -29,10 +29,12 @@ use Rattle.stmt_code.specs.Turns.{BeginsRange, EndsTurn, bounds_compared, value_
 use Rattle.stmt_code.specs.declared.draft.Draft.{Draft}
 use Rattle.stmt_code.specs.declared.range_loop.Turns.{Turns}
 use Rattle.sound_steps.specs.Fitting.{entity_named}
+use Rattle.stmt_code.specs.Labels.{alternatives_labels, elsifs_labels, stmt_labels, stmts_labels, with_label, with_line}
 use Rattle.stmt_code.specs.Lines.{Line, is_put, line_of}
+use Rattle.stmt_code.proofs.Labelled.{alternatives_few, as_many, elsifs_longer, parts_few, stmts_few, stmts_longer}
 use Rattle.stmt_code.proofs.Putting.{line_written}
 use Rattle.stmt_code.proofs.Turned.{all_here}
-use Rattle.stmt_code.proofs.Refused.{Within, alternatives_among, front_within, in_left, in_right, needing_refused, of_right, part_refused, parts_among, plain_refused, stack_within, statements_among, value_refused, within_self}
+use Rattle.stmt_code.proofs.Refused.{Within, alternatives_among, front_within, in_left, in_right, needing_refused, of_right, part_refused, parts_among, plain_refused, stack_within, statements_among, value_needing, value_refused, within_self}
 
 -- words that a part has on the operand stack
 pub part_high : (h : ℕ) (p b : Needs) → Within p b → h ≤ p.stack → h ≤ max b.stack b.frame
@@ -42,13 +44,13 @@ part_high h p b within up = stack_within h b (let more = within.stack in omega (
 pub around_same : (v : Visible) (w : Ways) (old mid : Draft) → mid.words.taken ≡ old.words.taken → around v w mid ≡ around v w old
 around_same v w old mid same = ap (λ n. record { visible = v; taken = n; looped = is_some w.exit; returns = is_some w.return }) same
 
-pub placed_refused : (v : Visible) (w : Ways) (old mid : Draft) (labels : List (List ℕ)) (f : Around → Needs) (m n : ℕ) (b : Needs) (why : Refusal)
-    → mid.words.taken ≡ old.words.taken → m ≤ n → Within (f (around v w old)) b
-    → (IsNeeding m (f (around v w mid)) why ⊎ HasManyLabels labels why) → (IsNeeding n b why ⊎ HasManyLabels labels why)
-placed_refused v w old mid labels f m n b why same up within r =
-    part_refused m n (f (around v w mid)) b labels why up (subst (λ a. Within (f a) b) (sym (around_same v w old mid same)) within) r
+pub placed_refused : (v : Visible) (w : Ways) (old mid : Draft) (few many : List (List ℕ)) (f : Around → Needs) (m n : ℕ) (b : Needs) (why : Refusal)
+    → mid.words.taken ≡ old.words.taken → m ≤ n → Within (f (around v w old)) b → length few ≤ length many
+    → (IsNeeding m (f (around v w mid)) why ⊎ HasManyLabels few why) → (IsNeeding n b why ⊎ HasManyLabels many why)
+placed_refused v w old mid few many f m n b why same up within less r =
+    part_refused m n (f (around v w mid)) b few many why up (subst (λ a. Within (f a) b) (sym (around_same v w old mid same)) within) less r
 
-module _ (v : Visible) (w : Ways) (old new : Draft) (why : Refusal) where
+module _ (v : Visible) (w : Ways) (old : Draft) (why : Refusal) where
   abbrev at : Around
   at = around v w old
 
@@ -64,36 +66,43 @@ module _ (v : Visible) (w : Ways) (old new : Draft) (why : Refusal) where
     body_in : Within (stmts_needs at body) (elsifs_needs at part)
     body_in = of_right (stmts_needs at body) (value_needs v e) (both (stmts_needs at body) nothing) (in_left (stmts_needs at body) nothing)
 
-    pub condition_refused : RefusesExpression v old.code 0 e why → RefusesParts v w old part new why
+    pub condition_refused : RefusesExpression v old.code 0 e why → RefusesParts v w old part why
     condition_refused r =
-        value_refused v old.code 0 e (here old.code + elsifs_bound v.scope part) (elsifs_needs at part) new.labels why (omega arith) condition_in r
+        value_refused v old.code 0 e (here old.code + elsifs_bound v.scope part) (elsifs_needs at part) (elsifs_labels old.labels part) why (omega arith)
+        condition_in r
 
-    pub test_refused : (m : Code) → here m ≤ here old.code + 20 * expr_size e → IsRefused (here m + 1) 1 false why → RefusesParts v w old part new why
+    pub test_refused : (m : Code) → here m ≤ here old.code + 20 * expr_size e → IsRefused (here m + 1) 1 false why → RefusesParts v w old part why
     test_refused m up r =
-        plain_refused (here m + 1) (here old.code + elsifs_bound v.scope part) 1 (elsifs_needs at part) new.labels why (omega (arith, up))
+        plain_refused (here m + 1) (here old.code + elsifs_bound v.scope part) 1 (elsifs_needs at part) (elsifs_labels old.labels part) why
+        (omega (arith, up))
         (part_high 1 (value_needs v e) (elsifs_needs at part) condition_in (let some = peak_some v.scope e in omega (arith, some))) r
 
-    pub body_refused : (mid : Draft) → mid.words.taken ≡ old.words.taken → here mid.code ≤ here old.code + (20 * expr_size e + 1)
-        → RefusesStatements v w mid body new why → RefusesParts v w old part new why
-    body_refused mid same up r =
-        placed_refused v w old mid new.labels (λ a. stmts_needs a body) (here mid.code + stmts_bound v.scope body) (here old.code + elsifs_bound v.scope part)
-        (elsifs_needs at part) why same (omega (arith, up)) body_in r
+    pub body_refused : (mid : Draft) → mid.words.taken ≡ old.words.taken → mid.labels ≡ old.labels → here mid.code ≤ here old.code + (20 * expr_size e + 1)
+        → RefusesStatements v w mid body why → RefusesParts v w old part why
+    body_refused mid same labels up r =
+        placed_refused v w old mid (stmts_labels mid.labels body) (elsifs_labels old.labels part) (λ a. stmts_needs a body)
+        (here mid.code + stmts_bound v.scope body) (here old.code + elsifs_bound v.scope part) (elsifs_needs at part) why same (omega (arith, up)) body_in
+        (as_many (stmts_labels mid.labels body) (elsifs_labels old.labels part) (ap (λ l. stmts_labels l body) labels)) r
 
     pub close_refused : (m : Code) → here m ≤ here old.code + (20 * expr_size e + 1 + stmts_bound v.scope body) → IsRefused (here m + 1) 0 false why
-        → RefusesParts v w old part new why
+        → RefusesParts v w old part why
     close_refused m up r =
-        plain_refused (here m + 1) (here old.code + elsifs_bound v.scope part) 0 (elsifs_needs at part) new.labels why (omega (arith, up)) (omega arith) r
+        plain_refused (here m + 1) (here old.code + elsifs_bound v.scope part) 0 (elsifs_needs at part) (elsifs_labels old.labels part) why
+        (omega (arith, up)) (omega arith) r
 
   -- one of those behind it
   pub part_refuses : (mid : Draft) (all : List ElsifPart) (n : ℕ) (x : ElsifPart) → n < length all → x ≡ get_or all n x → mid.words.taken ≡ old.words.taken
+      → mid.labels ≡ elsifs_labels old.labels (elsif_trees (take n all))
       → here mid.code ≤ here old.code + elsifs_bound v.scope (elsif_trees (take n all))
-      → RefusesParts v w mid (elsifs_of (elsif_tree x ∷ [])) new why → RefusesParts v w old (elsif_trees all) new why
-  part_refuses mid all n x less is same up r =
+      → RefusesParts v w mid (elsifs_of (elsif_tree x ∷ [])) why → RefusesParts v w old (elsif_trees all) why
+  part_refuses mid all n x less is same labels up r =
       let among = parts_among at all n x less is in
       let sum = among.0 in
-      placed_refused v w old mid new.labels (λ a. elsifs_needs a (elsifs_of (elsif_tree x ∷ [])))
+      let few = ap (λ l. length (elsifs_labels l (elsifs_of (elsif_tree x ∷ [])))) labels in
+      let many = parts_few old.labels all n x less is in
+      placed_refused v w old mid (elsifs_labels mid.labels (elsifs_of (elsif_tree x ∷ []))) (elsifs_labels old.labels (elsif_trees all)) (λ a. elsifs_needs a (elsifs_of (elsif_tree x ∷ [])))
       (here mid.code + elsifs_bound v.scope (elsifs_of (elsif_tree x ∷ []))) (here old.code + elsifs_bound v.scope (elsif_trees all))
-      (elsifs_needs at (elsif_trees all)) why same (omega (arith, up, sum)) among.1 r
+      (elsifs_needs at (elsif_trees all)) why same (omega (arith, up, sum)) among.1 (omega (arith, few, many)) r
 
   -- ---- an `if`
 
@@ -101,37 +110,49 @@ module _ (v : Visible) (w : Ways) (old new : Draft) (why : Refusal) where
     abbrev if_whole : StmtTree
     if_whole = If place e body elsifs others
 
+    abbrev if_labels : List (List ℕ)
+    if_labels = stmt_labels old.labels if_whole
+
     abbrev if_rest : Needs
     if_rest = both (elsifs_needs at elsifs) (stmts_needs at others)
 
-    pub first_refuses : RefusesParts v w old (elsifs_of ((e, body) ∷ [])) new why → RefusesStatement v w old if_whole new why
+    pub first_refuses : RefusesParts v w old (elsifs_of ((e, body) ∷ [])) why → RefusesStatement v w old if_whole why
     first_refuses r =
         part_refused (here old.code + elsifs_bound v.scope (elsifs_of ((e, body) ∷ []))) (here old.code + stmt_bound v.scope if_whole)
-        (elsifs_needs at (elsifs_of ((e, body) ∷ []))) (stmt_needs at if_whole) new.labels why (omega arith)
-        (front_within (value_needs v e) (stmts_needs at body) if_rest) r
+        (elsifs_needs at (elsifs_of ((e, body) ∷ []))) (stmt_needs at if_whole) (stmts_labels old.labels body) if_labels why (omega arith)
+        (front_within (value_needs v e) (stmts_needs at body) if_rest)
+        (let one = elsifs_longer (stmts_labels old.labels body) elsifs in
+        let two = stmts_longer (elsifs_labels (stmts_labels old.labels body) elsifs) others in
+        omega (arith, one, two)) r
 
-    pub elsifs_refuse : (mid : Draft) → mid.words.taken ≡ old.words.taken → here mid.code ≤ here old.code + elsifs_bound v.scope (elsifs_of ((e, body) ∷ []))
-        → RefusesParts v w mid elsifs new why → RefusesStatement v w old if_whole new why
-    elsifs_refuse mid same up r =
-        placed_refused v w old mid new.labels (λ a. elsifs_needs a elsifs) (here mid.code + elsifs_bound v.scope elsifs)
+    pub elsifs_refuse : (mid : Draft) → mid.words.taken ≡ old.words.taken → mid.labels ≡ stmts_labels old.labels body
+        → here mid.code ≤ here old.code + elsifs_bound v.scope (elsifs_of ((e, body) ∷ []))
+        → RefusesParts v w mid elsifs why → RefusesStatement v w old if_whole why
+    elsifs_refuse mid same labels up r =
+        placed_refused v w old mid (elsifs_labels mid.labels elsifs) if_labels (λ a. elsifs_needs a elsifs) (here mid.code + elsifs_bound v.scope elsifs)
         (here old.code + stmt_bound v.scope if_whole) (stmt_needs at if_whole) why same (omega (arith, up))
         (of_right (elsifs_needs at elsifs) (value_needs v e) (both (stmts_needs at body) if_rest)
-        (of_right (elsifs_needs at elsifs) (stmts_needs at body) if_rest (in_left (elsifs_needs at elsifs) (stmts_needs at others)))) r
+        (of_right (elsifs_needs at elsifs) (stmts_needs at body) if_rest (in_left (elsifs_needs at elsifs) (stmts_needs at others))))
+        (let one = ap (λ l. length (elsifs_labels l elsifs)) labels in
+        let two = stmts_longer (elsifs_labels (stmts_labels old.labels body) elsifs) others in
+        omega (arith, one, two)) r
 
-    pub others_refuse : (mid : Draft) → mid.words.taken ≡ old.words.taken
+    pub others_refuse : (mid : Draft) → mid.words.taken ≡ old.words.taken → mid.labels ≡ elsifs_labels (stmts_labels old.labels body) elsifs
         → here mid.code ≤ here old.code + (elsifs_bound v.scope (elsifs_of ((e, body) ∷ [])) + elsifs_bound v.scope elsifs)
-        → RefusesStatements v w mid others new why → RefusesStatement v w old if_whole new why
-    others_refuse mid same up r =
-        placed_refused v w old mid new.labels (λ a. stmts_needs a others) (here mid.code + stmts_bound v.scope others)
+        → RefusesStatements v w mid others why → RefusesStatement v w old if_whole why
+    others_refuse mid same labels up r =
+        placed_refused v w old mid (stmts_labels mid.labels others) if_labels (λ a. stmts_needs a others) (here mid.code + stmts_bound v.scope others)
         (here old.code + stmt_bound v.scope if_whole) (stmt_needs at if_whole) why same (omega (arith, up))
         (of_right (stmts_needs at others) (value_needs v e) (both (stmts_needs at body) if_rest)
-        (of_right (stmts_needs at others) (stmts_needs at body) if_rest (in_right (elsifs_needs at elsifs) (stmts_needs at others)))) r
+        (of_right (stmts_needs at others) (stmts_needs at body) if_rest (in_right (elsifs_needs at elsifs) (stmts_needs at others))))
+        (as_many (stmts_labels mid.labels others) if_labels (ap (λ l. stmts_labels l others) labels)) r
 
     pub rejoin_refuses : (m : Code)
         → here m ≤ here old.code + (elsifs_bound v.scope (elsifs_of ((e, body) ∷ [])) + elsifs_bound v.scope elsifs + stmts_bound v.scope others)
-        → IsRefused (here m) 0 false why → RefusesStatement v w old if_whole new why
+        → IsRefused (here m) 0 false why → RefusesStatement v w old if_whole why
     rejoin_refuses m up r =
-        plain_refused (here m) (here old.code + stmt_bound v.scope if_whole) 0 (stmt_needs at if_whole) new.labels why (omega (arith, up)) (omega arith) r
+        plain_refused (here m) (here old.code + stmt_bound v.scope if_whole) 0 (stmt_needs at if_whole) if_labels why (omega (arith, up))
+        (omega arith) r
 
   -- ---- loops
 
@@ -140,64 +161,71 @@ module _ (v : Visible) (w : Ways) (old new : Draft) (why : Refusal) where
     loop_whole = Loop place iteration body
 
     pub instruction_refuses : (m h : ℕ) → m ≤ here old.code + stmt_bound v.scope loop_whole → h ≤ (head_needs at iteration).stack → IsRefused m h false why
-        → RefusesStatement v w old loop_whole new why
+        → RefusesStatement v w old loop_whole why
     instruction_refuses m h up high r =
-        plain_refused m (here old.code + stmt_bound v.scope loop_whole) h (stmt_needs at loop_whole) new.labels why up
+        plain_refused m (here old.code + stmt_bound v.scope loop_whole) h (stmt_needs at loop_whole) (stmts_labels old.labels body) why up
         (part_high h (head_needs at iteration) (stmt_needs at loop_whole) (in_left (head_needs at iteration) (stmts_needs (in_loop at iteration) body)) high) r
 
   -- statements in a loop with a way out
   looped_same : (exit : ℕ) (mid : Draft) → mid.words.taken ≡ old.words.taken → around v (within_loop exit w) mid ≡ inside_loop at
   looped_same exit mid same = ap (λ n. record { visible = v; taken = n; looped = true; returns = is_some w.return }) same
 
-  pub forever_body : (place exit : ℕ) (body : StmtTrees) (mid : Draft) → mid.words.taken ≡ old.words.taken → here mid.code ≤ here old.code + 2
-      → RefusesStatements v (within_loop exit w) mid body new why → RefusesStatement v w old (Loop place Forever body) new why
-  forever_body place exit body mid same up r =
+  pub forever_body : (place exit : ℕ) (body : StmtTrees) (mid : Draft) → mid.words.taken ≡ old.words.taken → mid.labels ≡ old.labels → here mid.code ≤ here old.code + 2
+      → RefusesStatements v (within_loop exit w) mid body why → RefusesStatement v w old (Loop place Forever body) why
+  forever_body place exit body mid same labels up r =
       part_refused (here mid.code + stmts_bound v.scope body) (here old.code + stmt_bound v.scope (Loop place Forever body))
-      (stmts_needs (around v (within_loop exit w) mid) body) (stmt_needs at (Loop place Forever body)) new.labels why (omega (arith, up))
+      (stmts_needs (around v (within_loop exit w) mid) body) (stmt_needs at (Loop place Forever body)) (stmts_labels mid.labels body)
+      (stmts_labels old.labels body) why (omega (arith, up))
       (subst (λ a. Within (stmts_needs a body) (stmt_needs at (Loop place Forever body))) (sym (looped_same exit mid same))
-      (in_right nothing (stmts_needs (inside_loop at) body))) r
+      (in_right nothing (stmts_needs (inside_loop at) body)))
+      (as_many (stmts_labels mid.labels body) (stmts_labels old.labels body) (ap (λ l. stmts_labels l body) labels)) r
 
   module _ (place : ℕ) (e : ExprTree) (body : StmtTrees) where
     abbrev while_whole : StmtTree
     while_whole = Loop place (While e) body
 
-    pub while_condition_refused : (m : Code) → here m ≤ here old.code + 2 → RefusesExpression v m 0 e why → RefusesStatement v w old while_whole new why
+    pub while_condition_refused : (m : Code) → here m ≤ here old.code + 2 → RefusesExpression v m 0 e why → RefusesStatement v w old while_whole why
     while_condition_refused m up r =
-        value_refused v m 0 e (here old.code + stmt_bound v.scope while_whole) (stmt_needs at while_whole) new.labels why (omega (arith, up))
-        (in_left (value_needs v e) (stmts_needs (inside_loop at) body)) r
+        value_refused v m 0 e (here old.code + stmt_bound v.scope while_whole) (stmt_needs at while_whole) (stmts_labels old.labels body) why
+        (omega (arith, up)) (in_left (value_needs v e) (stmts_needs (inside_loop at) body)) r
 
-    pub while_body_refused : (exit : ℕ) (mid : Draft) → mid.words.taken ≡ old.words.taken → here mid.code ≤ here old.code + (20 * expr_size e + 3)
-        → RefusesStatements v (within_loop exit w) mid body new why → RefusesStatement v w old while_whole new why
-    while_body_refused exit mid same up r =
+    pub while_body_refused : (exit : ℕ) (mid : Draft) → mid.words.taken ≡ old.words.taken → mid.labels ≡ old.labels
+        → here mid.code ≤ here old.code + (20 * expr_size e + 3)
+        → RefusesStatements v (within_loop exit w) mid body why → RefusesStatement v w old while_whole why
+    while_body_refused exit mid same labels up r =
         part_refused (here mid.code + stmts_bound v.scope body) (here old.code + stmt_bound v.scope while_whole)
-        (stmts_needs (around v (within_loop exit w) mid) body) (stmt_needs at while_whole) new.labels why (omega (arith, up))
+        (stmts_needs (around v (within_loop exit w) mid) body) (stmt_needs at while_whole) (stmts_labels mid.labels body)
+        (stmts_labels old.labels body) why (omega (arith, up))
         (subst (λ a. Within (stmts_needs a body) (stmt_needs at while_whole)) (sym (looped_same exit mid same))
-        (in_right (value_needs v e) (stmts_needs (inside_loop at) body))) r
+        (in_right (value_needs v e) (stmts_needs (inside_loop at) body)))
+        (as_many (stmts_labels mid.labels body) (stmts_labels old.labels body) (ap (λ l. stmts_labels l body) labels)) r
 
   module _ (place : ℕ) (parameter : Identifier) (reversed : Bool) (range : RangeTree) (body : StmtTrees) where
     abbrev counted : StmtTree
     counted = Loop place (For parameter reversed range) body
 
     pub range_refused : (mid : Draft) → mid.words.taken ≡ old.words.taken → here mid.code ≤ here old.code + 2
-        → RefusesRange v mid parameter reversed range new why → RefusesStatement v w old counted new why
+        → RefusesRange v mid parameter reversed range why → RefusesStatement v w old counted why
     range_refused mid same up r =
-        part_refused (here mid.code + (6 + 20 * (expr_size range.first + expr_size range.last))) (here old.code + stmt_bound v.scope counted)
-        (range_needs mid.words.taken) (stmt_needs at counted) new.labels why (omega (arith, up))
+        inl (needing_refused (here mid.code + (6 + 20 * (expr_size range.first + expr_size range.last))) (here old.code + stmt_bound v.scope counted)
+        (range_needs mid.words.taken) (stmt_needs at counted) (omega (arith, up))
         (subst (λ n. Within (range_needs n) (stmt_needs at counted)) (sym same)
-        (in_left (range_needs old.words.taken) (stmts_needs (inside_counted at parameter range) body))) r
+        (in_left (range_needs old.words.taken) (stmts_needs (inside_counted at parameter range) body))) why r)
       where
         range_needs : ℕ → Needs
         range_needs n = both (framed (n + 2)) (both (value_needs v range.first) (needs_above 1 v range.last))
 
     pub counted_body : (exit : ℕ) (later : Visible) (mid : Draft) → later ≡ counted_visible at parameter range → mid.words.taken ≡ old.words.taken + 2
-        → here mid.code ≤ here old.code + (8 + 20 * (expr_size range.first + expr_size range.last))
-        → RefusesStatements later (within_loop exit w) mid body new why → RefusesStatement v w old counted new why
-    counted_body exit later mid seen same up r =
+        → mid.labels ≡ old.labels → here mid.code ≤ here old.code + (8 + 20 * (expr_size range.first + expr_size range.last))
+        → RefusesStatements later (within_loop exit w) mid body why → RefusesStatement v w old counted why
+    counted_body exit later mid seen same labels up r =
         part_refused (here mid.code + stmts_bound later.scope body) (here old.code + stmt_bound v.scope counted)
-        (stmts_needs (around later (within_loop exit w) mid) body) (stmt_needs at counted) new.labels why
+        (stmts_needs (around later (within_loop exit w) mid) body) (stmt_needs at counted) (stmts_labels mid.labels body)
+        (stmts_labels old.labels body) why
         (let scope = ap (λ x. stmts_bound x.scope body) seen in omega (arith, up, scope))
         (subst (λ a. Within (stmts_needs a body) (stmt_needs at counted)) (sym inside)
-        (in_right (head_needs at (For parameter reversed range)) (stmts_needs (inside_counted at parameter range) body))) r
+        (in_right (head_needs at (For parameter reversed range)) (stmts_needs (inside_counted at parameter range) body)))
+        (as_many (stmts_labels mid.labels body) (stmts_labels old.labels body) (ap (λ l. stmts_labels l body) labels)) r
       where
         inside : around later (within_loop exit w) mid ≡ inside_counted at parameter range
         inside = λ j. record { visible = seen j; taken = same j; looped = true; returns = is_some w.return }
@@ -216,32 +244,37 @@ module _ (v : Visible) (w : Ways) (old new : Draft) (why : Refusal) where
     chosen_in =
         of_right (stmts_needs at body) (choices_needs v.scope choices) (both (stmts_needs at body) nothing) (in_left (stmts_needs at body) nothing)
 
-    pub choices_refused : RefusesChoices v.scope old.code choices (20 * choices_size choices + 2) why → RefusesAlternatives v w old choice new why
+    pub choices_refused : RefusesChoices v.scope old.code choices (20 * choices_size choices + 2) why → RefusesAlternatives v w old choice why
     choices_refused r =
         inl (needing_refused (here old.code + (20 * choices_size choices + 2)) (here old.code + alternatives_bound v.scope choice) (choices_needs v.scope choices)
         (alternatives_needs at choice) (omega arith) choices_in why r)
 
-    pub chosen_refused : (mid : Draft) → mid.words.taken ≡ old.words.taken → here mid.code ≤ here old.code + (20 * choices_size choices + 2)
-        → RefusesStatements v w mid body new why → RefusesAlternatives v w old choice new why
-    chosen_refused mid same up r =
-        placed_refused v w old mid new.labels (λ a. stmts_needs a body) (here mid.code + stmts_bound v.scope body)
-        (here old.code + alternatives_bound v.scope choice) (alternatives_needs at choice) why same (omega (arith, up)) chosen_in r
+    pub chosen_refused : (mid : Draft) → mid.words.taken ≡ old.words.taken → mid.labels ≡ old.labels → here mid.code ≤ here old.code + (20 * choices_size choices + 2)
+        → RefusesStatements v w mid body why → RefusesAlternatives v w old choice why
+    chosen_refused mid same labels up r =
+        placed_refused v w old mid (stmts_labels mid.labels body) (stmts_labels old.labels body) (λ a. stmts_needs a body) (here mid.code + stmts_bound v.scope body)
+        (here old.code + alternatives_bound v.scope choice) (alternatives_needs at choice) why same (omega (arith, up)) chosen_in
+        (as_many (stmts_labels mid.labels body) (stmts_labels old.labels body) (ap (λ l. stmts_labels l body) labels)) r
 
     pub leaving_refused : (m : ℕ) → m ≤ here old.code + (20 * choices_size choices + 3 + stmts_bound v.scope body) → IsRefused m 0 false why
-        → RefusesAlternatives v w old choice new why
+        → RefusesAlternatives v w old choice why
     leaving_refused m up r =
-        plain_refused m (here old.code + alternatives_bound v.scope choice) 0 (alternatives_needs at choice) new.labels why (omega (arith, up)) (omega arith) r
+        plain_refused m (here old.code + alternatives_bound v.scope choice) 0 (alternatives_needs at choice) (stmts_labels old.labels body) why
+        (omega (arith, up)) (omega arith) r
 
   pub alternative_refuses : (mid : Draft) (all : List Alternative) (n : ℕ) (x : Alternative) → n < length all → x ≡ get_or all n x
-      → mid.words.taken ≡ old.words.taken
+      → mid.words.taken ≡ old.words.taken → mid.labels ≡ alternatives_labels old.labels (alternative_trees (take n all))
       → here mid.code ≤ here old.code + alternatives_bound v.scope (alternative_trees (take n all))
-      → RefusesAlternatives v w mid (alternatives_of (alternative_tree x ∷ [])) new why → RefusesAlternatives v w old (alternative_trees all) new why
-  alternative_refuses mid all n x less is same up r =
+      → RefusesAlternatives v w mid (alternatives_of (alternative_tree x ∷ [])) why → RefusesAlternatives v w old (alternative_trees all) why
+  alternative_refuses mid all n x less is same labels up r =
       let among = alternatives_among at all n x less is in
       let sum = among.0 in
-      placed_refused v w old mid new.labels (λ a. alternatives_needs a (alternatives_of (alternative_tree x ∷ [])))
+      let few = ap (λ l. length (alternatives_labels l (alternatives_of (alternative_tree x ∷ [])))) labels in
+      let many = alternatives_few old.labels all n x less is in
+      placed_refused v w old mid (alternatives_labels mid.labels (alternatives_of (alternative_tree x ∷ [])))
+      (alternatives_labels old.labels (alternative_trees all)) (λ a. alternatives_needs a (alternatives_of (alternative_tree x ∷ [])))
       (here mid.code + alternatives_bound v.scope (alternatives_of (alternative_tree x ∷ []))) (here old.code + alternatives_bound v.scope (alternative_trees all))
-      (alternatives_needs at (alternative_trees all)) why same (omega (arith, up, sum)) among.1 r
+      (alternatives_needs at (alternative_trees all)) why same (omega (arith, up, sum)) among.1 (omega (arith, few, many)) r
 
   module _ (place : ℕ) (e : ExprTree) (all : AlternativeTrees) where
     abbrev case_whole : StmtTree
@@ -250,48 +283,76 @@ module _ (v : Visible) (w : Ways) (old new : Draft) (why : Refusal) where
     selected_in : Within (value_needs v e) (stmt_needs at case_whole)
     selected_in = in_left (value_needs v e) (alternatives_needs at all)
 
-    pub selected_refused : RefusesExpression v old.code 0 e why → RefusesStatement v w old case_whole new why
+    pub selected_refused : RefusesExpression v old.code 0 e why → RefusesStatement v w old case_whole why
     selected_refused r =
-        value_refused v old.code 0 e (here old.code + stmt_bound v.scope case_whole) (stmt_needs at case_whole) new.labels why (omega arith) selected_in r
+        value_refused v old.code 0 e (here old.code + stmt_bound v.scope case_whole) (stmt_needs at case_whole) (alternatives_labels old.labels all) why
+        (omega arith) selected_in r
 
-    pub alternatives_refused : (mid : Draft) → mid.words.taken ≡ old.words.taken → here mid.code ≤ here old.code + 20 * expr_size e
-        → RefusesAlternatives v w mid all new why → RefusesStatement v w old case_whole new why
-    alternatives_refused mid same up r =
-        placed_refused v w old mid new.labels (λ a. alternatives_needs a all) (here mid.code + alternatives_bound v.scope all)
+    pub alternatives_refused : (mid : Draft) → mid.words.taken ≡ old.words.taken → mid.labels ≡ old.labels → here mid.code ≤ here old.code + 20 * expr_size e
+        → RefusesAlternatives v w mid all why → RefusesStatement v w old case_whole why
+    alternatives_refused mid same labels up r =
+        placed_refused v w old mid (alternatives_labels mid.labels all) (alternatives_labels old.labels all) (λ a. alternatives_needs a all) (here mid.code + alternatives_bound v.scope all)
         (here old.code + stmt_bound v.scope case_whole) (stmt_needs at case_whole) why same (omega (arith, up))
-        (in_right (value_needs v e) (alternatives_needs at all)) r
+        (in_right (value_needs v e) (alternatives_needs at all))
+        (as_many (alternatives_labels mid.labels all) (alternatives_labels old.labels all) (ap (λ l. alternatives_labels l all) labels)) r
 
     pub dropped_refused : (m h : ℕ) → m ≤ here old.code + (20 * expr_size e + alternatives_bound v.scope all + 1) → h ≤ 1 → IsRefused m h false why
-        → RefusesStatement v w old case_whole new why
+        → RefusesStatement v w old case_whole why
     dropped_refused m h up high r =
-        plain_refused m (here old.code + stmt_bound v.scope case_whole) h (stmt_needs at case_whole) new.labels why (omega (arith, up))
+        plain_refused m (here old.code + stmt_bound v.scope case_whole) h (stmt_needs at case_whole) (alternatives_labels old.labels all) why (omega (arith, up))
         (part_high h (value_needs v e) (stmt_needs at case_whole) selected_in (let some = peak_some v.scope e in omega (arith, high, some))) r
 
   -- ---- ways out, and lines
 
-  pub exit_refused : (place : ℕ) (e : ExprTree) → RefusesExpression v old.code 0 e why → RefusesStatement v w old (Exit place (Some e)) new why
+  pub exit_refused : (place : ℕ) (e : ExprTree) → RefusesExpression v old.code 0 e why → RefusesStatement v w old (Exit place (Some e)) why
   exit_refused place e r =
-      value_refused v old.code 0 e (here old.code + stmt_bound v.scope (Exit place (Some e))) (stmt_needs at (Exit place (Some e))) new.labels why (omega arith)
+      value_refused v old.code 0 e (here old.code + stmt_bound v.scope (Exit place (Some e))) (stmt_needs at (Exit place (Some e))) old.labels why (omega arith)
       (in_right (beyond_if (not at.looped)) (value_needs v e)) r
 
   pub line_refused : (name : NameTree) (line : Line) → line_of name ≡ Some line → RefusesExpression v old.code 0 line.value why
-      → Refuses old new (stmt_bound v.scope (tree.Call name)) (put_needs v name) why
+      → Refuses old (stmt_labels old.labels (tree.Call name)) (stmt_bound v.scope (tree.Call name)) (put_needs v name) why
   line_refused name line is r =
       let size = ap selectors_size (line_written name.selectors line.label line.value is).is in
-      value_refused v old.code 0 line.value (here old.code + stmt_bound v.scope (tree.Call name)) (put_needs v name) new.labels why (omega (arith, size))
+      value_refused v old.code 0 line.value (here old.code + stmt_bound v.scope (tree.Call name)) (put_needs v name)
+      (stmt_labels old.labels (tree.Call name)) why (omega (arith, size))
       (of_right (value_needs v line.value) (beyond_if (not (is_put (entity_named v.scope name.first.name)))) (line_needs v (line_of name))
       (subst (λ o. Within (value_needs v line.value) (line_needs v o)) (sym is) (within_self (value_needs v line.value)))) r
+
+  module _ (name : NameTree) (line : Line) (is : line_of name ≡ Some line) where
+    abbrev written : Needs
+    written = put_needs v name
+
+    abbrev line_labels : List (List ℕ)
+    line_labels = stmt_labels old.labels (tree.Call name)
+
+    pub labels_refused : (IsRefused 0 0 false why ⊎ HasManyLabels (with_label old.labels line.label) why)
+        → Refuses old line_labels (stmt_bound v.scope (tree.Call name)) written why
+    labels_refused (inl r) = plain_refused 0 (here old.code + stmt_bound v.scope (tree.Call name)) 0 written line_labels why (omega arith) (omega arith) r
+    labels_refused (inr h) = inr (subst (λ o. HasManyLabels (with_line old.labels o) why) (sym is) h)
+
+    pub written_refused : (m : Code) → here m ≤ here old.code + 20 * expr_size line.value → IsRefused (here m + 1) 1 false why
+        → Refuses old line_labels (stmt_bound v.scope (tree.Call name)) written why
+    written_refused m up r =
+        let size = ap selectors_size (line_written name.selectors line.label line.value is).is in
+        plain_refused (here m + 1) (here old.code + stmt_bound v.scope (tree.Call name)) 1 written line_labels why (omega (arith, size, up))
+        (part_high 1 (value_needs v line.value) written
+        (of_right (value_needs v line.value) (beyond_if (not (is_put (entity_named v.scope name.first.name)))) (line_needs v (line_of name))
+        (subst (λ o. Within (value_needs v line.value) (line_needs v o)) (sym is) (within_self (value_needs v line.value))))
+        (let some = peak_some v.scope line.value in omega (arith, some))) r
 
   -- ---- statements one behind another
 
   pub statement_refuses : (mid : Draft) (all : List Stmt) (n : ℕ) (x : Stmt) → n < length all → x ≡ get_or all n x → mid.words.taken ≡ old.words.taken
-      → here mid.code ≤ here old.code + stmts_bound v.scope (stmt_trees (take n all))
-      → RefusesStatement v w mid (stmt_tree x) new why → RefusesStatements v w old (stmt_trees all) new why
-  statement_refuses mid all n x less is same up r =
+      → mid.labels ≡ stmts_labels old.labels (stmt_trees (take n all)) → here mid.code ≤ here old.code + stmts_bound v.scope (stmt_trees (take n all))
+      → RefusesStatement v w mid (stmt_tree x) why → RefusesStatements v w old (stmt_trees all) why
+  statement_refuses mid all n x less is same labels up r =
       let among = statements_among at all n x less is in
       let sum = among.0 in
-      placed_refused v w old mid new.labels (λ a. stmt_needs a (stmt_tree x)) (here mid.code + stmt_bound v.scope (stmt_tree x))
-      (here old.code + stmts_bound v.scope (stmt_trees all)) (stmts_needs at (stmt_trees all)) why same (omega (arith, up, sum)) among.1 r
+      let few = ap (λ l. length (stmt_labels l (stmt_tree x))) labels in
+      let many = stmts_few old.labels all n x less is in
+      placed_refused v w old mid (stmt_labels mid.labels (stmt_tree x)) (stmts_labels old.labels (stmt_trees all)) (λ a. stmt_needs a (stmt_tree x)) (here mid.code + stmt_bound v.scope (stmt_tree x))
+      (here old.code + stmts_bound v.scope (stmt_trees all)) (stmts_needs at (stmt_trees all)) why same (omega (arith, up, sum)) among.1
+      (omega (arith, few, many)) r
 
   -- ---- blocks
 
@@ -307,22 +368,24 @@ module _ (v : Visible) (w : Ways) (old new : Draft) (why : Refusal) where
     abbrev block_needs : Needs
     block_needs = both (locals_needs v old.words.taken ds) (stmts_needs (behind_locals at ds) body)
 
-    pub locals_refused : RefusesDeclarations v old ds new why → RefusesStatement v w old block new why
+    pub locals_refused : RefusesDeclarations v old ds why → RefusesStatement v w old block why
     locals_refused r =
-        part_refused (here old.code + declarations_bound v.scope ds) (here old.code + stmt_bound v.scope block) (locals_needs v old.words.taken ds)
-        (stmt_needs at block) new.labels why (omega arith)
+        inl (needing_refused (here old.code + declarations_bound v.scope ds) (here old.code + stmt_bound v.scope block) (locals_needs v old.words.taken ds)
+        (stmt_needs at block) (omega arith)
         (of_right (locals_needs v old.words.taken ds) nothing block_needs
-        (in_left (locals_needs v old.words.taken ds) (stmts_needs (behind_locals at ds) body))) r
+        (in_left (locals_needs v old.words.taken ds) (stmts_needs (behind_locals at ds) body))) why r)
 
     pub block_body_refused : (later : Visible) (mid : Draft) → later ≡ locals_visible v old.words.taken ds → later.scope ≡ locals_scope v.scope ds
-        → mid.words.taken ≡ old.words.taken + locals_words v.scope ds → here mid.code ≤ here old.code + declarations_bound v.scope ds
-        → RefusesStatements later w mid body new why → RefusesStatement v w old block new why
-    block_body_refused later mid seen scope same up r =
+        → mid.words.taken ≡ old.words.taken + locals_words v.scope ds → mid.labels ≡ old.labels
+        → here mid.code ≤ here old.code + declarations_bound v.scope ds
+        → RefusesStatements later w mid body why → RefusesStatement v w old block why
+    block_body_refused later mid seen scope same labels up r =
         part_refused (here mid.code + stmts_bound later.scope body) (here old.code + stmt_bound v.scope block) (stmts_needs (around later w mid) body)
-        (stmt_needs at block) new.labels why (let inner = ap (λ s. stmts_bound s body) scope in omega (arith, up, inner))
+        (stmt_needs at block) (stmts_labels mid.labels body) (stmts_labels old.labels body) why (let inner = ap (λ s. stmts_bound s body) scope in omega (arith, up, inner))
         (subst (λ a. Within (stmts_needs a body) (stmt_needs at block)) (sym inside)
         (of_right (stmts_needs (behind_locals at ds) body) nothing block_needs
-        (in_right (locals_needs v old.words.taken ds) (stmts_needs (behind_locals at ds) body)))) r
+        (in_right (locals_needs v old.words.taken ds) (stmts_needs (behind_locals at ds) body))))
+        (as_many (stmts_labels mid.labels body) (stmts_labels old.labels body) (ap (λ l. stmts_labels l body) labels)) r
       where
         inside : around later w mid ≡ behind_locals at ds
         inside = λ j. record { visible = seen j; taken = same j; looped = is_some w.exit; returns = is_some w.return }
@@ -357,20 +420,23 @@ turn_here old t last new p =
     let three = all_here p.tested new (value_counted t) p.counts in
     omega (arith, one, two, three)
 
-module _ (v : Visible) (old new : Draft) (parameter : Identifier) (reversed : Bool) (range : RangeTree) (why : Refusal) where
+module _ (v : Visible) (old : Draft) (parameter : Identifier) (reversed : Bool) (range : RangeTree) (why : Refusal) where
   abbrev headed : Needs
   headed = both (framed (old.words.taken + 2)) (both (value_needs v range.first) (needs_above 1 v range.last))
 
-  pub first_refused : RefusesExpression v old.code 0 range.first why → RefusesRange v old parameter reversed range new why
+  abbrev bound : ℕ
+  bound = here old.code + (6 + 20 * (expr_size range.first + expr_size range.last))
+
+  pub first_refused : RefusesExpression v old.code 0 range.first why → RefusesRange v old parameter reversed range why
   first_refused r =
-      value_refused v old.code 0 range.first (here old.code + (6 + 20 * (expr_size range.first + expr_size range.last))) headed new.labels why (omega arith)
+      value_needing v old.code 0 range.first bound headed why (omega arith)
       (of_right (value_needs v range.first) (framed (old.words.taken + 2)) (both (value_needs v range.first) (needs_above 1 v range.last))
       (in_left (value_needs v range.first) (needs_above 1 v range.last))) r
 
   pub last_refused : (m : Code) → here m ≤ here old.code + 20 * expr_size range.first → RefusesExpression v m 1 range.last why
-      → RefusesRange v old parameter reversed range new why
+      → RefusesRange v old parameter reversed range why
   last_refused m up r =
-      value_refused v m 1 range.last (here old.code + (6 + 20 * (expr_size range.first + expr_size range.last))) headed new.labels why (omega (arith, up))
+      value_needing v m 1 range.last bound headed why (omega (arith, up))
       (of_right (needs_above 1 v range.last) (framed (old.words.taken + 2)) (both (value_needs v range.first) (needs_above 1 v range.last))
       (in_right (value_needs v range.first) (needs_above 1 v range.last))) r
 
@@ -386,30 +452,32 @@ range_two a parameter reversed range =
 
 -- ---- bodies
 
-module _ (v : Visible) (old new : Draft) (why : Refusal) (ds : List DeclarationTree) (body : StmtTrees) where
+module _ (v : Visible) (old : Draft) (why : Refusal) (ds : List DeclarationTree) (body : StmtTrees) where
   abbrev needed : Needs
   needed = run_needs v old.words.taken ds body
 
   abbrev own : Around
   own = in_body v old.words.taken
 
-  pub run_locals_refused : RefusesDeclarations v old ds new why → RefusesRun v old ds body new why
+  pub run_locals_refused : RefusesDeclarations v old ds why → RefusesRun v old ds body why
   run_locals_refused r =
-      part_refused (here old.code + declarations_bound v.scope ds) (here old.code + run_bound v.scope ds body) (locals_needs v old.words.taken ds) needed
-      new.labels why (omega arith) (in_left (locals_needs v old.words.taken ds) (stmts_needs (behind_locals own ds) body)) r
+      inl (needing_refused (here old.code + declarations_bound v.scope ds) (here old.code + run_bound v.scope ds body) (locals_needs v old.words.taken ds) needed
+      (omega arith) (in_left (locals_needs v old.words.taken ds) (stmts_needs (behind_locals own ds) body)) why r)
 
-  pub run_refused : (m : ℕ) → m ≤ here old.code + run_bound v.scope ds body → IsRefused m 0 false why → RefusesRun v old ds body new why
-  run_refused m up r = plain_refused m (here old.code + run_bound v.scope ds body) 0 needed new.labels why up (omega arith) r
+  pub run_refused : (m : ℕ) → m ≤ here old.code + run_bound v.scope ds body → IsRefused m 0 false why → RefusesRun v old ds body why
+  run_refused m up r = plain_refused m (here old.code + run_bound v.scope ds body) 0 needed (stmts_labels old.labels body) why up (omega arith) r
 
   pub run_body_refused : (later : Visible) (out : ℕ) (mid : Draft) → later ≡ locals_visible v old.words.taken ds → later.scope ≡ locals_scope v.scope ds
-      → mid.words.taken ≡ old.words.taken + locals_words v.scope ds → here mid.code ≤ here old.code + (declarations_bound v.scope ds + 2)
-      → RefusesStatements later (record { exit = None; return = Some out; handled = None }) mid body new why → RefusesRun v old ds body new why
-  run_body_refused later out mid seen scope same up r =
+      → mid.words.taken ≡ old.words.taken + locals_words v.scope ds → mid.labels ≡ old.labels
+      → here mid.code ≤ here old.code + (declarations_bound v.scope ds + 2)
+      → RefusesStatements later (record { exit = None; return = Some out; handled = None }) mid body why → RefusesRun v old ds body why
+  run_body_refused later out mid seen scope same labels up r =
       part_refused (here mid.code + stmts_bound later.scope body) (here old.code + run_bound v.scope ds body)
-      (stmts_needs (around later (record { exit = None; return = Some out; handled = None }) mid) body) needed new.labels why
+      (stmts_needs (around later (record { exit = None; return = Some out; handled = None }) mid) body) needed (stmts_labels mid.labels body) (stmts_labels old.labels body) why
       (let inner = ap (λ s. stmts_bound s body) scope in omega (arith, up, inner))
       (subst (λ a. Within (stmts_needs a body) needed) (sym inside)
-      (in_right (locals_needs v old.words.taken ds) (stmts_needs (behind_locals own ds) body))) r
+      (in_right (locals_needs v old.words.taken ds) (stmts_needs (behind_locals own ds) body)))
+      (as_many (stmts_labels mid.labels body) (stmts_labels old.labels body) (ap (λ l. stmts_labels l body) labels)) r
     where
       inside : around later (record { exit = None; return = Some out; handled = None }) mid ≡ behind_locals own ds
       inside = λ j. record { visible = seen j; taken = same j; looped = false; returns = true }

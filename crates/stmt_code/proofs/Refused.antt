@@ -26,7 +26,7 @@ use Rattle.expr_code.specs.declared.refusal.Refusal.TheVariants as refusal
 use Rattle.expr_code.specs.declared.visible.Visible.{Visible}
 use Rattle.expr_code.proofs.Refusals.{or_left, or_right, refused_beside}
 use Rattle.stmt_code.specs.Bounds.{alternatives_bound, declarations_bound, elsifs_bound, local_words, locals_words, stmt_bound, stmts_bound}
-use Rattle.stmt_code.specs.Refusing.{Around, HasManyLabels, IsNeeding, Needs, RefusesDeclarations, alternatives_needs, are_unfit, both, choices_needs, elsifs_needs, has_unfit, is_unfit, local_needs, local_visible, locals_needs, locals_visible, needs_above, nothing, stmt_needs, stmts_needs, unsaid, value_needs}
+use Rattle.stmt_code.specs.Refusing.{Around, HasManyLabels, IsNeeding, Needs, RefusesDeclarations, alternatives_needs, are_unfit, both, choices_needs, elsifs_needs, has_unfit, is_unfit, local_needs, local_visible, locals_needs, locals_visible, needs_above, nothing, stmt_needs, stmts_needs, value_needs}
 use Rattle.stmt_code.specs.declared.draft.Draft.{Draft}
 use Rattle.stmt_code.proofs.Adding.{mapped_next}
 
@@ -132,10 +132,16 @@ needing_refused m n a b up within refusal.Limit (inr (inl r)) = inr (inl (let mo
 needing_refused m n a b up within refusal.Limit (inr (inr r)) = inr (inr (within.unfit r))
 needing_refused m n a b up within refusal.Outside r = within.outside r
 
-pub part_refused : (m n : ℕ) (a b : Needs) (labels : List (List ℕ)) (why : Refusal) → m ≤ n → Within a b
-    → (IsNeeding m a why ⊎ HasManyLabels labels why) → (IsNeeding n b why ⊎ HasManyLabels labels why)
-part_refused m n a b labels why up within (inl r) = inl (needing_refused m n a b up within why r)
-part_refused m n a b labels why up within (inr h) = inr h
+-- ... and as many labels as the part are no more than those of the whole
+pub labelled : (few many : List (List ℕ)) → length few ≤ length many → (why : Refusal) → HasManyLabels few why → HasManyLabels many why
+labelled few many less refusal.Limit h = omega (arith, h, less)
+labelled few many less refusal.Memory h = h
+labelled few many less refusal.Outside h = h
+
+pub part_refused : (m n : ℕ) (a b : Needs) (few many : List (List ℕ)) (why : Refusal) → m ≤ n → Within a b → length few ≤ length many
+    → (IsNeeding m a why ⊎ HasManyLabels few why) → (IsNeeding n b why ⊎ HasManyLabels many why)
+part_refused m n a b few many why up within less (inl r) = inl (needing_refused m n a b up within why r)
+part_refused m n a b few many why up within less (inr h) = inr (labelled few many less why h)
 
 -- of code that says what it needs in the words of expressions
 pub code_refused : (a : Type 0) (m n h : ℕ) (q : Bool) (b : Needs) → m ≤ n → h ≤ max b.stack b.frame → (a → b.unfit ≡ true) → (q ≡ true → b.outside ≡ true)
@@ -155,20 +161,18 @@ pub plain_more : (m n h k : ℕ) → m ≤ n → h ≤ k → (why : Refusal) →
 plain_more m n h k up high why r = refused_beside m n h k false false (λ x. x) up high (λ e. e) why r
 
 -- of a value
-pub value_refused : (v : Visible) (old : Code) (depth : ℕ) (e : ExprTree) (n : ℕ) (b : Needs) (labels : List (List ℕ)) (why : Refusal)
-    → here old + 20 * expr_size e ≤ n → Within (needs_above depth v e) b → RefusesExpression v old depth e why → (IsNeeding n b why ⊎ HasManyLabels labels why)
-value_refused v old depth e n b labels why up within r =
-    inl (code_refused (HasUnfitObject v) (here old + 20 * expr_size e) n (depth + peak v.scope e) (is_outside v e) b up
-    (over (depth + peak v.scope e) b.stack b.frame within.stack) (λ u. within.unfit (unfit_there v u)) within.outside why r)
+pub value_needing : (v : Visible) (old : Code) (depth : ℕ) (e : ExprTree) (n : ℕ) (b : Needs) (why : Refusal)
+    → here old + 20 * expr_size e ≤ n → Within (needs_above depth v e) b → RefusesExpression v old depth e why → IsNeeding n b why
+value_needing v old depth e n b why up within r =
+    code_refused (HasUnfitObject v) (here old + 20 * expr_size e) n (depth + peak v.scope e) (is_outside v e) b up
+    (over (depth + peak v.scope e) b.stack b.frame within.stack) (λ u. within.unfit (unfit_there v u)) within.outside why r
   where
     over : (p k l : ℕ) → p ≤ k → p ≤ max k l
     over p k l h = omega (arith, h)
 
--- ... of which nothing is said
-pub unsaid_needing : (n : ℕ) (why : Refusal) → IsNeeding n unsaid why
-unsaid_needing n refusal.Memory = tt
-unsaid_needing n refusal.Limit = inr (inr refl)
-unsaid_needing n refusal.Outside = refl
+pub value_refused : (v : Visible) (old : Code) (depth : ℕ) (e : ExprTree) (n : ℕ) (b : Needs) (labels : List (List ℕ)) (why : Refusal)
+    → here old + 20 * expr_size e ≤ n → Within (needs_above depth v e) b → RefusesExpression v old depth e why → (IsNeeding n b why ⊎ HasManyLabels labels why)
+value_refused v old depth e n b labels why up within r = inl (value_needing v old depth e n b why up within r)
 
 pub stack_within : (h : ℕ) (b : Needs) → h ≤ b.stack → h ≤ max b.stack b.frame
 stack_within h b p = over h b.stack b.frame p
@@ -314,18 +318,18 @@ words_next v taken all n x less is =
     let two = words_behind v taken (map declaration_tree (take n all)) (declaration_tree x ∷ []) in
     omega (arith, one, two)
 
-pub local_refuses : (v later : Visible) (old mid new : Draft) (all : List Declaration) (n : ℕ) (x : Declaration) (why : Refusal) → n < length all → x ≡ get_or all n x
+pub local_refuses : (v later : Visible) (old mid : Draft) (all : List Declaration) (n : ℕ) (x : Declaration) (why : Refusal) → n < length all → x ≡ get_or all n x
     → later ≡ locals_visible v old.words.taken (map declaration_tree (take n all))
     → mid.words.taken ≡ old.words.taken + locals_words v.scope (map declaration_tree (take n all))
     → here mid.code ≤ here old.code + declarations_bound v.scope (map declaration_tree (take n all))
-    → RefusesDeclarations later mid (declaration_tree x ∷ []) new why → RefusesDeclarations v old (map declaration_tree all) new why
-local_refuses v later old mid new all n x why less is seen same up r =
+    → RefusesDeclarations later mid (declaration_tree x ∷ []) why → RefusesDeclarations v old (map declaration_tree all) why
+local_refuses v later old mid all n x why less is seen same up r =
     let among = locals_among v old.words.taken all n x less is in
     let sum = among.0 in
     let own = ap (λ y. declarations_bound y.scope (declaration_tree x ∷ [])) seen in
-    part_refused (here mid.code + declarations_bound later.scope (declaration_tree x ∷ [])) (here old.code + declarations_bound v.scope (map declaration_tree all))
-    (locals_needs later mid.words.taken (declaration_tree x ∷ [])) (locals_needs v old.words.taken (map declaration_tree all)) new.labels why
+    needing_refused (here mid.code + declarations_bound later.scope (declaration_tree x ∷ [])) (here old.code + declarations_bound v.scope (map declaration_tree all))
+    (locals_needs later mid.words.taken (declaration_tree x ∷ [])) (locals_needs v old.words.taken (map declaration_tree all))
     (omega (arith, up, sum, own))
     (subst (λ n'. Within (locals_needs later n' (declaration_tree x ∷ [])) (locals_needs v old.words.taken (map declaration_tree all))) (sym same)
     (subst (λ y. Within (locals_needs y (old.words.taken + locals_words v.scope (map declaration_tree (take n all))) (declaration_tree x ∷ []))
-    (locals_needs v old.words.taken (map declaration_tree all))) (sym seen) among.1)) r
+    (locals_needs v old.words.taken (map declaration_tree all))) (sym seen) among.1)) why r

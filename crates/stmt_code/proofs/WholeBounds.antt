@@ -55,7 +55,7 @@ module _ (sized : ValuesHaveWords) (shaped : InitialValuesHaveShape) (v : Visibl
 
 -- ---- procedures
 
-formals_total : (s behind : Scope) (fs : List Formal) (xs : List PlacedFormal) (from out last top : ℕ) → StandInTurn s from out fs xs last top
+pub formals_total : (s behind : Scope) (fs : List Formal) (xs : List PlacedFormal) (from out last top : ℕ) → StandInTurn s from out fs xs last top
     → total (placed_words behind) xs ≡ formals_words s behind fs
 formals_total s behind [] [] from out last top h = omega arith
 formals_total s behind [] (x ∷ xs) from out last top h = absurd h

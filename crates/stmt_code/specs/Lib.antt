@@ -20,3 +20,6 @@ pub mod Subprograms
 pub mod Whole
 pub mod Turns
 pub mod Refusing
+pub mod Labels
+pub mod WholeRefusals
+pub mod Staying

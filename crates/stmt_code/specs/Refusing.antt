@@ -1,5 +1,5 @@
 -- When code of statements isn't made: memory was refused, a limit of images would be passed, or a statement has what nothing is promised of yet.
-use Rattle.std.specs.Prelude.{◌≡◌, ℕ, suc, ◌+◌, ◌*◌, ◌<◌, max, Bool, true, false, ◌||◌, not, nat_eq, List, [], ◌∷◌, ◌++◌, length, Option, Some, None, is_none, is_some, ◌⊎◌}
+use Rattle.std.specs.Prelude.{◌≡◌, ℕ, suc, ◌+◌, ◌*◌, ◌<◌, max, Bool, true, false, ◌&&◌, ◌||◌, not, nat_eq, List, [], ◌∷◌, ◌++◌, length, Option, Some, None, is_none, is_some, ◌⊎◌}
 use Rattle.base.specs.declared.limits.TheConstants.{LABELS}
 use Rattle.ada_tree.specs.declared.declaration.Formal.{Formal}
 use Rattle.ada_tree.specs.declared.declaration.Mode.{Mode}
@@ -7,15 +7,20 @@ use Rattle.ada_tree.specs.declared.declaration.Mode.TheVariants as mode
 use Rattle.ada_tree.specs.declared.expression.Identifier.{Identifier}
 use Rattle.ada_tree.specs.declared.program.MainStatement.{MainStatement}
 use Rattle.ada_tree.specs.declared.program.MainStatement.TheVariants as main
-use Rattle.ada_tree.specs.ExpressionTree.{ArgumentTree, ExprTree, NameTree, NoSelectors, SelectorTrees}
+use Rattle.ada_tree.specs.ExpressionTree.{ArgumentTree, ArgumentTrees, ExprTree, MoreArguments, Named, NameTree, NoArguments, SelectorTrees, Text, Value}
 use Rattle.ada_tree.specs.StatementTree.{AlternativeTrees, Assignment, Block, Call, Case, ChoicesTree, DeclarationTree, ElsifTrees, Exit, For, Forever, HandlerTrees, If, IterationTree, LocalObject, Loop, MoreAlternatives, MoreElsifs, MoreStmts, NoAlternatives, NoElsifs, NoHandlers, NoStmts, Null, OtherValues, RangeTree, Return, StmtTree, StmtTrees, Values, While}
 use Rattle.ada_tree.specs.Size.{expr_size, total}
 use Rattle.image.specs.declared.instruction.Region.TheVariants as regions
+use Rattle.types.specs.declared.entity.FormalParameter.{FormalParameter}
 use Rattle.types.specs.declared.entity.Subtype.{Subtype}
+use Rattle.types.specs.declared.standing.Standing.{Standing}
+use Rattle.types.specs.declared.standing.Standing.TheVariants as standing
 use Rattle.types.specs.Entities.{Booleans, Entity, Integers, Object, Profile, TypeForm}
 use Rattle.types.specs.Layouts.{words_of}
-use Rattle.types.specs.Scopes.{Named, Scope, form_at}
+use Rattle.types.specs.Scopes.{Scope, form_at, number_of}
+use Rattle.types.specs.Scopes as scopes
 use Rattle.types.specs.Shapes.{Grouped, Logical, MoreShapes, NoShapes, Ranged, Repeated, Shape, Shapeless, Shapes, Timed, shape_of}
+use Rattle.types.specs.Standings.{standing_of, stands_first}
 use Rattle.types.specs.Statics.{static_fault}
 use Rattle.type_rules.specs.SubtypeNames.{subtype_of}
 use Rattle.declaring.specs.BodyNames.{loop_scope}
@@ -23,16 +28,21 @@ use Rattle.declaring.specs.LocalRules.{local_scope}
 use Rattle.sound_steps.specs.Fitting.{entity_named}
 use Rattle.expr_code.specs.Code.{here}
 use Rattle.expr_code.specs.Emitting.{is_composite}
-use Rattle.expr_code.specs.Refusing.{IsRefused, IsRefusedBeside, checked_peak, is_fit, is_outside, is_passable, peak}
-use Rattle.expr_code.specs.Seeing.{profile_named, subprogram_of}
+use Rattle.expr_code.specs.Refusing.{IsRefused, IsRefusedBeside, IsUnfit, checked_peak, is_fit, is_outside, is_passable, peak, selectors_outside, selectors_peak}
+use Rattle.expr_code.specs.Seeing.{profile_named, slot_of, subprogram_of}
 use Rattle.expr_code.specs.declared.code.Code.{Code}
 use Rattle.expr_code.specs.declared.refusal.Refusal.{Refusal}
 use Rattle.expr_code.specs.declared.refusal.Refusal.TheVariants as refusal
+use Rattle.expr_code.specs.declared.visible.Slot.{Slot}
 use Rattle.expr_code.specs.declared.visible.Visible.{Visible}
 use Rattle.stmt_code.specs.Formals.{passed_for, placed_words, returned_more}
 use Rattle.stmt_code.specs.Bounds.{alternatives_bound, declarations_bound, elsifs_bound, local_words, locals_words, run_bound, stmt_bound, stmts_bound, words_named}
+use Rattle.stmt_code.specs.Labels.{alternatives_labels, elsifs_labels, stmt_labels, stmts_labels}
 use Rattle.stmt_code.specs.Lines.{Line, is_put, line_of}
+use Rattle.stmt_code.specs.Moving.{moved_from}
+use Rattle.stmt_code.specs.Passing.{actuals_behind, copied_width, holds_variables}
 use Rattle.stmt_code.specs.Statements.{Ways}
+use Rattle.stmt_code.specs.Suiting.{passed_width}
 use Rattle.stmt_code.specs.declared.call.Destination.{Destination}
 use Rattle.stmt_code.specs.declared.draft.Draft.{Draft}
 use Rattle.stmt_code.specs.declared.formals.PlacedFormal.{PlacedFormal}
@@ -57,10 +67,6 @@ beyond_if b = record { stack = 0; frame = 0; unfit = false; outside = b }
 abbrev pub beyond : Needs
 beyond = beyond_if true
 
--- of what nothing is said yet
-abbrev pub unsaid : Needs
-unsaid = record { stack = 0; frame = 0; unfit = true; outside = true }
-
 -- so many words of the operand stack, or of the frame
 abbrev pub stacked : ℕ → Needs
 stacked n = record { stack = n; frame = 0; unfit = false; outside = false }
@@ -81,7 +87,7 @@ abbrev pub is_unfit : Scope → Entity → Bool
 is_unfit s (Object r t) = not (is_fit (shape_of s t))
 is_unfit s e = false
 
-abbrev pub are_unfit : Scope → List Named → Bool
+abbrev pub are_unfit : Scope → List scopes.Named → Bool
 are_unfit s [] = false
 are_unfit s (n ∷ rest) = is_unfit s n.entity || are_unfit s rest
 
@@ -196,34 +202,175 @@ abbrev pub locals_needs : Visible → (taken : ℕ) → List DeclarationTree →
 locals_needs v taken [] = nothing
 locals_needs v taken (d ∷ ds) = both (local_needs v taken d) (locals_needs (local_visible v taken d) (taken + local_words v.scope d) ds)
 
--- ---- statements without others within
+-- ---- assignments
+
+-- its words are those of a frame or of the package; to those of protected objects nothing is stored yet
+abbrev pub is_stored : Option Slot → Bool
+is_stored None = false
+is_stored (Some x) = holds_variables x.region
+
+abbrev pub is_object : Standing → Bool
+is_object (standing.Part r t) = true
+is_object w = false
+
+-- of the address of a variable with this name, or of a part of it, above so many words
+abbrev pub address_needs : (depth : ℕ) → Visible → Identifier → SelectorTrees → Needs
+address_needs depth v first path =
+    record {
+      stack = depth + selectors_peak v.scope 1 path;
+      frame = 0;
+      unfit = has_unfit v;
+      outside = not (is_object (stands_first v.scope (number_of v.scope first.name)) && is_stored (slot_of v first.name)) || selectors_outside v path;
+    }
+
+abbrev pub words_at : Scope → Standing → ℕ
+words_at s (standing.Part r t) = words_of s t
+words_at s w = 0
+
+-- code checks its values, or they need no check
+abbrev pub is_taken : Scope → Subtype → Bool
+is_taken s t = is_passable s t || is_composite (form_at s t.type_number)
+
+abbrev pub takes_value : Scope → Standing → Bool
+takes_value s (standing.Part r t) = is_taken s t
+takes_value s w = false
+
+-- of the value, above the address of what it is assigned to
+abbrev pub assigned_needs : Visible → Standing → ExprTree → Needs
+assigned_needs v target e =
+    record {
+      stack = suc (max (words_at v.scope target) (checked_peak (peak v.scope e)));
+      frame = 0;
+      unfit = has_unfit v;
+      outside = not (takes_value v.scope target) || is_outside v e;
+    }
+
+-- where the value stands on the operand stack
+abbrev pub stored_needs : Visible → NameTree → ExprTree → Needs
+stored_needs v name e = both (address_needs 0 v name.first name.selectors) (assigned_needs v (standing_of v.scope name.first name.selectors) e)
+
+-- where it is moved from another variable, or from a part of one
+abbrev pub moved_needs : Visible → (name moved : NameTree) → Needs
+moved_needs v name moved = both (address_needs 0 v name.first name.selectors) (address_needs 1 v moved.first moved.selectors)
+
+abbrev pub needs_from : Visible → NameTree → ExprTree → (moved : Option NameTree) → Needs
+needs_from v name e None = stored_needs v name e
+needs_from v name e (Some moved) = moved_needs v name moved
+
+abbrev pub assignment_needs : Visible → NameTree → ExprTree → Needs
+assignment_needs v name e = needs_from v name e (moved_from v name e)
+
+-- ---- lines
 
 -- of a line: its value
 abbrev pub line_needs : Visible → Option Line → Needs
 line_needs v None = beyond
 line_needs v (Some line) = value_needs v line.value
 
--- of a call of a procedure with a number: without actual parameters. Of one with them nothing is said yet.
-abbrev pub passed_needs : SelectorTrees → Needs
-passed_needs NoSelectors = nothing
-passed_needs behind = unsaid
+-- ---- calls of procedures
 
-abbrev pub actuals_needs : List ArgumentTree → Needs
-actuals_needs [] = nothing
-actuals_needs (a ∷ all) = unsaid
+-- of an actual parameter of mode `in`: its value, checked
+abbrev pub in_needs : (depth : ℕ) → Visible → Subtype → ExprTree → Needs
+in_needs depth v t e =
+    record {
+      stack = depth + max (words_of v.scope t) (checked_peak (peak v.scope e));
+      frame = 0;
+      unfit = has_unfit v || not (is_fit (shape_of v.scope t));
+      outside = not (is_taken v.scope t) || is_outside v e;
+    }
 
-abbrev pub copies_needs : List Destination → Needs
-copies_needs [] = nothing
-copies_needs (d ∷ ds) = unsaid
+-- of one of mode `out`: the address of what it names
+abbrev pub target_needs : (depth : ℕ) → Visible → ExprTree → Needs
+target_needs depth v (Named first path) = address_needs depth v first path
+target_needs depth v e = beyond
 
-abbrev pub invoked_needs : Visible → NameTree → Needs
-invoked_needs v name = both (beyond_if (is_none (subprogram_of v name.first.name))) (passed_needs name.selectors)
+-- a number is checked beside both bounds
+abbrev pub check_words : Option TypeForm → ℕ
+check_words (Some Integers) = 2
+check_words form = 0
+
+-- of one of mode `in out` the value too, so many words above the address, which is checked against the subtype of the parameter
+abbrev pub copied_needs : (depth : ℕ) → Visible → (words : ℕ) → Subtype → Needs
+copied_needs depth v words t =
+    record {
+      stack = depth + suc (max 1 (words + check_words (form_at v.scope t.type_number)));
+      frame = 0;
+      unfit = has_unfit v;
+      outside = not (is_taken v.scope t);
+    }
+
+abbrev pub in_out_needs : (depth : ℕ) → Visible → Subtype → ExprTree → Needs
+in_out_needs depth v t (Named first path) = both (address_needs depth v first path) (copied_needs depth v (words_at v.scope (standing_of v.scope first path)) t)
+in_out_needs depth v t e = beyond
+
+abbrev pub moded_needs : (depth : ℕ) → Visible → FormalParameter → ExprTree → Needs
+moded_needs depth v f e =
+    elim f.mode [ mode.In ↦ in_needs depth v f.subtype e | mode.Out ↦ target_needs depth v e | mode.InOut ↦ in_out_needs depth v f.subtype e ]
+
+abbrev pub actual_needs : (depth : ℕ) → Visible → FormalParameter → ArgumentTree → Needs
+actual_needs depth v f (Value e) = moded_needs depth v f e
+actual_needs depth v f (Text label place) = beyond
+
+-- from left to right, each above the words that are passed in front of it
+abbrev pub actuals_needs : (height : ℕ) → Visible → List FormalParameter → ArgumentTrees → Needs
+actuals_needs height v fs NoArguments = nothing
+actuals_needs height v [] (MoreArguments a rest) = beyond
+actuals_needs height v (f ∷ fs) (MoreArguments a rest) = both (actual_needs height v f a) (actuals_needs (height + passed_width v.scope f) v fs rest)
+
+-- where they are copied back to
+abbrev pub destination_at : Option Slot → Standing → List Destination
+destination_at (Some x) (standing.Part r t) = record { region = x.region; subtype = t } ∷ []
+destination_at x w = []
+
+abbrev pub destinations_named : Visible → ExprTree → List Destination
+destinations_named v (Named first path) = destination_at (slot_of v first.name) (standing_of v.scope first path)
+destinations_named v e = []
+
+abbrev pub destinations_if : Visible → Mode → ExprTree → List Destination
+destinations_if v m e = elim m [ mode.In ↦ [] | mode.Out ↦ destinations_named v e | mode.InOut ↦ destinations_named v e ]
+
+abbrev pub destinations_for : Visible → FormalParameter → ArgumentTree → List Destination
+destinations_for v f (Value e) = destinations_if v f.mode e
+destinations_for v f (Text label place) = []
+
+abbrev pub destinations_of : Visible → List FormalParameter → ArgumentTrees → List Destination
+destinations_of v fs NoArguments = []
+destinations_of v [] (MoreArguments a rest) = []
+destinations_of v (f ∷ fs) (MoreArguments a rest) = destinations_for v f a ++ destinations_of v fs rest
+
+-- of a copy back: the check of the value on top of so many words
+abbrev pub copy_needs : Visible → (height : ℕ) → Destination → Needs
+copy_needs v height d =
+    record {
+      stack = height + check_words (form_at v.scope d.subtype.type_number);
+      frame = 0;
+      unfit = has_unfit v;
+      outside = not (holds_variables d.region && is_taken v.scope d.subtype);
+    }
+
+-- of all, from the first one on
+abbrev pub copies_needs : Visible → List Destination → Needs
+copies_needs v [] = nothing
+copies_needs v (d ∷ ds) = both (copy_needs v (total (copied_width v.scope) (d ∷ ds)) d) (copies_needs v ds)
+
+-- wherever what it is copied back to is unfit, something that is visible is
+abbrev pub IsPartFit : Visible → Destination → Type 0
+IsPartFit v d = IsUnfit v.scope d.subtype → has_unfit v ≡ true
+
+abbrev pub passed_needs : Visible → List FormalParameter → Option ArgumentTrees → Needs
+passed_needs v fs None = beyond
+passed_needs v fs (Some all) =
+    both (actuals_needs 0 v fs all) (both (stacked (total (passed_width v.scope) fs)) (copies_needs v (destinations_of v fs all)))
+
+abbrev pub invoked_needs : Visible → NameTree → Profile → Needs
+invoked_needs v name profile =
+    both (beyond_if (is_none (subprogram_of v name.first.name))) (passed_needs v profile.formals (actuals_behind name.selectors))
 
 abbrev pub put_needs : Visible → NameTree → Needs
 put_needs v name = both (beyond_if (not (is_put (entity_named v.scope name.first.name)))) (line_needs v (line_of name))
 
 abbrev pub called_needs : Visible → NameTree → Option Profile → Needs
-called_needs v name (Some profile) = invoked_needs v name
+called_needs v name (Some profile) = invoked_needs v name profile
 called_needs v name None = put_needs v name
 
 abbrev pub call_needs : Visible → NameTree → Needs
@@ -264,7 +411,7 @@ handlers_needs all = beyond
 abbrev mutual
   pub stmt_needs : Around → StmtTree → Needs
   stmt_needs a (Null place) = nothing
-  stmt_needs a (Assignment target value) = unsaid
+  stmt_needs a (Assignment target value) = assignment_needs a.visible target value
   stmt_needs a (Call name) = call_needs a.visible name
   stmt_needs a (Exit place condition) = both (beyond_if (not a.looped)) (needs_if_any a.visible condition)
   stmt_needs a (Return place value) = return_needs a.returns value
@@ -296,29 +443,30 @@ abbrev mutual
 abbrev pub IsNeeding : (instructions : ℕ) → Needs → Refusal → Type 0
 IsNeeding instructions n why = IsRefusedBeside (n.unfit ≡ true) instructions (max n.stack n.frame) n.outside why
 
--- There are too many labels, with those of the lines up to the one that is refused.
+-- There are too many labels.
 abbrev pub HasManyLabels : (labels : List (List ℕ)) → Refusal → Type 0
 HasManyLabels labels refusal.Limit = LABELS < length labels
 HasManyLabels labels why = ⊥
 
--- Why code isn't added to a draft.
-abbrev pub Refuses : (old new : Draft) → (bound : ℕ) → Needs → Refusal → Type 0
-Refuses old new bound n why = IsNeeding (here old.code + bound) n why ⊎ HasManyLabels new.labels why
+-- Why code isn't added to a draft behind which there would be these labels.
+abbrev pub Refuses : (old : Draft) → (labels : List (List ℕ)) → (bound : ℕ) → Needs → Refusal → Type 0
+Refuses old labels bound n why = IsNeeding (here old.code + bound) n why ⊎ HasManyLabels labels why
 
-abbrev pub RefusesStatement : Visible → Ways → (old : Draft) → StmtTree → (new : Draft) → Refusal → Type 0
-RefusesStatement v w old x new why = Refuses old new (stmt_bound v.scope x) (stmt_needs (around v w old) x) why
+abbrev pub RefusesStatement : Visible → Ways → (old : Draft) → StmtTree → Refusal → Type 0
+RefusesStatement v w old x why = Refuses old (stmt_labels old.labels x) (stmt_bound v.scope x) (stmt_needs (around v w old) x) why
 
-abbrev pub RefusesStatements : Visible → Ways → (old : Draft) → StmtTrees → (new : Draft) → Refusal → Type 0
-RefusesStatements v w old body new why = Refuses old new (stmts_bound v.scope body) (stmts_needs (around v w old) body) why
+abbrev pub RefusesStatements : Visible → Ways → (old : Draft) → StmtTrees → Refusal → Type 0
+RefusesStatements v w old body why = Refuses old (stmts_labels old.labels body) (stmts_bound v.scope body) (stmts_needs (around v w old) body) why
 
-abbrev pub RefusesParts : Visible → Ways → (old : Draft) → ElsifTrees → (new : Draft) → Refusal → Type 0
-RefusesParts v w old all new why = Refuses old new (elsifs_bound v.scope all) (elsifs_needs (around v w old) all) why
+abbrev pub RefusesParts : Visible → Ways → (old : Draft) → ElsifTrees → Refusal → Type 0
+RefusesParts v w old all why = Refuses old (elsifs_labels old.labels all) (elsifs_bound v.scope all) (elsifs_needs (around v w old) all) why
 
-abbrev pub RefusesAlternatives : Visible → Ways → (old : Draft) → AlternativeTrees → (new : Draft) → Refusal → Type 0
-RefusesAlternatives v w old all new why = Refuses old new (alternatives_bound v.scope all) (alternatives_needs (around v w old) all) why
+abbrev pub RefusesAlternatives : Visible → Ways → (old : Draft) → AlternativeTrees → Refusal → Type 0
+RefusesAlternatives v w old all why =
+    Refuses old (alternatives_labels old.labels all) (alternatives_bound v.scope all) (alternatives_needs (around v w old) all) why
 
-abbrev pub RefusesDeclarations : Visible → (old : Draft) → List DeclarationTree → (new : Draft) → Refusal → Type 0
-RefusesDeclarations v old ds new why = Refuses old new (declarations_bound v.scope ds) (locals_needs v old.words.taken ds) why
+abbrev pub RefusesDeclarations : Visible → (old : Draft) → List DeclarationTree → Refusal → Type 0
+RefusesDeclarations v old ds why = IsNeeding (here old.code + declarations_bound v.scope ds) (locals_needs v old.words.taken ds) why
 
 -- ---- code that is added by parts
 
@@ -347,9 +495,10 @@ abbrev pub RefusesChoices : Scope → (old : Code) → ChoicesTree → (bound : 
 RefusesChoices s old choices bound why = IsNeeding (here old + bound) (choices_needs s choices) why
 
 -- the head of a loop over a range
-abbrev pub RefusesRange : Visible → (old : Draft) → Identifier → (reversed : Bool) → RangeTree → (new : Draft) → Refusal → Type 0
-RefusesRange v old parameter reversed range new why =
-    Refuses old new (6 + 20 * (expr_size range.first + expr_size range.last)) (head_needs (around v (record { exit = None; return = None; handled = None }) old) (For parameter reversed range)) why
+abbrev pub RefusesRange : Visible → (old : Draft) → Identifier → (reversed : Bool) → RangeTree → Refusal → Type 0
+RefusesRange v old parameter reversed range why =
+    IsNeeding (here old.code + (6 + 20 * (expr_size range.first + expr_size range.last)))
+    (head_needs (around v (record { exit = None; return = None; handled = None }) old) (For parameter reversed range)) why
 
 -- ---- bodies
 
@@ -360,8 +509,8 @@ in_body v taken = record { visible = v; taken = taken; looped = false; returns =
 abbrev pub run_needs : Visible → (taken : ℕ) → List DeclarationTree → StmtTrees → Needs
 run_needs v taken ds body = both (locals_needs v taken ds) (stmts_needs (behind_locals (in_body v taken) ds) body)
 
-abbrev pub RefusesRun : Visible → (old : Draft) → List DeclarationTree → StmtTrees → (new : Draft) → Refusal → Type 0
-RefusesRun v old ds body new why = Refuses old new (run_bound v.scope ds body) (run_needs v old.words.taken ds body) why
+abbrev pub RefusesRun : Visible → (old : Draft) → List DeclarationTree → StmtTrees → Refusal → Type 0
+RefusesRun v old ds body why = Refuses old (stmts_labels old.labels body) (run_bound v.scope ds body) (run_needs v old.words.taken ds body) why
 
 -- ---- formal parameters
 

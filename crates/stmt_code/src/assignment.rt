@@ -1,5 +1,5 @@
 //! The code of assignments (RM 5.2).
-ghost use Rattle.std.specs.Prelude.{◌≡◌, OnOk, Some};
+ghost use Rattle.std.specs.Prelude.{◌≡◌, IfErr, OnOk, Some};
 ghost use Rattle.ada_tree.specs.ExpressionTree.{expr_tree, name_tree, NoSelectors};
 ghost use Rattle.ada_tree.specs.StatementTree.{Assignment};
 ghost use Rattle.types.specs.declared.entity.Role.{Role};
@@ -8,12 +8,16 @@ ghost use Rattle.types.specs.Layouts.{words_of};
 ghost use Rattle.types.specs.Scopes.{number_of};
 ghost use Rattle.types.specs.Standings.{stands_first};
 ghost use Rattle.expr_code.specs.Seeing.{slot_of};
+ghost use Rattle.stmt_code.specs.Staying.{Stays};
+ghost use Rattle.stmt_code.specs.Bounds.{stmt_bound};
 ghost use Rattle.stmt_code.specs.Emitting.{EmitsStatement, IsLegal, store_operation, stored_at};
+ghost use Rattle.stmt_code.specs.Refusing.{assignment_needs, Refuses, stored_needs};
 ghost use Rattle.stmt_code.specs.Statements.{Ways};
 ghost use Rattle.well_typed.specs.SoundScopes.{SoundScope};
 
+use crate::call::holds_variables;
 use crate::draft::Draft;
-use crate::moving::names_composite;
+use crate::moving::{is_composite, names_composite};
 use ada_tree::{Expr, NameExpr};
 use expr_code::{Refusal, Slot, Visible, raised};
 use image::{Operation, Region};
@@ -60,6 +64,8 @@ impl Draft {
         requires sound { SoundScope visible.now.scope }
         requires legal { IsLegal visible.now.scope (Assignment (name_tree name.now) (expr_tree value.now)) }
         ensures emits { (w : Ways) → OnOk result (EmitsStatement visible.now w self.old (Assignment (name_tree name.now) (expr_tree value.now)) self.new) }
+        ensures refused { IfErr result (λ why. Refuses self.old self.old.labels (stmt_bound visible.now.scope (Assignment (name_tree name.now) (expr_tree value.now))) (assignment_needs visible.now (name_tree name.now) (expr_tree value.now)) why) }
+        ensures stays { OnOk result (Stays self.old (assignment_needs visible.now (name_tree name.now) (expr_tree value.now)) self.old.labels self.new) }
     {
         let Standing::Part(_, subtype) = visible.scope.stands_first(&name.first) else {
             return Err(Refusal::Outside);
@@ -67,7 +73,10 @@ impl Draft {
         let Some(slot) = visible.slot(&name.first.name) else {
             return Err(Refusal::Outside);
         };
-        if names_composite(visible, name) {
+        if is_composite(visible, subtype)
+            && names_composite(visible, name)
+            && holds_variables(slot.region)
+        {
             return self.assign_composite(visible, slot, subtype, name, value);
         }
         if visible.scope.words(subtype) != 1 {
@@ -95,6 +104,8 @@ impl Draft {
         requires whole { (name_tree name.now).selectors ≡ NoSelectors }
         requires single { words_of visible.now.scope subtype ≡ 1 }
         ensures emits { (w : Ways) → OnOk result (EmitsStatement visible.now w self.old (Assignment (name_tree name.now) (expr_tree value.now)) self.new) }
+        ensures refused { IfErr result (λ why. Refuses self.old self.old.labels (stmt_bound visible.now.scope (Assignment (name_tree name.now) (expr_tree value.now))) (stored_needs visible.now (name_tree name.now) (expr_tree value.now)) why) }
+        ensures stays { OnOk result (Stays self.old (stored_needs visible.now (name_tree name.now) (expr_tree value.now)) self.old.labels self.new) }
     {
         agreement_is_kept();
         calls_are_typed();
@@ -121,6 +132,8 @@ impl Draft {
         requires stands { (r : Role) × (stands_first visible.now.scope (number_of visible.now.scope (name_tree name.now).first.name) ≡ standing.Part r subtype) }
         requires there { slot_of visible.now (name_tree name.now).first.name ≡ Some slot }
         ensures emits { (w : Ways) → OnOk result (EmitsStatement visible.now w self.old (Assignment (name_tree name.now) (expr_tree value.now)) self.new) }
+        ensures refused { IfErr result (λ why. Refuses self.old self.old.labels (stmt_bound visible.now.scope (Assignment (name_tree name.now) (expr_tree value.now))) (stored_needs visible.now (name_tree name.now) (expr_tree value.now)) why) }
+        ensures stays { OnOk result (Stays self.old (stored_needs visible.now (name_tree name.now) (expr_tree value.now)) self.old.labels self.new) }
     {
         agreement_is_kept();
         calls_are_typed();

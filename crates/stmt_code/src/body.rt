@@ -2,14 +2,15 @@
 ghost use Rattle.std.specs.Prelude.{◌≡◌, ◌≤◌, ◌+◌, false, map, max, suc, true, IfErr, IfOk, None, OnOk};
 ghost use Rattle.base.specs.declared.limits.TheConstants.{FRAME_WORDS, INSTRUCTIONS};
 ghost use Rattle.ada_tree.specs.StatementTree.{declaration_tree, stmt_trees};
-ghost use Rattle.expr_code.specs.Code.{here};
+ghost use Rattle.expr_code.specs.Code.{here, IsShallow};
 ghost use Rattle.expr_code.specs.Refusing.{IsRefused};
 ghost use Rattle.expr_code.specs.Flows.{Flows};
 ghost use Rattle.image.specs.Rules.{is_block};
 ghost use Rattle.meaning.specs.Calls.{is_out};
+ghost use Rattle.stmt_code.specs.Staying.{StaysRun};
 ghost use Rattle.stmt_code.specs.Emitting.{EmitsObject, EmitsRun, HasEntries, IsLegalRun};
 ghost use Rattle.stmt_code.specs.Formals.{AddsLoaded, AddsReturned, HasRoomAt, HasWord, Initialises, Returns, ReturnsOne};
-ghost use Rattle.stmt_code.specs.Refusing.{given_back, given_if_any, RefusesOut, RefusesOuts, RefusesReturned, RefusesRun};
+ghost use Rattle.stmt_code.specs.Refusing.{given_back, given_if_any, RefusesOut, RefusesOuts, RefusesReturned, RefusesRun, all_given, initial_needs, outs_needs};
 ghost use Rattle.types.specs.Layouts.{words_of};
 ghost use Rattle.well_typed.specs.SoundScopes.{SoundScope};
 
@@ -33,6 +34,7 @@ fn initialise(code: &mut Code, visible: &Visible, formal: &PlacedFormal) -> Resu
     ensures past { OnOk result (is_out formal.now.mode ≡ false → code.new ≡ code.old) }
     ensures few { OnOk result (here code.new ≤ here code.old + (2 + words_of visible.now.scope formal.now.subtype)) }
     ensures refused { IfErr result (λ why. RefusesOut visible.now code.old formal.now why) }
+    ensures shallow { OnOk result (is_out formal.now.mode ≡ true → IsShallow code.old code.new (initial_needs visible.now formal.now.subtype None).stack) }
 {
     initial_values_have_shape();
     values_have_words();
@@ -51,6 +53,7 @@ pub(crate) fn initialise_all(
     requires sound { SoundScope visible.now.scope }
     ensures adds { OnOk result (Initialises visible.now.scope code.old formals.now code.new) }
     ensures refused { IfErr result (λ why. RefusesOuts visible.now code.old formals.now why) }
+    ensures shallow { OnOk result (IsShallow code.old code.new (outs_needs visible.now formals.now).stack) }
 {
     initial_values_have_shape();
     values_have_words();
@@ -65,6 +68,7 @@ fn load_block(code: &mut Code, depth: u16, offset: u16, many: u16) -> Result<(),
     ensures adds { OnOk result (AddsLoaded code.old offset many code.new) }
     ensures flows { OnOk result (is_block many ≡ true → Flows (HasWord offset) code.old depth code.new (depth + many)) }
     ensures refused { IfErr result (λ why. IsRefused (here code.old + 2) (depth + 1) false why) }
+    ensures shallow { OnOk result (IsShallow code.old code.new (depth + 1)) }
 {
     let load = Operation::LoadBlock {
         region: Region::Locals,
@@ -82,6 +86,7 @@ fn load(code: &mut Code, depth: u16, offset: u16, many: u16) -> Result<u16, Refu
     ensures adds { OnOk result (AddsLoaded code.old offset many code.new) }
     ensures flows { IfOk result (λ height. 1 ≤ many → Flows (HasWord offset) code.old depth code.new height) }
     ensures refused { IfErr result (λ why. IsRefused (here code.old + 2) (depth + max 1 many) false why) }
+    ensures shallow { OnOk result (IsShallow code.old code.new (depth + max 1 many)) }
 {
     let height = behind(depth, many)?;
     if many == 1 {
@@ -104,6 +109,7 @@ fn give_back(
     ensures adds { OnOk result (AddsReturned scope.now code.old address formal.now code.new) }
     ensures flows { IfOk result (λ height. Flows (HasRoomAt scope.now address formal.now) code.old depth code.new height) }
     ensures refused { IfErr result (λ why. IsRefused (here code.old + 3) (depth + given_back scope.now formal.now) false why) }
+    ensures shallow { OnOk result (IsShallow code.old code.new (depth + given_back scope.now formal.now)) }
 {
     code.emit(depth, Operation::LoadLocal(address))?;
     let many = scope.words(formal.subtype);
@@ -120,6 +126,7 @@ fn give_back_if_any(
 ) -> Result<u16, Refusal>
     ensures gives { IfOk result (λ height. ReturnsOne scope.now code.old depth formal.now height code.new) }
     ensures refused { IfErr result (λ why. IsRefused (here code.old + 3) (depth + given_if_any scope.now formal.now) false why) }
+    ensures shallow { OnOk result (IsShallow code.old code.new (depth + given_if_any scope.now formal.now)) }
 {
     match formal.address {
         Some(address) => {
@@ -140,6 +147,7 @@ pub(crate) fn return_all(
     ensures returns { IfOk result (λ height. Returns scope.now code.old formals.now height code.new) }
     ensures few { OnOk result (here code.new ≤ INSTRUCTIONS) }
     ensures refused { IfErr result (λ why. RefusesReturned scope.now code.old formals.now why) }
+    ensures shallow { OnOk result (IsShallow code.old code.new (all_given scope.now formals.now)) }
 {
     let mut height = 0;
     for given in 0..formals.len() {
@@ -165,7 +173,8 @@ impl Draft {
         requires entries { HasEntries visible.old }
         requires legal { IsLegalRun visible.old.scope (map declaration_tree declarations.now) (stmt_trees statements.now) }
         ensures emits { OnOk result (EmitsRun visible.old self.old (map declaration_tree declarations.now) (stmt_trees statements.now) self.new) }
-        ensures refused { IfErr result (λ why. RefusesRun visible.old self.old (map declaration_tree declarations.now) (stmt_trees statements.now) self.new why) }
+        ensures refused { IfErr result (λ why. RefusesRun visible.old self.old (map declaration_tree declarations.now) (stmt_trees statements.now) why) }
+        ensures stays { OnOk result (StaysRun visible.old self.old (map declaration_tree declarations.now) (stmt_trees statements.now) self.new) }
         ensures same { OnOk result (visible.new ≡ visible.old) }
     {
         names_are_added();

@@ -1,16 +1,21 @@
 //! The code of calls of procedures (RM 6.4): the actual parameters in order, each checked against the subtype of its formal, the call, and what is copied back.
-ghost use Rattle.std.specs.Prelude.{◌≡◌, ◌∷◌, ◌++◌, [], length, map, option_map, take, true, IfErr, IfOk, OnOk};
-ghost use Rattle.ada_tree.specs.ExpressionTree.{argument_tree, argument_trees, expr_tree, name_tree};
-ghost use Rattle.ada_tree.specs.Size.{total};
+ghost use Rattle.std.specs.Prelude.{◌≡◌, ◌∷◌, ◌++◌, ◌+◌, ◌*◌, ◌<◌, [], false, length, map, not, option_map, take, true, IfErr, IfOk, OnOk};
+ghost use Rattle.std.specs.List.{All};
+ghost use Rattle.ada_tree.specs.ExpressionTree.{argument_tree, argument_trees, expr_tree, Named, name_tree};
+ghost use Rattle.ada_tree.specs.Size.{argument_size, expr_size, total};
 ghost use Rattle.ada_tree.specs.StatementTree.{Call};
 ghost use Rattle.expr_code.specs.Actuals.{ArePassedLegally, IsPassedLegally};
+ghost use Rattle.expr_code.specs.Code.{here, IsShallow};
 ghost use Rattle.expr_code.specs.Emitting as expressions;
+ghost use Rattle.expr_code.specs.Refusing.{IsRefused, IsRefusedBeside, IsUnfit};
 ghost use Rattle.expr_code.specs.Seeing.{NamesProfile};
 ghost use Rattle.image.specs.Rules.{is_block};
+ghost use Rattle.stmt_code.specs.Labels.{stmt_labels};
+ghost use Rattle.stmt_code.specs.Staying.{Stays};
 ghost use Rattle.stmt_code.specs.Emitting.{EmitsStatement, IsLegal};
 ghost use Rattle.stmt_code.specs.Passing.{actuals_behind, AddsActuals, AddsCheck, AddsCopy, AddsRange, AddsValue, copied_width, EmitsCopies, EmitsTarget, holds_variables, loaded_at};
 ghost use Rattle.stmt_code.specs.Bounds.{stmt_bound};
-ghost use Rattle.stmt_code.specs.Refusing.{actuals_needs, call_needs, copies_needs, invoked_needs, IsNeeding, Refuses};
+ghost use Rattle.stmt_code.specs.Refusing.{actual_needs, actuals_needs, call_needs, check_words, copied_needs, copies_needs, copy_needs, destinations_for, destinations_named, destinations_of, invoked_needs, IsNeeding, IsPartFit, is_taken, Refuses, target_needs};
 ghost use Rattle.stmt_code.specs.Statements.{Ways};
 ghost use Rattle.types.specs.Entities.{profile_value};
 ghost use Rattle.types.specs.Layouts.{words_of};
@@ -19,7 +24,7 @@ ghost use Rattle.well_typed.specs.SoundScopes.{AreKnown, IsKnown, SoundScope};
 
 use crate::assignment::stored_at;
 use crate::draft::Draft;
-use ada_tree::laws::{arguments_by_parts, names_by_parts};
+use ada_tree::laws::{arguments_by_parts, chains_by_parts, conditional_by_parts, names_by_parts};
 use ada_tree::{Argument, Expr, Mode, NameExpr, Selector};
 use base::limits::WORDS;
 use expr_code::{Code, Refusal, Visible, raised};
@@ -79,6 +84,7 @@ fn loaded_at(region: Region, words: u16) -> Operation
 pub(crate) fn words_of(visible: &Visible, subtype: Subtype) -> Result<u16, Refusal>
     ensures words { IfOk result (λ words. words ≡ words_of visible.now.scope subtype) }
     ensures block { IfOk result (λ words. is_block words ≡ true) }
+    ensures refused { IfErr result (λ why. IsRefusedBeside (IsUnfit visible.now.scope subtype) 0 0 false why) }
 {
     let words = visible.scope.words(subtype);
     if words == 0 || WORDS < usize::from(words) {
@@ -90,6 +96,7 @@ pub(crate) fn words_of(visible: &Visible, subtype: Subtype) -> Result<u16, Refus
 // Adds the check of the number on top of the operand stack, `depth` words high, against a subtype.
 fn add_range(code: &mut Code, depth: u16, subtype: Subtype) -> Result<(), Refusal>
     ensures adds { OnOk result (AddsRange code.old depth subtype code.new) }
+    ensures refused { IfErr result (λ why. IsRefused (here code.old + 3) (depth + 2) false why) }
 {
     let one = raised(depth, 1)?;
     code.emit(depth, Operation::Push(subtype.first))?;
@@ -105,33 +112,35 @@ fn add_check(
     subtype: Subtype,
 ) -> Result<(), Refusal>
     ensures adds { OnOk result (AddsCheck (form_at visible.now.scope subtype.type_number) code.old depth subtype code.new) }
+    ensures refused { IfErr result (λ why. IsRefused (here code.old + 3) (depth + check_words (form_at visible.now.scope subtype.type_number)) (not (is_taken visible.now.scope subtype)) why) }
 {
     match visible.scope.form(subtype.type_number) {
         Some(TypeForm::Integer) => add_range(code, depth, subtype),
         Some(TypeForm::Boolean) => Ok(()),
         Some(TypeForm::Array(..)) => Ok(()),
         Some(TypeForm::Record(_)) => Ok(()),
-        _ => Err(Refusal::Outside),
+        Some(TypeForm::Time) => Err(Refusal::Outside),
+        Some(TypeForm::TimeSpan) => Err(Refusal::Outside),
+        None => Err(Refusal::Outside),
     }
 }
 
-// Adds the address of the variable, or of the part of one, that an actual parameter names, and tells where it is copied back to.
-fn add_target(
+// Adds the address of the variable with this name, or of a part of it, and tells where it is copied back to.
+fn add_named(
     code: &mut Code,
     visible: &Visible,
     depth: u16,
-    e: &Expr,
+    name: &NameExpr,
     destinations: &mut Vec<Destination>,
 ) -> Result<Destination, Refusal>
     requires sound { SoundScope visible.now.scope }
-    requires legal { expressions.IsLegal visible.now.scope (expr_tree e.now) }
-    ensures emits { IfOk result (λ destination. EmitsTarget visible.now code.old depth (expr_tree e.now) destination code.new) }
+    requires legal { expressions.IsLegal visible.now.scope (Named (name_tree name.now).first (name_tree name.now).selectors) }
+    ensures emits { IfOk result (λ destination. EmitsTarget visible.now code.old depth (Named (name_tree name.now).first (name_tree name.now).selectors) destination code.new) }
     ensures told { IfOk result (λ destination. destinations.new.items ≡ destinations.old.items ++ destination ∷ []) }
+    ensures fits { IfOk result (λ destination. IsPartFit visible.now destination) }
+    ensures refused { IfErr result (λ why. IsNeeding (here code.old + 20 * expr_size (Named (name_tree name.now).first (name_tree name.now).selectors)) (target_needs depth visible.now (Named (name_tree name.now).first (name_tree name.now).selectors)) why) }
+    ensures shallow { OnOk result (IsShallow code.old code.new (target_needs depth visible.now (Named (name_tree name.now).first (name_tree name.now).selectors)).stack) }
 {
-    names_by_parts();
-    let Expr::Name(name) = e else {
-        return Err(Refusal::Outside);
-    };
     let Standing::Part(_, whole) = visible.scope.stands_first(&name.first) else {
         return Err(Refusal::Outside);
     };
@@ -150,6 +159,35 @@ fn add_target(
     Ok(destination)
 }
 
+// Adds that of the variable, or of the part of one, that an actual parameter names.
+fn add_target(
+    code: &mut Code,
+    visible: &Visible,
+    depth: u16,
+    e: &Expr,
+    destinations: &mut Vec<Destination>,
+) -> Result<Destination, Refusal>
+    requires sound { SoundScope visible.now.scope }
+    requires legal { expressions.IsLegal visible.now.scope (expr_tree e.now) }
+    ensures emits { IfOk result (λ destination. EmitsTarget visible.now code.old depth (expr_tree e.now) destination code.new) }
+    ensures told { IfOk result (λ destination. destinations.new.items ≡ destinations.old.items ++ destination ∷ []) }
+    ensures fits { IfOk result (λ destination. IsPartFit visible.now destination) }
+    ensures refused { IfErr result (λ why. IsNeeding (here code.old + 20 * expr_size (expr_tree e.now)) (target_needs depth visible.now (expr_tree e.now)) why) }
+    ensures shallow { OnOk result (IsShallow code.old code.new (target_needs depth visible.now (expr_tree e.now)).stack) }
+{
+    chains_by_parts();
+    conditional_by_parts();
+    names_by_parts();
+    match e {
+        Expr::Name(name) => add_named(code, visible, depth, name, destinations),
+        Expr::Number(..) => Err(Refusal::Outside),
+        Expr::Parenthesized(..) => Err(Refusal::Outside),
+        Expr::Unary(..) => Err(Refusal::Outside),
+        Expr::Chain(..) => Err(Refusal::Outside),
+        Expr::Conditional(..) => Err(Refusal::Outside),
+    }
+}
+
 // Adds the value of a target above its address, checked against the subtype of a parameter, and tells how many words stand on the operand stack with it.
 fn add_value(
     code: &mut Code,
@@ -158,7 +196,9 @@ fn add_value(
     destination: Destination,
     subtype: Subtype,
 ) -> Result<u16, Refusal>
+    requires fits { IsPartFit visible.now destination }
     ensures adds { IfOk result (λ height. AddsValue visible.now code.old depth destination subtype height code.new) }
+    ensures refused { IfErr result (λ why. IsNeeding (here code.old + 5) (copied_needs depth visible.now (words_of visible.now.scope destination.subtype) subtype) why) }
 {
     let words = words_of(visible, destination.subtype)?;
     let one = raised(depth, 1)?;
@@ -182,6 +222,10 @@ fn add_actual(
     requires known { IsKnown visible.now.scope formal.now.subtype }
     requires legal { IsPassedLegally visible.now.scope formal.now (argument_tree argument.now) }
     ensures emits { IfOk result (λ height. AddsActuals visible.now code.old depth (formal.now ∷ []) (argument_tree argument.now ∷ []) destinations.old.items destinations.new.items height code.new) }
+    ensures told { OnOk result (destinations.new.items ≡ destinations.old.items ++ destinations_for visible.now formal.now (argument_tree argument.now)) }
+    ensures fits { OnOk result (All (IsPartFit visible.now) (destinations_for visible.now formal.now (argument_tree argument.now))) }
+    ensures refused { IfErr result (λ why. IsNeeding (here code.old + 20 * argument_size (argument_tree argument.now)) (actual_needs depth visible.now formal.now (argument_tree argument.now)) why) }
+    ensures shallow { OnOk result (IsShallow code.old code.new (actual_needs depth visible.now formal.now (argument_tree argument.now)).stack) }
 {
     arguments_by_parts();
     quiet_stays();
@@ -215,7 +259,10 @@ fn add_actuals(
     requires known { AreKnown visible.now.scope formals.now }
     requires legal { ArePassedLegally visible.now.scope formals.now (map argument_tree arguments.now) }
     ensures emits { IfOk result (λ height. AddsActuals visible.now code.old 0 (take (length arguments.now) formals.now) (map argument_tree arguments.now) destinations.old.items destinations.new.items height code.new) }
-    ensures refused { IfErr result (λ why. IsNeeding 0 (actuals_needs (map argument_tree arguments.now)) why) }
+    ensures told { OnOk result (destinations.new.items ≡ destinations.old.items ++ destinations_of visible.now (take (length arguments.now) formals.now) (argument_trees arguments.now)) }
+    ensures fits { OnOk result (All (IsPartFit visible.now) (destinations_of visible.now (take (length arguments.now) formals.now) (argument_trees arguments.now))) }
+    ensures refused { IfErr result (λ why. IsNeeding (here code.old + 20 * total argument_size (map argument_tree arguments.now)) (actuals_needs 0 visible.now formals.now (argument_trees arguments.now)) why) }
+    ensures shallow { OnOk result (IsShallow code.old code.new (actuals_needs 0 visible.now formals.now (argument_trees arguments.now)).stack) }
 {
     let mut height = 0;
     for (index, argument) in arguments.iter().enumerate() {
@@ -229,8 +276,9 @@ fn add_actuals(
 
 // How many words come back with what is copied back.
 fn copied_words(visible: &Visible, destinations: &[Destination]) -> Result<u16, Refusal>
+    requires fits { All (IsPartFit visible.now) destinations.now }
     ensures words { IfOk result (λ words. words ≡ total (copied_width visible.now.scope) destinations.now) }
-    ensures refused { IfErr result (λ why. IsNeeding 0 (copies_needs destinations.now) why) }
+    ensures refused { IfErr result (λ why. IsNeeding 0 (copies_needs visible.now destinations.now) why) }
 {
     let mut words = 0;
     for destination in destinations {
@@ -247,7 +295,10 @@ fn add_copy(
     depth: u16,
     destination: Destination,
 ) -> Result<u16, Refusal>
+    requires fits { IsPartFit visible.now destination }
+    requires room { words_of visible.now.scope destination.subtype < depth }
     ensures adds { IfOk result (λ rest. AddsCopy visible.now code.old depth destination rest code.new) }
+    ensures refused { IfErr result (λ why. IsNeeding (here code.old + 4) (copy_needs visible.now depth destination) why) }
 {
     let words = words_of(visible, destination.subtype)?;
     let Some(store) = stored_at(destination.region, words) else {
@@ -267,8 +318,10 @@ fn add_copies(
     visible: &Visible,
     destinations: &[Destination],
 ) -> Result<(), Refusal>
+    requires fits { All (IsPartFit visible.now) destinations.now }
     ensures emits { OnOk result (EmitsCopies visible.now code.old destinations.now 0 code.new) }
-    ensures refused { IfErr result (λ why. IsNeeding 0 (copies_needs destinations.now) why) }
+    ensures refused { IfErr result (λ why. IsNeeding (here code.old + 4 * length destinations.now) (copies_needs visible.now destinations.now) why) }
+    ensures shallow { OnOk result (IsShallow code.old code.new (copies_needs visible.now destinations.now).stack) }
 {
     agreement_is_kept();
     quiet_stays();
@@ -286,7 +339,8 @@ impl Draft {
         requires sound { SoundScope visible.now.scope }
         requires legal { IsLegal visible.now.scope (Call (name_tree name.now)) }
         ensures emits { (w : Ways) → OnOk result (EmitsStatement visible.now w self.old (Call (name_tree name.now)) self.new) }
-        ensures refused { IfErr result (λ why. Refuses self.old self.new (stmt_bound visible.now.scope (Call (name_tree name.now))) (call_needs visible.now (name_tree name.now)) why) }
+        ensures refused { IfErr result (λ why. Refuses self.old (stmt_labels self.old.labels (Call (name_tree name.now))) (stmt_bound visible.now.scope (Call (name_tree name.now))) (call_needs visible.now (name_tree name.now)) why) }
+        ensures stays { OnOk result (Stays self.old (call_needs visible.now (name_tree name.now)) (stmt_labels self.old.labels (Call (name_tree name.now))) self.new) }
     {
         match visible.profile(&name.first.name) {
             Some(profile) => self.invoke(visible, name, profile),
@@ -305,7 +359,8 @@ impl Draft {
         requires names { NamesProfile visible.now.scope name.now.first.name (profile_value profile.now) }
         requires legal { IsLegal visible.now.scope (Call (name_tree name.now)) }
         ensures emits { (w : Ways) → OnOk result (EmitsStatement visible.now w self.old (Call (name_tree name.now)) self.new) }
-        ensures refused { IfErr result (λ why. Refuses self.old self.new (stmt_bound visible.now.scope (Call (name_tree name.now))) (invoked_needs visible.now (name_tree name.now)) why) }
+        ensures refused { IfErr result (λ why. Refuses self.old (stmt_labels self.old.labels (Call (name_tree name.now))) (stmt_bound visible.now.scope (Call (name_tree name.now))) (invoked_needs visible.now (name_tree name.now) (profile_value profile.now)) why) }
+        ensures stays { OnOk result (Stays self.old (invoked_needs visible.now (name_tree name.now) (profile_value profile.now)) (stmt_labels self.old.labels (Call (name_tree name.now))) self.new) }
     {
         quiet_stays();
         let Some(number) = visible.subprogram(&name.first.name) else {

@@ -5,6 +5,7 @@ ghost use Rattle.ada_tree.specs.StatementTree.{alternative_tree, alternative_tre
 ghost use Rattle.ada_tree.specs.Size.{choices_size};
 ghost use Rattle.expr_code.specs.Code.{here};
 ghost use Rattle.expr_code.specs.Refusing.{IsRefused};
+ghost use Rattle.stmt_code.specs.Staying.{StaysAlternatives, StaysStatement};
 ghost use Rattle.stmt_code.specs.Alternatives.{AddsAlternatives, AddsChoices, AddsTest, AddsValues, AreLegalAlternatives, AreLegalChoices, TestsAll};
 ghost use Rattle.stmt_code.specs.Emitting.{AreLegal, EmitsStatement, HasEntries, IsLegal, ways_of};
 ghost use Rattle.stmt_code.specs.Refusing.{choices_fault, IsNeeding, RefusesAlternatives, RefusesChoices, RefusesStatement, stacked_unless};
@@ -103,7 +104,8 @@ impl Draft {
         requires entries { HasEntries visible.old }
         requires legal { IsLegal visible.old.scope (Case place (expr_tree value.now) (alternative_trees alternatives.now)) }
         ensures emits { OnOk result (EmitsStatement visible.old (ways_of leaving) self.old (Case place (expr_tree value.now) (alternative_trees alternatives.now)) self.new) }
-        ensures refused { IfErr result (λ why. RefusesStatement visible.old (ways_of leaving) self.old (Case place (expr_tree value.now) (alternative_trees alternatives.now)) self.new why) }
+        ensures refused { IfErr result (λ why. RefusesStatement visible.old (ways_of leaving) self.old (Case place (expr_tree value.now) (alternative_trees alternatives.now)) why) }
+        ensures stays { OnOk result (StaysStatement visible.old (ways_of leaving) self.old (Case place (expr_tree value.now) (alternative_trees alternatives.now)) self.new) }
         ensures same { OnOk result (visible.new ≡ visible.old) }
     {
         let mut waiting = Vec::new(self.code.alloc);
@@ -128,7 +130,8 @@ impl Draft {
         requires selecting { selecting_faults visible.old.scope (expr_tree value.now) ≡ [] }
         requires legal { AreLegalAlternatives visible.old.scope (expr_tree value.now) (alternative_trees all.now) }
         ensures adds { OnOk result (AddsAlternatives visible.old (ways_of leaving) (expr_tree value.now) self.old (map alternative_tree all.now) waiting.old.items waiting.new.items self.new) }
-        ensures refused { IfErr result (λ why. RefusesAlternatives visible.old (ways_of leaving) self.old (alternative_trees all.now) self.new why) }
+        ensures refused { IfErr result (λ why. RefusesAlternatives visible.old (ways_of leaving) self.old (alternative_trees all.now) why) }
+        ensures stays { OnOk result (StaysAlternatives visible.old (ways_of leaving) self.old (alternative_trees all.now) self.new) }
         ensures same { OnOk result (visible.new ≡ visible.old) }
     {
         for alternative in all {
@@ -153,7 +156,8 @@ impl Draft {
         requires choices { AreLegalChoices visible.old.scope (expr_tree value.now) (choices_tree alternative.now.choices) }
         requires legal { AreLegal visible.old.scope (stmt_trees alternative.now.statements.items) }
         ensures adds { OnOk result (AddsAlternatives visible.old (ways_of leaving) (expr_tree value.now) self.old (alternative_tree alternative.now ∷ []) waiting.old.items waiting.new.items self.new) }
-        ensures refused { IfErr result (λ why. RefusesAlternatives visible.old (ways_of leaving) self.old (alternatives_of (alternative_tree alternative.now ∷ [])) self.new why) }
+        ensures refused { IfErr result (λ why. RefusesAlternatives visible.old (ways_of leaving) self.old (alternatives_of (alternative_tree alternative.now ∷ [])) why) }
+        ensures stays { OnOk result (StaysAlternatives visible.old (ways_of leaving) self.old (alternatives_of (alternative_tree alternative.now ∷ [])) self.new) }
         ensures same { OnOk result (visible.new ≡ visible.old) }
     {
         calls_are_typed();

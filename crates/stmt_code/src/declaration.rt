@@ -4,16 +4,17 @@ ghost use Rattle.ada_tree.specs.ExpressionTree.{expr_tree};
 ghost use Rattle.ada_tree.specs.StatementTree.{declaration_tree, LocalObject, object_tree, optional_tree};
 ghost use Rattle.declaring.specs.LocalRules.{local_faults, locals_faults};
 ghost use Rattle.type_rules.specs.ObjectRules.{local_object_faults};
-ghost use Rattle.expr_code.specs.Code.{here};
+ghost use Rattle.expr_code.specs.Code.{here, IsShallow};
 ghost use Rattle.expr_code.specs.Emitting.{is_composite};
 ghost use Rattle.expr_code.specs.Refusing.{IsRefused};
 ghost use Rattle.image.specs.Rules.{is_block};
 ghost use Rattle.types.specs.Layouts.{words_of};
 ghost use Rattle.types.specs.Scopes.{form_at};
 ghost use Rattle.types.specs.Shapes.{initial, value_words};
+ghost use Rattle.stmt_code.specs.Staying.{StaysDeclarations};
 ghost use Rattle.stmt_code.specs.Emitting.{EmitsDeclarations, EmitsInitial, EmitsInitialWords, EmitsObject, FitsIfAny, HasEntries, HasPushed, StoresWord, StoresWords};
 ghost use Rattle.stmt_code.specs.Bounds.{local_words, locals_words};
-ghost use Rattle.stmt_code.specs.Refusing.{local_visible, locals_visible, RefusesDeclarations, RefusesInitial, RefusesSingle, RefusesWords};
+ghost use Rattle.stmt_code.specs.Refusing.{local_visible, locals_visible, RefusesDeclarations, RefusesInitial, RefusesSingle, RefusesWords, initial_needs, single_needs};
 ghost use Rattle.well_typed.specs.SoundScopes.{SoundScope};
 
 use crate::draft::Draft;
@@ -38,6 +39,7 @@ fn add_initial(
     requires fit { FitsIfAny visible.now.scope subtype (optional_tree expr_tree value.now) }
     ensures emits { OnOk result (EmitsInitial visible.now code.old subtype (optional_tree expr_tree value.now) code.new) }
     ensures refused { IfErr result (λ why. RefusesSingle visible.now code.old subtype (optional_tree expr_tree value.now) 0 why) }
+    ensures shallow { OnOk result (IsShallow code.old code.new (single_needs visible.now subtype (optional_tree expr_tree value.now)).stack) }
 {
     match value {
         Some(value) => code.checked(visible, 0, subtype, value),
@@ -107,7 +109,10 @@ fn add_initial_words(
     ensures block { IfOk result (λ words. is_block words ≡ true) }
     ensures emits { OnOk result (EmitsInitialWords visible.now code.old subtype (optional_tree expr_tree value.now) code.new) }
     ensures refused { IfErr result (λ why. RefusesInitial visible.now code.old subtype (optional_tree expr_tree value.now) 0 why) }
+    ensures shallow { OnOk result (IsShallow code.old code.new (initial_needs visible.now subtype (optional_tree expr_tree value.now)).stack) }
 {
+    initial_values_have_shape();
+    values_have_words();
     match value {
         Some(value) => code.of_subtype(visible, 1, subtype, value),
         None => {
@@ -136,6 +141,7 @@ fn add_word(
     requires fit { FitsIfAny visible.now.scope subtype (optional_tree expr_tree value.now) }
     ensures stores { OnOk result (StoresWord visible.now code.old offset subtype (optional_tree expr_tree value.now) code.new) }
     ensures refused { IfErr result (λ why. RefusesSingle visible.now code.old subtype (optional_tree expr_tree value.now) 1 why) }
+    ensures shallow { OnOk result (IsShallow code.old code.new (single_needs visible.now subtype (optional_tree expr_tree value.now)).stack) }
 {
     add_initial(code, visible, subtype, value)?;
     code.emit(1, Operation::StoreLocal(offset))
@@ -153,6 +159,7 @@ fn add_words(
     requires fit { FitsIfAny visible.now.scope subtype (optional_tree expr_tree value.now) }
     ensures stores { OnOk result (StoresWords visible.now code.old offset subtype (optional_tree expr_tree value.now) code.new) }
     ensures refused { IfErr result (λ why. RefusesInitial visible.now code.old subtype (optional_tree expr_tree value.now) 2 why) }
+    ensures shallow { OnOk result (IsShallow code.old code.new (initial_needs visible.now subtype (optional_tree expr_tree value.now)).stack) }
 {
     initial_values_have_shape();
     values_have_words();
@@ -184,6 +191,7 @@ pub(crate) fn add_object(
     requires fit { FitsIfAny visible.now.scope subtype (optional_tree expr_tree value.now) }
     ensures emits { OnOk result (EmitsObject visible.now code.old offset subtype (optional_tree expr_tree value.now) code.new) }
     ensures refused { IfErr result (λ why. RefusesInitial visible.now code.old subtype (optional_tree expr_tree value.now) 2 why) }
+    ensures shallow { OnOk result (IsShallow code.old code.new (initial_needs visible.now subtype (optional_tree expr_tree value.now)).stack) }
 {
     if is_composite(visible, subtype) {
         add_words(code, visible, offset, subtype, value)
@@ -205,7 +213,8 @@ impl Draft {
         ensures emits { OnOk result (EmitsDeclarations visible.old self.old (map declaration_tree all.now) visible.new self.new) }
         ensures shown { OnOk result (visible.new ≡ locals_visible visible.old self.old.words.taken (map declaration_tree all.now)) }
         ensures taken { OnOk result (self.new.words.taken ≡ self.old.words.taken + locals_words visible.old.scope (map declaration_tree all.now)) }
-        ensures refused { IfErr result (λ why. RefusesDeclarations visible.old self.old (map declaration_tree all.now) self.new why) }
+        ensures refused { IfErr result (λ why. RefusesDeclarations visible.old self.old (map declaration_tree all.now) why) }
+        ensures stays { OnOk result (StaysDeclarations visible.old self.old (map declaration_tree all.now) self.new) }
     {
         for declaration in all {
             self.declaration(visible, declaration)?;
@@ -225,7 +234,8 @@ impl Draft {
         ensures emits { OnOk result (EmitsDeclarations visible.old self.old (declaration_tree declaration.now ∷ []) visible.new self.new) }
         ensures shown { OnOk result (visible.new ≡ local_visible visible.old self.old.words.taken (declaration_tree declaration.now)) }
         ensures taken { OnOk result (self.new.words.taken ≡ self.old.words.taken + local_words visible.old.scope (declaration_tree declaration.now)) }
-        ensures refused { IfErr result (λ why. RefusesDeclarations visible.old self.old (declaration_tree declaration.now ∷ []) self.new why) }
+        ensures refused { IfErr result (λ why. RefusesDeclarations visible.old self.old (declaration_tree declaration.now ∷ []) why) }
+        ensures stays { OnOk result (StaysDeclarations visible.old self.old (declaration_tree declaration.now ∷ []) self.new) }
     {
         match declaration {
             Declaration::Object(object) => self.object(visible, object),
@@ -241,7 +251,8 @@ impl Draft {
         ensures emits { OnOk result (EmitsDeclarations visible.old self.old (LocalObject (object_tree object.now) ∷ []) visible.new self.new) }
         ensures shown { OnOk result (visible.new ≡ local_visible visible.old self.old.words.taken (LocalObject (object_tree object.now))) }
         ensures taken { OnOk result (self.new.words.taken ≡ self.old.words.taken + local_words visible.old.scope (LocalObject (object_tree object.now))) }
-        ensures refused { IfErr result (λ why. RefusesDeclarations visible.old self.old (LocalObject (object_tree object.now) ∷ []) self.new why) }
+        ensures refused { IfErr result (λ why. RefusesDeclarations visible.old self.old (LocalObject (object_tree object.now) ∷ []) why) }
+        ensures stays { OnOk result (StaysDeclarations visible.old self.old (LocalObject (object_tree object.now) ∷ []) self.new) }
     {
         agreement_is_kept();
         calls_are_typed();

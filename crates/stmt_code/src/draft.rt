@@ -1,7 +1,8 @@
 //! Code as statements add to it, with the labels of its lines.
-ghost use Rattle.std.specs.Prelude.{◌≡◌, ◌+◌, ◌≤◌, ◌⊎◌, [], false, Some, slice_get, IfErr, IfOk, OnOk};
+ghost use Rattle.std.specs.Prelude.{◌≡◌, ◌+◌, ◌≤◌, ◌⊎◌, [], false, Some, slice_get, IfErr, IfOk, OnOk, max};
 ghost use Rattle.expr_code.specs.Code.{StandsFrom};
 ghost use Rattle.expr_code.specs.Refusing.{IsRefused};
+ghost use Rattle.stmt_code.specs.Labels.{with_label};
 ghost use Rattle.stmt_code.specs.Emitting.{Takes};
 ghost use Rattle.stmt_code.specs.Refusing.{HasManyLabels};
 
@@ -40,7 +41,8 @@ impl Labels {
     pub fn number(&mut self, label: &Text) -> Result<u16, Refusal>
         ensures stay { OnOk result (StandsFrom 0 self.old self.new) }
         ensures number { IfOk result (λ number. slice_get self.new number ≡ Some label.now) }
-        ensures refused { IfErr result (λ why. IsRefused 0 0 false why ⊎ HasManyLabels self.new why) }
+        ensures labels { OnOk result (self.new ≡ with_label self.old label.now) }
+        ensures refused { IfErr result (λ why. IsRefused 0 0 false why ⊎ HasManyLabels (with_label self.old label.now) why) }
     {
         let (number, _) = self.labels.insert_full(label.clone()?)?;
         if LABELS <= number {
@@ -94,6 +96,7 @@ impl FrameWords {
     pub fn take(&mut self, words: u16) -> Result<u16, Refusal>
         ensures first { IfOk result (λ first. first ≡ self.old.taken) }
         ensures takes { OnOk result (Takes self.old words self.new) }
+        ensures most { OnOk result (self.new.most ≡ max self.old.most (self.old.taken + words)) }
         ensures within { OnOk result (self.new.taken ≤ FRAME_WORDS) }
         ensures refused { IfErr result (λ why. IsRefused 0 (self.old.taken + words) false why) }
     {

@@ -57,6 +57,7 @@ fn take_passed(words: &mut FrameWords, scope: &Scope, formals: &[Formal]) -> Res
     ensures taken { OnOk result (words.new.taken ≡ words.old.taken + total (passed_for scope.now) formals.now) }
     ensures most { OnOk result (words.new.taken ≤ words.new.most) }
     ensures refused { IfErr result (λ why. IsNeeding 0 (stacked_unless (are_wordless scope.now formals.now) (words.old.taken + total (passed_for scope.now) formals.now)) why) }
+    ensures same { OnOk result (words.old.most ≡ words.old.taken → words.new.most ≡ words.new.taken) }
 {
     for formal in formals {
         words.take(passed_words(scope, formal)?)?;
@@ -80,6 +81,7 @@ fn place(
     ensures stands { IfOk result (λ placed. StandsAt mode many from words.old.taken placed.0 placed.1 words.new.taken) }
     ensures most { OnOk result (words.new.taken ≤ words.new.most) }
     ensures refused { IfErr result (λ why. IsRefused 0 (placed_end mode many from words.old.taken) false why) }
+    ensures same { OnOk result (words.old.most ≡ words.old.taken → words.new.most ≡ words.new.taken) }
 {
     let address = match mode {
         Mode::In => None,
@@ -114,6 +116,7 @@ fn place_all(
     ensures some { IfOk result (λ placed. All (HasValue scope.now) placed.formals.items) }
     ensures most { OnOk result (words.new.taken ≤ words.new.most) }
     ensures refused { IfErr result (λ why. IsNeeding 0 (stacked_unless (are_wordless scope.now formals.now) (max (total (passed_for scope.now) formals.now) (words.old.taken + total (out_for scope.now) formals.now))) why) }
+    ensures same { OnOk result (words.old.most ≡ words.old.taken → words.new.most ≡ words.new.taken) }
 {
     let mut placed = Vec::new(alloc);
     let mut from: u16 = 0;
@@ -163,6 +166,7 @@ impl Draft {
         ensures code { OnOk result (self.new.code ≡ self.old.code) }
         ensures labels { OnOk result (self.new.labels ≡ self.old.labels) }
         ensures refused { IfErr result (λ why. RefusesFormals visible.old.scope formals.now why) }
+        ensures most { OnOk result (self.new.words.most ≡ self.new.words.taken) }
     {
         let mut words = FrameWords::new();
         take_passed(&mut words, &visible.scope, formals)?;

@@ -3,6 +3,8 @@ ghost use Rattle.std.specs.Prelude.{◌≡◌, option_map, IfErr, OnOk};
 ghost use Rattle.ada_tree.specs.ExpressionTree.{argument_trees, expr_tree, name_tree};
 ghost use Rattle.ada_tree.specs.StatementTree.{Call};
 ghost use Rattle.sound_steps.specs.Fitting.{entity_named};
+ghost use Rattle.stmt_code.specs.Labels.{stmt_labels};
+ghost use Rattle.stmt_code.specs.Staying.{Stays};
 ghost use Rattle.stmt_code.specs.Emitting.{EmitsStatement, IsLegal};
 ghost use Rattle.stmt_code.specs.Lines.{is_put, line_in, line_of};
 ghost use Rattle.stmt_code.specs.Refusing.{put_needs, Refuses};
@@ -62,7 +64,8 @@ impl Draft {
         requires sound { SoundScope visible.now.scope }
         requires legal { IsLegal visible.now.scope (Call (name_tree name.now)) }
         ensures emits { (w : Ways) → OnOk result (EmitsStatement visible.now w self.old (Call (name_tree name.now)) self.new) }
-        ensures refused { IfErr result (λ why. Refuses self.old self.new (stmt_bound visible.now.scope (Call (name_tree name.now))) (put_needs visible.now (name_tree name.now)) why) }
+        ensures refused { IfErr result (λ why. Refuses self.old (stmt_labels self.old.labels (Call (name_tree name.now))) (stmt_bound visible.now.scope (Call (name_tree name.now))) (put_needs visible.now (name_tree name.now)) why) }
+        ensures stays { OnOk result (Stays self.old (put_needs visible.now (name_tree name.now)) (stmt_labels self.old.labels (Call (name_tree name.now))) self.new) }
     {
         if !is_put(visible, &name.first.name) {
             return Err(Refusal::Outside);

@@ -4,6 +4,7 @@ ghost use Rattle.ada_tree.specs.StatementTree.{For, Loop, range_tree, stmt_trees
 ghost use Rattle.declaring.specs.BodyNames.{loop_faults};
 ghost use Rattle.expr_code.specs.Code.{here};
 ghost use Rattle.expr_code.specs.Refusing.{IsRefused};
+ghost use Rattle.stmt_code.specs.Staying.{StaysRange, StaysStatement};
 ghost use Rattle.stmt_code.specs.Emitting.{EmitsStatement, HasEntries, IsLegal, ways_of};
 ghost use Rattle.stmt_code.specs.Refusing.{RefusesRange, RefusesStatement};
 ghost use Rattle.stmt_code.specs.Turns.{BeginsRange, BeginsTurns, EndsTurn, next_operation, word_of_first, word_of_last};
@@ -111,7 +112,8 @@ impl Draft {
         requires sound { SoundScope visible.old.scope }
         requires legal { loop_faults visible.old.scope parameter.now (range_tree range.now) ≡ [] }
         ensures begins { IfOk result (λ begun. BeginsRange visible.old self.old parameter.now reversed (range_tree range.now) begun.0 begun.1 visible.new self.new) }
-        ensures refused { IfErr result (λ why. RefusesRange visible.old self.old parameter.now reversed (range_tree range.now) self.new why) }
+        ensures refused { IfErr result (λ why. RefusesRange visible.old self.old parameter.now reversed (range_tree range.now) why) }
+        ensures stays { OnOk result (StaysRange visible.old self.old parameter.now reversed (range_tree range.now) self.new) }
     {
         self.code.of_width(visible, 0, 1, &range.first)?;
         self.code.of_width(visible, 1, 1, &range.last)?;
@@ -147,7 +149,8 @@ impl Draft {
         requires entries { HasEntries visible.old }
         requires legal { IsLegal visible.old.scope (Loop place (For parameter.now reversed (range_tree range.now)) (stmt_trees body.now)) }
         ensures emits { OnOk result (EmitsStatement visible.old (ways_of leaving) self.old (Loop place (For parameter.now reversed (range_tree range.now)) (stmt_trees body.now)) self.new) }
-        ensures refused { IfErr result (λ why. RefusesStatement visible.old (ways_of leaving) self.old (Loop place (For parameter.now reversed (range_tree range.now)) (stmt_trees body.now)) self.new why) }
+        ensures refused { IfErr result (λ why. RefusesStatement visible.old (ways_of leaving) self.old (Loop place (For parameter.now reversed (range_tree range.now)) (stmt_trees body.now)) why) }
+        ensures stays { OnOk result (StaysStatement visible.old (ways_of leaving) self.old (Loop place (For parameter.now reversed (range_tree range.now)) (stmt_trees body.now)) self.new) }
         ensures same { OnOk result (visible.new ≡ visible.old) }
     {
         agreement_is_kept();

@@ -2,6 +2,7 @@
 ghost use Rattle.std.specs.Prelude.{◌≡◌, ◌∷◌, [], map, IfErr, OnOk};
 ghost use Rattle.ada_tree.specs.ExpressionTree.{expr_tree};
 ghost use Rattle.ada_tree.specs.StatementTree.{Block, declaration_tree, elsif_tree, elsif_trees, elsifs_of, Exit, iteration_tree, Loop, NoHandlers, optional_tree, Return, stmt_tree, stmt_trees};
+ghost use Rattle.stmt_code.specs.Staying.{StaysParts, StaysStatement, StaysStatements};
 ghost use Rattle.stmt_code.specs.Emitting.{AddsParts, AreLegal, AreLegalElsifs, EmitsStatement, EmitsStatements, HasEntries, IsLegal, ways_of};
 ghost use Rattle.stmt_code.specs.Refusing.{RefusesParts, RefusesStatement, RefusesStatements};
 ghost use Rattle.stmt_rules.specs.SimpleRules.{condition_faults};
@@ -29,7 +30,8 @@ impl Draft {
         requires sound { SoundScope visible.now.scope }
         requires legal { IsLegal visible.now.scope (Exit place (optional_tree expr_tree condition.now)) }
         ensures emits { OnOk result (EmitsStatement visible.now (ways_of leaving) self.old (Exit place (optional_tree expr_tree condition.now)) self.new) }
-        ensures refused { IfErr result (λ why. RefusesStatement visible.now (ways_of leaving) self.old (Exit place (optional_tree expr_tree condition.now)) self.new why) }
+        ensures refused { IfErr result (λ why. RefusesStatement visible.now (ways_of leaving) self.old (Exit place (optional_tree expr_tree condition.now)) why) }
+        ensures stays { OnOk result (StaysStatement visible.now (ways_of leaving) self.old (Exit place (optional_tree expr_tree condition.now)) self.new) }
     {
         let Some(exit) = leaving.exit else {
             return Err(Refusal::Outside);
@@ -52,7 +54,8 @@ impl Draft {
         value: &Option<Expr>,
     ) -> Result<(), Refusal>
         ensures emits { OnOk result (EmitsStatement visible.now (ways_of leaving) self.old (Return place (optional_tree expr_tree value.now)) self.new) }
-        ensures refused { IfErr result (λ why. RefusesStatement visible.now (ways_of leaving) self.old (Return place (optional_tree expr_tree value.now)) self.new why) }
+        ensures refused { IfErr result (λ why. RefusesStatement visible.now (ways_of leaving) self.old (Return place (optional_tree expr_tree value.now)) why) }
+        ensures stays { OnOk result (StaysStatement visible.now (ways_of leaving) self.old (Return place (optional_tree expr_tree value.now)) self.new) }
     {
         match (leaving.return_, value) {
             (Some(end), None) => self.code.emit(0, Operation::Jump(end)),
@@ -72,7 +75,8 @@ impl Draft {
         requires entries { HasEntries visible.old }
         requires legal { IsLegal visible.old.scope (stmt_tree statement.now) }
         ensures emits { OnOk result (EmitsStatement visible.old (ways_of leaving) self.old (stmt_tree statement.now) self.new) }
-        ensures refused { IfErr result (λ why. RefusesStatement visible.old (ways_of leaving) self.old (stmt_tree statement.now) self.new why) }
+        ensures refused { IfErr result (λ why. RefusesStatement visible.old (ways_of leaving) self.old (stmt_tree statement.now) why) }
+        ensures stays { OnOk result (StaysStatement visible.old (ways_of leaving) self.old (stmt_tree statement.now) self.new) }
         ensures same { OnOk result (visible.new ≡ visible.old) }
     {
         statements_by_parts();
@@ -124,7 +128,8 @@ impl Draft {
         requires entries { HasEntries visible.old }
         requires legal { AreLegal visible.old.scope (stmt_trees all.now) }
         ensures emits { OnOk result (EmitsStatements visible.old (ways_of leaving) self.old (stmt_trees all.now) self.new) }
-        ensures refused { IfErr result (λ why. RefusesStatements visible.old (ways_of leaving) self.old (stmt_trees all.now) self.new why) }
+        ensures refused { IfErr result (λ why. RefusesStatements visible.old (ways_of leaving) self.old (stmt_trees all.now) why) }
+        ensures stays { OnOk result (StaysStatements visible.old (ways_of leaving) self.old (stmt_trees all.now) self.new) }
         ensures same { OnOk result (visible.new ≡ visible.old) }
     {
         for statement in all {
@@ -148,7 +153,8 @@ impl Draft {
         requires condition { condition_faults visible.old.scope (expr_tree condition.now) ≡ [] }
         requires legal { AreLegal visible.old.scope (stmt_trees body.now) }
         ensures adds { OnOk result (AddsParts visible.old (ways_of leaving) self.old ((expr_tree condition.now, stmt_trees body.now) ∷ []) waiting.old.items waiting.new.items self.new) }
-        ensures refused { IfErr result (λ why. RefusesParts visible.old (ways_of leaving) self.old (elsifs_of ((expr_tree condition.now, stmt_trees body.now) ∷ [])) self.new why) }
+        ensures refused { IfErr result (λ why. RefusesParts visible.old (ways_of leaving) self.old (elsifs_of ((expr_tree condition.now, stmt_trees body.now) ∷ [])) why) }
+        ensures stays { OnOk result (StaysParts visible.old (ways_of leaving) self.old (elsifs_of ((expr_tree condition.now, stmt_trees body.now) ∷ [])) self.new) }
         ensures same { OnOk result (visible.new ≡ visible.old) }
     {
         self.code.of_width(visible, 0, 1, condition)?;
@@ -170,7 +176,8 @@ impl Draft {
         requires entries { HasEntries visible.old }
         requires legal { AreLegalElsifs visible.old.scope (elsif_trees elsifs.now) }
         ensures adds { OnOk result (AddsParts visible.old (ways_of leaving) self.old (map elsif_tree elsifs.now) waiting.old.items waiting.new.items self.new) }
-        ensures refused { IfErr result (λ why. RefusesParts visible.old (ways_of leaving) self.old (elsif_trees elsifs.now) self.new why) }
+        ensures refused { IfErr result (λ why. RefusesParts visible.old (ways_of leaving) self.old (elsif_trees elsifs.now) why) }
+        ensures stays { OnOk result (StaysParts visible.old (ways_of leaving) self.old (elsif_trees elsifs.now) self.new) }
         ensures same { OnOk result (visible.new ≡ visible.old) }
     {
         for part in elsifs {
@@ -193,7 +200,8 @@ impl Draft {
         requires entries { HasEntries visible.old }
         requires legal { IsLegal visible.old.scope (Loop place (iteration_tree iteration.now) (stmt_trees body.now)) }
         ensures emits { OnOk result (EmitsStatement visible.old (ways_of leaving) self.old (Loop place (iteration_tree iteration.now) (stmt_trees body.now)) self.new) }
-        ensures refused { IfErr result (λ why. RefusesStatement visible.old (ways_of leaving) self.old (Loop place (iteration_tree iteration.now) (stmt_trees body.now)) self.new why) }
+        ensures refused { IfErr result (λ why. RefusesStatement visible.old (ways_of leaving) self.old (Loop place (iteration_tree iteration.now) (stmt_trees body.now)) why) }
+        ensures stays { OnOk result (StaysStatement visible.old (ways_of leaving) self.old (Loop place (iteration_tree iteration.now) (stmt_trees body.now)) self.new) }
         ensures same { OnOk result (visible.new ≡ visible.old) }
     {
         match iteration {
@@ -232,7 +240,8 @@ impl Draft {
         requires entries { HasEntries visible.old }
         requires legal { IsLegal visible.old.scope (Block place (map declaration_tree declarations.now) (stmt_trees body.now) NoHandlers) }
         ensures emits { OnOk result (EmitsStatement visible.old (ways_of leaving) self.old (Block place (map declaration_tree declarations.now) (stmt_trees body.now) NoHandlers) self.new) }
-        ensures refused { IfErr result (λ why. RefusesStatement visible.old (ways_of leaving) self.old (Block place (map declaration_tree declarations.now) (stmt_trees body.now) NoHandlers) self.new why) }
+        ensures refused { IfErr result (λ why. RefusesStatement visible.old (ways_of leaving) self.old (Block place (map declaration_tree declarations.now) (stmt_trees body.now) NoHandlers) why) }
+        ensures stays { OnOk result (StaysStatement visible.old (ways_of leaving) self.old (Block place (map declaration_tree declarations.now) (stmt_trees body.now) NoHandlers) self.new) }
         ensures same { OnOk result (visible.new ≡ visible.old) }
     {
         names_are_added();

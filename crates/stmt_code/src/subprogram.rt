@@ -8,6 +8,7 @@ ghost use Rattle.expr_code.specs.Emitting.{IsFit};
 ghost use Rattle.expr_code.specs.Refusing.{IsRefused};
 ghost use Rattle.expr_code.specs.Code.{here};
 ghost use Rattle.expr_code.specs.Seeing.{subprogram_of};
+ghost use Rattle.stmt_code.specs.WholeRefusals.{body_labels, RefusesFunction, RefusesProcedure};
 ghost use Rattle.stmt_code.specs.Bounds.{main_bound};
 ghost use Rattle.stmt_code.specs.Refusing.{beyond_if, IsNeeding, RefusesMain};
 ghost use Rattle.stmt_code.specs.Emitting.{HasEntries, IsLegalRun};
@@ -92,6 +93,8 @@ impl Draft {
         requires legal { IsLegalRun (formals_scope visible.old.scope formals.now) (body_tree body.now).declarations (body_tree body.now).statements }
         ensures adds { IfOk result (λ words. AddsProcedure visible.old self.old formals.now (body_tree body.now) words self.new) }
         ensures called { IfOk result (λ words. IsCalledProcedure visible.old.scope formals.now words) }
+        ensures refused { IfErr result (λ why. RefusesProcedure visible.old self.old formals.now (body_tree body.now) why) }
+        ensures labels { OnOk result (self.new.labels ≡ body_labels self.old.labels (body_tree body.now)) }
         ensures keeps { IfOk result (λ words. KeepsRules visible.old self.old words self.new) }
         ensures same { OnOk result (visible.new ≡ visible.old) }
     {
@@ -131,6 +134,8 @@ impl Draft {
         requires fit { IsFit (formals_scope visible.old.scope formals.now) subtype (expr_tree value.now) }
         ensures adds { IfOk result (λ words. AddsFunction visible.old self.old formals.now subtype (expr_tree value.now) words self.new) }
         ensures called { IfOk result (λ words. IsCalledFunction visible.old.scope formals.now subtype words) }
+        ensures refused { IfErr result (λ why. RefusesFunction visible.old self.old formals.now subtype (expr_tree value.now) why) }
+        ensures labels { OnOk result (self.new.labels ≡ self.old.labels) }
         ensures keeps { IfOk result (λ words. KeepsRules visible.old self.old words self.new) }
         ensures same { OnOk result (visible.new ≡ visible.old) }
     {
@@ -161,6 +166,7 @@ impl Draft {
         requires called { CallsProcedures visible.now.scope statements.now }
         ensures adds { IfOk result (λ words. AddsMain visible.now self.old statements.now words self.new) }
         ensures refused { IfErr result (λ why. RefusesMain visible.now self.old.code statements.now (main_bound statements.now) why) }
+        ensures labels { OnOk result (self.new.labels ≡ self.old.labels) }
         ensures keeps { IfOk result (λ words. KeepsRules visible.now self.old words self.new) }
     {
         self.code.deepest = 0;

@@ -1,7 +1,10 @@
-use Rattle.std.proofs.Common.{rules}
+use Rattle.std.proofs.Common.{◌+◌, ◌*◌, arith, length, rules}
+use Rattle.std.proofs.lemmas.List.Elements.{All-get_or}
 use Rattle.ada_tree.specs.Size.{total}
-use Rattle.stmt_code.proofs.CallsRefused.{copies_refused}
+use Rattle.stmt_code.proofs.CallsRefused.{copies_more, copy_refuses, copy_room}
 use Rattle.stmt_code.specs.Passing.{copied_width}
+use Rattle.stmt_code.specs.Refusing.{IsPartFit}
+use Rattle.stmt_code.proofs.CallsStay.{copies_shallow}
 use Rattle.stmt_code.proofs.ChecksAdded.{all_copies, copies_next, left_next}
 use Rattle.stmt_code.proofs.call.add_copies.Goals as goal
 
@@ -15,13 +18,34 @@ loop-destination-preserved c =
       left_next v c.loop-destination.code c.add_copy.new.code all c.loop-destination.destination-index _ c.loop-destination.height
           c.in_ok-height-2.height (total (copied_width v.scope) all) c.loop-destination-test.true c.loop-destination.invariant.1
           c.in_ok-height-2.ensures.adds,
+      copies_shallow v all c.loop-destination.destination-index c.loop-destination.height c.in_ok-height-2.height _ c.args.code.now c.loop-destination.code
+          c.add_copy.new.code c.loop-destination-test.true c.loop-destination.invariant.1 c.loop-destination.invariant.2 c.in_ok-height-2.ensures.adds,
     )
 
 pub returns-clause-emits : goal.returns-clause-emits
 returns-clause-emits c = all_copies c.args.visible.now c.args.code.now c.loop-destination.code c.args.destinations.now c.loop-destination.destination-index
     c.loop-destination.height c.loop-destination-test.false c.loop-destination.invariant.1 c.loop-destination.invariant.0
 
+pub add_copy-requires-clause-fits : goal.add_copy-requires-clause-fits
+add_copy-requires-clause-fits c =
+    All-get_or (IsPartFit c.args.visible.now) c.args.destinations.now c.loop-destination.destination-index _ c.loop-destination-test.true c.requires.fits
+
+pub add_copy-requires-clause-room : goal.add_copy-requires-clause-room
+add_copy-requires-clause-room c =
+    copy_room c.args.visible.now c.loop-destination.height c.args.destinations.now c.loop-destination.destination-index _ c.loop-destination-test.true
+    c.loop-destination.invariant.1
+
+pub returns-in_err-height-clause-refused : goal.returns-in_err-height-clause-refused
+returns-in_err-height-clause-refused c =
+    let whole = copies_more c.args.visible.now c.args.destinations.now c.args.code.now c.in_err-height.field-0.0 c.in_err-height.ensures.refused in
+    search (rules, whole)
+
 pub returns-in_err-height-2-clause-refused : goal.returns-in_err-height-2-clause-refused
 returns-in_err-height-2-clause-refused c =
-    let whole = copies_refused c.args.destinations.now c.loop-destination.destination-index 0 c.in_err-height-2.field-0.0 c.loop-destination-test.true in
+    let whole = copy_refuses c.args.visible.now c.args.code.now c.loop-destination.code c.args.destinations.now c.loop-destination.destination-index
+    c.loop-destination.height _ c.in_err-height-2.field-0.0 c.loop-destination-test.true c.loop-destination.invariant.1 c.loop-destination.invariant.0
+    c.in_err-height-2.ensures.refused in
     search (rules, whole)
+
+pub returns-clause-shallow : goal.returns-clause-shallow
+returns-clause-shallow c = c.loop-destination.invariant.2

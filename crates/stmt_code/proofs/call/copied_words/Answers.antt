@@ -1,5 +1,6 @@
-use Rattle.std.proofs.Common.{rules}
-use Rattle.stmt_code.proofs.CallsRefused.{copies_refused}
+use Rattle.std.proofs.Common.{◌+◌, arith, rules}
+use Rattle.expr_code.specs.Refusing.{IsUnfit}
+use Rattle.stmt_code.proofs.CallsRefused.{counted_refused, words_counted}
 use Rattle.stmt_code.proofs.ChecksAdded.{words_next}
 use Rattle.stmt_code.proofs.call.copied_words.Goals as goal
 
@@ -11,15 +12,22 @@ loop-destination-preserved c =
 
 pub returns-in_err-own-clause-refused : goal.returns-in_err-own-clause-refused
 returns-in_err-own-clause-refused c =
-    let whole = copies_refused c.args.destinations.now c.loop-destination.destination-index 0 c.in_err-own.field-0.0 c.loop-destination-test.true in
+    let whole = counted_refused c.args.visible.now c.args.destinations.now c.loop-destination.destination-index 0 _ _ c.in_err-own.field-0.0
+    c.loop-destination-test.true c.requires.fits (omega arith) (λ u. u)
+    c.in_err-own.ensures.refused in
     search (rules, whole)
 
 pub returns-in_err-raised-clause-refused : goal.returns-in_err-raised-clause-refused
 returns-in_err-raised-clause-refused c =
-    let whole = copies_refused c.args.destinations.now c.loop-destination.destination-index 0 c.in_err-raised.field-0.0 c.loop-destination-test.true in
+    let whole = words_counted c.args.visible.now c.args.destinations.now c.loop-destination.destination-index c.loop-destination.words c.in_ok-own.own
+    (c.loop-destination.words + c.in_ok-own.own) _ c.in_err-raised.field-0.0 c.loop-destination-test.true c.requires.fits c.loop-destination.invariant
+    c.in_ok-own.ensures.words (omega arith) c.in_err-raised.ensures.refused in
     search (rules, whole)
 
 pub returns-in_err-words-clause-refused : goal.returns-in_err-words-clause-refused
 returns-in_err-words-clause-refused c =
-    let whole = copies_refused c.args.destinations.now c.loop-destination.destination-index 0 c.in_err-words.field-0.0 c.loop-destination-test.true in
+    let more = c.in_ok-raised.ensures.more in
+    let whole = words_counted c.args.visible.now c.args.destinations.now c.loop-destination.destination-index c.loop-destination.words c.in_ok-own.own
+    (c.in_ok-raised.field-0 + 1) _ c.in_err-words.field-0.0 c.loop-destination-test.true c.requires.fits c.loop-destination.invariant
+    c.in_ok-own.ensures.words (omega (arith, more)) c.in_err-words.ensures.refused in
     search (rules, whole)

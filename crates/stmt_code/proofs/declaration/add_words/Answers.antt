@@ -1,6 +1,7 @@
-use Rattle.std.proofs.Common.{◌≡◌, ◌+◌, ◌∙◌, ap, rules}
+use Rattle.std.proofs.Common.{◌≡◌, ◌+◌, ◌∙◌, ap, arith, rules}
 use Rattle.types.specs.Layouts.{words_of}
 use Rattle.std.proofs.lemmas.Result.{on_ok_weaker}
+use Rattle.stmt_code.proofs.LeavesStay.{words_stored}
 use Rattle.stmt_code.proofs.Initials.{stores_words}
 use Rattle.std.proofs.lemmas.Result.{IfErr-weaker}
 use Rattle.ada_tree.specs.ExpressionTree.{expr_tree}
@@ -31,3 +32,13 @@ returns-clause-refused c =
     stored_refused c.values_have_words.ensures c.initial_values_have_shape.ensures c.args.visible.now c.args.code.now c.emit.new.self c.add_initial_words.new.code
     c.args.subtype (optional_tree expr_tree c.args.value.now) c.in_ok-raised.field-0 why (added_here _ _ _ _ c.in_ok-emit.ensures.adds) high
     c.in_ok-words.ensures.emits r) c.emit-2.ensures.refused
+
+pub returns-clause-shallow : goal.returns-clause-shallow
+returns-clause-shallow c =
+    let words = c.in_ok-words.ensures.words in
+    let more = c.in_ok-raised.ensures.more in
+    on_ok_weaker _
+    (λ q.
+    words_stored c.args.visible.now c.args.subtype (optional_tree expr_tree c.args.value.now) c.args.code.now c.emit.new.self c.add_initial_words.new.code
+    c.emit-2.new.self c.in_ok-raised.field-0 c.in_ok-emit.ensures.adds.shallow c.in_ok-words.ensures.shallow (omega (arith, words, more)) q.shallow)
+    c.emit-2.ensures.adds

@@ -36,6 +36,7 @@ loop-formal-preserved c =
           c.loop-formal.invariant.3 x c.in_ok-one.next c.place.new.words.taken
           (subst (λ m. StandsAt f.mode m c.loop-formal.from c.loop-formal.words.taken x c.in_ok-one.next c.place.new.words.taken) wide
           c.in_ok-one.ensures.stands),
+      λ e. c.in_ok-one.ensures.same (c.loop-formal.invariant.4 e),
     )
 
 pub returns-clause-stand : goal.returns-clause-stand
@@ -63,3 +64,6 @@ returns-in_err-one-clause-refused c =
     c.formal-item.result c.in-Some.subtype c.loop-formal-test.true c.formal-item.is (sym c.in-Some.ensures) c.loop-formal.invariant.3 c.words-many.result
     c.in_err-one.field-0.0 c.words-many.ensures c.in_err-one.ensures.refused in
     search (rules, whole)
+
+pub returns-clause-same : goal.returns-clause-same
+returns-clause-same c = c.loop-formal.invariant.4

@@ -1,4 +1,4 @@
-use Rattle.std.proofs.Common.{◌≤◌}
+use Rattle.std.proofs.Common.{◌≡◌, ◌≤◌}
 use Rattle.std.specs.List.{All}
 use Rattle.stmt_code.specs.Formals.{HasValue}
 use Rattle.stmt_code.proofs.FormalWords.{PlacedSoFar}
@@ -11,3 +11,4 @@ invariant-loop-formal l =
     × (l.words.taken ≤ l.words.most)
     × All (HasValue l.scope) l.placed.items
     × PlacesWords l.scope l.fn.words.taken l.formals l.formal-index l.from l.words.taken
+    × (l.fn.words.most ≡ l.fn.words.taken → l.words.most ≡ l.words.taken)

@@ -10,7 +10,11 @@ loop-formal-preserved c =
     let many = c.in_ok-passed_words.ensures.passed in
     let takes = c.in_ok-take.ensures.takes in
     let more = takes.taken in
-    (omega (arith, before, next, many, more), takes.most)
+    let most = c.in_ok-take.ensures.most in (
+      omega (arith, before, next, many, more),
+      takes.most,
+      λ e. (let same = c.loop-formal.invariant.2 e in omega (arith, most, same, more)),
+    )
 
 pub returns-clause-taken : goal.returns-clause-taken
 returns-clause-taken c =
@@ -24,3 +28,6 @@ returns-in_err-passed_words-clause-refused c =
     c.formal-item.result c.in_err-passed_words.field-0.0 c.loop-formal-test.true c.formal-item.is c.loop-formal.invariant.0
     c.in_err-passed_words.ensures.refused in
     search (rules, whole)
+
+pub returns-clause-same : goal.returns-clause-same
+returns-clause-same c = c.loop-formal.invariant.2

@@ -7,3 +7,4 @@ abbrev pub invariant-loop-formal : goal.invariant-loop-formal
 invariant-loop-formal l =
     (l.words.taken + total (passed_for l.scope) (drop l.formal-index l.formals) ≡ l.fn.words.taken + total (passed_for l.scope) l.formals)
     × (l.words.taken ≤ l.words.most)
+    × (l.fn.words.most ≡ l.fn.words.taken → l.words.most ≡ l.words.taken)

@@ -1,8 +1,8 @@
 use Rattle.std.proofs.Common.{inr, ◌+◌, ◌*◌, arith, length, ltb-true, map, take, rules, refl, sym, ap, ◌∙◌, ◌≤◌, ◌∷◌, [], subst, ◌≡◌}
-use Rattle.std.specs.Prelude.{IfOk}
+use Rattle.std.specs.Prelude.{IfErr, IfOk, max, OnOk}
 use Rattle.std.proofs.lemmas.Result.{IfErr-weaker, IfOk-weaker, on_ok_weaker}
 use Rattle.ada_tree.specs.declared.expression.Expr as expressions
-use Rattle.ada_tree.specs.ExpressionTree.{argument_tree, argument_trees, Arguments, expr_tree, MoreSelectors, Named, NoSelectors, selector_tree, selector_trees}
+use Rattle.ada_tree.specs.ExpressionTree.{argument_tree, argument_trees, Arguments, expr_tree, MoreSelectors, Named, name_tree, NoSelectors, selector_tree, selector_trees}
 use Rattle.expr_code.specs.Branches.{AddsBranches, AreLegalBranches, branch_of}
 use Rattle.expr_code.specs.Emitting.{AreLegal, EmitsExpression, IsLegal}
 use Rattle.expr_code.specs.Going.{EmitsPath, IsLegalPart, IsLegalPath}
@@ -26,10 +26,11 @@ use Rattle.expr_code.proofs.LegalNames.{array_part, begins_otherwise, called_onc
 use Rattle.expr_code.proofs.NamesRefused.{begin_outside, behind_outside, index_refused, load_refused, selector_refused}
 use Rattle.well_typed.specs.SoundScopes.{AreIn}
 use Rattle.expr_code.specs.Widths.{AreSingle, AreWide, width_of}
-use Rattle.expr_code.specs.Code.{here}
-use Rattle.expr_code.specs.Refusing.{operands_size, RefusesBranches, RefusesExpression, RefusesOperands, RefusesPath}
+use Rattle.expr_code.specs.Code.{IsShallow, here}
+use Rattle.expr_code.specs.Refusing.{branches_peak, operands_peak, operands_size, peak, RefusesBranches, RefusesExpression, RefusesOperands, RefusesPath, selectors_peak}
 use Rattle.expr_code.proofs.Growing.{added_here}
 use Rattle.expr_code.proofs.Refusals.{between_refused, closed_here, condition_refused, else_refused, first_refused, jump_refused, more_refused, operand_refused, others_refused, second_refused, second_word_refused, sized_all, sized_next, value_refused, word_refused}
+use Rattle.expr_code.proofs.Shallow.{among_shallow, argument_shallow, bare_tree, branch_shallow, call_shallow, chain_shallow, check_shallow, closed_shallow, conditional_shallow, element_shallow, offset_shallow, operand_shallow, part_shallow, passed_shallow, path_shallow, shallow_self, short_shallow, unchecked_shallow, word_deep, word_deeper}
 use Rattle.expr_code.proofs.Selecting.{one_selector, selects_next, whole_selects}
 use Rattle.expr_code.proofs.Widths.{call_width, chain_words, conditional_words, conversion_width, booleans_fit_width, fixed_width, integers_fit_width, part_width, single_at, unary_width, wide_at}
 use Rattle.expr_code.proofs.code.Code.+expression.Goals as goal
@@ -113,10 +114,15 @@ operands-loop-operand-preserved t c = (
   one_emitted c.args.visible.now _ _ _ _ _ _ _ c.loop-operand-test.true c.operand-item.is c.loop-operand.invariant.0 c.in_ok-operand.ensures.emits,
   sized_next c.args.visible.now c.args.self.now c.loop-operand.self c.operand.new.self c.args.all.now _ c.operand-item.result c.loop-operand-test.true
       c.operand-item.is c.loop-operand.invariant.1 c.in_ok-operand.ensures.sized,
+  among_shallow c.args.visible.now c.args.depth c.args.all.now _ c.operand-item.result c.args.self.now c.loop-operand.self c.operand.new.self
+      c.loop-operand-test.true c.operand-item.is c.loop-operand.invariant.2 c.in_ok-operand.ensures.shallow,
 )
 
 pub operands-loop-operand-init : goal.operands-loop-operand-init
-operands-loop-operand-init t c = (none_emitted c.args.visible.now c.args.self.now c.args.depth, omega arith)
+operands-loop-operand-init t c = (none_emitted c.args.visible.now c.args.self.now c.args.depth, omega arith, shallow_self c.args.self.now _)
+
+pub operands-returns-clause-shallow : goal.operands-returns-clause-shallow
+operands-returns-clause-shallow t c = c.loop-operand.invariant.2
 
 pub operands-returns-clause-sized : goal.operands-returns-clause-sized
 operands-returns-clause-sized t c = sized_all c.args.visible.now c.args.self.now c.loop-operand.self c.args.all.now _ c.loop-operand-test.false
@@ -297,14 +303,14 @@ expression-returns-in_err-rejoin-in-Conditional-clause-refused t c =
 pub elsifs-returns-in_err-of_width-clause-refused : goal.elsifs-returns-in_err-of_width-clause-refused
 elsifs-returns-in_err-of_width-clause-refused t c =
     let whole = condition_refused c.args.visible.now c.args.self.now c.loop-elsif.self c.args.depth c.args.width c.args.elsifs.now _ c.elsif-item.result
-    c.in_err-of_width.field-0.0 c.loop-elsif-test.true c.elsif-item.is c.loop-elsif.invariant.emits.sized c.in_err-of_width.ensures.refused in
+    c.in_err-of_width.field-0.0 c.loop-elsif-test.true c.elsif-item.is c.loop-elsif.invariant.0.emits.sized c.in_err-of_width.ensures.refused in
     search (rules, whole)
 
 pub elsifs-returns-in_err-test-clause-refused : goal.elsifs-returns-in_err-test-clause-refused
 elsifs-returns-in_err-test-clause-refused t c =
     let first = c.in_ok-of_width.ensures.emits.sized in
     let whole = jump_refused c.args.visible.now c.args.self.now c.loop-elsif.self c.args.depth c.args.width c.args.elsifs.now _ c.elsif-item.result
-    c.in_err-test.field-0.0 c.loop-elsif-test.true c.elsif-item.is c.loop-elsif.invariant.emits.sized _ _ (omega (arith, first)) (omega arith)
+    c.in_err-test.field-0.0 c.loop-elsif-test.true c.elsif-item.is c.loop-elsif.invariant.0.emits.sized _ _ (omega (arith, first)) (omega arith)
     c.in_err-test.ensures.refused in
     search (rules, whole)
 
@@ -313,7 +319,7 @@ elsifs-returns-in_err-of_width-2-clause-refused t c =
     let first = c.in_ok-of_width.ensures.emits.sized in
     let jump = added_here _ _ _ _ c.in_ok-test.ensures.adds in
     let whole = value_refused c.args.visible.now c.args.self.now c.loop-elsif.self c.args.depth c.args.width c.args.elsifs.now _ c.elsif-item.result
-    c.in_err-of_width-2.field-0.0 c.loop-elsif-test.true c.elsif-item.is c.loop-elsif.invariant.emits.sized c.test.new.self (omega (arith, first, jump))
+    c.in_err-of_width-2.field-0.0 c.loop-elsif-test.true c.elsif-item.is c.loop-elsif.invariant.0.emits.sized c.test.new.self (omega (arith, first, jump))
     c.in_err-of_width-2.ensures.refused in
     search (rules, whole)
 
@@ -324,7 +330,7 @@ elsifs-returns-in_err-close-clause-refused t c =
     let second = c.in_ok-of_width-2.ensures.emits.sized in
     let high = c.in_ok-raised.ensures.more in
     let whole = jump_refused c.args.visible.now c.args.self.now c.loop-elsif.self c.args.depth c.args.width c.args.elsifs.now _ c.elsif-item.result
-    c.in_err-close.field-0.0 c.loop-elsif-test.true c.elsif-item.is c.loop-elsif.invariant.emits.sized _ _ (omega (arith, first, jump, second))
+    c.in_err-close.field-0.0 c.loop-elsif-test.true c.elsif-item.is c.loop-elsif.invariant.0.emits.sized _ _ (omega (arith, first, jump, second))
     (omega (arith, high)) c.in_err-close.ensures.refused in
     search (rules, whole)
 
@@ -509,19 +515,27 @@ elsifs-of_width-requires-in-loop-elsif t c = (
 )
 
 pub elsifs-loop-elsif-preserved : goal.elsifs-loop-elsif-preserved
-elsifs-loop-elsif-preserved t c =
-    branches_next c.args.visible.now _ _ _ c.args.depth c.args.width c.args.elsifs.now _ c.elsif-item.result _ _ _ c.loop-elsif-test.true c.elsif-item.is
-    c.loop-elsif.invariant
-    (branch_closed c.args.visible.now c.args.depth c.args.width _ _ _ _ _ _ _ _ _ _ _ c.in_ok-raised.ensures.more c.in_ok-test.ensures.place
-    c.in_ok-of_width.ensures.emits c.in_ok-test.ensures.adds
-    c.in_ok-of_width-2.ensures.emits c.in_ok-close.ensures.closes)
+elsifs-loop-elsif-preserved t c = (
+  branches_next c.args.visible.now _ _ _ c.args.depth c.args.width c.args.elsifs.now _ c.elsif-item.result _ _ _ c.loop-elsif-test.true c.elsif-item.is
+      c.loop-elsif.invariant.0
+      (branch_closed c.args.visible.now c.args.depth c.args.width _ _ _ _ _ _ _ _ _ _ _ c.in_ok-raised.ensures.more c.in_ok-test.ensures.place
+      c.in_ok-of_width.ensures.emits c.in_ok-test.ensures.adds
+      c.in_ok-of_width-2.ensures.emits c.in_ok-close.ensures.closes),
+  branch_shallow c.args.visible.now c.args.depth c.args.width c.args.elsifs.now _ c.elsif-item.result c.args.self.now c.loop-elsif.self c.of_width.new.self
+      c.test.new.self c.of_width-in-loop-elsif.new.self c.close.new.self _ c.loop-elsif-test.true c.elsif-item.is c.in_ok-raised.ensures.more c.loop-elsif.invariant.1
+      c.in_ok-of_width.ensures.shallow c.in_ok-test.ensures.adds.shallow c.in_ok-of_width-2.ensures.shallow
+      (closed_shallow _ _ _ _ _ _ c.in_ok-close.ensures.closes),
+)
 
 pub elsifs-loop-elsif-init : goal.elsifs-loop-elsif-init
-elsifs-loop-elsif-init t c = adds_none c.args.visible.now c.args.self.now c.args.depth c.args.width c.args.waiting.now.items
+elsifs-loop-elsif-init t c = (adds_none c.args.visible.now c.args.self.now c.args.depth c.args.width c.args.waiting.now.items, shallow_self c.args.self.now _)
+
+pub elsifs-returns-clause-shallow : goal.elsifs-returns-clause-shallow
+elsifs-returns-clause-shallow t c = c.loop-elsif.invariant.1
 
 pub elsifs-returns-clause-adds : goal.elsifs-returns-clause-adds
 elsifs-returns-clause-adds t c =
-    all_branches c.args.visible.now _ _ c.args.depth c.args.width c.args.elsifs.now _ _ _ c.loop-elsif-test.false c.loop-elsif.invariant
+    all_branches c.args.visible.now _ _ c.args.depth c.args.width c.args.elsifs.now _ _ _ c.loop-elsif-test.false c.loop-elsif.invariant.0
 
 -- ---- checks and conversions
 
@@ -648,6 +662,8 @@ path-loop-selector-preserved t c =
           c.loop-selector.invariant.2 c.in_ok-last.ensures.stands,
       (λ h. c.loop-selector.invariant.3 (selected_keeps s c.requires.sound c.loop-selector.last c.in_ok-last.last (selector_tree c.selector-item.result)
           c.in_ok-last.ensures.stands h)),
+      path_shallow c.args.visible.now c.args.depth c.args.selectors.now c.loop-selector.selector-index c.selector-item.result c.args.self.now
+          c.loop-selector.self c.select.new.self c.loop-selector-test.true c.selector-item.is c.loop-selector.invariant.4 c.in_ok-last.ensures.shallow,
     )
 
 pub select-element-requires : goal.select-element-requires
@@ -757,6 +773,9 @@ actuals-loop-index-preserved t c =
           (got c.args.arguments.now c.loop-index.index _ c.loop-index-test.true c.index-arguments-index.is) c.in_ok-height.ensures.more c.loop-index.invariant.0
           c.in_ok-actual.ensures.emits,
       omega (arith, told, more),
+      passed_shallow c.args.visible.now c.args.depth c.args.arguments.now c.loop-index.index c.loop-index.height _ c.args.self.now c.loop-index.self
+          c.actual.new.self (got c.args.arguments.now c.loop-index.index _ c.loop-index-test.true c.index-arguments-index.is) told c.loop-index.invariant.2
+          c.in_ok-actual.ensures.shallow,
     )
 
 -- ---- parts
@@ -812,7 +831,7 @@ named-returns-in_default t c =
     (stands_first v.scope (number_of v.scope c.args.first.now.name)) refl
     (λ r u e. c.in_default.not-Part r u (c.stands_first.ensures ∙ e)) (λ u e. c.in_default.not-Named u (c.stands_first.ensures ∙ e))
     (λ f e. c.in_default.not-Callee f (c.stands_first.ensures ∙ e)) in
-    record { width = tt; refused = begin_outside v c.args.first.now all c.requires.valueless made; emits = tt }
+    record { width = tt; refused = begin_outside v c.args.first.now all c.requires.valueless made; shallow = tt; emits = tt }
 
 pub element-returns-in_default-2-clause-refused : goal.element-returns-in_default-2-clause-refused
 element-returns-in_default-2-clause-refused t c =
@@ -867,3 +886,170 @@ path-returns-in_err-last-clause-refused t c =
     c.loop-selector.selector-index c.selector-item.result c.in_err-last.field-0.0 c.loop-selector-test.true c.selector-item.is before
     c.loop-selector.invariant.3 c.in_err-last.ensures.refused in
     search (rules, whole)
+
+-- ---- words on the operand stack
+
+pub actuals-returns-clause-shallow : goal.actuals-returns-clause-shallow
+actuals-returns-clause-shallow t c = c.loop-index.invariant.2
+
+pub path-returns-clause-shallow : goal.path-returns-clause-shallow
+path-returns-clause-shallow t c = c.loop-selector.invariant.4
+
+pub expression-returns-in_ok-emit-in-Number-clause-shallow : goal.expression-returns-in_ok-emit-in-Number-clause-shallow
+expression-returns-in_ok-emit-in-Number-clause-shallow t c =
+    word_deep c.args.visible.now c.args.depth (expr_tree c.args.e.now) _ _ c.args.depth (omega arith) c.in_ok-emit-in-Number.ensures.adds.shallow
+
+pub expression-returns-in_ok-emit-in-Some-clause-shallow : goal.expression-returns-in_ok-emit-in-Some-clause-shallow
+expression-returns-in_ok-emit-in-Some-clause-shallow t c =
+    let above = c.in_ok-above-in-Some.ensures.more in
+    let before = subst (λ x. IsShallow c.args.self.now c.of_width.new.self (c.args.depth + peak c.args.visible.now.scope (expr_tree x))) c.deref-in-Unary.ensures
+    c.in_ok-of_width-in-Unary.ensures.shallow in
+    rw c.in-Unary.is
+    (word_deeper c.args.visible.now c.args.depth (expr_tree c.in-Unary.operand.value) _ _ _ c.in_ok-above-in-Some.field-0 (omega (arith, above)) before
+    c.in_ok-emit-in-Some.ensures.adds.shallow)
+
+pub expression-returns-in-None-clause-shallow : goal.expression-returns-in-None-clause-shallow
+expression-returns-in-None-clause-shallow t c =
+    rw c.in-Unary.is
+    (subst (λ x. IsShallow c.args.self.now c.of_width.new.self (c.args.depth + peak c.args.visible.now.scope (expr_tree x))) c.deref-in-Unary.ensures
+    c.in_ok-of_width-in-Unary.ensures.shallow)
+
+pub expression-returns-in-Parenthesized-clause-shallow : goal.expression-returns-in-Parenthesized-clause-shallow
+expression-returns-in-Parenthesized-clause-shallow t c =
+    rw c.in-Parenthesized.is (rw c.deref.ensures at c.expression.ensures.shallow)
+
+pub expression-returns-in_ok-operands-in-Chain-clause-shallow : goal.expression-returns-in_ok-operands-in-Chain-clause-shallow
+expression-returns-in_ok-operands-in-Chain-clause-shallow t c =
+    let v = c.args.visible.now in
+    let depth = c.args.depth in
+    let tree = ap expr_tree c.in-Chain.is ∙ c.chains_by_parts.ensures c.in-Chain.first c.in-Chain.second c.in-Chain.more in
+    chain_shallow v depth (expr_tree c.args.e.now) _ c.in-Chain.second.value c.in-Chain.more.items tree c.args.self.now c.of_width-in-Chain.new.self
+    c.operand.new.self c.operands.new.self
+    (subst (λ x. IsShallow c.args.self.now c.of_width-in-Chain.new.self (depth + peak v.scope (expr_tree x))) c.deref-in-Chain.ensures
+    c.in_ok-of_width-in-Chain.ensures.shallow)
+    (subst (λ o. IsShallow c.of_width-in-Chain.new.self c.operand.new.self (depth + operands_peak v.scope (o ∷ []))) c.deref-in-Chain-2.ensures
+    c.in_ok-operand-in-Chain.ensures.shallow)
+    (subst (λ l. IsShallow c.operand.new.self c.operands.new.self (depth + operands_peak v.scope l)) c.deref-in-Chain-3.ensures.value
+    c.in_ok-operands-in-Chain.ensures.shallow)
+
+pub expression-returns-in_ok-rejoin-in-Conditional-clause-shallow : goal.expression-returns-in_ok-rejoin-in-Conditional-clause-shallow
+expression-returns-in_ok-rejoin-in-Conditional-clause-shallow t c =
+    let v = c.args.visible.now in
+    let depth = c.args.depth in
+    let width = c.in_ok-width-in-Conditional.width in
+    let tree = ap expr_tree c.in-Conditional.is ∙ c.conditional_by_parts.ensures c.in-Conditional.field-0 c.in-Conditional.condition c.in-Conditional.value
+    c.in-Conditional.elsifs c.in-Conditional.last in
+    let words = conditional_words v.scope c.requires.sound _ c.in-Conditional.field-0 _ _ c.in-Conditional.elsifs.items _ tree c.requires.legal in
+    let told = c.in_ok-width-in-Conditional.ensures.width ∙ ap (λ e. width_of v.scope (expr_tree e)) c.deref-in-Conditional-2.ensures ∙ words.whole in
+    conditional_shallow v depth (expr_tree c.args.e.now) c.in-Conditional.field-0 _ _ c.in-Conditional.elsifs.items _ tree width _ told
+    c.in_ok-raised-in-Conditional.ensures.more c.args.self.now c.of_width-in-Conditional.new.self c.test.new.self c.expression-in-Conditional.new.self
+    c.close.new.self c.elsifs.new.self c.of_width-in-Conditional-2.new.self c.rejoin.new.self
+    (subst (λ x. IsShallow c.args.self.now c.of_width-in-Conditional.new.self (depth + peak v.scope (expr_tree x))) c.deref-in-Conditional.ensures
+    c.in_ok-of_width-in-Conditional.ensures.shallow)
+    c.in_ok-test-in-Conditional.ensures.adds.shallow
+    (subst (λ x. IsShallow c.test.new.self c.expression-in-Conditional.new.self (depth + peak v.scope (expr_tree x))) c.deref-in-Conditional-2.ensures
+    c.in_ok-width-in-Conditional.ensures.shallow)
+    (closed_shallow _ _ _ _ _ _ c.in_ok-close-in-Conditional.ensures.closes)
+    (subst (λ l. IsShallow c.close.new.self c.elsifs.new.self (depth + max width (branches_peak v.scope (map branch_of l)))) c.deref-in-Conditional-3.ensures.value
+    c.in_ok-elsifs-in-Conditional.ensures.shallow)
+    (subst (λ x. IsShallow c.elsifs.new.self c.of_width-in-Conditional-2.new.self (depth + peak v.scope (expr_tree x))) c.deref-in-Conditional-4.ensures
+    c.in_ok-of_width-in-Conditional-2.ensures.shallow)
+    c.in_ok-rejoin-in-Conditional.ensures.rejoins.deepest
+
+pub operand-returns-in_ok-above-in-Some-clause-shallow : goal.operand-returns-in_ok-above-in-Some-clause-shallow
+operand-returns-in_ok-above-in-Some-clause-shallow t c =
+    on_ok_weaker _ (λ p. operand_shallow c.args.visible.now c.args.depth c.args.operand.now _ c.args.self.now c.of_width.new.self c.emit.new.self _ _
+    (sym c.binary_operation.ensures ∙ c.in-Some.is) c.in_ok-second-in-Some.ensures.more c.in_ok-above-in-Some.ensures.more
+    c.in_ok-of_width-in-Some.ensures.shallow p.shallow) c.emit.ensures.adds
+
+pub short_circuit-returns-in-OrElse-clause-shallow : goal.short_circuit-returns-in-OrElse-clause-shallow
+short_circuit-returns-in-OrElse-clause-shallow t c =
+    short_shallow c.args.visible.now c.args.depth c.args.operand.now c.args.self.now c.emit.new.self c.emit-2.new.self c.emit-3.new.self c.of_width.new.self
+    c.patch.new.self _ _ c.requires.short c.in_ok-one.ensures.more c.in_ok-above.ensures.more c.in_ok-emit.ensures.adds.shallow
+    c.in_ok-emit-2.ensures.adds.shallow c.in_ok-emit-3.ensures.adds.shallow c.in_ok-of_width.ensures.shallow c.patch.ensures.patches.deepest
+
+pub short_circuit-returns-in_default-clause-shallow : goal.short_circuit-returns-in_default-clause-shallow
+short_circuit-returns-in_default-clause-shallow t c =
+    short_shallow c.args.visible.now c.args.depth c.args.operand.now c.args.self.now c.emit.new.self c.emit-2.new.self c.emit-3.new.self c.of_width.new.self
+    c.patch-in_default.new.self _ _ c.requires.short c.in_ok-one.ensures.more c.in_ok-above.ensures.more c.in_ok-emit.ensures.adds.shallow
+    c.in_ok-emit-2.ensures.adds.shallow c.in_ok-emit-3.ensures.adds.shallow c.in_ok-of_width.ensures.shallow c.patch-in_default.ensures.patches.deepest
+
+pub checked-returns-in_ok-above-in-Some-Integer-clause-shallow : goal.checked-returns-in_ok-above-in-Some-Integer-clause-shallow
+checked-returns-in_ok-above-in-Some-Integer-clause-shallow t c =
+    on_ok_weaker _ (λ p. check_shallow c.args.visible.now c.args.depth (expr_tree c.args.e.now) c.args.self.now c.of_width.new.self
+    c.emit.new.self c.emit-in-Some-Integer.new.self c.emit-in-Some-Integer-2.new.self _ _ _ c.in_ok-one-in-Some-Integer.ensures.more
+    c.in_ok-two-in-Some-Integer.ensures.more c.in_ok-above-in-Some-Integer.ensures.more c.in_ok-of_width-in-Some-Integer.ensures.shallow
+    c.in_ok-emit-in-Some-Integer.ensures.adds.shallow c.in_ok-emit-in-Some-Integer-2.ensures.adds.shallow p.shallow) c.emit-in-Some-Integer-2.ensures.adds
+
+pub checked-returns-in-Some-Boolean-clause-shallow : goal.checked-returns-in-Some-Boolean-clause-shallow
+checked-returns-in-Some-Boolean-clause-shallow t c =
+    on_ok_weaker _ (λ p. unchecked_shallow c.args.visible.now c.args.depth (expr_tree c.args.e.now) c.args.self.now c.of_width-in-Some-Boolean.new.self p)
+    c.of_width-in-Some-Boolean.ensures.shallow
+
+pub conversion-returns-in-Expr-clause-shallow : goal.conversion-returns-in-Expr-clause-shallow
+conversion-returns-in-Expr-clause-shallow t c =
+    let v = c.args.visible.now in
+    let one = one_argument c.args.arguments.now c.in-Expr.e c.argument-item.result c.in-len1.len_at_least c.in-len1.len_below c.argument-item.is c.in-Expr.is in
+    on_ok_weaker _ (λ p. subst
+    (λ all. IsShallow c.args.self.now c.checked.new.self
+    (c.args.depth + peak v.scope (Named c.args.first.now (MoreSelectors (Arguments all) NoSelectors)))) (sym one)
+    (argument_shallow v c.args.depth c.args.first.now (expr_tree c.in-Expr.e) c.args.self.now c.checked.new.self p)) c.checked.ensures.shallow
+
+pub name-returns-in_ok-emit-in-Some-clause-shallow : goal.name-returns-in_ok-emit-in-Some-clause-shallow
+name-returns-in_ok-emit-in-Some-clause-shallow t c =
+    word_deep c.args.visible.now c.args.depth (Named (name_tree c.args.name.now).first (name_tree c.args.name.now).selectors) _ _ c.args.depth (omega arith)
+    c.in_ok-emit-in-Some.ensures.adds.shallow
+
+pub called-returns-in_ok-call-in-Arguments-clause-shallow : goal.called-returns-in_ok-call-in-Arguments-clause-shallow
+called-returns-in_ok-call-in-Arguments-clause-shallow t c =
+    let tree = ap selector_tree c.in-Arguments.is ∙ c.arguments_by_parts.ensures c.in-Arguments.arguments ∙ ap (λ l. Arguments (argument_trees l))
+    (sym c.deref.ensures.value) in
+    let same = one_selector c.args.selectors.now c.selector-item.result _ c.in-len1.len_at_least c.in-len1.len_below c.selector-item.is tree in
+    subst (λ x. IsShallow c.args.self.now c.call.new.self (c.args.depth + peak c.args.visible.now.scope (Named c.args.first.now x))) (sym same)
+    c.in_ok-call-in-Arguments.ensures.shallow
+
+pub element-returns-clause-shallow : goal.element-returns-clause-shallow
+element-returns-clause-shallow t c =
+    let v = c.args.visible.now in
+    let one = one_argument c.args.arguments.now c.in-Expr.e c.argument-item.result c.in-len1.len_at_least c.in-len1.len_below c.argument-item.is c.in-Expr.is in
+    subst (λ all. IsShallow c.args.self.now c.offset.new.self (c.args.depth + selectors_peak v.scope 1 (MoreSelectors (Arguments all) NoSelectors))) (sym one)
+    (element_shallow v c.args.depth (expr_tree c.in-Expr.e) c.args.self.now c.checked.new.self c.offset.new.self _ _ c.in_ok-address.ensures.more
+    c.in_ok-above.ensures.more c.in_ok-checked.ensures.shallow (offset_shallow _ _ _ _ _ c.in_ok-offset.ensures.adds))
+
+pub part-returns-clause-shallow : goal.part-returns-clause-shallow
+part-returns-clause-shallow t c =
+    part_shallow c.args.visible.now c.args.depth c.args.first.now (selector_trees c.args.selectors.now) c.requires.stands.0 c.args.subtype c.args.self.now
+    c.emit.new.self c.path.new.self c.load_block.new.self _ c.requires.stands.1 c.in_ok-address.ensures.more c.in_ok-emit.ensures.adds.shallow
+    c.in_ok-last.ensures.shallow c.in_ok-load_block.ensures.adds.shallow
+
+pub call-returns-clause-shallow : goal.call-returns-clause-shallow
+call-returns-clause-shallow t c =
+    let v = c.args.visible.now in
+    let high = counted_high v c.args.arguments.now in
+    let told = c.in_ok-height.ensures.high in
+    on_ok_weaker _ (λ p. call_shallow v c.args.depth c.args.first.now c.args.arguments.now c.args.self.now c.actuals.new.self c.invoke.new.self
+    c.in_ok-height.height (omega (arith, high, told)) c.in_ok-height.ensures.shallow p.adds.shallow) c.invoke.ensures.adds
+
+-- ---- a name without parts
+
+pub name-returns-in-Some-bare-clause-width : goal.name-returns-in-Some-bare-clause-width
+name-returns-in-Some-bare-clause-width t c =
+    let v = c.args.visible.now in
+    let n = name_tree c.args.name.now in
+    let same = sym (bare_tree n.first n.selectors c.in-Some-bare.identifier.now c.in-Some-bare.ensures) in
+    subst (λ e. IfOk c.bare-in-Some-bare.result (λ width. width ≡ width_of v.scope e)) same c.bare-in-Some-bare.ensures.width
+
+pub name-returns-in-Some-bare-clause-refused : goal.name-returns-in-Some-bare-clause-refused
+name-returns-in-Some-bare-clause-refused t c =
+    let v = c.args.visible.now in
+    let n = name_tree c.args.name.now in
+    let same = sym (bare_tree n.first n.selectors c.in-Some-bare.identifier.now c.in-Some-bare.ensures) in
+    subst (λ e. IfErr c.bare-in-Some-bare.result (λ why. RefusesExpression v c.args.self.now c.args.depth e why)) same c.bare-in-Some-bare.ensures.refused
+
+pub name-returns-in-Some-bare-clause-shallow : goal.name-returns-in-Some-bare-clause-shallow
+name-returns-in-Some-bare-clause-shallow t c =
+    let v = c.args.visible.now in
+    let n = name_tree c.args.name.now in
+    let same = sym (bare_tree n.first n.selectors c.in-Some-bare.identifier.now c.in-Some-bare.ensures) in
+    subst (λ e. OnOk c.bare-in-Some-bare.result (IsShallow c.args.self.now c.bare-in-Some-bare.new.self (c.args.depth + peak v.scope e))) same
+    c.bare-in-Some-bare.ensures.shallow

@@ -1,25 +1,30 @@
 use Rattle.std.proofs.Common.{drop, map, take, ◌≡◌, ◌≤◌, ◌+◌, ◌*◌}
-use Rattle.ada_tree.specs.ExpressionTree.{argument_tree, selector_tree, selector_trees}
+use Rattle.std.specs.Prelude.{max}
+use Rattle.ada_tree.specs.ExpressionTree.{argument_tree, argument_trees, selector_tree, selector_trees}
 use Rattle.well_typed.specs.Agreeing.{parameter_subtype}
 use Rattle.expr_code.specs.Actuals.{EmitsActuals}
 use Rattle.expr_code.specs.Branches.{AddsBranches, branch_of}
-use Rattle.expr_code.specs.Code.{here}
+use Rattle.expr_code.specs.Code.{IsShallow, here}
 use Rattle.expr_code.specs.Emitting.{EmitsOperands}
-use Rattle.expr_code.specs.Refusing.{KeepsFit, operands_size}
+use Rattle.expr_code.specs.Refusing.{KeepsFit, arguments_peak, branches_peak, operands_peak, operands_size, selectors_peak}
 use Rattle.expr_code.specs.Going.{EmitsPath, IsLegalPath, SelectsAll}
 use Rattle.expr_code.proofs.code.Code.+expression.Given as goal
 
 abbrev pub invariant-elsifs-loop-elsif : goal.invariant-elsifs-loop-elsif
-invariant-elsifs-loop-elsif l = AddsBranches l.visible l.fn.self l.depth l.width (map branch_of (take l.elsif-index l.elsifs)) l.fn.waiting.items l.waiting.items l.self
+invariant-elsifs-loop-elsif l =
+    AddsBranches l.visible l.fn.self l.depth l.width (map branch_of (take l.elsif-index l.elsifs)) l.fn.waiting.items l.waiting.items l.self
+    × IsShallow l.fn.self l.self (l.depth + max l.width (branches_peak l.visible.scope (map branch_of l.elsifs)))
 
 abbrev pub invariant-actuals-loop-index : goal.invariant-actuals-loop-index
 invariant-actuals-loop-index l =
     EmitsActuals l.visible l.fn.self l.depth (map parameter_subtype (take l.index l.formals)) (map argument_tree (take l.index l.arguments)) l.height l.self
     × (l.height ≡ l.depth + l.index)
+    × IsShallow l.fn.self l.self (l.depth + arguments_peak l.visible.scope (argument_trees l.arguments))
 
 abbrev pub invariant-operands-loop-operand : goal.invariant-operands-loop-operand
 invariant-operands-loop-operand l =
     EmitsOperands l.visible l.fn.self l.depth (take l.operand-index l.all) l.self × (here l.self ≤ here l.fn.self + 20 * operands_size (take l.operand-index l.all))
+    × IsShallow l.fn.self l.self (l.depth + operands_peak l.visible.scope l.all)
 
 abbrev pub invariant-path-loop-selector : goal.invariant-path-loop-selector
 invariant-path-loop-selector l =
@@ -27,3 +32,4 @@ invariant-path-loop-selector l =
     × IsLegalPath l.visible.scope l.last (selector_trees (drop l.selector-index l.selectors))
     × SelectsAll l.visible.scope l.fn.subtype (map selector_tree (take l.selector-index l.selectors)) l.last
     × KeepsFit l.visible.scope l.fn.subtype l.last
+    × IsShallow l.fn.self l.self (l.depth + selectors_peak l.visible.scope 1 (selector_trees l.selectors))

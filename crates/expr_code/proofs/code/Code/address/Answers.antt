@@ -1,9 +1,10 @@
 use Rattle.std.proofs.Common.{arith, rules}
-use Rattle.std.proofs.lemmas.Result.{IfErr-weaker, IfOk-weaker}
+use Rattle.std.proofs.lemmas.Result.{IfErr-weaker, IfOk-weaker, on_ok_weaker}
 use Rattle.ada_tree.specs.ExpressionTree.{selector_trees}
 use Rattle.expr_code.proofs.Addressing.{address_emits, ends_at}
 use Rattle.expr_code.proofs.CallsRefused.{address_refused, push_refused}
 use Rattle.expr_code.proofs.Growing.{added_here}
+use Rattle.expr_code.proofs.Shallow.{address_shallow}
 use Rattle.expr_code.proofs.code.Code.address.Goals as goal
 
 pub returns-clause-ends : goal.returns-clause-ends
@@ -27,3 +28,9 @@ returns-in_err-emit-clause-refused c =
     let whole = push_refused c.args.visible.now c.args.self.now c.args.depth c.args.subtype (selector_trees c.args.selectors.now) c.in_err-emit.field-0.0
     c.in_err-emit.ensures.refused in
     search (rules, whole)
+
+pub returns-clause-shallow : goal.returns-clause-shallow
+returns-clause-shallow c =
+    on_ok_weaker _
+    (λ p. address_shallow c.args.visible.now c.args.depth (selector_trees c.args.selectors.now) c.args.self.now c.emit.new.self c.path.new.self c.args.depth
+    (omega arith) c.in_ok-emit.ensures.adds.shallow p) c.path.ensures.shallow

@@ -14,4 +14,4 @@ returns-in_default c =
     (stands_first v.scope (number_of v.scope name.name)) refl
     (λ r u e. c.in_default.not-Part r u (c.stands_first.ensures ∙ e)) (λ u e. no_type_alone v.scope name u c.requires.legal e)
     (λ f e. c.in_default.not-Callee f (c.stands_first.ensures ∙ e)) in
-    record { width = tt; refused = begin_outside v name NoSelectors c.requires.valueless made; emits = tt }
+    record { width = tt; refused = begin_outside v name NoSelectors c.requires.valueless made; shallow = tt; emits = tt }

@@ -2,6 +2,7 @@ use Rattle.std.proofs.Common.{inr, rules, sym, ◌∙◌}
 use Rattle.types.specs.Shapes.{shapes}
 use Rattle.expr_code.proofs.FitShapes.{far_offset, no_offset}
 use Rattle.expr_code.proofs.Going.{component_goes, uncapped}
+use Rattle.expr_code.proofs.Shallow.{component_shallow}
 use Rattle.expr_code.proofs.code.Code.component.Goals as goal
 
 pub returns-clause-emits : goal.returns-clause-emits
@@ -18,3 +19,8 @@ pub returns-then-from-gt-WORDS-clause-refused : goal.returns-then-from-gt-WORDS-
 returns-then-from-gt-WORDS-clause-refused c =
     inr (inr (inr (far_offset c.args.visible.now.scope c.requires.sound c.args.subtype _ c.args.name.now.name c.in-Some.last (search rules) (search rules)
     c.in-Some-component_offset.offset (sym c.component_offset.ensures ∙ c.in-Some-component_offset.is) (search rules))))
+
+pub returns-clause-shallow : goal.returns-clause-shallow
+returns-clause-shallow c =
+    component_shallow c.args.visible.now c.args.depth c.args.name.now c.args.self.now c.emit.new.self c.emit-2.new.self _ _ c.in_ok-address.ensures.more
+    c.in_ok-above.ensures.more c.in_ok-emit.ensures.adds.shallow c.in_ok-emit-2.ensures.adds.shallow

@@ -1,9 +1,10 @@
-use Rattle.std.proofs.Common.{rules, sym, ◌∙◌, subst}
+use Rattle.std.proofs.Common.{arith, rules, sym, ◌∙◌, subst}
 use Rattle.ada_tree.specs.ExpressionTree.{Named, NoSelectors}
 use Rattle.expr_code.specs.Code.{Adds}
 use Rattle.expr_code.specs.Emitting.{EmitsExpression}
 use Rattle.expr_code.proofs.Going.{block_words}
 use Rattle.expr_code.proofs.Names.{block_emits, object_emits, one_word}
+use Rattle.expr_code.proofs.Shallow.{word_behind, word_shallow}
 use Rattle.expr_code.proofs.Widths.{object_width}
 use Rattle.expr_code.proofs.code.Code.object.Goals as goal
 
@@ -26,3 +27,17 @@ returns-in_ok-load_block-clause-emits c =
     block_emits c.quiet_stays.ensures c.args.visible.now _ _ c.args.depth c.args.name.now c.values_have_words.ensures c.requires.stands.0 c.args.subtype c.args.slot c.requires.legal c.requires.stands.1 c.requires.there
     _ _ c.words-words.result _ (search rules) c.in_ok-above.ensures.more (block_words _ _ c.words-words.ensures c.in_ok-load_block.ensures.block) c.in_ok-load_block.ensures.block c.in_ok-emit-2.ensures.adds
     c.in_ok-load_block.ensures.adds
+
+pub returns-in_ok-emit-clause-shallow : goal.returns-in_ok-emit-clause-shallow
+returns-in_ok-emit-clause-shallow c =
+    word_shallow c.args.visible.now c.args.depth (Named c.args.name.now NoSelectors) c.args.self.now c.emit.new.self c.args.depth (omega arith)
+    c.in_ok-emit.ensures.adds.shallow
+
+pub returns-in_ok-load_block-clause-shallow : goal.returns-in_ok-load_block-clause-shallow
+returns-in_ok-load_block-clause-shallow c =
+    let above = c.in_ok-above.ensures.more in
+    word_behind c.args.visible.now c.args.depth (Named c.args.name.now NoSelectors) c.args.self.now c.emit-else-words-eq1.new.self c.load_block.new.self _
+    (omega (arith, above))
+    (word_shallow c.args.visible.now c.args.depth (Named c.args.name.now NoSelectors) c.args.self.now c.emit-else-words-eq1.new.self c.args.depth (omega arith)
+    c.in_ok-emit-2.ensures.adds.shallow)
+    c.in_ok-load_block.ensures.adds.shallow

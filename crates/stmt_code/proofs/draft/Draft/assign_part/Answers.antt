@@ -1,7 +1,11 @@
-use Rattle.std.proofs.Common.{refl, sym, subst}
-use Rattle.std.proofs.lemmas.Result.{on_ok_weaker}
+use Rattle.std.proofs.Common.{◌+◌, ◌∙◌, arith, inl, refl, rules, sym, subst}
+use Rattle.std.proofs.lemmas.Result.{IfErr-weaker, on_ok_weaker}
 use Rattle.ada_tree.specs.ExpressionTree.{expr_tree, name_tree, selector_trees}
 use Rattle.expr_code.specs.Going.{EmitsAddress, EndsAt, IsLegalPath}
+use Rattle.expr_code.specs.Code.{IsShallow}
+use Rattle.expr_code.specs.Refusing.{RefusesAddress, selectors_peak}
+use Rattle.stmt_code.proofs.LeavesStay.{part_stays}
+use Rattle.stmt_code.proofs.AssignmentsRefused.{address_refuses, no_variable, none_stored_at, store_refuses, target_outside, value_refuses}
 use Rattle.stmt_code.proofs.Stored.{assigned_fit, assigned_variable}
 use Rattle.stmt_code.proofs.StoredParts.{assigned_part_emits, assigned_path, part_stands}
 use Rattle.stmt_code.proofs.draft.Draft.assign_part.Goals as goal
@@ -22,8 +26,8 @@ of_subtype-requires-clause-fit c =
     assigned_fit s name e r c.in_ok-last.last
     (part_stands s name e r c.args.subtype c.requires.stands.1 c.in_ok-last.last ends) c.requires.legal
 
-pub returns : goal.returns
-returns c =
+pub returns-clause-emits : goal.returns-clause-emits
+returns-clause-emits c =
     let v = c.args.visible.now in
     let name = name_tree c.args.name.now in
     let e = expr_tree c.args.value.now in
@@ -31,17 +35,106 @@ returns c =
     let last = c.in_ok-last.last in
     let ends = subst (λ l. EndsAt v.scope c.args.subtype (selector_trees l) last) c.deref.ensures.value c.in_ok-last.ensures.ends in
     let part = part_stands v.scope name e r c.args.subtype c.requires.stands.1 last ends in
-    record {
-      emits = λ w.
-          on_ok_weaker _
-          (λ q.
-          assigned_part_emits c.agreement_is_kept.ensures c.values_have_words.ensures c.calls_are_typed.ensures c.quiet_stays.ensures v w c.args.self.now
-          (record { code = c.emit.new.self; labels = c.args.self.now.labels; words = c.args.self.now.words }) c.address.new.self c.of_subtype.new.self name e r
-          c.args.subtype last c.args.slot c.in_ok-words.words _ c.in-Some.store c.requires.sound c.requires.stands.1
-          (assigned_variable v.scope name e r last part c.requires.legal) c.requires.there c.in_ok-words.ensures.words c.in_ok-words.ensures.block
-          (sym c.in-Some.ensures)
-          (subst (λ l. EmitsAddress v c.args.self.now.code 0 c.args.slot.offset c.args.subtype (selector_trees l) last c.address.new.self) c.deref.ensures.value
-          c.in_ok-last.ensures.emits)
-          c.in_ok-words.ensures.emits c.in_ok-raised.ensures.more q (refl, refl))
-          c.emit.ensures.adds;
-    }
+    λ w.
+    on_ok_weaker _
+    (λ q.
+    assigned_part_emits c.agreement_is_kept.ensures c.values_have_words.ensures c.calls_are_typed.ensures c.quiet_stays.ensures v w c.args.self.now
+    (record { code = c.emit.new.self; labels = c.args.self.now.labels; words = c.args.self.now.words }) c.address.new.self c.of_subtype.new.self name e r
+    c.args.subtype last c.args.slot c.in_ok-words.words _ c.in-Some.store c.requires.sound c.requires.stands.1
+    (assigned_variable v.scope name e r last part c.requires.legal) c.requires.there c.in_ok-words.ensures.words c.in_ok-words.ensures.block
+    (sym c.in-Some.ensures)
+    (subst (λ l. EmitsAddress v c.args.self.now.code 0 c.args.slot.offset c.args.subtype (selector_trees l) last c.address.new.self) c.deref.ensures.value
+    c.in_ok-last.ensures.emits)
+    c.in_ok-words.ensures.emits c.in_ok-raised.ensures.more q (refl, refl))
+    c.emit.ensures.adds
+
+pub returns-in_err-last-clause-refused : goal.returns-in_err-last-clause-refused
+returns-in_err-last-clause-refused c =
+    let v = c.args.visible.now in
+    let name = name_tree c.args.name.now in
+    let e = expr_tree c.args.value.now in
+    let r = c.requires.stands.0 in
+    let whole = address_refuses v name e c.args.self.now.code c.args.self.now.labels c.args.slot r c.args.subtype c.requires.stands.1 c.requires.there
+    c.in_err-last.field-0.0
+    (subst (λ l. RefusesAddress v c.args.self.now.code 0 c.args.subtype (selector_trees l) c.in_err-last.field-0.0) c.deref.ensures.value
+    c.in_err-last.ensures.refused) in
+    search (rules, whole)
+
+pub returns-in_err-words-clause-refused : goal.returns-in_err-words-clause-refused
+returns-in_err-words-clause-refused c =
+    let v = c.args.visible.now in
+    let name = name_tree c.args.name.now in
+    let e = expr_tree c.args.value.now in
+    let r = c.requires.stands.0 in
+    let last = c.in_ok-last.last in
+    let ends = subst (λ l. EndsAt v.scope c.args.subtype (selector_trees l) last) c.deref.ensures.value c.in_ok-last.ensures.ends in
+    let part = part_stands v.scope name e r c.args.subtype c.requires.stands.1 last ends in
+    let low = (subst (λ l. EmitsAddress v c.args.self.now.code 0 c.args.slot.offset c.args.subtype (selector_trees l) last c.address.new.self)
+    c.deref.ensures.value c.in_ok-last.ensures.emits).sized in
+    let whole = value_refuses v name e c.args.self.now.code c.args.self.now.labels c.args.slot r c.args.subtype c.requires.stands.1 c.requires.there
+    c.address.new.self 1 last c.in_err-words.field-0.0 (omega (arith, low)) (omega arith) part c.in_ok-last.ensures.fit c.in_err-words.ensures.refused in
+    search (rules, whole)
+
+pub returns-in_default-clause-refused : goal.returns-in_default-clause-refused
+returns-in_default-clause-refused c =
+    let v = c.args.visible.now in
+    let name = name_tree c.args.name.now in
+    let e = expr_tree c.args.value.now in
+    let r = c.requires.stands.0 in
+    inl (target_outside v name e (no_variable v 0 name.first name.selectors c.args.slot c.requires.there
+    (none_stored_at c.args.slot.region c.in_ok-words.words (sym c.stored_at.ensures ∙ c.in_default.is))))
+
+pub returns-in_err-raised-clause-refused : goal.returns-in_err-raised-clause-refused
+returns-in_err-raised-clause-refused c =
+    let v = c.args.visible.now in
+    let name = name_tree c.args.name.now in
+    let e = expr_tree c.args.value.now in
+    let r = c.requires.stands.0 in
+    let last = c.in_ok-last.last in
+    let ends = subst (λ l. EndsAt v.scope c.args.subtype (selector_trees l) last) c.deref.ensures.value c.in_ok-last.ensures.ends in
+    let part = part_stands v.scope name e r c.args.subtype c.requires.stands.1 last ends in
+    let low = (subst (λ l. EmitsAddress v c.args.self.now.code 0 c.args.slot.offset c.args.subtype (selector_trees l) last c.address.new.self)
+    c.deref.ensures.value c.in_ok-last.ensures.emits).sized in
+    let words = c.in_ok-words.ensures.words in
+    let whole = store_refuses v name e c.args.self.now.code c.args.self.now.labels c.args.slot r c.args.subtype c.requires.stands.1 c.requires.there
+    0 (1 + c.in_ok-words.words) last c.in_err-raised.field-0.0 (omega arith) (omega (arith, words)) part c.in_err-raised.ensures.refused in
+    search (rules, whole)
+
+pub returns-clause-refused : goal.returns-clause-refused
+returns-clause-refused c =
+    let v = c.args.visible.now in
+    let name = name_tree c.args.name.now in
+    let e = expr_tree c.args.value.now in
+    let r = c.requires.stands.0 in
+    let last = c.in_ok-last.last in
+    let ends = subst (λ l. EndsAt v.scope c.args.subtype (selector_trees l) last) c.deref.ensures.value c.in_ok-last.ensures.ends in
+    let part = part_stands v.scope name e r c.args.subtype c.requires.stands.1 last ends in
+    let low = (subst (λ l. EmitsAddress v c.args.self.now.code 0 c.args.slot.offset c.args.subtype (selector_trees l) last c.address.new.self)
+    c.deref.ensures.value c.in_ok-last.ensures.emits).sized in
+    let words = c.in_ok-words.ensures.words in
+    let more = c.in_ok-raised.ensures.more in
+    let long = c.in_ok-words.ensures.emits.sized in
+    IfErr-weaker _ _ _
+    (λ why p.
+    store_refuses v name e c.args.self.now.code c.args.self.now.labels c.args.slot r c.args.subtype c.requires.stands.1 c.requires.there
+    _ _ last why (omega (arith, low, long)) (omega (arith, words, more)) part p)
+    c.emit.ensures.refused
+
+pub returns-clause-stays : goal.returns-clause-stays
+returns-clause-stays c =
+    let v = c.args.visible.now in
+    let name = name_tree c.args.name.now in
+    let e = expr_tree c.args.value.now in
+    let r = c.requires.stands.0 in
+    let last = c.in_ok-last.last in
+    let ends = subst (λ l. EndsAt v.scope c.args.subtype (selector_trees l) last) c.deref.ensures.value c.in_ok-last.ensures.ends in
+    let part = part_stands v.scope name e r c.args.subtype c.requires.stands.1 last ends in
+    let words = c.in_ok-words.ensures.words in
+    let more = c.in_ok-raised.ensures.more in
+    on_ok_weaker _
+    (λ q.
+    part_stays v c.args.self.now name e r last part c.address.new.self c.of_subtype.new.self c.emit.new.self c.in_ok-raised.field-0
+    (subst (λ l. IsShallow c.args.self.now.code c.address.new.self (0 + selectors_peak v.scope 1 (selector_trees l))) c.deref.ensures.value
+    c.in_ok-last.ensures.shallow)
+    c.in_ok-words.ensures.shallow (omega (arith, words, more)) q.shallow)
+    c.emit.ensures.adds

@@ -1,5 +1,6 @@
 use Rattle.std.proofs.Common.{refl, rules, arith}
 use Rattle.stmt_code.proofs.PartsRefused.{first_refused, last_refused}
+use Rattle.stmt_code.proofs.PartsStay.{range_stays}
 use Rattle.ada_tree.specs.StatementTree.{range_tree}
 use Rattle.stmt_code.proofs.Bounded.{first_legal, integer_legal, integer_width, last_legal}
 use Rattle.stmt_code.proofs.draft.Draft.begin_range.Goals as goal
@@ -47,12 +48,18 @@ returns-clause-begins c = record {
 
 pub returns-in_err-of_width-clause-refused : goal.returns-in_err-of_width-clause-refused
 returns-in_err-of_width-clause-refused c =
-    let whole = first_refused c.args.visible.now c.args.self.now c.args.self.now c.args.parameter.now c.args.reversed (range_tree c.args.range.now)
+    let whole = first_refused c.args.visible.now c.args.self.now c.args.parameter.now c.args.reversed (range_tree c.args.range.now)
     c.in_err-of_width.field-0.0 c.in_err-of_width.ensures.refused in
     search (rules, whole)
 
 pub returns-in_err-of_width-2-clause-refused : goal.returns-in_err-of_width-2-clause-refused
 returns-in_err-of_width-2-clause-refused c =
-    let whole = last_refused c.args.visible.now c.args.self.now c.args.self.now c.args.parameter.now c.args.reversed (range_tree c.args.range.now)
+    let whole = last_refused c.args.visible.now c.args.self.now c.args.parameter.now c.args.reversed (range_tree c.args.range.now)
     c.in_err-of_width-2.field-0.0 c.of_width.new.self c.in_ok-of_width.ensures.emits.sized c.in_err-of_width-2.ensures.refused in
     search (rules, whole)
+
+pub returns-clause-stays : goal.returns-clause-stays
+returns-clause-stays c =
+    range_stays c.args.visible.now c.args.self.now c.args.parameter.now c.args.reversed (range_tree c.args.range.now) c.of_width.new.self c.of_width-2.new.self
+    c.begin.new.code _ _ c.take.new.self c.in_ok-of_width.ensures.shallow c.in_ok-of_width-2.ensures.shallow c.in_ok-null.ensures.begins
+    c.in_ok-counter.ensures.most

@@ -3,13 +3,20 @@ use Rattle.ada_tree.specs.StatementTree.{declaration_tree}
 use Rattle.declaring.specs.LocalRules.{local_faults}
 use Rattle.stmt_code.proofs.Declared.{all_declarations, declaration_legal, declarations_next, no_declarations}
 use Rattle.stmt_code.specs.Bounds.{local_words, locals_words}
-use Rattle.stmt_code.specs.Refusing.{local_visible, locals_visible}
+use Rattle.stmt_code.specs.Refusing.{local_visible, locals_needs, locals_visible}
 use Rattle.stmt_code.proofs.Adding.{take_all}
+use Rattle.stmt_code.proofs.LeavesStay.{locals_stay}
+use Rattle.stmt_code.proofs.Staying.{stays_self}
 use Rattle.stmt_code.proofs.Refused.{local_refuses, locals_next, words_next}
 use Rattle.stmt_code.proofs.draft.Draft.declarations.Goals as goal
 
 pub loop-declaration-init : goal.loop-declaration-init
-loop-declaration-init c = (no_declarations c.args.visible.now c.args.self.now c.requires.sound c.requires.entries, refl, omega arith)
+loop-declaration-init c = (
+  no_declarations c.args.visible.now c.args.self.now c.requires.sound c.requires.entries,
+  refl,
+  omega arith,
+  stays_self c.args.self.now (locals_needs c.args.visible.now c.args.self.now.words.taken (map declaration_tree c.args.all.now)),
+)
 
 pub declaration-requires-clause-sound : goal.declaration-requires-clause-sound
 declaration-requires-clause-sound c = c.loop-declaration.invariant.0.sound
@@ -37,7 +44,13 @@ loop-declaration-preserved c =
           c.args.all.now _ c.declaration-item.result c.loop-declaration-test.true c.declaration-item.is c.loop-declaration.invariant.0 c.in_ok-declaration.ensures.emits,
       shown,
       omega (arith, more, same, own, next),
+      locals_stay v c.loop-declaration.visible c.args.self.now c.loop-declaration.self c.declaration.new.self c.args.all.now _ c.declaration-item.result
+          c.loop-declaration-test.true c.declaration-item.is c.loop-declaration.invariant.1 c.loop-declaration.invariant.2 c.loop-declaration.invariant.3
+          c.in_ok-declaration.ensures.stays,
     )
+
+pub returns-clause-stays : goal.returns-clause-stays
+returns-clause-stays c = c.loop-declaration.invariant.3
 
 pub returns-clause-emits : goal.returns-clause-emits
 returns-clause-emits c = all_declarations c.args.visible.now c.loop-declaration.visible c.args.self.now c.loop-declaration.self c.args.all.now _ c.loop-declaration-test.false
@@ -57,7 +70,7 @@ returns-clause-taken c =
 
 pub returns-in_err-declaration-clause-refused : goal.returns-in_err-declaration-clause-refused
 returns-in_err-declaration-clause-refused c =
-    let whole = local_refuses c.args.visible.now c.loop-declaration.visible c.args.self.now c.loop-declaration.self c.declaration.new.self c.args.all.now _
+    let whole = local_refuses c.args.visible.now c.loop-declaration.visible c.args.self.now c.loop-declaration.self c.args.all.now _
     c.declaration-item.result c.in_err-declaration.field-0.0 c.loop-declaration-test.true c.declaration-item.is c.loop-declaration.invariant.1
     c.loop-declaration.invariant.2 c.loop-declaration.invariant.0.sized c.in_err-declaration.ensures.refused in
     search (rules, whole)

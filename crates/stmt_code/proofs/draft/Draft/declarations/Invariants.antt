@@ -2,7 +2,8 @@ use Rattle.std.proofs.Common.{◌≡◌, ◌+◌, map, take}
 use Rattle.ada_tree.specs.StatementTree.{declaration_tree}
 use Rattle.stmt_code.specs.Bounds.{locals_words}
 use Rattle.stmt_code.specs.Emitting.{EmitsDeclarations}
-use Rattle.stmt_code.specs.Refusing.{locals_visible}
+use Rattle.stmt_code.specs.Refusing.{locals_needs, locals_visible}
+use Rattle.stmt_code.specs.Staying.{Stays}
 use Rattle.stmt_code.proofs.draft.Draft.declarations.Given as goal
 
 abbrev pub invariant-loop-declaration : goal.invariant-loop-declaration
@@ -10,3 +11,4 @@ invariant-loop-declaration l =
     EmitsDeclarations l.fn.visible l.fn.self (map declaration_tree (take l.declaration-index l.all)) l.visible l.self
     × (l.visible ≡ locals_visible l.fn.visible l.fn.self.words.taken (map declaration_tree (take l.declaration-index l.all)))
     × (l.self.words.taken ≡ l.fn.self.words.taken + locals_words l.fn.visible.scope (map declaration_tree (take l.declaration-index l.all)))
+    × Stays l.fn.self (locals_needs l.fn.visible l.fn.self.words.taken (map declaration_tree l.all)) l.fn.self.labels l.self

@@ -5,6 +5,8 @@ use Rattle.ada_tree.specs.StatementTree.{Exit, optional_tree}
 use Rattle.stmt_code.specs.Emitting.{EmitsStatement, ways_of}
 use Rattle.expr_code.proofs.Widths.{condition_width}
 use Rattle.stmt_code.specs.Refusing.{RefusesStatement}
+use Rattle.stmt_code.specs.Staying.{StaysStatement}
+use Rattle.stmt_code.proofs.LeavesStay.{exit_stays, exit_when_stays}
 use Rattle.stmt_code.proofs.PartsRefused.{exit_refused}
 use Rattle.stmt_code.proofs.Adding.{exit_condition, exit_emits, exit_when_emits}
 use Rattle.stmt_code.proofs.draft.Draft.exit.Goals as goal
@@ -38,8 +40,25 @@ returns-in_err-of_width-in-Some-condition-clause-refused c =
     let v = c.args.visible.now in
     let w = ways_of c.args.leaving in
     let why = c.in_err-of_width-in-Some-condition.field-0.0 in
-    let whole = subst (λ x. RefusesStatement v w c.args.self.now (Exit c.args.place (optional_tree expr_tree x)) c.args.self.now why)
+    let whole = subst (λ x. RefusesStatement v w c.args.self.now (Exit c.args.place (optional_tree expr_tree x)) why)
     (sym c.in-Some-condition.is)
-    (exit_refused v w c.args.self.now c.args.self.now why c.args.place (expr_tree c.in-Some-condition.condition)
+    (exit_refused v w c.args.self.now why c.args.place (expr_tree c.in-Some-condition.condition)
     c.in_err-of_width-in-Some-condition.ensures.refused) in
     search (rules, whole)
+
+pub returns-in-None-clause-stays : goal.returns-in-None-clause-stays
+returns-in-None-clause-stays c = on_ok_weaker _
+    (λ q.
+    subst (λ x. StaysStatement c.args.visible.now (ways_of c.args.leaving) c.args.self.now (Exit c.args.place (optional_tree expr_tree x))
+    (record { code = c.emit.new.self; labels = c.args.self.now.labels; words = c.args.self.now.words })) (sym c.in-None.is)
+    (exit_stays c.args.visible.now (ways_of c.args.leaving) c.args.self.now c.args.place c.emit.new.self q.shallow))
+    c.emit.ensures.adds
+
+pub returns-in_ok-of_width-in-Some-condition-clause-stays : goal.returns-in_ok-of_width-in-Some-condition-clause-stays
+returns-in_ok-of_width-in-Some-condition-clause-stays c = on_ok_weaker _
+    (λ q.
+    subst (λ x. StaysStatement c.args.visible.now (ways_of c.args.leaving) c.args.self.now (Exit c.args.place (optional_tree expr_tree x))
+    (record { code = c.emit-in-Some-condition.new.self; labels = c.args.self.now.labels; words = c.args.self.now.words })) (sym c.in-Some-condition.is)
+    (exit_when_stays c.args.visible.now (ways_of c.args.leaving) c.args.self.now c.args.place (expr_tree c.in-Some-condition.condition) c.of_width.new.self
+    c.emit-in-Some-condition.new.self c.in_ok-of_width-in-Some-condition.ensures.shallow q.shallow))
+    c.emit-in-Some-condition.ensures.adds

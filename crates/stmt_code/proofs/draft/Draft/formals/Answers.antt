@@ -23,3 +23,9 @@ returns-clause-places c =
       slots = c.in_ok-show.ensures.slots ∙ ap (λ l. v.slots ++ map slot_for l) c.deref.ensures.value;
       subprograms = c.in_ok-show.ensures.subprograms ∙ ap (λ l. v.subprograms ++ map no_subprogram l) c.deref.ensures.value;
     }
+
+pub returns-clause-most : goal.returns-clause-most
+returns-clause-most c =
+    let taken = c.new-words.ensures.taken in
+    let most = c.new-words.ensures.most in
+    c.in_ok-placed.ensures.same (c.in_ok-take_passed.ensures.same (omega (arith, taken, most)))

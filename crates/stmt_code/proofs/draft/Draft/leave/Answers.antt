@@ -3,7 +3,9 @@ use Rattle.std.proofs.lemmas.Result.{on_ok_weaker}
 use Rattle.ada_tree.specs.ExpressionTree.{expr_tree}
 use Rattle.ada_tree.specs.StatementTree.{Return, optional_tree}
 use Rattle.stmt_code.specs.Emitting.{EmitsStatement, ways_of}
+use Rattle.stmt_code.specs.Staying.{StaysStatement}
 use Rattle.stmt_code.proofs.Adding.{return_emits}
+use Rattle.stmt_code.proofs.LeavesStay.{return_stays}
 use Rattle.stmt_code.proofs.draft.Draft.leave.Goals as goal
 
 pub returns-in-Some-None-clause-emits : goal.returns-in-Some-None-clause-emits
@@ -13,4 +15,12 @@ returns-in-Some-None-clause-emits c = on_ok_weaker _
     (record { code = c.emit.new.self; labels = c.args.self.now.labels; words = c.args.self.now.words })) (sym c.in-Some-None.is-1)
     (return_emits c.args.visible.now (ways_of c.args.leaving) c.args.self.now (record { code = c.emit.new.self; labels = c.args.self.now.labels; words = c.args.self.now.words }) c.args.place
     c.in-Some-None.end c.in-Some-None.is-0 q (refl, refl)))
+    c.emit.ensures.adds
+
+pub returns-in-Some-None-clause-stays : goal.returns-in-Some-None-clause-stays
+returns-in-Some-None-clause-stays c = on_ok_weaker _
+    (λ q.
+    subst (λ x. StaysStatement c.args.visible.now (ways_of c.args.leaving) c.args.self.now (Return c.args.place (optional_tree expr_tree x))
+    (record { code = c.emit.new.self; labels = c.args.self.now.labels; words = c.args.self.now.words })) (sym c.in-Some-None.is-1)
+    (return_stays c.args.visible.now (ways_of c.args.leaving) c.args.self.now c.args.place c.emit.new.self q.shallow))
     c.emit.ensures.adds

@@ -1,6 +1,7 @@
 use Rattle.std.proofs.Common.{refl, sym}
 use Rattle.ada_tree.specs.StatementTree.{object_tree}
 use Rattle.stmt_code.proofs.Declared.{initial_fit, object_emits, takes_words}
+use Rattle.stmt_code.proofs.LeavesStay.{object_stays}
 use Rattle.stmt_code.proofs.draft.Draft.object.Goals as goal
 
 pub add_object-requires-clause-fit : goal.add_object-requires-clause-fit
@@ -16,3 +17,8 @@ returns-clause-emits c = object_emits c.agreement_is_kept.ensures c.values_have_
     (takes_words c.args.self.now.words c.take.new.self _ _ c.words.ensures c.in_ok-first.ensures.takes c.in_ok-first.ensures.within)
     c.in_ok-first.ensures.first refl c.in_ok-declare_local_object.ensures.ok c.in_ok-push.ensures.pushed
     c.in_ok-push-2.ensures.pushed
+
+pub returns-clause-stays : goal.returns-clause-stays
+returns-clause-stays c =
+    object_stays c.args.visible.now c.args.self.now (object_tree c.args.object.now) c.in-Some.subtype _ c.add_object.new.code c.take.new.self
+    (sym c.in-Some.ensures) c.words.ensures c.in_ok-first.ensures.most c.in_ok-add_object.ensures.shallow

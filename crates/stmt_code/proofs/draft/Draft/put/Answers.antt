@@ -1,7 +1,8 @@
 use Rattle.std.proofs.Common.{refl, rules, sym}
 use Rattle.stmt_code.specs.Emitting.{no_ways}
-use Rattle.stmt_code.proofs.PartsRefused.{line_refused}
-use Rattle.std.proofs.lemmas.Result.{on_ok_weaker}
+use Rattle.stmt_code.proofs.LeavesStay.{line_stays}
+use Rattle.stmt_code.proofs.PartsRefused.{labels_refused, line_refused, written_refused}
+use Rattle.std.proofs.lemmas.Result.{IfErr-weaker, on_ok_weaker}
 use Rattle.ada_tree.specs.ExpressionTree.{expr_tree, name_tree}
 use Rattle.types.specs.Scopes.{integer_type}
 use Rattle.expr_rules.specs.declared.own.Wanted.TheVariants.{OfType}
@@ -34,6 +35,30 @@ returns-in_ok-number-in-Some-clause-emits c = λ w.
 
 pub returns-in_err-of_width-in-Some-clause-refused : goal.returns-in_err-of_width-in-Some-clause-refused
 returns-in_err-of_width-in-Some-clause-refused c =
-    let whole = line_refused c.args.visible.now no_ways c.args.self.now c.args.self.now c.in_err-of_width-in-Some.field-0.0 (name_tree c.args.name.now)
+    let whole = line_refused c.args.visible.now no_ways c.args.self.now c.in_err-of_width-in-Some.field-0.0 (name_tree c.args.name.now)
     (record { label = c.in-Some.label.now; value = expr_tree c.in-Some.value.now }) (sym c.in-Some.ensures) c.in_err-of_width-in-Some.ensures.refused in
     search (rules, whole)
+
+pub returns-in_ok-number-in-Some-clause-stays : goal.returns-in_ok-number-in-Some-clause-stays
+returns-in_ok-number-in-Some-clause-stays c =
+    on_ok_weaker _
+    (λ q.
+    line_stays c.args.visible.now c.args.self.now (name_tree c.args.name.now) (record { label = c.in-Some.label.now; value = expr_tree c.in-Some.value.now })
+    c.of_width.new.self c.emit.new.self c.number.new.self (sym c.in-Some.ensures) c.in_ok-of_width-in-Some.ensures.shallow q.shallow
+    c.in_ok-number-in-Some.ensures.labels)
+    c.emit.ensures.adds
+
+pub returns-in_err-number-in-Some-clause-refused : goal.returns-in_err-number-in-Some-clause-refused
+returns-in_err-number-in-Some-clause-refused c =
+    let whole = labels_refused c.args.visible.now no_ways c.args.self.now c.in_err-number-in-Some.field-0.0 (name_tree c.args.name.now)
+    (record { label = c.in-Some.label.now; value = expr_tree c.in-Some.value.now }) (sym c.in-Some.ensures) c.in_err-number-in-Some.ensures.refused in
+    search (rules, whole)
+
+pub returns-in_ok-number-in-Some-clause-refused : goal.returns-in_ok-number-in-Some-clause-refused
+returns-in_ok-number-in-Some-clause-refused c =
+    let long = c.in_ok-of_width-in-Some.ensures.emits.sized in
+    IfErr-weaker _ _ _
+    (λ why r.
+    written_refused c.args.visible.now no_ways c.args.self.now why (name_tree c.args.name.now)
+    (record { label = c.in-Some.label.now; value = expr_tree c.in-Some.value.now }) (sym c.in-Some.ensures) c.of_width.new.self long r)
+    c.emit.ensures.refused

@@ -5,7 +5,9 @@ use Rattle.expr_code.specs.Code.{Patches}
 use Rattle.stmt_code.specs.declared.draft.Draft.{Draft}
 use Rattle.stmt_code.specs.Bounds.{stmts_bound}
 use Rattle.stmt_code.proofs.PartsRefused.{begun_here, run_body_refused, run_locals_refused, run_refused}
+use Rattle.stmt_code.proofs.PartsStay.{begun_shallow, run_stays}
 use Rattle.stmt_code.proofs.Running.{run_emits}
+use Rattle.stmt_code.proofs.Staying.{stays_words}
 use Rattle.stmt_code.proofs.draft.Draft.run.Goals as goal
 
 pub returns-clause-emits : goal.returns-clause-emits
@@ -31,14 +33,14 @@ returns-clause-same c =
 
 pub returns-in_err-declarations-clause-refused : goal.returns-in_err-declarations-clause-refused
 returns-in_err-declarations-clause-refused c =
-    let whole = run_locals_refused c.args.visible.now c.args.self.now c.declarations.new.self c.in_err-declarations.field-0.0
+    let whole = run_locals_refused c.args.visible.now c.args.self.now c.in_err-declarations.field-0.0
     (map declaration_tree c.args.declarations.now) (stmt_trees c.args.statements.now) c.in_err-declarations.ensures.refused in
     search (rules, whole)
 
 pub returns-in_err-head-clause-refused : goal.returns-in_err-head-clause-refused
 returns-in_err-head-clause-refused c =
     let one = c.in_ok-declarations.ensures.emits.sized in
-    let whole = run_refused c.args.visible.now c.args.self.now c.declarations.new.self c.in_err-head.field-0.0
+    let whole = run_refused c.args.visible.now c.args.self.now c.in_err-head.field-0.0
     (map declaration_tree c.args.declarations.now) (stmt_trees c.args.statements.now) _ (omega (arith, one)) c.in_err-head.ensures.refused in
     search (rules, whole)
 
@@ -48,9 +50,10 @@ returns-in_err-statements-clause-refused c =
     let one = declared.sized in
     let two = begun_here _ _ c.in_ok-head.ensures.begins in
     let begun : Draft = record { code = c.begin_loop.new.code; labels = c.declarations.new.self.labels; words = c.declarations.new.self.words } in
-    let whole = run_body_refused c.args.visible.now c.args.self.now c.statements.new.self c.in_err-statements.field-0.0
+    let whole = run_body_refused c.args.visible.now c.args.self.now c.in_err-statements.field-0.0
     (map declaration_tree c.args.declarations.now) (stmt_trees c.args.statements.now) c.declarations.new.visible c.in_ok-head.head.exit begun
-    c.in_ok-declarations.ensures.shown declared.scope c.in_ok-declarations.ensures.taken (omega (arith, one, two)) c.in_err-statements.ensures.refused in
+    c.in_ok-declarations.ensures.shown declared.scope c.in_ok-declarations.ensures.taken c.in_ok-declarations.ensures.stays.labels
+    (omega (arith, one, two)) c.in_err-statements.ensures.refused in
     search (rules, whole)
 
 pub returns-in_err-end-clause-refused : goal.returns-in_err-end-clause-refused
@@ -60,6 +63,18 @@ returns-in_err-end-clause-refused c =
     let two = begun_here _ _ c.in_ok-head.ensures.begins in
     let three = c.in_ok-statements.ensures.emits.sized in
     let inner = ap (λ s. stmts_bound s (stmt_trees c.args.statements.now)) declared.scope in
-    let whole = run_refused c.args.visible.now c.args.self.now c.statements.new.self c.in_err-end.field-0.0
+    let whole = run_refused c.args.visible.now c.args.self.now c.in_err-end.field-0.0
     (map declaration_tree c.args.declarations.now) (stmt_trees c.args.statements.now) _ (omega (arith, one, two, three, inner)) c.in_err-end.ensures.refused in
     search (rules, whole)
+
+pub returns-clause-stays : goal.returns-clause-stays
+returns-clause-stays c =
+    let begun : Draft = record { code = c.begin_loop.new.code; labels = c.declarations.new.self.labels; words = c.declarations.new.self.words } in
+    let patches : Patches c.statements.new.self.code c.in_ok-head.head.exit (op.Jump c.in_ok-end.end) c.patch.new.self =
+    subst (λ n. Patches c.statements.new.self.code n (op.Jump c.in_ok-end.end) c.patch.new.self) c.from.ensures c.patch.ensures.patches in
+    stays_words c.args.self.now _ _ (record { code = c.patch.new.self; labels = c.statements.new.self.labels; words = c.statements.new.self.words }) _
+    (c.restore.ensures.words ∙ ap (λ n. record c.statements.new.self.words { taken = n }) c.of-extent.ensures.taken)
+    (run_stays c.args.visible.now c.args.self.now (map declaration_tree c.args.declarations.now) (stmt_trees c.args.statements.now) c.declarations.new.visible
+    c.in_ok-head.head.exit c.declarations.new.self c.begin_loop.new.code c.statements.new.self c.patch.new.self c.in_ok-declarations.ensures.shown
+    c.in_ok-declarations.ensures.taken c.in_ok-declarations.ensures.stays (begun_shallow _ _ c.in_ok-head.ensures.begins)
+    c.in_ok-statements.ensures.stays patches.deepest)

@@ -1,0 +1,200 @@
+-- Statements without others within, and declarations, stay within bounds.
+use Rattle.std.proofs.Common.{◌≡◌, ◌≤◌, ◌<◌, ◌+◌, ◌∷◌, ℕ, suc, List, [], length, map, take, ℤ, Bool, true, Option, Some, None, refl, sym, ap, ◌∙◌, subst, arith}
+use Rattle.std.specs.Prelude.{get_or, is_some, max, not}
+use Rattle.std.proofs.Math.Nat.{le-max_left, le-max_right}
+use Rattle.ada_tree.specs.declared.declaration.Declaration.{Declaration}
+use Rattle.ada_tree.specs.ExpressionTree.{ExprTree, NameTree}
+use Rattle.ada_tree.specs.StatementTree.{Call, DeclarationTree, Exit, LocalObject, ObjectTree, Return, declaration_tree}
+use Rattle.image.specs.declared.instruction.Operation.TheVariants as op
+use Rattle.types.specs.declared.entity.Role.{Role}
+use Rattle.types.specs.declared.entity.Subtype.{Subtype}
+use Rattle.types.specs.declared.standing.Standing.TheVariants as standing
+use Rattle.types.specs.Laws.{InitialValuesHaveShape, ValuesHaveWords}
+use Rattle.types.specs.Layouts.{capped, words_of}
+use Rattle.types.specs.Shapes.{initial, shape_of, value_words}
+use Rattle.types.specs.Standings.{standing_of}
+use Rattle.type_rules.specs.SubtypeNames.{subtype_of}
+use Rattle.sound_steps.specs.Fitting.{entity_named}
+use Rattle.expr_code.specs.Code.{Adds, IsShallow}
+use Rattle.expr_code.specs.Refusing.{checked_peak, peak, selectors_peak}
+use Rattle.expr_code.specs.declared.code.Code.{Code}
+use Rattle.expr_code.specs.declared.visible.Visible.{Visible}
+use Rattle.expr_code.proofs.Refusals.{peak_some}
+use Rattle.expr_code.proofs.Shallow.{shallow_as, shallow_more, shallow_next, shallow_self, shallow_then}
+use Rattle.stmt_code.specs.Bounds.{locals_words}
+use Rattle.stmt_code.specs.Emitting.{Pushes}
+use Rattle.stmt_code.specs.Labels.{stmt_labels, with_label, with_line}
+use Rattle.stmt_code.specs.Lines.{Line, is_put, line_of}
+use Rattle.stmt_code.specs.Refusing.{Needs, address_needs, around, assigned_needs, stored_needs, beyond_if, both, framed, initial_needs, line_needs, local_needs, local_visible, locals_needs, locals_visible, needs_if_any, nothing, object_needs, put_needs, single_needs, value_needs, words_at}
+use Rattle.stmt_code.specs.Statements.{Ways}
+use Rattle.stmt_code.specs.Staying.{Stays, StaysDeclarations, StaysStatement}
+use Rattle.stmt_code.specs.declared.draft.Draft.{Draft}
+use Rattle.stmt_code.specs.declared.draft.FrameWords.{FrameWords}
+use Rattle.stmt_code.proofs.PartsStay.{stays_taken}
+use Rattle.stmt_code.proofs.Refused.{Within, in_left, in_right, locals_among, none_within, of_right, within_self}
+use Rattle.stmt_code.proofs.Staying.{coded, stays_as, stays_code, stays_more, stays_self, stays_then}
+
+-- ---- ways out
+
+pub exit_stays : (v : Visible) (w : Ways) (old : Draft) (place : ℕ) (a : Code) → IsShallow old.code a 0 → StaysStatement v w old (Exit place None) (coded old a)
+exit_stays v w old place a p =
+    let n = both (beyond_if (not (is_some w.exit))) nothing in
+    stays_code old old n old.labels a 0 (omega arith) p (stays_self old n)
+
+pub exit_when_stays : (v : Visible) (w : Ways) (old : Draft) (place : ℕ) (e : ExprTree) (a b : Code) → IsShallow old.code a (0 + peak v.scope e)
+    → IsShallow a b 1 → StaysStatement v w old (Exit place (Some e)) (coded old b)
+exit_when_stays v w old place e a b p q =
+    let test = beyond_if (not (is_some w.exit)) in
+    let value = value_needs v e in
+    let n = both test value in
+    let high = (in_right test value).stack in
+    let some = peak_some v.scope e in
+    stays_code old (coded old a) n old.labels b 1 (omega (arith, some, high)) q
+    (stays_code old old n old.labels a (0 + peak v.scope e) (omega (arith, high)) p (stays_self old n))
+
+pub return_stays : (v : Visible) (w : Ways) (old : Draft) (place : ℕ) (a : Code) → IsShallow old.code a 0 → StaysStatement v w old (Return place None) (coded old a)
+return_stays v w old place a p = stays_code old old (beyond_if (not (is_some w.return))) old.labels a 0 (omega arith) p (stays_self old (beyond_if (not (is_some w.return))))
+
+-- ---- lines
+
+pub line_stays : (v : Visible) (old : Draft) (name : NameTree) (line : Line) (a b : Code) (labels : List (List ℕ)) → line_of name ≡ Some line
+    → IsShallow old.code a (0 + peak v.scope line.value) → IsShallow a b 1 → labels ≡ with_label old.labels line.label
+    → Stays old (put_needs v name) (stmt_labels old.labels (Call name)) (record { code = b; labels = labels; words = old.words })
+line_stays v old name line a b labels is p q told =
+    let test = beyond_if (not (is_put (entity_named v.scope name.first.name))) in
+    let n = put_needs v name in
+    let value = value_needs v line.value in
+    let within = of_right value test (line_needs v (line_of name)) (subst (λ o. Within value (line_needs v o)) (sym is) (within_self value)) in
+    let high = within.stack in
+    let some = peak_some v.scope line.value in
+    let code = stays_code old (coded old a) n old.labels b 1 (omega (arith, some, high)) q
+    (stays_code old old n old.labels a (0 + peak v.scope line.value) (omega (arith, high)) p (stays_self old n)) in
+    record { labels = told ∙ sym (ap (with_line old.labels) is); stack = code.stack; frame = code.frame }
+
+-- ---- assignments
+
+module _ (v : Visible) (old : Draft) (name : NameTree) (e : ExprTree) (r : Role) (last : Subtype) (reached : standing_of v.scope name.first name.selectors ≡ standing.Part r last) where
+  abbrev needs : Needs
+  needs = stored_needs v name e
+
+  in_value : (h a c p : ℕ) → h ≤ suc (max a c) → h ≤ max p (suc (max a c))
+  in_value h a c p up = omega (arith, up)
+
+  value_high : (d : ℕ) → d ≤ 1 → d + checked_peak (peak v.scope e) ≤ needs.stack
+  value_high d up =
+      in_value (d + checked_peak (peak v.scope e)) (words_at v.scope (standing_of v.scope name.first name.selectors)) (checked_peak (peak v.scope e))
+      (address_needs 0 v name.first name.selectors).stack
+      (most (words_at v.scope (standing_of v.scope name.first name.selectors)) (checked_peak (peak v.scope e)))
+    where
+      most : (a c : ℕ) → d + c ≤ suc (max a c)
+      most a c = omega (arith, up)
+
+  store_high : (h : ℕ) → h ≤ suc (words_of v.scope last) → h ≤ needs.stack
+  store_high h up =
+      in_value h (words_at v.scope (standing_of v.scope name.first name.selectors)) (checked_peak (peak v.scope e))
+      (address_needs 0 v name.first name.selectors).stack
+      (most (words_at v.scope (standing_of v.scope name.first name.selectors)) (checked_peak (peak v.scope e)) (ap (words_at v.scope) reached))
+    where
+      most : (a c : ℕ) → a ≡ words_of v.scope last → h ≤ suc (max a c)
+      most a c same = omega (arith, up, same)
+
+  pub word_stays : (a b : Code) → IsShallow old.code a (0 + checked_peak (peak v.scope e)) → IsShallow a b 1 → Stays old needs old.labels (coded old b)
+  word_stays a b p q =
+      stays_code old (coded old a) needs old.labels b 1 (store_high 1 (omega arith)) q
+      (stays_code old old needs old.labels a (0 + checked_peak (peak v.scope e)) (value_high 0 (omega arith)) p (stays_self old needs))
+
+  pub part_stays : (a b c : Code) (h : ℕ) → IsShallow old.code a (0 + selectors_peak v.scope 1 name.selectors)
+      → IsShallow a b (1 + checked_peak (peak v.scope e)) → h ≤ suc (words_of v.scope last) → IsShallow b c h → Stays old needs old.labels (coded old c)
+  part_stays a b c h p q high s =
+      let target = address_needs 0 v name.first name.selectors in
+      let low = le-max_left target.stack (assigned_needs v (standing_of v.scope name.first name.selectors) e).stack in
+      stays_code old (coded old b) needs old.labels c h (store_high h high) s
+      (stays_code old (coded old a) needs old.labels b (1 + checked_peak (peak v.scope e)) (value_high 1 (omega arith)) q
+      (stays_code old old needs old.labels a (0 + selectors_peak v.scope 1 name.selectors) low p (stays_self old needs)))
+
+-- ---- initial values
+
+module _ (v : Visible) (t : Subtype) where
+  pub single_none : (o : Option ExprTree) (x y : ℕ) → o ≡ None → y ≤ max x 0 → y ≤ max x (single_needs v t o).stack
+  single_none o x y is p = subst (λ q. y ≤ max x (single_needs v t q).stack) (sym is) (more x y p)
+    where
+      more : (i j : ℕ) → j ≤ max i 0 → j ≤ max i 1
+      more i j h = omega (arith, h)
+
+  pub single_some : (e : ExprTree) (a b : Code) → IsShallow a b (0 + checked_peak (peak v.scope e)) → IsShallow a b (single_needs v t (Some e)).stack
+  single_some e a b p = shallow_more a b (0 + checked_peak (peak v.scope e)) (checked_peak (peak v.scope e)) (omega arith) p
+
+  pub several_some : (e : ExprTree) (a b : Code) → IsShallow a b (1 + checked_peak (peak v.scope e)) → IsShallow a b (initial_needs v t (Some e)).stack
+  several_some e a b p =
+      shallow_more a b (1 + checked_peak (peak v.scope e)) (suc (max (words_of v.scope t) (checked_peak (peak v.scope e))))
+      (more (words_of v.scope t) (checked_peak (peak v.scope e))) p
+    where
+      more : (w c : ℕ) → 1 + c ≤ suc (max w c)
+      more w c = omega arith
+
+  -- a single word is stored above nothing
+  pub word_stored : (o : Option ExprTree) (a b c : Code) → IsShallow a b (single_needs v t o).stack → IsShallow b c 1 → IsShallow a c (single_needs v t o).stack
+  word_stored None a b c p q = shallow_then a b c 1 p q
+  word_stored (Some e) a b c p q = shallow_next a b c 1 (checked_peak (peak v.scope e)) (least (peak v.scope e)) p q
+    where
+      least : (k : ℕ) → 1 ≤ max 3 k
+      least k = omega arith
+
+  -- ... several above their address
+  pub words_stored : (o : Option ExprTree) (a b c d : Code) (h : ℕ) → IsShallow a b 0 → IsShallow b c (initial_needs v t o).stack
+      → h ≤ 1 + words_of v.scope t → IsShallow c d h → IsShallow a d (initial_needs v t o).stack
+  words_stored None a b c d h p q high r =
+      shallow_next a c d h (suc (words_of v.scope t)) (omega (arith, high))
+      (shallow_then a b c (suc (words_of v.scope t)) (shallow_more a b 0 (suc (words_of v.scope t)) (omega arith) p) q) r
+  words_stored (Some e) a b c d h p q high r =
+      let n = suc (max (words_of v.scope t) (checked_peak (peak v.scope e))) in
+      let up = le-max_left (words_of v.scope t) (checked_peak (peak v.scope e)) in
+      shallow_next a c d h n (omega (arith, high, up)) (shallow_then a b c n (shallow_more a b 0 n (omega arith) p) q) r
+
+  -- of one word they are those of its place
+  pub single_stored : (o : Option ExprTree) (a b : Code) → IsShallow a b (single_needs v t o).stack → IsShallow a b (initial_needs v t o).stack
+  single_stored None a b p = shallow_more a b 1 (suc (words_of v.scope t)) (omega arith) p
+  single_stored (Some e) a b p =
+      let up = le-max_right (words_of v.scope t) (checked_peak (peak v.scope e)) in
+      shallow_more a b (checked_peak (peak v.scope e)) (suc (max (words_of v.scope t) (checked_peak (peak v.scope e)))) (omega (arith, up)) p
+
+  pushes_shallow : (old : Code) (height : ℕ) (ws : List ℤ) (new : Code) (n : ℕ) → height + length ws ≤ n → Pushes old height ws new → IsShallow old new n
+  pushes_shallow old height [] new n up same = shallow_as old old new n (ap (λ c. c.deepest) (sym same)) (shallow_self old n)
+  pushes_shallow old height (x ∷ ws) new n up (next, adds, rest) =
+      shallow_then old next new n (shallow_more old next height n (omega (arith, up)) adds.shallow) (pushes_shallow next (height + 1) ws new n (omega (arith, up)) rest)
+
+  pub pushed_stored : ValuesHaveWords → InitialValuesHaveShape → (o : Option ExprTree) (a b : Code) → o ≡ None
+      → Pushes a 1 (value_words (initial v.scope t)) b → IsShallow a b (initial_needs v t o).stack
+  pushed_stored sized shaped o a b is p =
+      let wide = (sized (shape_of v.scope t) (initial v.scope t) (shaped (shape_of v.scope t))).sized in
+      subst (λ q. IsShallow a b (initial_needs v t q).stack) (sym is)
+      (pushes_shallow a 1 (value_words (initial v.scope t)) b (suc (words_of v.scope t)) (omega (arith, wide)) p)
+
+-- ---- declarations
+
+pub object_stays : (v : Visible) (old : Draft) (d : ObjectTree) (t : Subtype) (told : ℕ) (a : Code) (words : FrameWords) → subtype_of v.scope d.subtype ≡ Some t
+    → told ≡ capped (words_of v.scope t) → words.most ≡ max old.words.most (old.words.taken + told) → IsShallow old.code a (initial_needs v t d.value).stack
+    → StaysDeclarations v old (LocalObject d ∷ []) (record { code = a; labels = old.labels; words = words })
+object_stays v old d t told a words named is most p =
+    let own = initial_needs v t d.value in
+    let frame = framed (old.words.taken + words_of v.scope t) in
+    let one = both frame own in
+    let n = both one nothing in
+    let stays = stays_code old (record { code = old.code; labels = old.labels; words = words }) n old.labels a own.stack
+    (let x = (in_right frame own).stack in let y = (in_left one nothing).stack in omega (arith, x, y)) p
+    (stays_taken old old n old.labels words (old.words.taken + told) most
+    (let x = (in_left frame own).frame in let y = (in_left one nothing).frame in omega (arith, is, x, y)) (stays_self old n)) in
+    subst (λ o. Stays old (both (object_needs v old.words.taken o d.value) nothing) old.labels (record { code = a; labels = old.labels; words = words })) (sym named) stays
+
+pub locals_stay : (v later : Visible) (old mid new : Draft) (all : List Declaration) (n : ℕ) (x : Declaration) → n < length all → x ≡ get_or all n x
+    → later ≡ locals_visible v old.words.taken (map declaration_tree (take n all))
+    → mid.words.taken ≡ old.words.taken + locals_words v.scope (map declaration_tree (take n all))
+    → Stays old (locals_needs v old.words.taken (map declaration_tree all)) old.labels mid → StaysDeclarations later mid (declaration_tree x ∷ []) new
+    → Stays old (locals_needs v old.words.taken (map declaration_tree all)) old.labels new
+locals_stay v later old mid new all n x less is seen same p q =
+    let whole = locals_needs v old.words.taken (map declaration_tree all) in
+    let among = (locals_among v old.words.taken all n x less is).1 in
+    let inner = subst (λ y. Within (locals_needs y (old.words.taken + locals_words v.scope (map declaration_tree (take n all))) (declaration_tree x ∷ [])) whole)
+    (sym seen) among in
+    stays_then old mid new whole (locals_needs later mid.words.taken (declaration_tree x ∷ [])) old.labels (λ l. l)
+    (subst (λ k. Within (locals_needs later k (declaration_tree x ∷ [])) whole) (sym same) inner) p q

@@ -1,0 +1,312 @@
+-- What refuses the code of whole procedures and functions: of their parameters, of their parts, and of a frame with its operand stack.
+use Rattle.std.proofs.Common.{◌≡◌, ◌≤◌, ◌<◌, ◌+◌, ◌*◌, ◌∷◌, ◌⊎◌, inl, inr, ℕ, zero, suc, List, [], drop, length, Bool, true, false, ◌||◌, not, None, refl, sym, ap, ◌∙◌, subst, arith}
+use Rattle.std.specs.Prelude.{get_or, max}
+use Rattle.std.proofs.lemmas.List.{at_drop_more}
+use Rattle.ada_tree.specs.declared.declaration.Formal.{Formal}
+use Rattle.ada_tree.specs.declared.declaration.Mode.{Mode}
+use Rattle.ada_tree.specs.declared.declaration.Mode.TheVariants as mode
+use Rattle.ada_tree.specs.declared.statement.Handler.{Handler}
+use Rattle.ada_tree.specs.ExpressionTree.{ExprTree}
+use Rattle.ada_tree.specs.ProgramTree.{BodyTree}
+use Rattle.ada_tree.specs.Size.{body_size, expr_size, stmts_size, total}
+use Rattle.ada_tree.specs.StatementTree.{HandlerTrees, handler_trees}
+use Rattle.types.specs.declared.entity.Subtype.{Subtype}
+use Rattle.types.specs.Layouts.{words_of}
+use Rattle.types.specs.Scopes.{Scope}
+use Rattle.declaring.specs.LocalRules.{locals_scope}
+use Rattle.meaning.specs.Calls.{is_out}
+use Rattle.expr_code.specs.Code.{IsShallow, here}
+use Rattle.expr_code.specs.Refusing.{HasUnfitObject, IsRefused, RefusesChecked, checked_peak, is_outside, is_passable, peak}
+use Rattle.expr_code.specs.declared.code.Code.{Code}
+use Rattle.expr_code.specs.declared.refusal.Refusal.{Refusal}
+use Rattle.expr_code.specs.declared.visible.Visible.{Visible}
+use Rattle.expr_code.proofs.Refusals.{or_left}
+use Rattle.expr_code.proofs.Shallow.{shallow_as, shallow_more, shallow_next}
+use Rattle.stmt_code.specs.Bounds.{formals_words, function_bound, locals_words, procedure_bound, run_bound, stmts_words}
+use Rattle.stmt_code.specs.Formals.{Initialises, PlacesFormals, placed_words}
+use Rattle.stmt_code.specs.Labels.{stmts_labels}
+use Rattle.stmt_code.specs.Refusing.{HasManyLabels, IsNeeding, Needs, RefusesFormals, RefusesOuts, RefusesReturned, RefusesRun, all_given, both, formals_frame, formals_needs, handlers_needs, initial_needs, nothing, out_needs, outs_needs, run_needs, stacked}
+use Rattle.stmt_code.specs.Staying.{Stays, StaysRun}
+use Rattle.stmt_code.specs.WholeRefusals.{RefusesFunction, RefusesProcedure, body_labels, formals_placed, formals_visible, function_needs, inside_needs, procedure_needs, returned_needs, together}
+use Rattle.stmt_code.specs.declared.draft.Draft.{Draft}
+use Rattle.stmt_code.specs.declared.draft.FrameWords.{FrameWords}
+use Rattle.stmt_code.specs.declared.formals.PlacedFormal.{PlacedFormal}
+use Rattle.stmt_code.specs.declared.formals.PlacedFormals.{PlacedFormals}
+use Rattle.stmt_code.proofs.FormalWords.{placed_long}
+use Rattle.stmt_code.proofs.Refused.{Within, code_refused, in_left, in_right, labelled, needing_refused, of_right, plain_needing, unfit_there, within_then}
+use Rattle.stmt_code.proofs.WholeBounds.{formals_total}
+use Rattle.stmt_code.proofs.WholePlaces.{items_are, later_is, taken_is}
+
+together_within : (n : Needs) → Within n (together n)
+together_within n = record { stack = omega arith; frame = omega arith; unfit = λ h. h; outside = λ h. h }
+
+over : (p k l : ℕ) → p ≤ k → p ≤ max k l
+over p k l h = omega (arith, h)
+
+-- ---- procedures
+
+module _ (v : Visible) (fs : List Formal) (b : BodyTree) where
+  abbrev inner : Visible
+  inner = formals_visible v fs
+
+  abbrev xs : List PlacedFormal
+  xs = formals_placed v.scope fs
+
+  abbrev frame : ℕ
+  frame = formals_frame v.scope fs
+
+  abbrev handled : Needs
+  handled = handlers_needs b.handlers
+
+  abbrev formal : Needs
+  formal = formals_needs v.scope fs
+
+  abbrev first : Needs
+  first = outs_needs inner xs
+
+  abbrev runs : Needs
+  runs = run_needs inner frame b.declarations b.statements
+
+  abbrev given : Needs
+  given = stacked (all_given inner.scope xs)
+
+  abbrev inside : Needs
+  inside = inside_needs inner xs frame b
+
+  abbrev parts : Needs
+  parts = both handled (both formal inside)
+
+  abbrev whole : Needs
+  whole = procedure_needs v fs b
+
+  part_in : (m : Needs) → Within m inside → Within m parts
+  part_in m p = of_right m handled (both formal inside) (of_right m formal inside p)
+
+  formal_in : Within formal parts
+  formal_in = of_right formal handled (both formal inside) (in_left formal inside)
+
+  first_in : Within first parts
+  first_in = part_in first (in_left first (both runs given))
+
+  runs_in : Within runs parts
+  runs_in = part_in runs (of_right runs first (both runs given) (in_left runs given))
+
+  given_in : Within given parts
+  given_in = part_in given (of_right given first (both runs given) (in_right runs given))
+
+  -- what a part needs is within the whole
+  within_whole : (m : Needs) → Within m parts → Within m whole
+  within_whole m p = within_then m parts (together parts) p (together_within parts)
+
+  module _ (old : Draft) where
+    abbrev bound : ℕ
+    bound = here old.code + procedure_bound v.scope fs b
+
+    pub handled_refuses : (hs : List Handler) → b.handlers ≡ handler_trees hs → 1 ≤ length hs → whole.outside ≡ true
+    handled_refuses hs is some = or_left handled.outside (both formal inside).outside (ap (λ h. (handlers_needs h).outside) is ∙ beyond_all hs some)
+      where
+        beyond_all : (l : List Handler) → 1 ≤ length l → (handlers_needs (handler_trees l)).outside ≡ true
+        beyond_all [] k = absurd (omega (arith, k))
+        beyond_all (h ∷ l) k = refl
+
+    pub formals_refuse : (why : Refusal) → RefusesFormals v.scope fs why → RefusesProcedure v old fs b why
+    formals_refuse why r = inl (needing_refused 0 bound formal whole (omega arith) (within_whole formal formal_in) why r)
+
+    module _ (later : Visible) (words : FrameWords) (placed : PlacedFormals) (p : PlacesFormals v fs later words placed) where
+      abbrev items : List PlacedFormal
+      items = placed.formals.items
+
+      long : length items ≡ length fs
+      long = placed_long v.scope fs items 0 placed.passed placed.passed words.taken p.stand
+
+      sums : total (placed_words later.scope) items ≡ formals_words v.scope later.scope fs
+      sums = formals_total v.scope later.scope fs items 0 placed.passed placed.passed words.taken p.stand
+
+      pub outs_refuse : (start : Code) (why : Refusal) → here start ≡ here old.code → RefusesOuts later start items why → RefusesProcedure v old fs b why
+      outs_refuse start why same r =
+          let formals = ap (λ s. formals_words v.scope s fs) p.scope in
+          inl (needing_refused (here start + (2 * length items + total (placed_words later.scope) items)) bound (outs_needs later items) whole
+          (omega (arith, same, long, sums, formals))
+          (subst (λ n. Within n whole) (λ j. outs_needs (sym (later_is v fs later words placed p) j) (sym (items_are v fs later words placed p) j))
+          (within_whole first first_in)) why r)
+
+      pub run_refuses : (begun : Draft) (why : Refusal) → begun.words.taken ≡ words.taken → begun.labels ≡ old.labels
+          → here begun.code ≤ here old.code + (2 * length items + total (placed_words later.scope) items)
+          → RefusesRun later begun b.declarations b.statements why → RefusesProcedure v old fs b why
+      run_refuses begun why taken labels up r = by_kind r
+        where
+          formals : formals_words v.scope later.scope fs ≡ formals_words v.scope inner.scope fs
+          formals = ap (λ s. formals_words v.scope s fs) p.scope
+
+          locals : locals_words later.scope b.declarations ≡ locals_words inner.scope b.declarations
+          locals = ap (λ s. locals_words s b.declarations) p.scope
+
+          inside_words : stmts_words (locals_scope later.scope b.declarations) b.statements ≡ stmts_words (locals_scope inner.scope b.declarations) b.statements
+          inside_words = ap (λ s. stmts_words (locals_scope s b.declarations) b.statements) p.scope
+
+          same : begun.words.taken ≡ frame
+          same = taken ∙ taken_is v fs later words placed p
+
+          by_kind : RefusesRun later begun b.declarations b.statements why → RefusesProcedure v old fs b why
+          by_kind (inl n) =
+              inl (needing_refused (here begun.code + run_bound later.scope b.declarations b.statements) bound
+              (run_needs later begun.words.taken b.declarations b.statements) whole
+              (omega (arith, up, long, sums, formals, locals, inside_words))
+              (subst (λ m. Within m whole) (λ j. run_needs (sym (later_is v fs later words placed p) j) (sym same j) b.declarations b.statements)
+              (within_whole runs runs_in)) why n)
+          by_kind (inr h) =
+              inr (labelled (stmts_labels begun.labels b.statements) (body_labels old.labels b)
+              (let count = ap (λ l. length (stmts_labels l b.statements)) labels in omega (arith, count)) why h)
+
+      pub returned_refuses : (run : Code) (why : Refusal)
+          → here run ≤ here old.code + (2 * length items + total (placed_words later.scope) items + run_bound later.scope b.declarations b.statements)
+          → RefusesReturned later.scope run items why → RefusesProcedure v old fs b why
+      returned_refuses run why up r =
+          let formals = ap (λ s. formals_words v.scope s fs) p.scope in
+          let locals = ap (λ s. locals_words s b.declarations) p.scope in
+          let inside_words = ap (λ s. stmts_words (locals_scope s b.declarations) b.statements) p.scope in
+          let high = (within_whole given given_in).stack in
+          let same : all_given later.scope items ≡ all_given inner.scope xs =
+          λ j. all_given (p.scope j) (items_are v fs later words placed p j) in
+          inl (plain_needing (here run + suc (3 * length items)) bound (all_given later.scope items) whole why
+          (omega (arith, up, long, sums, formals, locals, inside_words)) (over (all_given later.scope items) whole.stack whole.frame (omega (arith, high, same))) r)
+
+      -- the words of the frame, and those of the operand stack
+      module _ (begun run : Draft) (end : Code) (taken : begun.words.taken ≡ words.taken) (most : begun.words.most ≡ words.taken)
+          (stays : StaysRun later begun b.declarations b.statements run) where
+        needed : run_needs later begun.words.taken b.declarations b.statements ≡ runs
+        needed = λ j. run_needs (later_is v fs later words placed p j) ((taken ∙ taken_is v fs later words placed p) j) b.declarations b.statements
+
+        frame_few : run.words.most ≤ parts.frame
+        frame_few =
+            let same = taken_is v fs later words placed p in
+            let one = formal_in.frame in
+            let two = runs_in.frame in
+            let n = ap (λ m. m.frame) needed in
+            most_of run.words.most begun.words.most (run_needs later begun.words.taken b.declarations b.statements).frame parts.frame stays.frame
+            (omega (arith, most, same, one)) (omega (arith, n, two))
+          where
+            most_of : (r m k l : ℕ) → r ≤ max m k → m ≤ l → k ≤ l → r ≤ l
+            most_of r m k l h i j = omega (arith, h, i, j)
+
+        module _ (start : Code) (none : start.deepest ≡ 0) (outs : IsShallow start begun.code (outs_needs later items).stack)
+            (back : IsShallow run.code end (all_given later.scope items)) where
+          stack_few : end.deepest ≤ parts.stack
+          stack_few =
+              let one = first_in.stack in
+              let two = runs_in.stack in
+              let three = given_in.stack in
+              let same : (outs_needs later items).stack ≡ first.stack =
+              λ j. (outs_needs (later_is v fs later words placed p j) (items_are v fs later words placed p j)).stack in
+              let n = ap (λ m. m.stack) needed in
+              let given_same : all_given later.scope items ≡ given.stack = λ j. all_given (p.scope j) (items_are v fs later words placed p j) in
+              let all = shallow_next start run.code end (all_given later.scope items) parts.stack (omega (arith, given_same, three))
+              (shallow_next start begun.code run.code (run_needs later begun.words.taken b.declarations b.statements).stack parts.stack (omega (arith, n, two))
+              (shallow_more start begun.code (outs_needs later items).stack parts.stack (omega (arith, same, one)) outs) stays.stack) back in
+              deep start.deepest end.deepest parts.stack none all
+            where
+              deep : (a e m : ℕ) → a ≡ 0 → e ≤ max a m → e ≤ m
+              deep a e m z h = omega (arith, z, h)
+
+          pub frame_refuses : (why : Refusal) → IsRefused 0 (run.words.most + end.deepest) false why → RefusesProcedure v old fs b why
+          frame_refuses why r =
+              inl (plain_needing 0 bound (run.words.most + end.deepest) whole why (omega arith)
+              (over (run.words.most + end.deepest) whole.stack whole.frame (omega (arith, frame_few, stack_few))) r)
+
+-- ---- functions
+
+module _ (v : Visible) (fs : List Formal) (t : Subtype) (e : ExprTree) (old : Draft) where
+  abbrev formal_part : Needs
+  formal_part = formals_needs v.scope fs
+
+  abbrev valued : Visible → Needs
+  valued x = returned_needs x t e
+
+  abbrev both_parts : Needs
+  both_parts = both formal_part (valued (formals_visible v fs))
+
+  abbrev function_whole : Needs
+  function_whole = function_needs v fs t e
+
+  abbrev function_end : ℕ
+  function_end = here old.code + function_bound fs e
+
+  pub function_formals_refuse : (why : Refusal) → RefusesFormals v.scope fs why → RefusesFunction v old fs t e why
+  function_formals_refuse why r =
+      needing_refused 0 function_end formal_part function_whole (omega arith)
+      (within_then formal_part both_parts function_whole (in_left formal_part (valued (formals_visible v fs))) (together_within both_parts)) why r
+
+  module _ (later : Visible) (words : FrameWords) (placed : PlacedFormals) (p : PlacesFormals v fs later words placed) where
+    value_in : Within (valued later) both_parts
+    value_in =
+        subst (λ x. Within (valued x) both_parts) (sym (later_is v fs later words placed p)) (in_right formal_part (valued (formals_visible v fs)))
+
+    value_within : Within (valued later) function_whole
+    value_within = within_then (valued later) both_parts function_whole value_in (together_within both_parts)
+
+    pub checked_refuses : (start : Code) (why : Refusal) → here start ≡ here old.code → RefusesChecked later start 0 t e why → RefusesFunction v old fs t e why
+    checked_refuses start why same r =
+        code_refused (HasUnfitObject later) (here start + (20 * expr_size e + 3)) function_end (0 + checked_peak (peak later.scope e))
+        (not (is_passable later.scope t) || is_outside later e) function_whole (omega (arith, same))
+        (over (0 + checked_peak (peak later.scope e)) function_whole.stack function_whole.frame (let high = value_within.stack in omega (arith, high)))
+        (λ u. value_within.unfit (unfit_there later u)) value_within.outside why r
+
+    pub return_refuses : (value : Code) (why : Refusal) → here value ≤ here old.code + (20 * expr_size e + 3) → IsRefused (here value + 1) 1 false why
+        → RefusesFunction v old fs t e why
+    return_refuses value why up r =
+        plain_needing (here value + 1) function_end 1 function_whole why (omega (arith, up))
+        (over 1 function_whole.stack function_whole.frame
+        (let high = value_within.stack in let some = three (peak later.scope e) in omega (arith, high, some))) r
+      where
+        three : (k : ℕ) → 1 ≤ max 3 k
+        three k = omega arith
+
+    pub function_frame_refuses : (start value end : Code) (most : ℕ) (why : Refusal) → most ≡ words.taken → start.deepest ≡ 0
+        → IsShallow start value (0 + checked_peak (peak later.scope e)) → IsShallow value end 1 → IsRefused 0 (most + end.deepest) false why
+        → RefusesFunction v old fs t e why
+    function_frame_refuses start value end most why same none shallow back r =
+        let taken = taken_is v fs later words placed p in
+        let frame_high = (in_left formal_part (valued (formals_visible v fs))).frame in
+        let stack_high = value_in.stack in
+        let some = three (peak later.scope e) in
+        let all = shallow_next start value end 1 both_parts.stack (omega (arith, some, stack_high))
+        (shallow_more start value (0 + checked_peak (peak later.scope e)) both_parts.stack (omega (arith, stack_high)) shallow) back in
+        let deepest = deep start.deepest end.deepest both_parts.stack none all in
+        plain_needing 0 function_end (most + end.deepest) function_whole why (omega arith)
+        (over (most + end.deepest) function_whole.stack function_whole.frame (omega (arith, same, taken, frame_high, deepest))) r
+      where
+        three : (k : ℕ) → 1 ≤ max 3 k
+        three k = omega arith
+
+        deep : (a f m : ℕ) → a ≡ 0 → f ≤ max a m → f ≤ m
+        deep a f m z h = omega (arith, z, h)
+
+-- ---- `out` parameters and what is given back, on the operand stack
+
+outs_among : (v : Visible) (xs : List PlacedFormal) (n : ℕ) (x other : PlacedFormal) → n < length xs → x ≡ get_or xs n other → (out_needs v x).stack ≤ (outs_needs v xs).stack
+outs_among v [] n x other less is = absurd (omega (arith, less))
+outs_among v (y ∷ xs) zero x other less is =
+    let same = ap (λ z. (out_needs v z).stack) is in
+    let up = (in_left (out_needs v y) (outs_needs v xs)).stack in
+    omega (arith, same, up)
+outs_among v (y ∷ xs) (suc n) x other less is =
+    let rest = outs_among v xs n x other (omega (arith, less)) is in
+    let up = (in_right (out_needs v y) (outs_needs v xs)).stack in
+    omega (arith, rest, up)
+
+abbrev out_by : Visible → Subtype → Mode → Needs
+out_by v t m = elim m [ mode.In ↦ nothing | mode.Out ↦ initial_needs v t None | mode.InOut ↦ nothing ]
+
+pub outs_shallow : (v : Visible) (xs : List PlacedFormal) (n : ℕ) (x other : PlacedFormal) (old now next : Code) → n < length xs → x ≡ get_or xs n other
+    → IsShallow old now (outs_needs v xs).stack → (is_out x.mode ≡ true → IsShallow now next (initial_needs v x.subtype None).stack)
+    → (is_out x.mode ≡ false → next ≡ now) → IsShallow old next (outs_needs v xs).stack
+outs_shallow v xs n x other old now next less is p out past = by_mode x.mode refl
+  where
+    by_mode : (m : Mode) → x.mode ≡ m → IsShallow old next (outs_needs v xs).stack
+    by_mode mode.In moded = shallow_as old now next (outs_needs v xs).stack (ap (λ c. c.deepest) (past (ap is_out moded))) p
+    by_mode mode.InOut moded = shallow_as old now next (outs_needs v xs).stack (ap (λ c. c.deepest) (past (ap is_out moded))) p
+    by_mode mode.Out moded =
+        let own : (initial_needs v x.subtype None).stack ≡ (out_needs v x).stack =
+        sym (ap (λ m. (out_by v x.subtype m).stack) moded) in
+        let up = outs_among v xs n x other less is in
+        shallow_next old now next (initial_needs v x.subtype None).stack (outs_needs v xs).stack (omega (arith, own, up)) p (out (ap is_out moded))
