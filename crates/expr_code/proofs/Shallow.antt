@@ -1,7 +1,7 @@
 -- How many words code that was added finds on the operand stack at most: code behind code, and each form of an expression.
-use Rattle.std.proofs.Common.{◌≡◌, ◌<◌, ◌≤◌, ◌+◌, ℕ, suc, List, [], ◌∷◌, length, map, Some, None, refl, sym, ap, ◌∙◌, subst, arith}
+use Rattle.std.proofs.Common.{◌≡◌, ◌<◌, ◌≤◌, ◌+◌, ℕ, suc, List, [], ◌∷◌, length, map, Some, None, sym, ap, ◌∙◌, subst, arith}
 use Rattle.std.specs.Prelude.{get_or, max, slice_get}
-use Rattle.std.proofs.Math.Nat.{le-max_left, le-max_right}
+use Rattle.std.proofs.Math.Nat.{le-max_right}
 use Rattle.ada_tree.specs.declared.expression.Argument.{Argument}
 use Rattle.ada_tree.specs.declared.expression.ElsifValue.{ElsifValue}
 use Rattle.ada_tree.specs.declared.expression.Identifier.{Identifier}
@@ -10,18 +10,17 @@ use Rattle.ada_tree.specs.declared.expression.Selector.{Selector}
 use Rattle.ada_tree.specs.ExpressionTree as tree
 use Rattle.ada_tree.specs.ExpressionTree.{Arguments, Component, ExprTree, MoreArguments, MoreSelectors, NoArguments, NoElsifValues, NoSelectors, SelectorTrees, Value, argument_tree, argument_trees, bare_name, chain_tree, elsif_value_trees, expr_tree, selector_tree, selector_trees}
 use Rattle.image.specs.declared.instruction.Operation.{Operation}
-use Rattle.image.specs.declared.instruction.Operation.TheVariants as op
 use Rattle.types.specs.declared.entity.Role.{Role}
 use Rattle.types.specs.declared.entity.Subtype.{Subtype}
 use Rattle.types.specs.declared.standing.Standing.TheVariants as standing
 use Rattle.types.specs.Scopes.{number_of}
 use Rattle.types.specs.Standings.{stands_first}
 use Rattle.well_typed.proofs.Positions.{same_some}
-use Rattle.expr_code.specs.Branches.{Branch, Closes, Rejoins, branch_of, in_front}
-use Rattle.expr_code.specs.Code.{Adds, IsShallow, Patches}
+use Rattle.expr_code.specs.Branches.{Branch, Closes, branch_of, in_front}
+use Rattle.expr_code.specs.Code.{IsShallow}
 use Rattle.expr_code.specs.Going.{AddsOffset}
 use Rattle.expr_code.specs.OperatorCode.{binary_operation}
-use Rattle.expr_code.specs.Refusing.{argument_peak, arguments_peak, branches_peak, checked_peak, operand_peak, operands_peak, peak, selector_peak, selectors_peak, words_below}
+use Rattle.expr_code.specs.Refusing.{argument_peak, arguments_peak, branches_peak, checked_peak, operand_peak, operands_peak, peak, selectors_peak, words_below}
 use Rattle.expr_code.specs.Widths.{width_of}
 use Rattle.expr_code.specs.declared.code.Code.{Code}
 use Rattle.expr_code.specs.declared.visible.Visible.{Visible}

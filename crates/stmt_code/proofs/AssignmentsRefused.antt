@@ -1,5 +1,5 @@
 -- What refuses the code of assignments: of the address of what is assigned to, of the value, and of what stores it.
-use Rattle.std.proofs.Common.{◌≡◌, ◌≤◌, ◌+◌, ◌*◌, ◌⊎◌, inl, inr, ℕ, suc, List, Bool, true, false, ◌&&◌, ◌||◌, not, Option, Some, None, refl, sym, ap, ◌∙◌, subst, arith}
+use Rattle.std.proofs.Common.{◌≡◌, ◌≤◌, ◌+◌, ◌*◌, ◌⊎◌, inl, inr, ℕ, suc, List, Bool, true, false, ◌&&◌, ◌||◌, not, Option, Some, None, refl, ap, ◌∙◌, arith}
 use Rattle.std.specs.Prelude.{max}
 use Rattle.ada_tree.specs.declared.expression.Identifier.{Identifier}
 use Rattle.ada_tree.specs.ExpressionTree.{ExprTree, NameTree, SelectorTrees}
@@ -12,11 +12,10 @@ use Rattle.types.specs.declared.entity.Subtype.{Subtype}
 use Rattle.types.specs.declared.standing.Standing.{Standing}
 use Rattle.types.specs.declared.standing.Standing.TheVariants as standing
 use Rattle.types.specs.Layouts.{words_of}
-use Rattle.types.specs.Scopes.{form_at, number_of}
+use Rattle.types.specs.Scopes.{number_of}
 use Rattle.types.specs.Standings.{standing_of, stands_first}
 use Rattle.expr_code.specs.Code.{here}
-use Rattle.expr_code.specs.Emitting.{is_composite}
-use Rattle.expr_code.specs.Refusing.{HasUnfitObject, IsRefused, IsUnfit, RefusesAddress, RefusesFitting, checked_peak, is_outside, is_passable, peak, selectors_outside, selectors_peak}
+use Rattle.expr_code.specs.Refusing.{HasUnfitObject, IsRefused, IsUnfit, RefusesAddress, RefusesFitting, checked_peak, is_outside, peak, selectors_outside, selectors_peak}
 use Rattle.expr_code.specs.Seeing.{slot_of}
 use Rattle.expr_code.specs.declared.code.Code.{Code}
 use Rattle.expr_code.specs.declared.refusal.Refusal.{Refusal}

@@ -100,7 +100,8 @@ pub record ToldSoFar (v : Visible) (fs : List FormalParameter) (all : List Argum
 pub told_none : (v : Visible) (fs : List FormalParameter) (all : List Argument) (before : List Destination) → ToldSoFar v fs all 0 before before
 told_none v fs all before = record { told = sym (nothing_behind before); fits = All-nil (IsPartFit v) }
 
-pub told_next : (v : Visible) (fs : List FormalParameter) (all : List Argument) (n : ℕ) (f : FormalParameter) (x : Argument) (before between after : List Destination)
+pub told_next : (v : Visible) (fs : List FormalParameter) (all : List Argument) (n : ℕ) (f : FormalParameter) (x : Argument)
+    (before between after : List Destination)
     → n < length fs → f ≡ get_or fs n f → n < length all → x ≡ get_or all n x → ToldSoFar v fs all n before between
     → after ≡ between ++ destinations_for v f (argument_tree x) → All (IsPartFit v) (destinations_for v f (argument_tree x))
     → ToldSoFar v fs all (n + 1) before after
@@ -109,7 +110,8 @@ told_next v fs all n f x before between after less is less_all is_all p told fit
     let own = destinations_for v f (argument_tree x) in
     let next : n + 1 ≡ suc n = omega arith in
     subst (λ m. ToldSoFar v fs all m before after) (sym next) (record {
-      told = told ∙ ap (λ l. l ++ own) p.told ∙ append_assoc before front own ∙ ap (λ l. before ++ l) (sym (destinations_more v fs all n f x less is less_all is_all));
+      told = told ∙ ap (λ l. l ++ own) p.told ∙ append_assoc before front own ∙ ap (λ l. before ++ l)
+          (sym (destinations_more v fs all n f x less is less_all is_all));
       fits = subst (All (IsPartFit v)) (sym (destinations_more v fs all n f x less is less_all is_all)) (All-append (IsPartFit v) front own p.fits fits);
     })
 
@@ -212,7 +214,8 @@ copy_refuses v old mid ds n height other why less high p r =
 
 -- ---- a call
 
-module _ (v : Visible) (name : NameTree) (fs : List FormalParameter) (trees : ArgumentTrees) (is : actuals_behind name.selectors ≡ Some trees) (why : Refusal) where
+module _ (v : Visible) (name : NameTree) (fs : List FormalParameter) (trees : ArgumentTrees) (is : actuals_behind name.selectors ≡ Some trees)
+    (why : Refusal) where
   abbrev numbered : Needs
   numbered = beyond_if (is_none (subprogram_of v name.first.name))
 

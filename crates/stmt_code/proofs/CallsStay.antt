@@ -1,6 +1,6 @@
 -- Calls of procedures stay within bounds, and add no labels.
-use Rattle.std.proofs.Common.{◌≡◌, ◌≤◌, ◌<◌, ◌+◌, ◌∷◌, ◌++◌, ◌⊎◌, inl, inr, ℕ, zero, suc, List, [], length, map, take, Bool, true, false, cond, not, Option, Some, None, refl, sym, ap, ◌∙◌, subst, arith}
-use Rattle.std.specs.Prelude.{get_or, is_none, max, slice_get}
+use Rattle.std.proofs.Common.{◌≡◌, ◌≤◌, ◌<◌, ◌+◌, ◌∷◌, ℕ, zero, suc, List, [], length, map, take, Option, Some, None, refl, sym, ap, ◌∙◌, subst, arith}
+use Rattle.std.specs.Prelude.{get_or, is_none, max}
 use Rattle.ada_tree.specs.declared.declaration.Mode.{Mode}
 use Rattle.ada_tree.specs.declared.declaration.Mode.TheVariants as mode
 use Rattle.ada_tree.specs.declared.expression.Argument.{Argument}
@@ -13,22 +13,21 @@ use Rattle.types.specs.declared.entity.Subtype.{Subtype}
 use Rattle.types.specs.Entities.{Arrays, Booleans, Integers, Profile, Records, Spans, Times, TypeForm}
 use Rattle.types.specs.Layouts.{words_of}
 use Rattle.types.specs.Scopes.{Scope, form_at}
-use Rattle.expr_rules.specs.declared.names.Slot.{Slot as Expected}
 use Rattle.expr_rules.specs.declared.names.Slot.TheVariants.{Expects, Takes}
 use Rattle.expr_rules.specs.declared.own.Wanted.TheVariants.{OfType}
 use Rattle.expr_rules.specs.ExpressionRules.{argument_faults}
 use Rattle.expr_rules.specs.NameRules.{formal_slot, label_rule}
 use Rattle.expr_code.specs.Actuals.{ArePassedLegally}
 use Rattle.expr_code.specs.Code.{IsShallow}
-use Rattle.expr_code.specs.Refusing.{checked_peak, peak, selectors_peak}
+use Rattle.expr_code.specs.Refusing.{checked_peak, peak}
 use Rattle.expr_code.specs.Seeing.{subprogram_of}
 use Rattle.expr_code.specs.declared.code.Code.{Code}
 use Rattle.expr_code.specs.declared.visible.Visible.{Visible}
 use Rattle.expr_code.proofs.Shallow.{shallow_as, shallow_more, shallow_next, shallow_self, shallow_then}
 use Rattle.stmt_code.specs.Labels.{stmt_labels, with_line}
-use Rattle.stmt_code.specs.Lines.{Line, line_behind, line_in, line_of}
+use Rattle.stmt_code.specs.Lines.{line_behind, line_in}
 use Rattle.stmt_code.specs.Passing.{AddsCheck, AddsCopy, AddsValue, EmitsTarget, actuals_behind, copied_width}
-use Rattle.stmt_code.specs.Refusing.{Needs, actual_needs, actuals_needs, beyond_if, both, check_words, copied_needs, copies_needs, copy_needs, destinations_of, in_needs, in_out_needs, invoked_needs, moded_needs, passed_needs, stacked, target_needs}
+use Rattle.stmt_code.specs.Refusing.{Needs, actual_needs, actuals_needs, beyond_if, both, check_words, copied_needs, copies_needs, copy_needs, destinations_of, in_needs, in_out_needs, invoked_needs, passed_needs, stacked, target_needs}
 use Rattle.stmt_code.specs.Staying.{Stays}
 use Rattle.stmt_code.specs.Suiting.{passed_width}
 use Rattle.stmt_code.specs.declared.call.Destination.{Destination}
@@ -36,7 +35,7 @@ use Rattle.stmt_code.specs.declared.draft.Draft.{Draft}
 use Rattle.stmt_code.proofs.CallsRefused.{actuals_among, copies_among}
 use Rattle.stmt_code.proofs.Refused.{Within, in_left, in_right, of_right}
 use Rattle.stmt_code.proofs.Staying.{coded, stays_code, stays_self}
-use Rattle.stmt_code.proofs.TargetsRefused.{by_mode, copied_within, target_high, target_within}
+use Rattle.stmt_code.proofs.TargetsRefused.{by_mode, copied_within, target_within}
 
 -- ---- no line is a call of a procedure
 
@@ -44,7 +43,12 @@ use Rattle.stmt_code.proofs.TargetsRefused.{by_mode, copied_within, target_high,
 label_illegal : (s : Scope) (f : FormalParameter) (label : List ℕ) (place : ℕ) → argument_faults s (formal_slot f) (Text label place) ≡ [] → ⊥
 label_illegal s f label place h = by_kind f.mode h
   where
-    by_kind : (m : Mode) → label_rule (elim m [ mode.In ↦ Expects (OfType f.subtype.type_number) | mode.Out ↦ Takes f.subtype.type_number | mode.InOut ↦ Takes f.subtype.type_number ]) place ≡ [] → ⊥
+    by_kind : (m : Mode) → label_rule
+        (elim m [
+          | mode.In ↦ Expects (OfType f.subtype.type_number)
+          | mode.Out ↦ Takes f.subtype.type_number
+          | mode.InOut ↦ Takes f.subtype.type_number
+        ]) place ≡ [] → ⊥
     by_kind mode.In k = cc
     by_kind mode.Out k = cc
     by_kind mode.InOut k = cc
@@ -71,7 +75,8 @@ no_line s fs (MoreSelectors x rest) all is count legal = cc
 
 -- ---- checks
 
-pub check_shallow : (o : Option TypeForm) (old : Code) (depth : ℕ) (t : Subtype) (new : Code) → AddsCheck o old depth t new → IsShallow old new (depth + check_words o)
+pub check_shallow : (o : Option TypeForm) (old : Code) (depth : ℕ) (t : Subtype) (new : Code) → AddsCheck o old depth t new
+    → IsShallow old new (depth + check_words o)
 check_shallow (Some Integers) old depth t new a =
     shallow_then old a.two new (depth + 2)
     (shallow_next old a.one a.two (depth + 1) (depth + 2) (omega arith) (shallow_more old a.one depth (depth + 2) (omega arith) a.first.shallow) a.last.shallow)
@@ -126,8 +131,10 @@ value_shallow v old depth d t height new a =
     let check = check_shallow (form_at v.scope t.type_number) a.loaded height t new a.checks in
     shallow_next old a.loaded new (height + check_words (form_at v.scope t.type_number)) n
     (all_high (words_of v.scope d.subtype) (check_words (form_at v.scope t.type_number)) (omega (arith, high, words)))
-    (shallow_next old a.doubled a.loaded (depth + 2) n (two_high (words_of v.scope d.subtype + check_words (form_at v.scope t.type_number)) (depth + 2) (omega arith))
-    (shallow_more old a.doubled (depth + 1) n (two_high (words_of v.scope d.subtype + check_words (form_at v.scope t.type_number)) (depth + 1) (omega arith)) a.doubles.shallow)
+    (shallow_next old a.doubled a.loaded (depth + 2) n
+    (two_high (words_of v.scope d.subtype + check_words (form_at v.scope t.type_number)) (depth + 2) (omega arith))
+    (shallow_more old a.doubled (depth + 1) n
+    (two_high (words_of v.scope d.subtype + check_words (form_at v.scope t.type_number)) (depth + 1) (omega arith)) a.doubles.shallow)
     a.loads.shallow) check
   where
     two_high : (k h : ℕ) → h ≤ depth + 2 → h ≤ depth + suc (max 1 k)

@@ -1,5 +1,5 @@
 -- How many words the end of a body has on the operand stack at most: those that it gives back, each in front of the next.
-use Rattle.std.proofs.Common.{◌≡◌, ◌≤◌, ◌<◌, ◌+◌, ◌∷◌, ℕ, suc, List, drop, length, Option, Some, None, sym, ap, ◌∙◌, subst, arith}
+use Rattle.std.proofs.Common.{◌≡◌, ◌≤◌, ◌<◌, ◌+◌, ◌∷◌, ℕ, suc, List, drop, length, Some, sym, ap, ◌∙◌, arith}
 use Rattle.std.specs.Prelude.{get_or, max}
 use Rattle.std.proofs.lemmas.List.{at_drop_more}
 use Rattle.types.specs.Layouts.{words_of}
@@ -36,7 +36,8 @@ given_some_shallow s x a b depth address is p =
     let same = ap (λ o. returned_more o (max 1 (words_of s x.subtype)) 0) is in
     shallow_more a b (depth + given_back s x) (depth + given_if_any s x) (omega (arith, same)) p
 
-pub given_next_shallow : (s : Scope) (old now next : Code) (xs : List PlacedFormal) (n height : ℕ) (x other : PlacedFormal) → n < length xs → x ≡ get_or xs n other
+pub given_next_shallow : (s : Scope) (old now next : Code) (xs : List PlacedFormal) (n height : ℕ) (x other : PlacedFormal) → n < length xs
+    → x ≡ get_or xs n other
     → ReturnedSoFar s old xs (n + 1) height now → IsShallow old now (all_given s xs) → IsShallow now next (height + given_if_any s x)
     → IsShallow old next (all_given s xs)
 given_next_shallow s old now next xs n height x other less is so_far p q =

@@ -1,11 +1,10 @@
 -- Statements without others within, and declarations, stay within bounds.
-use Rattle.std.proofs.Common.{◌≡◌, ◌≤◌, ◌<◌, ◌+◌, ◌∷◌, ℕ, suc, List, [], length, map, take, ℤ, Bool, true, Option, Some, None, refl, sym, ap, ◌∙◌, subst, arith}
+use Rattle.std.proofs.Common.{◌≡◌, ◌≤◌, ◌<◌, ◌+◌, ◌∷◌, ℕ, suc, List, [], length, map, take, ℤ, Option, Some, None, sym, ap, ◌∙◌, subst, arith}
 use Rattle.std.specs.Prelude.{get_or, is_some, max, not}
 use Rattle.std.proofs.Math.Nat.{le-max_left, le-max_right}
 use Rattle.ada_tree.specs.declared.declaration.Declaration.{Declaration}
 use Rattle.ada_tree.specs.ExpressionTree.{ExprTree, NameTree}
-use Rattle.ada_tree.specs.StatementTree.{Call, DeclarationTree, Exit, LocalObject, ObjectTree, Return, declaration_tree}
-use Rattle.image.specs.declared.instruction.Operation.TheVariants as op
+use Rattle.ada_tree.specs.StatementTree.{Call, Exit, LocalObject, ObjectTree, Return, declaration_tree}
 use Rattle.types.specs.declared.entity.Role.{Role}
 use Rattle.types.specs.declared.entity.Subtype.{Subtype}
 use Rattle.types.specs.declared.standing.Standing.TheVariants as standing
@@ -15,7 +14,7 @@ use Rattle.types.specs.Shapes.{initial, shape_of, value_words}
 use Rattle.types.specs.Standings.{standing_of}
 use Rattle.type_rules.specs.SubtypeNames.{subtype_of}
 use Rattle.sound_steps.specs.Fitting.{entity_named}
-use Rattle.expr_code.specs.Code.{Adds, IsShallow}
+use Rattle.expr_code.specs.Code.{IsShallow}
 use Rattle.expr_code.specs.Refusing.{checked_peak, peak, selectors_peak}
 use Rattle.expr_code.specs.declared.code.Code.{Code}
 use Rattle.expr_code.specs.declared.visible.Visible.{Visible}
@@ -25,14 +24,14 @@ use Rattle.stmt_code.specs.Bounds.{locals_words}
 use Rattle.stmt_code.specs.Emitting.{Pushes}
 use Rattle.stmt_code.specs.Labels.{stmt_labels, with_label, with_line}
 use Rattle.stmt_code.specs.Lines.{Line, is_put, line_of}
-use Rattle.stmt_code.specs.Refusing.{Needs, address_needs, around, assigned_needs, stored_needs, beyond_if, both, framed, initial_needs, line_needs, local_needs, local_visible, locals_needs, locals_visible, needs_if_any, nothing, object_needs, put_needs, single_needs, value_needs, words_at}
+use Rattle.stmt_code.specs.Refusing.{Needs, address_needs, assigned_needs, beyond_if, both, framed, initial_needs, line_needs, locals_needs, locals_visible, nothing, object_needs, put_needs, single_needs, stored_needs, value_needs, words_at}
 use Rattle.stmt_code.specs.Statements.{Ways}
 use Rattle.stmt_code.specs.Staying.{Stays, StaysDeclarations, StaysStatement}
 use Rattle.stmt_code.specs.declared.draft.Draft.{Draft}
 use Rattle.stmt_code.specs.declared.draft.FrameWords.{FrameWords}
 use Rattle.stmt_code.proofs.PartsStay.{stays_taken}
-use Rattle.stmt_code.proofs.Refused.{Within, in_left, in_right, locals_among, none_within, of_right, within_self}
-use Rattle.stmt_code.proofs.Staying.{coded, stays_as, stays_code, stays_more, stays_self, stays_then}
+use Rattle.stmt_code.proofs.Refused.{Within, in_left, in_right, locals_among, of_right, within_self}
+use Rattle.stmt_code.proofs.Staying.{coded, stays_code, stays_self, stays_then}
 
 -- ---- ways out
 
@@ -52,8 +51,10 @@ exit_when_stays v w old place e a b p q =
     stays_code old (coded old a) n old.labels b 1 (omega (arith, some, high)) q
     (stays_code old old n old.labels a (0 + peak v.scope e) (omega (arith, high)) p (stays_self old n))
 
-pub return_stays : (v : Visible) (w : Ways) (old : Draft) (place : ℕ) (a : Code) → IsShallow old.code a 0 → StaysStatement v w old (Return place None) (coded old a)
-return_stays v w old place a p = stays_code old old (beyond_if (not (is_some w.return))) old.labels a 0 (omega arith) p (stays_self old (beyond_if (not (is_some w.return))))
+pub return_stays : (v : Visible) (w : Ways) (old : Draft) (place : ℕ) (a : Code) → IsShallow old.code a 0
+    → StaysStatement v w old (Return place None) (coded old a)
+return_stays v w old place a p = stays_code old old (beyond_if (not (is_some w.return))) old.labels a 0 (omega arith) p
+    (stays_self old (beyond_if (not (is_some w.return))))
 
 -- ---- lines
 
@@ -73,7 +74,8 @@ line_stays v old name line a b labels is p q told =
 
 -- ---- assignments
 
-module _ (v : Visible) (old : Draft) (name : NameTree) (e : ExprTree) (r : Role) (last : Subtype) (reached : standing_of v.scope name.first name.selectors ≡ standing.Part r last) where
+module _ (v : Visible) (old : Draft) (name : NameTree) (e : ExprTree) (r : Role) (last : Subtype)
+    (reached : standing_of v.scope name.first name.selectors ≡ standing.Part r last) where
   abbrev needs : Needs
   needs = stored_needs v name e
 
@@ -161,7 +163,8 @@ module _ (v : Visible) (t : Subtype) where
   pushes_shallow : (old : Code) (height : ℕ) (ws : List ℤ) (new : Code) (n : ℕ) → height + length ws ≤ n → Pushes old height ws new → IsShallow old new n
   pushes_shallow old height [] new n up same = shallow_as old old new n (ap (λ c. c.deepest) (sym same)) (shallow_self old n)
   pushes_shallow old height (x ∷ ws) new n up (next, adds, rest) =
-      shallow_then old next new n (shallow_more old next height n (omega (arith, up)) adds.shallow) (pushes_shallow next (height + 1) ws new n (omega (arith, up)) rest)
+      shallow_then old next new n (shallow_more old next height n (omega (arith, up)) adds.shallow)
+      (pushes_shallow next (height + 1) ws new n (omega (arith, up)) rest)
 
   pub pushed_stored : ValuesHaveWords → InitialValuesHaveShape → (o : Option ExprTree) (a b : Code) → o ≡ None
       → Pushes a 1 (value_words (initial v.scope t)) b → IsShallow a b (initial_needs v t o).stack
@@ -184,7 +187,8 @@ object_stays v old d t told a words named is most p =
     (let x = (in_right frame own).stack in let y = (in_left one nothing).stack in omega (arith, x, y)) p
     (stays_taken old old n old.labels words (old.words.taken + told) most
     (let x = (in_left frame own).frame in let y = (in_left one nothing).frame in omega (arith, is, x, y)) (stays_self old n)) in
-    subst (λ o. Stays old (both (object_needs v old.words.taken o d.value) nothing) old.labels (record { code = a; labels = old.labels; words = words })) (sym named) stays
+    subst (λ o. Stays old (both (object_needs v old.words.taken o d.value) nothing) old.labels
+    (record { code = a; labels = old.labels; words = words })) (sym named) stays
 
 pub locals_stay : (v later : Visible) (old mid new : Draft) (all : List Declaration) (n : ℕ) (x : Declaration) → n < length all → x ≡ get_or all n x
     → later ≡ locals_visible v old.words.taken (map declaration_tree (take n all))
@@ -194,7 +198,8 @@ pub locals_stay : (v later : Visible) (old mid new : Draft) (all : List Declarat
 locals_stay v later old mid new all n x less is seen same p q =
     let whole = locals_needs v old.words.taken (map declaration_tree all) in
     let among = (locals_among v old.words.taken all n x less is).1 in
-    let inner = subst (λ y. Within (locals_needs y (old.words.taken + locals_words v.scope (map declaration_tree (take n all))) (declaration_tree x ∷ [])) whole)
+    let inner = subst (λ y. Within
+    (locals_needs y (old.words.taken + locals_words v.scope (map declaration_tree (take n all))) (declaration_tree x ∷ [])) whole)
     (sym seen) among in
     stays_then old mid new whole (locals_needs later mid.words.taken (declaration_tree x ∷ [])) old.labels (λ l. l)
     (subst (λ k. Within (locals_needs later k (declaration_tree x ∷ [])) whole) (sym same) inner) p q

@@ -100,7 +100,8 @@ module _ (v : Visible) (w : Ways) (old : Draft) (why : Refusal) where
       let sum = among.0 in
       let few = ap (λ l. length (elsifs_labels l (elsifs_of (elsif_tree x ∷ [])))) labels in
       let many = parts_few old.labels all n x less is in
-      placed_refused v w old mid (elsifs_labels mid.labels (elsifs_of (elsif_tree x ∷ []))) (elsifs_labels old.labels (elsif_trees all)) (λ a. elsifs_needs a (elsifs_of (elsif_tree x ∷ [])))
+      placed_refused v w old mid (elsifs_labels mid.labels (elsifs_of (elsif_tree x ∷ []))) (elsifs_labels old.labels (elsif_trees all))
+      (λ a. elsifs_needs a (elsifs_of (elsif_tree x ∷ [])))
       (here mid.code + elsifs_bound v.scope (elsifs_of (elsif_tree x ∷ []))) (here old.code + elsifs_bound v.scope (elsif_trees all))
       (elsifs_needs at (elsif_trees all)) why same (omega (arith, up, sum)) among.1 (omega (arith, few, many)) r
 
@@ -170,7 +171,8 @@ module _ (v : Visible) (w : Ways) (old : Draft) (why : Refusal) where
   looped_same : (exit : ℕ) (mid : Draft) → mid.words.taken ≡ old.words.taken → around v (within_loop exit w) mid ≡ inside_loop at
   looped_same exit mid same = ap (λ n. record { visible = v; taken = n; looped = true; returns = is_some w.return }) same
 
-  pub forever_body : (place exit : ℕ) (body : StmtTrees) (mid : Draft) → mid.words.taken ≡ old.words.taken → mid.labels ≡ old.labels → here mid.code ≤ here old.code + 2
+  pub forever_body : (place exit : ℕ) (body : StmtTrees) (mid : Draft) → mid.words.taken ≡ old.words.taken → mid.labels ≡ old.labels
+      → here mid.code ≤ here old.code + 2
       → RefusesStatements v (within_loop exit w) mid body why → RefusesStatement v w old (Loop place Forever body) why
   forever_body place exit body mid same labels up r =
       part_refused (here mid.code + stmts_bound v.scope body) (here old.code + stmt_bound v.scope (Loop place Forever body))
@@ -249,10 +251,12 @@ module _ (v : Visible) (w : Ways) (old : Draft) (why : Refusal) where
         inl (needing_refused (here old.code + (20 * choices_size choices + 2)) (here old.code + alternatives_bound v.scope choice) (choices_needs v.scope choices)
         (alternatives_needs at choice) (omega arith) choices_in why r)
 
-    pub chosen_refused : (mid : Draft) → mid.words.taken ≡ old.words.taken → mid.labels ≡ old.labels → here mid.code ≤ here old.code + (20 * choices_size choices + 2)
+    pub chosen_refused : (mid : Draft) → mid.words.taken ≡ old.words.taken → mid.labels ≡ old.labels
+        → here mid.code ≤ here old.code + (20 * choices_size choices + 2)
         → RefusesStatements v w mid body why → RefusesAlternatives v w old choice why
     chosen_refused mid same labels up r =
-        placed_refused v w old mid (stmts_labels mid.labels body) (stmts_labels old.labels body) (λ a. stmts_needs a body) (here mid.code + stmts_bound v.scope body)
+        placed_refused v w old mid (stmts_labels mid.labels body) (stmts_labels old.labels body) (λ a. stmts_needs a body)
+        (here mid.code + stmts_bound v.scope body)
         (here old.code + alternatives_bound v.scope choice) (alternatives_needs at choice) why same (omega (arith, up)) chosen_in
         (as_many (stmts_labels mid.labels body) (stmts_labels old.labels body) (ap (λ l. stmts_labels l body) labels)) r
 
@@ -291,7 +295,8 @@ module _ (v : Visible) (w : Ways) (old : Draft) (why : Refusal) where
     pub alternatives_refused : (mid : Draft) → mid.words.taken ≡ old.words.taken → mid.labels ≡ old.labels → here mid.code ≤ here old.code + 20 * expr_size e
         → RefusesAlternatives v w mid all why → RefusesStatement v w old case_whole why
     alternatives_refused mid same labels up r =
-        placed_refused v w old mid (alternatives_labels mid.labels all) (alternatives_labels old.labels all) (λ a. alternatives_needs a all) (here mid.code + alternatives_bound v.scope all)
+        placed_refused v w old mid (alternatives_labels mid.labels all) (alternatives_labels old.labels all) (λ a. alternatives_needs a all)
+        (here mid.code + alternatives_bound v.scope all)
         (here old.code + stmt_bound v.scope case_whole) (stmt_needs at case_whole) why same (omega (arith, up))
         (in_right (value_needs v e) (alternatives_needs at all))
         (as_many (alternatives_labels mid.labels all) (alternatives_labels old.labels all) (ap (λ l. alternatives_labels l all) labels)) r
@@ -299,7 +304,8 @@ module _ (v : Visible) (w : Ways) (old : Draft) (why : Refusal) where
     pub dropped_refused : (m h : ℕ) → m ≤ here old.code + (20 * expr_size e + alternatives_bound v.scope all + 1) → h ≤ 1 → IsRefused m h false why
         → RefusesStatement v w old case_whole why
     dropped_refused m h up high r =
-        plain_refused m (here old.code + stmt_bound v.scope case_whole) h (stmt_needs at case_whole) (alternatives_labels old.labels all) why (omega (arith, up))
+        plain_refused m (here old.code + stmt_bound v.scope case_whole) h (stmt_needs at case_whole) (alternatives_labels old.labels all) why
+        (omega (arith, up))
         (part_high h (value_needs v e) (stmt_needs at case_whole) selected_in (let some = peak_some v.scope e in omega (arith, high, some))) r
 
   -- ---- ways out, and lines
@@ -350,7 +356,8 @@ module _ (v : Visible) (w : Ways) (old : Draft) (why : Refusal) where
       let sum = among.0 in
       let few = ap (λ l. length (stmt_labels l (stmt_tree x))) labels in
       let many = stmts_few old.labels all n x less is in
-      placed_refused v w old mid (stmt_labels mid.labels (stmt_tree x)) (stmts_labels old.labels (stmt_trees all)) (λ a. stmt_needs a (stmt_tree x)) (here mid.code + stmt_bound v.scope (stmt_tree x))
+      placed_refused v w old mid (stmt_labels mid.labels (stmt_tree x)) (stmts_labels old.labels (stmt_trees all)) (λ a. stmt_needs a (stmt_tree x))
+      (here mid.code + stmt_bound v.scope (stmt_tree x))
       (here old.code + stmts_bound v.scope (stmt_trees all)) (stmts_needs at (stmt_trees all)) why same (omega (arith, up, sum)) among.1
       (omega (arith, few, many)) r
 
@@ -381,7 +388,8 @@ module _ (v : Visible) (w : Ways) (old : Draft) (why : Refusal) where
         → RefusesStatements later w mid body why → RefusesStatement v w old block why
     block_body_refused later mid seen scope same labels up r =
         part_refused (here mid.code + stmts_bound later.scope body) (here old.code + stmt_bound v.scope block) (stmts_needs (around later w mid) body)
-        (stmt_needs at block) (stmts_labels mid.labels body) (stmts_labels old.labels body) why (let inner = ap (λ s. stmts_bound s body) scope in omega (arith, up, inner))
+        (stmt_needs at block) (stmts_labels mid.labels body) (stmts_labels old.labels body) why
+        (let inner = ap (λ s. stmts_bound s body) scope in omega (arith, up, inner))
         (subst (λ a. Within (stmts_needs a body) (stmt_needs at block)) (sym inside)
         (of_right (stmts_needs (behind_locals at ds) body) nothing block_needs
         (in_right (locals_needs v old.words.taken ds) (stmts_needs (behind_locals at ds) body))))
@@ -461,7 +469,8 @@ module _ (v : Visible) (old : Draft) (why : Refusal) (ds : List DeclarationTree)
 
   pub run_locals_refused : RefusesDeclarations v old ds why → RefusesRun v old ds body why
   run_locals_refused r =
-      inl (needing_refused (here old.code + declarations_bound v.scope ds) (here old.code + run_bound v.scope ds body) (locals_needs v old.words.taken ds) needed
+      inl (needing_refused (here old.code + declarations_bound v.scope ds) (here old.code + run_bound v.scope ds body)
+      (locals_needs v old.words.taken ds) needed
       (omega arith) (in_left (locals_needs v old.words.taken ds) (stmts_needs (behind_locals own ds) body)) why r)
 
   pub run_refused : (m : ℕ) → m ≤ here old.code + run_bound v.scope ds body → IsRefused m 0 false why → RefusesRun v old ds body why

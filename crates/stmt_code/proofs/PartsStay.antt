@@ -1,12 +1,12 @@
 -- Each form of statement stays within bounds where its parts do, with the instructions between them.
-use Rattle.std.proofs.Common.{◌≡◌, ◌≤◌, ◌<◌, ◌+◌, ◌∷◌, ℕ, suc, List, [], length, take, Bool, true, false, Some, None, refl, sym, ap, ◌∙◌, subst, arith}
+use Rattle.std.proofs.Common.{◌≡◌, ◌≤◌, ◌<◌, ◌+◌, ◌∷◌, ℕ, List, [], length, take, Bool, true, false, Some, None, sym, ap, ◌∙◌, subst, arith}
 use Rattle.std.specs.Prelude.{get_or, is_some, max, ⊤}
 use Rattle.ada_tree.specs.declared.expression.Identifier.{Identifier}
 use Rattle.ada_tree.specs.declared.statement.Alternative.{Alternative}
 use Rattle.ada_tree.specs.declared.statement.ElsifPart.{ElsifPart}
 use Rattle.ada_tree.specs.declared.statement.Stmt.{Stmt}
 use Rattle.ada_tree.specs.ExpressionTree.{ExprTree}
-use Rattle.ada_tree.specs.StatementTree.{AlternativeTrees, Block, Case, ChoicesTree, DeclarationTree, ElsifTrees, For, Forever, If, Loop, NoHandlers, OtherValues, RangeTree, StmtTree, StmtTrees, Values, While, alternative_tree, alternative_trees, alternatives_of, elsif_tree, elsif_trees, elsifs_of, stmt_tree, stmt_trees}
+use Rattle.ada_tree.specs.StatementTree.{AlternativeTrees, Block, Case, ChoicesTree, DeclarationTree, ElsifTrees, For, Forever, If, Loop, NoHandlers, OtherValues, RangeTree, StmtTrees, Values, While, alternative_tree, alternative_trees, alternatives_of, elsif_tree, elsif_trees, elsifs_of, stmt_tree, stmt_trees}
 use Rattle.image.specs.declared.instruction.Instr.{Instr}
 use Rattle.types.specs.Scopes.{Scope}
 use Rattle.expr_code.specs.Code.{IsShallow}
@@ -19,7 +19,7 @@ use Rattle.stmt_code.specs.Alternatives.{AddsChoices, AddsTest, TestsAll}
 use Rattle.stmt_code.specs.Bounds.{locals_words}
 use Rattle.stmt_code.specs.Emitting.{BeginsLoop, EndsLoop}
 use Rattle.stmt_code.specs.Labels.{alternatives_labels, elsifs_labels, stmt_labels, stmts_labels}
-use Rattle.stmt_code.specs.Refusing.{Around, Needs, alternatives_needs, around, behind_locals, both, choices_needs, counted_visible, elsifs_needs, framed, head_needs, inside_counted, inside_loop, locals_needs, locals_visible, needs_above, nothing, run_needs, stmt_needs, stmts_needs, value_needs}
+use Rattle.stmt_code.specs.Refusing.{Around, Needs, alternatives_needs, around, behind_locals, both, choices_needs, counted_visible, elsifs_needs, framed, head_needs, inside_counted, inside_loop, locals_needs, locals_visible, needs_above, nothing, stmt_needs, stmts_needs, value_needs}
 use Rattle.stmt_code.specs.Statements.{Ways, within_loop}
 use Rattle.stmt_code.specs.Staying.{Stays, StaysAlternatives, StaysDeclarations, StaysParts, StaysRange, StaysRun, StaysStatement, StaysStatements}
 use Rattle.stmt_code.specs.Turns.{AddsAll, BeginsTurns, EndsTurn, bounds_compared, value_counted, values_compared}
@@ -29,7 +29,7 @@ use Rattle.stmt_code.specs.declared.range_loop.Turns.{Turns}
 use Rattle.stmt_code.proofs.Adding.{take_all}
 use Rattle.stmt_code.proofs.Labelled.{alternatives_next, parts_next, stmts_next}
 use Rattle.stmt_code.proofs.PartsRefused.{around_same, range_two}
-use Rattle.stmt_code.proofs.Refused.{Within, alternatives_among, front_within, in_left, in_right, of_right, parts_among, statements_among, within_self}
+use Rattle.stmt_code.proofs.Refused.{Within, alternatives_among, front_within, in_left, in_right, of_right, parts_among, statements_among}
 use Rattle.stmt_code.proofs.Staying.{coded, stays_as, stays_code, stays_more, stays_self, stays_then}
 
 -- ---- instructions
@@ -235,7 +235,8 @@ module _ (v : Visible) (w : Ways) (old : Draft) where
   statements_stay mid new all n x less is same p q =
       subst (λ l. Stays old (stmts_needs at (stmt_trees all)) l new) (sym (stmts_next old.labels all n x less is))
       (stays_then old mid new (stmts_needs at (stmt_trees all)) (stmt_needs (around v w mid) (stmt_tree x)) (stmts_labels old.labels (stmt_trees (take n all)))
-      (λ l. stmt_labels l (stmt_tree x)) (same_within mid (λ a. stmt_needs a (stmt_tree x)) (stmts_needs at (stmt_trees all)) same (statements_among at all n x less is).1) p q)
+      (λ l. stmt_labels l (stmt_tree x))
+      (same_within mid (λ a. stmt_needs a (stmt_tree x)) (stmts_needs at (stmt_trees all)) same (statements_among at all n x less is).1) p q)
 
   -- ---- blocks
 
@@ -259,7 +260,8 @@ pub parts_end : (old new : Draft) (all : List ElsifPart) (n : ℕ) (m : Needs) �
 parts_end old new all n m up p = subst (λ l. Stays old m (elsifs_labels old.labels (elsif_trees l)) new) (take_all all n up) p
 
 pub alternatives_end : (old new : Draft) (all : List Alternative) (n : ℕ) (m : Needs) → length all ≤ n
-    → Stays old m (alternatives_labels old.labels (alternative_trees (take n all))) new → Stays old m (alternatives_labels old.labels (alternative_trees all)) new
+    → Stays old m (alternatives_labels old.labels (alternative_trees (take n all))) new
+    → Stays old m (alternatives_labels old.labels (alternative_trees all)) new
 alternatives_end old new all n m up p = subst (λ l. Stays old m (alternatives_labels old.labels (alternative_trees l)) new) (take_all all n up) p
 
 pub statements_end : (old new : Draft) (all : List Stmt) (n : ℕ) (m : Needs) → length all ≤ n
@@ -269,7 +271,8 @@ statements_end old new all n m up p = subst (λ l. Stays old m (stmts_labels old
 -- ---- the head of a loop over a range, and bodies
 
 -- words that are taken
-pub stays_taken : (old mid : Draft) (n : Needs) (l : List (List ℕ)) (words : FrameWords) (k : ℕ) → words.most ≡ max mid.words.most k → k ≤ n.frame → Stays old n l mid
+pub stays_taken : (old mid : Draft) (n : Needs) (l : List (List ℕ)) (words : FrameWords) (k : ℕ) → words.most ≡ max mid.words.most k → k ≤ n.frame
+    → Stays old n l mid
     → Stays old n l (record { code = mid.code; labels = mid.labels; words = words })
 stays_taken old mid n l words k most up p = record {
   labels = p.labels;
@@ -298,7 +301,8 @@ range_stays v old parameter reversed range a b c t null words first last begins 
     (stays_code old (coded old a) n old.labels b (1 + peak v.scope range.last) (omega (arith, in_two)) last
     (stays_code old old n old.labels a (0 + peak v.scope range.first) (omega (arith, in_one)) first (stays_self old n))))
 
-pub run_stays : (v : Visible) (old : Draft) (ds : List DeclarationTree) (body : StmtTrees) (later : Visible) (out : ℕ) (declared : Draft) (a : Code) (mid : Draft)
+pub run_stays : (v : Visible) (old : Draft) (ds : List DeclarationTree) (body : StmtTrees) (later : Visible) (out : ℕ) (declared : Draft) (a : Code)
+    (mid : Draft)
     (d : Code) → later ≡ locals_visible v old.words.taken ds → declared.words.taken ≡ old.words.taken + locals_words v.scope ds
     → StaysDeclarations v old ds declared → IsShallow declared.code a 0
     → StaysStatements later (record { exit = None; return = Some out; handled = None }) (coded declared a) body mid → d.deepest ≡ mid.code.deepest

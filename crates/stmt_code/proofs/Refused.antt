@@ -318,7 +318,8 @@ words_next v taken all n x less is =
     let two = words_behind v taken (map declaration_tree (take n all)) (declaration_tree x ∷ []) in
     omega (arith, one, two)
 
-pub local_refuses : (v later : Visible) (old mid : Draft) (all : List Declaration) (n : ℕ) (x : Declaration) (why : Refusal) → n < length all → x ≡ get_or all n x
+pub local_refuses : (v later : Visible) (old mid : Draft) (all : List Declaration) (n : ℕ) (x : Declaration) (why : Refusal) → n < length all
+    → x ≡ get_or all n x
     → later ≡ locals_visible v old.words.taken (map declaration_tree (take n all))
     → mid.words.taken ≡ old.words.taken + locals_words v.scope (map declaration_tree (take n all))
     → here mid.code ≤ here old.code + declarations_bound v.scope (map declaration_tree (take n all))
@@ -327,7 +328,8 @@ local_refuses v later old mid all n x why less is seen same up r =
     let among = locals_among v old.words.taken all n x less is in
     let sum = among.0 in
     let own = ap (λ y. declarations_bound y.scope (declaration_tree x ∷ [])) seen in
-    needing_refused (here mid.code + declarations_bound later.scope (declaration_tree x ∷ [])) (here old.code + declarations_bound v.scope (map declaration_tree all))
+    needing_refused (here mid.code + declarations_bound later.scope (declaration_tree x ∷ []))
+    (here old.code + declarations_bound v.scope (map declaration_tree all))
     (locals_needs later mid.words.taken (declaration_tree x ∷ [])) (locals_needs v old.words.taken (map declaration_tree all))
     (omega (arith, up, sum, own))
     (subst (λ n'. Within (locals_needs later n' (declaration_tree x ∷ [])) (locals_needs v old.words.taken (map declaration_tree all))) (sym same)

@@ -1,5 +1,5 @@
 -- What stays within bounds part by part: code behind code, and words of a frame that are given back.
-use Rattle.std.proofs.Common.{◌≡◌, ◌≤◌, ◌+◌, ℕ, List, refl, sym, ap, ◌∙◌, subst, arith}
+use Rattle.std.proofs.Common.{◌≡◌, ◌≤◌, ℕ, List, refl, sym, ap, ◌∙◌, subst, arith}
 use Rattle.std.specs.Prelude.{max}
 use Rattle.expr_code.specs.Code.{IsShallow}
 use Rattle.expr_code.specs.declared.code.Code.{Code}

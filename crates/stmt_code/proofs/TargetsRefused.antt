@@ -1,5 +1,5 @@
 -- What refuses the code of one actual parameter of a procedure, of one value that is copied back, and of their checks.
-use Rattle.std.proofs.Common.{◌≡◌, ◌≤◌, ◌<◌, ◌+◌, ◌*◌, ◌∷◌, ◌⊎◌, inl, inr, ℕ, suc, List, [], Bool, true, false, ◌&&◌, ◌||◌, not, Option, Some, None, Result, Ok, Err, refl, sym, ap, ◌∙◌, subst, arith}
+use Rattle.std.proofs.Common.{◌≡◌, ◌≤◌, ◌+◌, ◌*◌, ◌∷◌, ◌⊎◌, inl, inr, ℕ, suc, List, [], Bool, true, false, ◌&&◌, ◌||◌, not, Option, Some, None, Result, Ok, Err, refl, sym, ap, ◌∙◌, subst, arith}
 use Rattle.std.specs.Prelude.{max}
 use Rattle.std.specs.List.{All}
 use Rattle.std.specs.Result.{OnOk}
@@ -11,7 +11,7 @@ use Rattle.ada_tree.specs.declared.expression.Identifier.{Identifier}
 use Rattle.ada_tree.specs.declared.expression.Operand.{Operand}
 use Rattle.ada_tree.specs.ExpressionTree as tree
 use Rattle.ada_tree.specs.ExpressionTree.{ArgumentTree, ExprTree, Named, SelectorTrees, chain_tree, expr_tree}
-use Rattle.ada_tree.specs.Size.{argument_size, expr_size, selectors_size}
+use Rattle.ada_tree.specs.Size.{argument_size, expr_size}
 use Rattle.image.specs.declared.instruction.Operation.TheVariants as op
 use Rattle.types.specs.declared.entity.FormalParameter.{FormalParameter}
 use Rattle.types.specs.declared.entity.Role.{Role}
@@ -25,7 +25,7 @@ use Rattle.types.specs.Standings.{select_all, standing_of, stands_first}
 use Rattle.expr_rules.specs.Typing.{is_booleans, is_integers}
 use Rattle.expr_code.specs.Code.{here}
 use Rattle.expr_code.specs.Emitting.{is_composite}
-use Rattle.expr_code.specs.Refusing.{HasUnfitObject, IsRefused, IsRefusedBeside, IsUnfit, RefusesAddress, RefusesFitting, checked_peak, is_fit, is_outside, is_passable, peak}
+use Rattle.expr_code.specs.Refusing.{HasUnfitObject, IsRefused, IsRefusedBeside, IsUnfit, RefusesAddress, RefusesFitting, checked_peak, is_fit, is_outside, peak}
 use Rattle.expr_code.specs.Seeing.{slot_of}
 use Rattle.expr_code.specs.declared.code.Code.{Code}
 use Rattle.expr_code.specs.declared.refusal.Refusal.{Refusal}
@@ -34,7 +34,7 @@ use Rattle.expr_code.specs.declared.visible.Visible.{Visible}
 use Rattle.expr_code.proofs.Growing.{added_here}
 use Rattle.expr_code.proofs.Refusals.{or_left, or_right, refused_beside, selectors_some}
 use Rattle.stmt_code.specs.Passing.{AddsCheck, EmitsTarget, holds_variables}
-use Rattle.stmt_code.specs.Refusing.{IsNeeding, IsPartFit, Needs, actual_needs, address_needs, beyond, both, check_words, copied_needs, copy_needs, destination_at, destinations_for, destinations_if, destinations_named, has_unfit, in_needs, in_out_needs, is_taken, moded_needs, target_needs, words_at}
+use Rattle.stmt_code.specs.Refusing.{IsNeeding, IsPartFit, Needs, actual_needs, address_needs, beyond, check_words, copied_needs, copy_needs, destination_at, destinations_for, destinations_if, destinations_named, has_unfit, in_needs, in_out_needs, is_taken, target_needs, words_at}
 use Rattle.stmt_code.specs.declared.call.Destination.{Destination}
 use Rattle.stmt_code.proofs.AssignmentsRefused.{address_refused}
 use Rattle.stmt_code.proofs.Refused.{Within, code_refused, in_left, needing_refused, of_right, plain_needing, unfit_there, within_self}
@@ -257,7 +257,8 @@ module _ (v : Visible) (height : ℕ) (d : Destination) (old : Code) (why : Refu
   pub copy_plain_refused : (m h : ℕ) → m ≤ here old + 4 → h ≤ height → IsRefused m h false why → IsNeeding (here old + 4) copy why
   copy_plain_refused m h up high r = plain_needing m (here old + 4) h copy why up (over h copy.stack copy.frame (omega (arith, high))) r
 
-  pub copy_check_refused : (m : ℕ) → m ≤ here old + 4 → IsRefused m (height + check_words (form_at v.scope d.subtype.type_number)) (not (is_taken v.scope d.subtype)) why
+  pub copy_check_refused : (m : ℕ) → m ≤ here old + 4
+      → IsRefused m (height + check_words (form_at v.scope d.subtype.type_number)) (not (is_taken v.scope d.subtype)) why
       → IsNeeding (here old + 4) copy why
   copy_check_refused m up r =
       code_refused ⊥ m (here old + 4) (height + check_words (form_at v.scope d.subtype.type_number)) (not (is_taken v.scope d.subtype)) copy up

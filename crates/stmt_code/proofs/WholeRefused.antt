@@ -1,18 +1,15 @@
 -- What refuses the code of whole procedures and functions: of their parameters, of their parts, and of a frame with its operand stack.
-use Rattle.std.proofs.Common.{◌≡◌, ◌≤◌, ◌<◌, ◌+◌, ◌*◌, ◌∷◌, ◌⊎◌, inl, inr, ℕ, zero, suc, List, [], drop, length, Bool, true, false, ◌||◌, not, None, refl, sym, ap, ◌∙◌, subst, arith}
+use Rattle.std.proofs.Common.{◌≡◌, ◌≤◌, ◌<◌, ◌+◌, ◌*◌, ◌∷◌, inl, inr, ℕ, zero, suc, List, [], length, true, false, ◌||◌, not, None, refl, sym, ap, ◌∙◌, subst, arith}
 use Rattle.std.specs.Prelude.{get_or, max}
-use Rattle.std.proofs.lemmas.List.{at_drop_more}
 use Rattle.ada_tree.specs.declared.declaration.Formal.{Formal}
 use Rattle.ada_tree.specs.declared.declaration.Mode.{Mode}
 use Rattle.ada_tree.specs.declared.declaration.Mode.TheVariants as mode
 use Rattle.ada_tree.specs.declared.statement.Handler.{Handler}
 use Rattle.ada_tree.specs.ExpressionTree.{ExprTree}
 use Rattle.ada_tree.specs.ProgramTree.{BodyTree}
-use Rattle.ada_tree.specs.Size.{body_size, expr_size, stmts_size, total}
-use Rattle.ada_tree.specs.StatementTree.{HandlerTrees, handler_trees}
+use Rattle.ada_tree.specs.Size.{expr_size, total}
+use Rattle.ada_tree.specs.StatementTree.{handler_trees}
 use Rattle.types.specs.declared.entity.Subtype.{Subtype}
-use Rattle.types.specs.Layouts.{words_of}
-use Rattle.types.specs.Scopes.{Scope}
 use Rattle.declaring.specs.LocalRules.{locals_scope}
 use Rattle.meaning.specs.Calls.{is_out}
 use Rattle.expr_code.specs.Code.{IsShallow, here}
@@ -23,10 +20,10 @@ use Rattle.expr_code.specs.declared.visible.Visible.{Visible}
 use Rattle.expr_code.proofs.Refusals.{or_left}
 use Rattle.expr_code.proofs.Shallow.{shallow_as, shallow_more, shallow_next}
 use Rattle.stmt_code.specs.Bounds.{formals_words, function_bound, locals_words, procedure_bound, run_bound, stmts_words}
-use Rattle.stmt_code.specs.Formals.{Initialises, PlacesFormals, placed_words}
+use Rattle.stmt_code.specs.Formals.{PlacesFormals, placed_words}
 use Rattle.stmt_code.specs.Labels.{stmts_labels}
-use Rattle.stmt_code.specs.Refusing.{HasManyLabels, IsNeeding, Needs, RefusesFormals, RefusesOuts, RefusesReturned, RefusesRun, all_given, both, formals_frame, formals_needs, handlers_needs, initial_needs, nothing, out_needs, outs_needs, run_needs, stacked}
-use Rattle.stmt_code.specs.Staying.{Stays, StaysRun}
+use Rattle.stmt_code.specs.Refusing.{Needs, RefusesFormals, RefusesOuts, RefusesReturned, RefusesRun, all_given, both, formals_frame, formals_needs, handlers_needs, initial_needs, nothing, out_needs, outs_needs, run_needs, stacked}
+use Rattle.stmt_code.specs.Staying.{StaysRun}
 use Rattle.stmt_code.specs.WholeRefusals.{RefusesFunction, RefusesProcedure, body_labels, formals_placed, formals_visible, function_needs, inside_needs, procedure_needs, returned_needs, together}
 use Rattle.stmt_code.specs.declared.draft.Draft.{Draft}
 use Rattle.stmt_code.specs.declared.draft.FrameWords.{FrameWords}
@@ -169,7 +166,8 @@ module _ (v : Visible) (fs : List Formal) (b : BodyTree) where
           let same : all_given later.scope items ≡ all_given inner.scope xs =
           λ j. all_given (p.scope j) (items_are v fs later words placed p j) in
           inl (plain_needing (here run + suc (3 * length items)) bound (all_given later.scope items) whole why
-          (omega (arith, up, long, sums, formals, locals, inside_words)) (over (all_given later.scope items) whole.stack whole.frame (omega (arith, high, same))) r)
+          (omega (arith, up, long, sums, formals, locals, inside_words))
+          (over (all_given later.scope items) whole.stack whole.frame (omega (arith, high, same))) r)
 
       -- the words of the frame, and those of the operand stack
       module _ (begun run : Draft) (end : Code) (taken : begun.words.taken ≡ words.taken) (most : begun.words.most ≡ words.taken)
@@ -283,7 +281,8 @@ module _ (v : Visible) (fs : List Formal) (t : Subtype) (e : ExprTree) (old : Dr
 
 -- ---- `out` parameters and what is given back, on the operand stack
 
-outs_among : (v : Visible) (xs : List PlacedFormal) (n : ℕ) (x other : PlacedFormal) → n < length xs → x ≡ get_or xs n other → (out_needs v x).stack ≤ (outs_needs v xs).stack
+outs_among : (v : Visible) (xs : List PlacedFormal) (n : ℕ) (x other : PlacedFormal) → n < length xs → x ≡ get_or xs n other
+    → (out_needs v x).stack ≤ (outs_needs v xs).stack
 outs_among v [] n x other less is = absurd (omega (arith, less))
 outs_among v (y ∷ xs) zero x other less is =
     let same = ap (λ z. (out_needs v z).stack) is in

@@ -1,5 +1,5 @@
 -- When code of whole procedures and functions is refused: what their parameters, declarations, statements and values need, in one frame.
-use Rattle.std.specs.Prelude.{ℕ, ◌+◌, List, [], ◌∷◌, ◌++◌, ◌||◌, false, map, not, Option, Some, None, ◌⊎◌}
+use Rattle.std.specs.Prelude.{ℕ, ◌+◌, List, [], ◌∷◌, ◌++◌, ◌||◌, map, not, Option, Some, None, ◌⊎◌}
 use Rattle.ada_tree.specs.declared.declaration.Formal.{Formal}
 use Rattle.ada_tree.specs.declared.declaration.Mode.{Mode}
 use Rattle.ada_tree.specs.declared.declaration.Mode.TheVariants as mode
@@ -93,7 +93,8 @@ abbrev pub body_labels : (before : List (List ℕ)) → BodyTree → List (List 
 body_labels before b = stmts_labels before b.statements
 
 abbrev pub RefusesProcedure : Visible → (old : Draft) → List Formal → BodyTree → Refusal → Type 0
-RefusesProcedure v old fs b why = IsNeeding (here old.code + procedure_bound v.scope fs b) (procedure_needs v fs b) why ⊎ HasManyLabels (body_labels old.labels b) why
+RefusesProcedure v old fs b why = IsNeeding (here old.code + procedure_bound v.scope fs b) (procedure_needs v fs b) why
+    ⊎ HasManyLabels (body_labels old.labels b) why
 
 abbrev pub RefusesFunction : Visible → (old : Draft) → List Formal → Subtype → ExprTree → Refusal → Type 0
 RefusesFunction v old fs t e why = IsNeeding (here old.code + function_bound fs e) (function_needs v fs t e) why

@@ -8,7 +8,8 @@ use Rattle.stmt_code.proofs.body.initialise_all.Goals as goal
 
 pub loop-formal-preserved : goal.loop-formal-preserved
 loop-formal-preserved c = (
-  initial_turn c.values_have_words.ensures c.initial_values_have_shape.ensures c.args.visible.now c.args.code.now c.loop-formal.code c.initialise.new.code c.args.formals.now c.loop-formal.formal-index _ _
+  initial_turn c.values_have_words.ensures c.initial_values_have_shape.ensures c.args.visible.now c.args.code.now c.loop-formal.code
+      c.initialise.new.code c.args.formals.now c.loop-formal.formal-index _ _
       c.loop-formal-test.true refl c.loop-formal.invariant.0 c.in_ok-initialise.ensures.out c.in_ok-initialise.ensures.past c.in_ok-initialise.ensures.few,
   outs_shallow c.args.visible.now c.args.formals.now c.loop-formal.formal-index _ _ c.args.code.now c.loop-formal.code c.initialise.new.code
       c.loop-formal-test.true refl c.loop-formal.invariant.1 c.in_ok-initialise.ensures.shallow c.in_ok-initialise.ensures.past,

@@ -1,4 +1,4 @@
-use Rattle.std.proofs.Common.{◌+◌, ◌*◌, arith, length, ltb-true, rules, sym}
+use Rattle.std.proofs.Common.{length, ltb-true, rules, sym}
 use Rattle.stmt_code.proofs.CallsRefused.{actual_refuses, actuals_short, told_all, told_next, told_none}
 use Rattle.ada_tree.specs.ExpressionTree.{argument_tree, argument_trees}
 use Rattle.expr_code.proofs.Actuals.{got, mapped}

@@ -1,7 +1,7 @@
 use Rattle.std.proofs.Common.{◌∙◌, ap, arith, refl, sym}
 use Rattle.std.specs.Prelude.{None, option_map, Some}
 use Rattle.std.proofs.lemmas.Result.{IfErr-weaker}
-use Rattle.types.specs.Entities.{form_value, Integers, Spans, Times}
+use Rattle.types.specs.Entities.{form_value, Spans, Times}
 use Rattle.stmt_code.proofs.TargetsRefused.{check_refused, untaken}
 use Rattle.stmt_code.proofs.call.add_check.Goals as goal
 

@@ -1,4 +1,4 @@
-use Rattle.std.proofs.Common.{◌+◌, ◌*◌, arith, length, rules}
+use Rattle.std.proofs.Common.{rules}
 use Rattle.std.proofs.lemmas.List.Elements.{All-get_or}
 use Rattle.ada_tree.specs.Size.{total}
 use Rattle.stmt_code.proofs.CallsRefused.{copies_more, copy_refuses, copy_room}

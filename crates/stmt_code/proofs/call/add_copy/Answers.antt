@@ -1,4 +1,4 @@
-use Rattle.std.proofs.Common.{◌≡◌, ◌+◌, ◌∙◌, ap, arith, rules, suc, sym}
+use Rattle.std.proofs.Common.{◌≡◌, ◌+◌, ◌∙◌, arith, rules, suc, sym}
 use Rattle.stmt_code.proofs.AssignmentsRefused.{none_stored_at}
 use Rattle.stmt_code.proofs.TargetsRefused.{checked_few, copy_block_refused, copy_check_refused, copy_plain_refused, copy_unstored}
 use Rattle.stmt_code.proofs.call.add_copy.Goals as goal

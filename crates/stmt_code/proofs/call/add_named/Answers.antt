@@ -1,4 +1,4 @@
-use Rattle.std.proofs.Common.{◌≡◌, ◌+◌, ◌∙◌, inr, rules, subst, sym}
+use Rattle.std.proofs.Common.{◌≡◌, ◌+◌, ◌∙◌, inr, rules, subst}
 use Rattle.std.specs.Prelude.{Some}
 use Rattle.ada_tree.specs.ExpressionTree.{name_tree, selector_trees}
 use Rattle.types.specs.declared.standing.Standing.TheVariants as standing
@@ -7,7 +7,7 @@ use Rattle.types.specs.Standings.{stands_first}
 use Rattle.expr_code.specs.Code.{IsShallow}
 use Rattle.expr_code.specs.Refusing.{RefusesAddress, selectors_peak}
 use Rattle.expr_code.specs.Seeing.{slot_of}
-use Rattle.stmt_code.proofs.AssignmentsRefused.{no_object, no_slot, no_variable, unfit_whole}
+use Rattle.stmt_code.proofs.AssignmentsRefused.{no_object, no_slot, unfit_whole}
 use Rattle.stmt_code.proofs.TargetsRefused.{named_refused}
 use Rattle.stmt_code.proofs.call.add_named.Goals as goal
 
@@ -45,5 +45,6 @@ returns-clause-fits c =
 
 pub returns-clause-shallow : goal.returns-clause-shallow
 returns-clause-shallow c =
-    subst (λ l. IsShallow c.args.code.now c.address.new.self (c.args.depth + selectors_peak c.args.visible.now.scope 1 (selector_trees l))) c.deref.ensures.value
+    subst (λ l. IsShallow c.args.code.now c.address.new.self (c.args.depth + selectors_peak c.args.visible.now.scope 1 (selector_trees l)))
+    c.deref.ensures.value
     c.in_ok-subtype.ensures.shallow

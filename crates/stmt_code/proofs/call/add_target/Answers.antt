@@ -1,4 +1,4 @@
-use Rattle.std.proofs.Common.{◌∙◌, ap, sym}
+use Rattle.std.proofs.Common.{◌∙◌, ap}
 use Rattle.ada_tree.specs.ExpressionTree.{expr_tree}
 use Rattle.stmt_code.specs.Refusing.{target_needs}
 use Rattle.stmt_code.proofs.TargetsRefused.{chain_outside}

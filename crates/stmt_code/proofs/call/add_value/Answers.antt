@@ -5,7 +5,6 @@ use Rattle.expr_code.specs.Code.{Adds}
 use Rattle.expr_code.specs.Refusing.{IsUnfit}
 use Rattle.expr_code.proofs.Growing.{added_here}
 use Rattle.stmt_code.specs.Passing.{loaded_at}
-use Rattle.stmt_code.specs.Refusing.{copied_needs, IsNeeding}
 use Rattle.stmt_code.proofs.TargetsRefused.{block_refused, load_refused, value_check_refused, words_refused}
 use Rattle.stmt_code.proofs.call.add_value.Goals as goal
 

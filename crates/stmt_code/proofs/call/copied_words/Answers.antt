@@ -1,5 +1,4 @@
 use Rattle.std.proofs.Common.{◌+◌, arith, rules}
-use Rattle.expr_code.specs.Refusing.{IsUnfit}
 use Rattle.stmt_code.proofs.CallsRefused.{counted_refused, words_counted}
 use Rattle.stmt_code.proofs.ChecksAdded.{words_next}
 use Rattle.stmt_code.proofs.call.copied_words.Goals as goal

@@ -23,7 +23,8 @@ pub returns-in-Some-clause-shallow : goal.returns-in-Some-clause-shallow
 returns-in-Some-clause-shallow c =
     let v = c.args.visible.now in
     let t = c.args.subtype in
-    subst (λ o. OnOk c.of_subtype.result (IsShallow c.args.code.now c.of_subtype.new.self (initial_needs v t (optional_tree expr_tree o)).stack)) (sym c.in-Some.is)
+    subst (λ o. OnOk c.of_subtype.result (IsShallow c.args.code.now c.of_subtype.new.self (initial_needs v t (optional_tree expr_tree o)).stack))
+    (sym c.in-Some.is)
     (on_ok_weaker c.of_subtype.result
     (λ (p : IsShallow c.args.code.now c.of_subtype.new.self (1 + checked_peak (peak v.scope (expr_tree c.in-Some.value)))).
     several_some v t (expr_tree c.in-Some.value) c.args.code.now c.of_subtype.new.self p)

@@ -522,7 +522,8 @@ elsifs-loop-elsif-preserved t c = (
       c.in_ok-of_width.ensures.emits c.in_ok-test.ensures.adds
       c.in_ok-of_width-2.ensures.emits c.in_ok-close.ensures.closes),
   branch_shallow c.args.visible.now c.args.depth c.args.width c.args.elsifs.now _ c.elsif-item.result c.args.self.now c.loop-elsif.self c.of_width.new.self
-      c.test.new.self c.of_width-in-loop-elsif.new.self c.close.new.self _ c.loop-elsif-test.true c.elsif-item.is c.in_ok-raised.ensures.more c.loop-elsif.invariant.1
+      c.test.new.self c.of_width-in-loop-elsif.new.self c.close.new.self _ c.loop-elsif-test.true c.elsif-item.is c.in_ok-raised.ensures.more
+      c.loop-elsif.invariant.1
       c.in_ok-of_width.ensures.shallow c.in_ok-test.ensures.adds.shallow c.in_ok-of_width-2.ensures.shallow
       (closed_shallow _ _ _ _ _ _ c.in_ok-close.ensures.closes),
 )
@@ -902,7 +903,8 @@ expression-returns-in_ok-emit-in-Number-clause-shallow t c =
 pub expression-returns-in_ok-emit-in-Some-clause-shallow : goal.expression-returns-in_ok-emit-in-Some-clause-shallow
 expression-returns-in_ok-emit-in-Some-clause-shallow t c =
     let above = c.in_ok-above-in-Some.ensures.more in
-    let before = subst (λ x. IsShallow c.args.self.now c.of_width.new.self (c.args.depth + peak c.args.visible.now.scope (expr_tree x))) c.deref-in-Unary.ensures
+    let before = subst (λ x. IsShallow c.args.self.now c.of_width.new.self (c.args.depth + peak c.args.visible.now.scope (expr_tree x)))
+    c.deref-in-Unary.ensures
     c.in_ok-of_width-in-Unary.ensures.shallow in
     rw c.in-Unary.is
     (word_deeper c.args.visible.now c.args.depth (expr_tree c.in-Unary.operand.value) _ _ _ c.in_ok-above-in-Some.field-0 (omega (arith, above)) before
@@ -950,7 +952,8 @@ expression-returns-in_ok-rejoin-in-Conditional-clause-shallow t c =
     (subst (λ x. IsShallow c.test.new.self c.expression-in-Conditional.new.self (depth + peak v.scope (expr_tree x))) c.deref-in-Conditional-2.ensures
     c.in_ok-width-in-Conditional.ensures.shallow)
     (closed_shallow _ _ _ _ _ _ c.in_ok-close-in-Conditional.ensures.closes)
-    (subst (λ l. IsShallow c.close.new.self c.elsifs.new.self (depth + max width (branches_peak v.scope (map branch_of l)))) c.deref-in-Conditional-3.ensures.value
+    (subst (λ l. IsShallow c.close.new.self c.elsifs.new.self (depth + max width (branches_peak v.scope (map branch_of l))))
+    c.deref-in-Conditional-3.ensures.value
     c.in_ok-elsifs-in-Conditional.ensures.shallow)
     (subst (λ x. IsShallow c.elsifs.new.self c.of_width-in-Conditional-2.new.self (depth + peak v.scope (expr_tree x))) c.deref-in-Conditional-4.ensures
     c.in_ok-of_width-in-Conditional-2.ensures.shallow)

@@ -187,7 +187,8 @@ alternatives-loop-alternative-preserved t c =
       c.in_ok-alternative.ensures.same ∙ there,
       alternatives_stay v w c.args.self.now c.loop-alternative.self c.alternative.new.self c.args.all.now _ c.alternative-item.result
           c.loop-alternative-test.true c.alternative-item.is c.loop-alternative.invariant.0.emits.taken c.loop-alternative.invariant.2
-          (subst (λ x. StaysAlternatives x w c.loop-alternative.self (alternatives_of (alternative_tree c.alternative-item.result ∷ [])) c.alternative.new.self) there
+          (subst (λ x. StaysAlternatives x w c.loop-alternative.self (alternatives_of (alternative_tree c.alternative-item.result ∷ []))
+          c.alternative.new.self) there
           c.in_ok-alternative.ensures.stays),
     )
 
@@ -717,7 +718,8 @@ statements-loop-statement-preserved t c =
       c.in_ok-statement.ensures.same ∙ there,
       statements_stay c.args.visible.now w c.args.self.now c.loop-statement.self c.statement.new.self c.args.all.now _ c.statement-item.result
           c.loop-statement-test.true c.statement-item.is c.loop-statement.invariant.0.taken c.loop-statement.invariant.2
-          (subst (λ x. StaysStatement x w c.loop-statement.self (stmt_tree c.statement-item.result) c.statement.new.self) there c.in_ok-statement.ensures.stays),
+          (subst (λ x. StaysStatement x w c.loop-statement.self (stmt_tree c.statement-item.result) c.statement.new.self) there
+          c.in_ok-statement.ensures.stays),
     )
 
 pub statements-returns-clause-stays : goal.statements-returns-clause-stays
@@ -943,7 +945,8 @@ repeated-returns-in_err-test-in-While-clause-refused t c =
     let long = begun_here _ _ c.in_ok-head-in-While.ensures.begins in
     let first = c.in_ok-of_width-in-While.ensures.emits.sized in
     let whole = subst (λ i. RefusesStatement v w c.args.self.now (Loop c.args.place (iteration_tree i) body) why) (sym c.in-While.is)
-    (instruction_refuses v w c.args.self.now why c.args.place (While e) body _ 1 (omega (arith, long, first)) (let some = peak_some v.scope e in omega (arith, some))
+    (instruction_refuses v w c.args.self.now why c.args.place (While e) body _ 1 (omega (arith, long, first))
+    (let some = peak_some v.scope e in omega (arith, some))
     c.in_err-test-in-While.ensures.refused) in
     search (rules, whole)
 
@@ -1073,7 +1076,8 @@ block-returns-in_err-statements-clause-refused t c =
     let declared = c.in_ok-declarations.ensures.emits in
     let whole = block_body_refused c.args.visible.now (ways_of c.args.leaving) c.args.self.now c.in_err-statements.field-0.0 c.args.place
     (map declaration_tree c.args.declarations.now) (stmt_trees c.args.body.now) c.declarations.new.visible c.declarations.new.self
-    c.in_ok-declarations.ensures.shown declared.scope c.in_ok-declarations.ensures.taken c.in_ok-declarations.ensures.stays.labels declared.sized c.in_err-statements.ensures.refused in
+    c.in_ok-declarations.ensures.shown declared.scope c.in_ok-declarations.ensures.taken c.in_ok-declarations.ensures.stays.labels declared.sized
+    c.in_err-statements.ensures.refused in
     search (rules, whole)
 
 -- ---- refusals: a statement
@@ -1135,7 +1139,8 @@ statement-returns-in_err-statements-in-If-clause-refused t c =
     let labels = kept_others.labels ∙ ap (λ l. elsifs_labels l (elsif_trees c.in-If.elsifs.items)) kept.labels in
     let whole = subst (λ x. RefusesStatement v w c.args.self.now x why) (sym tree)
     (others_refuse v w c.args.self.now why c.in-If.field-0 (expr_tree c.in-If.condition) (stmt_trees c.in-If.body.items)
-    (elsif_trees c.in-If.elsifs.items) (stmt_trees c.in-If.others.items) c.elsifs.new.self (others.emits.taken ∙ first.emits.taken) labels (omega (arith, up, more))
+    (elsif_trees c.in-If.elsifs.items) (stmt_trees c.in-If.others.items) c.elsifs.new.self (others.emits.taken ∙ first.emits.taken) labels
+    (omega (arith, up, more))
     (subst (λ x. RefusesStatements x w c.elsifs.new.self (stmt_trees c.in-If.others.items) why) (c.in_ok-elsifs-in-If.ensures.same ∙ one)
     (subst (λ l. RefusesStatements c.elsifs.new.visible w c.elsifs.new.self (stmt_trees l) why) c.deref-in-If-2.ensures.value
     c.in_err-statements-in-If.ensures.refused))) in
@@ -1243,7 +1248,8 @@ statement-returns-in-Delay-clause-refused t c =
 
 pub statement-returns-in-DelayUntil-clause-refused : goal.statement-returns-in-DelayUntil-clause-refused
 statement-returns-in-DelayUntil-clause-refused t c =
-    subst (λ x. RefusesStatement c.args.visible.now (ways_of c.args.leaving) c.args.self.now x refusal.Outside) (sym (ap stmt_tree c.in-DelayUntil.is)) (inl refl)
+    subst (λ x. RefusesStatement c.args.visible.now (ways_of c.args.leaving) c.args.self.now x refusal.Outside)
+    (sym (ap stmt_tree c.in-DelayUntil.is)) (inl refl)
 
 pub statement-returns-in-Abort-clause-refused : goal.statement-returns-in-Abort-clause-refused
 statement-returns-in-Abort-clause-refused t c =
@@ -1366,7 +1372,8 @@ statement-returns-in_ok-statements-in-If-clause-stays t c =
     c.branch-self.new.waiting.items c.branch-self.new.self) c.deref.ensures.value c.in_ok-branch-in-If.ensures.adds in
     let one = c.in_ok-branch-in-If.ensures.same in
     let two = c.in_ok-elsifs-in-If.ensures.same ∙ one in
-    let others = subst (λ x. AddsParts x w c.branch-self.new.self (map elsif_tree c.in-If.elsifs.items) c.branch-self.new.waiting.items c.elsifs.new.waiting.items
+    let others = subst (λ x. AddsParts x w c.branch-self.new.self (map elsif_tree c.in-If.elsifs.items) c.branch-self.new.waiting.items
+    c.elsifs.new.waiting.items
     c.elsifs.new.self) one
     (subst (λ l. AddsParts c.branch-self.new.visible w c.branch-self.new.self (map elsif_tree l) c.branch-self.new.waiting.items c.elsifs.new.waiting.items
     c.elsifs.new.self) c.deref-in-If.ensures.value c.in_ok-elsifs-in-If.ensures.adds) in
@@ -1380,7 +1387,8 @@ statement-returns-in_ok-statements-in-If-clause-stays t c =
     c.in_ok-statements-in-If.ensures.stays) in
     on_ok_weaker _
     (λ r.
-    subst (λ x. StaysStatement v w c.args.self.now x (record { code = c.rejoin.new.self; labels = c.statements.new.self.labels; words = c.statements.new.self.words }))
+    subst (λ x. StaysStatement v w c.args.self.now x
+    (record { code = c.rejoin.new.self; labels = c.statements.new.self.labels; words = c.statements.new.self.words }))
     (sym tree)
     (if_stays v w c.args.self.now c.in-If.field-0 (expr_tree c.in-If.condition) (stmt_trees c.in-If.body.items) (elsif_trees c.in-If.elsifs.items)
     (stmt_trees c.in-If.others.items) c.branch-self.new.self c.elsifs.new.self c.statements.new.self c.rejoin.new.self first.emits.taken

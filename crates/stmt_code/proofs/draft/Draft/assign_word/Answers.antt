@@ -1,4 +1,4 @@
-use Rattle.std.proofs.Common.{◌∙◌, ap, arith, inl, refl, rules, sym}
+use Rattle.std.proofs.Common.{◌∙◌, arith, inl, refl, rules, sym}
 use Rattle.std.proofs.lemmas.Result.{IfErr-weaker, on_ok_weaker}
 use Rattle.ada_tree.specs.ExpressionTree.{expr_tree, name_tree}
 use Rattle.expr_code.proofs.Fitting.{fitting_checked}

@@ -58,7 +58,9 @@ returns-clause-emits c =
 pub add_copies-requires : goal.add_copies-requires
 add_copies-requires c =
     let v = c.args.visible.now in
-    let told = c.deref-2.ensures.value ∙ c.in_ok-height.ensures.told ∙ ap (λ l. l ++ destinations_of v (take (length c.in-Some-actuals_of.arguments.now) c.deref.result.now) (argument_trees c.in-Some-actuals_of.arguments.now)) c.new-destinations.ensures.items in
+    let told = c.deref-2.ensures.value ∙ c.in_ok-height.ensures.told ∙ ap
+    (λ l. l ++ destinations_of v (take (length c.in-Some-actuals_of.arguments.now) c.deref.result.now)
+    (argument_trees c.in-Some-actuals_of.arguments.now)) c.new-destinations.ensures.items in
     record { fits = subst (All (IsPartFit v)) (sym told) c.in_ok-height.ensures.fits }
 
 pub returns-in_err-height-clause-refused : goal.returns-in_err-height-clause-refused
@@ -111,7 +113,8 @@ returns-clause-refused c =
     let called = added_here c.add_actuals.new.code c.emit.new.self _ _ c.in_ok-emit.ensures.adds in
     let parts = c.deref-2.ensures.value ∙ added.after_is ∙ ap (λ l. l ++ added.destinations) c.new-destinations.ensures.items in
     let many = ap length parts in
-    let told = c.deref-2.ensures.value ∙ c.in_ok-height.ensures.told ∙ ap (λ l. l ++ destinations_of v (take (length all) c.deref.result.now) (argument_trees all)) c.new-destinations.ensures.items ∙ front ∙ taken in
+    let told = c.deref-2.ensures.value ∙ c.in_ok-height.ensures.told ∙ ap
+    (λ l. l ++ destinations_of v (take (length all) c.deref.result.now) (argument_trees all)) c.new-destinations.ensures.items ∙ front ∙ taken in
     IfErr-weaker _ _ _
     (λ why r.
     inl (copies_refuse v name fs (argument_trees all) written why (here c.emit.new.self + 4 * length c.deref-2.result.now) whole_bound
@@ -131,7 +134,8 @@ returns-clause-stays c =
     let front : destinations_of v (take (length all) c.deref.result.now) (argument_trees all) ≡ destinations_of v (take (length all) fs) (argument_trees all) =
     λ j. destinations_of v (take (length all) (c.deref.ensures.value j)) (argument_trees all) in
     let taken = ap (λ l. destinations_of v l (argument_trees all)) (take_all fs (length all) (omega (arith, counted))) in
-    let told = c.deref-2.ensures.value ∙ c.in_ok-height.ensures.told ∙ ap (λ l. l ++ destinations_of v (take (length all) c.deref.result.now) (argument_trees all)) c.new-destinations.ensures.items ∙ front ∙ taken in
+    let told = c.deref-2.ensures.value ∙ c.in_ok-height.ensures.told ∙ ap
+    (λ l. l ++ destinations_of v (take (length all) c.deref.result.now) (argument_trees all)) c.new-destinations.ensures.items ∙ front ∙ taken in
     let high = c.in_ok-height.ensures.emits.emits.high ∙ ap (λ l. 0 + total (passed_width v.scope) (take (length all) l)) c.deref.ensures.value in
     let passed = subst (λ l. IsShallow c.args.self.now.code c.add_actuals.new.code (actuals_needs 0 v l (argument_trees all)).stack) c.deref.ensures.value
     c.in_ok-height.ensures.shallow in
