@@ -1,25 +1,23 @@
 -- Where exceptions go on that a frame raises, told by the items that its code follows.
-use Rattle.std.proofs.Common.{◌≡◌, ℕ, suc, ◌+◌, ◌≤◌, ◌<◌, ℤ, List, [], ◌∷◌, map, length, Option, Some, None, Bool, true, false, refl, sym, ap, ◌∙◌, subst, arith}
+use Rattle.std.proofs.Common.{◌≡◌, ℕ, suc, ◌≤◌, ℤ, List, [], ◌∷◌, map, length, Option, Some, None, Bool, true, false, refl, sym, ap, ◌∙◌, subst, arith}
 use Rattle.std.specs.Prelude.{if◌then◌else◌, pos, slice_get}
 use Rattle.std.proofs.lemmas.Option.{none-some, same_Some}
 use Rattle.handlers.specs.Innermost.{handler_of}
 use Rattle.image.specs.Sections.{Sections}
 use Rattle.image.specs.Frames.{Frame}
-use Rattle.image.specs.declared.instruction.Operation.TheVariants as op
 use Rattle.ada_tree.specs.declared.statement.ExceptionChoice.{ExceptionChoice}
 use Rattle.ada_tree.specs.StatementTree.{HandlerTrees, NoHandlers, MoreHandlers, StmtTrees}
 use Rattle.meaning.specs.Programs.{Program}
-use Rattle.meaning.specs.SourceSteps.{before, handled_exception, handler_for, some_covers}
+use Rattle.meaning.specs.SourceSteps.{handled_exception, handler_for, some_covers}
 use Rattle.meaning.specs.Works.{Item, Declares, DeclaresParameter, Sequence, Does, DoesMain, Repeats, RepeatsWhile, RepeatsFor, Handles, EndsHandler, EndsCall, Activation, ends_of_calls}
 use Rattle.sound_steps.specs.Objects.{IsException}
 use Rattle.expr_code.specs.Seeing.{Package}
-use Rattle.expr_code.specs.Views.{At, placed}
-use Rattle.stmt_code.specs.Resting.{AreHeld, Framed, Held, Rests, RestsWith, Shows, held_offset}
-use Rattle.stmt_code.specs.Handling.{GoesBy, Handling, exception_in}
+use Rattle.stmt_code.specs.Resting.{AreHeld, Framed, Rests, RestsWith, Shows, held_offset}
+use Rattle.stmt_code.specs.Handling.{Handling, exception_in}
 use Rattle.stmt_code.specs.Counting.{in_turn}
-use Rattle.stmt_code.specs.Statements.{AreHandlers, Numbers, Ways, within_handler}
-use Rattle.stmt_code.specs.Standing.{AreInner, Around, Catches, CaughtIf, Follows, Here, Inside, IsCatching, IsCaught, IsGoing, Jumps, LeadsBehind, LeadsOver, There, in_handler, with_visible}
-use Rattle.stmt_code.proofs.Going.{before_ends, before_follows, narrows_same, rest_of}
+use Rattle.stmt_code.specs.Statements.{AreHandlers, Numbers, Ways}
+use Rattle.stmt_code.specs.Standing.{AreInner, Around, Catches, CaughtIf, Follows, Here, Inside, IsCaught, LeadsOver, There, in_handler, with_visible}
+use Rattle.stmt_code.proofs.Going.{before_ends, before_follows, rest_of}
 
 -- whether a handler has a choice for the exception: it goes to the handler, or on
 by_choice : {P : Type 0} (b : Bool) (inner next : Option ℕ) (from : ℕ) (own : StmtTrees) (rest found : Option StmtTrees)

@@ -1,6 +1,5 @@
 -- A step of a task and the frame that stands for its work: how steps meet, exceptions on their way, items without code, ways out.
-use Rattle.std.proofs.Common.{◌≡◌, ℕ, suc, ◌+◌, ◌-◌, ◌<◌, ◌≤◌, ◌⊎◌, inl, inr, ⊎_elim, ℤ, List, [], ◌∷◌, length, map, Option, Some, None, refl, sym, ap, ◌∙◌, subst, arith}
-use Rattle.std.specs.Prelude.{◌++◌}
+use Rattle.std.proofs.Common.{◌≡◌, ℕ, suc, ◌+◌, ◌-◌, ◌<◌, ◌≤◌, ◌⊎◌, inl, inr, ⊎_elim, ℤ, List, [], ◌∷◌, length, Option, Some, None, refl, sym, ap, ◌∙◌, subst, arith}
 use Rattle.base.specs.declared.schedule.ScheduleLine.{ScheduleLine}
 use Rattle.base.specs.declared.limits.TheConstants.{FRAMES}
 use Rattle.kernel.specs.State.{Kernel}
@@ -28,7 +27,7 @@ use Rattle.meaning.specs.Programs.{Program}
 use Rattle.meaning.specs.SameMeaning.{frames_of}
 use Rattle.meaning.specs.SourceSteps as source
 use Rattle.meaning.specs.SourceSteps.{here_of, place_of, program_behaviour, with_value, work_step}
-use Rattle.meaning.specs.Works.{Item, Declares, Sequence, Does, Handles, EndsHandler, Goes, Activation, Store, TaskWork, ends_of_calls, frames_left}
+use Rattle.meaning.specs.Works.{Item, Does, Goes, Activation, Store, TaskWork, ends_of_calls, frames_left}
 use Rattle.sound_steps.specs.Holding.{IsSoundStep, IsSoundStore, IsSoundTask, waits_after}
 use Rattle.sound_steps.specs.Laws.{Premises, StepsAreSound, StoresAreAlike}
 use Rattle.sound_steps.specs.Objects.{IsException}
@@ -37,16 +36,15 @@ use Rattle.expr_code.specs.Views.{At, in_frame, placed, view_of}
 use Rattle.expr_code.specs.Coming.{Comes, Throws, most_steps, size_of}
 use Rattle.expr_code.specs.Computing.{Everywhere}
 use Rattle.expr_code.specs.Seeing.{Package, Sees, SeesPackage, library_of}
-use Rattle.expr_code.proofs.Coming.{acts, after_first}
+use Rattle.expr_code.proofs.Coming.{acts}
 use Rattle.expr_code.proofs.Coming as coming
 use Rattle.stmt_code.specs.Resting.{Framed, Held, IsSmall, Knows, Narrows, Rests, RestsWith, Shows, StandsFor}
 use Rattle.stmt_code.specs.Handling.{GoesBy}
-use Rattle.stmt_code.specs.Statements.{IsSequence, Numbers}
-use Rattle.stmt_code.specs.Standing.{AreInner, Around, Catches, CodeStands, Follows, Going, Here, Inside, IsGoing, IsOutermost, IsSound, Jumps, Leads, with_visible, Raised, Reaches, Shares, StaysAlone, There, WorkStands, in_sequence, items_size, relation, work_size}
+use Rattle.stmt_code.specs.Statements.{Numbers}
+use Rattle.stmt_code.specs.Standing.{AreInner, Around, Catches, CodeStands, Follows, Going, Here, Inside, IsGoing, IsSound, Jumps, Leads, with_visible, Raised, Shares, StaysAlone, There, WorkStands, items_size, relation, work_size}
 use Rattle.stmt_code.specs.Laws.{HasCode}
-use Rattle.stmt_code.proofs.Going.{before_ends, before_follows, declares_end, declares_follow, Drops, drops_handler, earlier, jumps_up, narrows_same, shows_then, way_back, way_out}
+use Rattle.stmt_code.proofs.Going.{Drops, earlier, jumps_up, shows_then, way_back, way_out}
 use Rattle.stmt_code.proofs.Catching.{catches}
-use Rattle.stmt_code.proofs.Sizes.{before_size, declares_size, item_counts}
 
 -- what is known where a task takes a step: of the image, of the program, and of both sides
 pub record Scene : Type 0 where

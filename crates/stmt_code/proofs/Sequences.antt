@@ -1,5 +1,5 @@
 -- Sequences of statements and blocks, with the handlers that cover them: they begin and end without code, or with a jump over the handlers.
-use Rattle.std.proofs.Common.{◌≡◌, ℕ, suc, ◌+◌, ◌<◌, ◌≤◌, ℤ, List, [], ◌∷◌, length, map, None, refl, sym, ap, ◌∙◌, subst, arith}
+use Rattle.std.proofs.Common.{◌≡◌, ℕ, suc, ◌+◌, ◌<◌, ◌≤◌, List, ◌∷◌, map, refl, sym, ap, ◌∙◌, subst, arith}
 use Rattle.std.specs.Prelude.{◌++◌}
 use Rattle.image.specs.Sections.{Sections}
 use Rattle.image.specs.Frames.{Frame, TaskState}
@@ -7,7 +7,7 @@ use Rattle.ada_tree.specs.StatementTree.{DeclarationTree, Block, StmtTrees, Hand
 use Rattle.meaning.specs.Programs.{Program}
 use Rattle.meaning.specs.SourceSteps as source
 use Rattle.meaning.specs.SourceSteps.{work_step}
-use Rattle.meaning.specs.Works.{Item, Declares, Sequence, Does, Handles, EndsHandler, Goes, Activation, TaskWork, ends_of_calls}
+use Rattle.meaning.specs.Works.{Item, Declares, Sequence, Does, Handles, EndsHandler, Goes, Activation, TaskWork}
 use Rattle.expr_code.specs.Seeing.{Package}
 use Rattle.stmt_code.specs.Resting.{Framed, Narrows, RestsWith}
 use Rattle.stmt_code.specs.Statements.{IsSequence, Numbers}
