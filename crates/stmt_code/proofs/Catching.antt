@@ -172,7 +172,8 @@ module _ (i : Sections) (program : Program) (g : Package) (numbers : Numbers) wh
   abbrev pub HasRoom : Type 0
   HasRoom = (v : Framed) (a : Activation) (locals : List ℤ) → Rests g v a locals → v.room ≤ length locals
 
-  caught : HasRoom → (a : Setting) (from at to : ℕ) (outer : Setting) (x : ℕ) (f : Frame) (fs : List Frame) (own : Activation) (os : List Activation) (hs : HandlerTrees)
+  caught : HasRoom → (a : Setting) (from at to : ℕ) (outer : Setting) (x : ℕ) (f : Frame) (fs : List Frame) (own : Activation) (os : List Activation)
+      (hs : HandlerTrees)
       (body : StmtTrees) (items : List Item)
       → LeadsOver i program g numbers a f.subprogram from at to outer → Follow outer f.subprogram to items fs os
       → IsRaising a x f fs own (Handles hs ∷ items)
@@ -208,7 +209,8 @@ module _ (i : Sections) (program : Program) (g : Package) (numbers : Numbers) wh
           acts = λ schedule k t' m. kept.acts schedule k t' m fs;
           going = record {
             around = around;
-            follows = before_follows i program g numbers body around later f.subprogram (suc t.target) mid (EndsHandler x ∷ items) fs os code.statements two start_in
+            follows = before_follows i program g numbers body around later f.subprogram (suc t.target) mid
+                (EndsHandler x ∷ items) fs os code.statements two start_in
                 mid_in (
                   (λ p view z. over.reaches.0 p view (shows p view z)),
                   (λ p view z. over.reaches.1 p view (shows p view z)),
@@ -265,7 +267,8 @@ module _ (i : Sections) (program : Program) (g : Package) (numbers : Numbers) wh
       catches room items (seeing follows.2 a) follows.1 x f fs own os follows.5
       (drop_seeing a follows.2 x f fs own (Sequence body hs) items follows.3.narrows.reserved refl h)
   catches room (Does s ∷ items) a from x f fs own os follows h =
-      catches room items (seeing follows.2 a) follows.1 x f fs own os follows.5 (drop_seeing a follows.2 x f fs own (Does s) items follows.3.narrows.reserved refl h)
+      catches room items (seeing follows.2 a) follows.1 x f fs own os follows.5 (drop_seeing a follows.2 x f fs own
+      (Does s) items follows.3.narrows.reserved refl h)
   catches room (DoesMain s ∷ items) a from x f fs own os follows h =
       catches room items (seeing follows.2 a) follows.1 x f fs own os follows.5
       (drop_seeing a follows.2 x f fs own (DoesMain s) items follows.3.narrows.reserved refl h)
@@ -348,7 +351,8 @@ module _ (i : Sections) (program : Program) (g : Package) (numbers : Numbers) wh
 
   -- ---- the exception that a handler holds
 
-  pub handling_here : (items : List Item) (a : Setting) (n from word : ℕ) (locals : List ℤ) (fs : List Frame) (os : List Activation) → Follow a n from items fs os
+  pub handling_here : (items : List Item) (a : Setting) (n from word : ℕ) (locals : List ℤ) (fs : List Frame) (os : List Activation)
+      → Follow a n from items fs os
       → a.ways.handled ≡ Some word → AreHeld locals a.held
       → (x : ℕ) × (handled_exception items ≡ Some x) × (slice_get locals word ≡ Some (pos x))
   handling_here [] a n from word locals fs os follows is held = let none = follows.0.outermost.handled in absurd cc

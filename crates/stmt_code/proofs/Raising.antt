@@ -295,7 +295,8 @@ module _ (this : Scene) where
         (scene.handled_by this s around r.2 r.1 items v r.0 r.1 r.5 r.4.1 rests refl leads.reaches.2 h.outside h.depth h.inner)
         (λ z ez next spends. absurd cc))
 
-    following : (at : ℕ) (stack : List ℤ) → steps.does Quiet m (placed f (at + 1) stack) fs None None ≡ steps.does Quiet m (placed f (suc at) stack) fs None None
+    following : (at : ℕ) (stack : List ℤ) → steps.does Quiet m (placed f (at + 1) stack) fs None None ≡ steps.does Quiet m (placed f
+        (suc at) stack) fs None None
     following at stack = let e : at + 1 ≡ suc at = omega arith in ap (λ q. steps.does Quiet m (placed f q stack) fs None None) e
 
     pub met_raise : (place : ℕ) (name : Option Identifier) (items : List Item) → w.work ≡ Goes (Does (Raise place name) ∷ items)

@@ -343,10 +343,12 @@ module _ (this : Scene) where
   -- wherever in this part of the code the value is raised, there is what takes it
   abbrev pub Handled : {A : Type 0} → Frame → List Frame → Val A → List Item → (from to : ℕ) → Type 0
   Handled f fs v items from to =
-      (x place : ℕ) (left : List ℤ) → IsException program x → v ≡ Raises x → from ≤ place → place < to → Catches i program g numbers x (placed f place left) fs w.own w.callers items
+      (x place : ℕ) (left : List ℤ) → IsException program x → v ≡ Raises x → from ≤ place → place < to → Catches i program g numbers x
+      (placed f place left) fs w.own w.callers items
 
   -- a step of the source that evaluates: what raises is met, and what has no meaning is excluded
-  pub met_value_on : {A : Type 0} (base start : List ℤ) (f : Frame) (fs : List Frame) (n from n' to : ℕ) (stack : A → List ℤ) (v : Val A) (items : List Item) (go : A → source.Stepped)
+  pub met_value_on : {A : Type 0} (base start : List ℤ) (f : Frame) (fs : List Frame) (n from n' to : ℕ) (stack : A → List ℤ) (v : Val A)
+      (items : List Item) (go : A → source.Stepped)
       → Spends (behaviour i schedule) t frames_of (most_steps i) (suc (length fs)) n k (in_frame m (placed f f.place base) fs) k
       (in_frame m (placed f from start) fs)
       → Comes i schedule k t m (placed f from start) fs n' to stack v
@@ -369,12 +371,18 @@ module _ (this : Scene) where
       let raised = source.raises now x items in
       let all = spends_takes (behaviour i schedule) t frames_of (most_steps i) n' k (record { memory = m; task = comes.0 }) first comes.3 in
       let stands : (s : TaskState) → Throws i x s f' fs → WorkStands i program g numbers k raised.solo.task s =
-      λ s throws. record { sound = task_after raised is refl; code = Raised x items f' fs refl throws (inner_placed f fs place left inner) (handled x place left (raises_known x items is) refl comes.4 comes.5) } in
-      met_quiet_on base f fs (n + n') comes.0 raised is refl refl all (omega (arith, low)) (λ s e. stands s (subst (λ q. Throws i x q f' fs) (sym e) comes.6)) less
+      λ s throws. record {
+        sound = task_after raised is refl;
+        code = Raised x items f' fs refl throws (inner_placed f fs place left inner)
+            (handled x place left (raises_known x items is) refl comes.4 comes.5);
+      } in
+      met_quiet_on base f fs (n + n') comes.0 raised is refl refl all (omega (arith, low)) (λ s e. stands s (subst (λ q. Throws i x q f' fs)
+      (sym e) comes.6)) less
   met_value_on base start f fs n from n' to stack Meaningless items go first comes low is less inner handled last = absurd (has_meaning items is)
 
   -- ... and is then met by the code's last instruction
-  pub met_comes_on : {A : Type 0} (base start : List ℤ) (f : Frame) (fs : List Frame) (n from n' to : ℕ) (stack : A → List ℤ) (v : Val A) (items : List Item) (go : A → source.Stepped)
+  pub met_comes_on : {A : Type 0} (base start : List ℤ) (f : Frame) (fs : List Frame) (n from n' to : ℕ) (stack : A → List ℤ) (v : Val A)
+      (items : List Item) (go : A → source.Stepped)
       → Spends (behaviour i schedule) t frames_of (most_steps i) (suc (length fs)) n k (in_frame m (placed f f.place base) fs) k
       (in_frame m (placed f from start) fs)
       → Comes i schedule k t m (placed f from start) fs n' to stack v
@@ -499,7 +507,8 @@ module _ (this : Scene) where
     -- what takes the exceptions of these places, where the items follow
     pub handled_by : {A : Type 0} (a : Setting) (now' : Framed) (to : ℕ) (items : List Item) (v : Val A) (from' to' : ℕ)
         → Follow a f.subprogram to items fs w.callers
-        → GoesBy i a.raised from' to' → RestsWith g now' a.held w.own f.locals → now'.reserved ≡ a.visible.reserved → Shows g now' a.handling → w.own.within ≡ None
+        → GoesBy i a.raised from' to' → RestsWith g now' a.held w.own f.locals → now'.reserved ≡ a.visible.reserved → Shows g now' a.handling
+        → w.own.within ≡ None
         → length fs ≡ ends_of_calls items → Removable f fs → Handled f fs v items from' to'
     handled_by a now' to items v from' to' follows goes rests same shows outside depth inner = λ x place left known is low high.
         catches i program g numbers has_room items a to x (placed f place left) fs w.own w.callers follows

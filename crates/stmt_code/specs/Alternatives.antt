@@ -87,7 +87,8 @@ in_front (x ∷ all) rest = MoreAlternatives x.0 x.1.0 x.1.1 (in_front all rest)
 -- with whatever alternatives stand behind them, they are alternatives of the expression's value
 abbrev pub AreSelected : Ways → ExprTree → List (ℕ × (ChoicesTree × StmtTrees)) → MeantTo
 AreSelected w e all i program g numbers f handling end from to =
-    (rest : AlternativeTrees) → AreAlternatives i program g numbers f w handling to end e rest → AreAlternatives i program g numbers f w handling from end e (in_front all rest)
+    (rest : AlternativeTrees) → AreAlternatives i program g numbers f w handling to end e rest → AreAlternatives i program g numbers f w handling from end e
+    (in_front all rest)
 
 -- code of these alternatives was added, which finds the value on the operand stack, and the places of their jumps to the end
 pub record AddsAlternatives (v : Visible) (w : Ways) (e : ExprTree) (old : Draft) (all : List (ℕ × (ChoicesTree × StmtTrees)))

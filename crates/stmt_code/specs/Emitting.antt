@@ -122,7 +122,8 @@ pub record Emits (Is : Meant) (v : Visible) (w : Ways) (old : Draft) (size : ℕ
       → AreKept i s low high (here old.code) (here new.code) 0
 
 abbrev pub EmitsStatement : Visible → Ways → Draft → StmtTree → Draft → Type 0
-EmitsStatement v w old x new = Emits (λ i program g numbers f handling from to. IsStatement i program g numbers f w handling from to x) v w old (stmt_bound v.scope x) new
+EmitsStatement v w old x new = Emits (λ i program g numbers f handling from to. IsStatement i program g numbers f w handling from to x) v w old
+    (stmt_bound v.scope x) new
 
 abbrev pub EmitsStatements : Visible → Ways → Draft → StmtTrees → Draft → Type 0
 EmitsStatements v w old body new =
@@ -255,7 +256,8 @@ pub record EmitsOpen (Is : MeantTo) (v : Visible) (w : Ways) (depth : ℕ) (old 
       → (handling : Handling) → GoesBy i handling (here old.code) (here new.code)
       → Is i program g numbers f handling end (here old.code) (here new.code)
   pub flows : (i : Sections) (s : Subprogram) (low high end : ℕ) → low ≤ here old.code → here new.code ≤ end → end ≤ high
-      → Joins i (here old.code) waiting end 0 new.code → HasLabels i new.labels → SuitsStatements v i s → new.code.deepest ≤ s.stack → new.words.most ≤ s.locals → depth ≤ s.stack
+      → Joins i (here old.code) waiting end 0 new.code → HasLabels i new.labels → SuitsStatements v i s → new.code.deepest ≤ s.stack
+      → new.words.most ≤ s.locals → depth ≤ s.stack
       → has_depth i end 0 ≡ true → has_depth i (here new.code) depth ≡ true → Allows i low high w
       → AreKept i s low high (here old.code) (here new.code) depth
 
