@@ -70,7 +70,7 @@ module _ (laws : LawsOfNames) (passes : KeptCodePasses) (t : ProgramTree) (legal
           there = called_main t i h;
           kept = subst (λ p. IsKept i p row) (sym (first_main t i h))
               (passes.added h.walk.visible h.walk.draft h.draft h.words h.keeps i row (holds_main t i h)
-              (let labels : HasLabels i h.draft.labels = record { rows = h.rows; labels = λ k y le e. ap (λ l. slice_get l k) h.labels ∙ e } in labels)
+              (let labels : HasLabels i h.draft.labels = record { labels = λ k y le e. ap (λ l. slice_get l k) h.labels ∙ e } in labels)
               (record { parameters = refl; results = refl; locals = refl; stack = refl })
               (front_suited laws t legal restricted i h h.walk.visible h.walk.place h.walked.scope h.walked.told row) refl
               (record { object = refl; bare = λ task. (h.main.passed, h.main.results) }));

@@ -243,7 +243,7 @@ module _ (t : ProgramTree) (i : Sections) (h : HasProgram t i) where
         ap (λ l. slice_get l k) h.instructions ∙ grows.instructions k y (omega arith) (body.kept.instructions k y (omega arith) e)
 
     pub labels_there : HasLabels i body.new.labels
-    labels_there = record { rows = h.rows; labels = λ k y le e. ap (λ l. slice_get l k) (h.labels ∙ h.main.labels) ∙ body.kept.labels k y (omega arith) e }
+    labels_there = record { labels = λ k y le e. ap (λ l. slice_get l k) (h.labels ∙ h.main.labels) ∙ body.kept.labels k y (omega arith) e }
 
   module _ (laws : LawsOfNames) (quiet : QuietStays) (shaped : InitialValuesHaveShape) (legal : IsLegal t) (restricted : IsRestricted t)
       (well_formed : IsWellFormed i) where
@@ -272,7 +272,7 @@ module _ (t : ProgramTree) (i : Sections) (h : HasProgram t i) where
       procedure_there : d.result ≡ None → IsProcedure i program g numbers (procedure_by program.scope (subprogram_body None d b)) body.number
       procedure_there none =
           procedure_emitted laws quiet shaped t legal restricted i well_formed g of_program numbers place d b at body.seen body.old body.new body.words
-          (as_procedure t d b body.seen body.old body.words body.new body.adds none) body.number row there first refl refl (ap results_of there) refl holds labels
+          (as_procedure t d b body.seen body.old body.words body.new body.adds none) body.number row there first refl refl (ap results_of there) refl holds labels h.rows
           (λ name q n found told. procedure_numbered program h.directory name q n found told)
           (in_front _ (suc place) body.scope body.told)
 

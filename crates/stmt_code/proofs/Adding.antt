@@ -34,14 +34,14 @@ use Rattle.expr_code.specs.declared.code.Code.{Code}
 use Rattle.expr_code.specs.declared.visible.Visible.{Visible}
 use Rattle.expr_code.proofs.Flowing.{kept_one, kept_then, widened}
 use Rattle.expr_code.proofs.Growing.{added_at, added_extends, added_here, added_there, extends_self, extends_trans, holds_before, holds_later}
-use Rattle.stmt_code.specs.Handling.{unhandled}
+use Rattle.stmt_code.specs.Handling.{Handling}
 use Rattle.stmt_code.specs.Bounds.{stmt_bound, stmts_bound, stmts_words}
 use Rattle.stmt_code.specs.Suiting.{SuitsStatements}
 use Rattle.stmt_code.specs.Emitting.{Allows, AreLegal, Emits, EmitsDeclarations, EmitsStatement, EmitsStatements, HasLabels, IsLegal, IsReached, Meant, Serves, seeing}
 use Rattle.stmt_code.specs.Resting.{Framed}
 use Rattle.stmt_code.specs.Statements.{AreStatements, IsStatement, Numbers, Ways}
 use Rattle.stmt_code.specs.declared.draft.Draft.{Draft}
-use Rattle.stmt_code.proofs.Handling.{goes_nowhere}
+use Rattle.stmt_code.proofs.Handling.{goes_within}
 
 -- ---- lists
 
@@ -67,7 +67,7 @@ pub labels_stay : (old new : List (List ℕ)) → new ≡ old → StandsFrom 0 o
 labels_stay old new same = subst (λ l. StandsFrom 0 old l) (sym same) (λ k x le h. h)
 
 pub labels_before : (i : Sections) (old new : List (List ℕ)) → StandsFrom 0 old new → HasLabels i new → HasLabels i old
-labels_before i old new e h = record { rows = h.rows; labels = λ k x le is. h.labels k x le (e k x le is) }
+labels_before i old new e h = record { labels = λ k x le is. h.labels k x le (e k x le is) }
 
 pub labels_then : (a b c : List (List ℕ)) → StandsFrom 0 a b → StandsFrom 0 b c → StandsFrom 0 a c
 labels_then a b c p q = λ k x le is. q k x le (p k x le is)
@@ -137,21 +137,23 @@ module _ (v : Visible) where
   module _ (w : Ways) where
     -- ---- nothing, and one behind the other
     pub none_emits : (Is : Meant) (c : Draft) (size : ℕ)
-        → ((i : Sections) (program : Program) (g : Package) (numbers : Numbers) (f : Framed) (at : ℕ) → Is i program g numbers f at at) → Emits Is v w c size c
+        → ((i : Sections) (program : Program) (g : Package) (numbers : Numbers) (f : Framed) (handling : Handling) (at : ℕ)
+        → Is i program g numbers f handling at at) → Emits Is v w c size c
     none_emits Is c size same = record {
       extends = extends_self c.code;
       labels = λ k x le h. h;
       taken = refl;
       most = omega arith;
       sized = omega arith;
-      stands = λ i h l program g numbers f names serves room. same i program g numbers f (here c.code);
+      stands = λ i h l program g numbers f names serves room handling goes. same i program g numbers f handling (here c.code);
       flows = λ i s low high down up h l suits deep wide ends ways.
           record { begins = ends; shallow = omega arith; each = λ k x le less there. absurd (omega (arith, le, less)) };
     }
 
     pub emits_then : (P Q R : Meant) (a b c : Draft) (m n : ℕ)
-        → ((i : Sections) (program : Program) (g : Package) (numbers : Numbers) (f : Framed) (from mid to : ℕ) → from ≤ mid → mid ≤ to
-        → P i program g numbers f from mid → Q i program g numbers f mid to → R i program g numbers f from to)
+        → ((i : Sections) (program : Program) (g : Package) (numbers : Numbers) (f : Framed) (handling : Handling) (from mid to : ℕ)
+        → from ≤ mid → mid ≤ to
+        → P i program g numbers f handling from mid → Q i program g numbers f handling mid to → R i program g numbers f handling from to)
         → Emits P v w a m b → Emits Q v w b n c → Emits R v w a (m + n) c
     emits_then P Q R a b c m n both p q = record {
       extends = extends_trans a.code b.code c.code p.extends q.extends;
@@ -159,12 +161,14 @@ module _ (v : Visible) where
       taken = q.taken ∙ p.taken;
       most = omega (arith, p.most, q.most);
       sized = omega (arith, p.sized, q.sized);
-      stands = λ i h l program g numbers f names serves room.
-          both i program g numbers f (here a.code) (here b.code) (here c.code) p.extends.longer q.extends.longer
+      stands = λ i h l program g numbers f names serves room handling goes.
+          both i program g numbers f handling (here a.code) (here b.code) (here c.code) p.extends.longer q.extends.longer
           (p.stands i (holds_before i (here a.code) b.code c.code q.extends h) (labels_before i b.labels c.labels q.labels l) program g numbers f names serves
-          (omega (arith, q.most, room)))
+          (omega (arith, q.most, room)) handling
+          (goes_within i handling (here a.code) (here a.code) (here b.code) (here c.code) goes (omega arith) q.extends.longer))
           (q.stands i (holds_later i (here a.code) (here b.code) c.code p.extends.longer h) l program g numbers f names
-          (subst (Serves program g numbers f) (sym p.taken) serves) room);
+          (subst (Serves program g numbers f) (sym p.taken) serves) room handling
+          (goes_within i handling (here a.code) (here b.code) (here c.code) (here c.code) goes p.extends.longer (omega arith)));
       flows = λ i s low high down up h l suits deep wide ends ways.
           let second = q.flows i s low high (omega (arith, down, p.extends.longer)) up (holds_later i (here a.code) (here b.code) c.code p.extends.longer h) l suits deep wide ends ways in
           let first = p.flows i s low high down (omega (arith, up, q.extends.longer)) (holds_before i (here a.code) b.code c.code q.extends h)
@@ -174,8 +178,8 @@ module _ (v : Visible) where
 
     -- the same code, as what it also means, and with room
     pub emits_as : (P Q : Meant) (a c : Draft) (m n : ℕ)
-        → ((i : Sections) (program : Program) (g : Package) (numbers : Numbers) (f : Framed) (from to : ℕ)
-        → P i program g numbers f from to → Q i program g numbers f from to)
+        → ((i : Sections) (program : Program) (g : Package) (numbers : Numbers) (f : Framed) (handling : Handling) (from to : ℕ)
+        → P i program g numbers f handling from to → Q i program g numbers f handling from to)
         → m ≤ n → Emits P v w a m c → Emits Q v w a n c
     emits_as P Q a c m n means more p = record {
       extends = p.extends;
@@ -183,8 +187,8 @@ module _ (v : Visible) where
       taken = p.taken;
       most = p.most;
       sized = omega (arith, p.sized, more);
-      stands = λ i h l program g numbers f names serves room.
-          means i program g numbers f (here a.code) (here c.code) (p.stands i h l program g numbers f names serves room);
+      stands = λ i h l program g numbers f names serves room handling goes.
+          means i program g numbers f handling (here a.code) (here c.code) (p.stands i h l program g numbers f names serves room handling goes);
       flows = p.flows;
     }
 
@@ -192,8 +196,9 @@ module _ (v : Visible) where
 
     jump_emits : (Is : Meant) (a c : Draft) (place size : ℕ) → 1 ≤ size
         → ((i : Sections) (low high : ℕ) → Allows i low high w → IsReached i low high place)
-        → ((i : Sections) (program : Program) (g : Package) (numbers : Numbers) (f : Framed) (from : ℕ) → At i from (op.Jump place)
-        → Is i program g numbers f from (suc from))
+        → ((i : Sections) (program : Program) (g : Package) (numbers : Numbers) (f : Framed) (handling : Handling) (from : ℕ)
+        → At i from (op.Jump place)
+        → Is i program g numbers f handling from (suc from))
         → Adds a.code 0 (op.Jump place) c.code → IsBeside a c → Emits Is v w a size c
     jump_emits Is a c place size one reached means q same =
         let next = added_here a.code c.code 0 (op.Jump place) q in
@@ -203,9 +208,9 @@ module _ (v : Visible) where
           taken = taken_beside a c same;
           most = (let m = most_beside a c same in omega (arith, m));
           sized = omega (arith, next, one);
-          stands = λ i h l program g numbers f names serves room.
-              subst (λ n. Is i program g numbers f (here a.code) n) (sym next)
-              (means i program g numbers f (here a.code) (added_at a.code c.code 0 (op.Jump place) q i (here a.code) (omega arith) h));
+          stands = λ i h l program g numbers f names serves room handling goes.
+              subst (λ n. Is i program g numbers f handling (here a.code) n) (sym next)
+              (means i program g numbers f handling (here a.code) (added_at a.code c.code 0 (op.Jump place) q i (here a.code) (omega arith) h));
           flows = λ i s low high down up h l suits deep wide ends ways.
               subst (λ n. AreKept i s low high (here a.code) n 0) (sym next)
               (jump_kept i s low high (here a.code) place (added_there a.code c.code 0 (op.Jump place) q i (here a.code) (omega arith) h) (reached i low high ways));
@@ -214,16 +219,16 @@ module _ (v : Visible) where
     pub exit_emits : (a c : Draft) (at place : ℕ) → w.exit ≡ Some place → Adds a.code 0 (op.Jump place) c.code → IsBeside a c
         → EmitsStatement v w a (statements.Exit at None) c
     exit_emits a c at place way q same =
-        jump_emits (λ i program g numbers f from to. IsStatement i program g numbers f w unhandled from to (statements.Exit at None)) a c place
+        jump_emits (λ i program g numbers f handling from to. IsStatement i program g numbers f w handling from to (statements.Exit at None)) a c place
         (stmt_bound v.scope (statements.Exit at None)) (omega arith)
-        (λ i low high ways. ways.exit place way) (λ i program g numbers f from there. (place, way, there, refl)) q same
+        (λ i low high ways. ways.exit place way) (λ i program g numbers f handling from there. (place, way, there, refl)) q same
 
     pub return_emits : (a c : Draft) (at place : ℕ) → w.return ≡ Some place → Adds a.code 0 (op.Jump place) c.code → IsBeside a c
         → EmitsStatement v w a (statements.Return at None) c
     return_emits a c at place way q same =
-        jump_emits (λ i program g numbers f from to. IsStatement i program g numbers f w unhandled from to (statements.Return at None)) a c place
+        jump_emits (λ i program g numbers f handling from to. IsStatement i program g numbers f w handling from to (statements.Return at None)) a c place
         (stmt_bound v.scope (statements.Return at None)) (omega arith)
-        (λ i low high ways. ways.return place way) (λ i program g numbers f from there. (place, way, there, refl)) q same
+        (λ i low high ways. ways.return place way) (λ i program g numbers f handling from there. (place, way, there, refl)) q same
 
     pub exit_when_emits : (a c : Draft) (m : Code) (at place : ℕ) (e : ExprTree) → w.exit ≡ Some place → EmitsExpression v a.code 0 1 e m
         → Adds m 1 (op.JumpIfNotZero place) c.code → IsBeside a c → EmitsStatement v w a (statements.Exit at (Some e)) c
@@ -237,7 +242,7 @@ module _ (v : Visible) where
           taken = taken_beside a c same;
           most = (let m = most_beside a c same in omega (arith, m));
           sized = omega (arith, next, p.sized);
-          stands = λ i h l program g numbers f names serves room. (
+          stands = λ i h l program g numbers f names serves room handling goes. (
             (
               place,
               here m,
@@ -248,7 +253,7 @@ module _ (v : Visible) where
               added_at m c.code 1 o q i (here a.code) p.extends.longer h,
               next,
             ),
-            goes_nowhere i l.rows (here a.code) (here c.code),
+            goes,
           );
           flows = λ i s low high down up h l suits deep wide ends ways.
               value_kept a.code m c.code o p.extends p.flows q i s low high down up h suits deep refl refl (omega arith) (omega arith) refl ends
@@ -257,22 +262,22 @@ module _ (v : Visible) where
 
     -- ---- statements in a loop
 
-    statements_more : (i : Sections) (program : Program) (g : Package) (numbers : Numbers) (f : Framed) (xs : List StmtTree) (x : StmtTree) (from mid to : ℕ)
+    statements_more : (i : Sections) (program : Program) (g : Package) (numbers : Numbers) (f : Framed) (handling : Handling) (xs : List StmtTree) (x : StmtTree) (from mid to : ℕ)
         → from ≤ mid → mid ≤ to
-        → AreStatements i program g numbers f w unhandled from mid (stmts_of xs) → IsStatement i program g numbers f w unhandled mid to x
-        → AreStatements i program g numbers f w unhandled from to (stmts_of (xs ++ x ∷ []))
-    statements_more i program g numbers f [] x from mid to up over same last =
-        (to, omega (arith, up, over), omega arith, subst (λ n. IsStatement i program g numbers f w unhandled n to x) (sym same) last, refl)
-    statements_more i program g numbers f (y ∷ xs) x from mid to up over (at, one, two, first, rest) last =
-        (at, one, omega (arith, two, over), first, statements_more i program g numbers f xs x at mid to two over rest last)
+        → AreStatements i program g numbers f w handling from mid (stmts_of xs) → IsStatement i program g numbers f w handling mid to x
+        → AreStatements i program g numbers f w handling from to (stmts_of (xs ++ x ∷ []))
+    statements_more i program g numbers f handling [] x from mid to up over same last =
+        (to, omega (arith, up, over), omega arith, subst (λ n. IsStatement i program g numbers f w handling n to x) (sym same) last, refl)
+    statements_more i program g numbers f handling (y ∷ xs) x from mid to up over (at, one, two, first, rest) last =
+        (at, one, omega (arith, two, over), first, statements_more i program g numbers f handling xs x at mid to two over rest last)
 
     bounds : (s : Scope) (xs : List StmtTree) (x : StmtTree) → stmts_bound s (stmts_of (xs ++ x ∷ [])) ≡ stmts_bound s (stmts_of xs) + stmt_bound s x
     bounds s [] x = omega arith
     bounds s (y ∷ xs) x = let e = bounds s xs x in omega (arith, e)
 
     pub no_statements : (c : Draft) → EmitsStatements v w c NoStmts c
-    no_statements c = none_emits (λ i program g numbers f from to. AreStatements i program g numbers f w unhandled from to NoStmts) c (stmts_bound v.scope NoStmts)
-        (λ i program g numbers f at. refl)
+    no_statements c = none_emits (λ i program g numbers f handling from to. AreStatements i program g numbers f w handling from to NoStmts) c (stmts_bound v.scope NoStmts)
+        (λ i program g numbers f handling at. refl)
 
     pub statements_next : (a b c : Draft) (all : List Stmt) (n : ℕ) (x : Stmt) → n < length all → x ≡ get_or all n x
         → EmitsStatements v w a (stmt_trees (take n all)) b → EmitsStatement v w b (stmt_tree x) c → EmitsStatements v w a (stmt_trees (take (n + 1) all)) c
@@ -280,15 +285,15 @@ module _ (v : Visible) where
         let front = map stmt_tree (take n all) in
         let more = mapped_next stmt_tree all n x less is in
         subst (λ l. EmitsStatements v w a (stmts_of l) c) (sym more)
-        (emits_as (λ i program g numbers f from to. AreStatements i program g numbers f w unhandled from to (stmts_of (front ++ stmt_tree x ∷ [])))
-        (λ i program g numbers f from to. AreStatements i program g numbers f w unhandled from to (stmts_of (front ++ stmt_tree x ∷ []))) a c
-        (stmts_bound v.scope (stmts_of front) + stmt_bound v.scope (stmt_tree x)) (stmts_bound v.scope (stmts_of (front ++ stmt_tree x ∷ []))) (λ i program g numbers f from to h. h)
+        (emits_as (λ i program g numbers f handling from to. AreStatements i program g numbers f w handling from to (stmts_of (front ++ stmt_tree x ∷ [])))
+        (λ i program g numbers f handling from to. AreStatements i program g numbers f w handling from to (stmts_of (front ++ stmt_tree x ∷ []))) a c
+        (stmts_bound v.scope (stmts_of front) + stmt_bound v.scope (stmt_tree x)) (stmts_bound v.scope (stmts_of (front ++ stmt_tree x ∷ []))) (λ i program g numbers f handling from to h. h)
         (let e = bounds v.scope front (stmt_tree x) in omega (arith, e))
-        (emits_then (λ i program g numbers f from to. AreStatements i program g numbers f w unhandled from to (stmts_of front))
-        (λ i program g numbers f from to. IsStatement i program g numbers f w unhandled from to (stmt_tree x))
-        (λ i program g numbers f from to. AreStatements i program g numbers f w unhandled from to (stmts_of (front ++ stmt_tree x ∷ []))) a b c
+        (emits_then (λ i program g numbers f handling from to. AreStatements i program g numbers f w handling from to (stmts_of front))
+        (λ i program g numbers f handling from to. IsStatement i program g numbers f w handling from to (stmt_tree x))
+        (λ i program g numbers f handling from to. AreStatements i program g numbers f w handling from to (stmts_of (front ++ stmt_tree x ∷ []))) a b c
         (stmts_bound v.scope (stmts_of front)) (stmt_bound v.scope (stmt_tree x))
-        (λ i program g numbers f from mid to up over one two. statements_more i program g numbers f front (stmt_tree x) from mid to up over one two) p q))
+        (λ i program g numbers f handling from mid to up over one two. statements_more i program g numbers f handling front (stmt_tree x) from mid to up over one two) p q))
 
     pub all_statements : (a c : Draft) (all : List Stmt) (n : ℕ) → length all ≤ n → EmitsStatements v w a (stmt_trees (take n all)) c
         → EmitsStatements v w a (stmt_trees all) c
@@ -305,7 +310,7 @@ module _ (v : Visible) where
       taken = refl;
       most = omega (arith, p.most, q.most);
       sized = (let k = ap (λ s. stmts_words s body) p.scope in omega (arith, p.sized, q.sized, k));
-      stands = λ i h l program g numbers f names serves room.
+      stands = λ i h l program g numbers f names serves room handling goes.
           let declared = p.stands i (holds_before i (here a.code) b.code c.code q.extends h) (labels_before i b.labels c.labels q.labels l) program g numbers f names serves
           (omega (arith, q.most, room)) in (
             here b.code,
@@ -313,8 +318,9 @@ module _ (v : Visible) where
             p.extends.longer,
             q.extends.longer,
             declared.0,
-            q.stands i (holds_later i (here a.code) (here b.code) c.code p.extends.longer h) l program g numbers (seeing f later) refl declared.1 room,
-            goes_nowhere i l.rows (here a.code) (here b.code),
+            q.stands i (holds_later i (here a.code) (here b.code) c.code p.extends.longer h) l program g numbers (seeing f later) refl declared.1 room handling
+                (goes_within i handling (here a.code) (here b.code) (here c.code) (here c.code) goes p.extends.longer (omega arith)),
+            goes_within i handling (here a.code) (here a.code) (here b.code) (here c.code) goes (omega arith) q.extends.longer,
           );
       flows = λ i s low high down up h l suits deep wide ends ways.
           let second = q.flows i s low high (omega (arith, down, p.extends.longer)) up (holds_later i (here a.code) (here b.code) c.code p.extends.longer h) l

@@ -27,7 +27,6 @@ use Rattle.expr_code.specs.declared.code.Code.{Code}
 use Rattle.expr_code.specs.declared.visible.Visible.{Visible}
 use Rattle.expr_code.proofs.Flowing.{kept_one, kept_then, widened}
 use Rattle.expr_code.proofs.Growing.{added_extends, added_here, extends_trans}
-use Rattle.stmt_code.specs.Handling.{unhandled}
 use Rattle.stmt_code.specs.Alternatives.{AddsAlternatives, AreLegalAlternatives, AreLegalChoices, AreSelected, in_front}
 use Rattle.stmt_code.specs.Bounds.{alternatives_bound, stmt_bound}
 use Rattle.stmt_code.specs.Emitting.{AreLegal, EmitsOpen, EmitsStatement, EmitsStatements, IsLegal, MeantTo, Serves}
@@ -36,7 +35,7 @@ use Rattle.stmt_code.specs.declared.draft.Draft.{Draft}
 use Rattle.stmt_code.proofs.Adding.{IsBeside, jump_kept, labels_before, labels_beside, labels_then, mapped_next, most_beside, take_all, taken_beside}
 use Rattle.stmt_code.proofs.Opening.{added_is, alone, append_again, append_none, joined, none_before, none_behind, not_alone, open_then, same_self, shorter}
 use Rattle.stmt_code.proofs.Selecting.{Selects, selecting_inside}
-use Rattle.stmt_code.proofs.Handling.{goes_nowhere}
+use Rattle.stmt_code.proofs.Handling.{goes_within}
 
 module _ (v : Visible) (w : Ways) (e : ExprTree) where
   -- ---- choices, the statements for them, and a jump to the end; where no choice is the value, the jumps in the choices lead behind that
@@ -107,7 +106,7 @@ module _ (v : Visible) (w : Ways) (e : ExprTree) where
       inside = λ k is. let at = alone (here valued.code) k is in
           (omega (arith, at, first.extends.longer, second.extends.longer), omega (arith, at, four, patch.long));
       waits = λ k is. ap (slice_get new.code.instructions.items) (alone (here valued.code) k is) ∙ close_there;
-      stands = λ i end up j l program g numbers f names serves room rest code. (
+      stands = λ i end up j l program g numbers f names serves room handling goes rest code. (
         here chosen.code,
         here valued.code,
         first.extends.longer,
@@ -116,9 +115,10 @@ module _ (v : Visible) (w : Ways) (e : ExprTree) where
         subst (λ n. IsChoice i program g numbers f e (here start.code) (here chosen.code) n choices) four
             (first.chooses i (here closed) (omega (arith, chosen_extends.longer)) (in_chosen i end up j) program g numbers f names),
         second.stands i (in_valued i end up j) (labels_before i valued.labels new.labels (labels_beside valued new still) l) program g numbers f names
-            (subst (Serves program g numbers f) (sym (taken_beside start chosen same)) serves) (let m = most_beside valued new still in omega (arith, m, room)),
+            (subst (Serves program g numbers f) (sym (taken_beside start chosen same)) serves) (let m = most_beside valued new still in omega (arith, m, room)) handling
+            (goes_within i handling (here start.code) (here chosen.code) (here valued.code) (here new.code) goes first.extends.longer (omega (arith, four, patch.long))),
         (0, at_close i end up j),
-        subst (λ n. AreAlternatives i program g numbers f w unhandled n end e rest) (patch.long ∙ four) code,
+        subst (λ n. AreAlternatives i program g numbers f w handling n end e rest) (patch.long ∙ four) code,
       );
       flows = λ i s low high end down up over j l suits deep wide shallow ends more ways.
           let deepest : closed.deepest ≤ s.stack = omega (arith, ap (λ m. m) patch.deepest, deep) in
@@ -185,7 +185,7 @@ module _ (v : Visible) (w : Ways) (e : ExprTree) where
       sized = omega arith;
       inside = λ k is. absurd cc;
       waits = λ k is. absurd cc;
-      stands = λ i end up j l program g numbers f names serves room rest code. code;
+      stands = λ i end up j l program g numbers f names serves room handling goes rest code. code;
       flows = λ i s low high end down up over j l suits deep wide shallow ends next ways.
           record { begins = next; shallow = omega (arith, shallow); each = λ k x le less there. absurd (omega (arith, le, less)) };
     };
@@ -200,8 +200,8 @@ module _ (v : Visible) (w : Ways) (e : ExprTree) where
     emits = subst (λ n. EmitsOpen (AreSelected w e (one ++ two)) v w 1 a n (p.waiting ++ q.waiting) c) (sym (bounds v.scope one two))
         (open_then v w (AreSelected w e one) (AreSelected w e two) (AreSelected w e (one ++ two)) 1 a b c (alternatives_bound v.scope (alternatives_of one))
         (alternatives_bound v.scope (alternatives_of two)) p.waiting q.waiting
-        (λ i program g numbers f end from m to up over within x y rest code.
-        subst (λ t. AreAlternatives i program g numbers f w unhandled from end e t) (sym (front one two rest)) (x (in_front two rest) (y rest code))) p.emits q.emits);
+        (λ i program g numbers f handling end from m to up over within x y rest code.
+        subst (λ t. AreAlternatives i program g numbers f w handling from end e t) (sym (front one two rest)) (x (in_front two rest) (y rest code))) p.emits q.emits);
   }
 
   pub alternatives_next : (a b c : Draft) (all : List Alternative) (n : ℕ) (x : Alternative) (before mid after : List ℕ) → n < length all → x ≡ get_or all n x
@@ -223,7 +223,7 @@ module _ (v : Visible) (w : Ways) (e : ExprTree) where
       (p : AddsAlternatives v w e valued all none after selected)
       (drop : Adds selected.code 1 op.Drop dropped.code) (kept : IsBeside selected dropped) where
     abbrev Whole : MeantTo
-    Whole i program g numbers f end from to = IsStatement i program g numbers f w unhandled from end (statements.Case place e (alternatives_of all))
+    Whole i program g numbers f handling end from to = IsStatement i program g numbers f w handling from end (statements.Case place e (alternatives_of all))
 
     waiting_is : p.waiting ≡ places
     waiting_is = sym (is ∙ p.after_is ∙ ap (λ l. l ++ p.waiting) is_none)
@@ -264,17 +264,18 @@ module _ (v : Visible) (w : Ways) (e : ExprTree) where
       sized = omega (arith, first.sized, p.emits.sized, five);
       inside = λ k h. let x = p.emits.inside k h in (omega (arith, x.0, first.extends.longer), omega (arith, x.1, five));
       waits = λ k h. dropping.instructions k _ (omega arith) (p.emits.waits k h);
-      stands = λ i end up j l program g numbers f names serves room. (
+      stands = λ i end up j l program g numbers f names serves room handling goes. (
         here valued.code,
         first.extends.longer,
         omega (arith, valued_extends.longer, up),
         subst (λ x. Computes i (library_of g) (Sees g x) (here start.code) (here valued.code) e) (sym names) (first.computes i (in_value i end j) g),
-        subst (λ t. AreAlternatives i program g numbers f w unhandled (here valued.code) end e t) (none_front all)
+        subst (λ t. AreAlternatives i program g numbers f w handling (here valued.code) end e t) (none_front all)
             (p.emits.stands i end (omega (arith, dropping.longer, up)) (in_selected i end j)
             (labels_before i selected.labels dropped.labels (labels_beside selected dropped kept) l) program g numbers f names
-            (subst (Serves program g numbers f) (sym (taken_beside start valued same)) serves) (let m = most_beside selected dropped kept in omega (arith, m, room))
+            (subst (Serves program g numbers f) (sym (taken_beside start valued same)) serves) (let m = most_beside selected dropped kept in omega (arith, m, room)) handling
+            (goes_within i handling (here start.code) (here valued.code) (here selected.code) (here dropped.code) goes first.extends.longer dropping.longer)
             NoAlternatives tt),
-        goes_nowhere i l.rows (here start.code) (here valued.code),
+        goes_within i handling (here start.code) (here start.code) (here valued.code) (here dropped.code) goes (omega arith) valued_extends.longer,
       );
       flows = λ i s low high end down up over j l suits deep wide shallow ends next ways.
           let one : 1 ≤ s.stack = omega (arith, drop.within, deep) in
@@ -297,8 +298,8 @@ module _ (v : Visible) (w : Ways) (e : ExprTree) where
     pub case_emits : (n : ℕ) → n ≡ here dropped.code → Rejoins dropped.code places n d.code → IsBeside dropped d
         → EmitsStatement v w start (statements.Case place e (alternatives_of all)) d
     case_emits n n_is r still =
-        joined v w Whole (λ i program g numbers f from to. IsStatement i program g numbers f w unhandled from to (statements.Case place e (alternatives_of all))) start dropped d
-        (stmt_bound v.scope (statements.Case place e (alternatives_of all))) places (λ i program g numbers f from to h. h)
+        joined v w Whole (λ i program g numbers f handling from to. IsStatement i program g numbers f w handling from to (statements.Case place e (alternatives_of all))) start dropped d
+        (stmt_bound v.scope (statements.Case place e (alternatives_of all))) places (λ i program g numbers f handling from to h. h)
         (subst (λ l. EmitsOpen Whole v w 0 start (stmt_bound v.scope (statements.Case place e (alternatives_of all))) l dropped) waiting_is case_open)
         (subst (λ m. Rejoins dropped.code places m d.code) n_is r) still
 

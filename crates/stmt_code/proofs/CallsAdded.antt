@@ -52,7 +52,6 @@ use Rattle.stmt_code.proofs.Actuals.{computes_none}
 use Rattle.stmt_code.proofs.Adding.{IsBeside, labels_beside, most_beside, taken_beside}
 use Rattle.stmt_code.proofs.CodeOfCalls.{calls_procedure}
 use Rattle.stmt_code.proofs.PassingWell.{passes_none}
-use Rattle.stmt_code.proofs.Handling.{goes_nowhere}
 
 -- ---- the form
 
@@ -226,7 +225,7 @@ module _ (quiet : QuietStays) (v : Visible) (w : Ways) (a c : Draft) (m n : Code
     taken = taken_beside a c beside;
     most = (let most = most_beside a c beside in omega (arith, most));
     sized = (let size = size_is name.selectors (argument_trees all) written in let same = sizes_are all in omega (arith, p.sized, r.sized, next, size, same));
-    stands = λ i h l program g numbers f seen serves room. (calls i h program g numbers f seen serves, goes_nowhere i l.rows (here a.code) (here c.code));
+    stands = λ i h l program g numbers f seen serves room handling goes. (calls i h program g numbers f seen serves, goes);
     flows = λ i s low high down up h l suits deep wide ends ways.
         widened i s (here a.code) (here c.code) low high (here a.code) (here c.code) 0 down up (flows.flows i s h suits deep (omega arith) ends);
   }

@@ -1,25 +1,23 @@
 -- Where exceptions go on that a frame raises, told by the items that its code follows.
-use Rattle.std.proofs.Common.{◌≡◌, ℕ, suc, ◌+◌, ◌≤◌, ◌<◌, ℤ, List, [], ◌∷◌, map, length, Option, Some, None, Bool, true, false, refl, sym, ap, ◌∙◌, subst, arith}
+use Rattle.std.proofs.Common.{◌≡◌, ℕ, suc, ◌≤◌, ℤ, List, [], ◌∷◌, map, length, Option, Some, None, Bool, true, false, refl, sym, ap, ◌∙◌, subst, arith}
 use Rattle.std.specs.Prelude.{if◌then◌else◌, pos, slice_get}
 use Rattle.std.proofs.lemmas.Option.{none-some, same_Some}
 use Rattle.handlers.specs.Innermost.{handler_of}
 use Rattle.image.specs.Sections.{Sections}
 use Rattle.image.specs.Frames.{Frame}
-use Rattle.image.specs.declared.instruction.Operation.TheVariants as op
 use Rattle.ada_tree.specs.declared.statement.ExceptionChoice.{ExceptionChoice}
 use Rattle.ada_tree.specs.StatementTree.{HandlerTrees, NoHandlers, MoreHandlers, StmtTrees}
 use Rattle.meaning.specs.Programs.{Program}
-use Rattle.meaning.specs.SourceSteps.{before, handled_exception, handler_for, some_covers}
+use Rattle.meaning.specs.SourceSteps.{handled_exception, handler_for, some_covers}
 use Rattle.meaning.specs.Works.{Item, Declares, DeclaresParameter, Sequence, Does, DoesMain, Repeats, RepeatsWhile, RepeatsFor, Handles, EndsHandler, EndsCall, Activation, ends_of_calls}
 use Rattle.sound_steps.specs.Objects.{IsException}
 use Rattle.expr_code.specs.Seeing.{Package}
-use Rattle.expr_code.specs.Views.{At, placed}
-use Rattle.stmt_code.specs.Resting.{AreHeld, Framed, Held, Rests, RestsWith, Shows, held_offset}
-use Rattle.stmt_code.specs.Handling.{GoesBy, Handling, exception_in}
+use Rattle.stmt_code.specs.Resting.{AreHeld, Framed, Rests, RestsWith, Shows, held_offset}
+use Rattle.stmt_code.specs.Handling.{Handling, exception_in}
 use Rattle.stmt_code.specs.Counting.{in_turn}
-use Rattle.stmt_code.specs.Statements.{AreHandlers, Numbers, Ways, within_handler}
-use Rattle.stmt_code.specs.Standing.{AreInner, Around, Catches, CaughtIf, Follows, Here, Inside, IsCatching, IsCaught, IsGoing, Jumps, LeadsBehind, LeadsOver, There, in_handler, with_visible}
-use Rattle.stmt_code.proofs.Going.{before_ends, before_follows, narrows_same, rest_of}
+use Rattle.stmt_code.specs.Statements.{AreHandlers, Numbers, Ways}
+use Rattle.stmt_code.specs.Standing.{AreInner, Around, Catches, CaughtIf, Follows, Here, Inside, IsCaught, LeadsOver, There, in_handler, with_visible}
+use Rattle.stmt_code.proofs.Going.{before_ends, before_follows, rest_of}
 
 -- whether a handler has a choice for the exception: it goes to the handler, or on
 by_choice : {P : Type 0} (b : Bool) (inner next : Option ℕ) (from : ℕ) (own : StmtTrees) (rest found : Option StmtTrees)
@@ -174,7 +172,8 @@ module _ (i : Sections) (program : Program) (g : Package) (numbers : Numbers) wh
   abbrev pub HasRoom : Type 0
   HasRoom = (v : Framed) (a : Activation) (locals : List ℤ) → Rests g v a locals → v.room ≤ length locals
 
-  caught : HasRoom → (a : Setting) (from at to : ℕ) (outer : Setting) (x : ℕ) (f : Frame) (fs : List Frame) (own : Activation) (os : List Activation) (hs : HandlerTrees)
+  caught : HasRoom → (a : Setting) (from at to : ℕ) (outer : Setting) (x : ℕ) (f : Frame) (fs : List Frame) (own : Activation) (os : List Activation)
+      (hs : HandlerTrees)
       (body : StmtTrees) (items : List Item)
       → LeadsOver i program g numbers a f.subprogram from at to outer → Follow outer f.subprogram to items fs os
       → IsRaising a x f fs own (Handles hs ∷ items)
@@ -210,7 +209,8 @@ module _ (i : Sections) (program : Program) (g : Package) (numbers : Numbers) wh
           acts = λ schedule k t' m. kept.acts schedule k t' m fs;
           going = record {
             around = around;
-            follows = before_follows i program g numbers body around later f.subprogram (suc t.target) mid (EndsHandler x ∷ items) fs os code.statements two start_in
+            follows = before_follows i program g numbers body around later f.subprogram (suc t.target) mid
+                (EndsHandler x ∷ items) fs os code.statements two start_in
                 mid_in (
                   (λ p view z. over.reaches.0 p view (shows p view z)),
                   (λ p view z. over.reaches.1 p view (shows p view z)),
@@ -267,7 +267,8 @@ module _ (i : Sections) (program : Program) (g : Package) (numbers : Numbers) wh
       catches room items (seeing follows.2 a) follows.1 x f fs own os follows.5
       (drop_seeing a follows.2 x f fs own (Sequence body hs) items follows.3.narrows.reserved refl h)
   catches room (Does s ∷ items) a from x f fs own os follows h =
-      catches room items (seeing follows.2 a) follows.1 x f fs own os follows.5 (drop_seeing a follows.2 x f fs own (Does s) items follows.3.narrows.reserved refl h)
+      catches room items (seeing follows.2 a) follows.1 x f fs own os follows.5 (drop_seeing a follows.2 x f fs own
+      (Does s) items follows.3.narrows.reserved refl h)
   catches room (DoesMain s ∷ items) a from x f fs own os follows h =
       catches room items (seeing follows.2 a) follows.1 x f fs own os follows.5
       (drop_seeing a follows.2 x f fs own (DoesMain s) items follows.3.narrows.reserved refl h)
@@ -350,7 +351,8 @@ module _ (i : Sections) (program : Program) (g : Package) (numbers : Numbers) wh
 
   -- ---- the exception that a handler holds
 
-  pub handling_here : (items : List Item) (a : Setting) (n from word : ℕ) (locals : List ℤ) (fs : List Frame) (os : List Activation) → Follow a n from items fs os
+  pub handling_here : (items : List Item) (a : Setting) (n from word : ℕ) (locals : List ℤ) (fs : List Frame) (os : List Activation)
+      → Follow a n from items fs os
       → a.ways.handled ≡ Some word → AreHeld locals a.held
       → (x : ℕ) × (handled_exception items ≡ Some x) × (slice_get locals word ≡ Some (pos x))
   handling_here [] a n from word locals fs os follows is held = let none = follows.0.outermost.handled in absurd cc

@@ -29,7 +29,7 @@ use Rattle.expr_code.specs.Coming.{most_steps, on}
 use Rattle.expr_code.specs.Naming.{scalar_word}
 use Rattle.expr_code.specs.Seeing.{Package, Sees}
 use Rattle.expr_code.specs.Views.{At, View, in_frame, placed, view_of}
-use Rattle.stmt_code.specs.Handling.{unhandled}
+use Rattle.stmt_code.specs.Handling.{Handling}
 use Rattle.stmt_code.specs.Resting.{Framed}
 use Rattle.stmt_code.specs.Statements.{AreAlternatives, AreStatements, IsChoice, Numbers, Ways}
 use Rattle.stmt_code.proofs.Walking.{Walks, duplicates, drops, jumps, jumps_if, then_step, compares, puts, behind}
@@ -200,13 +200,13 @@ module _ (quiet : QuietStays) (i : Sections) (program : Program) (g : Package) (
 
   -- ---- alternatives: choices, statements, and a jump to the end
 
-  pub alternative_of_values : IsScalar → (w : Ways) (at from to joint end : ℕ) (all : List ExprTree) (body : StmtTrees) (rest : AlternativeTrees)
+  pub alternative_of_values : IsScalar → (w : Ways) (handling : Handling) (at from to joint end : ℕ) (all : List ExprTree) (body : StmtTrees) (rest : AlternativeTrees)
       → AreTested (suc to) from to all → At i to (op.Jump (suc joint)) → At i (suc to) op.Drop
       → suc (suc to) ≤ joint → suc joint ≤ end
-      → AreStatements i program g numbers v w unhandled (suc (suc to)) joint body → At i joint (op.Jump end)
-      → AreAlternatives i program g numbers v w unhandled (suc joint) end e rest
-      → AreAlternatives i program g numbers v w unhandled from end e (MoreAlternatives at (Values all) body rest)
-  alternative_of_values scalar_value w at from to joint end all body rest tested jump drop up over statements ends others = (
+      → AreStatements i program g numbers v w handling (suc (suc to)) joint body → At i joint (op.Jump end)
+      → AreAlternatives i program g numbers v w handling (suc joint) end e rest
+      → AreAlternatives i program g numbers v w handling from end e (MoreAlternatives at (Values all) body rest)
+  alternative_of_values scalar_value w handling at from to joint end all body rest tested jump drop up over statements ends others = (
     suc (suc to),
     joint,
     (let k = tested_up (suc to) from to all tested in omega (arith, k)),
@@ -218,12 +218,12 @@ module _ (quiet : QuietStays) (i : Sections) (program : Program) (g : Package) (
     others,
   )
 
-  pub alternative_of_others : IsScalar → (w : Ways) (at place from joint end : ℕ) (body : StmtTrees) (rest : AlternativeTrees)
+  pub alternative_of_others : IsScalar → (w : Ways) (handling : Handling) (at place from joint end : ℕ) (body : StmtTrees) (rest : AlternativeTrees)
       → At i from op.Drop → suc from ≤ joint → suc joint ≤ end
-      → AreStatements i program g numbers v w unhandled (suc from) joint body → At i joint (op.Jump end)
-      → AreAlternatives i program g numbers v w unhandled (suc joint) end e rest
-      → AreAlternatives i program g numbers v w unhandled from end e (MoreAlternatives at (OtherValues place) body rest)
-  alternative_of_others scalar_value w at place from joint end body rest drop up over statements ends others = (
+      → AreStatements i program g numbers v w handling (suc from) joint body → At i joint (op.Jump end)
+      → AreAlternatives i program g numbers v w handling (suc joint) end e rest
+      → AreAlternatives i program g numbers v w handling from end e (MoreAlternatives at (OtherValues place) body rest)
+  alternative_of_others scalar_value w handling at place from joint end body rest drop up over statements ends others = (
     suc from,
     joint,
     omega arith,

@@ -1,5 +1,5 @@
 -- A handler begins with an instruction that keeps its exception in a word of the frame that is none of a visible object's.
-use Rattle.std.proofs.Common.{◌≡◌, ℕ, suc, ◌+◌, ◌≤◌, ◌<◌, ℤ, List, [], ◌∷◌, length, refl, ap, arith}
+use Rattle.std.proofs.Common.{ℕ, ◌≤◌, ◌<◌, ℤ, List, [], ◌∷◌, length, refl, ap, arith}
 use Rattle.std.specs.Prelude.{pos}
 use Rattle.kernel.specs.Laws.{QuietStays}
 use Rattle.image.specs.Sections.{Sections}

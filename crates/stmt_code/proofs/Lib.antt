@@ -5,6 +5,7 @@ mod Catching
 mod Raising
 mod Sequences
 mod ExceptionWords
+mod AddedRows
 mod Holding
 mod Scenes
 mod Turning

@@ -27,14 +27,14 @@ use Rattle.expr_code.specs.declared.code.Code.{Code}
 use Rattle.expr_code.specs.declared.visible.Visible.{Visible}
 use Rattle.expr_code.proofs.Flowing.{kept_one, kept_then, widened}
 use Rattle.expr_code.proofs.Growing.{added_extends, added_here, extends_trans, get_last, patched_extends, patched_here, patched_other, patched_there}
-use Rattle.stmt_code.specs.Handling.{unhandled}
+use Rattle.stmt_code.specs.Handling.{Handling}
 use Rattle.stmt_code.specs.Bounds.{elsifs_bound, stmt_bound, stmts_bound}
 use Rattle.stmt_code.specs.Emitting.{AddsParts, AreLegal, AreLegalElsifs, AreParts, Emits, EmitsOpen, EmitsStatement, EmitsStatements, IsLegal, Meant, MeantTo, Serves, in_front}
 use Rattle.stmt_code.specs.Resting.{Framed}
 use Rattle.stmt_code.specs.Statements.{AreStatements, IsOtherwise, IsStatement, Numbers, Ways}
 use Rattle.stmt_code.specs.declared.draft.Draft.{Draft}
 use Rattle.stmt_code.proofs.Adding.{IsBeside, emits_as, jump_kept, labels_before, labels_beside, labels_then, mapped_next, most_beside, same_place, take_all, taken_beside}
-use Rattle.stmt_code.proofs.Handling.{goes_nowhere}
+use Rattle.stmt_code.proofs.Handling.{goes_within}
 
 -- ---- lists
 
@@ -117,7 +117,7 @@ module _ (v : Visible) (w : Ways) where
   -- ---- one behind the other
 
   pub opened : (Is : Meant) (a c : Draft) (size : ℕ) → Emits Is v w a size c
-      → EmitsOpen (λ i program g numbers f end from to. Is i program g numbers f from to) v w 0 a size [] c
+      → EmitsOpen (λ i program g numbers f handling end from to. Is i program g numbers f handling from to) v w 0 a size [] c
   opened Is a c size p = record {
     extends = p.extends;
     labels = p.labels;
@@ -126,14 +126,16 @@ module _ (v : Visible) (w : Ways) where
     sized = p.sized;
     inside = λ k is. absurd cc;
     waits = λ k is. absurd cc;
-    stands = λ i end up j l program g numbers f names serves room. p.stands i (λ k x le is. j.others k x le refl is) l program g numbers f names serves room;
+    stands = λ i end up j l program g numbers f names serves room handling goes.
+        p.stands i (λ k x le is. j.others k x le refl is) l program g numbers f names serves room handling goes;
     flows = λ i s low high end down up over j l suits deep wide shallow ends next ways.
         p.flows i s low high down (omega (arith, up, over)) (λ k x le is. j.others k x le refl is) l suits deep wide next ways;
   }
 
   module _ (P Q R : MeantTo) (depth : ℕ) (a b c : Draft) (m n : ℕ) (first second : List ℕ)
-      (both : (i : Sections) (program : Program) (g : Package) (numbers : Numbers) (f : Framed) (end from mid to : ℕ) → from ≤ mid → mid ≤ to → to ≤ end
-      → P i program g numbers f end from mid → Q i program g numbers f end mid to → R i program g numbers f end from to)
+      (both : (i : Sections) (program : Program) (g : Package) (numbers : Numbers) (f : Framed) (handling : Handling) (end from mid to : ℕ)
+      → from ≤ mid → mid ≤ to → to ≤ end
+      → P i program g numbers f handling end from mid → Q i program g numbers f handling end mid to → R i program g numbers f handling end from to)
       (p : EmitsOpen P v w depth a m first b) (q : EmitsOpen Q v w depth b n second c) where
     joins_before : (i : Sections) (end : ℕ) → Joins i (here a.code) (first ++ second) end 0 c.code → Joins i (here a.code) first end 0 b.code
     joins_before i end j = record {
@@ -166,11 +168,13 @@ module _ (v : Visible) (w : Ways) where
       sized = omega (arith, p.sized, q.sized);
       inside = λ k is. within k (one_of (is_among first k) (is_among second k) (sym (among_both first second k) ∙ is));
       waits = λ k is. waiting k (one_of (is_among first k) (is_among second k) (sym (among_both first second k) ∙ is));
-      stands = λ i end up j l program g numbers f names serves room.
-          both i program g numbers f end (here a.code) (here b.code) (here c.code) p.extends.longer q.extends.longer up
+      stands = λ i end up j l program g numbers f names serves room handling goes.
+          both i program g numbers f handling end (here a.code) (here b.code) (here c.code) p.extends.longer q.extends.longer up
           (p.stands i end (omega (arith, q.extends.longer, up)) (joins_before i end j) (labels_before i b.labels c.labels q.labels l) program g numbers f names serves
-          (omega (arith, q.most, room)))
-          (q.stands i end up (joins_behind i end j) l program g numbers f names (subst (Serves program g numbers f) (sym p.taken) serves) room);
+          (omega (arith, q.most, room)) handling
+          (goes_within i handling (here a.code) (here a.code) (here b.code) (here c.code) goes (omega arith) q.extends.longer))
+          (q.stands i end up (joins_behind i end j) l program g numbers f names (subst (Serves program g numbers f) (sym p.taken) serves) room handling
+          (goes_within i handling (here a.code) (here b.code) (here c.code) (here c.code) goes p.extends.longer (omega arith)));
       flows = λ i s low high end down up over j l suits deep wide shallow ends next ways.
           let more = q.flows i s low high end (omega (arith, down, p.extends.longer)) up over (joins_behind i end j) l suits deep wide shallow ends next ways in
           let most = p.flows i s low high end down (omega (arith, q.extends.longer, up)) over (joins_before i end j) (labels_before i b.labels c.labels q.labels l)
@@ -189,8 +193,8 @@ module _ (v : Visible) (w : Ways) where
 
   -- ---- the end, to which the jumps lead then
   module _ (P : MeantTo) (R : Meant) (a c d : Draft) (size : ℕ) (waiting : List ℕ)
-      (means : (i : Sections) (program : Program) (g : Package) (numbers : Numbers) (f : Framed) (from to : ℕ)
-      → P i program g numbers f to from to → R i program g numbers f from to)
+      (means : (i : Sections) (program : Program) (g : Package) (numbers : Numbers) (f : Framed) (handling : Handling) (from to : ℕ)
+      → P i program g numbers f handling to from to → R i program g numbers f handling from to)
       (p : EmitsOpen P v w 0 a size waiting c) (r : Rejoins c.code waiting (here c.code) d.code) (same : IsBeside c d) where
     joins : (i : Sections) → Holds i (here a.code) d.code → Joins i (here a.code) waiting (here c.code) 0 c.code
     joins i h = record {
@@ -213,11 +217,12 @@ module _ (v : Visible) (w : Ways) where
       taken = taken_beside c d same ∙ p.taken;
       most = (let m = most_beside c d same in omega (arith, m, p.most));
       sized = omega (arith, p.sized, r.long);
-      stands = λ i h l program g numbers f names serves room.
-          subst (λ n. R i program g numbers f (here a.code) n) (sym r.long)
-          (means i program g numbers f (here a.code) (here c.code)
+      stands = λ i h l program g numbers f names serves room handling goes.
+          subst (λ n. R i program g numbers f handling (here a.code) n) (sym r.long)
+          (means i program g numbers f handling (here a.code) (here c.code)
           (p.stands i (here c.code) (omega arith) (joins i h) (labels_before i c.labels d.labels (labels_beside c d same) l) program g numbers f names serves
-          (let m = most_beside c d same in omega (arith, m, room))));
+          (let m = most_beside c d same in omega (arith, m, room)) handling
+          (goes_within i handling (here a.code) (here a.code) (here c.code) (here d.code) goes (omega arith) (omega (arith, r.long)))));
       flows = λ i s low high down up h l suits deep wide ends ways.
           let empty = ap (λ n. has_depth i n 0) (sym r.long) ∙ ends in
           subst (λ n. AreKept i s low high (here a.code) n 0) (sym r.long)
@@ -295,7 +300,7 @@ module _ (v : Visible) (w : Ways) where
       sized = omega (arith, first.sized, second.sized, two, four, end_is);
       inside = λ k is. let at = alone (here valued.code) k is in (omega (arith, at, first.extends.longer, two, second.extends.longer), omega (arith, at, four, end_is));
       waits = λ k is. ap (slice_get new.code.instructions.items) (alone (here valued.code) k is) ∙ close_there;
-      stands = λ i end up j l program g numbers f names serves room rest others code.
+      stands = λ i end up j l program g numbers f names serves room handling goes rest others code.
           let next : n ≡ suc (here valued.code) = four in (
             here tested,
             here valued.code,
@@ -304,13 +309,16 @@ module _ (v : Visible) (w : Ways) where
             omega (arith, four, up_is i end up j),
             subst (λ x. Computes i (library_of g) (Sees g x) (here start.code) (here tested) e) (sym names) (first.computes i (in_tested i end up j) g),
             subst (λ m. At i (here tested) (op.JumpIfZero m)) next (1, at_test i end up j),
-            subst (λ m. AreStatements i program g numbers f w unhandled m (here valued.code) body) two
+            subst (λ m. AreStatements i program g numbers f w handling m (here valued.code) body) two
                 (second.stands i (in_valued i end up j)
                 (labels_before i valued.labels new.labels (labels_beside valued new still) l) program g numbers f names
-                (subst (Serves program g numbers f) (sym (taken_beside start jumped same)) serves) (let m = most_beside valued new still in omega (arith, m, room))),
+                (subst (Serves program g numbers f) (sym (taken_beside start jumped same)) serves) (let m = most_beside valued new still in omega (arith, m, room)) handling
+                (goes_within i handling (here start.code) (here jumped.code) (here valued.code) (here new.code) goes (omega (arith, two, first.extends.longer))
+                (omega (arith, four, end_is)))),
             (0, at_close i end up j),
-            subst (λ m. IsOtherwise i program g numbers f w unhandled m end rest (λ x y. AreStatements i program g numbers f w unhandled x y others)) (end_is ∙ four) code,
-            goes_nowhere i l.rows (here start.code) (here tested),
+            subst (λ m. IsOtherwise i program g numbers f w handling m end rest (λ x y. AreStatements i program g numbers f w handling x y others)) (end_is ∙ four) code,
+            goes_within i handling (here start.code) (here start.code) (here tested) (here new.code) goes (omega arith)
+                (omega (arith, two, second.extends.longer, four, end_is)),
           );
       flows = λ i s low high end down up over j l suits deep wide shallow ends next ways.
           let to : n ≡ here new.code = sym end_is in
@@ -364,7 +372,7 @@ module _ (v : Visible) (w : Ways) where
       sized = omega arith;
       inside = λ k is. absurd cc;
       waits = λ k is. absurd cc;
-      stands = λ i end up j l program g numbers f names serves room rest others code. code;
+      stands = λ i end up j l program g numbers f names serves room handling goes rest others code. code;
       flows = λ i s low high end down up over j l suits deep wide shallow ends next ways.
           record { begins = next; shallow = omega (arith, shallow); each = λ k x le less there. absurd (omega (arith, le, less)) };
     };
@@ -378,8 +386,8 @@ module _ (v : Visible) (w : Ways) where
     emits = subst (λ n. EmitsOpen (AreParts w (one ++ two)) v w 0 a n (p.waiting ++ q.waiting) c) (sym (bounds v.scope one two))
         (open_then (AreParts w one) (AreParts w two) (AreParts w (one ++ two)) 0 a b c (elsifs_bound v.scope (elsifs_of one)) (elsifs_bound v.scope (elsifs_of two))
         p.waiting q.waiting
-        (λ i program g numbers f end from m to up over within x y rest others code.
-        subst (λ t. IsOtherwise i program g numbers f w unhandled from end t (λ x y. AreStatements i program g numbers f w unhandled x y others)) (sym (front one two rest))
+        (λ i program g numbers f handling end from m to up over within x y rest others code.
+        subst (λ t. IsOtherwise i program g numbers f w handling from end t (λ x y. AreStatements i program g numbers f w handling x y others)) (sym (front one two rest))
         (x (in_front two rest) others (y rest others code))) p.emits q.emits);
   }
 
@@ -425,15 +433,15 @@ module _ (v : Visible) (w : Ways) where
         omega (arith, inside.1, o.extends.longer)
 
     abbrev Whole : MeantTo
-    Whole i program g numbers f end from to = to ≡ end → IsStatement i program g numbers f w unhandled from end (statements.If place e body (elsif_trees elsifs) others)
+    Whole i program g numbers f handling end from to = to ≡ end → IsStatement i program g numbers f w handling from end (statements.If place e body (elsif_trees elsifs) others)
 
     ended : EmitsOpen Whole v w 0 start (elsifs_bound v.scope (elsifs_of parts) + stmts_bound v.scope others) (both.waiting ++ []) c
-    ended = open_then (AreParts w parts) (λ i program g numbers f end from to. AreStatements i program g numbers f w unhandled from to others) Whole 0 start parted c
+    ended = open_then (AreParts w parts) (λ i program g numbers f handling end from to. AreStatements i program g numbers f w handling from to others) Whole 0 start parted c
         (elsifs_bound v.scope (elsifs_of parts)) (stmts_bound v.scope others) both.waiting []
-        (λ i program g numbers f end from mid to up over within x y last.
-        subst (λ t. IsOtherwise i program g numbers f w unhandled from end t (λ x y. AreStatements i program g numbers f w unhandled x y others)) (none_front parts)
-        (x NoElsifs others (subst (λ m. AreStatements i program g numbers f w unhandled mid m others) last y)))
-        both.emits (opened (λ i program g numbers f from to. AreStatements i program g numbers f w unhandled from to others) parted c (stmts_bound v.scope others) o)
+        (λ i program g numbers f handling end from mid to up over within x y last.
+        subst (λ t. IsOtherwise i program g numbers f w handling from end t (λ x y. AreStatements i program g numbers f w handling x y others)) (none_front parts)
+        (x NoElsifs others (subst (λ m. AreStatements i program g numbers f w handling mid m others) last y)))
+        both.emits (opened (λ i program g numbers f handling from to. AreStatements i program g numbers f w handling from to others) parted c (stmts_bound v.scope others) o)
 
     waiting_is : both.waiting ++ [] ≡ places
     waiting_is = append_none both.waiting ∙ sym both.after_is ∙ sym same
@@ -441,12 +449,12 @@ module _ (v : Visible) (w : Ways) where
     pub if_emits : (n : ℕ) → n ≡ here c.code → Rejoins c.code places n d.code → IsBeside c d
         → EmitsStatement v w start (statements.If place e body (elsif_trees elsifs) others) d
     if_emits n n_is r still =
-        emits_as v w (λ i program g numbers f from to. IsStatement i program g numbers f w unhandled from to (statements.If place e body (elsif_trees elsifs) others))
-        (λ i program g numbers f from to. IsStatement i program g numbers f w unhandled from to (statements.If place e body (elsif_trees elsifs) others)) start d
+        emits_as v w (λ i program g numbers f handling from to. IsStatement i program g numbers f w handling from to (statements.If place e body (elsif_trees elsifs) others))
+        (λ i program g numbers f handling from to. IsStatement i program g numbers f w handling from to (statements.If place e body (elsif_trees elsifs) others)) start d
         (elsifs_bound v.scope (elsifs_of parts) + stmts_bound v.scope others) (stmt_bound v.scope (statements.If place e body (elsif_trees elsifs) others))
-        (λ i program g numbers f from to h. h) (omega arith)
-        (joined Whole (λ i program g numbers f from to. IsStatement i program g numbers f w unhandled from to (statements.If place e body (elsif_trees elsifs) others)) start c d
-        (elsifs_bound v.scope (elsifs_of parts) + stmts_bound v.scope others) places (λ i program g numbers f from to h. h refl)
+        (λ i program g numbers f handling from to h. h) (omega arith)
+        (joined Whole (λ i program g numbers f handling from to. IsStatement i program g numbers f w handling from to (statements.If place e body (elsif_trees elsifs) others)) start c d
+        (elsifs_bound v.scope (elsifs_of parts) + stmts_bound v.scope others) places (λ i program g numbers f handling from to h. h refl)
         (subst (λ l. EmitsOpen Whole v w 0 start (elsifs_bound v.scope (elsifs_of parts) + stmts_bound v.scope others) l c) waiting_is ended)
         (subst (λ m. Rejoins c.code places m d.code) n_is r) still)
 

@@ -41,7 +41,6 @@ use Rattle.stmt_code.specs.Statements.{IsCalled, Numbers, Ways}
 use Rattle.stmt_code.specs.declared.draft.Draft.{Draft}
 use Rattle.stmt_code.proofs.Adding.{value_extends, value_kept}
 use Rattle.stmt_code.proofs.Opening.{shorter}
-use Rattle.stmt_code.proofs.Handling.{goes_nowhere}
 
 -- ---- the form
 
@@ -189,8 +188,7 @@ module _ (v : Visible) (w : Ways) (a c : Draft) (m : Code) (name : NameTree) (la
     taken = ap (λ x. x.taken) still;
     most = (let m = ap (λ x. x.most) still in omega (arith, m));
     sized = let size = ap selectors_size (line_written name.selectors label value written).is in omega (arith, p.sized, next, size);
-    stands = λ i h l program g numbers f names serves room.
-        (means i h l program g numbers f names serves room, goes_nowhere i l.rows (here a.code) (here c.code));
+    stands = λ i h l program g numbers f names serves room handling goes. (means i h l program g numbers f names serves room, goes);
     flows = λ i s low high down up h l suits deep wide ends ways.
         value_kept v a.code m c.code (op.PutLine number) p.extends p.flows q i s low high down up h suits deep refl
         (lt_true number (length i.labels) (shorter i.labels number label (l.labels number label (omega arith) there))) (omega arith) (omega arith) refl ends

@@ -1,7 +1,6 @@
 -- Exceptions are raised and handled: each item that is dropped is met by no step, and the last one by the one step of code that raises.
-use Rattle.std.proofs.Common.{◌≡◌, ◌⊎◌, inl, inr, ⊎_elim, ℕ, suc, ◌+◌, ◌-◌, ◌<◌, ◌≤◌, ℤ, List, [], ◌∷◌, length, Option, Some, None, Bool, true, refl, sym, ap, ◌∙◌, subst, arith, rules}
-use Rattle.std.specs.Prelude.{◌&&◌, if◌then◌else◌, nat_le, pos, slice_get}
-use Rattle.std.proofs.lemmas.Option.{same_Some}
+use Rattle.std.proofs.Common.{◌≡◌, ◌⊎◌, ⊎_elim, ℕ, suc, ◌+◌, ◌-◌, ◌<◌, ◌≤◌, ℤ, List, [], ◌∷◌, length, Option, Some, None, true, refl, sym, ap, ◌∙◌, subst, arith, rules}
+use Rattle.std.specs.Prelude.{◌&&◌, if◌then◌else◌, nat_le, pos}
 use Rattle.base.specs.declared.schedule.ScheduleLine.{ScheduleLine}
 use Rattle.kernel.specs.State.{Kernel}
 use Rattle.kernel.specs.State as kernels
@@ -17,24 +16,24 @@ use Rattle.image.specs.Steps.{act, behaviour, caught, loaded, raises_number, rem
 use Rattle.image.specs.declared.instruction.Operation.TheVariants as op
 use Rattle.ada_tree.specs.declared.expression.Identifier.{Identifier}
 use Rattle.ada_tree.specs.StatementTree.{HandlerTrees, Raise, StmtTrees}
-use Rattle.types.specs.Evaluations.{Val, Gives, Raises}
+use Rattle.types.specs.Evaluations.{Val, Raises}
 use Rattle.meaning.specs.Meeting.{Last}
 use Rattle.meaning.specs.MeetingLaws.{spends_takes, still_by, moves_by}
-use Rattle.meaning.specs.Programs.{Program, exception_number}
+use Rattle.meaning.specs.Programs.{Program}
 use Rattle.meaning.specs.SameMeaning.{frames_of}
 use Rattle.meaning.specs.SourceSteps as source
-use Rattle.meaning.specs.SourceSteps.{before, handled_exception, handler_for, program_behaviour, with_value, work_step}
+use Rattle.meaning.specs.SourceSteps.{before, handler_for, program_behaviour, work_step}
 use Rattle.meaning.specs.Works.{Item, Declares, DeclaresParameter, Sequence, Does, DoesMain, Repeats, RepeatsWhile, RepeatsFor, Handles, EndsHandler, EndsCall, EndsAction, EndsServed, Queued, Goes, Raising, Activation, Store, Target, TaskWork}
 use Rattle.sound_steps.specs.Holding.{waits_after}
 use Rattle.sound_steps.specs.Objects.{IsException}
 use Rattle.expr_code.specs.Views.{At, in_frame, placed}
-use Rattle.expr_code.specs.Coming.{Comes, Throws, most_steps, size_of}
+use Rattle.expr_code.specs.Coming.{Throws, most_steps}
 use Rattle.expr_code.specs.Seeing.{Package}
 use Rattle.expr_code.proofs.Coming.{acts}
 use Rattle.expr_code.proofs.Coming as coming
 use Rattle.stmt_code.specs.Resting.{StandsFor}
-use Rattle.stmt_code.specs.Statements.{IsRaised, Numbers}
-use Rattle.stmt_code.specs.Standing.{AreInner, Catches, Catching, CaughtIf, CodeStands, IsCaught, IsSound, Over as Ended, Raised, Shares, items_size, relation, work_size}
+use Rattle.stmt_code.specs.Statements.{Numbers}
+use Rattle.stmt_code.specs.Standing.{AreInner, Catches, Catching, CaughtIf, CodeStands, IsSound, Over as Ended, Raised, Shares, items_size, relation, work_size}
 use Rattle.stmt_code.specs.Laws.{HasCode}
 use Rattle.stmt_code.proofs.Catching.{handling_here}
 use Rattle.stmt_code.proofs.Going.{jumps_up}
@@ -296,7 +295,8 @@ module _ (this : Scene) where
         (scene.handled_by this s around r.2 r.1 items v r.0 r.1 r.5 r.4.1 rests refl leads.reaches.2 h.outside h.depth h.inner)
         (λ z ez next spends. absurd cc))
 
-    following : (at : ℕ) (stack : List ℤ) → steps.does Quiet m (placed f (at + 1) stack) fs None None ≡ steps.does Quiet m (placed f (suc at) stack) fs None None
+    following : (at : ℕ) (stack : List ℤ) → steps.does Quiet m (placed f (at + 1) stack) fs None None ≡ steps.does Quiet m (placed f
+        (suc at) stack) fs None None
     following at stack = let e : at + 1 ≡ suc at = omega arith in ap (λ q. steps.does Quiet m (placed f q stack) fs None None) e
 
     pub met_raise : (place : ℕ) (name : Option Identifier) (items : List Item) → w.work ≡ Goes (Does (Raise place name) ∷ items)

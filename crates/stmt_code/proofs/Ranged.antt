@@ -23,7 +23,7 @@ use Rattle.expr_code.specs.declared.code.Code.{Code}
 use Rattle.expr_code.specs.declared.visible.Visible.{Visible}
 use Rattle.expr_code.proofs.Flowing.{kept_one, kept_then, widened}
 use Rattle.expr_code.proofs.Growing.{added_extends, added_here, extends_trans, patched_extends, patched_here, patched_other}
-use Rattle.stmt_code.specs.Handling.{unhandled}
+use Rattle.stmt_code.specs.Handling.{GoesBy, Handling}
 use Rattle.stmt_code.specs.Bounds.{stmts_words}
 use Rattle.stmt_code.specs.Emitting.{Allows, BeginsLoop, EmitsStatement, EmitsStatements, EndsLoop, HasEntries, HasLabels, IsReached, Serves, seeing}
 use Rattle.stmt_code.specs.Resting.{Framed}
@@ -39,6 +39,7 @@ use Rattle.stmt_code.proofs.Ranging.{Advances, Begins, stands_counted}
 use Rattle.stmt_code.proofs.Repeating.{in_the_loop}
 use Rattle.stmt_code.proofs.Turned.{HasBoth, StandAll, advances_by, all_extends, all_here, all_there, begins_by, bounds_flow, counted_flow, values_flow}
 use Rattle.stmt_code.proofs.Walking.{behind}
+use Rattle.stmt_code.proofs.Handling.{goes_within}
 
 -- no place of a part of code is this one
 abbrev IsOutside : (from to place : ℕ) → Type 0
@@ -282,25 +283,28 @@ module _ (stay : ShapesStay) (v later : Visible) (w : Ways) (a b e c : Draft) (c
         (all_there i (here q.tested) q.tested counted (value_counted t) (omega arith) in_counted q.counts)))
 
     module _ (quiet : QuietStays) (kept : AgreementIsKept) (sized : ValuesHaveWords) (l : HasLabels i c.labels) (program : Program) (g : Package)
-        (numbers : Numbers) (f : Framed) (serves : Serves program g numbers (seeing f v) b.words.taken) (room : c.words.most ≤ f.room) where
+        (numbers : Numbers) (f : Framed) (serves : Serves program g numbers (seeing f v) b.words.taken) (room : c.words.most ≤ f.room)
+        (handling : Handling) (goes : GoesBy i handling (here a.code) (here whole)) where
       abbrev in_loop : Framed
       in_loop = record { names = later; room = f.room; reserved = t.counter ∷ t.limit ∷ f.reserved }
 
       room_before : e.words.most ≤ f.room
       room_before = omega (arith, p.most, room)
 
-      body_there : AreStatements i program g numbers in_loop (within_loop (here a.code + 1) w) unhandled (behind 6 start) (here c.code) body
+      body_there : AreStatements i program g numbers in_loop (within_loop (here a.code + 1) w) handling (behind 6 start) (here c.code) body
       body_there =
-          subst (λ n. AreStatements i program g numbers in_loop (within_loop n w) unhandled (behind 6 start) (here c.code) body) out_is
-          (subst (λ n. AreStatements i program g numbers in_loop (within_loop out w) unhandled n (here c.code) body) (opened_at ∙ ap suc compared_at)
+          subst (λ n. AreStatements i program g numbers in_loop (within_loop n w) handling (behind 6 start) (here c.code) body) out_is
+          (subst (λ n. AreStatements i program g numbers in_loop (within_loop out w) handling n (here c.code) body) (opened_at ∙ ap suc compared_at)
           (p.stands i in_body l program g numbers in_loop refl
-          (serves_inside stay v later b e parameter reversed range t null sound entries legal of_type r kept sized program g numbers f serves room_before) room))
+          (serves_inside stay v later b e parameter reversed range t null sound entries legal of_type r kept sized program g numbers f serves room_before) room handling
+          (goes_within i handling (here a.code) (here e.code) (here c.code) (here whole) goes (omega (arith, before_body, begun_at))
+          (omega (arith, whole_at, turned_at, counted_at, tested_at, values_at)))))
 
-      pub loop_stands : (place : ℕ) → IsStatement i program g numbers (seeing f v) w unhandled (here a.code) (here whole) (Loop place (For parameter reversed range) body)
+      pub loop_stands : (place : ℕ) → IsStatement i program g numbers (seeing f v) w handling (here a.code) (here whole) (Loop place (For parameter reversed range) body)
       loop_stands place =
           stands_counted quiet kept sized i g (seeing f v) in_loop serves.laid sound parameter.name of_type.number
           (slot stay v later b e parameter reversed range t null sound entries legal of_type r) t.limit
-          (holds stay v later b e parameter reversed range t null sound entries legal of_type r kept sized program g numbers f serves room_before) program numbers w
+          (holds stay v later b e parameter reversed range t null sound entries legal of_type r kept sized program g numbers f serves room_before) program numbers w handling
           parameter refl place reversed range body (here a.code) (here r.middle) start (here c.code) (here whole)
           (omega (arith, begun_at, r.first.extends.longer)) r.last.extends.longer
           (omega (arith, compared_at, opened_at, p.extends.longer)) (omega (arith, whole_at, turned_at, counted_at, tested_at, values_at)) (0, at_skip)
@@ -308,7 +312,7 @@ module _ (stay : ShapesStay) (v later : Visible) (w : Ways) (a b e c : Draft) (c
           (subst (λ n. Computes i (library_of g) (Sees g v) n (here r.middle) range.first) begun_at (r.first.computes i in_first g))
           (r.last.computes i in_last g) begins_there body_there advances_there
           (subst (λ n. At i n (op.Jump (behind 6 start))) (counted_at ∙ ap (behind 4) (tested_at ∙ ap suc values_at))
-          (subst (λ n. At i (here counted) (op.Jump n)) (opened_at ∙ ap suc compared_at) (0, at_back))) l.rows
+          (subst (λ n. At i (here counted) (op.Jump n)) (opened_at ∙ ap suc compared_at) (0, at_back))) goes
 
     -- ---- the rules of images
 
@@ -453,10 +457,10 @@ module _ (stay : ShapesStay) (v later : Visible) (w : Ways) (a b e c : Draft) (c
     most = (let m = most_beside a b same in omega (arith, m, r.takes.grows, p.most));
     sized = (let k = ap (λ s. stmts_words s body) r.scope in
         omega (arith, whole_at, turned_at, counted_at, tested_at, values_at, p.sized, opened_at, compared_at, r.last.sized, r.first.sized, begun_at, k));
-    stands = λ i h l program g numbers f names serves room.
+    stands = λ i h l program g numbers f names serves room handling goes.
         let frame : seeing f v ≡ f = λ j. record f { names = (sym names) j } in
-        subst (λ z. IsStatement i program g numbers z w unhandled (here a.code) (here whole) (Loop place (For parameter reversed range) body)) frame
+        subst (λ z. IsStatement i program g numbers z w handling (here a.code) (here whole) (Loop place (For parameter reversed range) body)) frame
         (loop_stands i h quiet kept sized l program g numbers f
-        (subst (λ z. Serves program g numbers z b.words.taken) (sym frame) (subst (Serves program g numbers f) (sym (taken_beside a b same)) serves)) room place);
+        (subst (λ z. Serves program g numbers z b.words.taken) (sym frame) (subst (Serves program g numbers f) (sym (taken_beside a b same)) serves)) room handling goes place);
     flows = λ i s low high down up h l suits deep wide empty ways. loop_kept i h s low high l down up suits deep wide empty ways;
   })

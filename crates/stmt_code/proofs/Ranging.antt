@@ -35,7 +35,7 @@ use Rattle.expr_code.specs.Seeing.{library_of, Package, Sees}
 use Rattle.expr_code.specs.Views.{At, in_frame, placed, view_of}
 use Rattle.expr_code.specs.declared.visible.Slot.{Slot}
 use Rattle.expr_code.proofs.Coming.{acts, after_first, more, then_comes, steps}
-use Rattle.stmt_code.specs.Handling.{GoesBy, unhandled}
+use Rattle.stmt_code.specs.Handling.{GoesBy, Handling}
 use Rattle.stmt_code.specs.Counting.{Bounds, GoesOn, IsCounted, IsNext, IsRange, bounds, in_turn, number_bounds, turn_first, turn_last, with_last, with_parameter}
 use Rattle.stmt_code.specs.Layout.{IsLaidOut}
 use Rattle.stmt_code.specs.Resting.{Framed, Held, Knows, RestsWith}
@@ -43,7 +43,7 @@ use Rattle.stmt_code.specs.Statements.{AreStatements, IsStatement, Numbers, Ways
 use Rattle.stmt_code.specs.Turns.{next_operation}
 use Rattle.stmt_code.proofs.Parameters.{HoldsRange, both_swapped, inside, next_rests, null_rests, parameter_fits, parameter_shows, turn_rests, with_both, with_word, word_long}
 use Rattle.stmt_code.proofs.Walking.{Walks, behind, compares, jumps_if, loads_local, orders, puts, stores_local, then_step}
-use Rattle.stmt_code.proofs.Handling.{goes_nowhere}
+use Rattle.stmt_code.proofs.Handling.{goes_within}
 
 -- ---- the bounds
 
@@ -362,26 +362,26 @@ module _ (quiet : QuietStays) (kept : AgreementIsKept) (sized : ValuesHaveWords)
   }
 
   -- the statement: a jump over the way out, the way out, the bounds, the statements of a turn, its end, and a jump back to them
-  pub stands_counted : (program : Program) (numbers : Numbers) (w : Ways) (parameter : Identifier) → parameter.name ≡ name → (place : ℕ) (reversed : Bool)
+  pub stands_counted : (program : Program) (numbers : Numbers) (w : Ways) (handling : Handling) (parameter : Identifier) → parameter.name ≡ name → (place : ℕ) (reversed : Bool)
       (range : RangeTree) (body : StmtTrees) (from middle mid back to : ℕ)
       → from + 2 ≤ middle → middle ≤ mid → behind 6 mid ≤ back → to ≡ suc (behind 8 back)
       → At i from (op.Jump (from + 2)) → At i (from + 1) (op.Jump to)
       → Computes i (library_of g) (Sees g v.names) (from + 2) middle range.first → Computes i (library_of g) (Sees g v.names) middle mid range.last
       → Begins i counter limit mid to reversed
-      → AreStatements i program g numbers inner (within_loop (from + 1) w) unhandled (behind 6 mid) back body
+      → AreStatements i program g numbers inner (within_loop (from + 1) w) handling (behind 6 mid) back body
       → Advances i counter limit back to reversed → At i (behind 8 back) (op.Jump (behind 6 mid))
-      → i.rows ≡ []
-      → IsStatement i program g numbers v w unhandled from to (Loop place (For parameter reversed range) body)
-  stands_counted program numbers w parameter same place reversed range body from middle mid back to low high over end skip out first last begin statements code
-      jump rows =
+      → GoesBy i handling from to
+      → IsStatement i program g numbers v w handling from to (Loop place (For parameter reversed range) body)
+  stands_counted program numbers w handling parameter same place reversed range body from middle mid back to low high over end skip out first last begin statements code
+      jump goes =
       subst
       (λ q. (c : IsCounted i g v from to q reversed)
       × IsRange i g v c.inner c.counter c.limit (from + 2) c.start to q reversed range
-      × AreStatements i program g numbers c.inner (within_loop (from + 1) w) unhandled c.start c.back body × GoesBy i unhandled (from + 2) c.start
-      × GoesBy i unhandled c.back to) (sym same) (
+      × AreStatements i program g numbers c.inner (within_loop (from + 1) w) handling c.start c.back body × GoesBy i handling (from + 2) c.start
+      × GoesBy i handling c.back to) (sym same) (
         is_counted reversed from (behind 6 mid) back to (omega (arith, low, high)) over end skip out code jump,
         is_range range reversed (from + 2) middle mid to low high first last begin,
         statements,
-        goes_nowhere i rows (from + 2) (behind 6 mid),
-        goes_nowhere i rows back to,
+        goes_within i handling from (from + 2) (behind 6 mid) to goes (omega arith) (omega (arith, over, end)),
+        goes_within i handling from back to to goes (omega (arith, low, high, over)) (omega arith),
       )

@@ -18,11 +18,11 @@ use Rattle.expr_code.specs.Flows.{AreKept}
 use Rattle.expr_code.specs.declared.visible.Visible.{Visible}
 use Rattle.expr_code.proofs.Flowing.{kept_then}
 use Rattle.expr_code.proofs.Growing.{added_extends, added_here, extends_trans, patched_extends, patched_here, patched_holds, patched_other}
-use Rattle.stmt_code.specs.Handling.{unhandled}
 use Rattle.stmt_code.specs.Emitting.{Allows, AreLegal, BeginsLoop, EmitsStatement, EmitsStatements, EndsLoop, HasLabels, IsLegal, IsReached, Serves}
 use Rattle.stmt_code.specs.Statements.{AreStatements, Ways, within_loop}
 use Rattle.stmt_code.specs.declared.draft.Draft.{Draft}
 use Rattle.stmt_code.proofs.Adding.{IsBeside, depth_there, jump_kept, labels_before, labels_beside, labels_then, most_beside, taken_beside}
+use Rattle.stmt_code.proofs.Handling.{goes_within}
 use Rattle.stmt_code.proofs.Opening.{added_is, patched_is, some_same}
 
 -- in a loop the way out behind it is reached, where its jump stands with an empty operand stack
@@ -107,16 +107,17 @@ module _ (v : Visible) (w : Ways) where
       taken = taken_beside c d still ∙ p.taken ∙ taken_beside a b same;
       most = (let m = most_beside a b same in let n = most_beside c d still in omega (arith, m, p.most, n));
       sized = omega (arith, one, two, three, four, p.sized);
-      stands = λ i h l program g numbers f names serves room. (
+      stands = λ i h l program g numbers f names serves room handling goes. (
         here c.code,
         omega (arith, one, two, p.extends.longer),
         (0, at_skip i h),
         subst (λ n. At i n (op.Jump (here d.code))) out_is (subst (λ m. At i out (op.Jump m)) (sym four) (0, at_out i h)),
-        subst (λ n. AreStatements i program g numbers f (within_loop n w) unhandled (here a.code + 2) (here c.code) body)
+        subst (λ n. AreStatements i program g numbers f (within_loop n w) handling (here a.code + 2) (here c.code) body)
             out_is
-            (subst (λ n. AreStatements i program g numbers f (within_loop out w) unhandled n (here c.code) body) head_is
+            (subst (λ n. AreStatements i program g numbers f (within_loop out w) handling n (here c.code) body) head_is
             (p.stands i (in_body i h) (inner_labels i l) program g numbers f names (subst (Serves program g numbers f) (sym (taken_beside a b same)) serves)
-            (let m = most_beside c d still in omega (arith, m, room)))),
+            (let m = most_beside c d still in omega (arith, m, room)) handling
+            (goes_within i handling (here a.code) (here b.code) (here c.code) (here d.code) goes (omega (arith, one, two)) (omega (arith, three, four))))),
         (0, subst (λ n. slice_get i.instructions (here c.code) ≡ Some (record { depth = 0; operation = op.Jump n })) back_is (at_back i h)),
         four ∙ three,
       );

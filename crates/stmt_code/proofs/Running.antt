@@ -12,14 +12,14 @@ use Rattle.expr_code.specs.Flows.{AreKept}
 use Rattle.expr_code.specs.declared.visible.Visible.{Visible}
 use Rattle.expr_code.proofs.Flowing.{kept_then}
 use Rattle.expr_code.proofs.Growing.{added_extends, added_here, extends_trans, holds_before, patched_extends, patched_here, patched_holds, patched_other}
-use Rattle.stmt_code.specs.Handling.{unhandled}
+use Rattle.stmt_code.specs.Handling.{GoesBy}
 use Rattle.stmt_code.specs.Bounds.{stmts_words}
 use Rattle.stmt_code.specs.Emitting.{Allows, BeginsLoop, EmitsDeclarations, EmitsRun, EmitsStatements, HasLabels, IsReached, Serves, seeing}
 use Rattle.stmt_code.specs.Statements.{AreStatements, Ways}
 use Rattle.stmt_code.specs.declared.draft.Draft.{Draft}
 use Rattle.stmt_code.proofs.Adding.{IsBeside, depth_there, jump_kept, labels_before, labels_beside, labels_then, most_beside, taken_beside}
 use Rattle.stmt_code.proofs.Opening.{added_is, patched_is, some_same}
-use Rattle.stmt_code.proofs.Handling.{goes_nowhere}
+use Rattle.stmt_code.proofs.Handling.{goes_within}
 
 -- a return leads to the way out, and there is no loop to leave
 abbrev pub returning : ℕ → Ways
@@ -103,7 +103,7 @@ module _ (v later : Visible) (a b c d e : Draft) (ds : List DeclarationTree) (bo
     taken = ap (λ w. w.taken) words;
     most = omega (arith, p.most, many);
     sized = (let k = ap (λ s. stmts_words s body) p.scope in omega (arith, one, two, three, p.sized, q.sized, k));
-    stands = λ i h l program g numbers f names serves room.
+    stands = λ i h l program g numbers f names serves room handling goes none.
         let front = p.stands i (in_front i h) (labels_in_front i l) program g numbers f names serves (omega (arith, many, room)) in
         record {
           later = seeing f later;
@@ -111,15 +111,21 @@ module _ (v later : Visible) (a b c d e : Draft) (ds : List DeclarationTree) (bo
           up = p.extends.longer;
           over = omega (arith, one, two, three, q.extends.longer);
           declared = front.0;
-          uncovered = goes_nowhere i l.rows (here a.code) (here b.code);
+          uncovered =
+              subst (λ q. GoesBy i q (here a.code) (here b.code)) none
+              (goes_within i handling (here a.code) (here a.code) (here b.code) (here e.code) goes (omega arith)
+              (omega (arith, one, two, three, q.extends.longer)));
           skip = (0, at_skip i h);
           way = subst (λ n. At i n (op.Jump (here e.code))) out_is (subst (λ m. At i out (op.Jump m)) end_here (0, at_way i h));
           statements =
-              subst (λ n. AreStatements i program g numbers (seeing f later) (returning n) unhandled (here b.code + 2) (here e.code) body) out_is
-              (subst (λ n. AreStatements i program g numbers (seeing f later) (returning out) unhandled n (here e.code) body) head_is
-              (subst (λ n. AreStatements i program g numbers (seeing f later) (returning out) unhandled (here c.code) n body) (sym three)
+              subst (λ z. AreStatements i program g numbers (seeing f later) (returning (here b.code + 1)) z (here b.code + 2) (here e.code) body) none
+              (subst (λ n. AreStatements i program g numbers (seeing f later) (returning n) handling (here b.code + 2) (here e.code) body) out_is
+              (subst (λ n. AreStatements i program g numbers (seeing f later) (returning out) handling n (here e.code) body) head_is
+              (subst (λ n. AreStatements i program g numbers (seeing f later) (returning out) handling (here c.code) n body) (sym three)
               (q.stands i (in_body i h) (labels_of i l) program g numbers (seeing f later) refl
-              (subst (Serves program g numbers (seeing f later)) (sym (taken_beside b c same)) front.1) (omega (arith, most_is, room)))));
+              (subst (Serves program g numbers (seeing f later)) (sym (taken_beside b c same)) front.1) (omega (arith, most_is, room)) handling
+              (goes_within i handling (here a.code) (here c.code) (here d.code) (here e.code) goes (omega (arith, one, two, p.extends.longer))
+              (omega (arith, three)))))));
         };
     flows = λ i s low high down up h l suits deep wide ends ways.
         let way : IsReached i low high out = record {

@@ -1,6 +1,5 @@
 -- A step of a task and the frame that stands for its work: how steps meet, exceptions on their way, items without code, ways out.
-use Rattle.std.proofs.Common.{◌≡◌, ℕ, suc, ◌+◌, ◌-◌, ◌<◌, ◌≤◌, ◌⊎◌, inl, inr, ⊎_elim, ℤ, List, [], ◌∷◌, length, map, Option, Some, None, refl, sym, ap, ◌∙◌, subst, arith}
-use Rattle.std.specs.Prelude.{◌++◌}
+use Rattle.std.proofs.Common.{◌≡◌, ℕ, suc, ◌+◌, ◌-◌, ◌<◌, ◌≤◌, ◌⊎◌, inl, inr, ⊎_elim, ℤ, List, [], ◌∷◌, length, Option, Some, None, refl, sym, ap, ◌∙◌, subst, arith}
 use Rattle.base.specs.declared.schedule.ScheduleLine.{ScheduleLine}
 use Rattle.base.specs.declared.limits.TheConstants.{FRAMES}
 use Rattle.kernel.specs.State.{Kernel}
@@ -28,7 +27,7 @@ use Rattle.meaning.specs.Programs.{Program}
 use Rattle.meaning.specs.SameMeaning.{frames_of}
 use Rattle.meaning.specs.SourceSteps as source
 use Rattle.meaning.specs.SourceSteps.{here_of, place_of, program_behaviour, with_value, work_step}
-use Rattle.meaning.specs.Works.{Item, Declares, Sequence, Does, Handles, EndsHandler, Goes, Activation, Store, TaskWork, ends_of_calls, frames_left}
+use Rattle.meaning.specs.Works.{Item, Does, Goes, Activation, Store, TaskWork, ends_of_calls, frames_left}
 use Rattle.sound_steps.specs.Holding.{IsSoundStep, IsSoundStore, IsSoundTask, waits_after}
 use Rattle.sound_steps.specs.Laws.{Premises, StepsAreSound, StoresAreAlike}
 use Rattle.sound_steps.specs.Objects.{IsException}
@@ -37,16 +36,15 @@ use Rattle.expr_code.specs.Views.{At, in_frame, placed, view_of}
 use Rattle.expr_code.specs.Coming.{Comes, Throws, most_steps, size_of}
 use Rattle.expr_code.specs.Computing.{Everywhere}
 use Rattle.expr_code.specs.Seeing.{Package, Sees, SeesPackage, library_of}
-use Rattle.expr_code.proofs.Coming.{acts, after_first}
+use Rattle.expr_code.proofs.Coming.{acts}
 use Rattle.expr_code.proofs.Coming as coming
 use Rattle.stmt_code.specs.Resting.{Framed, Held, IsSmall, Knows, Narrows, Rests, RestsWith, Shows, StandsFor}
 use Rattle.stmt_code.specs.Handling.{GoesBy}
-use Rattle.stmt_code.specs.Statements.{IsSequence, Numbers}
-use Rattle.stmt_code.specs.Standing.{AreInner, Around, Catches, CodeStands, Follows, Going, Here, Inside, IsGoing, IsOutermost, IsSound, Jumps, Leads, with_visible, Raised, Reaches, Shares, StaysAlone, There, WorkStands, in_sequence, items_size, relation, work_size}
+use Rattle.stmt_code.specs.Statements.{Numbers}
+use Rattle.stmt_code.specs.Standing.{AreInner, Around, Catches, CodeStands, Follows, Going, Here, Inside, IsGoing, IsSound, Jumps, Leads, with_visible, Raised, Shares, StaysAlone, There, WorkStands, items_size, relation, work_size}
 use Rattle.stmt_code.specs.Laws.{HasCode}
-use Rattle.stmt_code.proofs.Going.{before_ends, before_follows, declares_end, declares_follow, Drops, drops_handler, earlier, jumps_up, narrows_same, shows_then, way_back, way_out}
+use Rattle.stmt_code.proofs.Going.{Drops, earlier, jumps_up, shows_then, way_back, way_out}
 use Rattle.stmt_code.proofs.Catching.{catches}
-use Rattle.stmt_code.proofs.Sizes.{before_size, declares_size, item_counts}
 
 -- what is known where a task takes a step: of the image, of the program, and of both sides
 pub record Scene : Type 0 where
@@ -345,10 +343,12 @@ module _ (this : Scene) where
   -- wherever in this part of the code the value is raised, there is what takes it
   abbrev pub Handled : {A : Type 0} → Frame → List Frame → Val A → List Item → (from to : ℕ) → Type 0
   Handled f fs v items from to =
-      (x place : ℕ) (left : List ℤ) → IsException program x → v ≡ Raises x → from ≤ place → place < to → Catches i program g numbers x (placed f place left) fs w.own w.callers items
+      (x place : ℕ) (left : List ℤ) → IsException program x → v ≡ Raises x → from ≤ place → place < to → Catches i program g numbers x
+      (placed f place left) fs w.own w.callers items
 
   -- a step of the source that evaluates: what raises is met, and what has no meaning is excluded
-  pub met_value_on : {A : Type 0} (base start : List ℤ) (f : Frame) (fs : List Frame) (n from n' to : ℕ) (stack : A → List ℤ) (v : Val A) (items : List Item) (go : A → source.Stepped)
+  pub met_value_on : {A : Type 0} (base start : List ℤ) (f : Frame) (fs : List Frame) (n from n' to : ℕ) (stack : A → List ℤ) (v : Val A)
+      (items : List Item) (go : A → source.Stepped)
       → Spends (behaviour i schedule) t frames_of (most_steps i) (suc (length fs)) n k (in_frame m (placed f f.place base) fs) k
       (in_frame m (placed f from start) fs)
       → Comes i schedule k t m (placed f from start) fs n' to stack v
@@ -371,12 +371,18 @@ module _ (this : Scene) where
       let raised = source.raises now x items in
       let all = spends_takes (behaviour i schedule) t frames_of (most_steps i) n' k (record { memory = m; task = comes.0 }) first comes.3 in
       let stands : (s : TaskState) → Throws i x s f' fs → WorkStands i program g numbers k raised.solo.task s =
-      λ s throws. record { sound = task_after raised is refl; code = Raised x items f' fs refl throws (inner_placed f fs place left inner) (handled x place left (raises_known x items is) refl comes.4 comes.5) } in
-      met_quiet_on base f fs (n + n') comes.0 raised is refl refl all (omega (arith, low)) (λ s e. stands s (subst (λ q. Throws i x q f' fs) (sym e) comes.6)) less
+      λ s throws. record {
+        sound = task_after raised is refl;
+        code = Raised x items f' fs refl throws (inner_placed f fs place left inner)
+            (handled x place left (raises_known x items is) refl comes.4 comes.5);
+      } in
+      met_quiet_on base f fs (n + n') comes.0 raised is refl refl all (omega (arith, low)) (λ s e. stands s (subst (λ q. Throws i x q f' fs)
+      (sym e) comes.6)) less
   met_value_on base start f fs n from n' to stack Meaningless items go first comes low is less inner handled last = absurd (has_meaning items is)
 
   -- ... and is then met by the code's last instruction
-  pub met_comes_on : {A : Type 0} (base start : List ℤ) (f : Frame) (fs : List Frame) (n from n' to : ℕ) (stack : A → List ℤ) (v : Val A) (items : List Item) (go : A → source.Stepped)
+  pub met_comes_on : {A : Type 0} (base start : List ℤ) (f : Frame) (fs : List Frame) (n from n' to : ℕ) (stack : A → List ℤ) (v : Val A)
+      (items : List Item) (go : A → source.Stepped)
       → Spends (behaviour i schedule) t frames_of (most_steps i) (suc (length fs)) n k (in_frame m (placed f f.place base) fs) k
       (in_frame m (placed f from start) fs)
       → Comes i schedule k t m (placed f from start) fs n' to stack v
@@ -501,7 +507,8 @@ module _ (this : Scene) where
     -- what takes the exceptions of these places, where the items follow
     pub handled_by : {A : Type 0} (a : Setting) (now' : Framed) (to : ℕ) (items : List Item) (v : Val A) (from' to' : ℕ)
         → Follow a f.subprogram to items fs w.callers
-        → GoesBy i a.raised from' to' → RestsWith g now' a.held w.own f.locals → now'.reserved ≡ a.visible.reserved → Shows g now' a.handling → w.own.within ≡ None
+        → GoesBy i a.raised from' to' → RestsWith g now' a.held w.own f.locals → now'.reserved ≡ a.visible.reserved → Shows g now' a.handling
+        → w.own.within ≡ None
         → length fs ≡ ends_of_calls items → Removable f fs → Handled f fs v items from' to'
     handled_by a now' to items v from' to' follows goes rests same shows outside depth inner = λ x place left known is low high.
         catches i program g numbers has_room items a to x (placed f place left) fs w.own w.callers follows

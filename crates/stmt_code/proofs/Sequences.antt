@@ -1,5 +1,5 @@
 -- Sequences of statements and blocks, with the handlers that cover them: they begin and end without code, or with a jump over the handlers.
-use Rattle.std.proofs.Common.{◌≡◌, ℕ, suc, ◌+◌, ◌<◌, ◌≤◌, ℤ, List, [], ◌∷◌, length, map, None, refl, sym, ap, ◌∙◌, subst, arith}
+use Rattle.std.proofs.Common.{◌≡◌, ℕ, suc, ◌+◌, ◌<◌, ◌≤◌, List, ◌∷◌, map, refl, sym, ap, ◌∙◌, subst, arith}
 use Rattle.std.specs.Prelude.{◌++◌}
 use Rattle.image.specs.Sections.{Sections}
 use Rattle.image.specs.Frames.{Frame, TaskState}
@@ -7,7 +7,7 @@ use Rattle.ada_tree.specs.StatementTree.{DeclarationTree, Block, StmtTrees, Hand
 use Rattle.meaning.specs.Programs.{Program}
 use Rattle.meaning.specs.SourceSteps as source
 use Rattle.meaning.specs.SourceSteps.{work_step}
-use Rattle.meaning.specs.Works.{Item, Declares, Sequence, Does, Handles, EndsHandler, Goes, Activation, TaskWork, ends_of_calls}
+use Rattle.meaning.specs.Works.{Item, Declares, Sequence, Does, Handles, EndsHandler, Goes, Activation, TaskWork}
 use Rattle.expr_code.specs.Seeing.{Package}
 use Rattle.stmt_code.specs.Resting.{Framed, Narrows, RestsWith}
 use Rattle.stmt_code.specs.Statements.{IsSequence, Numbers}
@@ -64,7 +64,8 @@ module _ (this : Scene) where
     -- the handlers of a sequence are left, and the end of a handler is passed
     pub met_handles : (hs : HandlerTrees) (items : List Item) → w.work ≡ Goes (Handles hs ∷ items) → (h : IsAtItems (Handles hs ∷ items)) → Meet s
     met_handles hs items is h =
-        scene.met_items this s (source.goes now items) items (ap (λ q. work_step now q) is) (subst (λ q. suc (items_size items) < work_size q) (sym is) (omega arith))
+        scene.met_items this s (source.goes now items) items (ap (λ q. work_step now q) is) (subst (λ q. suc (items_size items) < work_size q) (sym is)
+        (omega arith))
         h.stack h.going (behind hs h.follows).0 (behind hs h.follows).1 (behind hs h.follows).2 h.outside h.depth h.inner
       where
         behind : (hs : HandlerTrees) → Follow h.around f.subprogram f.place (Handles hs ∷ items) fs w.callers
@@ -82,9 +83,11 @@ module _ (this : Scene) where
         let outer = r.2 in
         let last = r.3 in
         let drops = drops_handler i program g numbers h.around f.subprogram f.place r.0 r.1 x outer last in
-        scene.met_items this s (source.goes now items) items (ap (λ q. work_step now q) is) (subst (λ q. suc (items_size items) < work_size q) (sym is) (omega arith))
+        scene.met_items this s (source.goes now items) items (ap (λ q. work_step now q) is) (subst (λ q. suc (items_size items) < work_size q) (sym is)
+        (omega arith))
         h.stack h.going (seeing outer.visible outer)
-        (earlier i program g numbers items outer outer.visible f.subprogram f.place r.0 fs w.callers last.jumps (narrows_same g outer.visible) last.from_inside r.4)
+        (earlier i program g numbers items outer outer.visible f.subprogram f.place r.0 fs w.callers last.jumps
+        (narrows_same g outer.visible) last.from_inside r.4)
         (record {
           rests = scene.shown this s h.around.visible outer.visible w.own f.locals last.shows h.rests.rests;
           held = drops.held f.locals h.rests.held;
@@ -113,7 +116,8 @@ module _ (this : Scene) where
           b,
           refl,
           refl,
-          before_follows i program g numbers body b now' f.subprogram at mid (Handles (MoreHandlers choices own others) ∷ items) fs w.callers code.4 one x mid_in
+          before_follows i program g numbers body b now' f.subprogram at mid (Handles
+              (MoreHandlers choices own others) ∷ items) fs w.callers code.4 one x mid_in
               (reach.0, reach.1, (narrows_same g now').shows) (
                 suc mid,
                 to,

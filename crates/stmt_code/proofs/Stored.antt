@@ -50,7 +50,6 @@ use Rattle.stmt_code.specs.declared.draft.Draft.{Draft}
 use Rattle.stmt_code.proofs.Adding.{IsBeside, labels_beside, most_beside, taken_beside, value_extends, value_kept}
 use Rattle.stmt_code.proofs.Assigning.{assigns_local_word, assigns_plain_word}
 use Rattle.stmt_code.proofs.Declaring.{IsTypedAs}
-use Rattle.stmt_code.proofs.Handling.{goes_nowhere}
 
 pub less_true : (x y : ℕ) → x < y → nat_lt x y ≡ true
 less_true x y less = search rules
@@ -208,9 +207,9 @@ module _ (kept : AgreementIsKept) (sized : ValuesHaveWords) (calls : CallsAreTyp
     taken = taken_beside a c same;
     most = (let n = most_beside a c same in omega (arith, n));
     sized = omega (arith, p.sized, next);
-    stands = λ i h l program g numbers f names serves room. (
+    stands = λ i h l program g numbers f names serves room handling goes. (
       subst (λ n. IsAssigned i program g numbers f (here a.code) n name e) (sym next) (stored i h program g numbers f names serves.laid),
-      goes_nowhere i l.rows (here a.code) (here c.code),
+      goes,
     );
     flows = λ i s low high down up h l suits deep wide ends ways. flows_by i s low high down up h suits deep ends slot.region refl operation;
   }

@@ -52,7 +52,6 @@ use Rattle.stmt_code.proofs.AssigningParts.{assigns_component, assigns_component
 use Rattle.stmt_code.proofs.Declaring.{IsTypedAs}
 use Rattle.stmt_code.proofs.Stored.{names_object}
 use Rattle.stmt_code.proofs.StoringParts.{HoldsVariables}
-use Rattle.stmt_code.proofs.Handling.{goes_nowhere}
 
 -- ---- what stores words at an address
 
@@ -218,9 +217,9 @@ module _ (kept : AgreementIsKept) (sized : ValuesHaveWords) (calls : CallsAreTyp
     taken = taken_beside a c same;
     most = (let k = most_beside a c same in omega (arith, k));
     sized = omega (arith, p.sized, q.sized, next);
-    stands = λ i h l program g numbers f names serves room. (
+    stands = λ i h l program g numbers f names serves room handling goes. (
       subst (λ k. IsAssigned i program g numbers f (here a.code) k name e) (sym next) (stored i h program g numbers f names serves.laid),
-      goes_nowhere i l.rows (here a.code) (here c.code),
+      goes,
     );
     flows = λ i s low high down up h l suits deep wide ends ways.
         widened i s (here a.code) (here c.code) low high (here a.code) (here c.code) 0 down up (whole_flows.flows i s h suits.names deep (omega arith) ends);

@@ -18,14 +18,13 @@ use Rattle.expr_code.specs.declared.code.Code.{Code}
 use Rattle.expr_code.specs.declared.visible.Visible.{Visible}
 use Rattle.expr_code.proofs.Flowing.{kept_one, kept_then, widened}
 use Rattle.expr_code.proofs.Growing.{added_extends, added_here, extends_trans, patched_extends, patched_here, patched_other}
-use Rattle.stmt_code.specs.Handling.{unhandled}
 use Rattle.stmt_code.specs.Emitting.{BeginsLoop, EmitsStatement, EmitsStatements, EndsLoop, HasLabels, IsReached, Serves}
 use Rattle.stmt_code.specs.Statements.{AreStatements, Ways, within_loop}
 use Rattle.stmt_code.specs.declared.draft.Draft.{Draft}
 use Rattle.stmt_code.proofs.Adding.{IsBeside, depth_there, jump_kept, labels_before, labels_beside, labels_then, same_place}
 use Rattle.stmt_code.proofs.Opening.{added_is, patched_is, shorter}
 use Rattle.stmt_code.proofs.Repeating.{in_the_loop}
-use Rattle.stmt_code.proofs.Handling.{goes_nowhere}
+use Rattle.stmt_code.proofs.Handling.{goes_within}
 
 module _ (v : Visible) (w : Ways) where
   -- ---- with a condition
@@ -157,7 +156,7 @@ module _ (v : Visible) (w : Ways) where
       taken = ap (λ x. x.taken) after ∙ p.taken ∙ ap (λ x. x.taken) ahead;
       most = (let m = ap (λ x. x.most) ahead in let n = ap (λ x. x.most) after in omega (arith, m, p.most, n));
       sized = omega (arith, one, two, three, four, five, tested_here, first.sized, p.sized);
-      stands = λ i h l program g numbers f names serves room. (
+      stands = λ i h l program g numbers f names serves room handling goes. (
         here tested,
         here c.code,
         omega (arith, one, two, first.extends.longer),
@@ -167,13 +166,16 @@ module _ (v : Visible) (w : Ways) where
         subst (λ n. Computes i (library_of g) (Sees g f.names) n (here tested) e) head_is
             (subst (λ x. Computes i (library_of g) (Sees g x) (here b.code) (here tested) e) (sym names) (first.computes i (in_test i h) g)),
         (1, at_test i h),
-        subst (λ n. AreStatements i program g numbers f (within_loop n w) unhandled (suc (here tested)) (here c.code) body) out_is
-            (subst (λ n. AreStatements i program g numbers f (within_loop out w) unhandled n (here c.code) body) tested_here
+        subst (λ n. AreStatements i program g numbers f (within_loop n w) handling (suc (here tested)) (here c.code) body) out_is
+            (subst (λ n. AreStatements i program g numbers f (within_loop out w) handling n (here c.code) body) tested_here
             (p.stands i (in_body i h) (inner_labels i l) program g numbers f names (subst (λ x. Serves program g numbers f x.taken) (sym ahead) serves)
-            (let m = ap (λ x. x.most) after in omega (arith, m, room)))),
+            (let m = ap (λ x. x.most) after in omega (arith, m, room)) handling
+            (goes_within i handling (here a.code) (here jumped.code) (here c.code) (here d.code) goes (omega (arith, one, two, first.extends.longer, tested_here))
+            (omega (arith, three, four, five))))),
         (0, subst (λ n. slice_get i.instructions (here c.code) ≡ Some (record { depth = 0; operation = op.Jump n })) back_is (at_back i h)),
         five ∙ four ∙ three,
-        goes_nowhere i l.rows (here a.code + 2) (here tested),
+        goes_within i handling (here a.code) (here a.code + 2) (here tested) (here d.code) goes (omega arith)
+            (omega (arith, tested_here, p.extends.longer, three, four, five)),
       );
       flows = λ i s low high down up h l suits deep wide empty ways.
           let deepest : ends.turned.deepest ≤ s.stack = omega (arith, ap (λ n. n) patch.deepest, ap (λ n. n) ends.patches.deepest, deep) in

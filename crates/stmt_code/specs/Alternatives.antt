@@ -19,7 +19,6 @@ use Rattle.expr_code.specs.declared.code.Code.{Code}
 use Rattle.expr_code.specs.declared.visible.Visible.{Visible}
 use Rattle.stmt_code.specs.Bounds.{alternatives_bound}
 use Rattle.stmt_code.specs.Emitting.{EmitsOpen, MeantTo}
-use Rattle.stmt_code.specs.Handling.{unhandled}
 use Rattle.stmt_code.specs.Statements.{AreAlternatives, Ways}
 use Rattle.stmt_code.specs.declared.draft.Draft.{Draft}
 
@@ -87,8 +86,9 @@ in_front (x ∷ all) rest = MoreAlternatives x.0 x.1.0 x.1.1 (in_front all rest)
 
 -- with whatever alternatives stand behind them, they are alternatives of the expression's value
 abbrev pub AreSelected : Ways → ExprTree → List (ℕ × (ChoicesTree × StmtTrees)) → MeantTo
-AreSelected w e all i program g numbers f end from to =
-    (rest : AlternativeTrees) → AreAlternatives i program g numbers f w unhandled to end e rest → AreAlternatives i program g numbers f w unhandled from end e (in_front all rest)
+AreSelected w e all i program g numbers f handling end from to =
+    (rest : AlternativeTrees) → AreAlternatives i program g numbers f w handling to end e rest → AreAlternatives i program g numbers f w handling from end e
+    (in_front all rest)
 
 -- code of these alternatives was added, which finds the value on the operand stack, and the places of their jumps to the end
 pub record AddsAlternatives (v : Visible) (w : Ways) (e : ExprTree) (old : Draft) (all : List (ℕ × (ChoicesTree × StmtTrees)))

@@ -35,7 +35,7 @@ use Rattle.stmt_code.specs.Bounds.{declarations_bound, elsifs_bound, run_bound, 
 use Rattle.stmt_code.specs.Layout.{EndsBy, IsLaidOut}
 use Rattle.stmt_code.specs.Suiting.{SuitsStatements}
 use Rattle.stmt_code.specs.Resting.{Framed}
-use Rattle.stmt_code.specs.Handling.{unhandled}
+use Rattle.stmt_code.specs.Handling.{GoesBy, Handling, unhandled}
 use Rattle.stmt_code.specs.Statements.{AreDeclared, AreStatements, IsOtherwise, IsRun, IsStatement, Numbers, Ways}
 use Rattle.stmt_code.specs.declared.draft.Draft.{Draft}
 use Rattle.stmt_code.specs.declared.draft.FrameWords.{FrameWords}
@@ -68,9 +68,8 @@ pub record Takes (old : FrameWords) (many : ℕ) (new : FrameWords) : Type 0 whe
 
 -- ---- what is known where the code stands
 
--- the image has these labels at their numbers; and nothing is handled
+-- the image has these labels at their numbers
 pub record HasLabels (i : Sections) (texts : List (List ℕ)) : Type 0 where
-  pub rows : i.rows ≡ []
   pub labels : StandsFrom 0 texts i.labels
 
 -- The program in whose body the statements stand: what is visible names what the program has, and means the same at some place of it; each procedure that is
@@ -101,11 +100,11 @@ pub record Allows (i : Sections) (low high : ℕ) (w : Ways) : Type 0 where
 
 -- which code this is, by the program and what is visible, and where it begins and ends
 abbrev pub Meant : Type 1
-Meant = Sections → Program → Package → Numbers → Framed → (from to : ℕ) → Type 0
+Meant = Sections → Program → Package → Numbers → Framed → Handling → (from to : ℕ) → Type 0
 
--- The code that was added is what is meant, in every image that holds it and has the labels, and in every frame with as many words; it has at most so
--- many instructions; and it keeps the rules of images wherever what is behind it and the ways out are reached with an empty operand stack. The words
--- that it takes for names of its own are given back.
+-- The code that was added is what is meant, in every image that holds it and has the labels, whatever the rows of handlers around it answer, and in every frame
+-- with as many words; it has at most so many instructions; and it keeps the rules of images wherever what is behind it and the ways out are reached with an
+-- empty operand stack. The words that it takes for names of its own are given back.
 pub record Emits (Is : Meant) (v : Visible) (w : Ways) (old : Draft) (size : ℕ) (new : Draft) : Type 0 where
   pub extends : Extends old.code new.code
   pub labels : StandsFrom 0 old.labels new.labels
@@ -115,18 +114,20 @@ pub record Emits (Is : Meant) (v : Visible) (w : Ways) (old : Draft) (size : ℕ
   pub stands : (i : Sections) → Holds i (here old.code) new.code → HasLabels i new.labels
       → (program : Program) (g : Package) (numbers : Numbers) (f : Framed) → f.names ≡ v → Serves program g numbers f old.words.taken
       → new.words.most ≤ f.room
-      → Is i program g numbers f (here old.code) (here new.code)
+      → (handling : Handling) → GoesBy i handling (here old.code) (here new.code)
+      → Is i program g numbers f handling (here old.code) (here new.code)
   pub flows : (i : Sections) (s : Subprogram) (low high : ℕ) → low ≤ here old.code → here new.code ≤ high
       → Holds i (here old.code) new.code → HasLabels i new.labels → SuitsStatements v i s → new.code.deepest ≤ s.stack → new.words.most ≤ s.locals
       → has_depth i (here new.code) 0 ≡ true → Allows i low high w
       → AreKept i s low high (here old.code) (here new.code) 0
 
 abbrev pub EmitsStatement : Visible → Ways → Draft → StmtTree → Draft → Type 0
-EmitsStatement v w old x new = Emits (λ i program g numbers f from to. IsStatement i program g numbers f w unhandled from to x) v w old (stmt_bound v.scope x) new
+EmitsStatement v w old x new = Emits (λ i program g numbers f handling from to. IsStatement i program g numbers f w handling from to x) v w old
+    (stmt_bound v.scope x) new
 
 abbrev pub EmitsStatements : Visible → Ways → Draft → StmtTrees → Draft → Type 0
 EmitsStatements v w old body new =
-    Emits (λ i program g numbers f from to. AreStatements i program g numbers f w unhandled from to body) v w old (stmts_bound v.scope body) new
+    Emits (λ i program g numbers f handling from to. AreStatements i program g numbers f w handling from to body) v w old (stmts_bound v.scope body) new
 
 -- ---- stores
 
@@ -238,7 +239,7 @@ pub record EmitsDeclarations (v : Visible) (old : Draft) (ds : List DeclarationT
 
 -- which code this is, where the jumps that wait lead to `end`
 abbrev pub MeantTo : Type 1
-MeantTo = Sections → Program → Package → Numbers → Framed → (end from to : ℕ) → Type 0
+MeantTo = Sections → Program → Package → Numbers → Framed → Handling → (end from to : ℕ) → Type 0
 
 -- ... in every image that joins the waiting jumps, which find an empty operand stack, to what stands behind; in front of it and behind it stand so many words
 pub record EmitsOpen (Is : MeantTo) (v : Visible) (w : Ways) (depth : ℕ) (old : Draft) (size : ℕ) (waiting : List ℕ) (new : Draft) : Type 0 where
@@ -252,9 +253,11 @@ pub record EmitsOpen (Is : MeantTo) (v : Visible) (w : Ways) (depth : ℕ) (old 
   pub stands : (i : Sections) (end : ℕ) → here new.code ≤ end → Joins i (here old.code) waiting end 0 new.code → HasLabels i new.labels
       → (program : Program) (g : Package) (numbers : Numbers) (f : Framed) → f.names ≡ v → Serves program g numbers f old.words.taken
       → new.words.most ≤ f.room
-      → Is i program g numbers f end (here old.code) (here new.code)
+      → (handling : Handling) → GoesBy i handling (here old.code) (here new.code)
+      → Is i program g numbers f handling end (here old.code) (here new.code)
   pub flows : (i : Sections) (s : Subprogram) (low high end : ℕ) → low ≤ here old.code → here new.code ≤ end → end ≤ high
-      → Joins i (here old.code) waiting end 0 new.code → HasLabels i new.labels → SuitsStatements v i s → new.code.deepest ≤ s.stack → new.words.most ≤ s.locals → depth ≤ s.stack
+      → Joins i (here old.code) waiting end 0 new.code → HasLabels i new.labels → SuitsStatements v i s → new.code.deepest ≤ s.stack
+      → new.words.most ≤ s.locals → depth ≤ s.stack
       → has_depth i end 0 ≡ true → has_depth i (here new.code) depth ≡ true → Allows i low high w
       → AreKept i s low high (here old.code) (here new.code) depth
 
@@ -265,10 +268,10 @@ in_front (x ∷ all) rest = MoreElsifs x.0 x.1 (in_front all rest)
 
 -- with whatever parts and statements stand behind them, they are the parts of an `if` behind its beginning
 abbrev pub AreParts : Ways → List (ExprTree × StmtTrees) → MeantTo
-AreParts w all i program g numbers f end from to =
+AreParts w all i program g numbers f handling end from to =
     (rest : ElsifTrees) (others : StmtTrees)
-    → IsOtherwise i program g numbers f w unhandled to end rest (λ x y. AreStatements i program g numbers f w unhandled x y others)
-    → IsOtherwise i program g numbers f w unhandled from end (in_front all rest) (λ x y. AreStatements i program g numbers f w unhandled x y others)
+    → IsOtherwise i program g numbers f w handling to end rest (λ x y. AreStatements i program g numbers f w handling x y others)
+    → IsOtherwise i program g numbers f w handling from end (in_front all rest) (λ x y. AreStatements i program g numbers f w handling x y others)
 
 -- code of these parts was added, and the places of their jumps to what waits
 pub record AddsParts (v : Visible) (w : Ways) (old : Draft) (all : List (ExprTree × StmtTrees)) (before after : List ℕ) (new : Draft) : Type 0 where
@@ -300,7 +303,8 @@ pub record IsLegalRun (s : Scope) (ds : List DeclarationTree) (body : StmtTrees)
 abbrev pub no_ways : Ways
 no_ways = record { exit = None; return = None; handled = None }
 
--- the code of both was added, with a way out of the body between them
+-- the code of both was added, with a way out of the body between them, where nothing is handled around
 abbrev pub EmitsRun : Visible → Draft → List DeclarationTree → StmtTrees → Draft → Type 0
 EmitsRun v old ds body new =
-    Emits (λ i program g numbers f from to. IsRun i program g numbers f from to ds body NoHandlers) v no_ways old (run_bound v.scope ds body) new
+    Emits (λ i program g numbers f handling from to. handling ≡ unhandled → IsRun i program g numbers f from to ds body NoHandlers) v no_ways old
+    (run_bound v.scope ds body) new

@@ -316,7 +316,8 @@ module _ (i : Sections) (program : Program) (g : Package) (numbers : Numbers) wh
     pub taken : handler_of i.rows f.place x ≡ Some target
     pub catching : IsCatching (before body (EndsHandler x ∷ items)) own os (record { frame = placed f target (pos x ∷ []); callers = fs; raising = None })
 
-  abbrev pub CaughtIf : (x : ℕ) (f : Frame) (fs : List Frame) (own : Activation) (os : List Activation) (items : List Item) → Option StmtTrees → (other : Type 0)
+  abbrev pub CaughtIf : (x : ℕ) (f : Frame) (fs : List Frame) (own : Activation) (os : List Activation) (items : List Item) → Option StmtTrees →
+      (other : Type 0)
       → Type 0
   CaughtIf x f fs own os items (Some body) other = IsCaught x f fs own os body items
   CaughtIf x f fs own os items None other = other
@@ -334,7 +335,8 @@ module _ (i : Sections) (program : Program) (g : Package) (numbers : Numbers) wh
 
   pub data CodeStands (k : Kernel) (w : TaskWork) (s : TaskState) : Type 0 where
     Going : (items : List Item) → w.work ≡ Goes items → IsGoing items w.own w.callers s → CodeStands k w s
-    Copying : (vs : List Value) (xs : List Target) (items : List Item) → w.work ≡ Copies vs xs items → IsCopying vs xs items w.own w.callers s → CodeStands k w s
+    Copying : (vs : List Value) (xs : List Target) (items : List Item) → w.work ≡ Copies vs xs items → IsCopying vs xs items w.own w.callers s
+        → CodeStands k w s
     Catching : (items : List Item) → w.work ≡ Goes items → IsCatching items w.own w.callers s → CodeStands k w s
     Raised : (x : ℕ) (items : List Item) (f : Frame) (fs : List Frame) → w.work ≡ Raising x items → Throws i x s f fs → AreInner f fs
         → Catches x f fs w.own w.callers items
