@@ -1,5 +1,5 @@
 -- The layers of compiling, one behind another.
-use Rattle.std.proofs.Common.{◌≡◌, ◌<◌, arith, ℕ, List, [], true, Result, Ok, Err, ap, inl, inr, subst, sym}
+use Rattle.std.proofs.Common.{◌≡◌, ◌<◌, arith, ℕ, List, [], Result, Ok, Err, ap, inl, inr, subst, sym}
 use Rattle.std.proofs.lemmas.List.Elements.{All-contains}
 use Rattle.std.specs.List.{Contains}
 use Rattle.std.specs.Prelude.{IfOk, IfErr}
@@ -17,15 +17,15 @@ use Rattle.checking.specs.ProgramRules.{IsLegal, RefusesProgram, program_faults}
 use Rattle.ravenscar.specs.ProgramRules.{IsRestricted, RefusesUnrestricted, restriction_faults}
 use Rattle.fault_numbers.specs.Numbers.{AreNumbered, GrammarNumbers, IsNumbered, LegalityNumbers, RestrictionNumbers, SpellingNumbers}
 use Rattle.meaning.specs.SameMeaning.{KeepsCount, SameMeaning}
-use Rattle.ada_link.specs.FirstLanguage.{is_first_program}
-use Rattle.compile_and_go.specs.Accepted.{Compiles, IsAccepted, IsBounded, IsGiven, IsJudged, IsLeftOut, IsTreeOf, RefusesAccepted, RefusesText, most_steps}
+use Rattle.expr_code.specs.Coming.{most_steps}
+use Rattle.compile_and_go.specs.Accepted.{Compiles, IsAccepted, IsBounded, IsGiven, IsJudged, IsLeftOut, IsTreeOf, RefusesAccepted, RefusesText}
 
 -- the program that was read is the one that was checked
 pub compiles : {E : Type 0} (r : Result Sections E) (text : List ℕ) (tokens list : List Token) (read : Program)
     → Spells text tokens → list ≡ tokens → Derives (program_tree read) list
     → (checked : Program) → checked ≡ read → IsLegal (program_tree checked) → IsRestricted (program_tree checked)
     → IfOk r (λ i. SameMeaning (program_tree checked) i)
-    → IfOk r (λ i. KeepsCount (program_tree checked) i (most_steps (program_tree checked) i))
+    → IfOk r (λ i. KeepsCount (program_tree checked) i (most_steps i))
     → IfOk r (λ i. IsBounded (program_tree checked) i)
     → IfOk r (λ i. IsWellFormed i)
     → IfOk r (λ i. Compiles text i)
@@ -41,15 +41,11 @@ compiles (Ok i) text tokens list read spells same derives checked is legal restr
     }
 compiles (Err e) text tokens list read spells same derives checked is legal restricted means counted bounded well_formed = tt
 
--- a refusal of the text's tree, where the text is of the first language
-not_outside : (tree : ProgramTree) (fault : Fault) → is_first_program tree ≡ true → RefusesAccepted tree fault → IsGiven tree (Err fault)
-not_outside tree fault first (inl only) = only
-not_outside tree fault first (inr other) = let wrong = other.0 in absurd cc
-
-pub given : (r : Result Sections Fault) (tree made : ProgramTree) → made ≡ tree → is_first_program tree ≡ true
-    → IfOk r (λ i. SameMeaning made i) → IfErr r (λ f. RefusesAccepted made f) → IsGiven tree r
-given (Ok i) tree made same first means refused = subst (λ t. SameMeaning t i) same means
-given (Err f) tree made same first means refused = not_outside tree f first (subst (λ t. RefusesAccepted t f) same refused)
+pub given : (r : Result Sections Fault) (tree made : ProgramTree) → made ≡ tree → IfOk r (λ i. SameMeaning made i)
+    → IfErr r (λ f. RefusesAccepted made f)
+    → IsGiven tree r
+given (Ok i) tree made same means refused = subst (λ t. SameMeaning t i) same means
+given (Err f) tree made same means refused = subst (λ t. RefusesAccepted t f) same refused
 
 -- ---- where nothing is broken nothing is the least
 
@@ -135,11 +131,9 @@ module _ (spelling : SpellingNumbers) (grammar : GrammarNumbers) (legality : Leg
   among first last faults fault all least = All-contains (IsNumbered first last) faults fault all least.listed
 
   of_tree : (text : List ℕ) (tree : ProgramTree) (fault : Fault) → IsAccepted tree text → RefusesAccepted tree fault → IsLeftOut text fault
-  of_tree text tree fault accepted (inl (inl memory)) = λ is. let n = ap (λ f. f.number) memory in absurd (omega (arith, n, is))
-  of_tree text tree fault accepted (inl (inr large)) = λ is. let n = ap (λ f. f.number) large.0 in absurd (omega (arith, n, is))
-  of_tree text tree fault accepted (inr (other, inl memory)) = λ is. let n = ap (λ f. f.number) memory in absurd (omega (arith, n, is))
-  of_tree text tree fault accepted (inr (other, inr (inl out))) = λ is. (out, (tree, (accepted, other)))
-  of_tree text tree fault accepted (inr (other, inr (inr large))) = λ is. let n = ap (λ f. f.number) large in absurd (omega (arith, n, is))
+  of_tree text tree fault accepted (inl memory) = λ is. let n = ap (λ f. f.number) memory in absurd (omega (arith, n, is))
+  of_tree text tree fault accepted (inr (inl out)) = λ is. (out.0, (tree, (accepted, out.1)))
+  of_tree text tree fault accepted (inr (inr large)) = λ is. let n = ap (λ f. f.number) large.0 in absurd (omega (arith, n, is))
 
   left_out : (text : List ℕ) (fault : Fault) → RefusesText text fault → IsLeftOut text fault
   left_out text fault (inl memory) = λ is. let n = ap (λ f. f.number) memory in absurd (omega (arith, n, is))

@@ -1,4 +1,3 @@
 pub mod Compiling
 pub mod Running
-pub mod Ways
 pub mod Refused

@@ -1,13 +1,12 @@
 -- Which texts are programs, which of these are accepted, and which are compiled.
-use Rattle.std.specs.Prelude.{◌≡◌, ◌⊎◌, ◌≤◌, ℕ, List, false, true, Result, Ok, Err, if◌then◌else◌}
-use Rattle.base.specs.declared.faults.TheConstants.{OUTSIDE_LANGUAGE}
+use Rattle.std.specs.Prelude.{◌≡◌, ◌⊎◌, ◌≤◌, ℕ, List, Result, Ok, Err}
+use Rattle.base.specs.declared.faults.TheConstants.{LIMIT_PASSED, OUTSIDE_LANGUAGE}
 use Rattle.lexer.specs.Fault.{memory_fault}
 use Rattle.lexer.specs.Spelling.{Spells, IsBroken}
 use Rattle.lexer.specs.declared.fault.Fault.{Fault}
 use Rattle.lexer.specs.declared.token.Token.{Token}
 use Rattle.parser.specs.Parsing.{Derives, IsFaulty}
 use Rattle.image.specs.Sections.{Sections}
-use Rattle.image.specs.Frames.{TaskState}
 use Rattle.image.specs.Rules.{IsWellFormed}
 use Rattle.image.specs.declared.building.Image.{Image}
 use Rattle.ada_tree.specs.ProgramTree.{ProgramTree}
@@ -15,11 +14,10 @@ use Rattle.expr_rules.specs.Faults.{IsLeast}
 use Rattle.checking.specs.ProgramRules.{IsLegal, program_faults}
 use Rattle.ravenscar.specs.ProgramRules.{IsRestricted, restriction_faults}
 use Rattle.meaning.specs.SameMeaning.{KeepsCount, SameMeaning}
-use Rattle.ada_link.specs.FirstLanguage.{is_first_program}
-use Rattle.ada_link.specs.Refusals.{outside, too_large}
-use Rattle.ada_link.specs.Size as first
-use Rattle.expr_code.specs.Coming as code
+use Rattle.expr_code.specs.Coming.{most_steps, size_of}
+use Rattle.expr_code.specs.declared.refusal.Refusal.TheVariants as refusal
 use Rattle.package_code.specs.Counts.{instructions_bound}
+use Rattle.package_code.specs.Refusing as sections
 
 -- the tree is what the text spells
 pub record IsTreeOf (tree : ProgramTree) (text : List ℕ) : Type 0 where
@@ -34,26 +32,16 @@ pub record IsAccepted (tree : ProgramTree) (text : List ℕ) : Type 0 where
   pub legal : IsLegal tree
   pub restricted : IsRestricted tree
 
--- an accepted text of the first language
-pub record IsOfFirstLanguage (tree : ProgramTree) (text : List ℕ) : Type 0 where
-  pub accepted : IsAccepted tree text
-  pub is_first : is_first_program tree ≡ true
-
--- The most steps that a frame takes within one step of the program: as many as the code has instructions, where the program is of the first language; else
--- twice those of its subprogram, and one.
-abbrev pub most_steps : ProgramTree → Sections → TaskState → ℕ
-most_steps tree image s = if is_first_program tree then first.most_steps tree s else code.most_steps image s
-
 -- Each subprogram has at most as many instructions as its text tells: 20 for each part of it, and two for each word of an object that is declared in it.
 abbrev pub IsBounded : ProgramTree → Sections → Type 0
-IsBounded tree image = is_first_program tree ≡ false → (number : ℕ) → code.size_of image number ≤ instructions_bound tree number
+IsBounded tree image = (number : ℕ) → size_of image number ≤ instructions_bound tree number
 
 -- a well-formed image that means the same as the text's tree, keeps the count of steps, and has no more instructions than the text tells
 pub record Compiles (text : List ℕ) (image : Sections) : Type 0 where
   pub tree : ProgramTree
   pub accepted : IsAccepted tree text
   pub means : SameMeaning tree image
-  pub counted : KeepsCount tree image (most_steps tree image)
+  pub counted : KeepsCount tree image (most_steps image)
   pub bounded : IsBounded tree image
   pub well_formed : IsWellFormed image
 
@@ -76,17 +64,20 @@ pub record HasUnrestrictedTree (text : List ℕ) (fault : Fault) : Type 0 where
   pub legal : IsLegal tree
   pub least : IsLeast (restriction_faults tree) fault
 
--- memory was refused, or the program's code is too large
-abbrev pub IsRefusedOnlyBy : ProgramTree → Fault → Type 0
-IsRefusedOnlyBy tree fault = (fault ≡ memory_fault) ⊎ ((fault ≡ too_large tree) × (first.is_too_large tree ≡ true))
+-- a program outside what is compiled today
+abbrev pub outside : Fault
+outside = record { number = OUTSIDE_LANGUAGE; place = 0 }
 
--- memory was refused, the program is outside what is compiled today, or its code passes a limit of images
-abbrev pub RefusesSections : ProgramTree → Fault → Type 0
-RefusesSections tree fault = (fault ≡ memory_fault) ⊎ ((fault ≡ outside) ⊎ (fault ≡ too_large tree))
+-- the code of a program passes a limit of images
+abbrev pub too_large : ProgramTree → Fault
+too_large tree = record { number = LIMIT_PASSED; place = tree.main.place }
 
--- why an accepted program is not compiled: one of the first language for want of memory, or because its code is too large; another one for any of these reasons
+-- Why an accepted program is not compiled: memory was refused; it is outside what is compiled today, as its text tells; or, as its text tells, its code may pass a
+-- limit of images.
 abbrev pub RefusesAccepted : ProgramTree → Fault → Type 0
-RefusesAccepted tree fault = IsRefusedOnlyBy tree fault ⊎ ((is_first_program tree ≡ false) × RefusesSections tree fault)
+RefusesAccepted tree fault =
+    (fault ≡ memory_fault)
+    ⊎ (((fault ≡ outside) × sections.RefusesProgram tree refusal.Outside) ⊎ ((fault ≡ too_large tree) × sections.RefusesProgram tree refusal.Limit))
 
 -- the text is accepted, and not compiled
 pub record HasRefusedTree (text : List ℕ) (fault : Fault) : Type 0 where
@@ -101,10 +92,10 @@ RefusesText text fault =
     (fault ≡ memory_fault)
     ⊎ (IsBroken text fault ⊎ (HasNoTree text fault ⊎ (HasIllegalTree text fault ⊎ (HasUnrestrictedTree text fault ⊎ HasRefusedTree text fault))))
 
--- What is outside the language of today is an accepted text that is not of the first language, and refused by this number at byte 0. No other text is.
+-- What is outside the language of today is an accepted text that has what no code is made of, refused by this number at byte 0. No other text is.
 abbrev pub IsLeftOut : List ℕ → Fault → Type 0
 IsLeftOut text fault =
-    fault.number ≡ OUTSIDE_LANGUAGE → (fault ≡ outside) × ((tree : ProgramTree) × (IsAccepted tree text × (is_first_program tree ≡ false)))
+    fault.number ≡ OUTSIDE_LANGUAGE → (fault ≡ outside) × ((tree : ProgramTree) × (IsAccepted tree text × sections.RefusesProgram tree refusal.Outside))
 
 -- The tree breaks no rule; or its text is refused for want of memory, by the least rule from 10 to 23 that it breaks, where it is legal by the least one from
 -- 30 to 39, and where it breaks none of these for what is compiled today.
@@ -116,7 +107,7 @@ IsJudged tree (Err fault) =
     ⊎ ((IsLegal tree × IsLeast (restriction_faults tree) fault)
     ⊎ (IsLegal tree × (IsRestricted tree × RefusesAccepted tree fault))))
 
--- a text of the first language is compiled, and refused for these reasons alone
+-- an accepted text is compiled, and refused for these reasons alone
 abbrev pub IsGiven : ProgramTree → Result Image Fault → Type 0
 IsGiven tree (Ok image) = SameMeaning tree image
-IsGiven tree (Err fault) = IsRefusedOnlyBy tree fault
+IsGiven tree (Err fault) = RefusesAccepted tree fault

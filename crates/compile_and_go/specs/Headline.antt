@@ -15,7 +15,8 @@ use Rattle.machine.specs.Outcomes.{ending_of, time_of}
 use Rattle.machine.specs.Stands.{EndsBy}
 use Rattle.machine.specs.Written.{AppendsBeginning}
 use Rattle.machine.specs.declared.reports.Outcome as machine
-use Rattle.compile_and_go.specs.Accepted.{Compiles, IsAccepted, IsBounded, most_steps}
+use Rattle.expr_code.specs.Coming.{most_steps}
+use Rattle.compile_and_go.specs.Accepted.{Compiles, IsAccepted, IsBounded}
 
 -- the text of a run that is cut: a beginning of the lines of the source, and the line that says so
 pub record IsCut (tree : ProgramTree) (schedule : List ScheduleLine) (outcome : machine.Outcome) (written : List ℕ) : Type 0 where
@@ -52,7 +53,7 @@ pub record Runs (text input : List ℕ) (limit : ℕ) (outcome : machine.Outcome
   pub accepted : IsAccepted tree text
   pub image : Sections
   pub means : SameMeaning tree image
-  pub counted : KeepsCount tree image (most_steps tree image)
+  pub counted : KeepsCount tree image (most_steps image)
   pub bounded : IsBounded tree image
   pub well_formed : IsWellFormed image
   pub appends : Appends old new (code_text image schedule limit)

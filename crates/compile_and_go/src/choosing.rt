@@ -1,15 +1,14 @@
-//! From an accepted program to its image: one of the first language by code of its own, another one by the code of its subprograms.
-ghost use Rattle.std.specs.Prelude.{◌≤◌, ℕ, IfErr, IfOk};
+//! From an accepted program to its image.
+ghost use Rattle.std.specs.Prelude.{IfErr, IfOk};
 ghost use Rattle.image.specs.Rules.{IsWellFormed};
 ghost use Rattle.ada_tree.specs.ProgramTree.{program_tree};
 ghost use Rattle.checking.specs.ProgramRules.{IsLegal};
 ghost use Rattle.ravenscar.specs.ProgramRules.{IsRestricted};
-ghost use Rattle.expr_code.specs.Coming as code;
+ghost use Rattle.expr_code.specs.Coming.{most_steps};
 ghost use Rattle.meaning.specs.SameMeaning.{KeepsCount, SameMeaning};
-ghost use Rattle.package_code.specs.Counts.{instructions_bound};
-ghost use Rattle.compile_and_go.specs.Accepted.{IsBounded, RefusesAccepted, RefusesSections, most_steps};
+ghost use Rattle.package_code.specs.Refusing.{RefusesProgram};
+ghost use Rattle.compile_and_go.specs.Accepted.{IsBounded, RefusesAccepted};
 
-use ada_link::link::compile_tree;
 use ada_tree::Program;
 use base::faults::{LIMIT_PASSED, MEMORY_REFUSED, OUTSIDE_LANGUAGE};
 use expr_code::Refusal;
@@ -22,7 +21,8 @@ use std::alloc::Global;
 
 // The fault of a program of which no image is made for this reason.
 fn fault_of(program: &Program, why: Refusal) -> Fault
-    ensures { RefusesSections (program_tree program.now) result }
+    requires { RefusesProgram (program_tree program.now) why }
+    ensures { RefusesAccepted (program_tree program.now) result }
 {
     match why {
         Refusal::Memory => Fault::memory(),
@@ -37,13 +37,19 @@ fn fault_of(program: &Program, why: Refusal) -> Fault
     }
 }
 
-// The image that the sections of an accepted program make.
-fn compile_sections(alloc: Global, accepted: &Accepted) -> Result<Image, Fault>
+/// The image of an accepted program: it means the same, with the same lines, times and outcome.
+///
+/// # Errors
+/// 90, at byte 0, for a program outside what is compiled today; 60, at byte 0, where memory was refused; 23, at main's first byte, where its code
+/// may pass a limit of images.
+pub(crate) fn compile_accepted(alloc: Global, accepted: &Accepted) -> Result<Image, Fault>
     ensures means { IfOk result (λ image. SameMeaning (program_tree accepted.now) image) }
-    ensures counted { IfOk result (λ image. KeepsCount (program_tree accepted.now) image (code.most_steps image)) }
-    ensures bounded { IfOk result (λ image. (number : ℕ) → code.size_of image number ≤ instructions_bound (program_tree accepted.now) number) }
+    ensures counted { IfOk result (λ image. KeepsCount (program_tree accepted.now) image (most_steps image)) }
+    ensures bounded { IfOk result (λ image. IsBounded (program_tree accepted.now) image) }
     ensures well_formed { IfOk result (λ image. IsWellFormed image) }
-    ensures refused { IfErr result (λ fault. RefusesSections (program_tree accepted.now) fault) }
+    ensures refused { IfErr result (λ fault. RefusesAccepted (program_tree accepted.now) fault) }
+    ensures legal { IsLegal (program_tree accepted.now) }
+    ensures restricted { IsRestricted (program_tree accepted.now) }
 {
     sections_are_bounded();
     sections_are_well_formed();
@@ -57,26 +63,5 @@ fn compile_sections(alloc: Global, accepted: &Accepted) -> Result<Image, Fault>
         Ok(image) => Ok(image),
         Err(fault) if fault.number == MEMORY_REFUSED => Err(Fault::memory()),
         Err(_) => unreachable!(),
-    }
-}
-
-/// The image of an accepted program: it means the same, with the same lines, times and outcome.
-///
-/// # Errors
-/// 90, at byte 0, for a program outside what is compiled today; 60, at byte 0, where memory was refused; 23, at main's first byte, where its code
-/// passes a limit of images. A program of the first language is refused only for want of memory, or because its code is too large.
-pub(crate) fn compile_accepted(alloc: Global, accepted: &Accepted) -> Result<Image, Fault>
-    ensures means { IfOk result (λ image. SameMeaning (program_tree accepted.now) image) }
-    ensures counted { IfOk result (λ image. KeepsCount (program_tree accepted.now) image (most_steps (program_tree accepted.now) image)) }
-    ensures bounded { IfOk result (λ image. IsBounded (program_tree accepted.now) image) }
-    ensures well_formed { IfOk result (λ image. IsWellFormed image) }
-    ensures refused { IfErr result (λ fault. RefusesAccepted (program_tree accepted.now) fault) }
-    ensures legal { IsLegal (program_tree accepted.now) }
-    ensures restricted { IsRestricted (program_tree accepted.now) }
-{
-    match compile_tree(alloc, accepted.program()) {
-        Ok(image) => Ok(image),
-        Err(fault) if fault.number == OUTSIDE_LANGUAGE => compile_sections(alloc, accepted),
-        Err(fault) => Err(fault),
     }
 }

@@ -1,7 +1,7 @@
 //! From a source text to an image.
 ghost use Rattle.std.specs.Prelude.{IfErr, IfOk};
 ghost use Rattle.ada_tree.specs.ProgramTree.{ProgramTree};
-ghost use Rattle.compile_and_go.specs.Accepted.{Compiles, IsGiven, IsJudged, IsLeftOut, IsOfFirstLanguage, IsTreeOf, RefusesText};
+ghost use Rattle.compile_and_go.specs.Accepted.{Compiles, IsAccepted, IsGiven, IsJudged, IsLeftOut, IsTreeOf, RefusesText};
 
 use crate::choosing::compile_accepted;
 use checking::check;
@@ -17,10 +17,10 @@ use std::alloc::Global;
 /// # Errors
 /// 1 to 5 where no tokens spell the text, 6 or 7 where they have no tree, 10 to 23 where the program is illegal, at the place that breaks the rule, which is the
 /// first such place, and 30 to 39 where a legal program breaks a restriction of the profile, at the first such place; 90, at byte 0, for an accepted text outside
-/// the language that is compiled today; 23, at main, where the code passes a limit of images; 60, at byte 0, where memory was refused.
+/// the language that is compiled today; 23, at main, where the code may pass a limit of images; 60, at byte 0, where memory was refused.
 pub fn compile(alloc: Global, source: &[u8]) -> Result<Image, Fault>
     ensures means { IfOk result (λ image. Compiles source.now image) }
-    ensures accepted { (tree : ProgramTree) → IsOfFirstLanguage tree source.now → IsGiven tree result }
+    ensures accepted { (tree : ProgramTree) → IsAccepted tree source.now → IsGiven tree result }
     ensures judged { (tree : ProgramTree) → IsTreeOf tree source.now → IsJudged tree result }
     ensures refused { IfErr result (λ fault. RefusesText source.now fault) }
     ensures left_out { IfErr result (λ fault. IsLeftOut source.now fault) }

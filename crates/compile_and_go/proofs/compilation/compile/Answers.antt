@@ -52,28 +52,28 @@ returns-clause-means c =
     c.compile_accepted.ensures.well_formed
 
 pub returns-in_err-checked-clause-accepted : goal.returns-in_err-checked-clause-accepted
-returns-in_err-checked-clause-accepted c = λ tree first.
-    let is_tree = first.accepted.is_tree in
+returns-in_err-checked-clause-accepted c = λ tree given_tree.
+    let is_tree = given_tree.is_tree in
     let same = c.deref.ensures.value ∙ c.in_ok-list.ensures.complete is_tree.tokens is_tree.spells in
     let only = c.in_ok-program.ensures.only tree (subst (Derives tree) (sym same) is_tree.derives) in
     let is : c.from_residual-in_err-checked.result ≡ Err c.in_err-checked.field-0.0 = search rules in
-    subst (IsGiven tree) (sym is) (legal_given _ _ _ only first.accepted.legal c.in_err-checked.ensures.refused)
+    subst (IsGiven tree) (sym is) (legal_given _ _ _ only given_tree.legal c.in_err-checked.ensures.refused)
 
 pub returns-in_err-accepted-clause-accepted : goal.returns-in_err-accepted-clause-accepted
-returns-in_err-accepted-clause-accepted c = λ tree first.
-    let is_tree = first.accepted.is_tree in
+returns-in_err-accepted-clause-accepted c = λ tree given_tree.
+    let is_tree = given_tree.is_tree in
     let same = c.deref.ensures.value ∙ c.in_ok-list.ensures.complete is_tree.tokens is_tree.spells in
     let only = c.in_ok-program.ensures.only tree (subst (Derives tree) (sym same) is_tree.derives) in
     let is : c.from_residual-in_err-accepted.result ≡ Err c.in_err-accepted.field-0.0 = search rules in
     subst (IsGiven tree) (sym is)
-    (restricted_given _ _ _ (ap program_tree c.in_ok-checked.ensures.same ∙ only) first.accepted.restricted c.in_err-accepted.ensures.refused)
+    (restricted_given _ _ _ (ap program_tree c.in_ok-checked.ensures.same ∙ only) given_tree.restricted c.in_err-accepted.ensures.refused)
 
 pub returns-clause-accepted : goal.returns-clause-accepted
-returns-clause-accepted c = λ tree first.
-    let is_tree = first.accepted.is_tree in
+returns-clause-accepted c = λ tree given_tree.
+    let is_tree = given_tree.is_tree in
     let same = c.deref.ensures.value ∙ c.in_ok-list.ensures.complete is_tree.tokens is_tree.spells in
     let lent = ap program_tree (c.in_ok-accepted.ensures.same ∙ c.in_ok-checked.ensures.same) in
-    given _ _ _ (lent ∙ c.in_ok-program.ensures.only tree (subst (Derives tree) (sym same) is_tree.derives)) first.is_first
+    given _ _ _ (lent ∙ c.in_ok-program.ensures.only tree (subst (Derives tree) (sym same) is_tree.derives))
     c.compile_accepted.ensures.means
     c.compile_accepted.ensures.refused
 
