@@ -144,6 +144,15 @@ module _ (scopes : ScopesAreSound) (known : NamesAreKnown) (premises : PremisesH
   profile_legal : profile_faults before d ≡ []
   profile_legal = front_empty (profile_faults before d) _ (front_empty _ _ (front_empty _ _ head))
 
+  -- the subtype of its result is known
+  known_result : (r : Identifier) → d.result ≡ Some r → is_some (subtype_of program.scope r) ≡ true
+  known_result r some =
+      let told =
+      known_subtype program start all w k r
+      (subst (λ o. result_faults before o ≡ []) some
+      (back_empty (formals_faults before [] d.formals) (result_faults before d.result) (front_empty _ _ profile_legal))) in
+      ap is_some (subtype_kept before program.scope (kept program start all w k) r told.0 told.1)
+
   module _ (r : Identifier) (value : ExprTree) (some : d.result ≡ Some r) (is : returned b.statements ≡ Some value) where
     abbrev result : Subtype
     result = subtype_named program.scope r
@@ -186,6 +195,7 @@ module _ (scopes : ScopesAreSound) (known : NamesAreKnown) (premises : PremisesH
     new_names = new_names;
     legal = legal_run;
     fit = fit;
+    result = known_result;
   }
 
 pub bodies_added : ScopesAreSound → NamesAreKnown → PremisesHold → BodiesMayBeAdded

@@ -98,14 +98,14 @@ returned_within : (all : StmtTrees) (value : ExprTree) → returned all ≡ Some
 returned_within (MoreStmts (tree.Return place e) NoStmts) value h = (let same = ap (size_if_any expr_size) h in omega (arith, same))
 returned_within all value h = absurd cc
 
-function_within : (s : Scope) (fs : List Formal) (b : BodyTree) (value : ExprTree) → returned b.statements ≡ Some value
+pub function_within : (s : Scope) (fs : List Formal) (b : BodyTree) (value : ExprTree) → returned b.statements ≡ Some value
     → function_bound fs value ≤ procedure_bound s fs b
 function_within s fs b value h = (let up = returned_within b.statements value h in omega (arith, up))
 
 abbrev AddsAny : ProgramTree → SubprogramTree → BodyTree → Visible → (old : Draft) → SubprogramWords → (new : Draft) → Option Identifier → Type 0
 AddsAny t d b v old words new o = elim o [ None ↦ AddsProcedure v old d.formals b words new | Some r ↦ AddsValue t d b r v old words new ]
 
-adds_few : (t : ProgramTree) (d : SubprogramTree) (b : BodyTree) (v : Visible) (old : Draft) (words : SubprogramWords) (new : Draft)
+pub adds_few : (t : ProgramTree) (d : SubprogramTree) (b : BodyTree) (v : Visible) (old : Draft) (words : SubprogramWords) (new : Draft)
     → AddsSubprogram t d b v old words new → here new.code ≤ here old.code + procedure_bound v.scope d.formals b
 adds_few t d b v old words new adds = by_result d.result adds
   where

@@ -39,7 +39,7 @@ pub item_next : (s : Scope) (a b c : Globals) (all : List Item) (n : ℕ) (x : I
 item_next s a b c all n x less is h k =
     subst (λ l. AddsItems s a l c) (sym (mapped_next item_tree all n x less is)) (adds_then s a b c (map item_tree (take n all)) (item_tree x ∷ []) h k)
 
-among_both : (xs ys : List BodyItemTree) → items_among (xs ++ ys) ≡ items_among xs ++ items_among ys
+pub among_both : (xs ys : List BodyItemTree) → items_among (xs ++ ys) ≡ items_among xs ++ items_among ys
 among_both [] ys = refl
 among_both (OfItem d ∷ xs) ys = ap (λ l. d ∷ l) (among_both xs ys)
 among_both (x ∷ xs) ys = among_both xs ys

@@ -32,3 +32,16 @@ mod Counted
 mod Suited
 mod KeptCode
 mod WellFormed
+mod Seen
+mod ItemsTold
+mod AsTold
+mod Numbered
+mod Placed
+mod GlobalsRefused
+mod MainKnown
+mod Refusals
+mod Differing
+mod LabelsFit
+mod WordsFit
+mod Tables
+mod BodyRefused

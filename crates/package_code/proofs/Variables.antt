@@ -1,6 +1,7 @@
 -- The variables among declarations, one behind another, as they are told by their numbers.
 use Rattle.std.proofs.Common.{◌≡◌, ℕ, zero, suc, ◌+◌, ◌<◌, List, [], ◌∷◌, ◌++◌, length, Bool, true, false, ◌⊎◌, inl, inr, Option, Some, None, refl, sym, ap, ◌∙◌, subst, arith, append-nil, append_assoc, length-append}
 use Rattle.std.specs.Prelude.{bytes_eq, if◌then◌else◌, replicate, slice_get, slice_set}
+use Rattle.std.proofs.lemmas.List.{length-replicate}
 use Rattle.base.specs.Names.{predefined}
 use Rattle.ada_tree.specs.declared.expression.Identifier.{Identifier}
 use Rattle.ada_tree.specs.StatementTree.{ObjectTree}
@@ -56,15 +57,20 @@ entry_other (z ∷ all) zero (suc k) x = inr refl
 entry_other (z ∷ all) (suc n) zero x = inr refl
 entry_other (z ∷ all) (suc n) (suc k) x = elim (entry_other all n k x) [ inl e ↦ inl (ap suc e) | inr e ↦ inr e ]
 
-set_told : {X : Type 0} (s : Scope) (all : List (Option X)) (name : List ℕ) (n : ℕ) (x y : Option X) → number_of s name ≡ Some n → slice_get all n ≡ Some y
+pub long_set : {X : Type 0} (all : List X) (n : ℕ) (x : X) → length (slice_set all n x) ≡ length all
+long_set [] n x = refl
+long_set (z ∷ all) zero x = refl
+long_set (z ∷ all) (suc n) x = ap suc (long_set all n x)
+
+pub set_told : {X : Type 0} (s : Scope) (all : List (Option X)) (name : List ℕ) (n : ℕ) (x y : Option X) → number_of s name ≡ Some n → slice_get all n ≡ Some y
     → told_of s (slice_set all n x) name ≡ x
 set_told s all name n x y numbered there = ap (by_told (slice_set all n x)) numbered ∙ entry_set all n x y there
 
-was_none : {X : Type 0} (s : Scope) (all : List (Option X)) (name : List ℕ) (n : ℕ) → number_of s name ≡ Some n → slice_get all n ≡ Some None
+pub was_none : {X : Type 0} (s : Scope) (all : List (Option X)) (name : List ℕ) (n : ℕ) → number_of s name ≡ Some n → slice_get all n ≡ Some None
     → told_of s all name ≡ None
 was_none s all name n numbered there = ap (by_told all) numbered ∙ ap (λ o. elim o [ None ↦ None | Some x ↦ x ]) there
 
-set_other : {X : Type 0} (s : Scope) (all : List (Option X)) (name other : List ℕ) (n : ℕ) (x : Option X) → number_of s name ≡ Some n
+pub set_other : {X : Type 0} (s : Scope) (all : List (Option X)) (name other : List ℕ) (n : ℕ) (x : Option X) → number_of s name ≡ Some n
     → bytes_eq name other ≡ false → told_of s (slice_set all n x) other ≡ told_of s all other
 set_other s all name other n x numbered differ = by_number (number_of s other) refl
   where
@@ -109,21 +115,21 @@ place_last from (x ∷ xs) o name is none =
     by_test false e h later =
         ap (λ b. if b then here from else place_among (from + length (value_words x.value)) (xs ++ o ∷ []) name) e ∙ later h ∙ ap here more
 
-words_more : (xs ys : List Object) → first_words_of (xs ++ ys) ≡ first_words_of xs ++ first_words_of ys
+pub words_more : (xs ys : List Object) → first_words_of (xs ++ ys) ≡ first_words_of xs ++ first_words_of ys
 words_more [] ys = refl
 words_more (x ∷ xs) ys =
     ap (λ l. value_words x.value ++ l) (words_more xs ys) ∙ sym (append_assoc (value_words x.value) (first_words_of xs) (first_words_of ys))
 
 -- ---- declarations behind others
 
-variables_both : (s : Scope) (xs ys : List ItemTree) → variables_among s (xs ++ ys) ≡ variables_among s xs ++ variables_among s ys
+pub variables_both : (s : Scope) (xs ys : List ItemTree) → variables_among s (xs ++ ys) ≡ variables_among s xs ++ variables_among s ys
 variables_both s [] ys = refl
 variables_both s (OfObject d ∷ xs) ys =
     ap (λ l. (if d.constant then [] else object_named s d.name d.subtype d.value ∷ []) ++ l) (variables_both s xs ys)
     ∙ sym (append_assoc (if d.constant then [] else object_named s d.name d.subtype d.value ∷ []) (variables_among s xs) (variables_among s ys))
 variables_both s (x ∷ xs) ys = variables_both s xs ys
 
-exceptions_both : (xs ys : List ItemTree) → exceptions_among (xs ++ ys) ≡ exceptions_among xs ++ exceptions_among ys
+pub exceptions_both : (xs ys : List ItemTree) → exceptions_among (xs ++ ys) ≡ exceptions_among xs ++ exceptions_among ys
 exceptions_both [] ys = refl
 exceptions_both (OfException name ∷ xs) ys = ap (λ l. name.name ∷ l) (exceptions_both xs ys)
 exceptions_both (x ∷ xs) ys = exceptions_both xs ys
@@ -160,6 +166,7 @@ adds_nothing s i g no_variables no_exceptions no_tasks = record { are = told }
         variables_both s front (i ∷ []) ∙ ap (λ l. variables_among s front ++ l) no_variables ∙ append-nil (variables_among s front) in
         record {
           slots = λ name. are.slots name ∙ ap (λ l. place_among 0 l name) (sym same);
+          many = are.many;
           words = are.words ∙ ap first_words_of (sym same);
           within = are.within;
           exceptions = are.exceptions
@@ -185,6 +192,7 @@ adds_exception s name old new slots words exceptions = record { are = told }
         variables_both s front (OfException name ∷ []) ∙ append-nil (variables_among s front) in
         record {
           slots = λ other. ap (λ z. told_of s z.items other) slots ∙ are.slots other ∙ ap (λ l. place_among 0 l other) (sym same);
+          many = ap (λ z. length z.items) slots ∙ are.many;
           words = ap (λ z. z.items) words ∙ are.words ∙ ap first_words_of (sym same);
           within = λ other x h.
               subst (λ z. x.offset < length z.items) (sym words) (are.within other x (ap (λ z. told_of s z.items other) (sym slots) ∙ h));
@@ -200,6 +208,7 @@ added_variable : (s : Scope) (front : List ItemTree) (d : ObjectTree) (old new :
 added_variable s front d old new variable h are =
     record {
       slots = told;
+      many = ap length h.slots ∙ long_set old.slots.items h.number (slot_at (length old.words.items)) ∙ are.many;
       words = h.words ∙ ap (λ l. l ++ value_words (initial_value s h.subtype d.value)) are.words
           ∙ ap (λ t. first_words_of all ++ value_words (initial_value s t d.value)) subtype_is
           ∙ ap (λ l. first_words_of all ++ l) (sym (append-nil (value_words o.value)))
@@ -278,6 +287,7 @@ pub no_globals : (s : Scope) (g : Globals) → g.slots.items ≡ replicate (leng
     → AreGlobals s [] g
 no_globals s g slots words exceptions = record {
   slots = λ name. ap (λ l. told_of s l name) slots ∙ none_told s (length s) name;
+  many = ap length slots ∙ length-replicate (length s) None;
   words = words;
   within = λ name x h. (let none = sym (ap (λ l. told_of s l name) slots ∙ none_told s (length s) name) ∙ h in cc);
   exceptions = exceptions ∙ sym (append-nil predefined);

@@ -15,7 +15,7 @@ use Rattle.legality.specs.MainRules.{item_name}
 use Rattle.meaning.specs.Programs.{program_of}
 use Rattle.sound_programs.proofs.Listing.{same_some}
 use Rattle.sound_programs.proofs.Walked.{scope_next}
-use Rattle.sound_programs.specs.Fronts.{declared_in, front, scope_at, start_in}
+use Rattle.sound_programs.specs.Fronts.{declared_in, front, start_in}
 use Rattle.well_typed.proofs.Positions.{item_kept}
 use Rattle.expr_code.proofs.Growing.{added_extends, extends_trans, get_last}
 use Rattle.expr_code.specs.Code.{Extends, StandsFrom, here}
@@ -29,6 +29,7 @@ use Rattle.package_code.specs.Laws.{MayBeAdded}
 use Rattle.package_code.specs.Walking.{AddsBody, AddsSubprogram, AddsValue, BeginsWalk, HasBody, IsKept, IsWalked, begins_at, row_of}
 use Rattle.package_code.specs.declared.directory.Directory.{Directory}
 use Rattle.package_code.specs.declared.walk.Walk.{Walk}
+use Rattle.package_code.proofs.Seen.{first_front}
 use Rattle.package_code.proofs.Told.{Grows, item_grows, subprogram_grows, told_next, unseen_told}
 
 -- ---- what drafts keep
@@ -123,10 +124,6 @@ module _ (t : ProgramTree) (directory : Directory) where
 
   plus_none : (n : ℕ) → n + 0 ≡ n
   plus_none n = omega arith
-
-  first_front : (s : Scope) (items : List BodyItemTree) → scope_at s items 0 ≡ s
-  first_front s [] = refl
-  first_front s (x ∷ items) = refl
 
   pub walk_begins : (s : Scope) (w : Walk) → BeginsWalk s w → s ≡ start_in t.package_ → IsWalked t directory w
   walk_begins s w begins is = record {

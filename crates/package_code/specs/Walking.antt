@@ -1,5 +1,5 @@
 -- What a walk over the declarations and bodies of a package adds: the code of each body, one behind another, each of them a subprogram.
-use Rattle.std.specs.Prelude.{◌≡◌, ◌+◌, ◌<◌, ◌≤◌, ℕ, zero, suc, List, [], ◌∷◌, ◌++◌, length, Some, None, slice_get}
+use Rattle.std.specs.Prelude.{◌≡◌, ◌+◌, ◌<◌, ◌≤◌, ◌⊎◌, ℕ, zero, suc, List, [], ◌∷◌, ◌++◌, length, Some, None, slice_get, take}
 use Rattle.ada_tree.specs.declared.expression.Identifier.{Identifier}
 use Rattle.ada_tree.specs.ExpressionTree.{ExprTree}
 use Rattle.ada_tree.specs.StatementTree.{SubprogramTree}
@@ -8,17 +8,22 @@ use Rattle.image.specs.Sections.{end_of}
 use Rattle.image.specs.declared.subprograms.Kind.TheVariants as kinds
 use Rattle.image.specs.declared.subprograms.Subprogram.{Subprogram}
 use Rattle.types.specs.declared.entity.Subtype.{Subtype}
+use Rattle.types.specs.Layouts.{total}
 use Rattle.types.specs.Scopes.{Scope}
 use Rattle.meaning.specs.Programs.{program_of, returned, subtype_named}
 use Rattle.sound_programs.specs.Fronts.{declared_in, front}
 use Rattle.expr_code.specs.Code.{StandsFrom, here}
 use Rattle.expr_code.specs.Seeing.{told_of}
+use Rattle.expr_code.specs.declared.refusal.Refusal.{Refusal}
 use Rattle.expr_code.specs.declared.visible.Visible.{Visible}
+use Rattle.stmt_code.specs.Bounds.{procedure_bound}
+use Rattle.stmt_code.specs.Refusing.{HasManyLabels, IsNeeding}
 use Rattle.stmt_code.specs.Subprograms.{AddsFunction, AddsProcedure, IsCalledFunction, IsCalledProcedure, KeepsRules}
 use Rattle.stmt_code.specs.declared.draft.Draft.{Draft}
 use Rattle.stmt_code.specs.declared.subprogram.SubprogramWords.{SubprogramWords}
-use Rattle.package_code.specs.Counts.{bodies_before}
+use Rattle.package_code.specs.Counts.{bodies_before, bounds_from}
 use Rattle.package_code.specs.Directory.{AreTold, IsUnseen}
+use Rattle.package_code.specs.Refusing.{items_labels, seen_at, subprogram_labels, subprogram_needs}
 use Rattle.package_code.specs.declared.directory.Directory.{Directory}
 use Rattle.package_code.specs.declared.walk.Walk.{Walk}
 
@@ -69,6 +74,15 @@ pub record AddsBody (t : ProgramTree) (directory : Directory) (d : SubprogramTre
   pub visible : new.visible ≡ old.visible
   pub place : new.place ≡ old.place
 
+-- ... with the labels of its lines
+pub record AddsLabels (old : Draft) (d : SubprogramTree) (b : BodyTree) (new : Draft) : Type 0 where
+  pub labels : new.labels ≡ subprogram_labels old.labels d b
+
+-- why the code of a body isn't made, where the names in front of its parameters are visible
+abbrev pub RefusesBody : ProgramTree → Visible → (old : Draft) → SubprogramTree → BodyTree → Refusal → Type 0
+RefusesBody t v old d b why =
+    IsNeeding (here old.code + procedure_bound v.scope d.formals b) (subprogram_needs t v d b) why ⊎ HasManyLabels (subprogram_labels old.labels d b) why
+
 -- ---- all of them
 
 -- where the subprogram of this number begins
@@ -105,6 +119,7 @@ pub record BeginsWalk (s : Scope) (w : Walk) : Type 0 where
   pub visible : IsUnseen s w.visible
   pub place : w.place ≡ 0
   pub instructions : w.draft.code.instructions.items ≡ []
+  pub labels : w.draft.labels ≡ []
   pub subprograms : w.subprograms.items ≡ []
 
 -- Each body in front of the place where the walk is has its code, and no others have; what is visible there is told by the directory.
@@ -116,3 +131,9 @@ pub record IsWalked (t : ProgramTree) (directory : Directory) (w : Walk) : Type 
       → HasBody t directory place d b w
   pub end : begins_at w.subprograms.items (length w.subprograms.items) ≡ here w.draft.code
   pub many : length w.subprograms.items ≡ bodies_before t w.place
+
+-- What is visible where the walk is, the labels there, and how many instructions there are at most, are told by the text alone.
+pub record IsAsTold (t : ProgramTree) (w : Walk) : Type 0 where
+  pub seen : w.visible ≡ seen_at t w.place
+  pub few : here w.draft.code ≤ total (bounds_from t 0 (take w.place (declared_in t.package_)))
+  pub labels : w.draft.labels ≡ items_labels [] (take w.place (declared_in t.package_))

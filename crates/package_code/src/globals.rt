@@ -1,12 +1,13 @@
 //! What the declarations of a package tell of it: where its variables stand, the words of their initial values, and the names of exceptions.
-ghost use Rattle.std.specs.Prelude.{◌≡◌, ◌∷◌, ◌++◌, [], None, Some, map, replicate, IfOk, OnOk};
+ghost use Rattle.std.specs.Prelude.{◌≡◌, ◌∷◌, ◌++◌, [], None, Some, false, map, replicate, IfErr, IfOk, OnOk};
 ghost use Rattle.ada_tree.specs.StatementTree.{object_tree, optional_tree};
 ghost use Rattle.ada_tree.specs.ProgramTree.{OfObject, body_item_tree, item_tree, package_tree};
 ghost use Rattle.base.specs.Exceptions.{name_of};
 ghost use Rattle.base.specs.Names.{predefined};
 ghost use Rattle.meaning.specs.Programs.{items_among, package_items};
 ghost use Rattle.well_typed.specs.SoundScopes.{SoundScope};
-ghost use Rattle.package_code.specs.Globals.{AddsItems, AddsVariable, AreGlobals};
+ghost use Rattle.expr_code.specs.Refusing.{IsRefused};
+ghost use Rattle.package_code.specs.Globals.{AddsItems, AddsVariable, AreGlobals, RefusesAdding, RefusesGlobals, RefusesVariable};
 
 use crate::initial::push_initial;
 use ada_tree::{BodyItem, Identifier, Item, ObjectDeclaration, Package};
@@ -31,7 +32,8 @@ pub(crate) struct Globals {
 
 // So many names of which nothing is told.
 fn nothing(alloc: Global, many: usize) -> Result<Vec<Option<Slot>>, Refusal>
-    ensures { IfOk result (λ all. all.items ≡ replicate many None) }
+    ensures none { IfOk result (λ all. all.items ≡ replicate many None) }
+    ensures refused { IfErr result (λ why. IsRefused 0 0 false why) }
 {
     let mut all = Vec::new(alloc);
     for _ in 0..many {
@@ -42,7 +44,8 @@ fn nothing(alloc: Global, many: usize) -> Result<Vec<Option<Slot>>, Refusal>
 
 // The names of the predefined exceptions, in the order of their numbers from 1 (RM 11.1).
 fn predefined(alloc: Global) -> Result<Vec<Text>, Refusal>
-    ensures { IfOk result (λ names. names.items ≡ predefined) }
+    ensures names { IfOk result (λ names. names.items ≡ predefined) }
+    ensures refused { IfErr result (λ why. IsRefused 0 0 false why) }
 {
     let mut names = Vec::new(alloc);
     names.push(named(PredefinedException::ConstraintError))?;
@@ -65,7 +68,8 @@ fn named(exception: PredefinedException) -> Text
 impl Globals {
     // Those of a package without declarations.
     fn new(alloc: Global, scope: &Scope) -> Result<Globals, Refusal>
-        ensures { IfOk result (λ globals. AreGlobals scope.now [] globals) }
+        ensures globals { IfOk result (λ globals. AreGlobals scope.now [] globals) }
+        ensures refused { IfErr result (λ why. IsRefused 0 0 false why) }
     {
         Ok(Globals {
             slots: nothing(alloc, scope.len())?,
@@ -78,6 +82,7 @@ impl Globals {
     fn variable(&mut self, scope: &Scope, object: &ObjectDeclaration) -> Result<(), Refusal>
         requires sound { SoundScope scope.now }
         ensures adds { OnOk result (AddsVariable scope.now self.old (object_tree object.now) self.new) }
+        ensures refused { IfErr result (λ why. RefusesVariable scope.now self.old (object_tree object.now) why) }
     {
         let Some(subtype) = subtype_of(scope, &object.subtype) else {
             return Err(Refusal::Outside);
@@ -106,6 +111,7 @@ impl Globals {
     fn object(&mut self, scope: &Scope, object: &ObjectDeclaration) -> Result<(), Refusal>
         requires sound { SoundScope scope.now }
         ensures adds { OnOk result (AddsItems scope.now self.old (OfObject (object_tree object.now) ∷ []) self.new) }
+        ensures refused { IfErr result (λ why. RefusesAdding scope.now self.old (OfObject (object_tree object.now) ∷ []) why) }
     {
         if object.constant {
             Ok(())
@@ -119,6 +125,7 @@ impl Globals {
         ensures exceptions { OnOk result (self.new.exceptions.items ≡ self.old.exceptions.items ++ name.now.name ∷ []) }
         ensures slots { OnOk result (self.new.slots ≡ self.old.slots) }
         ensures words { OnOk result (self.new.words ≡ self.old.words) }
+        ensures refused { IfErr result (λ why. IsRefused 0 0 false why) }
     {
         self.exceptions.push(name.name.clone()?)?;
         Ok(())
@@ -128,6 +135,7 @@ impl Globals {
     fn item(&mut self, scope: &Scope, item: &Item) -> Result<(), Refusal>
         requires sound { SoundScope scope.now }
         ensures adds { OnOk result (AddsItems scope.now self.old (item_tree item.now ∷ []) self.new) }
+        ensures refused { IfErr result (λ why. RefusesAdding scope.now self.old (item_tree item.now ∷ []) why) }
     {
         match item {
             Item::Type(_) => Ok(()),
@@ -146,6 +154,7 @@ impl Globals {
     fn items(&mut self, scope: &Scope, items: &[Item]) -> Result<(), Refusal>
         requires sound { SoundScope scope.now }
         ensures adds { OnOk result (AddsItems scope.now self.old (map item_tree items.now) self.new) }
+        ensures refused { IfErr result (λ why. RefusesAdding scope.now self.old (map item_tree items.now) why) }
     {
         for item in items {
             self.item(scope, item)?;
@@ -157,6 +166,7 @@ impl Globals {
     fn body_item(&mut self, scope: &Scope, item: &BodyItem) -> Result<(), Refusal>
         requires sound { SoundScope scope.now }
         ensures adds { OnOk result (AddsItems scope.now self.old (items_among (body_item_tree item.now ∷ [])) self.new) }
+        ensures refused { IfErr result (λ why. RefusesAdding scope.now self.old (items_among (body_item_tree item.now ∷ [])) why) }
     {
         match item {
             BodyItem::Item(item) => self.item(scope, item),
@@ -170,6 +180,7 @@ impl Globals {
     fn body_items(&mut self, scope: &Scope, items: &[BodyItem]) -> Result<(), Refusal>
         requires sound { SoundScope scope.now }
         ensures adds { OnOk result (AddsItems scope.now self.old (items_among (map body_item_tree items.now)) self.new) }
+        ensures refused { IfErr result (λ why. RefusesAdding scope.now self.old (items_among (map body_item_tree items.now)) why) }
     {
         for item in items {
             self.body_item(scope, item)?;
@@ -181,6 +192,7 @@ impl Globals {
     fn declarations(&mut self, scope: &Scope, package_: &Package) -> Result<(), Refusal>
         requires sound { SoundScope scope.now }
         ensures adds { OnOk result (AddsItems scope.now self.old (package_items (Some (package_tree package_.now))) self.new) }
+        ensures refused { IfErr result (λ why. RefusesAdding scope.now self.old (package_items (Some (package_tree package_.now))) why) }
     {
         self.items(scope, &package_.declaration.items)?;
         self.body_items(scope, &package_.body.items)?;
@@ -195,7 +207,8 @@ pub(crate) fn globals_of(
     package_: &Option<Package>,
 ) -> Result<Globals, Refusal>
     requires sound { SoundScope scope.now }
-    ensures { IfOk result (λ globals. AreGlobals scope.now (package_items (optional_tree package_tree package_.now)) globals) }
+    ensures globals { IfOk result (λ globals. AreGlobals scope.now (package_items (optional_tree package_tree package_.now)) globals) }
+    ensures refused { IfErr result (λ why. RefusesGlobals scope.now [] (package_items (optional_tree package_tree package_.now)) why) }
 {
     let mut globals = Globals::new(alloc, scope)?;
     match package_ {

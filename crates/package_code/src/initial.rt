@@ -1,10 +1,13 @@
 //! The words with which variables of a package begin (RM 3.3.1).
-ghost use Rattle.std.specs.Prelude.{◌≡◌, ◌∷◌, ◌++◌, [], OnOk};
+ghost use Rattle.std.specs.Prelude.{◌≡◌, ◌∷◌, ◌++◌, [], false, IfErr, OnOk};
 ghost use Rattle.ada_tree.specs.ExpressionTree.{expr_tree};
 ghost use Rattle.ada_tree.specs.StatementTree.{optional_tree};
-ghost use Rattle.types.specs.Shapes.{initial, value_words};
+ghost use Rattle.types.specs.Shapes.{initial, shape_of, value_words};
 ghost use Rattle.meaning.specs.Programs.{initial_value};
 ghost use Rattle.well_typed.specs.SoundScopes.{SoundScope};
+ghost use Rattle.expr_code.specs.Refusing.{IsRefused};
+ghost use Rattle.stmt_code.specs.Refusing.{lacks_word};
+ghost use Rattle.package_code.specs.Refusing.{lacks_first_words};
 
 use ada_tree::Expr;
 use expr_code::{Refusal, scalar_word};
@@ -13,7 +16,8 @@ use types::{Scope, Subtype, TypeForm, static_value};
 
 // Adds a word.
 fn push_word(words: &mut Vec<i64>, word: i64) -> Result<(), Refusal>
-    ensures { OnOk result (words.new.items ≡ words.old.items ++ word ∷ []) }
+    ensures words { OnOk result (words.new.items ≡ words.old.items ++ word ∷ []) }
+    ensures refused { IfErr result (λ why. IsRefused 0 0 false why) }
 {
     words.push(word)?;
     Ok(())
@@ -23,6 +27,7 @@ fn push_word(words: &mut Vec<i64>, word: i64) -> Result<(), Refusal>
 fn push_default(words: &mut Vec<i64>, scope: &Scope, subtype: Subtype) -> Result<(), Refusal>
     requires sound { SoundScope scope.now }
     ensures words { OnOk result (words.new.items ≡ words.old.items ++ value_words (initial scope.now subtype)) }
+    ensures refused { IfErr result (λ why. IsRefused 0 0 (lacks_word (shape_of scope.now subtype)) why) }
 {
     match scope.form(subtype.type_number) {
         Some(TypeForm::Integer) => push_word(words, subtype.first),
@@ -39,7 +44,9 @@ fn push_default(words: &mut Vec<i64>, scope: &Scope, subtype: Subtype) -> Result
             }
             Ok(())
         }
-        _ => Err(Refusal::Outside),
+        Some(TypeForm::Time) => Err(Refusal::Outside),
+        Some(TypeForm::TimeSpan) => Err(Refusal::Outside),
+        None => Err(Refusal::Outside),
     }
 }
 
@@ -52,6 +59,7 @@ pub(crate) fn push_initial(
 ) -> Result<(), Refusal>
     requires sound { SoundScope scope.now }
     ensures words { OnOk result (words.new.items ≡ words.old.items ++ value_words (initial_value scope.now subtype (optional_tree expr_tree value.now))) }
+    ensures refused { IfErr result (λ why. IsRefused 0 0 (lacks_first_words scope.now subtype (optional_tree expr_tree value.now)) why) }
 {
     static_is_value();
     match value {

@@ -1,7 +1,8 @@
 //! The laws of code that is put together from a program, each what a function without work ensures.
-ghost use Rattle.package_code.specs.Laws.{BodiesMayBeAdded, MainMayBeAdded, NamesAreSound, SectionsAreBounded, SectionsAreWellFormed, SectionsMeanTheSame};
+ghost use Rattle.package_code.specs.Laws.{BodiesAreNumbered, BodiesMayBeAdded, MainIsKnown, MainMayBeAdded, NamesAreSound, SectionsAreBounded, SectionsAreWellFormed, SectionsMeanTheSame, TablesAreSmall, VariablesArePlaced};
 
 use crate::link_laws::{linked_keeps_count, linked_means_the_same};
+use checking::laws::words_have_room;
 use image_laws::code_leads_on;
 use kernel::laws::quiet_stays;
 use sound_programs::body_laws::{fronts_fit, names_are_known, premises_hold};
@@ -24,6 +25,47 @@ pub fn bodies_may_be_added()
     names_are_known();
     premises_hold();
     scopes_are_sound();
+}
+
+/// Each body of an accepted program has the number of its name, since no two of them have one name.
+pub fn bodies_are_numbered()
+    ensures { BodiesAreNumbered }
+{
+    premises_hold();
+}
+
+/// Each variable of an accepted program has a place of its own, since no two of them have one name.
+pub fn variables_are_placed()
+    ensures { VariablesArePlaced }
+{
+    premises_hold();
+}
+
+/// An accepted program has no more labels and words of variables than an image (docs/LANGUAGE.md, "Limits").
+pub fn tables_are_small()
+    ensures { TablesAreSmall }
+{
+    fronts_fit();
+    names_are_known();
+    premises_hold();
+    scopes_are_sound();
+    shapes_stay();
+    starts_are_sound();
+    values_have_words();
+    words_have_room();
+}
+
+/// Each procedure that main of an accepted program calls has a body, and so a number.
+pub fn main_is_known()
+    ensures { MainIsKnown }
+{
+    fronts_fit();
+    names_are_known();
+    premises_hold();
+    scopes_are_sound();
+    shapes_stay();
+    starts_are_sound();
+    values_have_words();
 }
 
 /// Main of an accepted program calls procedures of the package without parameters.

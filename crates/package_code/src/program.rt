@@ -1,14 +1,18 @@
 //! The sections of the image of a program whose only task is main.
-ghost use Rattle.std.specs.Prelude.{◌≡◌, IfOk};
+ghost use Rattle.std.specs.Prelude.{◌≡◌, false, IfErr, IfOk};
 ghost use Rattle.std.specs.List.{list_all};
 ghost use Rattle.base.specs.Names.{is_label, is_name};
 ghost use Rattle.ada_tree.specs.ProgramTree.{program_tree};
 ghost use Rattle.meaning.specs.Programs.{base_priority, program_of};
+ghost use Rattle.expr_code.specs.Refusing.{IsRefused};
 ghost use Rattle.package_code.specs.Program.{HasProgram, KeepsTables, has_texts, is_within_limits};
+ghost use Rattle.package_code.specs.Refusing.{RefusesParts, RefusesProgram, program_labels};
 
 use crate::directory::{Directory, number_bodies};
 use crate::globals::{Globals, globals_of};
-use crate::laws::{main_may_be_added, names_are_sound};
+use crate::laws::{
+    main_is_known, main_may_be_added, names_are_sound, tables_are_small, variables_are_placed,
+};
 use crate::walk::{Walk, row, walk_over};
 use base::limits::{EXCEPTIONS, LABELS, SUBPROGRAMS, TASK_PRIORITY, WORDS};
 use base::names::{is_label, is_name};
@@ -22,7 +26,8 @@ use std::alloc::Global;
 
 // The task that is main, whose subprogram has this number.
 fn main_task(accepted: &Accepted, number: usize) -> Result<Task, Refusal>
-    ensures { let t = program_tree accepted.now in IfOk result (λ task. task ≡ record { name = t.main.name.name; priority = base_priority (program_of t).scope t.main.aspect; subprogram = number }) }
+    ensures refused { IfErr result (λ why. IsRefused number 0 false why) }
+    ensures task { let t = program_tree accepted.now in IfOk result (λ task. task ≡ record { name = t.main.name.name; priority = base_priority (program_of t).scope t.main.aspect; subprogram = number }) }
 {
     let subprogram = u16::try_from(number).map_err(|_| Refusal::Limit)?;
     let main = &accepted.program().main;
@@ -36,10 +41,14 @@ fn main_task(accepted: &Accepted, number: usize) -> Result<Task, Refusal>
 
 // The code of its subprograms one behind another, in the order of their bodies, that of main behind them, and the variables in the order of their declarations.
 fn put_together(alloc: Global, accepted: &Accepted) -> Result<Parts, Refusal>
-    ensures { IfOk result (λ parts. HasProgram (program_tree accepted.now) parts) }
+    ensures program { IfOk result (λ parts. HasProgram (program_tree accepted.now) parts) }
+    ensures labels { IfOk result (λ parts. parts.labels ≡ program_labels (program_tree accepted.now)) }
+    ensures refused { IfErr result (λ why. RefusesParts (program_tree accepted.now) why) }
 {
     names_are_sound();
+    main_is_known();
     main_may_be_added();
+    variables_are_placed();
     let program = accepted.program();
     let scope = accepted.scope();
     if scope.protected_count() != 0 {
@@ -110,15 +119,11 @@ fn is_within_limits(parts: &Parts) -> bool
         && parts.plain_words.len() <= WORDS
 }
 
-/// The sections of the image of an accepted program (docs/FORMATS.md): the code of its subprograms one behind another, in the order of their bodies, that of main behind them,
-/// and the variables in the order of their declarations. They make a well-formed image (`sections_are_well_formed`).
-///
-/// # Errors
-/// `Outside` where the program has tasks, protected objects, or what has no code yet (docs/CODEGEN.md), or a text that is no name or label; `Limit` where it passes a
-/// limit of images; `Memory` where memory was refused.
-pub fn sections(alloc: Global, accepted: &Accepted) -> Result<Parts, Refusal>
+// They are put together, and have the texts and counts of an image.
+fn within_tables(alloc: Global, accepted: &Accepted) -> Result<Parts, Refusal>
     ensures program { IfOk result (λ parts. HasProgram (program_tree accepted.now) parts) }
     ensures tables { IfOk result (λ parts. KeepsTables parts) }
+    ensures refused { IfErr result (λ why. RefusesParts (program_tree accepted.now) why) }
 {
     let parts = put_together(alloc, accepted)?;
     if !has_texts(&parts) {
@@ -128,4 +133,20 @@ pub fn sections(alloc: Global, accepted: &Accepted) -> Result<Parts, Refusal>
         return Err(Refusal::Limit);
     }
     Ok(parts)
+}
+
+/// The sections of the image of an accepted program (docs/FORMATS.md): the code of its subprograms one behind another, in the order of their bodies, that of main behind them,
+/// and the variables in the order of their declarations. They make a well-formed image (`sections_are_well_formed`).
+///
+/// # Errors
+/// `Outside` where the program has tasks, protected objects, or what has no code yet (docs/CODEGEN.md), or a text that is no name or label; `Limit` where the bound on
+/// its instructions, or the words of a frame or of an object, pass those of images (specs/Refusing); `Memory` where memory was refused.
+pub fn sections(alloc: Global, accepted: &Accepted) -> Result<Parts, Refusal>
+    ensures program { IfOk result (λ parts. HasProgram (program_tree accepted.now) parts) }
+    ensures tables { IfOk result (λ parts. KeepsTables parts) }
+    ensures refused { IfErr result (λ why. RefusesProgram (program_tree accepted.now) why) }
+{
+    tables_are_small();
+    let _program = accepted.program();
+    within_tables(alloc, accepted)
 }

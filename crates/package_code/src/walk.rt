@@ -1,5 +1,5 @@
 //! The walk over the declarations and bodies of a package in the order of the text, which adds the code of each body (RM 7.2).
-ghost use Rattle.std.specs.Prelude.{◌≡◌, ◌+◌, length, map, slice_get, None, Some, IfOk, OnOk};
+ghost use Rattle.std.specs.Prelude.{◌≡◌, ◌+◌, false, is_none, is_some, length, map, slice_get, true, None, Some, IfErr, IfOk, OnOk};
 ghost use Rattle.ada_tree.specs.ExpressionTree.{expr_tree};
 ghost use Rattle.ada_tree.specs.StatementTree.{MoreStmts, NoStmts, stmt_tree, stmt_trees, subprogram_tree};
 ghost use Rattle.ada_tree.specs.ProgramTree.{OfItem, SubprogramBody, body_item_tree, body_tree, item_tree, program_tree};
@@ -7,14 +7,19 @@ ghost use Rattle.checking.specs.ProgramRules.{IsLegal};
 ghost use Rattle.ravenscar.specs.ProgramRules.{IsRestricted};
 ghost use Rattle.meaning.specs.Programs.{program_of, returned, subtype_named};
 ghost use Rattle.sound_programs.specs.Fronts.{declared_in};
+ghost use Rattle.type_rules.specs.SubtypeNames.{subtype_of};
 ghost use Rattle.expr_code.specs.Code.{here};
+ghost use Rattle.expr_code.specs.Refusing.{IsRefused};
+ghost use Rattle.expr_code.specs.Seeing.{told_of};
 ghost use Rattle.stmt_code.specs.Emitting.{HasEntries};
 ghost use Rattle.stmt_code.specs.Subprograms.{IsCalledFunction, KeepsRules};
+ghost use Rattle.package_code.specs.Directory.{IsDirectory};
 ghost use Rattle.package_code.specs.Laws.{MayBeAdded};
-ghost use Rattle.package_code.specs.Walking.{AddsBody, AddsSubprogram, AddsValue, BeginsWalk, IsCalledSubprogram, IsWalked, StandFrom, row_of};
+ghost use Rattle.package_code.specs.Refusing.{RefusesCode};
+ghost use Rattle.package_code.specs.Walking.{AddsBody, AddsLabels, AddsSubprogram, AddsValue, BeginsWalk, IsAsTold, IsCalledSubprogram, IsWalked, RefusesBody, StandFrom, row_of};
 
 use crate::directory::{Directory, unseen};
-use crate::laws::bodies_may_be_added;
+use crate::laws::{bodies_are_numbered, bodies_may_be_added};
 use ada_tree::{Body, BodyItem, Expr, Identifier, Item, Package, Stmt, Subprogram};
 use declaring::declare_item;
 use expr_code::{Refusal, Visible};
@@ -41,7 +46,8 @@ pub(crate) struct Walk {
 
 // The value that a statement returns.
 fn returned_value(statement: &Stmt) -> Result<&Expr, Refusal>
-    ensures { IfOk result (λ value. returned (MoreStmts (stmt_tree statement.now) NoStmts) ≡ Some (expr_tree value.now)) }
+    ensures value { IfOk result (λ value. returned (MoreStmts (stmt_tree statement.now) NoStmts) ≡ Some (expr_tree value.now)) }
+    ensures refused { IfErr result (λ why. IsRefused 0 0 (is_none (returned (MoreStmts (stmt_tree statement.now) NoStmts))) why) }
 {
     match statement {
         Stmt::Return(_, Some(value)) => Ok(value),
@@ -51,21 +57,24 @@ fn returned_value(statement: &Stmt) -> Result<&Expr, Refusal>
 
 // The one that a function's body returns, which is a single return (RM 6.3).
 fn returned(statements: &[Stmt]) -> Result<&Expr, Refusal>
-    ensures { IfOk result (λ value. returned (stmt_trees statements.now) ≡ Some (expr_tree value.now)) }
+    ensures value { IfOk result (λ value. returned (stmt_trees statements.now) ≡ Some (expr_tree value.now)) }
+    ensures refused { IfErr result (λ why. IsRefused 0 0 (is_none (returned (stmt_trees statements.now))) why) }
 {
     match statements {
         [statement] => returned_value(statement),
-        _ => Err(Refusal::Outside),
+        [] => Err(Refusal::Outside),
+        [_, _, ..] => Err(Refusal::Outside),
     }
 }
 
 // The subtype of a function's result.
-fn result_subtype(scope: &Scope, name: &Identifier) -> Result<Subtype, Refusal>
-    ensures { IfOk result (λ subtype. subtype ≡ subtype_named scope.now name.now) }
+fn result_subtype(scope: &Scope, name: &Identifier) -> Subtype
+    requires { is_some (subtype_of scope.now name.now) ≡ true }
+    ensures { result ≡ subtype_named scope.now name.now }
 {
     match subtype_of(scope, name) {
-        Some(subtype) => Ok(subtype),
-        None => Err(Refusal::Outside),
+        Some(subtype) => subtype,
+        None => unreachable!(),
     }
 }
 
@@ -75,7 +84,8 @@ pub(crate) fn row(
     words: SubprogramWords,
     draft: &Draft,
 ) -> Result<image::Subprogram, Refusal>
-    ensures { IfOk result (λ row. row ≡ record (row_of words (here draft.now.code)) { kind = kind }) }
+    ensures row { IfOk result (λ row. row ≡ record (row_of words (here draft.now.code)) { kind = kind }) }
+    ensures refused { IfErr result (λ why. IsRefused (here draft.now.code) 0 false why) }
 {
     let end_ = u16::try_from(draft.code.instructions.len()).map_err(|_| Refusal::Limit)?;
     Ok(image::Subprogram {
@@ -91,7 +101,8 @@ pub(crate) fn row(
 impl Walk {
     // In front of all of them, where these names are visible.
     fn new(alloc: Global, scope: Scope) -> Result<Walk, Refusal>
-        ensures { IfOk result (λ walk. BeginsWalk scope walk) }
+        ensures begins { IfOk result (λ walk. BeginsWalk scope walk) }
+        ensures refused { IfErr result (λ why. IsRefused 0 0 false why) }
     {
         Ok(Walk {
             alloc,
@@ -119,9 +130,11 @@ impl Walk {
         ensures visible { OnOk result (self.new.visible ≡ self.old.visible) }
         ensures place { OnOk result (self.new.place ≡ self.old.place) }
         ensures subprograms { OnOk result (self.new.subprograms ≡ self.old.subprograms) }
+        ensures labels { OnOk result (AddsLabels self.old.draft (subprogram_tree subprogram.now) (body_tree body.now) self.new.draft) }
+        ensures refused { IfErr result (λ why. RefusesBody (program_tree accepted.now) self.old.visible self.old.draft (subprogram_tree subprogram.now) (body_tree body.now) why) }
     {
         let value = returned(&body.statements)?;
-        let result = result_subtype(accepted.scope(), subtype)?;
+        let result = result_subtype(accepted.scope(), subtype);
         self.draft
             .function(&mut self.visible, &subprogram.formals, result, value)
     }
@@ -141,6 +154,8 @@ impl Walk {
         ensures visible { OnOk result (self.new.visible ≡ self.old.visible) }
         ensures place { OnOk result (self.new.place ≡ self.old.place) }
         ensures subprograms { OnOk result (self.new.subprograms ≡ self.old.subprograms) }
+        ensures labels { OnOk result (AddsLabels self.old.draft (subprogram_tree subprogram.now) (body_tree body.now) self.new.draft) }
+        ensures refused { IfErr result (λ why. RefusesBody (program_tree accepted.now) self.old.visible self.old.draft (subprogram_tree subprogram.now) (body_tree body.now) why) }
     {
         match &subprogram.result {
             Some(subtype) => self.function(accepted, subprogram, body, subtype),
@@ -150,7 +165,7 @@ impl Walk {
         }
     }
 
-    // Adds the body of a subprogram, whose name is visible.
+    // Adds the body of a subprogram, whose name is visible, and has the number that the directory tells.
     fn body(
         &mut self,
         accepted: &Accepted,
@@ -160,13 +175,11 @@ impl Walk {
     ) -> Result<(), Refusal>
         requires added { MayBeAdded (program_tree accepted.now) self.old.visible.scope (subprogram_tree subprogram.now) (body_tree body.now) }
         requires entries { HasEntries self.old.visible }
+        requires numbered { told_of (program_of (program_tree accepted.now)).scope directory.now.numbers.items (subprogram_tree subprogram.now).name.name ≡ Some (length self.old.subprograms.items) }
         ensures adds { OnOk result (AddsBody (program_tree accepted.now) directory.now (subprogram_tree subprogram.now) (body_tree body.now) self.old self.new) }
+        ensures labels { OnOk result (AddsLabels self.old.draft (subprogram_tree subprogram.now) (body_tree body.now) self.new.draft) }
+        ensures refused { IfErr result (λ why. RefusesBody (program_tree accepted.now) self.old.visible self.old.draft (subprogram_tree subprogram.now) (body_tree body.now) why) }
     {
-        let number = directory.number(accepted.scope(), &subprogram.name.name);
-        match number {
-            Some(number) if usize::from(number) == self.subprograms.len() => {}
-            _ => return Err(Refusal::Outside),
-        }
         let words = self.code(accepted, subprogram, body)?;
         self.subprograms
             .push(row(Kind::Plain, words, &self.draft)?)?;
@@ -181,9 +194,13 @@ impl Walk {
         item: &Item,
     ) -> Result<(), Refusal>
         requires walked { IsWalked (program_tree accepted.now) directory.now self.old }
+        requires directory { IsDirectory (program_tree accepted.now) directory.now }
+        requires told { IsAsTold (program_tree accepted.now) self.old }
         requires at { slice_get (declared_in (program_tree accepted.now).package_) self.old.place ≡ Some (OfItem (item_tree item.now)) }
         ensures walked { OnOk result (IsWalked (program_tree accepted.now) directory.now self.new) }
         ensures place { OnOk result (self.new.place ≡ self.old.place + 1) }
+        ensures told { OnOk result (IsAsTold (program_tree accepted.now) self.new) }
+        ensures refused { IfErr result (λ why. RefusesCode (program_tree accepted.now) why) }
     {
         declare_item(self.alloc, &mut self.visible.scope, item)?;
         directory.tell(accepted.scope(), &mut self.visible, &item_name(item).name)?;
@@ -202,10 +219,15 @@ impl Walk {
         requires legal { IsLegal (program_tree accepted.now) }
         requires restricted { IsRestricted (program_tree accepted.now) }
         requires walked { IsWalked (program_tree accepted.now) directory.now self.old }
+        requires directory { IsDirectory (program_tree accepted.now) directory.now }
+        requires told { IsAsTold (program_tree accepted.now) self.old }
         requires at { slice_get (declared_in (program_tree accepted.now).package_) self.old.place ≡ Some (SubprogramBody (subprogram_tree subprogram.now) (body_tree body.now)) }
         ensures walked { OnOk result (IsWalked (program_tree accepted.now) directory.now self.new) }
         ensures place { OnOk result (self.new.place ≡ self.old.place + 1) }
+        ensures told { OnOk result (IsAsTold (program_tree accepted.now) self.new) }
+        ensures refused { IfErr result (λ why. RefusesCode (program_tree accepted.now) why) }
     {
+        bodies_are_numbered();
         bodies_may_be_added();
         declare_subprogram(self.alloc, &mut self.visible.scope, subprogram)?;
         directory.tell(accepted.scope(), &mut self.visible, &subprogram.name.name)?;
@@ -222,9 +244,13 @@ impl Walk {
         items: &[Item],
     ) -> Result<(), Refusal>
         requires walked { IsWalked (program_tree accepted.now) directory.now self.old }
+        requires directory { IsDirectory (program_tree accepted.now) directory.now }
+        requires told { IsAsTold (program_tree accepted.now) self.old }
         requires at { StandFrom (declared_in (program_tree accepted.now).package_) self.old.place (map OfItem (map item_tree items.now)) }
         ensures walked { OnOk result (IsWalked (program_tree accepted.now) directory.now self.new) }
         ensures place { OnOk result (self.new.place ≡ self.old.place + length items.now) }
+        ensures told { OnOk result (IsAsTold (program_tree accepted.now) self.new) }
+        ensures refused { IfErr result (λ why. RefusesCode (program_tree accepted.now) why) }
     {
         for item in items {
             self.declaration(accepted, directory, item)?;
@@ -242,9 +268,13 @@ impl Walk {
         requires legal { IsLegal (program_tree accepted.now) }
         requires restricted { IsRestricted (program_tree accepted.now) }
         requires walked { IsWalked (program_tree accepted.now) directory.now self.old }
+        requires directory { IsDirectory (program_tree accepted.now) directory.now }
+        requires told { IsAsTold (program_tree accepted.now) self.old }
         requires at { StandFrom (declared_in (program_tree accepted.now).package_) self.old.place (map body_item_tree items.now) }
         ensures walked { OnOk result (IsWalked (program_tree accepted.now) directory.now self.new) }
         ensures place { OnOk result (self.new.place ≡ self.old.place + length items.now) }
+        ensures told { OnOk result (IsAsTold (program_tree accepted.now) self.new) }
+        ensures refused { IfErr result (λ why. RefusesCode (program_tree accepted.now) why) }
     {
         for item in items {
             match item {
@@ -252,7 +282,8 @@ impl Walk {
                 BodyItem::Subprogram(subprogram, body) => {
                     self.subprogram(accepted, directory, subprogram, body)?;
                 }
-                _ => return Err(Refusal::Outside),
+                BodyItem::Task(_, _) => return Err(Refusal::Outside),
+                BodyItem::Protected(_, _, _) => return Err(Refusal::Outside),
             }
         }
         Ok(())
@@ -269,8 +300,11 @@ fn walk_package(
     requires legal { IsLegal (program_tree accepted.now) }
     requires restricted { IsRestricted (program_tree accepted.now) }
     requires is { accepted.now.package_ ≡ Some package_.now }
+    requires directory { IsDirectory (program_tree accepted.now) directory.now }
     ensures walked { IfOk result (λ walk. IsWalked (program_tree accepted.now) directory.now walk) }
     ensures whole { IfOk result (λ walk. walk.place ≡ length (declared_in (program_tree accepted.now).package_)) }
+    ensures told { IfOk result (λ walk. IsAsTold (program_tree accepted.now) walk) }
+    ensures refused { IfErr result (λ why. RefusesCode (program_tree accepted.now) why) }
 {
     let mut walk = Walk::new(alloc, inside_scope(alloc, package_)?)?;
     walk.declarations(accepted, directory, &package_.declaration.items)?;
@@ -280,9 +314,11 @@ fn walk_package(
 
 // That of a program without one.
 fn walk_nothing(alloc: Global, accepted: &Accepted, directory: &Directory) -> Result<Walk, Refusal>
-    requires { accepted.now.package_ ≡ None }
+    requires is { accepted.now.package_ ≡ None }
     ensures walked { IfOk result (λ walk. IsWalked (program_tree accepted.now) directory.now walk) }
     ensures whole { IfOk result (λ walk. walk.place ≡ length (declared_in (program_tree accepted.now).package_)) }
+    ensures told { IfOk result (λ walk. IsAsTold (program_tree accepted.now) walk) }
+    ensures refused { IfErr result (λ why. RefusesCode (program_tree accepted.now) why) }
 {
     let walk = Walk::new(alloc, Scope::standard(alloc)?)?;
     Ok(walk)
@@ -294,8 +330,11 @@ pub(crate) fn walk_over(
     accepted: &Accepted,
     directory: &Directory,
 ) -> Result<Walk, Refusal>
+    requires directory { IsDirectory (program_tree accepted.now) directory.now }
     ensures walked { IfOk result (λ walk. IsWalked (program_tree accepted.now) directory.now walk) }
     ensures whole { IfOk result (λ walk. walk.place ≡ length (declared_in (program_tree accepted.now).package_)) }
+    ensures told { IfOk result (λ walk. IsAsTold (program_tree accepted.now) walk) }
+    ensures refused { IfErr result (λ why. RefusesCode (program_tree accepted.now) why) }
 {
     match &accepted.program().package_ {
         None => walk_nothing(alloc, accepted, directory),

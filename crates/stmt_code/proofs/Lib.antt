@@ -74,8 +74,8 @@ mod Turned
 mod Bounded
 mod Ranged
 mod WholeBounds
-mod Refused
-mod Lacking
+pub mod Refused
+pub mod Lacking
 mod PartsRefused
 mod FormalsRefused
 mod CallsRefused

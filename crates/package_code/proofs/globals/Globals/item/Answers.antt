@@ -6,36 +6,28 @@ use Rattle.package_code.specs.Globals.{AddsItems}
 use Rattle.package_code.proofs.Variables.{adds_exception, adds_nothing}
 use Rattle.package_code.proofs.globals.Globals.item.Goals as goal
 
-pub returns-in-Type : goal.returns-in-Type
-returns-in-Type c =
+pub returns-in-Type-clause-adds : goal.returns-in-Type-clause-adds
+returns-in-Type-clause-adds c =
     let s = c.args.scope.now in
     let g = c.args.self.now in
-    record {
-      adds = subst (λ i. AddsItems s g (item_tree i ∷ []) g) (sym c.in-Type.is)
-          (adds_nothing s (item_tree (item.Type c.in-Type.field-0)) g refl refl (λ bodies. refl));
-    }
+    subst (λ i. AddsItems s g (item_tree i ∷ []) g) (sym c.in-Type.is)
+    (adds_nothing s (item_tree (item.Type c.in-Type.field-0)) g refl refl (λ bodies. refl))
 
-pub returns-in-Subprogram : goal.returns-in-Subprogram
-returns-in-Subprogram c =
+pub returns-in-Subprogram-clause-adds : goal.returns-in-Subprogram-clause-adds
+returns-in-Subprogram-clause-adds c =
     let s = c.args.scope.now in
     let g = c.args.self.now in
-    record {
-      adds = subst (λ i. AddsItems s g (item_tree i ∷ []) g) (sym c.in-Subprogram.is)
-          (adds_nothing s (item_tree (item.Subprogram c.in-Subprogram.field-0)) g refl refl (λ bodies. refl));
-    }
+    subst (λ i. AddsItems s g (item_tree i ∷ []) g) (sym c.in-Subprogram.is)
+    (adds_nothing s (item_tree (item.Subprogram c.in-Subprogram.field-0)) g refl refl (λ bodies. refl))
 
-pub returns-in-Object : goal.returns-in-Object
-returns-in-Object c = record {
-  adds = subst (λ i. OnOk c.object.result (AddsItems c.args.scope.now c.args.self.now (item_tree i ∷ []) c.object.new.self)) (sym c.in-Object.is)
-      c.object.ensures.adds;
-}
+pub returns-in-Object-clause-adds : goal.returns-in-Object-clause-adds
+returns-in-Object-clause-adds c = subst (λ i. OnOk c.object.result (AddsItems c.args.scope.now c.args.self.now (item_tree i ∷ []) c.object.new.self)) (sym c.in-Object.is)
+    c.object.ensures.adds
 
-pub returns-in_ok-exception-in-Exception : goal.returns-in_ok-exception-in-Exception
-returns-in_ok-exception-in-Exception c =
+pub returns-in_ok-exception-in-Exception-clause-adds : goal.returns-in_ok-exception-in-Exception-clause-adds
+returns-in_ok-exception-in-Exception-clause-adds c =
     let s = c.args.scope.now in
     let g = c.args.self.now in
-    record {
-      adds = subst (λ i. AddsItems s g (item_tree i ∷ []) c.exception.new.self) (sym c.in-Exception.is)
-          (adds_exception s c.in-Exception.name g c.exception.new.self c.in_ok-exception-in-Exception.ensures.slots
-          c.in_ok-exception-in-Exception.ensures.words c.in_ok-exception-in-Exception.ensures.exceptions);
-    }
+    subst (λ i. AddsItems s g (item_tree i ∷ []) c.exception.new.self) (sym c.in-Exception.is)
+    (adds_exception s c.in-Exception.name g c.exception.new.self c.in_ok-exception-in-Exception.ensures.slots
+    c.in_ok-exception-in-Exception.ensures.words c.in_ok-exception-in-Exception.ensures.exceptions)

@@ -9,4 +9,4 @@ declaration-requires-clause-walked c = c.loop-item.invariant.0
 pub declaration-requires-clause-at : goal.declaration-requires-clause-at
 declaration-requires-clause-at c =
     declaration_at (declared_in (program_tree c.args.accepted.now).package_) c.args.self.now.place c.loop-item.self.place c.args.items.now
-    c.loop-item.item-index c.item-item.result c.requires.at c.loop-item.invariant.1 c.loop-item-test.true c.item-item.is
+    c.loop-item.item-index c.item-item.result c.requires.at c.loop-item.invariant.1.1 c.loop-item-test.true c.item-item.is
