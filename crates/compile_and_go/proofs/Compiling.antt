@@ -18,7 +18,8 @@ use Rattle.ravenscar.specs.ProgramRules.{IsRestricted, RefusesUnrestricted, rest
 use Rattle.fault_numbers.specs.Numbers.{AreNumbered, GrammarNumbers, IsNumbered, LegalityNumbers, RestrictionNumbers, SpellingNumbers}
 use Rattle.meaning.specs.SameMeaning.{KeepsCount, SameMeaning}
 use Rattle.expr_code.specs.Coming.{most_steps}
-use Rattle.compile_and_go.specs.Accepted.{Compiles, IsAccepted, IsBounded, IsGiven, IsJudged, IsLeftOut, IsTreeOf, RefusesAccepted, RefusesText}
+use Rattle.ada_link.specs.Compiled.{IsBounded, RefusesTree}
+use Rattle.compile_and_go.specs.Accepted.{Compiles, IsAccepted, IsGiven, IsJudged, IsLeftOut, IsTreeOf, RefusesText}
 
 -- the program that was read is the one that was checked
 pub compiles : {E : Type 0} (r : Result Sections E) (text : List ℕ) (tokens list : List Token) (read : Program)
@@ -42,10 +43,10 @@ compiles (Ok i) text tokens list read spells same derives checked is legal restr
 compiles (Err e) text tokens list read spells same derives checked is legal restricted means counted bounded well_formed = tt
 
 pub given : (r : Result Sections Fault) (tree made : ProgramTree) → made ≡ tree → IfOk r (λ i. SameMeaning made i)
-    → IfErr r (λ f. RefusesAccepted made f)
+    → IfErr r (λ f. RefusesTree made f)
     → IsGiven tree r
 given (Ok i) tree made same means refused = subst (λ t. SameMeaning t i) same means
-given (Err f) tree made same means refused = subst (λ t. RefusesAccepted t f) same refused
+given (Err f) tree made same means refused = subst (λ t. RefusesTree t f) same refused
 
 -- ---- where nothing is broken nothing is the least
 
@@ -80,10 +81,10 @@ judged_legal tree made fault same legal (inr least) = inr (inr (inl (subst IsLeg
 
 -- what breaks no rule
 pub judged_accepted : (r : Result Sections Fault) (tree made : ProgramTree) → made ≡ tree → IsLegal made → IsRestricted made
-    → IfErr r (λ f. RefusesAccepted made f) → IsJudged tree r
+    → IfErr r (λ f. RefusesTree made f) → IsJudged tree r
 judged_accepted (Ok i) tree made same legal restricted refused = (subst IsLegal same legal, subst IsRestricted same restricted)
 judged_accepted (Err fault) tree made same legal restricted refused =
-    inr (inr (inr (subst IsLegal same legal, (subst IsRestricted same restricted, subst (λ t. RefusesAccepted t fault) same refused))))
+    inr (inr (inr (subst IsLegal same legal, (subst IsRestricted same restricted, subst (λ t. RefusesTree t fault) same refused))))
 
 -- ---- texts that are not compiled
 
@@ -114,7 +115,7 @@ unrestricted_text text tokens list read checked fault spells same derives is leg
 pub refused_text : {A : Type 0} (r : Result A Fault) (text : List ℕ) (tokens list : List Token) (read checked : Program)
     → Spells text tokens → list ≡ tokens → Derives (program_tree read) list → checked ≡ read
     → IsLegal (program_tree checked) → IsRestricted (program_tree checked)
-    → IfErr r (λ f. RefusesAccepted (program_tree checked) f)
+    → IfErr r (λ f. RefusesTree (program_tree checked) f)
     → IfErr r (λ f. RefusesText text f)
 refused_text (Ok a) text tokens list read checked spells same derives is legal restricted refused = tt
 refused_text (Err fault) text tokens list read checked spells same derives is legal restricted refused =
@@ -130,7 +131,7 @@ module _ (spelling : SpellingNumbers) (grammar : GrammarNumbers) (legality : Leg
   among : (first last : ℕ) (faults : Faults) (fault : Fault) → AreNumbered first last faults → IsLeast faults fault → IsNumbered first last fault
   among first last faults fault all least = All-contains (IsNumbered first last) faults fault all least.listed
 
-  of_tree : (text : List ℕ) (tree : ProgramTree) (fault : Fault) → IsAccepted tree text → RefusesAccepted tree fault → IsLeftOut text fault
+  of_tree : (text : List ℕ) (tree : ProgramTree) (fault : Fault) → IsAccepted tree text → RefusesTree tree fault → IsLeftOut text fault
   of_tree text tree fault accepted (inl memory) = λ is. let n = ap (λ f. f.number) memory in absurd (omega (arith, n, is))
   of_tree text tree fault accepted (inr (inl out)) = λ is. (out.0, (tree, (accepted, out.1)))
   of_tree text tree fault accepted (inr (inr large)) = λ is. let n = ap (λ f. f.number) large.0 in absurd (omega (arith, n, is))

@@ -1,3 +1,2 @@
 pub mod Compiling
 pub mod Running
-pub mod Refused

@@ -1,6 +1,6 @@
 -- Which texts are programs, which of these are accepted, and which are compiled.
-use Rattle.std.specs.Prelude.{◌≡◌, ◌⊎◌, ◌≤◌, ℕ, List, Result, Ok, Err}
-use Rattle.base.specs.declared.faults.TheConstants.{LIMIT_PASSED, OUTSIDE_LANGUAGE}
+use Rattle.std.specs.Prelude.{◌≡◌, ◌⊎◌, ℕ, List, Result, Ok, Err}
+use Rattle.base.specs.declared.faults.TheConstants.{OUTSIDE_LANGUAGE}
 use Rattle.lexer.specs.Fault.{memory_fault}
 use Rattle.lexer.specs.Spelling.{Spells, IsBroken}
 use Rattle.lexer.specs.declared.fault.Fault.{Fault}
@@ -14,10 +14,10 @@ use Rattle.expr_rules.specs.Faults.{IsLeast}
 use Rattle.checking.specs.ProgramRules.{IsLegal, program_faults}
 use Rattle.ravenscar.specs.ProgramRules.{IsRestricted, restriction_faults}
 use Rattle.meaning.specs.SameMeaning.{KeepsCount, SameMeaning}
-use Rattle.expr_code.specs.Coming.{most_steps, size_of}
+use Rattle.expr_code.specs.Coming.{most_steps}
 use Rattle.expr_code.specs.declared.refusal.Refusal.TheVariants as refusal
-use Rattle.package_code.specs.Counts.{instructions_bound}
-use Rattle.package_code.specs.Refusing as sections
+use Rattle.ada_link.specs.Compiled.{IsBounded, RefusesTree, outside}
+use Rattle.ada_link.specs.Refusing as sections
 
 -- the tree is what the text spells
 pub record IsTreeOf (tree : ProgramTree) (text : List ℕ) : Type 0 where
@@ -31,10 +31,6 @@ pub record IsAccepted (tree : ProgramTree) (text : List ℕ) : Type 0 where
   pub is_tree : IsTreeOf tree text
   pub legal : IsLegal tree
   pub restricted : IsRestricted tree
-
--- Each subprogram has at most as many instructions as its text tells: 20 for each part of it, and two for each word of an object that is declared in it.
-abbrev pub IsBounded : ProgramTree → Sections → Type 0
-IsBounded tree image = (number : ℕ) → size_of image number ≤ instructions_bound tree number
 
 -- a well-formed image that means the same as the text's tree, keeps the count of steps, and has no more instructions than the text tells
 pub record Compiles (text : List ℕ) (image : Sections) : Type 0 where
@@ -64,26 +60,11 @@ pub record HasUnrestrictedTree (text : List ℕ) (fault : Fault) : Type 0 where
   pub legal : IsLegal tree
   pub least : IsLeast (restriction_faults tree) fault
 
--- a program outside what is compiled today
-abbrev pub outside : Fault
-outside = record { number = OUTSIDE_LANGUAGE; place = 0 }
-
--- the code of a program passes a limit of images
-abbrev pub too_large : ProgramTree → Fault
-too_large tree = record { number = LIMIT_PASSED; place = tree.main.place }
-
--- Why an accepted program is not compiled: memory was refused; it is outside what is compiled today, as its text tells; or, as its text tells, its code may pass a
--- limit of images.
-abbrev pub RefusesAccepted : ProgramTree → Fault → Type 0
-RefusesAccepted tree fault =
-    (fault ≡ memory_fault)
-    ⊎ (((fault ≡ outside) × sections.RefusesProgram tree refusal.Outside) ⊎ ((fault ≡ too_large tree) × sections.RefusesProgram tree refusal.Limit))
-
 -- the text is accepted, and not compiled
 pub record HasRefusedTree (text : List ℕ) (fault : Fault) : Type 0 where
   pub tree : ProgramTree
   pub accepted : IsAccepted tree text
-  pub refused : RefusesAccepted tree fault
+  pub refused : RefusesTree tree fault
 
 -- memory was refused; no tokens spell the text; they have no tree; the tree is illegal; it is legal and breaks a restriction; or the text is accepted and not
 -- compiled
@@ -105,9 +86,9 @@ IsJudged tree (Err fault) =
     (fault ≡ memory_fault)
     ⊎ (IsLeast (program_faults tree) fault
     ⊎ ((IsLegal tree × IsLeast (restriction_faults tree) fault)
-    ⊎ (IsLegal tree × (IsRestricted tree × RefusesAccepted tree fault))))
+    ⊎ (IsLegal tree × (IsRestricted tree × RefusesTree tree fault))))
 
 -- an accepted text is compiled, and refused for these reasons alone
 abbrev pub IsGiven : ProgramTree → Result Image Fault → Type 0
 IsGiven tree (Ok image) = SameMeaning tree image
-IsGiven tree (Err fault) = RefusesAccepted tree fault
+IsGiven tree (Err fault) = RefusesTree tree fault

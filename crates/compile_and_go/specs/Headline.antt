@@ -16,7 +16,8 @@ use Rattle.machine.specs.Stands.{EndsBy}
 use Rattle.machine.specs.Written.{AppendsBeginning}
 use Rattle.machine.specs.declared.reports.Outcome as machine
 use Rattle.expr_code.specs.Coming.{most_steps}
-use Rattle.compile_and_go.specs.Accepted.{Compiles, IsAccepted, IsBounded}
+use Rattle.ada_link.specs.Compiled.{IsBounded}
+use Rattle.compile_and_go.specs.Accepted.{Compiles, IsAccepted}
 
 -- the text of a run that is cut: a beginning of the lines of the source, and the line that says so
 pub record IsCut (tree : ProgramTree) (schedule : List ScheduleLine) (outcome : machine.Outcome) (written : List ℕ) : Type 0 where

@@ -3,7 +3,7 @@ ghost use Rattle.std.specs.Prelude.{IfErr, IfOk};
 ghost use Rattle.ada_tree.specs.ProgramTree.{ProgramTree};
 ghost use Rattle.compile_and_go.specs.Accepted.{Compiles, IsAccepted, IsGiven, IsJudged, IsLeftOut, IsTreeOf, RefusesText};
 
-use crate::choosing::compile_accepted;
+use ada_link::compile_tree;
 use checking::check;
 use fault_numbers::{grammar_numbers, legality_numbers, restriction_numbers, spelling_numbers};
 use image::Image;
@@ -33,5 +33,5 @@ pub fn compile(alloc: Global, source: &[u8]) -> Result<Image, Fault>
     let program = parse(alloc, &list)?;
     let checked = check(alloc, program)?;
     let accepted = restrict(alloc, checked)?;
-    compile_accepted(alloc, &accepted)
+    compile_tree(alloc, &accepted)
 }

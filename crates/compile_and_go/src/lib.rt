@@ -1,7 +1,6 @@
 //! From a source text to its image, and to the timed lines of its run.
 #![tactic(auto)]
 
-mod choosing;
 mod compilation;
 mod going;
 pub mod laws;

@@ -36,20 +36,20 @@ returns-clause-judged c = λ tree is_tree.
     let same = c.deref.ensures.value ∙ c.in_ok-list.ensures.complete is_tree.tokens is_tree.spells in
     let lent = ap program_tree (c.in_ok-accepted.ensures.same ∙ c.in_ok-checked.ensures.same) in
     judged_accepted _ _ _ (lent ∙ c.in_ok-program.ensures.only tree (subst (Derives tree) (sym same) is_tree.derives))
-    c.compile_accepted.ensures.legal
-    c.compile_accepted.ensures.restricted
-    c.compile_accepted.ensures.refused
+    c.compile_tree.ensures.legal
+    c.compile_tree.ensures.restricted
+    c.compile_tree.ensures.refused
 
 pub returns-clause-means : goal.returns-clause-means
 returns-clause-means c =
     compiles _ _ _ _ _ c.in_ok-list.ensures.sound c.deref.ensures.value c.in_ok-program.ensures.found _
     (c.in_ok-accepted.ensures.same ∙ c.in_ok-checked.ensures.same)
-    c.compile_accepted.ensures.legal
-    c.compile_accepted.ensures.restricted
-    c.compile_accepted.ensures.means
-    c.compile_accepted.ensures.counted
-    c.compile_accepted.ensures.bounded
-    c.compile_accepted.ensures.well_formed
+    c.compile_tree.ensures.legal
+    c.compile_tree.ensures.restricted
+    c.compile_tree.ensures.means
+    c.compile_tree.ensures.counted
+    c.compile_tree.ensures.bounded
+    c.compile_tree.ensures.well_formed
 
 pub returns-in_err-checked-clause-accepted : goal.returns-in_err-checked-clause-accepted
 returns-in_err-checked-clause-accepted c = λ tree given_tree.
@@ -74,8 +74,8 @@ returns-clause-accepted c = λ tree given_tree.
     let same = c.deref.ensures.value ∙ c.in_ok-list.ensures.complete is_tree.tokens is_tree.spells in
     let lent = ap program_tree (c.in_ok-accepted.ensures.same ∙ c.in_ok-checked.ensures.same) in
     given _ _ _ (lent ∙ c.in_ok-program.ensures.only tree (subst (Derives tree) (sym same) is_tree.derives))
-    c.compile_accepted.ensures.means
-    c.compile_accepted.ensures.refused
+    c.compile_tree.ensures.means
+    c.compile_tree.ensures.refused
 
 pub returns-in_err-accepted-clause-refused : goal.returns-in_err-accepted-clause-refused
 returns-in_err-accepted-clause-refused c =
@@ -88,9 +88,9 @@ pub returns-clause-refused : goal.returns-clause-refused
 returns-clause-refused c =
     refused_text _ _ _ _ _ _ c.in_ok-list.ensures.sound c.deref.ensures.value c.in_ok-program.ensures.found
     (c.in_ok-accepted.ensures.same ∙ c.in_ok-checked.ensures.same)
-    c.compile_accepted.ensures.legal
-    c.compile_accepted.ensures.restricted
-    c.compile_accepted.ensures.refused
+    c.compile_tree.ensures.legal
+    c.compile_tree.ensures.restricted
+    c.compile_tree.ensures.refused
 
 pub returns-in_err-checked-clause-left_out : goal.returns-in_err-checked-clause-left_out
 returns-in_err-checked-clause-left_out c =

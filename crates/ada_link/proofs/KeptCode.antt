@@ -1,0 +1,103 @@
+-- The code of each subprogram of the image keeps the rules of images: that of each body, and that of main.
+use Rattle.std.proofs.Common.{◌≡◌, ℕ, zero, suc, ◌-◌, ◌<◌, ◌⊎◌, inl, inr, List, [], ◌∷◌, length, Some, refl, sym, ap, ◌∙◌, subst, arith, length-append}
+use Rattle.std.specs.Prelude.{slice_get}
+use Rattle.std.proofs.lemmas.Option.{slice_get_within}
+use Rattle.ada_tree.specs.ProgramTree.{ProgramTree}
+use Rattle.image.specs.Operations.{called}
+use Rattle.image.specs.Rules.{last_end}
+use Rattle.image.specs.RuleLaws.{begin_of, begin_of-next}
+use Rattle.image.specs.Sections.{Sections, end_of, first_place}
+use Rattle.image.specs.declared.subprograms.Subprogram.{Subprogram}
+use Rattle.checking.specs.ProgramRules.{IsLegal}
+use Rattle.ravenscar.specs.ProgramRules.{IsRestricted}
+use Rattle.sound_programs.proofs.Listing.{same_some}
+use Rattle.expr_code.specs.Code.{here}
+use Rattle.stmt_code.specs.Emitting.{HasLabels}
+use Rattle.stmt_code.specs.Whole.{AreAllKept, IsKept, KeptCodePasses, PassesOnCode}
+use Rattle.ada_link.specs.Program.{HasProgram, main_row}
+use Rattle.ada_link.specs.Walking.{row_of}
+use Rattle.ada_link.proofs.InFront.{LawsOfNames}
+use Rattle.ada_link.proofs.Linking.{begins_there, called_front, called_main, first_main, holds_main, holds_there, labels_there}
+use Rattle.ada_link.proofs.Suited.{front_suited}
+use Rattle.ada_link.proofs.Counted.{IsOfBody, owner_of}
+use Rattle.ada_link.proofs.Walked.{last_or_before}
+
+-- each is, where each by its number is
+all_kept : (i : Sections) (all : List Subprogram) (first : ℕ)
+    → ((n : ℕ) (s : Subprogram) → slice_get all n ≡ Some s → IsKept i (begin_of first all n) s)
+    → AreAllKept i first all
+all_kept i [] first h = tt
+all_kept i (s ∷ rest) first h = (
+  h 0 s refl,
+  all_kept i rest s.end_ (λ n x at. subst (λ p. IsKept i p x) (begin_of-next first n s rest) (h (suc n) x at)),
+)
+
+begins : (i : Sections) (n : ℕ) → first_place i n ≡ begin_of 0 i.subprograms n
+begins i zero = refl
+begins i (suc n) = refl
+
+module _ (laws : LawsOfNames) (passes : KeptCodePasses) (t : ProgramTree) (legal : IsLegal t) (restricted : IsRestricted t) (i : Sections) (h : HasProgram t i)
+  where
+    abbrev rows : List Subprogram
+    rows = h.walk.subprograms.items
+
+    -- the subprogram of this number, which is kept
+    record IsKeptThere (n : ℕ) : Type 0 where
+      s : Subprogram
+      there : called i n ≡ Some s
+      kept : IsKept i (first_place i n) s
+
+    body_kept : (n : ℕ) → IsOfBody t h.directory n h.walk → IsKeptThere n
+    body_kept n x =
+        let body = x.body in
+        let row : Subprogram = row_of body.words (here body.new.code) in
+        subst IsKeptThere x.same
+        (record {
+          s = row;
+          there = called_front t i h body.number row body.there;
+          kept = subst (λ p. IsKept i p row) (sym (begins_there t i h x.place x.d x.b body))
+              (passes.added body.seen body.old body.new body.words body.keeps i row (holds_there t i h x.place x.d x.b body) (labels_there t i h x.place x.d x.b body)
+              (record { parameters = refl; results = refl; locals = refl; stack = refl })
+              (front_suited laws t legal restricted i h body.seen (suc x.place) body.scope body.told row) refl
+              (record { object = refl; bare = λ never. cc }));
+        })
+
+    main_kept : IsKeptThere (length rows)
+    main_kept =
+        let row : Subprogram = main_row h.words (here h.draft.code) in
+        record {
+          s = row;
+          there = called_main t i h;
+          kept = subst (λ p. IsKept i p row) (sym (first_main t i h))
+              (passes.added h.walk.visible h.walk.draft h.draft h.words h.keeps i row (holds_main t i h)
+              (let labels : HasLabels i h.draft.labels = record { labels = λ k y le e. ap (λ l. slice_get l k) h.labels ∙ e } in labels)
+              (record { parameters = refl; results = refl; locals = refl; stack = refl })
+              (front_suited laws t legal restricted i h h.walk.visible h.walk.place h.walked.scope h.walked.told row) refl
+              (record { object = refl; bare = λ task. (h.main.passed, h.main.results) }));
+        }
+
+    pub long : length i.subprograms ≡ suc (length rows)
+    long =
+        let e = ap length h.subprograms in
+        let both = length-append rows (main_row h.words (here h.draft.code) ∷ []) in
+        omega (arith, e, both)
+
+    one_kept : (n : ℕ) (s : Subprogram) → slice_get i.subprograms n ≡ Some s → IsKept i (begin_of 0 i.subprograms n) s
+    one_kept n s at =
+        let up = slice_get_within i.subprograms n s at in
+        by_number (last_or_before t h.directory n (length rows) (omega (arith, up, long)))
+      where
+        of_there : IsKeptThere n → IsKept i (begin_of 0 i.subprograms n) s
+        of_there x = subst (λ p. IsKept i p s) (begins i n) (subst (IsKept i (first_place i n)) (same_some x.s s (sym x.there ∙ at)) x.kept)
+
+        by_number : (n ≡ length rows) ⊎ (n < length rows) → IsKept i (begin_of 0 i.subprograms n) s
+        by_number (inl same) = of_there (subst IsKeptThere (sym same) main_kept)
+        by_number (inr less) = of_there (body_kept n (owner_of t i h n less))
+
+    ends : last_end i.subprograms ≡ length i.instructions
+    ends =
+        let before : length i.subprograms - 1 ≡ length rows = omega (arith, long) in
+        ap (λ m. end_of (slice_get i.subprograms m)) before ∙ ap end_of (called_main t i h) ∙ sym (ap length h.instructions)
+
+    pub code_passes : PassesOnCode i
+    code_passes = passes.whole i (all_kept i i.subprograms 0 one_kept) ends

@@ -1,0 +1,48 @@
+mod Single
+mod Meaning
+pub mod InFront
+pub mod FirstWords
+pub mod InOrder
+pub mod NewParameters
+pub mod HeldParameters
+pub mod Entered
+pub mod Ordered
+pub mod Reordered
+pub mod Building
+pub mod BodyFrames
+pub mod MadeFrames
+pub mod CodedBodies
+pub mod CodedPackage
+pub mod LinkedMain
+pub mod EmittedFormals
+pub mod EmittedParts
+pub mod EmittedFrames
+pub mod EmittedBodies
+pub mod EmittedFunctions
+pub mod EmittedMain
+mod Variables
+mod InitialWords
+mod Declared
+mod Told
+mod Walked
+mod Adding
+mod MainCalls
+mod Linking
+mod Counted
+mod Suited
+mod KeptCode
+mod WellFormed
+mod Seen
+mod ItemsTold
+mod AsTold
+mod Numbered
+mod Placed
+mod GlobalsRefused
+mod MainKnown
+mod Refusals
+mod Differing
+mod LabelsFit
+mod WordsFit
+mod Tables
+mod BodyRefused
+mod MemoryAlone

@@ -1,0 +1,215 @@
+-- Why no sections of a program are put together: what refuses its variables, its bodies, main or its tables refuses the program.
+use Rattle.std.proofs.Common.{◌≡◌, ℕ, zero, suc, ◌+◌, ◌≤◌, ◌<◌, List, [], ◌∷◌, ◌++◌, length, map, take, inl, inr, Bool, true, false, ◌&&◌, ◌||◌, Option, Some, None, refl, sym, ap, ◌∙◌, subst, arith, append-nil, length-append, take_all}
+use Rattle.std.specs.List.{list_all}
+use Rattle.std.specs.Prelude.{nat_eq, nat_le, not}
+use Rattle.base.specs.Names.{is_label, is_name}
+use Rattle.base.specs.declared.limits.TheConstants.{EXCEPTIONS, FRAME_WORDS, INSTRUCTIONS, LABELS, SUBPROGRAMS, WORDS}
+use Rattle.ada_tree.specs.ProgramTree.{BodyItemTree, ItemTree, OfItem, PackageTree, ProgramTree}
+use Rattle.image.specs.Sections.{Sections}
+use Rattle.image.specs.declared.tasks.Task.{Task}
+use Rattle.types.specs.Layouts.{total}
+use Rattle.types.specs.Scopes.{Scope}
+use Rattle.declaring.specs.ProtectedRules.{protected_count}
+use Rattle.meaning.specs.Programs.{base_priority, package_bodies, package_items, program_of}
+use Rattle.sound_programs.specs.Fronts.{declared_in}
+use Rattle.expr_code.specs.Code.{here}
+use Rattle.expr_code.specs.Refusing.{IsRefused}
+use Rattle.expr_code.specs.Seeing.{told_of}
+use Rattle.expr_code.specs.declared.refusal.Refusal.{Refusal}
+use Rattle.expr_code.specs.declared.refusal.Refusal.TheVariants as refusal
+use Rattle.expr_code.proofs.Refusals.{or_left}
+use Rattle.stmt_code.specs.Bounds.{main_bound}
+use Rattle.stmt_code.specs.Refusing.{HasManyLabels, IsNeeding, RefusesMain, are_unknown, beyond_if}
+use Rattle.stmt_code.specs.Subprograms.{KeepsRules}
+use Rattle.stmt_code.proofs.Refused.{needing_refused}
+use Rattle.ada_link.specs.Counts.{bodies_among, bodies_before, bounds_from}
+use Rattle.ada_link.specs.Directory.{AreNumbered, HasManyBodies, IsDirectory}
+use Rattle.ada_link.specs.Globals.{AreGlobals, RefusesGlobals, refuses_items}
+use Rattle.ada_link.specs.Laws.{HasFew}
+use Rattle.ada_link.specs.Package.{first_words_of}
+use Rattle.ada_link.specs.Program.{HasProgram, has_texts, is_within_limits}
+use Rattle.ada_link.specs.Refusing.{HasMany, HasManyWords, IsMisspelt, RefusesCode, RefusesParts, RefusesProgram, is_spelled, items_labels, items_needs, number_among, number_in, program_bound, program_labels, program_needs, seen_at}
+use Rattle.ada_link.specs.Walking.{IsAsTold}
+use Rattle.ada_link.specs.declared.directory.Directory.{Directory}
+use Rattle.ada_link.specs.declared.globals.Globals.{Globals}
+use Rattle.ada_link.specs.declared.walk.Walk.{Walk}
+
+-- ---- bodies stand in the package's body
+
+numbers_behind : (before : ℕ) (ds : List ItemTree) (body : List BodyItemTree) (name : List ℕ)
+    → number_among before (map OfItem ds ++ body) name ≡ number_among before body name
+numbers_behind before [] body name = refl
+numbers_behind before (d ∷ ds) body name = numbers_behind before ds body name
+
+pub numbers_are : (o : Option PackageTree) (name : List ℕ) → number_among 0 (package_bodies o) name ≡ number_among 0 (declared_in o) name
+numbers_are (Some p) name = sym (numbers_behind 0 p.declaration.items p.body.items name)
+numbers_are None name = refl
+
+bodies_behind : (ds : List ItemTree) (body : List BodyItemTree) → bodies_among (map OfItem ds ++ body) ≡ bodies_among body
+bodies_behind [] body = refl
+bodies_behind (d ∷ ds) body = bodies_behind ds body
+
+bodies_are : (o : Option PackageTree) → bodies_among (package_bodies o) ≡ bodies_among (declared_in o)
+bodies_are (Some p) = sym (bodies_behind p.declaration.items p.body.items)
+bodies_are None = refl
+
+no_more : (words : ℕ) → IsRefused 0 0 false refusal.Limit → ⊥
+no_more words (inl h) = absurd (omega (arith, h))
+no_more words (inr (inl h)) = absurd (omega (arith, h))
+no_more words (inr (inr h)) = h
+
+suc_differs : (n : ℕ) → nat_eq (suc n) 0 ≡ false
+suc_differs n = grind arith
+
+nat_differ : (n : ℕ) → (n ≡ 0 → ⊥) → not (nat_eq n 0) ≡ true
+nat_differ zero h = absurd (h refl)
+nat_differ (suc n) h = ap not (suc_differs n)
+
+module _ (t : ProgramTree) where
+  abbrev all : List BodyItemTree
+  all = declared_in t.package_
+
+  abbrev whole : Scope
+  whole = (program_of t).scope
+
+  -- what the tables of a program tell
+  pub directory_told : (g : Globals) (numbers : List (Option ℕ)) (directory : Directory) → AreGlobals whole (package_items t.package_) g
+      → AreNumbered whole (package_bodies t.package_) numbers → directory.slots.items ≡ g.slots.items → directory.numbers.items ≡ numbers
+      → IsDirectory t directory
+  directory_told g numbers directory are numbered slots same = record {
+    slots = λ name. ap (λ l. told_of whole l name) slots ∙ are.slots name;
+    numbers = λ name n seen. ap (λ l. told_of whole l name) same ∙ numbered.told name n seen ∙ numbers_are t.package_ name;
+  }
+
+  -- ---- memory
+
+  pub plain_refused : (why : Refusal) → IsRefused 0 0 false why → RefusesParts t why
+  plain_refused refusal.Memory r = inl (inl tt)
+  plain_refused refusal.Limit r = absurd (no_more 0 r)
+  plain_refused refusal.Outside r = absurd (let never : false ≡ true = r in cc)
+
+  -- ---- protected objects
+
+  pub protected_refused : (protected_count whole ≡ 0 → ⊥) → RefusesParts t refusal.Outside
+  protected_refused h =
+      inl (inl (or_left (not (nat_eq (protected_count whole) 0)) (items_needs t 0 all).outside (nat_differ (protected_count whole) h)))
+
+  -- ---- variables and bodies
+
+  pub globals_refused : (refuses_items whole [] (package_items t.package_) ≡ true → (program_needs t).outside ≡ true) → (why : Refusal)
+      → RefusesGlobals whole [] (package_items t.package_) why → RefusesParts t why
+  globals_refused placed refusal.Memory r = inl (inl tt)
+  globals_refused placed refusal.Limit r = inr (inl r)
+  globals_refused placed refusal.Outside r = inl (inl (placed r))
+
+  pub bodies_refused : (why : Refusal) → HasManyBodies (package_bodies t.package_) why → RefusesParts t why
+  bodies_refused refusal.Memory r = inl (inl tt)
+  bodies_refused refusal.Limit r = inr (inr (inl (inl (let e = bodies_are t.package_ in omega (arith, r, e)))))
+  bodies_refused refusal.Outside r = absurd r
+
+  pub code_refused : (why : Refusal) → RefusesCode t why → RefusesParts t why
+  code_refused why r = inl r
+
+  -- ---- main
+
+  module _ (walk : Walk) (told : IsAsTold t walk) (last : walk.place ≡ length all) where
+    few : here walk.draft.code ≤ total (bounds_from t 0 all)
+    few =
+        subst (λ l. here walk.draft.code ≤ total (bounds_from t 0 l)) (ap (λ n. take n all) last ∙ take_all (length all) all (omega arith)) told.few
+
+    pub labels_told : walk.draft.labels ≡ program_labels t
+    labels_told = told.labels ∙ ap (items_labels []) (ap (λ n. take n all) last ∙ take_all (length all) all (omega arith))
+
+    seen : walk.visible ≡ seen_at t (length all)
+    seen = told.seen ∙ ap (seen_at t) last
+
+    pub main_refused : are_unknown (seen_at t (length all)) t.main.statements ≡ false → (why : Refusal)
+        → RefusesMain walk.visible walk.draft.code t.main.statements (main_bound t.main.statements) why → RefusesParts t why
+    main_refused known why r =
+        inl (inl (needing_refused (here walk.draft.code + main_bound t.main.statements) (program_bound t)
+        (beyond_if (are_unknown walk.visible t.main.statements)) (program_needs t)
+        (up (here walk.draft.code) (total (bounds_from t 0 all)) (main_bound t.main.statements) few)
+        (record {
+          stack = omega arith;
+          frame = omega arith;
+          unfit = λ e. absurd (let never : false ≡ true = e in cc);
+          outside = λ e. absurd (let never = sym (ap (λ v. are_unknown v t.main.statements) seen ∙ known) ∙ e in cc);
+        }) why r))
+      where
+        up : (a s m : ℕ) → a ≤ s → a + m ≤ s + m
+        up a s m h = omega (arith, h)
+
+    -- as many subprograms as bodies
+    pub task_refused : (many : ℕ) → many ≡ bodies_before t walk.place → (why : Refusal) → IsRefused many 0 false why → RefusesParts t why
+    task_refused many is refusal.Memory r = inl (inl tt)
+    task_refused many is refusal.Outside r = absurd (let never : false ≡ true = r in cc)
+    task_refused many is refusal.Limit (inl h) =
+        inr (inr (inl (inl (let e = is ∙ ap bodies_among (ap (λ n. take n all) last ∙ take_all (length all) all (omega arith)) in omega (arith, h, e)))))
+    task_refused many is refusal.Limit (inr (inl h)) = absurd (omega (arith, h))
+    task_refused many is refusal.Limit (inr (inr h)) = absurd h
+
+  -- code that keeps the rules ends within the limit
+  pub row_refused : (end : ℕ) → end ≤ INSTRUCTIONS → (why : Refusal) → IsRefused end 0 false why → RefusesParts t why
+  row_refused end up refusal.Memory r = inl (inl tt)
+  row_refused end up refusal.Outside r = absurd (let never : false ≡ true = r in cc)
+  row_refused end up refusal.Limit (inl h) = absurd (omega (arith, h, up))
+  row_refused end up refusal.Limit (inr (inl h)) = absurd (omega (arith, h))
+  row_refused end up refusal.Limit (inr (inr h)) = absurd h
+
+  -- ---- tables
+
+  module _ (i : Sections) (h : HasProgram t i) (labels : i.labels ≡ program_labels t) where
+    abbrev main_named : Task → Bool
+    main_named x = is_name x.name
+
+    and_true : (b : Bool) → (b && true) ≡ b
+    and_true true = refl
+    and_true false = refl
+
+    texts_are : has_texts i ≡ is_spelled t
+    texts_are =
+        λ j. list_all is_name (exceptions j) && (list_all is_label (labels j) && main_is j)
+      where
+        exceptions : i.exceptions ≡ (program_of t).exceptions
+        exceptions = h.exceptions ∙ h.are.exceptions
+
+        main_is : list_all main_named i.tasks ≡ is_name t.main.name.name
+        main_is = ap (list_all main_named) h.tasks ∙ and_true (is_name t.main.name.name)
+
+    pub texts_refused : has_texts i ≡ false → RefusesParts t refusal.Outside
+    texts_refused missed = inr (inr (inr (sym texts_are ∙ missed)))
+
+    either : (a b : Bool) (C : Type 0) → (a && b) ≡ false → (a ≡ false → C) → (b ≡ false → C) → C
+    either false b C e left right = left refl
+    either true b C e left right = right e
+
+    beyond_ : (n m : ℕ) → nat_le n m ≡ false → m < n
+    beyond_ n m e = grind (arith, e)
+
+    many : length i.subprograms ≡ suc (bodies_among all)
+    many =
+        let a = ap length h.subprograms ∙ length-append h.walk.subprograms.items _ in
+        let b = h.walked.many ∙ ap bodies_among (ap (λ n. take n all) h.whole ∙ take_all (length all) all (omega arith)) in
+        omega (arith, a, b)
+
+    pub limits_refused : is_within_limits i ≡ false → RefusesParts t refusal.Limit
+    limits_refused missed =
+        either (nat_le (length i.subprograms) SUBPROGRAMS) _ (RefusesParts t refusal.Limit) missed
+        (λ e. inr (inr (inl (inl (let up = beyond_ (length i.subprograms) SUBPROGRAMS e in omega (arith, up, many))))))
+        (λ rest. either (nat_le (length i.exceptions) EXCEPTIONS) _ (RefusesParts t refusal.Limit) rest
+        (λ e. inr (inr (inl (inr (subst (λ l. EXCEPTIONS < length l) (h.exceptions ∙ h.are.exceptions) (beyond_ (length i.exceptions) EXCEPTIONS e))))))
+        (λ rest. either (nat_le (length i.labels) LABELS) (nat_le (length i.plain_words) WORDS) (RefusesParts t refusal.Limit) rest
+        (λ e. inl (inr (subst (λ l. LABELS < length l) labels (beyond_ (length i.labels) LABELS e))))
+        (λ e. inr (inl (subst (λ l. WORDS < length l) (h.plain_words ∙ h.are.words) (beyond_ (length i.plain_words) WORDS e))))))
+
+  -- ---- no legal program has too many
+
+  pub few_refused : HasFew t → (why : Refusal) → RefusesParts t why → RefusesProgram t why
+  few_refused few why (inl (inl r)) = inl r
+  few_refused few why (inr (inr r)) = inr r
+  few_refused few refusal.Limit (inl (inr h)) = absurd (let up = few.labels in omega (arith, h, up))
+  few_refused few refusal.Memory (inl (inr h)) = absurd h
+  few_refused few refusal.Outside (inl (inr h)) = absurd h
+  few_refused few refusal.Limit (inr (inl h)) = absurd (let up = few.words in omega (arith, h, up))
+  few_refused few refusal.Memory (inr (inl h)) = absurd h
+  few_refused few refusal.Outside (inr (inl h)) = absurd h

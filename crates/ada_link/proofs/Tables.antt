@@ -1,0 +1,22 @@
+-- An accepted program has no more labels, and its variables no more words, than an image.
+use Rattle.std.proofs.Common.{◌≡◌, []}
+use Rattle.expr_rules.proofs.TypedLaw.{back_empty}
+use Rattle.ada_tree.specs.ProgramTree.{ProgramTree}
+use Rattle.checking.specs.ProgramLayouts.{WordsHaveRoom}
+use Rattle.checking.specs.ProgramRules.{IsLegal}
+use Rattle.size_rules.specs.ProgramSizes.{size_faults}
+use Rattle.ada_link.specs.Laws.{TablesAreSmall}
+use Rattle.ada_link.proofs.InFront.{LawsOfNames}
+use Rattle.ada_link.proofs.LabelsFit.{labels_few}
+use Rattle.ada_link.proofs.WordsFit.{words_few}
+
+sizes_legal : (t : ProgramTree) → IsLegal t → size_faults t ≡ []
+sizes_legal t legal = back_empty _ (size_faults t) legal
+
+pub tables_small : LawsOfNames → WordsHaveRoom → TablesAreSmall
+tables_small laws room t legal restricted =
+    let sizes = sizes_legal t legal in
+    record {
+      labels = labels_few t.package_ sizes;
+      words = words_few laws t legal restricted room sizes;
+    }

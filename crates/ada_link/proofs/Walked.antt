@@ -1,0 +1,304 @@
+-- How far a walk over a package is: in front of it, behind a declaration, and behind a body.
+use Rattle.std.proofs.Common.{◌≡◌, ℕ, zero, suc, ◌+◌, ◌<◌, ◌≤◌, List, [], ◌∷◌, ◌++◌, length, ◌⊎◌, inl, inr, Option, Some, None, refl, sym, ap, ◌∙◌, subst, arith, append-nil, length-append}
+use Rattle.std.proofs.lemmas.Option.{slice_get_within}
+use Rattle.std.specs.Prelude.{slice_get, take}
+use Rattle.ada_tree.specs.declared.expression.Identifier.{Identifier}
+use Rattle.ada_tree.specs.StatementTree.{SubprogramTree}
+use Rattle.ada_tree.specs.ProgramTree.{BodyItemTree, BodyTree, ItemTree, OfItem, ProgramTree, SubprogramBody}
+use Rattle.image.specs.Sections.{end_of}
+use Rattle.image.specs.declared.instruction.Operation.TheVariants as op
+use Rattle.image.specs.declared.subprograms.Subprogram.{Subprogram}
+use Rattle.types.specs.Scopes.{Scope}
+use Rattle.type_rules.specs.ProfileRules.{subprogram_scope}
+use Rattle.declaring.specs.ItemRules.{item_scope}
+use Rattle.legality.specs.MainRules.{item_name}
+use Rattle.meaning.specs.Programs.{program_of}
+use Rattle.sound_programs.proofs.Listing.{same_some}
+use Rattle.sound_programs.proofs.Walked.{scope_next}
+use Rattle.sound_programs.specs.Fronts.{declared_in, front, start_in}
+use Rattle.well_typed.proofs.Positions.{item_kept}
+use Rattle.expr_code.proofs.Growing.{added_extends, extends_trans, get_last}
+use Rattle.expr_code.specs.Code.{Extends, StandsFrom, here}
+use Rattle.expr_code.specs.declared.visible.Visible.{Visible}
+use Rattle.stmt_code.specs.Subprograms.{AddsProcedure, KeepsRules, fresh}
+use Rattle.stmt_code.specs.declared.draft.Draft.{Draft}
+use Rattle.stmt_code.specs.declared.subprogram.SubprogramWords.{SubprogramWords}
+use Rattle.ada_link.specs.Counts.{bodies_among, bodies_before}
+use Rattle.ada_link.specs.Directory.{AreTold, TellsNext}
+use Rattle.ada_link.specs.Laws.{MayBeAdded}
+use Rattle.ada_link.specs.Walking.{AddsBody, AddsSubprogram, AddsValue, BeginsWalk, HasBody, IsKept, IsWalked, begins_at, row_of}
+use Rattle.ada_link.specs.declared.directory.Directory.{Directory}
+use Rattle.ada_link.specs.declared.walk.Walk.{Walk}
+use Rattle.ada_link.proofs.Seen.{first_front}
+use Rattle.ada_link.proofs.Told.{Grows, item_grows, subprogram_grows, told_next, unseen_told}
+
+-- ---- what drafts keep
+
+stands_then : {X : Type 0} (a b c : List X) → StandsFrom 0 a b → StandsFrom 0 b c → StandsFrom 0 a c
+stands_then a b c h k n x up there = k n x up (h n x up there)
+
+pub kept_self : (a : Draft) → IsKept a a
+kept_self a = record { instructions = λ n x up there. there; longer = omega arith; labels = λ n x up there. there }
+
+pub kept_then : (a b c : Draft) → IsKept a b → IsKept b c → IsKept a c
+kept_then a b c h k = record {
+  instructions = stands_then a.code.instructions.items b.code.instructions.items c.code.instructions.items h.instructions k.instructions;
+  longer = (let one = h.longer in let two = k.longer in omega (arith, one, two));
+  labels = stands_then a.labels b.labels c.labels h.labels k.labels;
+}
+
+-- code that extends what is there, with these labels
+kept_by : (old new : Draft) → Extends (fresh old.code) new.code → StandsFrom 0 old.labels new.labels → IsKept old new
+kept_by old new extends labels = record { instructions = extends.instructions; longer = extends.longer; labels = labels }
+
+procedure_kept : (v : Visible) (old new : Draft) (d : SubprogramTree) (b : BodyTree) (words : SubprogramWords) → AddsProcedure v old d.formals b words new
+    → IsKept old new
+procedure_kept v old new d b words adds =
+    kept_by old new
+    (extends_trans (fresh old.code) adds.initial new.code adds.initialises.extends
+    (extends_trans adds.initial adds.run.code new.code adds.runs.extends adds.returns.extends))
+    (subst (StandsFrom 0 old.labels) (sym adds.labels) adds.runs.labels)
+
+abbrev AddsBy : ProgramTree → SubprogramTree → BodyTree → Visible → (old : Draft) → SubprogramWords → (new : Draft) → Option Identifier → Type 0
+AddsBy t d b v old words new o = elim o [ None ↦ AddsProcedure v old d.formals b words new | Some r ↦ AddsValue t d b r v old words new ]
+
+pub adds_kept : (t : ProgramTree) (d : SubprogramTree) (b : BodyTree) (v : Visible) (old new : Draft) (words : SubprogramWords)
+    → AddsSubprogram t d b v old words new → IsKept old new
+adds_kept t d b v old new words adds = by_result d.result adds
+  where
+    by_result : (o : Option Identifier) → AddsBy t d b v old words new o → IsKept old new
+    by_result None h = procedure_kept v old new d b words h
+    by_result (Some r) h =
+        kept_by old new
+        (extends_trans (fresh old.code) h.adds.valued new.code h.adds.emits.extends (added_extends h.adds.valued new.code 1 op.Return h.adds.returns))
+        (subst (StandsFrom 0 old.labels) (sym h.adds.labels) (λ n x up there. there))
+
+-- ---- where subprograms begin
+
+get_front : {X : Type 0} (xs ys : List X) (n : ℕ) → n < length xs → slice_get (xs ++ ys) n ≡ slice_get xs n
+get_front [] ys n h = absurd (omega (arith, h))
+get_front (x ∷ xs) ys zero h = refl
+get_front (x ∷ xs) ys (suc n) h = get_front xs ys n (omega (arith, h))
+
+pub begins_kept : (all more : List Subprogram) (n : ℕ) → n ≤ length all → begins_at (all ++ more) n ≡ begins_at all n
+begins_kept all more zero h = refl
+begins_kept all more (suc n) h = ap end_of (get_front all more n (omega (arith, h)))
+
+begins_behind : (all : List Subprogram) (s : Subprogram) → begins_at (all ++ s ∷ []) (length (all ++ s ∷ [])) ≡ s.end_
+begins_behind all s =
+    let long : length (all ++ s ∷ []) ≡ suc (length all) = (let e = length-append all (s ∷ []) in omega (arith, e)) in
+    ap (begins_at (all ++ s ∷ [])) long ∙ ap end_of (get_last all s)
+
+-- ---- how many bodies there are
+
+among_next : (items : List BodyItemTree) (n : ℕ) (x : BodyItemTree) → slice_get items n ≡ Some x
+    → bodies_among (take (suc n) items) ≡ bodies_among (take n items) + bodies_among (x ∷ [])
+among_next [] n x h = cc
+among_next (y ∷ items) zero x h = (let e = ap (λ z. bodies_among (z ∷ [])) (same_some y x h) in omega (arith, e))
+among_next (SubprogramBody d b ∷ items) (suc n) x h = (let more = among_next items n x h in omega (arith, more))
+among_next (y ∷ items) (suc n) x h = among_next items n x h
+
+-- ---- the walk
+
+abbrev head_of : SubprogramTree → Option BodyItemTree → SubprogramTree
+head_of other (Some (SubprogramBody d b)) = d
+head_of other o = other
+
+abbrev body_of : BodyTree → Option BodyItemTree → BodyTree
+body_of other (Some (SubprogramBody d b)) = b
+body_of other o = other
+
+same_body : (d e : SubprogramTree) (b c : BodyTree) → Some (SubprogramBody d b) ≡ Some (SubprogramBody e c) → (d ≡ e) × (b ≡ c)
+same_body d e b c h = (ap (head_of d) h, ap (body_of b) h)
+
+module _ (t : ProgramTree) (directory : Directory) where
+  abbrev all : List BodyItemTree
+  all = declared_in t.package_
+
+  abbrev whole : Scope
+  whole = (program_of t).scope
+
+  -- how many bodies stand in front of the next place
+  more_before : (place : ℕ) (x : BodyItemTree) → slice_get all place ≡ Some x → bodies_before t (suc place) ≡ bodies_before t place + bodies_among (x ∷ [])
+  more_before place x at = among_next all place x at
+
+  plus_none : (n : ℕ) → n + 0 ≡ n
+  plus_none n = omega arith
+
+  pub walk_begins : (s : Scope) (w : Walk) → BeginsWalk s w → s ≡ start_in t.package_ → IsWalked t directory w
+  walk_begins s w begins is = record {
+    scope = begins.visible.scope ∙ is ∙ sym (ap (front t) begins.place ∙ first_front (start_in t.package_) all);
+    told = unseen_told whole directory s w.visible begins.visible;
+    bodies = λ n d b less at. absurd (let place = begins.place in omega (arith, less, place));
+    end = ap (λ l. begins_at l (length l)) begins.subprograms ∙ sym (ap length begins.instructions);
+    many = ap length begins.subprograms ∙ sym (ap (bodies_before t) begins.place);
+  }
+
+  -- what bodies have stays while more are added
+  moved : (old new : Walk) (place : ℕ) (d : SubprogramTree) (b : BodyTree) (more : List Subprogram) → IsKept old.draft new.draft
+      → new.subprograms.items ≡ old.subprograms.items ++ more
+      → HasBody t directory place d b old → HasBody t directory place d b new
+  moved old new place d b more kept subprograms has =
+      let within = slice_get_within old.subprograms.items has.number (row_of has.words (here has.new.code)) has.there in
+      record {
+        seen = has.seen;
+        scope = has.scope;
+        told = has.told;
+        old = has.old;
+        new = has.new;
+        words = has.words;
+        adds = has.adds;
+        called = has.called;
+        keeps = has.keeps;
+        number = has.number;
+        numbered = has.numbered;
+        counted = has.counted;
+        there = ap (λ l. slice_get l has.number) subprograms
+            ∙ item_kept old.subprograms.items more has.number (row_of has.words (here has.new.code)) has.there;
+        begins = ap (λ l. begins_at l has.number) subprograms ∙ begins_kept old.subprograms.items more has.number (omega (arith, within)) ∙ has.begins;
+        kept = kept_then has.new old.draft new.draft has.kept kept;
+      }
+
+  -- the last of the first places, or one in front of it
+  pub last_or_before : (n k : ℕ) → n < suc k → (n ≡ k) ⊎ (n < k)
+  last_or_before zero zero h = inl refl
+  last_or_before zero (suc k) h = inr (omega arith)
+  last_or_before (suc n) zero h = absurd (omega (arith, h))
+  last_or_before (suc n) (suc k) h = elim (last_or_before n k (omega (arith, h))) [ inl e ↦ inl (ap suc e) | inr e ↦ inr (omega (arith, e)) ]
+
+  -- behind a declaration: nothing was added
+  pub declared_next : (old new : Walk) (i : ItemTree) → IsWalked t directory old → slice_get all old.place ≡ Some (OfItem i)
+      → new.place ≡ old.place + 1 → new.draft ≡ old.draft → new.subprograms ≡ old.subprograms → new.visible.scope ≡ front t (suc old.place)
+      → AreTold whole directory new.visible → IsWalked t directory new
+  declared_next old new i walked at place draft subprograms scope told = record {
+    scope = scope ∙ ap (front t) (sym next);
+    told = told;
+    bodies = λ n d b less there. by_place n d b there (last_or_before n old.place (omega (arith, less, place)));
+    end = ap (λ l. begins_at l.items (length l.items)) subprograms ∙ walked.end ∙ ap (λ z. here z.code) (sym draft);
+    many = ap (λ l. length l.items) subprograms ∙ walked.many ∙ sym (ap (bodies_before t) next ∙ more_before old.place (OfItem i) at ∙ plus_none (bodies_before t old.place));
+  }
+    where
+      next : new.place ≡ suc old.place
+      next = omega (arith, place)
+
+      by_place : (n : ℕ) (d : SubprogramTree) (b : BodyTree) → slice_get all n ≡ Some (SubprogramBody d b) → (n ≡ old.place) ⊎ (n < old.place)
+          → HasBody t directory n d b new
+      by_place n d b there (inl same) = absurd (let both = sym at ∙ ap (slice_get all) (sym same) ∙ there in cc)
+      by_place n d b there (inr less) =
+          moved old new n d b [] (subst (IsKept old.draft) (sym draft) (kept_self old.draft)) (ap (λ l. l.items) subprograms ∙ sym (append-nil old.subprograms.items))
+          (walked.bodies n d b less there)
+
+  -- behind a body, whose code was added where its name is visible
+  pub body_next : (old mid after new : Walk) (d : SubprogramTree) (b : BodyTree) → IsWalked t directory old
+      → slice_get all old.place ≡ Some (SubprogramBody d b)
+      → mid.draft ≡ old.draft → mid.subprograms ≡ old.subprograms → mid.visible.scope ≡ front t (suc old.place) → AreTold whole directory mid.visible
+      → AddsBody t directory d b mid after
+      → new.place ≡ old.place + 1 → new.draft ≡ after.draft → new.subprograms ≡ after.subprograms → new.visible ≡ after.visible
+      → IsWalked t directory new
+  body_next old mid after new d b walked at draft subprograms scope told adds place new_draft new_subprograms new_visible = record {
+    scope = ap (λ v. v.scope) seen ∙ scope ∙ ap (front t) (sym next);
+    told = subst (AreTold whole directory) (sym seen) told;
+    bodies = λ n e c less there. by_place n e c there (last_or_before n old.place (omega (arith, less, place)));
+    end = ap (λ l. begins_at l (length l)) rows ∙ begins_behind old.subprograms.items row ∙ ap (λ z. here z.code) (sym new_draft);
+    many = ap length rows ∙ length-append old.subprograms.items (row ∷ []) ∙ ap (λ n. n + 1) walked.many
+        ∙ sym (ap (bodies_before t) next ∙ more_before old.place (SubprogramBody d b) at);
+  }
+    where
+      next : new.place ≡ suc old.place
+      next = omega (arith, place)
+
+      seen : new.visible ≡ mid.visible
+      seen = new_visible ∙ adds.visible
+
+      row : Subprogram
+      row = row_of adds.words (here after.draft.code)
+
+      rows : new.subprograms.items ≡ old.subprograms.items ++ row ∷ []
+      rows = ap (λ l. l.items) new_subprograms ∙ adds.row ∙ ap (λ l. l.items ++ row ∷ []) subprograms
+
+      added : AddsSubprogram t d b mid.visible old.draft adds.words new.draft
+      added =
+          subst (AddsSubprogram t d b mid.visible old.draft adds.words) (sym new_draft)
+          (subst (λ z. AddsSubprogram t d b mid.visible z adds.words after.draft) draft adds.adds)
+
+      kept : IsKept old.draft new.draft
+      kept = adds_kept t d b mid.visible old.draft new.draft adds.words added
+
+      keeps : KeepsRules mid.visible old.draft adds.words new.draft
+      keeps =
+          subst (KeepsRules mid.visible old.draft adds.words) (sym new_draft)
+          (subst (λ z. KeepsRules mid.visible z adds.words after.draft) draft adds.keeps)
+
+      this : HasBody t directory old.place d b new
+      this = record {
+        seen = mid.visible;
+        scope = scope;
+        told = told;
+        old = old.draft;
+        new = new.draft;
+        words = adds.words;
+        adds = added;
+        called = adds.called;
+        keeps = keeps;
+        number = length old.subprograms.items;
+        numbered = adds.numbered ∙ ap (λ l. Some (length l.items)) subprograms;
+        counted = walked.many;
+        there = ap (λ l. slice_get l (length old.subprograms.items)) rows ∙ get_last old.subprograms.items row
+            ∙ ap (λ z. Some (row_of adds.words (here z.code))) (sym new_draft);
+        begins = ap (λ l. begins_at l (length old.subprograms.items)) rows
+            ∙ begins_kept old.subprograms.items (row ∷ []) (length old.subprograms.items) (omega arith) ∙ walked.end;
+        kept = kept_self new.draft;
+      }
+
+      by_place : (n : ℕ) (e : SubprogramTree) (c : BodyTree) → slice_get all n ≡ Some (SubprogramBody e c) → (n ≡ old.place) ⊎ (n < old.place)
+          → HasBody t directory n e c new
+      by_place n e c there (inl same) =
+          let both = same_body d e b c (sym at ∙ ap (slice_get all) (sym same) ∙ there) in
+          subst (λ k. HasBody t directory k e c new) (sym same)
+          (subst (λ z. HasBody t directory old.place z c new) both.0 (subst (λ z. HasBody t directory old.place d z new) both.1 this))
+      by_place n e c there (inr less) = moved old new n e c (row ∷ []) kept rows (walked.bodies n e c less there)
+
+  -- behind what code does there
+  pub declared_goes : (old new : Walk) (i : ItemTree) (scope told_in : Scope) (name : Identifier) (later : Visible) → IsWalked t directory old
+      → slice_get all old.place ≡ Some (OfItem i)
+      → scope ≡ item_scope old.visible.scope i → told_in ≡ whole → name ≡ item_name i
+      → TellsNext told_in directory (record old.visible { scope = scope }) name.name later
+      → new.visible ≡ later → new.place ≡ old.place + 1 → new.draft ≡ old.draft → new.subprograms ≡ old.subprograms
+      → IsWalked t directory new
+  declared_goes old new i scope told_in name later walked at goes whole_is named next visible place draft subprograms =
+      let seen : Visible = record old.visible { scope = scope } in
+      let tells : TellsNext whole directory seen (item_name i).name later =
+      subst (λ n. TellsNext whole directory seen n.name later) named (subst (λ s. TellsNext s directory seen name.name later) whole_is next) in
+      declared_next old new i walked at place draft subprograms
+      (ap (λ v. v.scope) visible ∙ tells.scope ∙ goes ∙ ap (λ s. item_scope s i) walked.scope
+      ∙ sym (scope_next (start_in t.package_) all old.place (OfItem i) at))
+      (subst (AreTold whole directory) (sym visible)
+      (told_next whole directory old.visible seen later (item_name i).name walked.told refl refl
+      (subst (Grows old.visible.scope (item_name i).name) (sym goes) (item_grows old.visible.scope i)) tells))
+
+  module _ (old : Walk) (d : SubprogramTree) (b : BodyTree) (scope told_in : Scope) (later : Visible) (walked : IsWalked t directory old)
+      (at : slice_get all old.place ≡ Some (SubprogramBody d b)) (goes : scope ≡ subprogram_scope old.visible.scope d) (whole_is : told_in ≡ whole)
+      (next : TellsNext told_in directory (record old.visible { scope = scope }) d.name.name later) where
+    abbrev seen : Visible
+    seen = record old.visible { scope = scope }
+
+    tells : TellsNext whole directory seen d.name.name later
+    tells = subst (λ s. TellsNext s directory seen d.name.name later) whole_is next
+
+    pub scope_there : later.scope ≡ front t (suc old.place)
+    scope_there =
+        tells.scope ∙ goes ∙ ap (λ s. subprogram_scope s d) walked.scope ∙ sym (scope_next (start_in t.package_) all old.place (SubprogramBody d b) at)
+
+    pub may_be_added : MayBeAdded t (front t (suc old.place)) d b → MayBeAdded t later.scope d b
+    may_be_added added = subst (λ s. MayBeAdded t s d b) (sym scope_there) added
+
+    pub body_goes : (mid after new : Walk) → mid.visible ≡ later → mid.draft ≡ old.draft → mid.subprograms ≡ old.subprograms
+        → AddsBody t directory d b mid after
+        → new.place ≡ old.place + 1 → new.draft ≡ after.draft → new.subprograms ≡ after.subprograms → new.visible ≡ after.visible
+        → IsWalked t directory new
+    body_goes mid after new visible draft subprograms adds place new_draft new_subprograms new_visible =
+        body_next old mid after new d b walked at draft subprograms (ap (λ v. v.scope) visible ∙ scope_there)
+        (subst (AreTold whole directory) (sym visible)
+        (told_next whole directory old.visible seen later d.name.name walked.told refl refl
+        (subst (Grows old.visible.scope d.name.name) (sym goes) (subprogram_grows old.visible.scope d)) tells))
+        adds place new_draft new_subprograms new_visible

@@ -1,0 +1,201 @@
+-- What was put together from an accepted program is well-formed: its code keeps the rules, and so do its tables.
+use Rattle.std.proofs.Common.{◌≡◌, ℕ, suc, ◌+◌, ◌≤◌, pos, negsuc, List, [], ◌∷◌, ◌++◌, length, Bool, true, false, ◌&&◌, ◌||◌, not, Option, Some, None, refl, sym, ap, ◌∙◌, subst, arith}
+use Rattle.std.specs.Prelude.{bytes_eq, nat_le, slice_get, sum_by}
+use Rattle.std.specs.List.{list_all}
+use Rattle.std.proofs.lemmas.Bool.{and_from, and_parts, le-leb, leb-true, lt-ltb}
+use Rattle.base.specs.Names.{is_label, is_name, predefined}
+use Rattle.base.specs.declared.limits.TheConstants.{EXCEPTIONS, INSTRUCTIONS, LABELS, OBJECTS, ROWS, SUBPROGRAMS, TASK_PRIORITY, TASKS, WORDS}
+use Rattle.ada_tree.specs.StatementTree.{AspectTree}
+use Rattle.ada_tree.specs.ProgramTree.{ProgramTree}
+use Rattle.image.specs.RuleLaws.{list_all-at}
+use Rattle.image.specs.Rules.{IsWellFormed, all_begun, all_nested, all_placed, begins_with, covers_places, depths_agree, has_body, has_counts, has_depth, has_ends, has_entry, has_object, in_holder, is_closed, is_object, is_row_within, is_subprogram, is_task, is_task_body, is_within, jumps_stay_inside, jumps_within, keeps_depth, named_things_exist, names_things, none_or, tables_agree, where_ends}
+use Rattle.image.specs.Sections.{Sections}
+use Rattle.image.specs.declared.tasks.Task.{Task}
+use Rattle.types.specs.Scopes.{Scope, integer_type}
+use Rattle.types.specs.Values.{Array, Number, Record, Truth, Value}
+use Rattle.expr_rules.specs.StaticRules.{static_scalar}
+use Rattle.expr_rules.specs.declared.own.Wanted.TheVariants as wanted
+use Rattle.declaring.specs.TaskRules.{default_priority, priority_of, priority_within}
+use Rattle.meaning.specs.Programs.{base_priority, exceptions_among, package_items, program_of}
+use Rattle.sound_programs.proofs.WiderScopes.{bytes_same}
+use Rattle.expr_code.specs.Code.{here}
+use Rattle.stmt_code.specs.Whole.{KeptCodePasses, PassesOnCode}
+use Rattle.ada_link.specs.Laws.{SectionsAreWellFormed}
+use Rattle.ada_link.specs.Program.{HasProgram, KeepsTables}
+use Rattle.ada_link.proofs.InFront.{LawsOfNames}
+use Rattle.ada_link.proofs.KeptCode.{code_passes, long}
+use Rattle.ada_link.proofs.Linking.{called_main}
+
+-- ---- tests
+
+-- asked only where another holds
+asked : (a b : Bool) → b ≡ true → (not a || b) ≡ true
+asked true b h = h
+asked false b h = refl
+
+begun_with : (front more : List (List ℕ)) → begins_with front (front ++ more) ≡ true
+begun_with [] more = refl
+begun_with (name ∷ front) more = and_from (bytes_eq name name) (begins_with front (front ++ more)) (bytes_same name) (begun_with front more)
+
+-- ---- the priority of main
+
+within_low : (highest other : ℕ) (v : Option Value) → other ≤ highest → priority_within highest other v ≤ highest
+within_low highest other (Some (Number (pos n))) h = by_test (nat_le n highest) refl
+  where
+    by_test : (b : Bool) → nat_le n highest ≡ b → elim b [ true ↦ n | false ↦ other ] ≤ highest
+    by_test true e = leb-true n highest e
+    by_test false e = h
+within_low highest other (Some (Number (negsuc n))) h = h
+within_low highest other (Some (Truth b)) h = h
+within_low highest other (Some (Array vs)) h = h
+within_low highest other (Some (Record fs)) h = h
+within_low highest other None h = h
+
+aspect_low : (s : Scope) (highest other : ℕ) (aspect : Option AspectTree) → other ≤ highest → priority_of s highest other aspect ≤ highest
+aspect_low s highest other (Some a) h = within_low highest other (static_scalar s (wanted.OfType integer_type) None a.value) h
+aspect_low s highest other None h = h
+
+priority_low : (s : Scope) (aspect : Option AspectTree) → base_priority s aspect ≤ TASK_PRIORITY
+priority_low s aspect = aspect_low s TASK_PRIORITY default_priority aspect (omega arith)
+
+-- ---- the image
+
+module _ (t : ProgramTree) (i : Sections) (h : HasProgram t i) (tables : KeepsTables i) (many : length i.subprograms ≡ suc (length h.walk.subprograms.items))
+    (p : PassesOnCode i) where
+  abbrev task : Task
+  task = record {
+    name = t.main.name.name;
+    priority = base_priority (program_of t).scope t.main.aspect;
+    subprogram = length h.walk.subprograms.items;
+  }
+
+  -- ---- code
+
+  jumps : jumps_stay_inside i ≡ true
+  jumps =
+      and_from (list_all covers_places i.rows) _ (ap (list_all covers_places) h.rows)
+      (asked (has_ends i) (all_placed (jumps_within i) 0 i.instructions && (list_all (is_closed i) i.subprograms && list_all (is_row_within i) i.rows))
+      (and_from (all_placed (jumps_within i) 0 i.instructions) _ p.jumps
+      (and_from (list_all (is_closed i) i.subprograms) (list_all (is_row_within i) i.rows) p.closed (ap (list_all (is_row_within i)) h.rows))))
+
+  main_there : list_all (has_body i) i.tasks ≡ true
+  main_there =
+      ap (list_all (has_body i)) h.tasks
+      ∙ and_from (has_body i task) true (lt-ltb task.subprogram (length i.subprograms) (omega (arith, many))) refl
+
+  named : named_things_exist i ≡ true
+  named =
+      let there = all_placed (λ place x. in_holder i place (λ s. names_things i s x.operation)) 0 i.instructions in
+      and_from (where_ends i there) _ (asked (has_ends i) there p.named)
+      (and_from (list_all (has_object i) i.subprograms) _ p.have_objects
+      (and_from (list_all (has_entry i) i.objects) (list_all (has_body i) i.tasks) (ap (list_all (has_entry i)) h.objects) main_there))
+
+  depths : depths_agree i ≡ true
+  depths =
+      let kept = all_placed (λ place x. in_holder i place (keeps_depth i place x)) 0 i.instructions in
+      let empty = all_begun (λ first s. has_depth i first 0) 0 i.subprograms in
+      let targets = list_all (λ r. has_depth i r.target 1) i.rows in
+      asked (has_ends i) (kept && (empty && targets))
+      (and_from kept (empty && targets) p.depths (and_from empty targets p.empty (ap (list_all (λ r. has_depth i r.target 1)) h.rows)))
+
+  -- ---- tables
+
+  exceptions_named : list_all is_name i.exceptions ≡ true
+  exceptions_named = (and_parts (list_all is_name i.exceptions) _ tables.texts).0
+
+  labels_spelled : list_all is_label i.labels ≡ true
+  labels_spelled = (and_parts (list_all is_label i.labels) _ (and_parts (list_all is_name i.exceptions) _ tables.texts).1).0
+
+  main_named : is_name t.main.name.name ≡ true
+  main_named =
+      list_all-at (λ t. is_name t.name) i.tasks 0 task
+      (and_parts (list_all is_label i.labels) _ (and_parts (list_all is_name i.exceptions) _ tables.texts).1).1
+      (ap (λ l. slice_get l 0) h.tasks)
+
+  main_right : list_all (is_task i) i.tasks ≡ true
+  main_right =
+      let body = none_or (slice_get i.subprograms task.subprogram) (λ s. is_task_body s.kind) in
+      ap (list_all (is_task i)) h.tasks
+      ∙ and_from (is_task i task) true
+      (and_from (is_name task.name) (nat_le task.priority TASK_PRIORITY && body) main_named
+      (and_from (nat_le task.priority TASK_PRIORITY) body
+      (le-leb task.priority TASK_PRIORITY (priority_low (program_of t).scope t.main.aspect))
+      (ap (λ o. none_or o (λ s. is_task_body s.kind)) (called_main t i h))))
+      refl
+
+  exceptions_are : i.exceptions ≡ predefined ++ exceptions_among (package_items t.package_)
+  exceptions_are = h.exceptions ∙ h.are.exceptions
+
+  four : 4 ≤ length i.exceptions
+  four =
+      let e = ap length exceptions_are in
+      let f : length (predefined ++ exceptions_among (package_items t.package_)) ≡ suc (suc (suc (suc (length (exceptions_among (package_items t.package_)))))) =
+      refl in
+      omega (arith, e, f)
+
+  some_code : 1 ≤ length i.instructions
+  some_code =
+      let e : length i.instructions ≡ here h.draft.code = ap length h.instructions in
+      let end = h.keeps.end in
+      omega (arith, e, end)
+
+  few_code : length i.instructions ≤ INSTRUCTIONS
+  few_code =
+      let e : length i.instructions ≡ here h.draft.code = ap length h.instructions in
+      subst (λ n. n ≤ INSTRUCTIONS) (sym e) h.keeps.few
+
+  counts : has_counts i ≡ true
+  counts =
+      let a = is_within 1 (length i.instructions) INSTRUCTIONS in
+      let b = is_within 1 (length i.subprograms) SUBPROGRAMS in
+      let c = is_within 1 (length i.tasks) TASKS in
+      let d = is_within 4 (length i.exceptions) EXCEPTIONS in
+      let e = nat_le (length i.objects) OBJECTS in
+      let f = nat_le (length i.rows) ROWS in
+      let g = nat_le (length i.labels) LABELS in
+      let k = nat_le (length i.plain_words + sum_by (λ o. length o.words) i.objects) WORDS in
+      let few = and_parts (nat_le (length i.subprograms) SUBPROGRAMS) _ tables.limits in
+      let fewer = and_parts (nat_le (length i.exceptions) EXCEPTIONS) _ few.1 in
+      let last = and_parts (nat_le (length i.labels) LABELS) (nat_le (length i.plain_words) WORDS) fewer.1 in
+      let words : length i.plain_words + sum_by (λ o. length o.words) i.objects ≡ length i.plain_words + 0 =
+      ap (λ l. length i.plain_words + sum_by (λ o. length o.words) l) h.objects in
+      and_from a (b && (c && (d && (e && (f && (g && k))))))
+      (and_from (nat_le 1 (length i.instructions)) (nat_le (length i.instructions) INSTRUCTIONS) (le-leb 1 (length i.instructions) some_code)
+      (le-leb (length i.instructions) INSTRUCTIONS few_code))
+      (and_from b (c && (d && (e && (f && (g && k)))))
+      (and_from (nat_le 1 (length i.subprograms)) (nat_le (length i.subprograms) SUBPROGRAMS) (le-leb 1 (length i.subprograms) (omega (arith, many))) few.0)
+      (and_from c (d && (e && (f && (g && k)))) (ap (λ l. is_within 1 (length l) TASKS) h.tasks)
+      (and_from d (e && (f && (g && k)))
+      (and_from (nat_le 4 (length i.exceptions)) (nat_le (length i.exceptions) EXCEPTIONS) (le-leb 4 (length i.exceptions) four) fewer.0)
+      (and_from e (f && (g && k)) (ap (λ l. nat_le (length l) OBJECTS) h.objects)
+      (and_from f (g && k) (ap (λ l. nat_le (length l) ROWS) h.rows)
+      (and_from g k last.0
+      (ap (λ n. nat_le n WORDS) (words ∙ (let none : length i.plain_words + 0 ≡ length i.plain_words = omega arith in none)) ∙ last.1)))))))
+
+  tables_whole : tables_agree i ≡ true
+  tables_whole =
+      let d = all_placed (is_subprogram i) 0 i.subprograms in
+      let e = all_placed (is_object i) 0 i.objects in
+      let f = list_all (is_task i) i.tasks in
+      let g = begins_with predefined i.exceptions in
+      let j = list_all is_name i.exceptions in
+      let k = list_all is_label i.labels in
+      let m = list_all (λ r. nat_le r.exception (length i.exceptions)) i.rows in
+      let o = all_nested i.rows in
+      and_from (has_counts i) (has_ends i && (d && (e && (f && (g && (j && (k && (m && o)))))))) counts
+      (and_from (has_ends i) (d && (e && (f && (g && (j && (k && (m && o))))))) p.ends
+      (and_from d (e && (f && (g && (j && (k && (m && o)))))) p.subprograms
+      (and_from e (f && (g && (j && (k && (m && o))))) (ap (all_placed (is_object i) 0) h.objects)
+      (and_from f (g && (j && (k && (m && o)))) main_right
+      (and_from g (j && (k && (m && o)))
+      (ap (begins_with predefined) exceptions_are ∙ begun_with predefined (exceptions_among (package_items t.package_)))
+      (and_from j (k && (m && o)) exceptions_named
+      (and_from k (m && o) labels_spelled
+      (and_from m o (ap (list_all (λ r. nat_le r.exception (length i.exceptions))) h.rows) (ap all_nested h.rows)))))))))
+
+  pub well_formed : IsWellFormed i
+  well_formed = record { operands = p.operands; jumps = jumps; named = named; depths = depths; tables = tables_whole }
+
+pub sections_well_formed : LawsOfNames → KeptCodePasses → SectionsAreWellFormed
+sections_well_formed laws passes t i legal restricted h tables =
+    well_formed t i h tables (long laws passes t legal restricted i h) (code_passes laws passes t legal restricted i h)

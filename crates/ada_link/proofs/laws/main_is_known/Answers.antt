@@ -1,0 +1,14 @@
+use Rattle.ada_link.proofs.MainKnown.{main_is_known}
+use Rattle.ada_link.proofs.laws.main_is_known.Goals as goal
+
+pub returns : goal.returns
+returns c =
+    main_is_known (record {
+      sized = c.values_have_words.ensures;
+      stay = c.shapes_stay.ensures;
+      scopes = c.scopes_are_sound.ensures;
+      names = c.names_are_known.ensures;
+      premises = c.premises_hold.ensures;
+      starts = c.starts_are_sound.ensures;
+      fronts = c.fronts_fit.ensures;
+    })

@@ -1,0 +1,15 @@
+use Rattle.ada_link.proofs.Linking.{sections_mean_the_same}
+use Rattle.ada_link.proofs.laws.sections_mean_the_same.Goals as goal
+
+pub returns : goal.returns
+returns c =
+    sections_mean_the_same (record {
+      sized = c.values_have_words.ensures;
+      stay = c.shapes_stay.ensures;
+      scopes = c.scopes_are_sound.ensures;
+      names = c.names_are_known.ensures;
+      premises = c.premises_hold.ensures;
+      starts = c.starts_are_sound.ensures;
+      fronts = c.fronts_fit.ensures;
+    })
+    c.quiet_stays.ensures c.initial_values_have_shape.ensures c.code_leads_on.ensures.size c.linked_means_the_same.ensures c.linked_keeps_count.ensures

@@ -1,0 +1,160 @@
+use Rattle.std.proofs.Common.{◌≡◌, ℕ, ◌∷◌, ◌++◌, [], inl, length, refl, rules, sym, ap, ◌∙◌, subst}
+use Rattle.ada_tree.specs.StatementTree.{optional_tree}
+use Rattle.ada_tree.specs.ProgramTree.{package_tree, program_tree}
+use Rattle.image.specs.declared.tasks.Task.{Task}
+use Rattle.declaring.specs.ProtectedRules.{protected_count}
+use Rattle.meaning.specs.Programs.{base_priority, package_bodies, package_items, program_of}
+use Rattle.well_typed.specs.SoundScopes.{SoundScope}
+use Rattle.sound_programs.specs.Fronts.{front}
+use Rattle.stmt_code.specs.Subprograms.{AddsMain, CallsProcedures}
+use Rattle.expr_code.specs.Code.{here}
+use Rattle.stmt_code.specs.Bounds.{main_bound}
+use Rattle.stmt_code.specs.Refusing.{RefusesMain}
+use Rattle.expr_code.specs.declared.refusal.Refusal.TheVariants as refusal
+use Rattle.ada_link.specs.Refusing.{RefusesParts}
+use Rattle.ada_link.specs.Directory.{AreNumbered, HasManyBodies}
+use Rattle.ada_link.specs.Globals.{AreGlobals, RefusesGlobals}
+use Rattle.ada_link.proofs.Refusals.{bodies_refused, code_refused, directory_told, globals_refused, labels_told, main_refused, plain_refused, protected_refused, row_refused, task_refused}
+use Rattle.ada_link.proofs.program.put_together.Goals as goal
+
+pub globals_of-requires : goal.globals_of-requires
+globals_of-requires c = record {
+  sound = subst SoundScope (sym c.scope-scope.ensures)
+      (c.names_are_sound.ensures (program_tree c.args.accepted.now) c.program-program.ensures.legal);
+}
+
+pub walk_over-requires : goal.walk_over-requires
+walk_over-requires c =
+    let t = program_tree c.args.accepted.now in
+    let g = c.in_ok-slots.field-0 in
+    let are = subst (λ z. AreGlobals z (package_items t.package_) g) c.scope-scope.ensures
+    (subst (λ p. AreGlobals c.scope-scope.result.now (package_items (optional_tree package_tree p.package_)) g) c.program-program.ensures.same
+    c.in_ok-slots.ensures.globals) in
+    let numbered = subst (λ z. AreNumbered z (package_bodies t.package_) c.in_ok-numbers.numbers.items) c.scope-scope.ensures
+    (subst (λ p. AreNumbered c.scope-scope.result.now (package_bodies (optional_tree package_tree p.package_)) c.in_ok-numbers.numbers.items)
+    c.program-program.ensures.same c.in_ok-numbers.ensures.numbered) in
+    record { directory = directory_told t g c.in_ok-numbers.numbers.items _ are numbered refl refl }
+
+pub main-requires : goal.main-requires
+main-requires c =
+    let t = program_tree c.args.accepted.now in
+    let s = c.in_ok-walk.walk.visible.scope in
+    record {
+      called = subst (CallsProcedures s) (sym (c.deref.ensures.value ∙ ap (λ p. p.main.statements.items) c.program-program.ensures.same))
+          (subst (λ z. CallsProcedures z t.main.statements) (sym (c.in_ok-walk.ensures.walked.scope ∙ ap (front t) c.in_ok-walk.ensures.whole))
+          (c.main_may_be_added.ensures t c.program-program.ensures.legal c.program-program.ensures.restricted));
+    }
+
+pub returns-clause-program : goal.returns-clause-program
+returns-clause-program c =
+    let t = program_tree c.args.accepted.now in
+    let walk = c.in_ok-walk.walk in
+    let words = c.in_ok-main.main in
+    let draft = c.main.new.self in
+    let none : c.protected_count.result ≡ 0 = search rules in
+    let number : c.len.result ≡ length walk.subprograms.items = search rules in
+    let task : Task = c.in_ok-main_task.field-0 in
+    let task_at : ℕ → Task = λ n.
+    record { name = t.main.name.name; priority = base_priority (program_of t).scope t.main.aspect; subprogram = n } in
+    record {
+      globals = c.in_ok-slots.field-0;
+      are = subst (λ z. AreGlobals z (package_items t.package_) c.in_ok-slots.field-0) c.scope-scope.ensures
+          (subst (λ p. AreGlobals c.scope-scope.result.now (package_items (optional_tree package_tree p.package_)) c.in_ok-slots.field-0)
+          c.program-program.ensures.same c.in_ok-slots.ensures.globals);
+      directory = record { slots = c.in_ok-slots.field-0.slots; numbers = c.in_ok-numbers.numbers };
+      slots = refl;
+      walk = walk;
+      walked = c.in_ok-walk.ensures.walked;
+      whole = c.in_ok-walk.ensures.whole;
+      draft = draft;
+      words = words;
+      main = subst (λ l. AddsMain walk.visible walk.draft l words draft)
+          (c.deref.ensures.value ∙ ap (λ p. p.main.statements.items) c.program-program.ensures.same) c.in_ok-main.ensures.adds;
+      keeps = c.in_ok-main.ensures.keeps;
+      unprotected = sym (ap protected_count c.scope-scope.ensures) ∙ sym c.protected_count.ensures.count ∙ none;
+      exceptions = refl;
+      labels = c.in_ok-texts.ensures.texts;
+      plain_words = refl;
+      objects = c.new.ensures.items;
+      subprograms = c.in_ok-push-2.ensures.items ∙ ap (λ x. walk.subprograms.items ++ x ∷ []) c.in_ok-row.ensures.row;
+      tasks = subst (λ n. c.push.new.self.items ≡ task_at n ∷ []) number
+          (c.in_ok-push.ensures.items ∙ ap (λ l. l ++ task ∷ []) c.new-tasks.ensures.items ∙ ap (λ x. x ∷ []) c.in_ok-main_task.ensures.task);
+      rows = c.new-2.ensures.items;
+      instructions = refl;
+    }
+
+pub returns-clause-labels : goal.returns-clause-labels
+returns-clause-labels c =
+    let t = program_tree c.args.accepted.now in
+    c.in_ok-texts.ensures.texts ∙ c.in_ok-main.ensures.adds.labels ∙ labels_told t c.in_ok-walk.walk c.in_ok-walk.ensures.told c.in_ok-walk.ensures.whole
+
+pub returns-then-protected_count-ne0-clause-refused : goal.returns-then-protected_count-ne0-clause-refused
+returns-then-protected_count-ne0-clause-refused c =
+    protected_refused (program_tree c.args.accepted.now)
+    (λ none.
+    let none_there : c.protected_count.result ≡ 0 = c.protected_count.ensures.count ∙ ap protected_count c.scope-scope.ensures ∙ none in
+    c.if-protected_count-ne0.true none_there)
+
+pub returns-in_err-slots-clause-refused : goal.returns-in_err-slots-clause-refused
+returns-in_err-slots-clause-refused c =
+    let t = program_tree c.args.accepted.now in
+    let why = c.in_err-slots.field-0.0 in
+    let whole = globals_refused t (c.variables_are_placed.ensures t c.program-program.ensures.legal c.program-program.ensures.restricted) why
+    (subst (λ z. RefusesGlobals z [] (package_items t.package_) why) c.scope-scope.ensures
+    (subst (λ p. RefusesGlobals c.scope-scope.result.now [] (package_items (optional_tree package_tree p.package_)) why) c.program-program.ensures.same
+    c.in_err-slots.ensures.refused)) in
+    search (rules, whole, c.from_residual.ensures)
+
+pub returns-in_err-numbers-clause-refused : goal.returns-in_err-numbers-clause-refused
+returns-in_err-numbers-clause-refused c =
+    let t = program_tree c.args.accepted.now in
+    let why = c.in_err-numbers.field-0.0 in
+    let whole = bodies_refused t why
+    (subst (λ p. HasManyBodies (package_bodies (optional_tree package_tree p.package_)) why) c.program-program.ensures.same c.in_err-numbers.ensures.refused) in
+    search (rules, whole, c.from_residual-in_err-numbers.ensures)
+
+pub returns-in_err-walk-clause-refused : goal.returns-in_err-walk-clause-refused
+returns-in_err-walk-clause-refused c =
+    let whole = code_refused (program_tree c.args.accepted.now) c.in_err-walk.field-0.0 c.in_err-walk.ensures.refused in
+    search (rules, whole, c.from_residual-in_err-walk.ensures)
+
+pub returns-in_err-main-clause-refused : goal.returns-in_err-main-clause-refused
+returns-in_err-main-clause-refused c =
+    let t = program_tree c.args.accepted.now in
+    let why = c.in_err-main.field-0.0 in
+    let walk = c.in_ok-walk.walk in
+    let whole = main_refused t walk c.in_ok-walk.ensures.told c.in_ok-walk.ensures.whole
+    (c.main_is_known.ensures t c.program-program.ensures.legal c.program-program.ensures.restricted) why
+    (subst (λ l. RefusesMain walk.visible walk.draft.code l (main_bound l) why)
+    (c.deref.ensures.value ∙ ap (λ p. p.main.statements.items) c.program-program.ensures.same) c.in_err-main.ensures.refused) in
+    search (rules, whole, c.from_residual-in_err-main.ensures)
+
+pub returns-in_err-main_task-clause-refused : goal.returns-in_err-main_task-clause-refused
+returns-in_err-main_task-clause-refused c =
+    let t = program_tree c.args.accepted.now in
+    let walk = c.in_ok-walk.walk in
+    let many : c.len.result ≡ length walk.subprograms.items = search rules in
+    let whole = task_refused t walk c.in_ok-walk.ensures.told c.in_ok-walk.ensures.whole c.len.result (many ∙ c.in_ok-walk.ensures.walked.many)
+    c.in_err-main_task.field-0.0 c.in_err-main_task.ensures.refused in
+    search (rules, whole, c.from_residual-in_err-main_task.ensures)
+
+pub returns-in_err-row-clause-refused : goal.returns-in_err-row-clause-refused
+returns-in_err-row-clause-refused c =
+    let whole = row_refused (program_tree c.args.accepted.now) (here c.main.new.self.code) c.in_ok-main.ensures.keeps.few c.in_err-row.field-0.0
+    c.in_err-row.ensures.refused in
+    search (rules, whole, c.from_residual-in_err-row.ensures)
+
+pub returns-in_err-texts-clause-refused : goal.returns-in_err-texts-clause-refused
+returns-in_err-texts-clause-refused c =
+    let whole = plain_refused (program_tree c.args.accepted.now) c.in_err-texts.field-0.0 c.in_err-texts.ensures.refused in
+    search (rules, whole, c.from_residual-in_err-texts.ensures)
+
+pub returns-in_err-push-clause-refused : goal.returns-in_err-push-clause-refused
+returns-in_err-push-clause-refused c =
+    let memory : RefusesParts (program_tree c.args.accepted.now) refusal.Memory = inl (inl tt) in
+    search (rules, memory, c.from_residual-in_err-push.ensures)
+
+pub returns-in_err-push-2-clause-refused : goal.returns-in_err-push-2-clause-refused
+returns-in_err-push-2-clause-refused c =
+    let memory : RefusesParts (program_tree c.args.accepted.now) refusal.Memory = inl (inl tt) in
+    search (rules, memory, c.from_residual-in_err-push-2.ensures)

@@ -1,0 +1,120 @@
+//! The laws of code that is put together from a program, each what a function without work ensures.
+ghost use Rattle.ada_link.specs.Laws.{BodiesAreNumbered, BodiesMayBeAdded, MainIsKnown, MainMayBeAdded, NamesAreSound, SectionsAreBounded, SectionsAreWellFormed, SectionsMeanTheSame, TablesAreSmall, VariablesArePlaced};
+
+use crate::link_laws::{linked_keeps_count, linked_means_the_same};
+use checking::laws::words_have_room;
+use image_laws::code_leads_on;
+use kernel::laws::quiet_stays;
+use sound_programs::body_laws::{fronts_fit, names_are_known, premises_hold};
+use sound_programs::program_laws::starts_are_sound;
+use stmt_code::laws::kept_code_passes;
+use types::laws::{initial_values_have_shape, shapes_stay, values_have_words};
+use well_typed::laws::scopes_are_sound;
+
+/// The names of an accepted program are sound.
+pub fn names_are_sound()
+    ensures { NamesAreSound }
+{
+    premises_hold();
+}
+
+/// What the methods ask that add the code of bodies is so of each body of an accepted program.
+pub fn bodies_may_be_added()
+    ensures { BodiesMayBeAdded }
+{
+    names_are_known();
+    premises_hold();
+    scopes_are_sound();
+}
+
+/// Each body of an accepted program has the number of its name, since no two of them have one name.
+pub fn bodies_are_numbered()
+    ensures { BodiesAreNumbered }
+{
+    premises_hold();
+}
+
+/// Each variable of an accepted program has a place of its own, since no two of them have one name.
+pub fn variables_are_placed()
+    ensures { VariablesArePlaced }
+{
+    premises_hold();
+}
+
+/// An accepted program has no more labels and words of variables than an image (docs/LANGUAGE.md, "Limits").
+pub fn tables_are_small()
+    ensures { TablesAreSmall }
+{
+    fronts_fit();
+    names_are_known();
+    premises_hold();
+    scopes_are_sound();
+    shapes_stay();
+    starts_are_sound();
+    values_have_words();
+    words_have_room();
+}
+
+/// Each procedure that main of an accepted program calls has a body, and so a number.
+pub fn main_is_known()
+    ensures { MainIsKnown }
+{
+    fronts_fit();
+    names_are_known();
+    premises_hold();
+    scopes_are_sound();
+    shapes_stay();
+    starts_are_sound();
+    values_have_words();
+}
+
+/// Main of an accepted program calls procedures of the package without parameters.
+pub fn main_may_be_added()
+    ensures { MainMayBeAdded }
+{
+    fronts_fit();
+    names_are_known();
+    premises_hold();
+    scopes_are_sound();
+    shapes_stay();
+    starts_are_sound();
+    values_have_words();
+}
+
+/// A well-formed image that was put together from an accepted program has its meaning, and keeps the count of steps.
+pub fn sections_mean_the_same()
+    ensures { SectionsMeanTheSame }
+{
+    code_leads_on();
+    fronts_fit();
+    initial_values_have_shape();
+    linked_keeps_count();
+    linked_means_the_same();
+    names_are_known();
+    premises_hold();
+    quiet_stays();
+    scopes_are_sound();
+    shapes_stay();
+    starts_are_sound();
+    values_have_words();
+}
+
+/// Each subprogram of sections that were put together from a program has at most 20 instructions for each part of its text, and two for each word of an object that
+/// is declared in it.
+pub fn sections_are_bounded()
+    ensures { SectionsAreBounded }
+{}
+
+/// What `sections` puts together from an accepted program is well-formed (docs/FORMATS.md, 43 to 47).
+pub fn sections_are_well_formed()
+    ensures { SectionsAreWellFormed }
+{
+    fronts_fit();
+    kept_code_passes();
+    names_are_known();
+    premises_hold();
+    scopes_are_sound();
+    shapes_stay();
+    starts_are_sound();
+    values_have_words();
+}

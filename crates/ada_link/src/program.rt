@@ -1,0 +1,152 @@
+//! The sections of the image of a program whose only task is main.
+ghost use Rattle.std.specs.Prelude.{◌≡◌, false, IfErr, IfOk};
+ghost use Rattle.std.specs.List.{list_all};
+ghost use Rattle.base.specs.Names.{is_label, is_name};
+ghost use Rattle.ada_tree.specs.ProgramTree.{program_tree};
+ghost use Rattle.meaning.specs.Programs.{base_priority, program_of};
+ghost use Rattle.expr_code.specs.Refusing.{IsRefused};
+ghost use Rattle.ada_link.specs.Program.{HasProgram, KeepsTables, has_texts, is_within_limits};
+ghost use Rattle.ada_link.specs.Refusing.{RefusesParts, RefusesProgram, program_labels};
+
+use crate::directory::{Directory, number_bodies};
+use crate::globals::{Globals, globals_of};
+use crate::laws::{
+    main_is_known, main_may_be_added, names_are_sound, tables_are_small, variables_are_placed,
+};
+use crate::walk::{Walk, row, walk_over};
+use base::limits::{EXCEPTIONS, LABELS, SUBPROGRAMS, TASK_PRIORITY, WORDS};
+use base::names::{is_label, is_name};
+use declaring::{DEFAULT_PRIORITY, priority_of};
+use expr_code::Refusal;
+use handlers::Row;
+use image::{Kind, Object, Parts, Task};
+use lexer::Text;
+use ravenscar::Accepted;
+use std::alloc::Global;
+
+// The task that is main, whose subprogram has this number.
+fn main_task(accepted: &Accepted, number: usize) -> Result<Task, Refusal>
+    ensures refused { IfErr result (λ why. IsRefused number 0 false why) }
+    ensures task { let t = program_tree accepted.now in IfOk result (λ task. task ≡ record { name = t.main.name.name; priority = base_priority (program_of t).scope t.main.aspect; subprogram = number }) }
+{
+    let subprogram = u16::try_from(number).map_err(|_| Refusal::Limit)?;
+    let main = &accepted.program().main;
+    let scope = accepted.scope();
+    Ok(Task {
+        name: main.name.name.clone()?,
+        priority: priority_of(scope, TASK_PRIORITY, DEFAULT_PRIORITY, main.aspect.as_ref()),
+        subprogram,
+    })
+}
+
+// The code of its subprograms one behind another, in the order of their bodies, that of main behind them, and the variables in the order of their declarations.
+fn put_together(alloc: Global, accepted: &Accepted) -> Result<Parts, Refusal>
+    ensures program { IfOk result (λ parts. HasProgram (program_tree accepted.now) parts) }
+    ensures labels { IfOk result (λ parts. parts.labels ≡ program_labels (program_tree accepted.now)) }
+    ensures refused { IfErr result (λ why. RefusesParts (program_tree accepted.now) why) }
+{
+    names_are_sound();
+    main_is_known();
+    main_may_be_added();
+    variables_are_placed();
+    let program = accepted.program();
+    let scope = accepted.scope();
+    if scope.protected_count() != 0 {
+        return Err(Refusal::Outside);
+    }
+    let Globals {
+        slots,
+        words,
+        exceptions,
+    } = globals_of(alloc, scope, &program.package_)?;
+    let numbers = number_bodies(alloc, scope, &program.package_)?;
+    let directory = Directory { slots, numbers };
+    let walk = walk_over(alloc, accepted, &directory)?;
+    let Walk {
+        mut draft,
+        visible,
+        mut subprograms,
+        ..
+    } = walk;
+    let main = draft.main(&visible, &program.main.statements)?;
+    let mut tasks = Vec::new(alloc);
+    tasks.push(main_task(accepted, subprograms.len())?)?;
+    subprograms.push(row(Kind::TaskBody, main, &draft)?)?;
+    Ok(Parts {
+        exceptions,
+        labels: draft.labels.texts(alloc)?,
+        plain_words: words,
+        objects: Vec::<Object>::new(alloc),
+        subprograms,
+        tasks,
+        rows: Vec::<Row>::new(alloc),
+        instructions: draft.code.instructions,
+    })
+}
+
+fn are_names(texts: &[Text]) -> bool
+    ensures { result ≡ list_all is_name texts.now }
+{
+    texts.iter().all(|text| is_name(text.as_bytes()))
+}
+
+fn are_labels(texts: &[Text]) -> bool
+    ensures { result ≡ list_all is_label texts.now }
+{
+    texts.iter().all(|text| is_label(text.as_bytes()))
+}
+
+fn are_named(tasks: &[Task]) -> bool
+    ensures { result ≡ list_all (λ t. is_name t.name) tasks.now }
+{
+    tasks.iter().all(|task| is_name(task.name.as_bytes()))
+}
+
+// Whether texts are names and labels: those of a source text are.
+fn has_texts(parts: &Parts) -> bool
+    ensures { result ≡ has_texts parts.now }
+{
+    are_names(&parts.exceptions) && are_labels(&parts.labels) && are_named(&parts.tasks)
+}
+
+// Whether what the program has of its own is within the limits of images.
+fn is_within_limits(parts: &Parts) -> bool
+    ensures { result ≡ is_within_limits parts.now }
+{
+    parts.subprograms.len() <= SUBPROGRAMS
+        && parts.exceptions.len() <= EXCEPTIONS
+        && parts.labels.len() <= LABELS
+        && parts.plain_words.len() <= WORDS
+}
+
+// They are put together, and have the texts and counts of an image.
+fn within_tables(alloc: Global, accepted: &Accepted) -> Result<Parts, Refusal>
+    ensures program { IfOk result (λ parts. HasProgram (program_tree accepted.now) parts) }
+    ensures tables { IfOk result (λ parts. KeepsTables parts) }
+    ensures refused { IfErr result (λ why. RefusesParts (program_tree accepted.now) why) }
+{
+    let parts = put_together(alloc, accepted)?;
+    if !has_texts(&parts) {
+        return Err(Refusal::Outside);
+    }
+    if !is_within_limits(&parts) {
+        return Err(Refusal::Limit);
+    }
+    Ok(parts)
+}
+
+/// The sections of the image of an accepted program (docs/FORMATS.md): the code of its subprograms one behind another, in the order of their bodies, that of main behind them,
+/// and the variables in the order of their declarations. They make a well-formed image (`sections_are_well_formed`).
+///
+/// # Errors
+/// `Outside` where the program has tasks, protected objects, or what has no code yet (docs/CODEGEN.md), or a text that is no name or label; `Limit` where the bound on
+/// its instructions, or the words of a frame or of an object, pass those of images (specs/Refusing); `Memory` where memory was refused.
+pub(crate) fn sections(alloc: Global, accepted: &Accepted) -> Result<Parts, Refusal>
+    ensures program { IfOk result (λ parts. HasProgram (program_tree accepted.now) parts) }
+    ensures tables { IfOk result (λ parts. KeepsTables parts) }
+    ensures refused { IfErr result (λ why. RefusesProgram (program_tree accepted.now) why) }
+{
+    tables_are_small();
+    let _program = accepted.program();
+    within_tables(alloc, accepted)
+}
