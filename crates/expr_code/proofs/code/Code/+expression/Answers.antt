@@ -1,5 +1,7 @@
-use Rattle.std.proofs.Common.{inr, ◌+◌, ◌*◌, arith, length, ltb-true, map, take, rules, refl, sym, ap, ◌∙◌, ◌≤◌, ◌∷◌, [], subst, ◌≡◌}
-use Rattle.std.specs.Prelude.{IfErr, IfOk, max, OnOk}
+mod Refused
+mod Stack
+use Rattle.std.proofs.Common.{◌+◌, arith, length, ltb-true, map, take, rules, refl, sym, ap, ◌∙◌, ◌≤◌, ◌∷◌, [], subst, ◌≡◌}
+use Rattle.std.specs.Prelude.{IfErr, IfOk, OnOk}
 use Rattle.std.proofs.lemmas.Result.{IfErr-weaker, IfOk-weaker, on_ok_weaker}
 use Rattle.ada_tree.specs.declared.expression.Expr as expressions
 use Rattle.ada_tree.specs.ExpressionTree.{argument_tree, argument_trees, Arguments, expr_tree, MoreSelectors, Named, name_tree, NoSelectors, selector_tree, selector_trees}
@@ -11,30 +13,27 @@ use Rattle.expr_code.proofs.Checking.{checked_emits, fit_legal, unchecked_emits}
 use Rattle.expr_code.proofs.Chains.{all_emitted, and_then_at, chain_emits, first_legal, legal_at, more_legal, none_emitted, one_emitted, operand_at, or_else_at, second_legal}
 use Rattle.expr_code.proofs.Emitted.{number_emits, parenthesized_emits, sign_emits, unary_at}
 use Rattle.types.specs.Evaluating.{fixed_value}
-use Rattle.types.specs.Scopes.{number_of}
-use Rattle.types.specs.Standings.{stands_first}
 use Rattle.expr_code.proofs.Conversions.{conversion_emits}
 use Rattle.expr_code.proofs.Names.{fixed_emits}
-use Rattle.expr_code.proofs.Going.{block_words, drop_at, element_goes, first_part, further_path, goes_next, index_integers, one_argument, part_emits, path_counts, uncapped_words, whole_path}
+use Rattle.expr_code.proofs.Going.{block_words, drop_at, element_goes, first_part, further_path, goes_next, one_argument, part_emits, uncapped_words, whole_path}
 use Rattle.expr_code.proofs.Legal.{legal_branch, legal_operand}
 use Rattle.well_typed.specs.Agreeing.{parameter_subtype}
 use Rattle.expr_code.specs.Actuals.{ArePassedLegally, EmitsActuals}
 use Rattle.expr_code.proofs.Actuals.{actuals_next, all_actuals, all_legal, as_many, call_emits, got, mapped, sizes_are}
 use Rattle.expr_code.proofs.CallsRefused.{actual_refused, call_ins, call_refused, counted_high, word_passed}
-use Rattle.expr_code.proofs.FitShapes.{large_unfit, many_unfit, selected_keeps}
-use Rattle.expr_code.proofs.LegalNames.{array_part, begins_otherwise, called_once, converted_once, in_at, one_converted}
-use Rattle.expr_code.proofs.NamesRefused.{begin_outside, behind_outside, index_refused, load_refused, selector_refused}
+use Rattle.expr_code.proofs.FitShapes.{selected_keeps}
+use Rattle.expr_code.proofs.LegalNames.{in_at}
 use Rattle.well_typed.specs.SoundScopes.{AreIn}
 use Rattle.expr_code.specs.Widths.{AreSingle, AreWide, width_of}
-use Rattle.expr_code.specs.Code.{IsShallow, here}
-use Rattle.expr_code.specs.Refusing.{branches_peak, operands_peak, operands_size, peak, RefusesBranches, RefusesExpression, RefusesOperands, RefusesPath, selectors_peak}
-use Rattle.expr_code.proofs.Growing.{added_here}
-use Rattle.expr_code.proofs.Refusals.{between_refused, closed_here, condition_refused, else_refused, first_refused, jump_refused, more_refused, operand_refused, others_refused, second_refused, second_word_refused, sized_all, sized_next, value_refused, word_refused}
-use Rattle.expr_code.proofs.Shallow.{among_shallow, argument_shallow, bare_tree, branch_shallow, call_shallow, chain_shallow, check_shallow, closed_shallow, conditional_shallow, element_shallow, offset_shallow, operand_shallow, part_shallow, passed_shallow, path_shallow, shallow_self, short_shallow, unchecked_shallow, word_deep, word_deeper}
+use Rattle.expr_code.specs.Code.{IsShallow}
+use Rattle.expr_code.specs.Refusing.{peak, RefusesExpression}
+use Rattle.expr_code.proofs.Refusals.{operand_refused, second_word_refused, sized_all, sized_next}
+use Rattle.expr_code.proofs.Shallow.{among_shallow, bare_tree, branch_shallow, closed_shallow, passed_shallow, path_shallow, shallow_self}
 use Rattle.expr_code.proofs.Selecting.{one_selector, selects_next, whole_selects}
 use Rattle.expr_code.proofs.Widths.{call_width, chain_words, conditional_words, conversion_width, booleans_fit_width, fixed_width, integers_fit_width, part_width, single_at, unary_width, wide_at}
 use Rattle.expr_code.proofs.code.Code.+expression.Goals as goal
-use Rattle.expr_code.proofs.code.Code.+expression.Goals.{element-then-from-gt-WORDS-via-then-from-gt-WORDS, element-then-from-gt-WORDS-via-else-from-gt-WORDS+then-from-gt-WORDS-2}
+use Rattle.expr_code.proofs.code.Code.+expression.Answers.Refused as refused
+use Rattle.expr_code.proofs.code.Code.+expression.Answers.Stack as stack
 
 -- ---- chains of operators
 
@@ -170,169 +169,43 @@ operand-returns-in_err-above-in-Some-clause-refused t c =
 -- ---- refusals
 
 pub expression-returns-in_err-above-in-Some-clause-refused : goal.expression-returns-in_err-above-in-Some-clause-refused
-expression-returns-in_err-above-in-Some-clause-refused t c =
-    let whole = word_refused c.args.visible.now (expr_tree c.args.e.now) c.args.self.now c.args.depth _ _ c.in_err-above-in-Some.field-0.0 (omega arith)
-    (omega arith) c.in_err-above-in-Some.ensures.refused in
-    search (rules, whole)
+expression-returns-in_err-above-in-Some-clause-refused = refused.expression-returns-in_err-above-in-Some-clause-refused
 
 pub expression-returns-in_err-of_width-in-Chain-clause-refused : goal.expression-returns-in_err-of_width-in-Chain-clause-refused
-expression-returns-in_err-of_width-in-Chain-clause-refused t c =
-    let v = c.args.visible.now in
-    let tree = ap expr_tree c.in-Chain.is ∙ c.chains_by_parts.ensures c.in-Chain.first c.in-Chain.second c.in-Chain.more in
-    let whole = first_refused v (expr_tree c.args.e.now) _ c.in-Chain.second.value c.in-Chain.more.items tree c.args.self.now c.args.depth
-    c.in_err-of_width-in-Chain.field-0.0 (subst
-    (λ e. RefusesExpression v c.args.self.now c.args.depth (expr_tree e) c.in_err-of_width-in-Chain.field-0.0) c.deref-in-Chain.ensures
-    c.in_err-of_width-in-Chain.ensures.refused) in
-    search (rules, whole)
+expression-returns-in_err-of_width-in-Chain-clause-refused = refused.expression-returns-in_err-of_width-in-Chain-clause-refused
 
 pub expression-returns-in_err-operand-in-Chain-clause-refused : goal.expression-returns-in_err-operand-in-Chain-clause-refused
-expression-returns-in_err-operand-in-Chain-clause-refused t c =
-    let v = c.args.visible.now in
-    let tree = ap expr_tree c.in-Chain.is ∙ c.chains_by_parts.ensures c.in-Chain.first c.in-Chain.second c.in-Chain.more in
-    let first = subst (λ e. EmitsExpression v c.args.self.now c.args.depth 1 (expr_tree e) c.of_width-in-Chain.new.self) c.deref-in-Chain.ensures
-    c.in_ok-of_width-in-Chain.ensures.emits in
-    let whole = second_refused v (expr_tree c.args.e.now) _ c.in-Chain.second.value c.in-Chain.more.items tree c.args.self.now c.args.depth
-    c.in_err-operand-in-Chain.field-0.0 c.of_width-in-Chain.new.self first.sized
-    (subst (λ o. RefusesOperands v c.of_width-in-Chain.new.self c.args.depth (o ∷ []) c.in_err-operand-in-Chain.field-0.0) c.deref-in-Chain-2.ensures
-    c.in_err-operand-in-Chain.ensures.refused) in
-    search (rules, whole)
+expression-returns-in_err-operand-in-Chain-clause-refused = refused.expression-returns-in_err-operand-in-Chain-clause-refused
 
 pub expression-returns-in_err-operands-in-Chain-clause-refused : goal.expression-returns-in_err-operands-in-Chain-clause-refused
-expression-returns-in_err-operands-in-Chain-clause-refused t c =
-    let v = c.args.visible.now in
-    let tree = ap expr_tree c.in-Chain.is ∙ c.chains_by_parts.ensures c.in-Chain.first c.in-Chain.second c.in-Chain.more in
-    let first = subst (λ e. EmitsExpression v c.args.self.now c.args.depth 1 (expr_tree e) c.of_width-in-Chain.new.self) c.deref-in-Chain.ensures
-    c.in_ok-of_width-in-Chain.ensures.emits in
-    let second = subst (λ o. here c.operand.new.self ≤ here c.of_width-in-Chain.new.self + 20 * operands_size (o ∷ [])) c.deref-in-Chain-2.ensures
-    c.in_ok-operand-in-Chain.ensures.sized in
-    let whole = more_refused v (expr_tree c.args.e.now) _ c.in-Chain.second.value c.in-Chain.more.items tree c.args.self.now c.args.depth
-    c.in_err-operands-in-Chain.field-0.0 c.of_width-in-Chain.new.self c.operand.new.self first.sized second
-    (subst (λ all. RefusesOperands v c.operand.new.self c.args.depth all c.in_err-operands-in-Chain.field-0.0) c.deref-in-Chain-3.ensures.value
-    c.in_err-operands-in-Chain.ensures.refused) in
-    search (rules, whole)
+expression-returns-in_err-operands-in-Chain-clause-refused = refused.expression-returns-in_err-operands-in-Chain-clause-refused
 
 pub expression-returns-in_err-test-in-Conditional-clause-refused : goal.expression-returns-in_err-test-in-Conditional-clause-refused
-expression-returns-in_err-test-in-Conditional-clause-refused t c =
-    let v = c.args.visible.now in
-    let tree = ap expr_tree c.in-Conditional.is ∙ c.conditional_by_parts.ensures c.in-Conditional.field-0 c.in-Conditional.condition c.in-Conditional.value
-    c.in-Conditional.elsifs c.in-Conditional.last in
-    let first = subst (λ e. EmitsExpression v c.args.self.now c.args.depth 1 (expr_tree e) c.of_width-in-Conditional.new.self)
-    c.deref-in-Conditional.ensures c.in_ok-of_width-in-Conditional.ensures.emits in
-    let sized = first.sized in
-    let whole = between_refused v (expr_tree c.args.e.now) c.in-Conditional.field-0 _ _ c.in-Conditional.elsifs.items _ tree c.args.self.now c.args.depth
-    (width_of v.scope (expr_tree c.args.e.now)) _ _ c.in_err-test-in-Conditional.field-0.0 refl (omega (arith, sized)) (omega arith)
-    c.in_err-test-in-Conditional.ensures.refused in
-    search (rules, whole)
+expression-returns-in_err-test-in-Conditional-clause-refused = refused.expression-returns-in_err-test-in-Conditional-clause-refused
 
 pub expression-returns-in_err-raised-in-Conditional-clause-refused : goal.expression-returns-in_err-raised-in-Conditional-clause-refused
-expression-returns-in_err-raised-in-Conditional-clause-refused t c =
-    let v = c.args.visible.now in
-    let tree = ap expr_tree c.in-Conditional.is ∙ c.conditional_by_parts.ensures c.in-Conditional.field-0 c.in-Conditional.condition c.in-Conditional.value
-    c.in-Conditional.elsifs c.in-Conditional.last in
-    let words = conditional_words v.scope c.requires.sound _ c.in-Conditional.field-0 _ _ c.in-Conditional.elsifs.items _ tree c.requires.legal in
-    let told = c.in_ok-width-in-Conditional.ensures.width ∙ ap (λ e. width_of v.scope (expr_tree e)) c.deref-in-Conditional-2.ensures ∙ words.whole in
-    let whole = between_refused v (expr_tree c.args.e.now) c.in-Conditional.field-0 _ _ c.in-Conditional.elsifs.items _ tree c.args.self.now c.args.depth
-    c.in_ok-width-in-Conditional.width _ _ c.in_err-raised-in-Conditional.field-0.0 told (omega arith) (omega arith)
-    c.in_err-raised-in-Conditional.ensures.refused in
-    search (rules, whole)
+expression-returns-in_err-raised-in-Conditional-clause-refused = refused.expression-returns-in_err-raised-in-Conditional-clause-refused
 
 pub expression-returns-in_err-elsifs-in-Conditional-clause-refused : goal.expression-returns-in_err-elsifs-in-Conditional-clause-refused
-expression-returns-in_err-elsifs-in-Conditional-clause-refused t c =
-    let v = c.args.visible.now in
-    let depth = c.args.depth in
-    let width = c.in_ok-width-in-Conditional.width in
-    let tree = ap expr_tree c.in-Conditional.is ∙ c.conditional_by_parts.ensures c.in-Conditional.field-0 c.in-Conditional.condition c.in-Conditional.value
-    c.in-Conditional.elsifs c.in-Conditional.last in
-    let words = conditional_words v.scope c.requires.sound _ c.in-Conditional.field-0 _ _ c.in-Conditional.elsifs.items _ tree c.requires.legal in
-    let told = c.in_ok-width-in-Conditional.ensures.width ∙ ap (λ e. width_of v.scope (expr_tree e)) c.deref-in-Conditional-2.ensures ∙ words.whole in
-    let first = (subst (λ e. EmitsExpression v c.args.self.now depth 1 (expr_tree e) c.of_width-in-Conditional.new.self) c.deref-in-Conditional.ensures
-    c.in_ok-of_width-in-Conditional.ensures.emits).sized in
-    let jump = added_here _ _ _ _ c.in_ok-test-in-Conditional.ensures.adds in
-    let second = (subst (λ e. EmitsExpression v c.test.new.self depth width (expr_tree e) c.expression-in-Conditional.new.self)
-    c.deref-in-Conditional-2.ensures c.in_ok-width-in-Conditional.ensures.emits).sized in
-    let closed = closed_here _ _ _ _ _ _ c.in_ok-close-in-Conditional.ensures.closes in
-    let whole = others_refused v (expr_tree c.args.e.now) c.in-Conditional.field-0 _ _ c.in-Conditional.elsifs.items _ tree c.args.self.now depth width
-    c.close.new.self c.in_err-elsifs-in-Conditional.field-0.0 told (omega (arith, first, jump, second, closed))
-    (subst (λ all. RefusesBranches v c.close.new.self depth width (map branch_of all) c.in_err-elsifs-in-Conditional.field-0.0)
-    c.deref-in-Conditional-3.ensures.value c.in_err-elsifs-in-Conditional.ensures.refused) in
-    search (rules, whole)
+expression-returns-in_err-elsifs-in-Conditional-clause-refused = refused.expression-returns-in_err-elsifs-in-Conditional-clause-refused
 
 pub expression-returns-in_err-of_width-in-Conditional-2-clause-refused : goal.expression-returns-in_err-of_width-in-Conditional-2-clause-refused
-expression-returns-in_err-of_width-in-Conditional-2-clause-refused t c =
-    let v = c.args.visible.now in
-    let depth = c.args.depth in
-    let width = c.in_ok-width-in-Conditional.width in
-    let tree = ap expr_tree c.in-Conditional.is ∙ c.conditional_by_parts.ensures c.in-Conditional.field-0 c.in-Conditional.condition c.in-Conditional.value
-    c.in-Conditional.elsifs c.in-Conditional.last in
-    let first = (subst (λ e. EmitsExpression v c.args.self.now depth 1 (expr_tree e) c.of_width-in-Conditional.new.self) c.deref-in-Conditional.ensures
-    c.in_ok-of_width-in-Conditional.ensures.emits).sized in
-    let jump = added_here _ _ _ _ c.in_ok-test-in-Conditional.ensures.adds in
-    let second = (subst (λ e. EmitsExpression v c.test.new.self depth width (expr_tree e) c.expression-in-Conditional.new.self)
-    c.deref-in-Conditional-2.ensures c.in_ok-width-in-Conditional.ensures.emits).sized in
-    let closed = closed_here _ _ _ _ _ _ c.in_ok-close-in-Conditional.ensures.closes in
-    let others = (subst (λ all. AddsBranches v c.close.new.self depth width (map branch_of all) c.close.new.waiting.items c.elsifs.new.waiting.items
-    c.elsifs.new.self) c.deref-in-Conditional-3.ensures.value c.in_ok-elsifs-in-Conditional.ensures.adds).emits.sized in
-    let whole = else_refused v (expr_tree c.args.e.now) c.in-Conditional.field-0 _ _ c.in-Conditional.elsifs.items _ tree c.args.self.now depth
-    c.elsifs.new.self c.in_err-of_width-in-Conditional-2.field-0.0 (omega (arith, first, jump, second, closed, others))
-    (subst (λ e. RefusesExpression v c.elsifs.new.self depth (expr_tree e) c.in_err-of_width-in-Conditional-2.field-0.0)
-    c.deref-in-Conditional-4.ensures c.in_err-of_width-in-Conditional-2.ensures.refused) in
-    search (rules, whole)
+expression-returns-in_err-of_width-in-Conditional-2-clause-refused = refused.expression-returns-in_err-of_width-in-Conditional-2-clause-refused
 
 pub expression-returns-in_err-rejoin-in-Conditional-clause-refused : goal.expression-returns-in_err-rejoin-in-Conditional-clause-refused
-expression-returns-in_err-rejoin-in-Conditional-clause-refused t c =
-    let v = c.args.visible.now in
-    let depth = c.args.depth in
-    let width = c.in_ok-width-in-Conditional.width in
-    let tree = ap expr_tree c.in-Conditional.is ∙ c.conditional_by_parts.ensures c.in-Conditional.field-0 c.in-Conditional.condition c.in-Conditional.value
-    c.in-Conditional.elsifs c.in-Conditional.last in
-    let first = (subst (λ e. EmitsExpression v c.args.self.now depth 1 (expr_tree e) c.of_width-in-Conditional.new.self) c.deref-in-Conditional.ensures
-    c.in_ok-of_width-in-Conditional.ensures.emits).sized in
-    let jump = added_here _ _ _ _ c.in_ok-test-in-Conditional.ensures.adds in
-    let second = (subst (λ e. EmitsExpression v c.test.new.self depth width (expr_tree e) c.expression-in-Conditional.new.self)
-    c.deref-in-Conditional-2.ensures c.in_ok-width-in-Conditional.ensures.emits).sized in
-    let closed = closed_here _ _ _ _ _ _ c.in_ok-close-in-Conditional.ensures.closes in
-    let others = (subst (λ all. AddsBranches v c.close.new.self depth width (map branch_of all) c.close.new.waiting.items c.elsifs.new.waiting.items
-    c.elsifs.new.self) c.deref-in-Conditional-3.ensures.value c.in_ok-elsifs-in-Conditional.ensures.adds).emits.sized in
-    let last = (subst (λ e. EmitsExpression v c.elsifs.new.self depth width (expr_tree e) c.of_width-in-Conditional-2.new.self)
-    c.deref-in-Conditional-4.ensures c.in_ok-of_width-in-Conditional-2.ensures.emits).sized in
-    let whole = between_refused v (expr_tree c.args.e.now) c.in-Conditional.field-0 _ _ c.in-Conditional.elsifs.items _ tree c.args.self.now depth
-    (width_of v.scope (expr_tree c.args.e.now)) _ _ c.in_err-rejoin-in-Conditional.field-0.0 refl
-    (omega (arith, first, jump, second, closed, others, last)) (omega arith) c.in_err-rejoin-in-Conditional.ensures.refused in
-    search (rules, whole)
+expression-returns-in_err-rejoin-in-Conditional-clause-refused = refused.expression-returns-in_err-rejoin-in-Conditional-clause-refused
 
 pub elsifs-returns-in_err-of_width-clause-refused : goal.elsifs-returns-in_err-of_width-clause-refused
-elsifs-returns-in_err-of_width-clause-refused t c =
-    let whole = condition_refused c.args.visible.now c.args.self.now c.loop-elsif.self c.args.depth c.args.width c.args.elsifs.now _ c.elsif-item.result
-    c.in_err-of_width.field-0.0 c.loop-elsif-test.true c.elsif-item.is c.loop-elsif.invariant.0.emits.sized c.in_err-of_width.ensures.refused in
-    search (rules, whole)
+elsifs-returns-in_err-of_width-clause-refused = refused.elsifs-returns-in_err-of_width-clause-refused
 
 pub elsifs-returns-in_err-test-clause-refused : goal.elsifs-returns-in_err-test-clause-refused
-elsifs-returns-in_err-test-clause-refused t c =
-    let first = c.in_ok-of_width.ensures.emits.sized in
-    let whole = jump_refused c.args.visible.now c.args.self.now c.loop-elsif.self c.args.depth c.args.width c.args.elsifs.now _ c.elsif-item.result
-    c.in_err-test.field-0.0 c.loop-elsif-test.true c.elsif-item.is c.loop-elsif.invariant.0.emits.sized _ _ (omega (arith, first)) (omega arith)
-    c.in_err-test.ensures.refused in
-    search (rules, whole)
+elsifs-returns-in_err-test-clause-refused = refused.elsifs-returns-in_err-test-clause-refused
 
 pub elsifs-returns-in_err-of_width-2-clause-refused : goal.elsifs-returns-in_err-of_width-2-clause-refused
-elsifs-returns-in_err-of_width-2-clause-refused t c =
-    let first = c.in_ok-of_width.ensures.emits.sized in
-    let jump = added_here _ _ _ _ c.in_ok-test.ensures.adds in
-    let whole = value_refused c.args.visible.now c.args.self.now c.loop-elsif.self c.args.depth c.args.width c.args.elsifs.now _ c.elsif-item.result
-    c.in_err-of_width-2.field-0.0 c.loop-elsif-test.true c.elsif-item.is c.loop-elsif.invariant.0.emits.sized c.test.new.self (omega (arith, first, jump))
-    c.in_err-of_width-2.ensures.refused in
-    search (rules, whole)
+elsifs-returns-in_err-of_width-2-clause-refused = refused.elsifs-returns-in_err-of_width-2-clause-refused
 
 pub elsifs-returns-in_err-close-clause-refused : goal.elsifs-returns-in_err-close-clause-refused
-elsifs-returns-in_err-close-clause-refused t c =
-    let first = c.in_ok-of_width.ensures.emits.sized in
-    let jump = added_here _ _ _ _ c.in_ok-test.ensures.adds in
-    let second = c.in_ok-of_width-2.ensures.emits.sized in
-    let high = c.in_ok-raised.ensures.more in
-    let whole = jump_refused c.args.visible.now c.args.self.now c.loop-elsif.self c.args.depth c.args.width c.args.elsifs.now _ c.elsif-item.result
-    c.in_err-close.field-0.0 c.loop-elsif-test.true c.elsif-item.is c.loop-elsif.invariant.0.emits.sized _ _ (omega (arith, first, jump, second))
-    (omega (arith, high)) c.in_err-close.ensures.refused in
-    search (rules, whole)
+elsifs-returns-in_err-close-clause-refused = refused.elsifs-returns-in_err-close-clause-refused
 
 -- ---- others
 
@@ -790,248 +663,96 @@ part-path-requires t c = (
 -- ---- refusals of names, parts, conversions and calls
 
 pub called-call-requires : goal.called-call-requires
-called-call-requires t c =
-    let tree = ap selector_tree c.in-Arguments.is ∙ c.arguments_by_parts.ensures c.in-Arguments.arguments ∙ ap (λ l. Arguments (argument_trees l))
-    (sym c.deref.ensures.value) in
-    let same = one_selector c.args.selectors.now c.selector-item.result _ c.in-len1.len_at_least c.in-len1.len_below c.selector-item.is tree in (
-      search (rules, expressions.the_lemmas),
-      (c.requires.sound, (search rules, subst (λ x. IsLegal c.args.visible.now.scope (Named c.args.first.now x)) same c.requires.legal)),
-    )
+called-call-requires = refused.called-call-requires
 
 pub called-returns-in_err-call-in-Arguments-clause-refused : goal.called-returns-in_err-call-in-Arguments-clause-refused
-called-returns-in_err-call-in-Arguments-clause-refused t c =
-    let tree = ap selector_tree c.in-Arguments.is ∙ c.arguments_by_parts.ensures c.in-Arguments.arguments ∙ ap (λ l. Arguments (argument_trees l))
-    (sym c.deref.ensures.value) in
-    let same = one_selector c.args.selectors.now c.selector-item.result _ c.in-len1.len_at_least c.in-len1.len_below c.selector-item.is tree in
-    let why = c.in_err-call-in-Arguments.field-0.0 in
-    let whole = subst (λ x. RefusesExpression c.args.visible.now c.args.self.now c.args.depth (Named c.args.first.now x) why) (sym same)
-    c.in_err-call-in-Arguments.ensures.refused in
-    search (rules, whole)
+called-returns-in_err-call-in-Arguments-clause-refused = refused.called-returns-in_err-call-in-Arguments-clause-refused
 
 pub called-returns-in_default-selectors-2-clause-refused : goal.called-returns-in_default-selectors-2-clause-refused
-called-returns-in_default-selectors-2-clause-refused t c =
-    absurd (called_once c.args.visible.now.scope c.requires.sound c.args.first.now c.args.selectors.now c.requires.stands.0 c.requires.stands.1
-    c.requires.legal (omega (arith, c.in_default-selectors.len_at_least)))
+called-returns-in_default-selectors-2-clause-refused = refused.called-returns-in_default-selectors-2-clause-refused
 
 pub converted-returns-in_default-2-clause-refused : goal.converted-returns-in_default-2-clause-refused
-converted-returns-in_default-2-clause-refused t c =
-    behind_outside c.args.visible.now c.args.first.now (selector_trees c.args.selectors.now) c.requires.valueless
-    (converted_once c.args.visible.now.scope c.requires.sound c.args.first.now c.args.visible.now c.args.selectors.now c.args.subtype c.requires.stands
-    c.requires.legal (omega (arith, c.in_default.len_at_least)))
+converted-returns-in_default-2-clause-refused = refused.converted-returns-in_default-2-clause-refused
 
 pub conversion-returns-in_default-2-clause-refused : goal.conversion-returns-in_default-2-clause-refused
-conversion-returns-in_default-2-clause-refused t c =
-    absurd (one_converted c.args.visible.now.scope c.requires.sound c.args.first.now c.args.arguments.now c.args.subtype c.requires.stands c.requires.legal
-    (omega (arith, c.in_default.len_at_least)))
+conversion-returns-in_default-2-clause-refused = refused.conversion-returns-in_default-2-clause-refused
 
 pub named-returns-in_default : goal.named-returns-in_default
-named-returns-in_default t c =
-    let v = c.args.visible.now in
-    let all = selector_trees c.args.selectors.now in
-    let made = begins_otherwise v.scope c.args.first.now all c.requires.legal c.requires.sound c.requires.valueless v
-    (stands_first v.scope (number_of v.scope c.args.first.now.name)) refl
-    (λ r u e. c.in_default.not-Part r u (c.stands_first.ensures ∙ e)) (λ u e. c.in_default.not-Named u (c.stands_first.ensures ∙ e))
-    (λ f e. c.in_default.not-Callee f (c.stands_first.ensures ∙ e)) in
-    record { width = tt; refused = begin_outside v c.args.first.now all c.requires.valueless made; shallow = tt; emits = tt }
+named-returns-in_default = refused.named-returns-in_default
 
 pub element-returns-in_default-2-clause-refused : goal.element-returns-in_default-2-clause-refused
-element-returns-in_default-2-clause-refused t c =
-    let it = array_part c.args.visible.now.scope c.args.subtype c.args.arguments.now c.requires.legal in
-    let one = it.4 in
-    let long = c.in_default.len_at_least in
-    absurd (omega (arith, one, long))
+element-returns-in_default-2-clause-refused = refused.element-returns-in_default-2-clause-refused
 
 pub element-returns-then-from-gt-WORDS-clause-refused : goal.element-returns-then-from-gt-WORDS-clause-refused
-element-returns-then-from-gt-WORDS-clause-refused t c =
-    let s = c.args.visible.now.scope in
-    inr (inr (inr (elim c.then-from-gt-WORDS.branch [
-      | element-then-from-gt-WORDS-via-then-from-gt-WORDS w ↦ let more = w.if-from-gt-WORDS.true in
-          many_unfit s c.requires.sound c.args.subtype c.in-Some-Array.index c.in-Some-Array.many c.in-Some-Array.last (search rules) (search (rules, more))
-      | element-then-from-gt-WORDS-via-else-from-gt-WORDS+then-from-gt-WORDS-2 w ↦
-          let more = w.if-from-gt-WORDS-2.true in
-          let same = w.from-else-from-gt-WORDS.ensures in
-          large_unfit s c.requires.sound c.args.subtype c.in-Some-Array.index c.in-Some-Array.many c.in-Some-Array.last (search rules) c.words-words.result
-          c.words-words.ensures (search (rules, more, same))
-    ])))
+element-returns-then-from-gt-WORDS-clause-refused = refused.element-returns-then-from-gt-WORDS-clause-refused
 
 pub element-returns-in_err-checked-clause-refused : goal.element-returns-in_err-checked-clause-refused
-element-returns-in_err-checked-clause-refused t c =
-    let v = c.args.visible.now in
-    let one = one_argument c.args.arguments.now c.in-Expr.e c.argument-item.result c.in-len1.len_at_least c.in-len1.len_below c.argument-item.is c.in-Expr.is in
-    let why = c.in_err-checked.field-0.0 in
-    let whole = subst (λ all. RefusesPath v c.args.self.now c.args.depth c.args.subtype (MoreSelectors (Arguments all) NoSelectors) why) (sym one)
-    (index_refused v c.args.self.now c.args.depth c.args.subtype (expr_tree c.in-Expr.e) c.args.self.now _ c.in-Some-Array.index why (omega arith)
-    c.in_ok-address.ensures.more
-    (index_integers v.scope c.requires.sound c.args.subtype c.in-Some-Array.index c.in-Some-Array.many c.in-Some-Array.last (search rules))
-    c.in_err-checked.ensures.refused) in
-    search (rules, whole)
+element-returns-in_err-checked-clause-refused = refused.element-returns-in_err-checked-clause-refused
 
 pub part-returns-in_err-load_block-clause-refused : goal.part-returns-in_err-load_block-clause-refused
-part-returns-in_err-load_block-clause-refused t c =
-    let v = c.args.visible.now in
-    let next = added_here _ _ _ _ c.in_ok-emit.ensures.adds in
-    let behind = c.in_ok-last.ensures.emits.sized in
-    let same = path_counts c.args.selectors.now in
-    let above = c.in_ok-address.ensures.more in
-    let whole = load_refused v c.args.first.now c.args.slot c.requires.stands.0 c.args.subtype c.requires.stands.1 c.requires.there
-    (selector_trees c.args.selectors.now) c.requires.valueless c.args.self.now c.args.depth _ _ c.words-words.result c.in_ok-last.last
-    c.in_err-load_block.field-0.0 c.words-words.ensures c.in_ok-last.ensures.fit (omega (arith, next, behind, same)) (omega (arith, above))
-    c.in_err-load_block.ensures.refused in
-    search (rules, whole)
+part-returns-in_err-load_block-clause-refused = refused.part-returns-in_err-load_block-clause-refused
 
 pub path-returns-in_err-last-clause-refused : goal.path-returns-in_err-last-clause-refused
-path-returns-in_err-last-clause-refused t c =
-    let v = c.args.visible.now in
-    let before = c.loop-selector.invariant.0.sized in
-    let whole = selector_refused v c.args.self.now c.loop-selector.self c.args.depth c.args.subtype c.loop-selector.last c.args.selectors.now
-    c.loop-selector.selector-index c.selector-item.result c.in_err-last.field-0.0 c.loop-selector-test.true c.selector-item.is before
-    c.loop-selector.invariant.3 c.in_err-last.ensures.refused in
-    search (rules, whole)
+path-returns-in_err-last-clause-refused = refused.path-returns-in_err-last-clause-refused
 
 -- ---- words on the operand stack
 
 pub actuals-returns-clause-shallow : goal.actuals-returns-clause-shallow
-actuals-returns-clause-shallow t c = c.loop-index.invariant.2
+actuals-returns-clause-shallow = stack.actuals-returns-clause-shallow
 
 pub path-returns-clause-shallow : goal.path-returns-clause-shallow
-path-returns-clause-shallow t c = c.loop-selector.invariant.4
+path-returns-clause-shallow = stack.path-returns-clause-shallow
 
 pub expression-returns-in_ok-emit-in-Number-clause-shallow : goal.expression-returns-in_ok-emit-in-Number-clause-shallow
-expression-returns-in_ok-emit-in-Number-clause-shallow t c =
-    word_deep c.args.visible.now c.args.depth (expr_tree c.args.e.now) _ _ c.args.depth (omega arith) c.in_ok-emit-in-Number.ensures.adds.shallow
+expression-returns-in_ok-emit-in-Number-clause-shallow = stack.expression-returns-in_ok-emit-in-Number-clause-shallow
 
 pub expression-returns-in_ok-emit-in-Some-clause-shallow : goal.expression-returns-in_ok-emit-in-Some-clause-shallow
-expression-returns-in_ok-emit-in-Some-clause-shallow t c =
-    let above = c.in_ok-above-in-Some.ensures.more in
-    let before = subst (λ x. IsShallow c.args.self.now c.of_width.new.self (c.args.depth + peak c.args.visible.now.scope (expr_tree x)))
-    c.deref-in-Unary.ensures
-    c.in_ok-of_width-in-Unary.ensures.shallow in
-    rw c.in-Unary.is
-    (word_deeper c.args.visible.now c.args.depth (expr_tree c.in-Unary.operand.value) _ _ _ c.in_ok-above-in-Some.field-0 (omega (arith, above)) before
-    c.in_ok-emit-in-Some.ensures.adds.shallow)
+expression-returns-in_ok-emit-in-Some-clause-shallow = stack.expression-returns-in_ok-emit-in-Some-clause-shallow
 
 pub expression-returns-in-None-clause-shallow : goal.expression-returns-in-None-clause-shallow
-expression-returns-in-None-clause-shallow t c =
-    rw c.in-Unary.is
-    (subst (λ x. IsShallow c.args.self.now c.of_width.new.self (c.args.depth + peak c.args.visible.now.scope (expr_tree x))) c.deref-in-Unary.ensures
-    c.in_ok-of_width-in-Unary.ensures.shallow)
+expression-returns-in-None-clause-shallow = stack.expression-returns-in-None-clause-shallow
 
 pub expression-returns-in-Parenthesized-clause-shallow : goal.expression-returns-in-Parenthesized-clause-shallow
-expression-returns-in-Parenthesized-clause-shallow t c =
-    rw c.in-Parenthesized.is (rw c.deref.ensures at c.expression.ensures.shallow)
+expression-returns-in-Parenthesized-clause-shallow = stack.expression-returns-in-Parenthesized-clause-shallow
 
 pub expression-returns-in_ok-operands-in-Chain-clause-shallow : goal.expression-returns-in_ok-operands-in-Chain-clause-shallow
-expression-returns-in_ok-operands-in-Chain-clause-shallow t c =
-    let v = c.args.visible.now in
-    let depth = c.args.depth in
-    let tree = ap expr_tree c.in-Chain.is ∙ c.chains_by_parts.ensures c.in-Chain.first c.in-Chain.second c.in-Chain.more in
-    chain_shallow v depth (expr_tree c.args.e.now) _ c.in-Chain.second.value c.in-Chain.more.items tree c.args.self.now c.of_width-in-Chain.new.self
-    c.operand.new.self c.operands.new.self
-    (subst (λ x. IsShallow c.args.self.now c.of_width-in-Chain.new.self (depth + peak v.scope (expr_tree x))) c.deref-in-Chain.ensures
-    c.in_ok-of_width-in-Chain.ensures.shallow)
-    (subst (λ o. IsShallow c.of_width-in-Chain.new.self c.operand.new.self (depth + operands_peak v.scope (o ∷ []))) c.deref-in-Chain-2.ensures
-    c.in_ok-operand-in-Chain.ensures.shallow)
-    (subst (λ l. IsShallow c.operand.new.self c.operands.new.self (depth + operands_peak v.scope l)) c.deref-in-Chain-3.ensures.value
-    c.in_ok-operands-in-Chain.ensures.shallow)
+expression-returns-in_ok-operands-in-Chain-clause-shallow = stack.expression-returns-in_ok-operands-in-Chain-clause-shallow
 
 pub expression-returns-in_ok-rejoin-in-Conditional-clause-shallow : goal.expression-returns-in_ok-rejoin-in-Conditional-clause-shallow
-expression-returns-in_ok-rejoin-in-Conditional-clause-shallow t c =
-    let v = c.args.visible.now in
-    let depth = c.args.depth in
-    let width = c.in_ok-width-in-Conditional.width in
-    let tree = ap expr_tree c.in-Conditional.is ∙ c.conditional_by_parts.ensures c.in-Conditional.field-0 c.in-Conditional.condition c.in-Conditional.value
-    c.in-Conditional.elsifs c.in-Conditional.last in
-    let words = conditional_words v.scope c.requires.sound _ c.in-Conditional.field-0 _ _ c.in-Conditional.elsifs.items _ tree c.requires.legal in
-    let told = c.in_ok-width-in-Conditional.ensures.width ∙ ap (λ e. width_of v.scope (expr_tree e)) c.deref-in-Conditional-2.ensures ∙ words.whole in
-    conditional_shallow v depth (expr_tree c.args.e.now) c.in-Conditional.field-0 _ _ c.in-Conditional.elsifs.items _ tree width _ told
-    c.in_ok-raised-in-Conditional.ensures.more c.args.self.now c.of_width-in-Conditional.new.self c.test.new.self c.expression-in-Conditional.new.self
-    c.close.new.self c.elsifs.new.self c.of_width-in-Conditional-2.new.self c.rejoin.new.self
-    (subst (λ x. IsShallow c.args.self.now c.of_width-in-Conditional.new.self (depth + peak v.scope (expr_tree x))) c.deref-in-Conditional.ensures
-    c.in_ok-of_width-in-Conditional.ensures.shallow)
-    c.in_ok-test-in-Conditional.ensures.adds.shallow
-    (subst (λ x. IsShallow c.test.new.self c.expression-in-Conditional.new.self (depth + peak v.scope (expr_tree x))) c.deref-in-Conditional-2.ensures
-    c.in_ok-width-in-Conditional.ensures.shallow)
-    (closed_shallow _ _ _ _ _ _ c.in_ok-close-in-Conditional.ensures.closes)
-    (subst (λ l. IsShallow c.close.new.self c.elsifs.new.self (depth + max width (branches_peak v.scope (map branch_of l))))
-    c.deref-in-Conditional-3.ensures.value
-    c.in_ok-elsifs-in-Conditional.ensures.shallow)
-    (subst (λ x. IsShallow c.elsifs.new.self c.of_width-in-Conditional-2.new.self (depth + peak v.scope (expr_tree x))) c.deref-in-Conditional-4.ensures
-    c.in_ok-of_width-in-Conditional-2.ensures.shallow)
-    c.in_ok-rejoin-in-Conditional.ensures.rejoins.deepest
+expression-returns-in_ok-rejoin-in-Conditional-clause-shallow = stack.expression-returns-in_ok-rejoin-in-Conditional-clause-shallow
 
 pub operand-returns-in_ok-above-in-Some-clause-shallow : goal.operand-returns-in_ok-above-in-Some-clause-shallow
-operand-returns-in_ok-above-in-Some-clause-shallow t c =
-    on_ok_weaker _ (λ p. operand_shallow c.args.visible.now c.args.depth c.args.operand.now _ c.args.self.now c.of_width.new.self c.emit.new.self _ _
-    (sym c.binary_operation.ensures ∙ c.in-Some.is) c.in_ok-second-in-Some.ensures.more c.in_ok-above-in-Some.ensures.more
-    c.in_ok-of_width-in-Some.ensures.shallow p.shallow) c.emit.ensures.adds
+operand-returns-in_ok-above-in-Some-clause-shallow = stack.operand-returns-in_ok-above-in-Some-clause-shallow
 
 pub short_circuit-returns-in-OrElse-clause-shallow : goal.short_circuit-returns-in-OrElse-clause-shallow
-short_circuit-returns-in-OrElse-clause-shallow t c =
-    short_shallow c.args.visible.now c.args.depth c.args.operand.now c.args.self.now c.emit.new.self c.emit-2.new.self c.emit-3.new.self c.of_width.new.self
-    c.patch.new.self _ _ c.requires.short c.in_ok-one.ensures.more c.in_ok-above.ensures.more c.in_ok-emit.ensures.adds.shallow
-    c.in_ok-emit-2.ensures.adds.shallow c.in_ok-emit-3.ensures.adds.shallow c.in_ok-of_width.ensures.shallow c.patch.ensures.patches.deepest
+short_circuit-returns-in-OrElse-clause-shallow = stack.short_circuit-returns-in-OrElse-clause-shallow
 
 pub short_circuit-returns-in_default-clause-shallow : goal.short_circuit-returns-in_default-clause-shallow
-short_circuit-returns-in_default-clause-shallow t c =
-    short_shallow c.args.visible.now c.args.depth c.args.operand.now c.args.self.now c.emit.new.self c.emit-2.new.self c.emit-3.new.self c.of_width.new.self
-    c.patch-in_default.new.self _ _ c.requires.short c.in_ok-one.ensures.more c.in_ok-above.ensures.more c.in_ok-emit.ensures.adds.shallow
-    c.in_ok-emit-2.ensures.adds.shallow c.in_ok-emit-3.ensures.adds.shallow c.in_ok-of_width.ensures.shallow c.patch-in_default.ensures.patches.deepest
+short_circuit-returns-in_default-clause-shallow = stack.short_circuit-returns-in_default-clause-shallow
 
 pub checked-returns-in_ok-above-in-Some-Integer-clause-shallow : goal.checked-returns-in_ok-above-in-Some-Integer-clause-shallow
-checked-returns-in_ok-above-in-Some-Integer-clause-shallow t c =
-    on_ok_weaker _ (λ p. check_shallow c.args.visible.now c.args.depth (expr_tree c.args.e.now) c.args.self.now c.of_width.new.self
-    c.emit.new.self c.emit-in-Some-Integer.new.self c.emit-in-Some-Integer-2.new.self _ _ _ c.in_ok-one-in-Some-Integer.ensures.more
-    c.in_ok-two-in-Some-Integer.ensures.more c.in_ok-above-in-Some-Integer.ensures.more c.in_ok-of_width-in-Some-Integer.ensures.shallow
-    c.in_ok-emit-in-Some-Integer.ensures.adds.shallow c.in_ok-emit-in-Some-Integer-2.ensures.adds.shallow p.shallow) c.emit-in-Some-Integer-2.ensures.adds
+checked-returns-in_ok-above-in-Some-Integer-clause-shallow = stack.checked-returns-in_ok-above-in-Some-Integer-clause-shallow
 
 pub checked-returns-in-Some-Boolean-clause-shallow : goal.checked-returns-in-Some-Boolean-clause-shallow
-checked-returns-in-Some-Boolean-clause-shallow t c =
-    on_ok_weaker _ (λ p. unchecked_shallow c.args.visible.now c.args.depth (expr_tree c.args.e.now) c.args.self.now c.of_width-in-Some-Boolean.new.self p)
-    c.of_width-in-Some-Boolean.ensures.shallow
+checked-returns-in-Some-Boolean-clause-shallow = stack.checked-returns-in-Some-Boolean-clause-shallow
 
 pub conversion-returns-in-Expr-clause-shallow : goal.conversion-returns-in-Expr-clause-shallow
-conversion-returns-in-Expr-clause-shallow t c =
-    let v = c.args.visible.now in
-    let one = one_argument c.args.arguments.now c.in-Expr.e c.argument-item.result c.in-len1.len_at_least c.in-len1.len_below c.argument-item.is c.in-Expr.is in
-    on_ok_weaker _ (λ p. subst
-    (λ all. IsShallow c.args.self.now c.checked.new.self
-    (c.args.depth + peak v.scope (Named c.args.first.now (MoreSelectors (Arguments all) NoSelectors)))) (sym one)
-    (argument_shallow v c.args.depth c.args.first.now (expr_tree c.in-Expr.e) c.args.self.now c.checked.new.self p)) c.checked.ensures.shallow
+conversion-returns-in-Expr-clause-shallow = stack.conversion-returns-in-Expr-clause-shallow
 
 pub name-returns-in_ok-emit-in-Some-clause-shallow : goal.name-returns-in_ok-emit-in-Some-clause-shallow
-name-returns-in_ok-emit-in-Some-clause-shallow t c =
-    word_deep c.args.visible.now c.args.depth (Named (name_tree c.args.name.now).first (name_tree c.args.name.now).selectors) _ _ c.args.depth (omega arith)
-    c.in_ok-emit-in-Some.ensures.adds.shallow
+name-returns-in_ok-emit-in-Some-clause-shallow = stack.name-returns-in_ok-emit-in-Some-clause-shallow
 
 pub called-returns-in_ok-call-in-Arguments-clause-shallow : goal.called-returns-in_ok-call-in-Arguments-clause-shallow
-called-returns-in_ok-call-in-Arguments-clause-shallow t c =
-    let tree = ap selector_tree c.in-Arguments.is ∙ c.arguments_by_parts.ensures c.in-Arguments.arguments ∙ ap (λ l. Arguments (argument_trees l))
-    (sym c.deref.ensures.value) in
-    let same = one_selector c.args.selectors.now c.selector-item.result _ c.in-len1.len_at_least c.in-len1.len_below c.selector-item.is tree in
-    subst (λ x. IsShallow c.args.self.now c.call.new.self (c.args.depth + peak c.args.visible.now.scope (Named c.args.first.now x))) (sym same)
-    c.in_ok-call-in-Arguments.ensures.shallow
+called-returns-in_ok-call-in-Arguments-clause-shallow = stack.called-returns-in_ok-call-in-Arguments-clause-shallow
 
 pub element-returns-clause-shallow : goal.element-returns-clause-shallow
-element-returns-clause-shallow t c =
-    let v = c.args.visible.now in
-    let one = one_argument c.args.arguments.now c.in-Expr.e c.argument-item.result c.in-len1.len_at_least c.in-len1.len_below c.argument-item.is c.in-Expr.is in
-    subst (λ all. IsShallow c.args.self.now c.offset.new.self (c.args.depth + selectors_peak v.scope 1 (MoreSelectors (Arguments all) NoSelectors))) (sym one)
-    (element_shallow v c.args.depth (expr_tree c.in-Expr.e) c.args.self.now c.checked.new.self c.offset.new.self _ _ c.in_ok-address.ensures.more
-    c.in_ok-above.ensures.more c.in_ok-checked.ensures.shallow (offset_shallow _ _ _ _ _ c.in_ok-offset.ensures.adds))
+element-returns-clause-shallow = stack.element-returns-clause-shallow
 
 pub part-returns-clause-shallow : goal.part-returns-clause-shallow
-part-returns-clause-shallow t c =
-    part_shallow c.args.visible.now c.args.depth c.args.first.now (selector_trees c.args.selectors.now) c.requires.stands.0 c.args.subtype c.args.self.now
-    c.emit.new.self c.path.new.self c.load_block.new.self _ c.requires.stands.1 c.in_ok-address.ensures.more c.in_ok-emit.ensures.adds.shallow
-    c.in_ok-last.ensures.shallow c.in_ok-load_block.ensures.adds.shallow
+part-returns-clause-shallow = stack.part-returns-clause-shallow
 
 pub call-returns-clause-shallow : goal.call-returns-clause-shallow
-call-returns-clause-shallow t c =
-    let v = c.args.visible.now in
-    let high = counted_high v c.args.arguments.now in
-    let told = c.in_ok-height.ensures.high in
-    on_ok_weaker _ (λ p. call_shallow v c.args.depth c.args.first.now c.args.arguments.now c.args.self.now c.actuals.new.self c.invoke.new.self
-    c.in_ok-height.height (omega (arith, high, told)) c.in_ok-height.ensures.shallow p.adds.shallow) c.invoke.ensures.adds
+call-returns-clause-shallow = stack.call-returns-clause-shallow
 
 -- ---- a name without parts
 

@@ -1,37 +1,36 @@
-use Rattle.std.proofs.Common.{◌≡◌, ◌≤◌, ◌∷◌, ◌++◌, [], arith, inl, length, map, take, refl, sym, ap, ◌∙◌, rules, subst}
-use Rattle.std.proofs.lemmas.Result.{IfErr-weaker, on_ok_weaker}
+mod Added
+mod Refused
+mod Stays
+use Rattle.std.proofs.Common.{◌≡◌, ◌∷◌, ◌++◌, [], length, map, take, refl, sym, ap, ◌∙◌, rules, subst}
+use Rattle.std.proofs.lemmas.Result.{on_ok_weaker}
 use Rattle.ada_tree.specs.declared.statement.Stmt as statements
 use Rattle.ada_tree.specs.ExpressionTree.{expr_tree}
-use Rattle.ada_tree.specs.StatementTree.{Block, Case, For, Forever, Loop, NoHandlers, While, alternative_tree, alternative_trees, alternatives_of, choices_tree, declaration_tree, elsif_tree, elsif_trees, elsifs_of, handler_trees, iteration_tree, range_tree, stmt_tree, stmt_trees}
+use Rattle.ada_tree.specs.StatementTree.{Loop, alternative_tree, alternative_trees, alternatives_of, choices_tree, declaration_tree, elsif_tree, elsif_trees, elsifs_of, iteration_tree, range_tree, stmt_trees}
 use Rattle.expr_rules.specs.Typing.{boolean_wanted}
 use Rattle.stmt_rules.specs.CaseRules.{selecting_faults}
 use Rattle.stmt_rules.specs.SimpleRules.{condition_faults}
 use Rattle.well_typed.specs.SoundScopes.{SoundScope}
 use Rattle.stmt_code.specs.declared.draft.Draft.{Draft}
 use Rattle.expr_code.specs.Code.{here}
-use Rattle.expr_code.specs.declared.refusal.Refusal.TheVariants as refusal
-use Rattle.expr_code.proofs.Growing.{added_here}
-use Rattle.expr_code.proofs.Refusals.{peak_some}
-use Rattle.expr_code.proofs.Shallow.{closed_shallow}
 use Rattle.expr_code.proofs.Widths.{condition_width}
-use Rattle.stmt_code.specs.Bounds.{stmts_bound}
-use Rattle.stmt_code.specs.Labels.{elsifs_labels}
-use Rattle.stmt_code.specs.Refusing.{RefusesAlternatives, RefusesParts, RefusesStatement, RefusesStatements, alternatives_needs, around, elsifs_needs, stmts_needs}
-use Rattle.stmt_code.specs.Staying.{StaysAlternatives, StaysParts, StaysStatement, StaysStatements}
+use Rattle.stmt_code.specs.Refusing.{alternatives_needs, around, elsifs_needs}
+use Rattle.stmt_code.specs.Staying.{StaysAlternatives, StaysParts}
 use Rattle.stmt_code.specs.Alternatives.{AddsAlternatives, AreLegalChoices}
-use Rattle.stmt_code.specs.Emitting.{AddsParts, AreLegal, AreLegalElsifs, EmitsStatement, EmitsStatements, EndsLoop, HasEntries, IsLegal, ways_of}
-use Rattle.stmt_code.proofs.Adding.{all_statements, block_body, block_declarations, block_emits, no_statements, none_there, statement_legal, statements_next, wanted_legal}
+use Rattle.stmt_code.specs.Emitting.{AddsParts, AreLegal, EmitsStatement, EmitsStatements, EndsLoop, HasEntries, IsLegal, ways_of}
+use Rattle.stmt_code.proofs.Adding.{block_body, block_declarations, block_emits, wanted_legal}
 use Rattle.stmt_code.proofs.Alternatives.{all_alternatives, alternative_closed, alternative_legal, alternatives_next, case_alternatives, case_emits, case_selecting, case_waiting, choices_waiting, no_alternatives, selecting_legal}
-use Rattle.stmt_code.proofs.Opening.{all_parts, branch_closed, if_body, if_condition, if_elsifs, if_emits, if_others, no_parts, part_legal, parts_next, waiting_there}
+use Rattle.stmt_code.proofs.Opening.{all_parts, branch_closed, no_parts, part_legal, parts_next}
 use Rattle.stmt_code.proofs.Bounded.{entries_inside, loop_body, loop_range, range_type, slots_stay, sound_inside, subprograms_stay}
 use Rattle.stmt_code.proofs.Ranged.{range_emits}
-use Rattle.stmt_code.proofs.PartsRefused.{alternative_refuses, alternatives_refused, begun_here, block_body_refused, body_refused, choices_refused, chosen_refused, close_refused, condition_refused, counted_body, dropped_refused, elsifs_refuse, first_refuses, forever_body, handlers_refused, instruction_refuses, leaving_refused, locals_refused, others_refuse, part_refuses, range_here, range_refused, range_seen, range_two, rejoin_refuses, selected_refused, statement_refuses, test_refused, turn_here, while_body_refused, while_condition_refused}
-use Rattle.stmt_code.proofs.PartsStay.{alternative_stays, alternatives_end, alternatives_stay, begun_shallow, block_stays, branch_stays, case_stays, choices_shallow, counted_stays, ended_shallow, forever_stays, if_stays, parts_end, parts_stay, statements_end, statements_stay, turn_shallow, while_stays}
+use Rattle.stmt_code.proofs.PartsStay.{alternatives_end, alternatives_stay, parts_end, parts_stay}
 use Rattle.stmt_code.proofs.Repeating.{forever_emits, while_body, while_condition}
-use Rattle.stmt_code.proofs.Staying.{stays_self, stays_words}
+use Rattle.stmt_code.proofs.Staying.{stays_self}
 use Rattle.stmt_code.proofs.Selecting.{choices_select, selecting_width}
 use Rattle.stmt_code.proofs.Testing.{while_emits}
 use Rattle.stmt_code.proofs.draft.Draft.+statement.Goals as goal
+use Rattle.stmt_code.proofs.draft.Draft.+statement.Answers.Added as added
+use Rattle.stmt_code.proofs.draft.Draft.+statement.Answers.Refused as refused
+use Rattle.stmt_code.proofs.draft.Draft.+statement.Answers.Stays as stays
 
 -- ---- parts of an `if`
 
@@ -453,998 +452,264 @@ block-returns-clause-same t c =
 -- ---- a statement
 
 pub statement-branch-self-requires : goal.statement-branch-self-requires
-statement-branch-self-requires t c =
-    let tree = ap stmt_tree c.in-If.is
-    ∙ c.statements_by_parts.ensures.ifs c.in-If.field-0 c.in-If.condition c.in-If.body c.in-If.elsifs c.in-If.others in (
-      search (rules, statements.the_lemmas),
-      (
-        c.requires.sound,
-        (
-          c.requires.entries,
-          (
-            if_condition c.args.visible.now.scope (stmt_tree c.args.statement.now) c.in-If.field-0 (expr_tree c.in-If.condition) (stmt_trees c.in-If.body.items) (elsif_trees c.in-If.elsifs.items) (stmt_trees c.in-If.others.items) tree c.requires.legal,
-            subst (λ l. AreLegal c.args.visible.now.scope (stmt_trees l)) (sym c.deref.ensures.value)
-                (if_body c.args.visible.now.scope (stmt_tree c.args.statement.now) c.in-If.field-0 (expr_tree c.in-If.condition) (stmt_trees c.in-If.body.items) (elsif_trees c.in-If.elsifs.items) (stmt_trees c.in-If.others.items) tree c.requires.legal),
-          ),
-        ),
-      ),
-    )
+statement-branch-self-requires = added.statement-branch-self-requires
 
 pub statement-elsifs-requires : goal.statement-elsifs-requires
-statement-elsifs-requires t c =
-    let tree = ap stmt_tree c.in-If.is
-    ∙ c.statements_by_parts.ensures.ifs c.in-If.field-0 c.in-If.condition c.in-If.body c.in-If.elsifs c.in-If.others in (
-      search (rules, statements.the_lemmas),
-      (
-        subst (λ x. SoundScope x.scope) (sym c.in_ok-branch-in-If.ensures.same) c.requires.sound,
-        (
-          subst HasEntries (sym c.in_ok-branch-in-If.ensures.same) c.requires.entries,
-          subst (λ x. AreLegalElsifs x.scope (elsif_trees c.deref-in-If.result.now)) (sym c.in_ok-branch-in-If.ensures.same)
-              (subst (λ l. AreLegalElsifs c.args.visible.now.scope (elsif_trees l)) (sym c.deref-in-If.ensures.value)
-              (if_elsifs c.args.visible.now.scope (stmt_tree c.args.statement.now) c.in-If.field-0 (expr_tree c.in-If.condition) (stmt_trees c.in-If.body.items)
-              (elsif_trees c.in-If.elsifs.items) (stmt_trees c.in-If.others.items) tree c.requires.legal)),
-        ),
-      ),
-    )
+statement-elsifs-requires = added.statement-elsifs-requires
 
 pub statement-statements-requires : goal.statement-statements-requires
-statement-statements-requires t c =
-    let tree = ap stmt_tree c.in-If.is
-    ∙ c.statements_by_parts.ensures.ifs c.in-If.field-0 c.in-If.condition c.in-If.body c.in-If.elsifs c.in-If.others in (
-      search (rules, statements.the_lemmas),
-      (
-        subst (λ x. SoundScope x.scope) (sym (c.in_ok-elsifs-in-If.ensures.same ∙ c.in_ok-branch-in-If.ensures.same)) c.requires.sound,
-        (
-          subst HasEntries (sym (c.in_ok-elsifs-in-If.ensures.same ∙ c.in_ok-branch-in-If.ensures.same)) c.requires.entries,
-          subst (λ x. AreLegal x.scope (stmt_trees c.deref-in-If-2.result.now)) (sym (c.in_ok-elsifs-in-If.ensures.same ∙ c.in_ok-branch-in-If.ensures.same))
-              (subst (λ l. AreLegal c.args.visible.now.scope (stmt_trees l)) (sym c.deref-in-If-2.ensures.value)
-              (if_others c.args.visible.now.scope (stmt_tree c.args.statement.now) c.in-If.field-0 (expr_tree c.in-If.condition) (stmt_trees c.in-If.body.items)
-              (elsif_trees c.in-If.elsifs.items) (stmt_trees c.in-If.others.items) tree c.requires.legal)),
-        ),
-      ),
-    )
+statement-statements-requires = added.statement-statements-requires
 
 pub statement-rejoin-requires : goal.statement-rejoin-requires
-statement-rejoin-requires t c =
-    let v = c.args.visible.now in
-    let w = ways_of c.args.leaving in
-    let first = subst (λ l. AddsParts v w c.args.self.now ((expr_tree c.in-If.condition, stmt_trees l) ∷ []) c.new-waiting.result.items
-    c.branch-self.new.waiting.items c.branch-self.new.self) c.deref.ensures.value c.in_ok-branch-in-If.ensures.adds in
-    let one = c.in_ok-branch-in-If.ensures.same in
-    let two = c.in_ok-elsifs-in-If.ensures.same ∙ one in
-    let others = subst (λ x. AddsParts x w c.branch-self.new.self (map elsif_tree c.in-If.elsifs.items) c.branch-self.new.waiting.items c.elsifs.new.waiting.items
-    c.elsifs.new.self) one
-    (subst (λ l. AddsParts c.branch-self.new.visible w c.branch-self.new.self (map elsif_tree l) c.branch-self.new.waiting.items c.elsifs.new.waiting.items
-    c.elsifs.new.self) c.deref-in-If.ensures.value c.in_ok-elsifs-in-If.ensures.adds) in
-    let last = subst (λ x. EmitsStatements x w c.elsifs.new.self (stmt_trees c.in-If.others.items) c.statements.new.self) two
-    (subst (λ l. EmitsStatements c.elsifs.new.visible w c.elsifs.new.self (stmt_trees l) c.statements.new.self) c.deref-in-If-2.ensures.value
-    c.in_ok-statements-in-If.ensures.emits) in
-    record {
-      there = λ k is. waiting_there v w c.args.self.now c.branch-self.new.self c.elsifs.new.self c.statements.new.self c.statements.new.self c.in-If.field-0
-          (expr_tree c.in-If.condition) (stmt_trees c.in-If.body.items) c.in-If.elsifs.items (stmt_trees c.in-If.others.items) c.new-waiting.result.items
-          c.branch-self.new.waiting.items c.elsifs.new.waiting.items c.deref-in-If-3.result.now c.new-waiting.ensures.items c.deref-in-If-3.ensures.value
-          first others last k is;
-    }
+statement-rejoin-requires = added.statement-rejoin-requires
 
 pub statement-returns-in_ok-statements-in-If-clause-emits : goal.statement-returns-in_ok-statements-in-If-clause-emits
-statement-returns-in_ok-statements-in-If-clause-emits t c =
-    let tree = ap stmt_tree c.in-If.is
-    ∙ c.statements_by_parts.ensures.ifs c.in-If.field-0 c.in-If.condition c.in-If.body c.in-If.elsifs c.in-If.others in
-    let v = c.args.visible.now in
-    let w = ways_of c.args.leaving in
-    let first = subst (λ l. AddsParts v w c.args.self.now ((expr_tree c.in-If.condition, stmt_trees l) ∷ []) c.new-waiting.result.items
-    c.branch-self.new.waiting.items c.branch-self.new.self) c.deref.ensures.value c.in_ok-branch-in-If.ensures.adds in
-    let one = c.in_ok-branch-in-If.ensures.same in
-    let two = c.in_ok-elsifs-in-If.ensures.same ∙ one in
-    let others = subst (λ x. AddsParts x w c.branch-self.new.self (map elsif_tree c.in-If.elsifs.items) c.branch-self.new.waiting.items c.elsifs.new.waiting.items
-    c.elsifs.new.self) one
-    (subst (λ l. AddsParts c.branch-self.new.visible w c.branch-self.new.self (map elsif_tree l) c.branch-self.new.waiting.items c.elsifs.new.waiting.items
-    c.elsifs.new.self) c.deref-in-If.ensures.value c.in_ok-elsifs-in-If.ensures.adds) in
-    let last = subst (λ x. EmitsStatements x w c.elsifs.new.self (stmt_trees c.in-If.others.items) c.statements.new.self) two
-    (subst (λ l. EmitsStatements c.elsifs.new.visible w c.elsifs.new.self (stmt_trees l) c.statements.new.self) c.deref-in-If-2.ensures.value
-    c.in_ok-statements-in-If.ensures.emits) in on_ok_weaker _
-    (λ r.
-    subst (λ x. EmitsStatement v w c.args.self.now x (record { code = c.rejoin.new.self; labels = c.statements.new.self.labels; words = c.statements.new.self.words })) (sym tree)
-    (if_emits v w c.args.self.now c.branch-self.new.self c.elsifs.new.self c.statements.new.self (record { code = c.rejoin.new.self; labels = c.statements.new.self.labels; words = c.statements.new.self.words }) c.in-If.field-0
-    (expr_tree c.in-If.condition) (stmt_trees c.in-If.body.items) c.in-If.elsifs.items (stmt_trees c.in-If.others.items) c.new-waiting.result.items
-    c.branch-self.new.waiting.items c.elsifs.new.waiting.items c.deref-in-If-3.result.now c.new-waiting.ensures.items c.deref-in-If-3.ensures.value
-    first others last _ refl r (refl, refl)))
-    c.rejoin.ensures.rejoins
+statement-returns-in_ok-statements-in-If-clause-emits = added.statement-returns-in_ok-statements-in-If-clause-emits
 
 pub statement-returns-in_ok-statements-in-If-clause-same : goal.statement-returns-in_ok-statements-in-If-clause-same
-statement-returns-in_ok-statements-in-If-clause-same t c =
-    let tree = ap stmt_tree c.in-If.is
-    ∙ c.statements_by_parts.ensures.ifs c.in-If.field-0 c.in-If.condition c.in-If.body c.in-If.elsifs c.in-If.others in
-    let v = c.args.visible.now in
-    let w = ways_of c.args.leaving in
-    let first = subst (λ l. AddsParts v w c.args.self.now ((expr_tree c.in-If.condition, stmt_trees l) ∷ []) c.new-waiting.result.items
-    c.branch-self.new.waiting.items c.branch-self.new.self) c.deref.ensures.value c.in_ok-branch-in-If.ensures.adds in
-    let one = c.in_ok-branch-in-If.ensures.same in
-    let two = c.in_ok-elsifs-in-If.ensures.same ∙ one in
-    let others = subst (λ x. AddsParts x w c.branch-self.new.self (map elsif_tree c.in-If.elsifs.items) c.branch-self.new.waiting.items c.elsifs.new.waiting.items
-    c.elsifs.new.self) one
-    (subst (λ l. AddsParts c.branch-self.new.visible w c.branch-self.new.self (map elsif_tree l) c.branch-self.new.waiting.items c.elsifs.new.waiting.items
-    c.elsifs.new.self) c.deref-in-If.ensures.value c.in_ok-elsifs-in-If.ensures.adds) in
-    let last = subst (λ x. EmitsStatements x w c.elsifs.new.self (stmt_trees c.in-If.others.items) c.statements.new.self) two
-    (subst (λ l. EmitsStatements c.elsifs.new.visible w c.elsifs.new.self (stmt_trees l) c.statements.new.self) c.deref-in-If-2.ensures.value
-    c.in_ok-statements-in-If.ensures.emits) in on_ok_weaker _ (λ r. c.in_ok-statements-in-If.ensures.same ∙ two) c.rejoin.ensures.rejoins
+statement-returns-in_ok-statements-in-If-clause-same = added.statement-returns-in_ok-statements-in-If-clause-same
 
 pub statement-case-requires : goal.statement-case-requires
-statement-case-requires t c =
-    let s = c.args.visible.now.scope in
-    let e = expr_tree c.in-Case.value in
-    let tree = ap stmt_tree c.in-Case.is ∙ c.statements_by_parts.ensures.cases c.in-Case.place c.in-Case.value c.in-Case.alternatives in (
-      search (rules, statements.the_lemmas),
-      (
-        c.requires.sound,
-        (
-          c.requires.entries,
-          subst (λ l. IsLegal s (Case c.in-Case.place e (alternative_trees l))) (sym c.deref-in-Case.ensures.value) (subst (IsLegal s) tree c.requires.legal),
-        ),
-      ),
-    )
+statement-case-requires = added.statement-case-requires
 
 pub statement-returns-in-Case-clause-emits : goal.statement-returns-in-Case-clause-emits
-statement-returns-in-Case-clause-emits t c =
-    let v = c.args.visible.now in
-    let w = ways_of c.args.leaving in
-    let e = expr_tree c.in-Case.value in
-    let tree = ap stmt_tree c.in-Case.is ∙ c.statements_by_parts.ensures.cases c.in-Case.place c.in-Case.value c.in-Case.alternatives in
-    on_ok_weaker _
-    (λ p.
-    subst (λ x. EmitsStatement v w c.args.self.now x c.case.new.self) (sym tree)
-    (subst (λ l. EmitsStatement v w c.args.self.now (Case c.in-Case.place e (alternative_trees l)) c.case.new.self) c.deref-in-Case.ensures.value p))
-    c.case.ensures.emits
+statement-returns-in-Case-clause-emits = added.statement-returns-in-Case-clause-emits
 
 pub statement-returns-in-Assignment-clause-emits : goal.statement-returns-in-Assignment-clause-emits
-statement-returns-in-Assignment-clause-emits t c =
-    on_ok_weaker _
-    (λ p. subst (λ x. EmitsStatement c.args.visible.now (ways_of c.args.leaving) c.args.self.now x c.assign.new.self) (sym (ap stmt_tree c.in-Assignment.is)) p)
-    (c.assign.ensures.emits (ways_of c.args.leaving))
+statement-returns-in-Assignment-clause-emits = added.statement-returns-in-Assignment-clause-emits
 
 pub statement-returns-in-Call-clause-emits : goal.statement-returns-in-Call-clause-emits
-statement-returns-in-Call-clause-emits t c =
-    on_ok_weaker _
-    (λ p. subst (λ x. EmitsStatement c.args.visible.now (ways_of c.args.leaving) c.args.self.now x c.call.new.self) (sym (ap stmt_tree c.in-Call.is)) p)
-    (c.call.ensures.emits (ways_of c.args.leaving))
+statement-returns-in-Call-clause-emits = added.statement-returns-in-Call-clause-emits
 
 pub statement-repeated-requires : goal.statement-repeated-requires
-statement-repeated-requires t c =
-    let s = c.args.visible.now.scope in
-    let tree = ap stmt_tree c.in-Loop.is ∙ c.statements_by_parts.ensures.loops c.in-Loop.place c.in-Loop.iteration c.in-Loop.body in (
-      search (rules, statements.the_lemmas),
-      (
-        c.requires.sound,
-        (
-          c.requires.entries,
-          subst (λ l. IsLegal s (Loop c.in-Loop.place (iteration_tree c.in-Loop.iteration) (stmt_trees l))) (sym c.deref-in-Loop.ensures.value)
-              (subst (IsLegal s) tree c.requires.legal),
-        ),
-      ),
-    )
+statement-repeated-requires = added.statement-repeated-requires
 
 pub statement-returns-in-Loop-clause-emits : goal.statement-returns-in-Loop-clause-emits
-statement-returns-in-Loop-clause-emits t c =
-    let v = c.args.visible.now in
-    let w = ways_of c.args.leaving in
-    let tree = ap stmt_tree c.in-Loop.is ∙ c.statements_by_parts.ensures.loops c.in-Loop.place c.in-Loop.iteration c.in-Loop.body in on_ok_weaker _
-    (λ p.
-    subst (λ x. EmitsStatement v w c.args.self.now x c.repeated.new.self) (sym tree)
-    (subst (λ l. EmitsStatement v w c.args.self.now (Loop c.in-Loop.place (iteration_tree c.in-Loop.iteration) (stmt_trees l)) c.repeated.new.self)
-    c.deref-in-Loop.ensures.value p))
-    c.repeated.ensures.emits
+statement-returns-in-Loop-clause-emits = added.statement-returns-in-Loop-clause-emits
 
 pub statement-returns-in-Loop-clause-same : goal.statement-returns-in-Loop-clause-same
-statement-returns-in-Loop-clause-same t c =
-    let v = c.args.visible.now in
-    let w = ways_of c.args.leaving in
-    let tree = ap stmt_tree c.in-Loop.is ∙ c.statements_by_parts.ensures.loops c.in-Loop.place c.in-Loop.iteration c.in-Loop.body in c.repeated.ensures.same
+statement-returns-in-Loop-clause-same = added.statement-returns-in-Loop-clause-same
 
 pub statement-block-requires : goal.statement-block-requires
-statement-block-requires t c =
-    let s = c.args.visible.now.scope in
-    let no_handlers : c.in-Block.handlers.items ≡ [] = none_there c.in-Block.handlers.items (search rules) in
-    let tree = ap stmt_tree c.in-Block.is
-    ∙ c.statements_by_parts.ensures.blocks c.in-Block.place c.in-Block.declarations c.in-Block.body c.in-Block.handlers
-    ∙ ap (λ l. Block c.in-Block.place (map declaration_tree c.in-Block.declarations.items) (stmt_trees c.in-Block.body.items) (handler_trees l)) no_handlers in (
-      search (rules, statements.the_lemmas),
-      (
-        c.requires.sound,
-        (
-          c.requires.entries,
-          subst (λ l. IsLegal s (Block c.in-Block.place (map declaration_tree l) (stmt_trees c.deref-then-is_empty.result.now) NoHandlers))
-              (sym c.deref-then-is_empty-2.ensures.value)
-              (subst (λ l. IsLegal s (Block c.in-Block.place (map declaration_tree c.in-Block.declarations.items) (stmt_trees l) NoHandlers))
-              (sym c.deref-then-is_empty.ensures.value) (subst (IsLegal s) tree c.requires.legal)),
-        ),
-      ),
-    )
+statement-block-requires = added.statement-block-requires
 
 pub statement-returns-then-is_empty-clause-emits : goal.statement-returns-then-is_empty-clause-emits
-statement-returns-then-is_empty-clause-emits t c =
-    let v = c.args.visible.now in
-    let w = ways_of c.args.leaving in
-    let no_handlers : c.in-Block.handlers.items ≡ [] = none_there c.in-Block.handlers.items (search rules) in
-    let tree = ap stmt_tree c.in-Block.is
-    ∙ c.statements_by_parts.ensures.blocks c.in-Block.place c.in-Block.declarations c.in-Block.body c.in-Block.handlers
-    ∙ ap (λ l. Block c.in-Block.place (map declaration_tree c.in-Block.declarations.items) (stmt_trees c.in-Block.body.items) (handler_trees l)) no_handlers in on_ok_weaker _
-    (λ p.
-    subst (λ x. EmitsStatement v w c.args.self.now x c.block.new.self) (sym tree)
-    (subst (λ l. EmitsStatement v w c.args.self.now (Block c.in-Block.place (map declaration_tree c.in-Block.declarations.items) (stmt_trees l) NoHandlers) c.block.new.self)
-    c.deref-then-is_empty.ensures.value
-    (subst (λ l. EmitsStatement v w c.args.self.now (Block c.in-Block.place (map declaration_tree l) (stmt_trees c.deref-then-is_empty.result.now) NoHandlers)
-    c.block.new.self) c.deref-then-is_empty-2.ensures.value p)))
-    c.block.ensures.emits
+statement-returns-then-is_empty-clause-emits = added.statement-returns-then-is_empty-clause-emits
 
 pub statement-returns-then-is_empty-clause-same : goal.statement-returns-then-is_empty-clause-same
-statement-returns-then-is_empty-clause-same t c =
-    let v = c.args.visible.now in
-    let w = ways_of c.args.leaving in
-    let no_handlers : c.in-Block.handlers.items ≡ [] = none_there c.in-Block.handlers.items (search rules) in
-    let tree = ap stmt_tree c.in-Block.is
-    ∙ c.statements_by_parts.ensures.blocks c.in-Block.place c.in-Block.declarations c.in-Block.body c.in-Block.handlers
-    ∙ ap (λ l. Block c.in-Block.place (map declaration_tree c.in-Block.declarations.items) (stmt_trees c.in-Block.body.items) (handler_trees l)) no_handlers in c.block.ensures.same
+statement-returns-then-is_empty-clause-same = added.statement-returns-then-is_empty-clause-same
 
 -- ---- statements one behind another
 
 pub statements-loop-statement-init : goal.statements-loop-statement-init
-statements-loop-statement-init t c = (
-  no_statements c.args.visible.now (ways_of c.args.leaving) c.args.self.now,
-  refl,
-  stays_self c.args.self.now (stmts_needs (around c.args.visible.now (ways_of c.args.leaving) c.args.self.now) (stmt_trees c.args.all.now)),
-)
+statements-loop-statement-init = added.statements-loop-statement-init
 
 pub statements-statement-requires : goal.statements-statement-requires
-statements-statement-requires t c =
-    let there = sym c.loop-statement.invariant.1 in (
-      search (rules, statements.the_lemmas),
-      (
-        subst (λ x. SoundScope x.scope) there c.requires.sound,
-        (
-          subst HasEntries there c.requires.entries,
-          subst (λ x. IsLegal x.scope (stmt_tree c.statement-item.result)) there
-              (statement_legal c.args.visible.now.scope c.args.all.now _ c.statement-item.result c.loop-statement-test.true c.statement-item.is c.requires.legal),
-        ),
-      ),
-    )
+statements-statement-requires = added.statements-statement-requires
 
 pub statements-loop-statement-preserved : goal.statements-loop-statement-preserved
-statements-loop-statement-preserved t c =
-    let w = ways_of c.args.leaving in
-    let there = c.loop-statement.invariant.1 in (
-      statements_next c.args.visible.now w c.args.self.now c.loop-statement.self c.statement.new.self c.args.all.now _ c.statement-item.result
-          c.loop-statement-test.true c.statement-item.is c.loop-statement.invariant.0
-          (subst (λ x. EmitsStatement x w c.loop-statement.self (stmt_tree c.statement-item.result) c.statement.new.self) there c.in_ok-statement.ensures.emits),
-      c.in_ok-statement.ensures.same ∙ there,
-      statements_stay c.args.visible.now w c.args.self.now c.loop-statement.self c.statement.new.self c.args.all.now _ c.statement-item.result
-          c.loop-statement-test.true c.statement-item.is c.loop-statement.invariant.0.taken c.loop-statement.invariant.2
-          (subst (λ x. StaysStatement x w c.loop-statement.self (stmt_tree c.statement-item.result) c.statement.new.self) there
-          c.in_ok-statement.ensures.stays),
-    )
+statements-loop-statement-preserved = added.statements-loop-statement-preserved
 
 pub statements-returns-clause-stays : goal.statements-returns-clause-stays
-statements-returns-clause-stays t c =
-    statements_end c.args.self.now c.loop-statement.self c.args.all.now _ _ c.loop-statement-test.false c.loop-statement.invariant.2
+statements-returns-clause-stays = added.statements-returns-clause-stays
 
 pub statements-returns-clause-emits : goal.statements-returns-clause-emits
-statements-returns-clause-emits t c = all_statements c.args.visible.now (ways_of c.args.leaving) c.args.self.now c.loop-statement.self c.args.all.now _ c.loop-statement-test.false
-    c.loop-statement.invariant.0
+statements-returns-clause-emits = added.statements-returns-clause-emits
 
 pub statements-returns-clause-same : goal.statements-returns-clause-same
-statements-returns-clause-same t c = c.loop-statement.invariant.1
+statements-returns-clause-same = added.statements-returns-clause-same
 
 -- ---- refusals: parts of an `if`
 
 pub branch-returns-in_err-of_width-clause-refused : goal.branch-returns-in_err-of_width-clause-refused
-branch-returns-in_err-of_width-clause-refused t c =
-    let whole = condition_refused c.args.visible.now (ways_of c.args.leaving) c.args.self.now c.in_err-of_width.field-0.0
-    (expr_tree c.args.condition.now) (stmt_trees c.args.body.now) c.in_err-of_width.ensures.refused in
-    search (rules, whole)
+branch-returns-in_err-of_width-clause-refused = refused.branch-returns-in_err-of_width-clause-refused
 
 pub branch-returns-in_err-test-clause-refused : goal.branch-returns-in_err-test-clause-refused
-branch-returns-in_err-test-clause-refused t c =
-    let whole = test_refused c.args.visible.now (ways_of c.args.leaving) c.args.self.now c.in_err-test.field-0.0
-    (expr_tree c.args.condition.now) (stmt_trees c.args.body.now) c.of_width.new.self c.in_ok-of_width.ensures.emits.sized c.in_err-test.ensures.refused in
-    search (rules, whole)
+branch-returns-in_err-test-clause-refused = refused.branch-returns-in_err-test-clause-refused
 
 pub branch-returns-in_err-statements-clause-refused : goal.branch-returns-in_err-statements-clause-refused
-branch-returns-in_err-statements-clause-refused t c =
-    let first = c.in_ok-of_width.ensures.emits.sized in
-    let jump = added_here _ _ _ _ c.in_ok-test.ensures.adds in
-    let mid : Draft = record { code = c.test.new.self; labels = c.args.self.now.labels; words = c.args.self.now.words } in
-    let whole = body_refused c.args.visible.now (ways_of c.args.leaving) c.args.self.now c.in_err-statements.field-0.0
-    (expr_tree c.args.condition.now) (stmt_trees c.args.body.now) mid refl refl (omega (arith, first, jump)) c.in_err-statements.ensures.refused in
-    search (rules, whole)
+branch-returns-in_err-statements-clause-refused = refused.branch-returns-in_err-statements-clause-refused
 
 pub branch-returns-clause-refused : goal.branch-returns-clause-refused
-branch-returns-clause-refused t c =
-    let first = c.in_ok-of_width.ensures.emits.sized in
-    let jump = added_here _ _ _ _ c.in_ok-test.ensures.adds in
-    let second = c.in_ok-statements.ensures.emits.sized in
-    IfErr-weaker _ _ _
-    (λ why r.
-    close_refused c.args.visible.now (ways_of c.args.leaving) c.args.self.now why (expr_tree c.args.condition.now)
-    (stmt_trees c.args.body.now) c.statements.new.self.code (omega (arith, first, jump, second)) r)
-    c.close.ensures.refused
+branch-returns-clause-refused = refused.branch-returns-clause-refused
 
 pub elsifs-returns-in_err-branch-clause-refused : goal.elsifs-returns-in_err-branch-clause-refused
-elsifs-returns-in_err-branch-clause-refused t c =
-    let v = c.args.visible.now in
-    let w = ways_of c.args.leaving in
-    let there = c.loop-part.invariant.1 in
-    let before = c.loop-part.invariant.0.emits in
-    let up = before.sized in
-    let part : RefusesParts v w c.loop-part.self (elsifs_of (elsif_tree c.part-item.result ∷ [])) c.in_err-branch.field-0.0 =
-    subst (λ x. RefusesParts x w c.loop-part.self (elsifs_of (elsif_tree c.part-item.result ∷ [])) c.in_err-branch.field-0.0) there
-    (subst (λ l. RefusesParts c.loop-part.visible w c.loop-part.self (elsifs_of ((expr_tree c.part-item.result.condition, stmt_trees l) ∷ []))
-    c.in_err-branch.field-0.0) c.deref.ensures.value c.in_err-branch.ensures.refused) in
-    let whole = part_refuses v w c.args.self.now c.in_err-branch.field-0.0 c.loop-part.self c.args.elsifs.now _ c.part-item.result
-    c.loop-part-test.true c.part-item.is before.taken c.loop-part.invariant.2.labels up part in
-    search (rules, whole)
+elsifs-returns-in_err-branch-clause-refused = refused.elsifs-returns-in_err-branch-clause-refused
 
 -- ---- refusals: alternatives
 
 pub alternative-returns-in_err-next-clause-refused : goal.alternative-returns-in_err-next-clause-refused
-alternative-returns-in_err-next-clause-refused t c =
-    let a = c.args.alternative.now in
-    let whole = choices_refused c.args.visible.now (ways_of c.args.leaving) c.args.self.now c.in_err-next.field-0.0 a.place
-    (choices_tree a.choices) (stmt_trees a.statements.items) c.in_err-next.ensures.refused in
-    search (rules, whole)
+alternative-returns-in_err-next-clause-refused = refused.alternative-returns-in_err-next-clause-refused
 
 pub alternative-returns-in_err-statements-clause-refused : goal.alternative-returns-in_err-statements-clause-refused
-alternative-returns-in_err-statements-clause-refused t c =
-    let v = c.args.visible.now in
-    let w = ways_of c.args.leaving in
-    let a = c.args.alternative.now in
-    let chosen : Draft = record { code = c.add_choices.new.code; labels = c.args.self.now.labels; words = c.args.self.now.words } in
-    let selects = choices_select c.calls_are_typed.ensures c.static_is_value.ensures c.quiet_stays.ensures v (expr_tree c.args.value.now) c.requires.selecting
-    (choices_tree a.choices) c.args.self.now.code c.in_ok-next.next.items c.add_choices.new.code c.requires.choices c.in_ok-next.ensures.adds in
-    let whole = chosen_refused v w c.args.self.now c.in_err-statements.field-0.0 a.place (choices_tree a.choices)
-    (stmt_trees a.statements.items) chosen refl refl selects.sized
-    (subst (λ l. RefusesStatements v w chosen (stmt_trees l) c.in_err-statements.field-0.0) c.deref.ensures.value
-    c.in_err-statements.ensures.refused) in
-    search (rules, whole)
+alternative-returns-in_err-statements-clause-refused = refused.alternative-returns-in_err-statements-clause-refused
 
 pub alternative-returns-in_err-emit-clause-refused : goal.alternative-returns-in_err-emit-clause-refused
-alternative-returns-in_err-emit-clause-refused t c =
-    let v = c.args.visible.now in
-    let w = ways_of c.args.leaving in
-    let a = c.args.alternative.now in
-    let chosen : Draft = record { code = c.add_choices.new.code; labels = c.args.self.now.labels; words = c.args.self.now.words } in
-    let selects = choices_select c.calls_are_typed.ensures c.static_is_value.ensures c.quiet_stays.ensures v (expr_tree c.args.value.now) c.requires.selecting
-    (choices_tree a.choices) c.args.self.now.code c.in_ok-next.next.items c.add_choices.new.code c.requires.choices c.in_ok-next.ensures.adds in
-    let body = subst (λ l. EmitsStatements v w chosen (stmt_trees l) c.statements.new.self) c.deref.ensures.value c.in_ok-statements.ensures.emits in
-    let one = selects.sized in
-    let two = body.sized in
-    let whole = leaving_refused v w c.args.self.now c.in_err-emit.field-0.0 a.place (choices_tree a.choices)
-    (stmt_trees a.statements.items) _ (omega (arith, one, two)) c.in_err-emit.ensures.refused in
-    search (rules, whole)
+alternative-returns-in_err-emit-clause-refused = refused.alternative-returns-in_err-emit-clause-refused
 
 pub alternative-returns-clause-refused : goal.alternative-returns-clause-refused
-alternative-returns-clause-refused t c =
-    let v = c.args.visible.now in
-    let w = ways_of c.args.leaving in
-    let a = c.args.alternative.now in
-    let chosen : Draft = record { code = c.add_choices.new.code; labels = c.args.self.now.labels; words = c.args.self.now.words } in
-    let selects = choices_select c.calls_are_typed.ensures c.static_is_value.ensures c.quiet_stays.ensures v (expr_tree c.args.value.now) c.requires.selecting
-    (choices_tree a.choices) c.args.self.now.code c.in_ok-next.next.items c.add_choices.new.code c.requires.choices c.in_ok-next.ensures.adds in
-    let body = subst (λ l. EmitsStatements v w chosen (stmt_trees l) c.statements.new.self) c.deref.ensures.value c.in_ok-statements.ensures.emits in
-    let one = selects.sized in
-    let two = body.sized in
-    let three = added_here _ _ _ _ c.in_ok-emit.ensures.adds in
-    IfErr-weaker _ _ _
-    (λ why r.
-    leaving_refused v w c.args.self.now why a.place (choices_tree a.choices) (stmt_trees a.statements.items) _
-    (omega (arith, one, two, three)) r)
-    c.rejoin.ensures.refused
+alternative-returns-clause-refused = refused.alternative-returns-clause-refused
 
 pub alternatives-returns-in_err-alternative-clause-refused : goal.alternatives-returns-in_err-alternative-clause-refused
-alternatives-returns-in_err-alternative-clause-refused t c =
-    let v = c.args.visible.now in
-    let w = ways_of c.args.leaving in
-    let before = c.loop-alternative.invariant.0.emits in
-    let up = before.sized in
-    let whole = alternative_refuses v w c.args.self.now c.in_err-alternative.field-0.0 c.loop-alternative.self c.args.all.now _
-    c.alternative-item.result c.loop-alternative-test.true c.alternative-item.is before.taken c.loop-alternative.invariant.2.labels up
-    (subst (λ x. RefusesAlternatives x w c.loop-alternative.self (alternatives_of (alternative_tree c.alternative-item.result ∷ []))
-    c.in_err-alternative.field-0.0) c.loop-alternative.invariant.1 c.in_err-alternative.ensures.refused) in
-    search (rules, whole)
+alternatives-returns-in_err-alternative-clause-refused = refused.alternatives-returns-in_err-alternative-clause-refused
 
 pub case-returns-in_err-of_width-clause-refused : goal.case-returns-in_err-of_width-clause-refused
-case-returns-in_err-of_width-clause-refused t c =
-    let whole = selected_refused c.args.visible.now (ways_of c.args.leaving) c.args.self.now c.in_err-of_width.field-0.0 c.args.place
-    (expr_tree c.args.value.now) (alternative_trees c.args.alternatives.now) c.in_err-of_width.ensures.refused in
-    search (rules, whole)
+case-returns-in_err-of_width-clause-refused = refused.case-returns-in_err-of_width-clause-refused
 
 pub case-returns-in_err-alternatives-clause-refused : goal.case-returns-in_err-alternatives-clause-refused
-case-returns-in_err-alternatives-clause-refused t c =
-    let valued : Draft = record { code = c.of_width.new.self; labels = c.args.self.now.labels; words = c.args.self.now.words } in
-    let whole = alternatives_refused c.args.visible.now (ways_of c.args.leaving) c.args.self.now c.in_err-alternatives.field-0.0
-    c.args.place (expr_tree c.args.value.now) (alternative_trees c.args.alternatives.now) valued refl refl c.in_ok-of_width.ensures.emits.sized
-    c.in_err-alternatives.ensures.refused in
-    search (rules, whole)
+case-returns-in_err-alternatives-clause-refused = refused.case-returns-in_err-alternatives-clause-refused
 
 pub case-returns-in_err-emit-clause-refused : goal.case-returns-in_err-emit-clause-refused
-case-returns-in_err-emit-clause-refused t c =
-    let one = c.in_ok-of_width.ensures.emits.sized in
-    let two = c.in_ok-alternatives.ensures.adds.emits.sized in
-    let whole = dropped_refused c.args.visible.now (ways_of c.args.leaving) c.args.self.now c.in_err-emit.field-0.0 c.args.place
-    (expr_tree c.args.value.now) (alternative_trees c.args.alternatives.now) _ 1 (omega (arith, one, two)) (omega arith) c.in_err-emit.ensures.refused in
-    search (rules, whole)
+case-returns-in_err-emit-clause-refused = refused.case-returns-in_err-emit-clause-refused
 
 pub case-returns-clause-refused : goal.case-returns-clause-refused
-case-returns-clause-refused t c =
-    let one = c.in_ok-of_width.ensures.emits.sized in
-    let two = c.in_ok-alternatives.ensures.adds.emits.sized in
-    let three = added_here _ _ _ _ c.in_ok-emit.ensures.adds in
-    IfErr-weaker _ _ _
-    (λ why r.
-    dropped_refused c.args.visible.now (ways_of c.args.leaving) c.args.self.now why c.args.place
-    (expr_tree c.args.value.now) (alternative_trees c.args.alternatives.now) _ 0 (omega (arith, one, two, three)) (omega arith) r)
-    c.rejoin.ensures.refused
+case-returns-clause-refused = refused.case-returns-clause-refused
 
 -- ---- refusals: loops
 
 pub repeated-returns-in_err-head-in-Forever-clause-refused : goal.repeated-returns-in_err-head-in-Forever-clause-refused
-repeated-returns-in_err-head-in-Forever-clause-refused t c =
-    let whole = instruction_refuses c.args.visible.now (ways_of c.args.leaving) c.args.self.now c.in_err-head-in-Forever.field-0.0
-    c.args.place (iteration_tree c.args.iteration.now) (stmt_trees c.args.body.now) _ 0 (omega arith) (omega arith) c.in_err-head-in-Forever.ensures.refused in
-    search (rules, whole)
+repeated-returns-in_err-head-in-Forever-clause-refused = refused.repeated-returns-in_err-head-in-Forever-clause-refused
 
 pub repeated-returns-in_err-statements-in-Forever-clause-refused : goal.repeated-returns-in_err-statements-in-Forever-clause-refused
-repeated-returns-in_err-statements-in-Forever-clause-refused t c =
-    let v = c.args.visible.now in
-    let w = ways_of c.args.leaving in
-    let body = stmt_trees c.args.body.now in
-    let why = c.in_err-statements-in-Forever.field-0.0 in
-    let begun : Draft = record { code = c.begin_loop.new.code; labels = c.args.self.now.labels; words = c.args.self.now.words } in
-    let long = begun_here _ _ c.in_ok-head-in-Forever.ensures.begins in
-    let whole = subst (λ i. RefusesStatement v w c.args.self.now (Loop c.args.place (iteration_tree i) body) why) (sym c.in-Forever.is)
-    (forever_body v w c.args.self.now why c.args.place c.in_ok-head-in-Forever.head.exit body begun refl refl (omega (arith, long))
-    (subst (λ x. RefusesStatements v x begun body why) c.in_loop.ensures c.in_err-statements-in-Forever.ensures.refused)) in
-    search (rules, whole)
+repeated-returns-in_err-statements-in-Forever-clause-refused = refused.repeated-returns-in_err-statements-in-Forever-clause-refused
 
 pub repeated-returns-in_err-end_loop-in-Forever-clause-refused : goal.repeated-returns-in_err-end_loop-in-Forever-clause-refused
-repeated-returns-in_err-end_loop-in-Forever-clause-refused t c =
-    let v = c.args.visible.now in
-    let w = ways_of c.args.leaving in
-    let body = stmt_trees c.args.body.now in
-    let why = c.in_err-end_loop-in-Forever.field-0.0 in
-    let long = begun_here _ _ c.in_ok-head-in-Forever.ensures.begins in
-    let second = c.in_ok-statements-in-Forever.ensures.emits.sized in
-    let whole = subst (λ i. RefusesStatement v w c.args.self.now (Loop c.args.place (iteration_tree i) body) why) (sym c.in-Forever.is)
-    (instruction_refuses v w c.args.self.now why c.args.place Forever body _ 0 (omega (arith, long, second)) (omega arith)
-    c.in_err-end_loop-in-Forever.ensures.refused) in
-    search (rules, whole)
+repeated-returns-in_err-end_loop-in-Forever-clause-refused = refused.repeated-returns-in_err-end_loop-in-Forever-clause-refused
 
 pub repeated-returns-in_err-head-in-While-clause-refused : goal.repeated-returns-in_err-head-in-While-clause-refused
-repeated-returns-in_err-head-in-While-clause-refused t c =
-    let whole = instruction_refuses c.args.visible.now (ways_of c.args.leaving) c.args.self.now c.in_err-head-in-While.field-0.0
-    c.args.place (iteration_tree c.args.iteration.now) (stmt_trees c.args.body.now) _ 0 (omega arith) (omega arith) c.in_err-head-in-While.ensures.refused in
-    search (rules, whole)
+repeated-returns-in_err-head-in-While-clause-refused = refused.repeated-returns-in_err-head-in-While-clause-refused
 
 pub repeated-returns-in_err-of_width-in-While-clause-refused : goal.repeated-returns-in_err-of_width-in-While-clause-refused
-repeated-returns-in_err-of_width-in-While-clause-refused t c =
-    let v = c.args.visible.now in
-    let w = ways_of c.args.leaving in
-    let body = stmt_trees c.args.body.now in
-    let why = c.in_err-of_width-in-While.field-0.0 in
-    let long = begun_here _ _ c.in_ok-head-in-While.ensures.begins in
-    let whole = subst (λ i. RefusesStatement v w c.args.self.now (Loop c.args.place (iteration_tree i) body) why) (sym c.in-While.is)
-    (while_condition_refused v w c.args.self.now why c.args.place (expr_tree c.in-While.condition) body c.begin_loop-in-While.new.code
-    (omega (arith, long)) c.in_err-of_width-in-While.ensures.refused) in
-    search (rules, whole)
+repeated-returns-in_err-of_width-in-While-clause-refused = refused.repeated-returns-in_err-of_width-in-While-clause-refused
 
 pub repeated-returns-in_err-test-in-While-clause-refused : goal.repeated-returns-in_err-test-in-While-clause-refused
-repeated-returns-in_err-test-in-While-clause-refused t c =
-    let v = c.args.visible.now in
-    let w = ways_of c.args.leaving in
-    let e = expr_tree c.in-While.condition in
-    let body = stmt_trees c.args.body.now in
-    let why = c.in_err-test-in-While.field-0.0 in
-    let long = begun_here _ _ c.in_ok-head-in-While.ensures.begins in
-    let first = c.in_ok-of_width-in-While.ensures.emits.sized in
-    let whole = subst (λ i. RefusesStatement v w c.args.self.now (Loop c.args.place (iteration_tree i) body) why) (sym c.in-While.is)
-    (instruction_refuses v w c.args.self.now why c.args.place (While e) body _ 1 (omega (arith, long, first))
-    (let some = peak_some v.scope e in omega (arith, some))
-    c.in_err-test-in-While.ensures.refused) in
-    search (rules, whole)
+repeated-returns-in_err-test-in-While-clause-refused = refused.repeated-returns-in_err-test-in-While-clause-refused
 
 pub repeated-returns-in_err-statements-in-While-clause-refused : goal.repeated-returns-in_err-statements-in-While-clause-refused
-repeated-returns-in_err-statements-in-While-clause-refused t c =
-    let v = c.args.visible.now in
-    let w = ways_of c.args.leaving in
-    let body = stmt_trees c.args.body.now in
-    let why = c.in_err-statements-in-While.field-0.0 in
-    let jumped : Draft = record { code = c.test.new.self; labels = c.args.self.now.labels; words = c.args.self.now.words } in
-    let long = begun_here _ _ c.in_ok-head-in-While.ensures.begins in
-    let first = c.in_ok-of_width-in-While.ensures.emits.sized in
-    let jump = added_here _ _ _ _ c.in_ok-test-in-While.ensures.adds in
-    let whole = subst (λ i. RefusesStatement v w c.args.self.now (Loop c.args.place (iteration_tree i) body) why) (sym c.in-While.is)
-    (while_body_refused v w c.args.self.now why c.args.place (expr_tree c.in-While.condition) body
-    c.in_ok-head-in-While.head.exit jumped refl refl (omega (arith, long, first, jump))
-    (subst (λ x. RefusesStatements v x jumped body why) c.in_loop-in-While.ensures
-    c.in_err-statements-in-While.ensures.refused)) in
-    search (rules, whole)
+repeated-returns-in_err-statements-in-While-clause-refused = refused.repeated-returns-in_err-statements-in-While-clause-refused
 
 pub repeated-returns-in_err-end-in-While-clause-refused : goal.repeated-returns-in_err-end-in-While-clause-refused
-repeated-returns-in_err-end-in-While-clause-refused t c =
-    let v = c.args.visible.now in
-    let w = ways_of c.args.leaving in
-    let e = expr_tree c.in-While.condition in
-    let body = stmt_trees c.args.body.now in
-    let why = c.in_err-end-in-While.field-0.0 in
-    let long = begun_here _ _ c.in_ok-head-in-While.ensures.begins in
-    let first = c.in_ok-of_width-in-While.ensures.emits.sized in
-    let jump = added_here _ _ _ _ c.in_ok-test-in-While.ensures.adds in
-    let second = c.in_ok-statements-in-While.ensures.emits.sized in
-    let whole = subst (λ i. RefusesStatement v w c.args.self.now (Loop c.args.place (iteration_tree i) body) why) (sym c.in-While.is)
-    (instruction_refuses v w c.args.self.now why c.args.place (While e) body _ 0 (omega (arith, long, first, jump, second))
-    (omega arith) c.in_err-end-in-While.ensures.refused) in
-    search (rules, whole)
+repeated-returns-in_err-end-in-While-clause-refused = refused.repeated-returns-in_err-end-in-While-clause-refused
 
 pub repeated-returns-in-For-clause-refused : goal.repeated-returns-in-For-clause-refused
-repeated-returns-in-For-clause-refused t c =
-    let v = c.args.visible.now in
-    let w = ways_of c.args.leaving in
-    let body = stmt_trees c.args.body.now in
-    IfErr-weaker _ _ _
-    (λ why r. subst (λ i. RefusesStatement v w c.args.self.now (Loop c.args.place (iteration_tree i) body) why) (sym c.in-For.is) r)
-    c.counted.ensures.refused
+repeated-returns-in-For-clause-refused = refused.repeated-returns-in-For-clause-refused
 
 pub counted-returns-in_err-head-clause-refused : goal.counted-returns-in_err-head-clause-refused
-counted-returns-in_err-head-clause-refused t c =
-    let whole = instruction_refuses c.args.visible.now (ways_of c.args.leaving) c.args.self.now c.in_err-head.field-0.0 c.args.place
-    (For c.args.parameter.now c.args.reversed (range_tree c.args.range.now)) (stmt_trees c.args.body.now) _ 0 (omega arith) (omega arith)
-    c.in_err-head.ensures.refused in
-    search (rules, whole)
+counted-returns-in_err-head-clause-refused = refused.counted-returns-in_err-head-clause-refused
 
 pub counted-returns-in_err-turns-clause-refused : goal.counted-returns-in_err-turns-clause-refused
-counted-returns-in_err-turns-clause-refused t c =
-    let begun : Draft = record { code = c.begin_loop.new.code; labels = c.args.self.now.labels; words = c.args.self.now.words } in
-    let long = begun_here _ _ c.in_ok-head.ensures.begins in
-    let whole = range_refused c.args.visible.now (ways_of c.args.leaving) c.args.self.now c.in_err-turns.field-0.0 c.args.place
-    c.args.parameter.now c.args.reversed (range_tree c.args.range.now) (stmt_trees c.args.body.now) begun refl (omega (arith, long))
-    c.in_err-turns.ensures.refused in
-    search (rules, whole)
+counted-returns-in_err-turns-clause-refused = refused.counted-returns-in_err-turns-clause-refused
 
 pub counted-returns-in_err-turn-clause-refused : goal.counted-returns-in_err-turn-clause-refused
-counted-returns-in_err-turn-clause-refused t c =
-    let long = begun_here _ _ c.in_ok-head.ensures.begins in
-    let range = range_here _ _ _ _ _ _ _ _ _ c.in_ok-turns.ensures.begins in
-    let whole = instruction_refuses c.args.visible.now (ways_of c.args.leaving) c.args.self.now c.in_err-turn.field-0.0 c.args.place
-    (For c.args.parameter.now c.args.reversed (range_tree c.args.range.now)) (stmt_trees c.args.body.now) _ 0 (omega (arith, long, range)) (omega arith)
-    c.in_err-turn.ensures.refused in
-    search (rules, whole)
+counted-returns-in_err-turn-clause-refused = refused.counted-returns-in_err-turn-clause-refused
 
 pub counted-returns-in_err-statements-clause-refused : goal.counted-returns-in_err-statements-clause-refused
-counted-returns-in_err-statements-clause-refused t c =
-    let v = c.args.visible.now in
-    let w = ways_of c.args.leaving in
-    let body = stmt_trees c.args.body.now in
-    let why = c.in_err-statements.field-0.0 in
-    let long = begun_here _ _ c.in_ok-head.ensures.begins in
-    let range = range_here _ _ _ _ _ _ _ _ _ c.in_ok-turns.ensures.begins in
-    let whole = counted_body v w c.args.self.now why c.args.place c.args.parameter.now c.args.reversed (range_tree c.args.range.now) body
-    c.in_ok-head.head.exit c.begin_range.new.visible c.begin_range.new.self (range_seen _ _ _ _ _ _ _ _ _ c.in_ok-turns.ensures.begins)
-    c.in_ok-turns.ensures.begins.takes.taken c.in_ok-turns.ensures.stays.labels (omega (arith, long, range))
-    (subst (λ x. RefusesStatements c.begin_range.new.visible x c.begin_range.new.self body why) c.in_loop.ensures
-    c.in_err-statements.ensures.refused) in
-    search (rules, whole)
+counted-returns-in_err-statements-clause-refused = refused.counted-returns-in_err-statements-clause-refused
 
 pub counted-returns-in_err-last-clause-refused : goal.counted-returns-in_err-last-clause-refused
-counted-returns-in_err-last-clause-refused t c =
-    let v = c.args.visible.now in
-    let range = range_tree c.args.range.now in
-    let body = stmt_trees c.args.body.now in
-    let long = begun_here _ _ c.in_ok-head.ensures.begins in
-    let began = c.in_ok-turns.ensures.begins in
-    let bounds = range_here _ _ _ _ _ _ _ _ _ began in
-    let turned = c.in_ok-statements.ensures.emits.sized in
-    let seen = ap (λ s. stmts_bound s body) began.scope in
-    let whole = instruction_refuses v (ways_of c.args.leaving) c.args.self.now c.in_err-last.field-0.0 c.args.place
-    (For c.args.parameter.now c.args.reversed range) body _ 2 (omega (arith, long, bounds, turned, seen)) (range_two (around v (ways_of c.args.leaving) c.args.self.now) c.args.parameter.now c.args.reversed range)
-    c.in_err-last.ensures.refused in
-    search (rules, whole)
+counted-returns-in_err-last-clause-refused = refused.counted-returns-in_err-last-clause-refused
 
 pub counted-returns-in_err-end-clause-refused : goal.counted-returns-in_err-end-clause-refused
-counted-returns-in_err-end-clause-refused t c =
-    let v = c.args.visible.now in
-    let range = range_tree c.args.range.now in
-    let body = stmt_trees c.args.body.now in
-    let long = begun_here _ _ c.in_ok-head.ensures.begins in
-    let began = c.in_ok-turns.ensures.begins in
-    let bounds = range_here _ _ _ _ _ _ _ _ _ began in
-    let turned = c.in_ok-statements.ensures.emits.sized in
-    let seen = ap (λ s. stmts_bound s body) began.scope in
-    let ended = turn_here _ _ _ _ c.in_ok-last.ensures.ends in
-    let whole = instruction_refuses v (ways_of c.args.leaving) c.args.self.now c.in_err-end.field-0.0 c.args.place
-    (For c.args.parameter.now c.args.reversed range) body _ 0 (omega (arith, long, bounds, turned, seen, ended)) (omega arith)
-    c.in_err-end.ensures.refused in
-    search (rules, whole)
+counted-returns-in_err-end-clause-refused = refused.counted-returns-in_err-end-clause-refused
 
 -- ---- refusals: blocks
 
 pub block-returns-in_err-declarations-clause-refused : goal.block-returns-in_err-declarations-clause-refused
-block-returns-in_err-declarations-clause-refused t c =
-    let whole = locals_refused c.args.visible.now (ways_of c.args.leaving) c.args.self.now c.in_err-declarations.field-0.0 c.args.place
-    (map declaration_tree c.args.declarations.now) (stmt_trees c.args.body.now) c.in_err-declarations.ensures.refused in
-    search (rules, whole)
+block-returns-in_err-declarations-clause-refused = refused.block-returns-in_err-declarations-clause-refused
 
 pub block-returns-in_err-statements-clause-refused : goal.block-returns-in_err-statements-clause-refused
-block-returns-in_err-statements-clause-refused t c =
-    let declared = c.in_ok-declarations.ensures.emits in
-    let whole = block_body_refused c.args.visible.now (ways_of c.args.leaving) c.args.self.now c.in_err-statements.field-0.0 c.args.place
-    (map declaration_tree c.args.declarations.now) (stmt_trees c.args.body.now) c.declarations.new.visible c.declarations.new.self
-    c.in_ok-declarations.ensures.shown declared.scope c.in_ok-declarations.ensures.taken c.in_ok-declarations.ensures.stays.labels declared.sized
-    c.in_err-statements.ensures.refused in
-    search (rules, whole)
+block-returns-in_err-statements-clause-refused = refused.block-returns-in_err-statements-clause-refused
 
 -- ---- refusals: a statement
 
 pub statement-returns-in_err-branch-in-If-clause-refused : goal.statement-returns-in_err-branch-in-If-clause-refused
-statement-returns-in_err-branch-in-If-clause-refused t c =
-    let v = c.args.visible.now in
-    let w = ways_of c.args.leaving in
-    let why = c.in_err-branch-in-If.field-0.0 in
-    let tree = ap stmt_tree c.in-If.is
-    ∙ c.statements_by_parts.ensures.ifs c.in-If.field-0 c.in-If.condition c.in-If.body c.in-If.elsifs c.in-If.others in
-    let whole = subst (λ x. RefusesStatement v w c.args.self.now x why) (sym tree)
-    (first_refuses v w c.args.self.now why c.in-If.field-0 (expr_tree c.in-If.condition) (stmt_trees c.in-If.body.items)
-    (elsif_trees c.in-If.elsifs.items) (stmt_trees c.in-If.others.items)
-    (subst (λ l. RefusesParts v w c.args.self.now (elsifs_of ((expr_tree c.in-If.condition, stmt_trees l) ∷ [])) why) c.deref.ensures.value
-    c.in_err-branch-in-If.ensures.refused)) in
-    search (rules, whole)
+statement-returns-in_err-branch-in-If-clause-refused = refused.statement-returns-in_err-branch-in-If-clause-refused
 
 pub statement-returns-in_err-elsifs-in-If-clause-refused : goal.statement-returns-in_err-elsifs-in-If-clause-refused
-statement-returns-in_err-elsifs-in-If-clause-refused t c =
-    let v = c.args.visible.now in
-    let w = ways_of c.args.leaving in
-    let why = c.in_err-elsifs-in-If.field-0.0 in
-    let tree = ap stmt_tree c.in-If.is
-    ∙ c.statements_by_parts.ensures.ifs c.in-If.field-0 c.in-If.condition c.in-If.body c.in-If.elsifs c.in-If.others in
-    let first = subst (λ l. AddsParts v w c.args.self.now ((expr_tree c.in-If.condition, stmt_trees l) ∷ []) c.new-waiting.result.items
-    c.branch-self.new.waiting.items c.branch-self.new.self) c.deref.ensures.value c.in_ok-branch-in-If.ensures.adds in
-    let kept = subst (λ l. StaysParts v w c.args.self.now (elsifs_of ((expr_tree c.in-If.condition, stmt_trees l) ∷ [])) c.branch-self.new.self)
-    c.deref.ensures.value c.in_ok-branch-in-If.ensures.stays in
-    let whole = subst (λ x. RefusesStatement v w c.args.self.now x why) (sym tree)
-    (elsifs_refuse v w c.args.self.now why c.in-If.field-0 (expr_tree c.in-If.condition) (stmt_trees c.in-If.body.items)
-    (elsif_trees c.in-If.elsifs.items) (stmt_trees c.in-If.others.items) c.branch-self.new.self first.emits.taken kept.labels first.emits.sized
-    (subst (λ x. RefusesParts x w c.branch-self.new.self (elsif_trees c.in-If.elsifs.items) why) c.in_ok-branch-in-If.ensures.same
-    (subst (λ l. RefusesParts c.branch-self.new.visible w c.branch-self.new.self (elsif_trees l) why) c.deref-in-If.ensures.value
-    c.in_err-elsifs-in-If.ensures.refused))) in
-    search (rules, whole)
+statement-returns-in_err-elsifs-in-If-clause-refused = refused.statement-returns-in_err-elsifs-in-If-clause-refused
 
 pub statement-returns-in_err-statements-in-If-clause-refused : goal.statement-returns-in_err-statements-in-If-clause-refused
-statement-returns-in_err-statements-in-If-clause-refused t c =
-    let v = c.args.visible.now in
-    let w = ways_of c.args.leaving in
-    let why = c.in_err-statements-in-If.field-0.0 in
-    let tree = ap stmt_tree c.in-If.is
-    ∙ c.statements_by_parts.ensures.ifs c.in-If.field-0 c.in-If.condition c.in-If.body c.in-If.elsifs c.in-If.others in
-    let first = subst (λ l. AddsParts v w c.args.self.now ((expr_tree c.in-If.condition, stmt_trees l) ∷ []) c.new-waiting.result.items
-    c.branch-self.new.waiting.items c.branch-self.new.self) c.deref.ensures.value c.in_ok-branch-in-If.ensures.adds in
-    let one = c.in_ok-branch-in-If.ensures.same in
-    let others = subst (λ x. AddsParts x w c.branch-self.new.self (map elsif_tree c.in-If.elsifs.items) c.branch-self.new.waiting.items c.elsifs.new.waiting.items
-    c.elsifs.new.self) one
-    (subst (λ l. AddsParts c.branch-self.new.visible w c.branch-self.new.self (map elsif_tree l) c.branch-self.new.waiting.items c.elsifs.new.waiting.items
-    c.elsifs.new.self) c.deref-in-If.ensures.value c.in_ok-elsifs-in-If.ensures.adds) in
-    let up = first.emits.sized in
-    let more = others.emits.sized in
-    let kept = subst (λ l. StaysParts v w c.args.self.now (elsifs_of ((expr_tree c.in-If.condition, stmt_trees l) ∷ [])) c.branch-self.new.self)
-    c.deref.ensures.value c.in_ok-branch-in-If.ensures.stays in
-    let kept_others = subst (λ x. StaysParts x w c.branch-self.new.self (elsif_trees c.in-If.elsifs.items) c.elsifs.new.self) one
-    (subst (λ l. StaysParts c.branch-self.new.visible w c.branch-self.new.self (elsif_trees l) c.elsifs.new.self) c.deref-in-If.ensures.value
-    c.in_ok-elsifs-in-If.ensures.stays) in
-    let labels = kept_others.labels ∙ ap (λ l. elsifs_labels l (elsif_trees c.in-If.elsifs.items)) kept.labels in
-    let whole = subst (λ x. RefusesStatement v w c.args.self.now x why) (sym tree)
-    (others_refuse v w c.args.self.now why c.in-If.field-0 (expr_tree c.in-If.condition) (stmt_trees c.in-If.body.items)
-    (elsif_trees c.in-If.elsifs.items) (stmt_trees c.in-If.others.items) c.elsifs.new.self (others.emits.taken ∙ first.emits.taken) labels
-    (omega (arith, up, more))
-    (subst (λ x. RefusesStatements x w c.elsifs.new.self (stmt_trees c.in-If.others.items) why) (c.in_ok-elsifs-in-If.ensures.same ∙ one)
-    (subst (λ l. RefusesStatements c.elsifs.new.visible w c.elsifs.new.self (stmt_trees l) why) c.deref-in-If-2.ensures.value
-    c.in_err-statements-in-If.ensures.refused))) in
-    search (rules, whole)
+statement-returns-in_err-statements-in-If-clause-refused = refused.statement-returns-in_err-statements-in-If-clause-refused
 
 pub statement-returns-in_ok-statements-in-If-clause-refused : goal.statement-returns-in_ok-statements-in-If-clause-refused
-statement-returns-in_ok-statements-in-If-clause-refused t c =
-    let v = c.args.visible.now in
-    let w = ways_of c.args.leaving in
-    let tree = ap stmt_tree c.in-If.is
-    ∙ c.statements_by_parts.ensures.ifs c.in-If.field-0 c.in-If.condition c.in-If.body c.in-If.elsifs c.in-If.others in
-    let first = subst (λ l. AddsParts v w c.args.self.now ((expr_tree c.in-If.condition, stmt_trees l) ∷ []) c.new-waiting.result.items
-    c.branch-self.new.waiting.items c.branch-self.new.self) c.deref.ensures.value c.in_ok-branch-in-If.ensures.adds in
-    let one = c.in_ok-branch-in-If.ensures.same in
-    let two = c.in_ok-elsifs-in-If.ensures.same ∙ one in
-    let others = subst (λ x. AddsParts x w c.branch-self.new.self (map elsif_tree c.in-If.elsifs.items) c.branch-self.new.waiting.items c.elsifs.new.waiting.items
-    c.elsifs.new.self) one
-    (subst (λ l. AddsParts c.branch-self.new.visible w c.branch-self.new.self (map elsif_tree l) c.branch-self.new.waiting.items c.elsifs.new.waiting.items
-    c.elsifs.new.self) c.deref-in-If.ensures.value c.in_ok-elsifs-in-If.ensures.adds) in
-    let last = subst (λ x. EmitsStatements x w c.elsifs.new.self (stmt_trees c.in-If.others.items) c.statements.new.self) two
-    (subst (λ l. EmitsStatements c.elsifs.new.visible w c.elsifs.new.self (stmt_trees l) c.statements.new.self) c.deref-in-If-2.ensures.value
-    c.in_ok-statements-in-If.ensures.emits) in
-    let up = first.emits.sized in
-    let more = others.emits.sized in
-    let end = last.sized in
-    IfErr-weaker _ _ _
-    (λ why r.
-    subst (λ x. RefusesStatement v w c.args.self.now x why) (sym tree)
-    (rejoin_refuses v w c.args.self.now why c.in-If.field-0 (expr_tree c.in-If.condition) (stmt_trees c.in-If.body.items)
-    (elsif_trees c.in-If.elsifs.items) (stmt_trees c.in-If.others.items) c.statements.new.self.code (omega (arith, up, more, end)) r))
-    c.rejoin.ensures.refused
+statement-returns-in_ok-statements-in-If-clause-refused = refused.statement-returns-in_ok-statements-in-If-clause-refused
 
 pub statement-returns-in-Case-clause-refused : goal.statement-returns-in-Case-clause-refused
-statement-returns-in-Case-clause-refused t c =
-    let v = c.args.visible.now in
-    let w = ways_of c.args.leaving in
-    let e = expr_tree c.in-Case.value in
-    let tree = ap stmt_tree c.in-Case.is ∙ c.statements_by_parts.ensures.cases c.in-Case.place c.in-Case.value c.in-Case.alternatives in
-    IfErr-weaker _ _ _
-    (λ why r.
-    subst (λ x. RefusesStatement v w c.args.self.now x why) (sym tree)
-    (subst (λ l. RefusesStatement v w c.args.self.now (Case c.in-Case.place e (alternative_trees l)) why) c.deref-in-Case.ensures.value r))
-    c.case.ensures.refused
+statement-returns-in-Case-clause-refused = refused.statement-returns-in-Case-clause-refused
 
 pub statement-returns-in-Loop-clause-refused : goal.statement-returns-in-Loop-clause-refused
-statement-returns-in-Loop-clause-refused t c =
-    let v = c.args.visible.now in
-    let w = ways_of c.args.leaving in
-    let tree = ap stmt_tree c.in-Loop.is ∙ c.statements_by_parts.ensures.loops c.in-Loop.place c.in-Loop.iteration c.in-Loop.body in
-    IfErr-weaker _ _ _
-    (λ why r.
-    subst (λ x. RefusesStatement v w c.args.self.now x why) (sym tree)
-    (subst (λ l. RefusesStatement v w c.args.self.now (Loop c.in-Loop.place (iteration_tree c.in-Loop.iteration) (stmt_trees l)) why)
-    c.deref-in-Loop.ensures.value r))
-    c.repeated.ensures.refused
+statement-returns-in-Loop-clause-refused = refused.statement-returns-in-Loop-clause-refused
 
 pub statement-returns-then-is_empty-clause-refused : goal.statement-returns-then-is_empty-clause-refused
-statement-returns-then-is_empty-clause-refused t c =
-    let v = c.args.visible.now in
-    let w = ways_of c.args.leaving in
-    let no_handlers : c.in-Block.handlers.items ≡ [] = none_there c.in-Block.handlers.items (search rules) in
-    let tree = ap stmt_tree c.in-Block.is
-    ∙ c.statements_by_parts.ensures.blocks c.in-Block.place c.in-Block.declarations c.in-Block.body c.in-Block.handlers
-    ∙ ap (λ l. Block c.in-Block.place (map declaration_tree c.in-Block.declarations.items) (stmt_trees c.in-Block.body.items) (handler_trees l)) no_handlers in
-    IfErr-weaker _ _ _
-    (λ why r.
-    subst (λ x. RefusesStatement v w c.args.self.now x why) (sym tree)
-    (subst (λ l. RefusesStatement v w c.args.self.now
-    (Block c.in-Block.place (map declaration_tree c.in-Block.declarations.items) (stmt_trees l) NoHandlers) why)
-    c.deref-then-is_empty.ensures.value
-    (subst (λ l. RefusesStatement v w c.args.self.now (Block c.in-Block.place (map declaration_tree l) (stmt_trees c.deref-then-is_empty.result.now) NoHandlers)
-    why) c.deref-then-is_empty-2.ensures.value r)))
-    c.block.ensures.refused
+statement-returns-then-is_empty-clause-refused = refused.statement-returns-then-is_empty-clause-refused
 
 pub statements-returns-in_err-statement-clause-refused : goal.statements-returns-in_err-statement-clause-refused
-statements-returns-in_err-statement-clause-refused t c =
-    let v = c.args.visible.now in
-    let w = ways_of c.args.leaving in
-    let why = c.in_err-statement.field-0.0 in
-    let before = c.loop-statement.invariant.0 in
-    let whole = statement_refuses v w c.args.self.now why c.loop-statement.self c.args.all.now _ c.statement-item.result
-    c.loop-statement-test.true c.statement-item.is before.taken c.loop-statement.invariant.2.labels before.sized
-    (subst (λ x. RefusesStatement x w c.loop-statement.self (stmt_tree c.statement-item.result) why) c.loop-statement.invariant.1
-    c.in_err-statement.ensures.refused) in
-    search (rules, whole)
+statements-returns-in_err-statement-clause-refused = refused.statements-returns-in_err-statement-clause-refused
 
 pub statement-returns-else-is_empty-clause-refused : goal.statement-returns-else-is_empty-clause-refused
-statement-returns-else-is_empty-clause-refused t c =
-    let v = c.args.visible.now in
-    let w = ways_of c.args.leaving in
-    let some : 1 ≤ length c.in-Block.handlers.items = search rules in
-    let tree = ap stmt_tree c.in-Block.is
-    ∙ c.statements_by_parts.ensures.blocks c.in-Block.place c.in-Block.declarations c.in-Block.body c.in-Block.handlers in
-    subst (λ x. RefusesStatement v w c.args.self.now x refusal.Outside) (sym tree)
-    (inl (handlers_refused v w c.args.self.now refusal.Outside c.in-Block.place (map declaration_tree c.in-Block.declarations.items)
-    (stmt_trees c.in-Block.body.items) c.in-Block.handlers.items some))
+statement-returns-else-is_empty-clause-refused = refused.statement-returns-else-is_empty-clause-refused
 
 pub statement-returns-in-Raise-clause-refused : goal.statement-returns-in-Raise-clause-refused
-statement-returns-in-Raise-clause-refused t c =
-    subst (λ x. RefusesStatement c.args.visible.now (ways_of c.args.leaving) c.args.self.now x refusal.Outside) (sym (ap stmt_tree c.in-Raise.is)) (inl refl)
+statement-returns-in-Raise-clause-refused = refused.statement-returns-in-Raise-clause-refused
 
 pub statement-returns-in-Delay-clause-refused : goal.statement-returns-in-Delay-clause-refused
-statement-returns-in-Delay-clause-refused t c =
-    subst (λ x. RefusesStatement c.args.visible.now (ways_of c.args.leaving) c.args.self.now x refusal.Outside) (sym (ap stmt_tree c.in-Delay.is)) (inl refl)
+statement-returns-in-Delay-clause-refused = refused.statement-returns-in-Delay-clause-refused
 
 pub statement-returns-in-DelayUntil-clause-refused : goal.statement-returns-in-DelayUntil-clause-refused
-statement-returns-in-DelayUntil-clause-refused t c =
-    subst (λ x. RefusesStatement c.args.visible.now (ways_of c.args.leaving) c.args.self.now x refusal.Outside)
-    (sym (ap stmt_tree c.in-DelayUntil.is)) (inl refl)
+statement-returns-in-DelayUntil-clause-refused = refused.statement-returns-in-DelayUntil-clause-refused
 
 pub statement-returns-in-Abort-clause-refused : goal.statement-returns-in-Abort-clause-refused
-statement-returns-in-Abort-clause-refused t c =
-    subst (λ x. RefusesStatement c.args.visible.now (ways_of c.args.leaving) c.args.self.now x refusal.Outside) (sym (ap stmt_tree c.in-Abort.is)) (inl refl)
+statement-returns-in-Abort-clause-refused = refused.statement-returns-in-Abort-clause-refused
 
 pub statement-returns-in-Requeue-clause-refused : goal.statement-returns-in-Requeue-clause-refused
-statement-returns-in-Requeue-clause-refused t c =
-    subst (λ x. RefusesStatement c.args.visible.now (ways_of c.args.leaving) c.args.self.now x refusal.Outside) (sym (ap stmt_tree c.in-Requeue.is)) (inl refl)
+statement-returns-in-Requeue-clause-refused = refused.statement-returns-in-Requeue-clause-refused
 
 pub statement-returns-in-Accept-clause-refused : goal.statement-returns-in-Accept-clause-refused
-statement-returns-in-Accept-clause-refused t c =
-    subst (λ x. RefusesStatement c.args.visible.now (ways_of c.args.leaving) c.args.self.now x refusal.Outside) (sym (ap stmt_tree c.in-Accept.is)) (inl refl)
+statement-returns-in-Accept-clause-refused = refused.statement-returns-in-Accept-clause-refused
 
 pub statement-returns-in-Select-clause-refused : goal.statement-returns-in-Select-clause-refused
-statement-returns-in-Select-clause-refused t c =
-    subst (λ x. RefusesStatement c.args.visible.now (ways_of c.args.leaving) c.args.self.now x refusal.Outside) (sym (ap stmt_tree c.in-Select.is)) (inl refl)
+statement-returns-in-Select-clause-refused = refused.statement-returns-in-Select-clause-refused
 
 -- ---- what stays within bounds
 
 pub branch-returns-clause-stays : goal.branch-returns-clause-stays
-branch-returns-clause-stays t c =
-    on_ok_weaker _
-    (λ k.
-    branch_stays c.args.visible.now (ways_of c.args.leaving) c.args.self.now (expr_tree c.args.condition.now) (stmt_trees c.args.body.now) c.of_width.new.self
-    c.test.new.self c.statements.new.self c.close.new.self c.in_ok-of_width.ensures.shallow c.in_ok-test.ensures.adds.shallow
-    c.in_ok-statements.ensures.stays (closed_shallow _ _ _ _ _ _ k))
-    c.close.ensures.closes
+branch-returns-clause-stays = stays.branch-returns-clause-stays
 
 pub alternative-returns-clause-stays : goal.alternative-returns-clause-stays
-alternative-returns-clause-stays t c =
-    let v = c.args.visible.now in
-    let w = ways_of c.args.leaving in
-    let a = c.args.alternative.now in
-    let chosen : Draft = record { code = c.add_choices.new.code; labels = c.args.self.now.labels; words = c.args.self.now.words } in
-    on_ok_weaker _
-    (λ r.
-    alternative_stays v w c.args.self.now a.place (choices_tree a.choices) (stmt_trees a.statements.items) c.add_choices.new.code c.statements.new.self
-    c.emit.new.self c.rejoin.new.self (choices_shallow _ _ _ _ _ c.in_ok-next.ensures.adds)
-    (subst (λ l. StaysStatements v w chosen (stmt_trees l) c.statements.new.self) c.deref.ensures.value c.in_ok-statements.ensures.stays)
-    c.in_ok-emit.ensures.adds.shallow r.deepest)
-    c.rejoin.ensures.rejoins
+alternative-returns-clause-stays = stays.alternative-returns-clause-stays
 
 pub case-returns-clause-stays : goal.case-returns-clause-stays
-case-returns-clause-stays t c =
-    on_ok_weaker _
-    (λ r.
-    case_stays c.args.visible.now (ways_of c.args.leaving) c.args.self.now c.args.place (expr_tree c.args.value.now)
-    (alternative_trees c.args.alternatives.now) c.of_width.new.self c.alternatives.new.self c.emit.new.self c.rejoin.new.self
-    c.in_ok-of_width.ensures.shallow c.in_ok-alternatives.ensures.stays c.in_ok-emit.ensures.adds.shallow r.deepest)
-    c.rejoin.ensures.rejoins
+case-returns-clause-stays = stays.case-returns-clause-stays
 
 pub repeated-returns-in_ok-end_loop-in-Forever-clause-stays : goal.repeated-returns-in_ok-end_loop-in-Forever-clause-stays
-repeated-returns-in_ok-end_loop-in-Forever-clause-stays t c =
-    let v = c.args.visible.now in
-    let w = ways_of c.args.leaving in
-    let body = stmt_trees c.args.body.now in
-    let begun : Draft = record { code = c.begin_loop.new.code; labels = c.args.self.now.labels; words = c.args.self.now.words } in
-    let ended : Draft = record { code = c.end_loop.new.code; labels = c.statements.new.self.labels; words = c.statements.new.self.words } in
-    subst (λ i. StaysStatement v w c.args.self.now (Loop c.args.place (iteration_tree i) body) ended) (sym c.in-Forever.is)
-    (forever_stays v w c.args.self.now c.args.place c.in_ok-head-in-Forever.head.exit body c.begin_loop.new.code c.statements.new.self c.end_loop.new.code
-    (begun_shallow _ _ c.in_ok-head-in-Forever.ensures.begins)
-    (subst (λ x. StaysStatements v x begun body c.statements.new.self) c.in_loop.ensures c.in_ok-statements-in-Forever.ensures.stays)
-    (ended_shallow _ _ _ _ c.in_ok-end_loop-in-Forever.ensures.ends))
+repeated-returns-in_ok-end_loop-in-Forever-clause-stays = stays.repeated-returns-in_ok-end_loop-in-Forever-clause-stays
 
 pub repeated-returns-in_ok-end-in-While-clause-stays : goal.repeated-returns-in_ok-end-in-While-clause-stays
-repeated-returns-in_ok-end-in-While-clause-stays t c =
-    let v = c.args.visible.now in
-    let w = ways_of c.args.leaving in
-    let body = stmt_trees c.args.body.now in
-    let jumped : Draft = record { code = c.test.new.self; labels = c.args.self.now.labels; words = c.args.self.now.words } in
-    let whole : Draft = record { code = c.patch.new.self; labels = c.statements-in-While.new.self.labels; words = c.statements-in-While.new.self.words } in
-    subst (λ i. StaysStatement v w c.args.self.now (Loop c.args.place (iteration_tree i) body) whole) (sym c.in-While.is)
-    (while_stays v w c.args.self.now c.args.place c.in_ok-head-in-While.head.exit (expr_tree c.in-While.condition) body c.begin_loop-in-While.new.code
-    c.of_width.new.self c.test.new.self c.statements-in-While.new.self c.end_loop-in-While.new.code c.patch.new.self
-    (begun_shallow _ _ c.in_ok-head-in-While.ensures.begins) c.in_ok-of_width-in-While.ensures.shallow c.in_ok-test-in-While.ensures.adds.shallow
-    (subst (λ x. StaysStatements v x jumped body c.statements-in-While.new.self) c.in_loop-in-While.ensures c.in_ok-statements-in-While.ensures.stays)
-    (ended_shallow _ _ _ _ c.in_ok-end-in-While.ensures.ends) c.patch.ensures.patches.deepest)
+repeated-returns-in_ok-end-in-While-clause-stays = stays.repeated-returns-in_ok-end-in-While-clause-stays
 
 pub repeated-returns-in-For-clause-stays : goal.repeated-returns-in-For-clause-stays
-repeated-returns-in-For-clause-stays t c =
-    let v = c.args.visible.now in
-    let w = ways_of c.args.leaving in
-    let body = stmt_trees c.args.body.now in
-    on_ok_weaker _ (λ p. subst (λ i. StaysStatement v w c.args.self.now (Loop c.args.place (iteration_tree i) body) c.counted.new.self) (sym c.in-For.is) p)
-    c.counted.ensures.stays
+repeated-returns-in-For-clause-stays = stays.repeated-returns-in-For-clause-stays
 
 pub counted-returns-clause-stays : goal.counted-returns-clause-stays
-counted-returns-clause-stays t c =
-    let v = c.args.visible.now in
-    let w = ways_of c.args.leaving in
-    let body = stmt_trees c.args.body.now in
-    let began = c.in_ok-turns.ensures.begins in
-    let words = c.restore.ensures.words ∙ ap (λ n. record c.statements.new.self.words { taken = n }) c.of-extent.ensures.taken in
-    stays_words c.args.self.now _ _ (record { code = c.patch-2.new.self; labels = c.statements.new.self.labels; words = c.statements.new.self.words }) _ words
-    (counted_stays v w c.args.self.now c.args.place c.args.parameter.now c.args.reversed (range_tree c.args.range.now) body c.in_ok-head.head.exit
-    c.begin_range.new.visible c.begin_loop.new.code c.begin_range.new.self c.statements.new.self c.end_turn.new.code c.end_loop.new.code c.patch.new.self
-    c.patch-2.new.self (range_seen _ _ _ _ _ _ _ _ _ began) began.takes.taken (begun_shallow _ _ c.in_ok-head.ensures.begins)
-    c.in_ok-turns.ensures.stays
-    (subst (λ x. StaysStatements c.begin_range.new.visible x c.begin_range.new.self body c.statements.new.self) c.in_loop.ensures
-    c.in_ok-statements.ensures.stays)
-    (turn_shallow _ _ _ _ c.in_ok-last.ensures.ends) (ended_shallow _ _ _ _ c.in_ok-end.ensures.ends) c.patch.ensures.patches.deepest
-    c.patch-2.ensures.patches.deepest)
+counted-returns-clause-stays = stays.counted-returns-clause-stays
 
 pub block-returns-clause-stays : goal.block-returns-clause-stays
-block-returns-clause-stays t c =
-    let declared = c.in_ok-declarations.ensures.emits in
-    let words = c.restore.ensures.words ∙ ap (λ n. record c.statements.new.self.words { taken = n }) c.of-extent.ensures.taken in
-    stays_words c.args.self.now _ _ c.statements.new.self _ words
-    (block_stays c.args.visible.now (ways_of c.args.leaving) c.args.self.now c.args.place (map declaration_tree c.args.declarations.now)
-    (stmt_trees c.args.body.now) c.declarations.new.visible c.declarations.new.self c.statements.new.self c.in_ok-declarations.ensures.shown
-    c.in_ok-declarations.ensures.taken c.in_ok-declarations.ensures.stays c.in_ok-statements.ensures.stays)
+block-returns-clause-stays = stays.block-returns-clause-stays
 
 pub statement-returns-in_ok-statements-in-If-clause-stays : goal.statement-returns-in_ok-statements-in-If-clause-stays
-statement-returns-in_ok-statements-in-If-clause-stays t c =
-    let v = c.args.visible.now in
-    let w = ways_of c.args.leaving in
-    let tree = ap stmt_tree c.in-If.is
-    ∙ c.statements_by_parts.ensures.ifs c.in-If.field-0 c.in-If.condition c.in-If.body c.in-If.elsifs c.in-If.others in
-    let first = subst (λ l. AddsParts v w c.args.self.now ((expr_tree c.in-If.condition, stmt_trees l) ∷ []) c.new-waiting.result.items
-    c.branch-self.new.waiting.items c.branch-self.new.self) c.deref.ensures.value c.in_ok-branch-in-If.ensures.adds in
-    let one = c.in_ok-branch-in-If.ensures.same in
-    let two = c.in_ok-elsifs-in-If.ensures.same ∙ one in
-    let others = subst (λ x. AddsParts x w c.branch-self.new.self (map elsif_tree c.in-If.elsifs.items) c.branch-self.new.waiting.items
-    c.elsifs.new.waiting.items
-    c.elsifs.new.self) one
-    (subst (λ l. AddsParts c.branch-self.new.visible w c.branch-self.new.self (map elsif_tree l) c.branch-self.new.waiting.items c.elsifs.new.waiting.items
-    c.elsifs.new.self) c.deref-in-If.ensures.value c.in_ok-elsifs-in-If.ensures.adds) in
-    let kept = subst (λ l. StaysParts v w c.args.self.now (elsifs_of ((expr_tree c.in-If.condition, stmt_trees l) ∷ [])) c.branch-self.new.self)
-    c.deref.ensures.value c.in_ok-branch-in-If.ensures.stays in
-    let kept_others = subst (λ x. StaysParts x w c.branch-self.new.self (elsif_trees c.in-If.elsifs.items) c.elsifs.new.self) one
-    (subst (λ l. StaysParts c.branch-self.new.visible w c.branch-self.new.self (elsif_trees l) c.elsifs.new.self) c.deref-in-If.ensures.value
-    c.in_ok-elsifs-in-If.ensures.stays) in
-    let last = subst (λ x. StaysStatements x w c.elsifs.new.self (stmt_trees c.in-If.others.items) c.statements.new.self) two
-    (subst (λ l. StaysStatements c.elsifs.new.visible w c.elsifs.new.self (stmt_trees l) c.statements.new.self) c.deref-in-If-2.ensures.value
-    c.in_ok-statements-in-If.ensures.stays) in
-    on_ok_weaker _
-    (λ r.
-    subst (λ x. StaysStatement v w c.args.self.now x
-    (record { code = c.rejoin.new.self; labels = c.statements.new.self.labels; words = c.statements.new.self.words }))
-    (sym tree)
-    (if_stays v w c.args.self.now c.in-If.field-0 (expr_tree c.in-If.condition) (stmt_trees c.in-If.body.items) (elsif_trees c.in-If.elsifs.items)
-    (stmt_trees c.in-If.others.items) c.branch-self.new.self c.elsifs.new.self c.statements.new.self c.rejoin.new.self first.emits.taken
-    (others.emits.taken ∙ first.emits.taken) kept kept_others last r.deepest))
-    c.rejoin.ensures.rejoins
+statement-returns-in_ok-statements-in-If-clause-stays = stays.statement-returns-in_ok-statements-in-If-clause-stays
 
 pub statement-returns-in-Case-clause-stays : goal.statement-returns-in-Case-clause-stays
-statement-returns-in-Case-clause-stays t c =
-    let v = c.args.visible.now in
-    let w = ways_of c.args.leaving in
-    let e = expr_tree c.in-Case.value in
-    let tree = ap stmt_tree c.in-Case.is ∙ c.statements_by_parts.ensures.cases c.in-Case.place c.in-Case.value c.in-Case.alternatives in
-    on_ok_weaker _
-    (λ r.
-    subst (λ x. StaysStatement v w c.args.self.now x c.case.new.self) (sym tree)
-    (subst (λ l. StaysStatement v w c.args.self.now (Case c.in-Case.place e (alternative_trees l)) c.case.new.self) c.deref-in-Case.ensures.value r))
-    c.case.ensures.stays
+statement-returns-in-Case-clause-stays = stays.statement-returns-in-Case-clause-stays
 
 pub statement-returns-in-Loop-clause-stays : goal.statement-returns-in-Loop-clause-stays
-statement-returns-in-Loop-clause-stays t c =
-    let v = c.args.visible.now in
-    let w = ways_of c.args.leaving in
-    let tree = ap stmt_tree c.in-Loop.is ∙ c.statements_by_parts.ensures.loops c.in-Loop.place c.in-Loop.iteration c.in-Loop.body in
-    on_ok_weaker _
-    (λ r.
-    subst (λ x. StaysStatement v w c.args.self.now x c.repeated.new.self) (sym tree)
-    (subst (λ l. StaysStatement v w c.args.self.now (Loop c.in-Loop.place (iteration_tree c.in-Loop.iteration) (stmt_trees l)) c.repeated.new.self)
-    c.deref-in-Loop.ensures.value r))
-    c.repeated.ensures.stays
+statement-returns-in-Loop-clause-stays = stays.statement-returns-in-Loop-clause-stays
 
 pub statement-returns-then-is_empty-clause-stays : goal.statement-returns-then-is_empty-clause-stays
-statement-returns-then-is_empty-clause-stays t c =
-    let v = c.args.visible.now in
-    let w = ways_of c.args.leaving in
-    let no_handlers : c.in-Block.handlers.items ≡ [] = none_there c.in-Block.handlers.items (search rules) in
-    let tree = ap stmt_tree c.in-Block.is
-    ∙ c.statements_by_parts.ensures.blocks c.in-Block.place c.in-Block.declarations c.in-Block.body c.in-Block.handlers
-    ∙ ap (λ l. Block c.in-Block.place (map declaration_tree c.in-Block.declarations.items) (stmt_trees c.in-Block.body.items) (handler_trees l)) no_handlers in
-    on_ok_weaker _
-    (λ r.
-    subst (λ x. StaysStatement v w c.args.self.now x c.block.new.self) (sym tree)
-    (subst (λ l. StaysStatement v w c.args.self.now
-    (Block c.in-Block.place (map declaration_tree c.in-Block.declarations.items) (stmt_trees l) NoHandlers) c.block.new.self)
-    c.deref-then-is_empty.ensures.value
-    (subst (λ l. StaysStatement v w c.args.self.now (Block c.in-Block.place (map declaration_tree l) (stmt_trees c.deref-then-is_empty.result.now) NoHandlers)
-    c.block.new.self) c.deref-then-is_empty-2.ensures.value r)))
-    c.block.ensures.stays
+statement-returns-then-is_empty-clause-stays = stays.statement-returns-then-is_empty-clause-stays
 
 pub statement-returns-in-Assignment-clause-stays : goal.statement-returns-in-Assignment-clause-stays
-statement-returns-in-Assignment-clause-stays t c =
-    on_ok_weaker _
-    (λ r. subst (λ x. StaysStatement c.args.visible.now (ways_of c.args.leaving) c.args.self.now x c.assign.new.self) (sym (ap stmt_tree c.in-Assignment.is)) r)
-    c.assign.ensures.stays
+statement-returns-in-Assignment-clause-stays = stays.statement-returns-in-Assignment-clause-stays
 
 pub statement-returns-in-Call-clause-stays : goal.statement-returns-in-Call-clause-stays
-statement-returns-in-Call-clause-stays t c =
-    on_ok_weaker _
-    (λ r. subst (λ x. StaysStatement c.args.visible.now (ways_of c.args.leaving) c.args.self.now x c.call.new.self) (sym (ap stmt_tree c.in-Call.is)) r)
-    c.call.ensures.stays
+statement-returns-in-Call-clause-stays = stays.statement-returns-in-Call-clause-stays

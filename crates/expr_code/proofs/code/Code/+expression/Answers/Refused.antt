@@ -1,0 +1,289 @@
+-- What refuses the code of expressions, answered for the methods that add it.
+use Rattle.std.proofs.Common.{inr, ◌+◌, ◌*◌, arith, map, rules, refl, sym, ap, ◌∙◌, ◌≤◌, ◌∷◌, [], subst}
+use Rattle.ada_tree.specs.declared.expression.Expr as expressions
+use Rattle.ada_tree.specs.ExpressionTree.{argument_trees, Arguments, expr_tree, MoreSelectors, Named, NoSelectors, selector_tree, selector_trees}
+use Rattle.expr_code.specs.Branches.{AddsBranches, branch_of}
+use Rattle.expr_code.specs.Emitting.{EmitsExpression, IsLegal}
+use Rattle.types.specs.Scopes.{number_of}
+use Rattle.types.specs.Standings.{stands_first}
+use Rattle.expr_code.proofs.Going.{index_integers, one_argument, path_counts}
+use Rattle.expr_code.proofs.FitShapes.{large_unfit, many_unfit}
+use Rattle.expr_code.proofs.LegalNames.{array_part, begins_otherwise, called_once, converted_once, one_converted}
+use Rattle.expr_code.proofs.NamesRefused.{begin_outside, behind_outside, index_refused, load_refused, selector_refused}
+use Rattle.expr_code.specs.Widths.{width_of}
+use Rattle.expr_code.specs.Code.{here}
+use Rattle.expr_code.specs.Refusing.{operands_size, RefusesBranches, RefusesExpression, RefusesOperands, RefusesPath}
+use Rattle.expr_code.proofs.Growing.{added_here}
+use Rattle.expr_code.proofs.Refusals.{between_refused, closed_here, condition_refused, else_refused, first_refused, jump_refused, more_refused, others_refused, second_refused, value_refused, word_refused}
+use Rattle.expr_code.proofs.Selecting.{one_selector}
+use Rattle.expr_code.proofs.Widths.{conditional_words}
+use Rattle.expr_code.proofs.code.Code.+expression.Goals as goal
+use Rattle.expr_code.proofs.code.Code.+expression.Goals.{element-then-from-gt-WORDS-via-then-from-gt-WORDS, element-then-from-gt-WORDS-via-else-from-gt-WORDS+then-from-gt-WORDS-2}
+
+-- ---- refusals
+
+pub expression-returns-in_err-above-in-Some-clause-refused : goal.expression-returns-in_err-above-in-Some-clause-refused
+expression-returns-in_err-above-in-Some-clause-refused t c =
+    let whole = word_refused c.args.visible.now (expr_tree c.args.e.now) c.args.self.now c.args.depth _ _ c.in_err-above-in-Some.field-0.0 (omega arith)
+    (omega arith) c.in_err-above-in-Some.ensures.refused in
+    search (rules, whole)
+
+pub expression-returns-in_err-of_width-in-Chain-clause-refused : goal.expression-returns-in_err-of_width-in-Chain-clause-refused
+expression-returns-in_err-of_width-in-Chain-clause-refused t c =
+    let v = c.args.visible.now in
+    let tree = ap expr_tree c.in-Chain.is ∙ c.chains_by_parts.ensures c.in-Chain.first c.in-Chain.second c.in-Chain.more in
+    let whole = first_refused v (expr_tree c.args.e.now) _ c.in-Chain.second.value c.in-Chain.more.items tree c.args.self.now c.args.depth
+    c.in_err-of_width-in-Chain.field-0.0 (subst
+    (λ e. RefusesExpression v c.args.self.now c.args.depth (expr_tree e) c.in_err-of_width-in-Chain.field-0.0) c.deref-in-Chain.ensures
+    c.in_err-of_width-in-Chain.ensures.refused) in
+    search (rules, whole)
+
+pub expression-returns-in_err-operand-in-Chain-clause-refused : goal.expression-returns-in_err-operand-in-Chain-clause-refused
+expression-returns-in_err-operand-in-Chain-clause-refused t c =
+    let v = c.args.visible.now in
+    let tree = ap expr_tree c.in-Chain.is ∙ c.chains_by_parts.ensures c.in-Chain.first c.in-Chain.second c.in-Chain.more in
+    let first = subst (λ e. EmitsExpression v c.args.self.now c.args.depth 1 (expr_tree e) c.of_width-in-Chain.new.self) c.deref-in-Chain.ensures
+    c.in_ok-of_width-in-Chain.ensures.emits in
+    let whole = second_refused v (expr_tree c.args.e.now) _ c.in-Chain.second.value c.in-Chain.more.items tree c.args.self.now c.args.depth
+    c.in_err-operand-in-Chain.field-0.0 c.of_width-in-Chain.new.self first.sized
+    (subst (λ o. RefusesOperands v c.of_width-in-Chain.new.self c.args.depth (o ∷ []) c.in_err-operand-in-Chain.field-0.0) c.deref-in-Chain-2.ensures
+    c.in_err-operand-in-Chain.ensures.refused) in
+    search (rules, whole)
+
+pub expression-returns-in_err-operands-in-Chain-clause-refused : goal.expression-returns-in_err-operands-in-Chain-clause-refused
+expression-returns-in_err-operands-in-Chain-clause-refused t c =
+    let v = c.args.visible.now in
+    let tree = ap expr_tree c.in-Chain.is ∙ c.chains_by_parts.ensures c.in-Chain.first c.in-Chain.second c.in-Chain.more in
+    let first = subst (λ e. EmitsExpression v c.args.self.now c.args.depth 1 (expr_tree e) c.of_width-in-Chain.new.self) c.deref-in-Chain.ensures
+    c.in_ok-of_width-in-Chain.ensures.emits in
+    let second = subst (λ o. here c.operand.new.self ≤ here c.of_width-in-Chain.new.self + 20 * operands_size (o ∷ [])) c.deref-in-Chain-2.ensures
+    c.in_ok-operand-in-Chain.ensures.sized in
+    let whole = more_refused v (expr_tree c.args.e.now) _ c.in-Chain.second.value c.in-Chain.more.items tree c.args.self.now c.args.depth
+    c.in_err-operands-in-Chain.field-0.0 c.of_width-in-Chain.new.self c.operand.new.self first.sized second
+    (subst (λ all. RefusesOperands v c.operand.new.self c.args.depth all c.in_err-operands-in-Chain.field-0.0) c.deref-in-Chain-3.ensures.value
+    c.in_err-operands-in-Chain.ensures.refused) in
+    search (rules, whole)
+
+pub expression-returns-in_err-test-in-Conditional-clause-refused : goal.expression-returns-in_err-test-in-Conditional-clause-refused
+expression-returns-in_err-test-in-Conditional-clause-refused t c =
+    let v = c.args.visible.now in
+    let tree = ap expr_tree c.in-Conditional.is ∙ c.conditional_by_parts.ensures c.in-Conditional.field-0 c.in-Conditional.condition c.in-Conditional.value
+    c.in-Conditional.elsifs c.in-Conditional.last in
+    let first = subst (λ e. EmitsExpression v c.args.self.now c.args.depth 1 (expr_tree e) c.of_width-in-Conditional.new.self)
+    c.deref-in-Conditional.ensures c.in_ok-of_width-in-Conditional.ensures.emits in
+    let sized = first.sized in
+    let whole = between_refused v (expr_tree c.args.e.now) c.in-Conditional.field-0 _ _ c.in-Conditional.elsifs.items _ tree c.args.self.now c.args.depth
+    (width_of v.scope (expr_tree c.args.e.now)) _ _ c.in_err-test-in-Conditional.field-0.0 refl (omega (arith, sized)) (omega arith)
+    c.in_err-test-in-Conditional.ensures.refused in
+    search (rules, whole)
+
+pub expression-returns-in_err-raised-in-Conditional-clause-refused : goal.expression-returns-in_err-raised-in-Conditional-clause-refused
+expression-returns-in_err-raised-in-Conditional-clause-refused t c =
+    let v = c.args.visible.now in
+    let tree = ap expr_tree c.in-Conditional.is ∙ c.conditional_by_parts.ensures c.in-Conditional.field-0 c.in-Conditional.condition c.in-Conditional.value
+    c.in-Conditional.elsifs c.in-Conditional.last in
+    let words = conditional_words v.scope c.requires.sound _ c.in-Conditional.field-0 _ _ c.in-Conditional.elsifs.items _ tree c.requires.legal in
+    let told = c.in_ok-width-in-Conditional.ensures.width ∙ ap (λ e. width_of v.scope (expr_tree e)) c.deref-in-Conditional-2.ensures ∙ words.whole in
+    let whole = between_refused v (expr_tree c.args.e.now) c.in-Conditional.field-0 _ _ c.in-Conditional.elsifs.items _ tree c.args.self.now c.args.depth
+    c.in_ok-width-in-Conditional.width _ _ c.in_err-raised-in-Conditional.field-0.0 told (omega arith) (omega arith)
+    c.in_err-raised-in-Conditional.ensures.refused in
+    search (rules, whole)
+
+pub expression-returns-in_err-elsifs-in-Conditional-clause-refused : goal.expression-returns-in_err-elsifs-in-Conditional-clause-refused
+expression-returns-in_err-elsifs-in-Conditional-clause-refused t c =
+    let v = c.args.visible.now in
+    let depth = c.args.depth in
+    let width = c.in_ok-width-in-Conditional.width in
+    let tree = ap expr_tree c.in-Conditional.is ∙ c.conditional_by_parts.ensures c.in-Conditional.field-0 c.in-Conditional.condition c.in-Conditional.value
+    c.in-Conditional.elsifs c.in-Conditional.last in
+    let words = conditional_words v.scope c.requires.sound _ c.in-Conditional.field-0 _ _ c.in-Conditional.elsifs.items _ tree c.requires.legal in
+    let told = c.in_ok-width-in-Conditional.ensures.width ∙ ap (λ e. width_of v.scope (expr_tree e)) c.deref-in-Conditional-2.ensures ∙ words.whole in
+    let first = (subst (λ e. EmitsExpression v c.args.self.now depth 1 (expr_tree e) c.of_width-in-Conditional.new.self) c.deref-in-Conditional.ensures
+    c.in_ok-of_width-in-Conditional.ensures.emits).sized in
+    let jump = added_here _ _ _ _ c.in_ok-test-in-Conditional.ensures.adds in
+    let second = (subst (λ e. EmitsExpression v c.test.new.self depth width (expr_tree e) c.expression-in-Conditional.new.self)
+    c.deref-in-Conditional-2.ensures c.in_ok-width-in-Conditional.ensures.emits).sized in
+    let closed = closed_here _ _ _ _ _ _ c.in_ok-close-in-Conditional.ensures.closes in
+    let whole = others_refused v (expr_tree c.args.e.now) c.in-Conditional.field-0 _ _ c.in-Conditional.elsifs.items _ tree c.args.self.now depth width
+    c.close.new.self c.in_err-elsifs-in-Conditional.field-0.0 told (omega (arith, first, jump, second, closed))
+    (subst (λ all. RefusesBranches v c.close.new.self depth width (map branch_of all) c.in_err-elsifs-in-Conditional.field-0.0)
+    c.deref-in-Conditional-3.ensures.value c.in_err-elsifs-in-Conditional.ensures.refused) in
+    search (rules, whole)
+
+pub expression-returns-in_err-of_width-in-Conditional-2-clause-refused : goal.expression-returns-in_err-of_width-in-Conditional-2-clause-refused
+expression-returns-in_err-of_width-in-Conditional-2-clause-refused t c =
+    let v = c.args.visible.now in
+    let depth = c.args.depth in
+    let width = c.in_ok-width-in-Conditional.width in
+    let tree = ap expr_tree c.in-Conditional.is ∙ c.conditional_by_parts.ensures c.in-Conditional.field-0 c.in-Conditional.condition c.in-Conditional.value
+    c.in-Conditional.elsifs c.in-Conditional.last in
+    let first = (subst (λ e. EmitsExpression v c.args.self.now depth 1 (expr_tree e) c.of_width-in-Conditional.new.self) c.deref-in-Conditional.ensures
+    c.in_ok-of_width-in-Conditional.ensures.emits).sized in
+    let jump = added_here _ _ _ _ c.in_ok-test-in-Conditional.ensures.adds in
+    let second = (subst (λ e. EmitsExpression v c.test.new.self depth width (expr_tree e) c.expression-in-Conditional.new.self)
+    c.deref-in-Conditional-2.ensures c.in_ok-width-in-Conditional.ensures.emits).sized in
+    let closed = closed_here _ _ _ _ _ _ c.in_ok-close-in-Conditional.ensures.closes in
+    let others = (subst (λ all. AddsBranches v c.close.new.self depth width (map branch_of all) c.close.new.waiting.items c.elsifs.new.waiting.items
+    c.elsifs.new.self) c.deref-in-Conditional-3.ensures.value c.in_ok-elsifs-in-Conditional.ensures.adds).emits.sized in
+    let whole = else_refused v (expr_tree c.args.e.now) c.in-Conditional.field-0 _ _ c.in-Conditional.elsifs.items _ tree c.args.self.now depth
+    c.elsifs.new.self c.in_err-of_width-in-Conditional-2.field-0.0 (omega (arith, first, jump, second, closed, others))
+    (subst (λ e. RefusesExpression v c.elsifs.new.self depth (expr_tree e) c.in_err-of_width-in-Conditional-2.field-0.0)
+    c.deref-in-Conditional-4.ensures c.in_err-of_width-in-Conditional-2.ensures.refused) in
+    search (rules, whole)
+
+pub expression-returns-in_err-rejoin-in-Conditional-clause-refused : goal.expression-returns-in_err-rejoin-in-Conditional-clause-refused
+expression-returns-in_err-rejoin-in-Conditional-clause-refused t c =
+    let v = c.args.visible.now in
+    let depth = c.args.depth in
+    let width = c.in_ok-width-in-Conditional.width in
+    let tree = ap expr_tree c.in-Conditional.is ∙ c.conditional_by_parts.ensures c.in-Conditional.field-0 c.in-Conditional.condition c.in-Conditional.value
+    c.in-Conditional.elsifs c.in-Conditional.last in
+    let first = (subst (λ e. EmitsExpression v c.args.self.now depth 1 (expr_tree e) c.of_width-in-Conditional.new.self) c.deref-in-Conditional.ensures
+    c.in_ok-of_width-in-Conditional.ensures.emits).sized in
+    let jump = added_here _ _ _ _ c.in_ok-test-in-Conditional.ensures.adds in
+    let second = (subst (λ e. EmitsExpression v c.test.new.self depth width (expr_tree e) c.expression-in-Conditional.new.self)
+    c.deref-in-Conditional-2.ensures c.in_ok-width-in-Conditional.ensures.emits).sized in
+    let closed = closed_here _ _ _ _ _ _ c.in_ok-close-in-Conditional.ensures.closes in
+    let others = (subst (λ all. AddsBranches v c.close.new.self depth width (map branch_of all) c.close.new.waiting.items c.elsifs.new.waiting.items
+    c.elsifs.new.self) c.deref-in-Conditional-3.ensures.value c.in_ok-elsifs-in-Conditional.ensures.adds).emits.sized in
+    let last = (subst (λ e. EmitsExpression v c.elsifs.new.self depth width (expr_tree e) c.of_width-in-Conditional-2.new.self)
+    c.deref-in-Conditional-4.ensures c.in_ok-of_width-in-Conditional-2.ensures.emits).sized in
+    let whole = between_refused v (expr_tree c.args.e.now) c.in-Conditional.field-0 _ _ c.in-Conditional.elsifs.items _ tree c.args.self.now depth
+    (width_of v.scope (expr_tree c.args.e.now)) _ _ c.in_err-rejoin-in-Conditional.field-0.0 refl
+    (omega (arith, first, jump, second, closed, others, last)) (omega arith) c.in_err-rejoin-in-Conditional.ensures.refused in
+    search (rules, whole)
+
+pub elsifs-returns-in_err-of_width-clause-refused : goal.elsifs-returns-in_err-of_width-clause-refused
+elsifs-returns-in_err-of_width-clause-refused t c =
+    let whole = condition_refused c.args.visible.now c.args.self.now c.loop-elsif.self c.args.depth c.args.width c.args.elsifs.now _ c.elsif-item.result
+    c.in_err-of_width.field-0.0 c.loop-elsif-test.true c.elsif-item.is c.loop-elsif.invariant.0.emits.sized c.in_err-of_width.ensures.refused in
+    search (rules, whole)
+
+pub elsifs-returns-in_err-test-clause-refused : goal.elsifs-returns-in_err-test-clause-refused
+elsifs-returns-in_err-test-clause-refused t c =
+    let first = c.in_ok-of_width.ensures.emits.sized in
+    let whole = jump_refused c.args.visible.now c.args.self.now c.loop-elsif.self c.args.depth c.args.width c.args.elsifs.now _ c.elsif-item.result
+    c.in_err-test.field-0.0 c.loop-elsif-test.true c.elsif-item.is c.loop-elsif.invariant.0.emits.sized _ _ (omega (arith, first)) (omega arith)
+    c.in_err-test.ensures.refused in
+    search (rules, whole)
+
+pub elsifs-returns-in_err-of_width-2-clause-refused : goal.elsifs-returns-in_err-of_width-2-clause-refused
+elsifs-returns-in_err-of_width-2-clause-refused t c =
+    let first = c.in_ok-of_width.ensures.emits.sized in
+    let jump = added_here _ _ _ _ c.in_ok-test.ensures.adds in
+    let whole = value_refused c.args.visible.now c.args.self.now c.loop-elsif.self c.args.depth c.args.width c.args.elsifs.now _ c.elsif-item.result
+    c.in_err-of_width-2.field-0.0 c.loop-elsif-test.true c.elsif-item.is c.loop-elsif.invariant.0.emits.sized c.test.new.self (omega (arith, first, jump))
+    c.in_err-of_width-2.ensures.refused in
+    search (rules, whole)
+
+pub elsifs-returns-in_err-close-clause-refused : goal.elsifs-returns-in_err-close-clause-refused
+elsifs-returns-in_err-close-clause-refused t c =
+    let first = c.in_ok-of_width.ensures.emits.sized in
+    let jump = added_here _ _ _ _ c.in_ok-test.ensures.adds in
+    let second = c.in_ok-of_width-2.ensures.emits.sized in
+    let high = c.in_ok-raised.ensures.more in
+    let whole = jump_refused c.args.visible.now c.args.self.now c.loop-elsif.self c.args.depth c.args.width c.args.elsifs.now _ c.elsif-item.result
+    c.in_err-close.field-0.0 c.loop-elsif-test.true c.elsif-item.is c.loop-elsif.invariant.0.emits.sized _ _ (omega (arith, first, jump, second))
+    (omega (arith, high)) c.in_err-close.ensures.refused in
+    search (rules, whole)
+
+-- ---- refusals of names, parts, conversions and calls
+
+pub called-call-requires : goal.called-call-requires
+called-call-requires t c =
+    let tree = ap selector_tree c.in-Arguments.is ∙ c.arguments_by_parts.ensures c.in-Arguments.arguments ∙ ap (λ l. Arguments (argument_trees l))
+    (sym c.deref.ensures.value) in
+    let same = one_selector c.args.selectors.now c.selector-item.result _ c.in-len1.len_at_least c.in-len1.len_below c.selector-item.is tree in (
+      search (rules, expressions.the_lemmas),
+      (c.requires.sound, (search rules, subst (λ x. IsLegal c.args.visible.now.scope (Named c.args.first.now x)) same c.requires.legal)),
+    )
+
+pub called-returns-in_err-call-in-Arguments-clause-refused : goal.called-returns-in_err-call-in-Arguments-clause-refused
+called-returns-in_err-call-in-Arguments-clause-refused t c =
+    let tree = ap selector_tree c.in-Arguments.is ∙ c.arguments_by_parts.ensures c.in-Arguments.arguments ∙ ap (λ l. Arguments (argument_trees l))
+    (sym c.deref.ensures.value) in
+    let same = one_selector c.args.selectors.now c.selector-item.result _ c.in-len1.len_at_least c.in-len1.len_below c.selector-item.is tree in
+    let why = c.in_err-call-in-Arguments.field-0.0 in
+    let whole = subst (λ x. RefusesExpression c.args.visible.now c.args.self.now c.args.depth (Named c.args.first.now x) why) (sym same)
+    c.in_err-call-in-Arguments.ensures.refused in
+    search (rules, whole)
+
+pub called-returns-in_default-selectors-2-clause-refused : goal.called-returns-in_default-selectors-2-clause-refused
+called-returns-in_default-selectors-2-clause-refused t c =
+    absurd (called_once c.args.visible.now.scope c.requires.sound c.args.first.now c.args.selectors.now c.requires.stands.0 c.requires.stands.1
+    c.requires.legal (omega (arith, c.in_default-selectors.len_at_least)))
+
+pub converted-returns-in_default-2-clause-refused : goal.converted-returns-in_default-2-clause-refused
+converted-returns-in_default-2-clause-refused t c =
+    behind_outside c.args.visible.now c.args.first.now (selector_trees c.args.selectors.now) c.requires.valueless
+    (converted_once c.args.visible.now.scope c.requires.sound c.args.first.now c.args.visible.now c.args.selectors.now c.args.subtype c.requires.stands
+    c.requires.legal (omega (arith, c.in_default.len_at_least)))
+
+pub conversion-returns-in_default-2-clause-refused : goal.conversion-returns-in_default-2-clause-refused
+conversion-returns-in_default-2-clause-refused t c =
+    absurd (one_converted c.args.visible.now.scope c.requires.sound c.args.first.now c.args.arguments.now c.args.subtype c.requires.stands c.requires.legal
+    (omega (arith, c.in_default.len_at_least)))
+
+pub named-returns-in_default : goal.named-returns-in_default
+named-returns-in_default t c =
+    let v = c.args.visible.now in
+    let all = selector_trees c.args.selectors.now in
+    let made = begins_otherwise v.scope c.args.first.now all c.requires.legal c.requires.sound c.requires.valueless v
+    (stands_first v.scope (number_of v.scope c.args.first.now.name)) refl
+    (λ r u e. c.in_default.not-Part r u (c.stands_first.ensures ∙ e)) (λ u e. c.in_default.not-Named u (c.stands_first.ensures ∙ e))
+    (λ f e. c.in_default.not-Callee f (c.stands_first.ensures ∙ e)) in
+    record { width = tt; refused = begin_outside v c.args.first.now all c.requires.valueless made; shallow = tt; emits = tt }
+
+pub element-returns-in_default-2-clause-refused : goal.element-returns-in_default-2-clause-refused
+element-returns-in_default-2-clause-refused t c =
+    let it = array_part c.args.visible.now.scope c.args.subtype c.args.arguments.now c.requires.legal in
+    let one = it.4 in
+    let long = c.in_default.len_at_least in
+    absurd (omega (arith, one, long))
+
+pub element-returns-then-from-gt-WORDS-clause-refused : goal.element-returns-then-from-gt-WORDS-clause-refused
+element-returns-then-from-gt-WORDS-clause-refused t c =
+    let s = c.args.visible.now.scope in
+    inr (inr (inr (elim c.then-from-gt-WORDS.branch [
+      | element-then-from-gt-WORDS-via-then-from-gt-WORDS w ↦ let more = w.if-from-gt-WORDS.true in
+          many_unfit s c.requires.sound c.args.subtype c.in-Some-Array.index c.in-Some-Array.many c.in-Some-Array.last (search rules) (search (rules, more))
+      | element-then-from-gt-WORDS-via-else-from-gt-WORDS+then-from-gt-WORDS-2 w ↦
+          let more = w.if-from-gt-WORDS-2.true in
+          let same = w.from-else-from-gt-WORDS.ensures in
+          large_unfit s c.requires.sound c.args.subtype c.in-Some-Array.index c.in-Some-Array.many c.in-Some-Array.last (search rules) c.words-words.result
+          c.words-words.ensures (search (rules, more, same))
+    ])))
+
+pub element-returns-in_err-checked-clause-refused : goal.element-returns-in_err-checked-clause-refused
+element-returns-in_err-checked-clause-refused t c =
+    let v = c.args.visible.now in
+    let one = one_argument c.args.arguments.now c.in-Expr.e c.argument-item.result c.in-len1.len_at_least c.in-len1.len_below c.argument-item.is c.in-Expr.is in
+    let why = c.in_err-checked.field-0.0 in
+    let whole = subst (λ all. RefusesPath v c.args.self.now c.args.depth c.args.subtype (MoreSelectors (Arguments all) NoSelectors) why) (sym one)
+    (index_refused v c.args.self.now c.args.depth c.args.subtype (expr_tree c.in-Expr.e) c.args.self.now _ c.in-Some-Array.index why (omega arith)
+    c.in_ok-address.ensures.more
+    (index_integers v.scope c.requires.sound c.args.subtype c.in-Some-Array.index c.in-Some-Array.many c.in-Some-Array.last (search rules))
+    c.in_err-checked.ensures.refused) in
+    search (rules, whole)
+
+pub part-returns-in_err-load_block-clause-refused : goal.part-returns-in_err-load_block-clause-refused
+part-returns-in_err-load_block-clause-refused t c =
+    let v = c.args.visible.now in
+    let next = added_here _ _ _ _ c.in_ok-emit.ensures.adds in
+    let behind = c.in_ok-last.ensures.emits.sized in
+    let same = path_counts c.args.selectors.now in
+    let above = c.in_ok-address.ensures.more in
+    let whole = load_refused v c.args.first.now c.args.slot c.requires.stands.0 c.args.subtype c.requires.stands.1 c.requires.there
+    (selector_trees c.args.selectors.now) c.requires.valueless c.args.self.now c.args.depth _ _ c.words-words.result c.in_ok-last.last
+    c.in_err-load_block.field-0.0 c.words-words.ensures c.in_ok-last.ensures.fit (omega (arith, next, behind, same)) (omega (arith, above))
+    c.in_err-load_block.ensures.refused in
+    search (rules, whole)
+
+pub path-returns-in_err-last-clause-refused : goal.path-returns-in_err-last-clause-refused
+path-returns-in_err-last-clause-refused t c =
+    let v = c.args.visible.now in
+    let before = c.loop-selector.invariant.0.sized in
+    let whole = selector_refused v c.args.self.now c.loop-selector.self c.args.depth c.args.subtype c.loop-selector.last c.args.selectors.now
+    c.loop-selector.selector-index c.selector-item.result c.in_err-last.field-0.0 c.loop-selector-test.true c.selector-item.is before
+    c.loop-selector.invariant.3 c.in_err-last.ensures.refused in
+    search (rules, whole)

@@ -1,0 +1,298 @@
+-- What the code of a statement adds, answered for the methods that add it.
+use Rattle.std.proofs.Common.{◌≡◌, ◌∷◌, [], map, refl, sym, ap, ◌∙◌, rules, subst}
+use Rattle.std.proofs.lemmas.Result.{on_ok_weaker}
+use Rattle.ada_tree.specs.declared.statement.Stmt as statements
+use Rattle.ada_tree.specs.ExpressionTree.{expr_tree}
+use Rattle.ada_tree.specs.StatementTree.{Block, Case, Loop, NoHandlers, alternative_trees, declaration_tree, elsif_tree, elsif_trees, handler_trees, iteration_tree, stmt_tree, stmt_trees}
+use Rattle.well_typed.specs.SoundScopes.{SoundScope}
+use Rattle.stmt_code.specs.Refusing.{around, stmts_needs}
+use Rattle.stmt_code.specs.Staying.{StaysStatement}
+use Rattle.stmt_code.specs.Emitting.{AddsParts, AreLegal, AreLegalElsifs, EmitsStatement, EmitsStatements, HasEntries, IsLegal, ways_of}
+use Rattle.stmt_code.proofs.Adding.{all_statements, no_statements, none_there, statement_legal, statements_next}
+use Rattle.stmt_code.proofs.Opening.{if_body, if_condition, if_elsifs, if_emits, if_others, waiting_there}
+use Rattle.stmt_code.proofs.PartsStay.{statements_end, statements_stay}
+use Rattle.stmt_code.proofs.Staying.{stays_self}
+use Rattle.stmt_code.proofs.draft.Draft.+statement.Goals as goal
+
+-- ---- a statement
+
+pub statement-branch-self-requires : goal.statement-branch-self-requires
+statement-branch-self-requires t c =
+    let tree = ap stmt_tree c.in-If.is
+    ∙ c.statements_by_parts.ensures.ifs c.in-If.field-0 c.in-If.condition c.in-If.body c.in-If.elsifs c.in-If.others in (
+      search (rules, statements.the_lemmas),
+      (
+        c.requires.sound,
+        (
+          c.requires.entries,
+          (
+            if_condition c.args.visible.now.scope (stmt_tree c.args.statement.now) c.in-If.field-0 (expr_tree c.in-If.condition) (stmt_trees c.in-If.body.items) (elsif_trees c.in-If.elsifs.items) (stmt_trees c.in-If.others.items) tree c.requires.legal,
+            subst (λ l. AreLegal c.args.visible.now.scope (stmt_trees l)) (sym c.deref.ensures.value)
+                (if_body c.args.visible.now.scope (stmt_tree c.args.statement.now) c.in-If.field-0 (expr_tree c.in-If.condition) (stmt_trees c.in-If.body.items) (elsif_trees c.in-If.elsifs.items) (stmt_trees c.in-If.others.items) tree c.requires.legal),
+          ),
+        ),
+      ),
+    )
+
+pub statement-elsifs-requires : goal.statement-elsifs-requires
+statement-elsifs-requires t c =
+    let tree = ap stmt_tree c.in-If.is
+    ∙ c.statements_by_parts.ensures.ifs c.in-If.field-0 c.in-If.condition c.in-If.body c.in-If.elsifs c.in-If.others in (
+      search (rules, statements.the_lemmas),
+      (
+        subst (λ x. SoundScope x.scope) (sym c.in_ok-branch-in-If.ensures.same) c.requires.sound,
+        (
+          subst HasEntries (sym c.in_ok-branch-in-If.ensures.same) c.requires.entries,
+          subst (λ x. AreLegalElsifs x.scope (elsif_trees c.deref-in-If.result.now)) (sym c.in_ok-branch-in-If.ensures.same)
+              (subst (λ l. AreLegalElsifs c.args.visible.now.scope (elsif_trees l)) (sym c.deref-in-If.ensures.value)
+              (if_elsifs c.args.visible.now.scope (stmt_tree c.args.statement.now) c.in-If.field-0 (expr_tree c.in-If.condition) (stmt_trees c.in-If.body.items)
+              (elsif_trees c.in-If.elsifs.items) (stmt_trees c.in-If.others.items) tree c.requires.legal)),
+        ),
+      ),
+    )
+
+pub statement-statements-requires : goal.statement-statements-requires
+statement-statements-requires t c =
+    let tree = ap stmt_tree c.in-If.is
+    ∙ c.statements_by_parts.ensures.ifs c.in-If.field-0 c.in-If.condition c.in-If.body c.in-If.elsifs c.in-If.others in (
+      search (rules, statements.the_lemmas),
+      (
+        subst (λ x. SoundScope x.scope) (sym (c.in_ok-elsifs-in-If.ensures.same ∙ c.in_ok-branch-in-If.ensures.same)) c.requires.sound,
+        (
+          subst HasEntries (sym (c.in_ok-elsifs-in-If.ensures.same ∙ c.in_ok-branch-in-If.ensures.same)) c.requires.entries,
+          subst (λ x. AreLegal x.scope (stmt_trees c.deref-in-If-2.result.now)) (sym (c.in_ok-elsifs-in-If.ensures.same ∙ c.in_ok-branch-in-If.ensures.same))
+              (subst (λ l. AreLegal c.args.visible.now.scope (stmt_trees l)) (sym c.deref-in-If-2.ensures.value)
+              (if_others c.args.visible.now.scope (stmt_tree c.args.statement.now) c.in-If.field-0 (expr_tree c.in-If.condition) (stmt_trees c.in-If.body.items)
+              (elsif_trees c.in-If.elsifs.items) (stmt_trees c.in-If.others.items) tree c.requires.legal)),
+        ),
+      ),
+    )
+
+pub statement-rejoin-requires : goal.statement-rejoin-requires
+statement-rejoin-requires t c =
+    let v = c.args.visible.now in
+    let w = ways_of c.args.leaving in
+    let first = subst (λ l. AddsParts v w c.args.self.now ((expr_tree c.in-If.condition, stmt_trees l) ∷ []) c.new-waiting.result.items
+    c.branch-self.new.waiting.items c.branch-self.new.self) c.deref.ensures.value c.in_ok-branch-in-If.ensures.adds in
+    let one = c.in_ok-branch-in-If.ensures.same in
+    let two = c.in_ok-elsifs-in-If.ensures.same ∙ one in
+    let others = subst (λ x. AddsParts x w c.branch-self.new.self (map elsif_tree c.in-If.elsifs.items) c.branch-self.new.waiting.items c.elsifs.new.waiting.items
+    c.elsifs.new.self) one
+    (subst (λ l. AddsParts c.branch-self.new.visible w c.branch-self.new.self (map elsif_tree l) c.branch-self.new.waiting.items c.elsifs.new.waiting.items
+    c.elsifs.new.self) c.deref-in-If.ensures.value c.in_ok-elsifs-in-If.ensures.adds) in
+    let last = subst (λ x. EmitsStatements x w c.elsifs.new.self (stmt_trees c.in-If.others.items) c.statements.new.self) two
+    (subst (λ l. EmitsStatements c.elsifs.new.visible w c.elsifs.new.self (stmt_trees l) c.statements.new.self) c.deref-in-If-2.ensures.value
+    c.in_ok-statements-in-If.ensures.emits) in
+    record {
+      there = λ k is. waiting_there v w c.args.self.now c.branch-self.new.self c.elsifs.new.self c.statements.new.self c.statements.new.self c.in-If.field-0
+          (expr_tree c.in-If.condition) (stmt_trees c.in-If.body.items) c.in-If.elsifs.items (stmt_trees c.in-If.others.items) c.new-waiting.result.items
+          c.branch-self.new.waiting.items c.elsifs.new.waiting.items c.deref-in-If-3.result.now c.new-waiting.ensures.items c.deref-in-If-3.ensures.value
+          first others last k is;
+    }
+
+pub statement-returns-in_ok-statements-in-If-clause-emits : goal.statement-returns-in_ok-statements-in-If-clause-emits
+statement-returns-in_ok-statements-in-If-clause-emits t c =
+    let tree = ap stmt_tree c.in-If.is
+    ∙ c.statements_by_parts.ensures.ifs c.in-If.field-0 c.in-If.condition c.in-If.body c.in-If.elsifs c.in-If.others in
+    let v = c.args.visible.now in
+    let w = ways_of c.args.leaving in
+    let first = subst (λ l. AddsParts v w c.args.self.now ((expr_tree c.in-If.condition, stmt_trees l) ∷ []) c.new-waiting.result.items
+    c.branch-self.new.waiting.items c.branch-self.new.self) c.deref.ensures.value c.in_ok-branch-in-If.ensures.adds in
+    let one = c.in_ok-branch-in-If.ensures.same in
+    let two = c.in_ok-elsifs-in-If.ensures.same ∙ one in
+    let others = subst (λ x. AddsParts x w c.branch-self.new.self (map elsif_tree c.in-If.elsifs.items) c.branch-self.new.waiting.items c.elsifs.new.waiting.items
+    c.elsifs.new.self) one
+    (subst (λ l. AddsParts c.branch-self.new.visible w c.branch-self.new.self (map elsif_tree l) c.branch-self.new.waiting.items c.elsifs.new.waiting.items
+    c.elsifs.new.self) c.deref-in-If.ensures.value c.in_ok-elsifs-in-If.ensures.adds) in
+    let last = subst (λ x. EmitsStatements x w c.elsifs.new.self (stmt_trees c.in-If.others.items) c.statements.new.self) two
+    (subst (λ l. EmitsStatements c.elsifs.new.visible w c.elsifs.new.self (stmt_trees l) c.statements.new.self) c.deref-in-If-2.ensures.value
+    c.in_ok-statements-in-If.ensures.emits) in on_ok_weaker _
+    (λ r.
+    subst (λ x. EmitsStatement v w c.args.self.now x (record { code = c.rejoin.new.self; labels = c.statements.new.self.labels; words = c.statements.new.self.words })) (sym tree)
+    (if_emits v w c.args.self.now c.branch-self.new.self c.elsifs.new.self c.statements.new.self (record { code = c.rejoin.new.self; labels = c.statements.new.self.labels; words = c.statements.new.self.words }) c.in-If.field-0
+    (expr_tree c.in-If.condition) (stmt_trees c.in-If.body.items) c.in-If.elsifs.items (stmt_trees c.in-If.others.items) c.new-waiting.result.items
+    c.branch-self.new.waiting.items c.elsifs.new.waiting.items c.deref-in-If-3.result.now c.new-waiting.ensures.items c.deref-in-If-3.ensures.value
+    first others last _ refl r (refl, refl)))
+    c.rejoin.ensures.rejoins
+
+pub statement-returns-in_ok-statements-in-If-clause-same : goal.statement-returns-in_ok-statements-in-If-clause-same
+statement-returns-in_ok-statements-in-If-clause-same t c =
+    let tree = ap stmt_tree c.in-If.is
+    ∙ c.statements_by_parts.ensures.ifs c.in-If.field-0 c.in-If.condition c.in-If.body c.in-If.elsifs c.in-If.others in
+    let v = c.args.visible.now in
+    let w = ways_of c.args.leaving in
+    let first = subst (λ l. AddsParts v w c.args.self.now ((expr_tree c.in-If.condition, stmt_trees l) ∷ []) c.new-waiting.result.items
+    c.branch-self.new.waiting.items c.branch-self.new.self) c.deref.ensures.value c.in_ok-branch-in-If.ensures.adds in
+    let one = c.in_ok-branch-in-If.ensures.same in
+    let two = c.in_ok-elsifs-in-If.ensures.same ∙ one in
+    let others = subst (λ x. AddsParts x w c.branch-self.new.self (map elsif_tree c.in-If.elsifs.items) c.branch-self.new.waiting.items c.elsifs.new.waiting.items
+    c.elsifs.new.self) one
+    (subst (λ l. AddsParts c.branch-self.new.visible w c.branch-self.new.self (map elsif_tree l) c.branch-self.new.waiting.items c.elsifs.new.waiting.items
+    c.elsifs.new.self) c.deref-in-If.ensures.value c.in_ok-elsifs-in-If.ensures.adds) in
+    let last = subst (λ x. EmitsStatements x w c.elsifs.new.self (stmt_trees c.in-If.others.items) c.statements.new.self) two
+    (subst (λ l. EmitsStatements c.elsifs.new.visible w c.elsifs.new.self (stmt_trees l) c.statements.new.self) c.deref-in-If-2.ensures.value
+    c.in_ok-statements-in-If.ensures.emits) in on_ok_weaker _ (λ r. c.in_ok-statements-in-If.ensures.same ∙ two) c.rejoin.ensures.rejoins
+
+pub statement-case-requires : goal.statement-case-requires
+statement-case-requires t c =
+    let s = c.args.visible.now.scope in
+    let e = expr_tree c.in-Case.value in
+    let tree = ap stmt_tree c.in-Case.is ∙ c.statements_by_parts.ensures.cases c.in-Case.place c.in-Case.value c.in-Case.alternatives in (
+      search (rules, statements.the_lemmas),
+      (
+        c.requires.sound,
+        (
+          c.requires.entries,
+          subst (λ l. IsLegal s (Case c.in-Case.place e (alternative_trees l))) (sym c.deref-in-Case.ensures.value) (subst (IsLegal s) tree c.requires.legal),
+        ),
+      ),
+    )
+
+pub statement-returns-in-Case-clause-emits : goal.statement-returns-in-Case-clause-emits
+statement-returns-in-Case-clause-emits t c =
+    let v = c.args.visible.now in
+    let w = ways_of c.args.leaving in
+    let e = expr_tree c.in-Case.value in
+    let tree = ap stmt_tree c.in-Case.is ∙ c.statements_by_parts.ensures.cases c.in-Case.place c.in-Case.value c.in-Case.alternatives in
+    on_ok_weaker _
+    (λ p.
+    subst (λ x. EmitsStatement v w c.args.self.now x c.case.new.self) (sym tree)
+    (subst (λ l. EmitsStatement v w c.args.self.now (Case c.in-Case.place e (alternative_trees l)) c.case.new.self) c.deref-in-Case.ensures.value p))
+    c.case.ensures.emits
+
+pub statement-returns-in-Assignment-clause-emits : goal.statement-returns-in-Assignment-clause-emits
+statement-returns-in-Assignment-clause-emits t c =
+    on_ok_weaker _
+    (λ p. subst (λ x. EmitsStatement c.args.visible.now (ways_of c.args.leaving) c.args.self.now x c.assign.new.self) (sym (ap stmt_tree c.in-Assignment.is)) p)
+    (c.assign.ensures.emits (ways_of c.args.leaving))
+
+pub statement-returns-in-Call-clause-emits : goal.statement-returns-in-Call-clause-emits
+statement-returns-in-Call-clause-emits t c =
+    on_ok_weaker _
+    (λ p. subst (λ x. EmitsStatement c.args.visible.now (ways_of c.args.leaving) c.args.self.now x c.call.new.self) (sym (ap stmt_tree c.in-Call.is)) p)
+    (c.call.ensures.emits (ways_of c.args.leaving))
+
+pub statement-repeated-requires : goal.statement-repeated-requires
+statement-repeated-requires t c =
+    let s = c.args.visible.now.scope in
+    let tree = ap stmt_tree c.in-Loop.is ∙ c.statements_by_parts.ensures.loops c.in-Loop.place c.in-Loop.iteration c.in-Loop.body in (
+      search (rules, statements.the_lemmas),
+      (
+        c.requires.sound,
+        (
+          c.requires.entries,
+          subst (λ l. IsLegal s (Loop c.in-Loop.place (iteration_tree c.in-Loop.iteration) (stmt_trees l))) (sym c.deref-in-Loop.ensures.value)
+              (subst (IsLegal s) tree c.requires.legal),
+        ),
+      ),
+    )
+
+pub statement-returns-in-Loop-clause-emits : goal.statement-returns-in-Loop-clause-emits
+statement-returns-in-Loop-clause-emits t c =
+    let v = c.args.visible.now in
+    let w = ways_of c.args.leaving in
+    let tree = ap stmt_tree c.in-Loop.is ∙ c.statements_by_parts.ensures.loops c.in-Loop.place c.in-Loop.iteration c.in-Loop.body in on_ok_weaker _
+    (λ p.
+    subst (λ x. EmitsStatement v w c.args.self.now x c.repeated.new.self) (sym tree)
+    (subst (λ l. EmitsStatement v w c.args.self.now (Loop c.in-Loop.place (iteration_tree c.in-Loop.iteration) (stmt_trees l)) c.repeated.new.self)
+    c.deref-in-Loop.ensures.value p))
+    c.repeated.ensures.emits
+
+pub statement-returns-in-Loop-clause-same : goal.statement-returns-in-Loop-clause-same
+statement-returns-in-Loop-clause-same t c =
+    let v = c.args.visible.now in
+    let w = ways_of c.args.leaving in
+    let tree = ap stmt_tree c.in-Loop.is ∙ c.statements_by_parts.ensures.loops c.in-Loop.place c.in-Loop.iteration c.in-Loop.body in c.repeated.ensures.same
+
+pub statement-block-requires : goal.statement-block-requires
+statement-block-requires t c =
+    let s = c.args.visible.now.scope in
+    let no_handlers : c.in-Block.handlers.items ≡ [] = none_there c.in-Block.handlers.items (search rules) in
+    let tree = ap stmt_tree c.in-Block.is
+    ∙ c.statements_by_parts.ensures.blocks c.in-Block.place c.in-Block.declarations c.in-Block.body c.in-Block.handlers
+    ∙ ap (λ l. Block c.in-Block.place (map declaration_tree c.in-Block.declarations.items) (stmt_trees c.in-Block.body.items) (handler_trees l)) no_handlers in (
+      search (rules, statements.the_lemmas),
+      (
+        c.requires.sound,
+        (
+          c.requires.entries,
+          subst (λ l. IsLegal s (Block c.in-Block.place (map declaration_tree l) (stmt_trees c.deref-then-is_empty.result.now) NoHandlers))
+              (sym c.deref-then-is_empty-2.ensures.value)
+              (subst (λ l. IsLegal s (Block c.in-Block.place (map declaration_tree c.in-Block.declarations.items) (stmt_trees l) NoHandlers))
+              (sym c.deref-then-is_empty.ensures.value) (subst (IsLegal s) tree c.requires.legal)),
+        ),
+      ),
+    )
+
+pub statement-returns-then-is_empty-clause-emits : goal.statement-returns-then-is_empty-clause-emits
+statement-returns-then-is_empty-clause-emits t c =
+    let v = c.args.visible.now in
+    let w = ways_of c.args.leaving in
+    let no_handlers : c.in-Block.handlers.items ≡ [] = none_there c.in-Block.handlers.items (search rules) in
+    let tree = ap stmt_tree c.in-Block.is
+    ∙ c.statements_by_parts.ensures.blocks c.in-Block.place c.in-Block.declarations c.in-Block.body c.in-Block.handlers
+    ∙ ap (λ l. Block c.in-Block.place (map declaration_tree c.in-Block.declarations.items) (stmt_trees c.in-Block.body.items) (handler_trees l)) no_handlers in on_ok_weaker _
+    (λ p.
+    subst (λ x. EmitsStatement v w c.args.self.now x c.block.new.self) (sym tree)
+    (subst (λ l. EmitsStatement v w c.args.self.now (Block c.in-Block.place (map declaration_tree c.in-Block.declarations.items) (stmt_trees l) NoHandlers) c.block.new.self)
+    c.deref-then-is_empty.ensures.value
+    (subst (λ l. EmitsStatement v w c.args.self.now (Block c.in-Block.place (map declaration_tree l) (stmt_trees c.deref-then-is_empty.result.now) NoHandlers)
+    c.block.new.self) c.deref-then-is_empty-2.ensures.value p)))
+    c.block.ensures.emits
+
+pub statement-returns-then-is_empty-clause-same : goal.statement-returns-then-is_empty-clause-same
+statement-returns-then-is_empty-clause-same t c =
+    let v = c.args.visible.now in
+    let w = ways_of c.args.leaving in
+    let no_handlers : c.in-Block.handlers.items ≡ [] = none_there c.in-Block.handlers.items (search rules) in
+    let tree = ap stmt_tree c.in-Block.is
+    ∙ c.statements_by_parts.ensures.blocks c.in-Block.place c.in-Block.declarations c.in-Block.body c.in-Block.handlers
+    ∙ ap (λ l. Block c.in-Block.place (map declaration_tree c.in-Block.declarations.items) (stmt_trees c.in-Block.body.items) (handler_trees l)) no_handlers in c.block.ensures.same
+
+-- ---- statements one behind another
+
+pub statements-loop-statement-init : goal.statements-loop-statement-init
+statements-loop-statement-init t c = (
+  no_statements c.args.visible.now (ways_of c.args.leaving) c.args.self.now,
+  refl,
+  stays_self c.args.self.now (stmts_needs (around c.args.visible.now (ways_of c.args.leaving) c.args.self.now) (stmt_trees c.args.all.now)),
+)
+
+pub statements-statement-requires : goal.statements-statement-requires
+statements-statement-requires t c =
+    let there = sym c.loop-statement.invariant.1 in (
+      search (rules, statements.the_lemmas),
+      (
+        subst (λ x. SoundScope x.scope) there c.requires.sound,
+        (
+          subst HasEntries there c.requires.entries,
+          subst (λ x. IsLegal x.scope (stmt_tree c.statement-item.result)) there
+              (statement_legal c.args.visible.now.scope c.args.all.now _ c.statement-item.result c.loop-statement-test.true c.statement-item.is c.requires.legal),
+        ),
+      ),
+    )
+
+pub statements-loop-statement-preserved : goal.statements-loop-statement-preserved
+statements-loop-statement-preserved t c =
+    let w = ways_of c.args.leaving in
+    let there = c.loop-statement.invariant.1 in (
+      statements_next c.args.visible.now w c.args.self.now c.loop-statement.self c.statement.new.self c.args.all.now _ c.statement-item.result
+          c.loop-statement-test.true c.statement-item.is c.loop-statement.invariant.0
+          (subst (λ x. EmitsStatement x w c.loop-statement.self (stmt_tree c.statement-item.result) c.statement.new.self) there c.in_ok-statement.ensures.emits),
+      c.in_ok-statement.ensures.same ∙ there,
+      statements_stay c.args.visible.now w c.args.self.now c.loop-statement.self c.statement.new.self c.args.all.now _ c.statement-item.result
+          c.loop-statement-test.true c.statement-item.is c.loop-statement.invariant.0.taken c.loop-statement.invariant.2
+          (subst (λ x. StaysStatement x w c.loop-statement.self (stmt_tree c.statement-item.result) c.statement.new.self) there
+          c.in_ok-statement.ensures.stays),
+    )
+
+pub statements-returns-clause-stays : goal.statements-returns-clause-stays
+statements-returns-clause-stays t c =
+    statements_end c.args.self.now c.loop-statement.self c.args.all.now _ _ c.loop-statement-test.false c.loop-statement.invariant.2
+
+pub statements-returns-clause-emits : goal.statements-returns-clause-emits
+statements-returns-clause-emits t c = all_statements c.args.visible.now (ways_of c.args.leaving) c.args.self.now c.loop-statement.self c.args.all.now _ c.loop-statement-test.false
+    c.loop-statement.invariant.0
+
+pub statements-returns-clause-same : goal.statements-returns-clause-same
+statements-returns-clause-same t c = c.loop-statement.invariant.1
