@@ -138,8 +138,8 @@ module _ (spelling : SpellingNumbers) (grammar : GrammarNumbers) (legality : Leg
   of_tree text tree fault accepted (inl (inl memory)) = λ is. let n = ap (λ f. f.number) memory in absurd (omega (arith, n, is))
   of_tree text tree fault accepted (inl (inr large)) = λ is. let n = ap (λ f. f.number) large.0 in absurd (omega (arith, n, is))
   of_tree text tree fault accepted (inr (other, inl memory)) = λ is. let n = ap (λ f. f.number) memory in absurd (omega (arith, n, is))
-  of_tree text tree fault accepted (inr (other, inr (inl out))) = λ is. (out, (tree, (accepted, other)))
-  of_tree text tree fault accepted (inr (other, inr (inr large))) = λ is. let n = ap (λ f. f.number) large in absurd (omega (arith, n, is))
+  of_tree text tree fault accepted (inr (other, inr (inl out))) = λ is. (out.0, (tree, record { accepted = accepted; other = other; outside = out.1 }))
+  of_tree text tree fault accepted (inr (other, inr (inr large))) = λ is. let n = ap (λ f. f.number) large.0 in absurd (omega (arith, n, is))
 
   left_out : (text : List ℕ) (fault : Fault) → RefusesText text fault → IsLeftOut text fault
   left_out text fault (inl memory) = λ is. let n = ap (λ f. f.number) memory in absurd (omega (arith, n, is))

@@ -19,7 +19,9 @@ use Rattle.ada_link.specs.FirstLanguage.{is_first_program}
 use Rattle.ada_link.specs.Refusals.{outside, too_large}
 use Rattle.ada_link.specs.Size as first
 use Rattle.expr_code.specs.Coming as code
+use Rattle.expr_code.specs.declared.refusal.Refusal.TheVariants as refusal
 use Rattle.package_code.specs.Counts.{instructions_bound}
+use Rattle.package_code.specs.Refusing as sections
 
 -- the tree is what the text spells
 pub record IsTreeOf (tree : ProgramTree) (text : List ℕ) : Type 0 where
@@ -80,9 +82,11 @@ pub record HasUnrestrictedTree (text : List ℕ) (fault : Fault) : Type 0 where
 abbrev pub IsRefusedOnlyBy : ProgramTree → Fault → Type 0
 IsRefusedOnlyBy tree fault = (fault ≡ memory_fault) ⊎ ((fault ≡ too_large tree) × (first.is_too_large tree ≡ true))
 
--- memory was refused, the program is outside what is compiled today, or its code passes a limit of images
+-- Memory was refused; the program is outside what is compiled today, as its text tells; or, as its text tells, its code may pass a limit of images.
 abbrev pub RefusesSections : ProgramTree → Fault → Type 0
-RefusesSections tree fault = (fault ≡ memory_fault) ⊎ ((fault ≡ outside) ⊎ (fault ≡ too_large tree))
+RefusesSections tree fault =
+    (fault ≡ memory_fault)
+    ⊎ (((fault ≡ outside) × sections.RefusesProgram tree refusal.Outside) ⊎ ((fault ≡ too_large tree) × sections.RefusesProgram tree refusal.Limit))
 
 -- why an accepted program is not compiled: one of the first language for want of memory, or because its code is too large; another one for any of these reasons
 abbrev pub RefusesAccepted : ProgramTree → Fault → Type 0
@@ -101,10 +105,15 @@ RefusesText text fault =
     (fault ≡ memory_fault)
     ⊎ (IsBroken text fault ⊎ (HasNoTree text fault ⊎ (HasIllegalTree text fault ⊎ (HasUnrestrictedTree text fault ⊎ HasRefusedTree text fault))))
 
--- What is outside the language of today is an accepted text that is not of the first language, and refused by this number at byte 0. No other text is.
+-- an accepted text that is not of the first language, and has what code isn't made of
+pub record IsOutside (tree : ProgramTree) (text : List ℕ) : Type 0 where
+  pub accepted : IsAccepted tree text
+  pub other : is_first_program tree ≡ false
+  pub outside : sections.RefusesProgram tree refusal.Outside
+
+-- What is outside the language of today is such a text, and refused by this number at byte 0. No other text is.
 abbrev pub IsLeftOut : List ℕ → Fault → Type 0
-IsLeftOut text fault =
-    fault.number ≡ OUTSIDE_LANGUAGE → (fault ≡ outside) × ((tree : ProgramTree) × (IsAccepted tree text × (is_first_program tree ≡ false)))
+IsLeftOut text fault = fault.number ≡ OUTSIDE_LANGUAGE → (fault ≡ outside) × ((tree : ProgramTree) × IsOutside tree text)
 
 -- The tree breaks no rule; or its text is refused for want of memory, by the least rule from 10 to 23 that it breaks, where it is legal by the least one from
 -- 30 to 39, and where it breaks none of these for what is compiled today.

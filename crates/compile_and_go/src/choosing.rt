@@ -7,6 +7,7 @@ ghost use Rattle.ravenscar.specs.ProgramRules.{IsRestricted};
 ghost use Rattle.expr_code.specs.Coming as code;
 ghost use Rattle.meaning.specs.SameMeaning.{KeepsCount, SameMeaning};
 ghost use Rattle.package_code.specs.Counts.{instructions_bound};
+ghost use Rattle.package_code.specs.Refusing.{RefusesProgram};
 ghost use Rattle.compile_and_go.specs.Accepted.{IsBounded, RefusesAccepted, RefusesSections, most_steps};
 
 use ada_link::link::compile_tree;
@@ -22,6 +23,7 @@ use std::alloc::Global;
 
 // The fault of a program of which no image is made for this reason.
 fn fault_of(program: &Program, why: Refusal) -> Fault
+    requires { RefusesProgram (program_tree program.now) why }
     ensures { RefusesSections (program_tree program.now) result }
 {
     match why {
