@@ -1,7 +1,6 @@
 -- The walk over a package goes as its text tells: what is visible, the labels, and the bound on instructions; and why it stops is a reason to refuse the program.
-use Rattle.std.proofs.Common.{◌≡◌, ℕ, zero, suc, ◌+◌, ◌≤◌, ◌<◌, List, [], ◌∷◌, ◌++◌, length, take, ◌⊎◌, inl, inr, Option, Some, None, true, refl, sym, ap, ◌∙◌, subst, arith, length-append}
+use Rattle.std.proofs.Common.{◌≡◌, ℕ, suc, ◌+◌, ◌≤◌, List, [], ◌∷◌, length, take, inl, inr, Some, true, refl, sym, ap, ◌∙◌, subst, arith, length-append}
 use Rattle.std.specs.Prelude.{not, nat_eq, slice_get}
-use Rattle.base.specs.declared.limits.TheConstants.{LABELS}
 use Rattle.ada_tree.specs.declared.expression.Identifier.{Identifier}
 use Rattle.ada_tree.specs.StatementTree.{SubprogramTree}
 use Rattle.ada_tree.specs.ProgramTree.{BodyItemTree, BodyTree, ItemTree, OfItem, ProgramTree, SubprogramBody}
@@ -11,7 +10,6 @@ use Rattle.type_rules.specs.ProfileRules.{subprogram_scope}
 use Rattle.declaring.specs.ItemRules.{item_scope}
 use Rattle.declaring.specs.ProtectedRules.{protected_count}
 use Rattle.legality.specs.MainRules.{item_name}
-use Rattle.legality.specs.PackageBodyRules.{body_item_scope}
 use Rattle.meaning.specs.Programs.{program_of}
 use Rattle.sound_programs.specs.Fronts.{declared_in, front, start_in}
 use Rattle.sound_programs.proofs.Walked.{item_entity, own_profile, scope_next}
@@ -23,14 +21,13 @@ use Rattle.expr_code.specs.declared.refusal.Refusal.TheVariants as refusal
 use Rattle.expr_code.specs.declared.visible.Visible.{Visible}
 use Rattle.stmt_code.specs.Bounds.{main_bound, procedure_bound}
 use Rattle.stmt_code.specs.Emitting.{HasEntries}
-use Rattle.stmt_code.specs.Refusing.{HasManyLabels, IsNeeding, Needs, beyond_if, both}
+use Rattle.stmt_code.specs.Refusing.{HasManyLabels, IsNeeding, Needs, beyond_if}
 use Rattle.stmt_code.specs.declared.draft.Draft.{Draft}
-use Rattle.stmt_code.specs.declared.subprogram.SubprogramWords.{SubprogramWords}
 use Rattle.stmt_code.proofs.Refused.{Within, needing_refused, of_right}
 use Rattle.ada_link.specs.Counts.{bounds_from}
 use Rattle.ada_link.specs.Directory.{IsDirectory, IsNext, TellsNext}
-use Rattle.ada_link.specs.Refusing.{RefusesCode, item_labels, item_needs, items_labels, items_needs, number_in, program_bound, program_labels, program_needs, seen_at, subprogram_labels, subprogram_needs}
-use Rattle.ada_link.specs.Walking.{AddsBody, AddsSubprogram, BeginsWalk, IsAsTold, RefusesBody}
+use Rattle.ada_link.specs.Refusing.{RefusesCode, item_needs, items_labels, items_needs, number_in, program_bound, program_labels, program_needs, seen_at, subprogram_labels, subprogram_needs}
+use Rattle.ada_link.specs.Walking.{AddsBody, BeginsWalk, IsAsTold, RefusesBody}
 use Rattle.ada_link.specs.declared.directory.Directory.{Directory}
 use Rattle.ada_link.specs.declared.walk.Walk.{Walk}
 use Rattle.ada_link.proofs.Counted.{adds_few}

@@ -1,7 +1,6 @@
 -- What refuses a procedure or a function refuses its body, and which labels stand behind it.
-use Rattle.std.proofs.Common.{◌≡◌, ℕ, ◌+◌, ◌≤◌, ◌<◌, List, [], ◌∷◌, length, Bool, true, false, inl, inr, Option, Some, None, refl, sym, ap, ◌∙◌, subst, arith}
+use Rattle.std.proofs.Common.{◌≡◌, ℕ, ◌+◌, ◌≤◌, List, [], ◌∷◌, length, true, false, inl, inr, Option, Some, None, refl, sym, ap, ◌∙◌, subst, arith}
 use Rattle.std.specs.Prelude.{is_none}
-use Rattle.ada_tree.specs.declared.declaration.Formal.{Formal}
 use Rattle.ada_tree.specs.declared.expression.Identifier.{Identifier}
 use Rattle.ada_tree.specs.ExpressionTree.{ExprTree}
 use Rattle.ada_tree.specs.declared.statement.Stmt.{Stmt}
@@ -19,7 +18,7 @@ use Rattle.stmt_code.specs.Refusing.{HasManyLabels, IsNeeding, Needs}
 use Rattle.stmt_code.specs.WholeRefusals.{RefusesFunction, RefusesProcedure, body_labels, procedure_needs}
 use Rattle.stmt_code.specs.declared.draft.Draft.{Draft}
 use Rattle.stmt_code.proofs.Refused.{needing_refused, within_self}
-use Rattle.ada_link.specs.Refusing.{function_if_any, subprogram_labels, subprogram_needs}
+use Rattle.ada_link.specs.Refusing.{function_if_any}
 use Rattle.ada_link.specs.Walking.{AddsLabels, RefusesBody}
 use Rattle.ada_link.proofs.Counted.{function_within}
 

@@ -1,5 +1,5 @@
 -- Which body is that of a subprogram, by its number, and how many instructions the code of each has.
-use Rattle.std.proofs.Common.{◌≡◌, ◌⊎◌, inl, inr, ℕ, zero, suc, ◌+◌, ◌-◌, ◌*◌, ◌<◌, ◌≤◌, List, [], ◌∷◌, ◌++◌, length, Option, Some, None, refl, sym, ap, ◌∙◌, subst, arith, length-append, take_all}
+use Rattle.std.proofs.Common.{◌≡◌, ◌⊎◌, inl, inr, ℕ, zero, suc, ◌+◌, ◌-◌, ◌<◌, ◌≤◌, List, [], ◌∷◌, ◌++◌, length, Option, Some, None, refl, sym, ap, ◌∙◌, subst, arith, length-append, take_all}
 use Rattle.std.specs.Prelude.{slice_get, take}
 use Rattle.std.proofs.lemmas.Option.{slice_get_within}
 use Rattle.ada_tree.specs.declared.declaration.Formal.{Formal}
@@ -8,7 +8,7 @@ use Rattle.ada_tree.specs.ExpressionTree.{ExprTree}
 use Rattle.ada_tree.specs.StatementTree as tree
 use Rattle.ada_tree.specs.StatementTree.{MoreStmts, NoStmts, StmtTree, StmtTrees, SubprogramTree}
 use Rattle.ada_tree.specs.ProgramTree.{BodyItemTree, BodyTree, ProgramTree, SubprogramBody}
-use Rattle.ada_tree.specs.Size.{body_size, expr_size, size_if_any, stmts_size}
+use Rattle.ada_tree.specs.Size.{expr_size, size_if_any, stmts_size}
 use Rattle.types.specs.Scopes.{Scope}
 use Rattle.image.specs.Operations.{called}
 use Rattle.image.specs.Sections.{Sections, end_of, first_place}
@@ -24,7 +24,7 @@ use Rattle.stmt_code.specs.Bounds.{function_bound, main_bound, procedure_bound}
 use Rattle.stmt_code.specs.Subprograms.{AddsProcedure}
 use Rattle.stmt_code.specs.declared.draft.Draft.{Draft}
 use Rattle.stmt_code.specs.declared.subprogram.SubprogramWords.{SubprogramWords}
-use Rattle.ada_link.specs.Counts.{bodies_among, bodies_before, bound_if_body, bounds_from, instructions_bound, or_zero}
+use Rattle.ada_link.specs.Counts.{bodies_among, bodies_before, bounds_from, instructions_bound, or_zero}
 use Rattle.ada_link.specs.Laws.{SectionsAreBounded}
 use Rattle.ada_link.specs.Program.{HasProgram, main_row}
 use Rattle.ada_link.specs.Walking.{AddsSubprogram, AddsValue, HasBody, begins_at, row_of}

@@ -1,12 +1,11 @@
 -- Why what declarations tell is not found: what refuses one of them refuses all.
-use Rattle.std.proofs.Common.{◌≡◌, ℕ, zero, suc, ◌+◌, ◌<◌, ◌≤◌, ℤ, List, [], ◌∷◌, ◌++◌, append-nil, append_assoc, drop, get_or, length, length-append, map, take, Bool, true, false, ◌||◌, ◌&&◌, inl, inr, Option, Some, None, refl, sym, ap, ◌∙◌, subst, arith}
+use Rattle.std.proofs.Common.{◌≡◌, ℕ, zero, suc, ◌+◌, ◌<◌, ◌≤◌, ℤ, List, [], ◌∷◌, ◌++◌, append-nil, append_assoc, drop, get_or, length, length-append, map, take, Bool, true, false, ◌||◌, ◌&&◌, inl, inr, Some, None, refl, sym, ap, ◌∙◌, subst, arith}
 use Rattle.std.specs.Prelude.{bytes_eq, is_none, is_some, nat_eq, not, slice_get}
 use Rattle.std.proofs.lemmas.List.{map-append, take-append-drop}
 use Rattle.std.proofs.lemmas.Option.{slice_get_within}
 use Rattle.base.specs.declared.limits.TheConstants.{WORDS}
 use Rattle.ada_tree.specs.declared.declaration.Item.{Item}
 use Rattle.ada_tree.specs.declared.program.BodyItem.{BodyItem}
-use Rattle.ada_tree.specs.ExpressionTree.{ExprTree}
 use Rattle.ada_tree.specs.StatementTree.{ObjectTree}
 use Rattle.ada_tree.specs.ProgramTree.{BodyItemTree, ItemTree, OfObject, body_item_tree, item_tree}
 use Rattle.types.specs.declared.entity.RecordComponent.{RecordComponent}
@@ -27,7 +26,7 @@ use Rattle.expr_code.specs.declared.refusal.Refusal.TheVariants as refusal
 use Rattle.expr_code.specs.declared.visible.Slot.{Slot}
 use Rattle.stmt_code.proofs.Adding.{mapped_next}
 use Rattle.stmt_code.specs.Refusing.{lack_word, lacks_word}
-use Rattle.ada_link.specs.Globals.{AddsItems, AreGlobals, RefusesAdding, RefusesGlobals, RefusesHere, RefusesVariable, is_unplaced, refuses_item, refuses_items, refuses_variable}
+use Rattle.ada_link.specs.Globals.{AddsItems, RefusesAdding, RefusesGlobals, RefusesVariable, is_unplaced, refuses_item, refuses_items, refuses_variable}
 use Rattle.ada_link.specs.Package.{first_words_of, place_among}
 use Rattle.ada_link.specs.Refusing.{is_outside_variable, lacks_first_words}
 use Rattle.ada_link.specs.declared.globals.Globals.{Globals}

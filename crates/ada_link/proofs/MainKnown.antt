@@ -4,7 +4,7 @@ use Rattle.std.specs.Prelude.{bytes_eq, is_none, option_map, slice_get}
 use Rattle.ada_tree.specs.declared.program.MainStatement.{MainStatement}
 use Rattle.ada_tree.specs.declared.program.MainStatement.TheVariants as main
 use Rattle.ada_tree.specs.ProgramTree.{BodyItemTree, ProgramTree}
-use Rattle.types.specs.Entities.{Entity, Profile, Subprogram}
+use Rattle.types.specs.Entities.{Profile, Subprogram}
 use Rattle.types.specs.Scopes.{Named, Scope, number_of}
 use Rattle.checking.specs.ProgramRules.{IsLegal}
 use Rattle.ravenscar.specs.ProgramRules.{IsRestricted}
@@ -17,12 +17,11 @@ use Rattle.sound_programs.proofs.Called.{body_entity}
 use Rattle.sound_programs.proofs.Listing.{same_some}
 use Rattle.sound_programs.proofs.Walked.{kept_all}
 use Rattle.sound_programs.proofs.WiderScopes.{number_stands, same_bytes, stands, stands_number}
-use Rattle.sound_programs.proofs.Whole.{IsPackage, kept}
+use Rattle.sound_programs.proofs.Whole.{IsPackage}
 use Rattle.well_typed.proofs.Positions.{entity_number, first_place, found_at, number_place, suc_of}
 use Rattle.expr_code.specs.Entries.{entry_at}
 use Rattle.expr_code.specs.Seeing.{subprogram_of, told_of}
-use Rattle.stmt_code.specs.Refusing.{are_unknown, is_unknown}
-use Rattle.ada_link.specs.Counts.{bodies_before}
+use Rattle.stmt_code.specs.Refusing.{are_unknown}
 use Rattle.ada_link.specs.Laws.{MainIsKnown}
 use Rattle.ada_link.specs.Refusing.{number_in, seen_at, told_behind}
 use Rattle.ada_link.proofs.CodedPackage.{procedure_stands}

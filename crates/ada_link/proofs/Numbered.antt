@@ -7,7 +7,7 @@ use Rattle.std.proofs.lemmas.List.{length-replicate}
 use Rattle.std.proofs.lemmas.Option.{slice_get_within}
 use Rattle.ada_tree.specs.declared.program.BodyItem.{BodyItem}
 use Rattle.ada_tree.specs.StatementTree.{SubprogramTree}
-use Rattle.ada_tree.specs.ProgramTree.{BodyItemTree, BodyTree, ProgramTree, SubprogramBody, body_item_tree}
+use Rattle.ada_tree.specs.ProgramTree.{BodyItemTree, BodyTree, SubprogramBody, body_item_tree}
 use Rattle.types.specs.Places.{or_else}
 use Rattle.types.specs.Scopes.{Scope, number_of}
 use Rattle.expr_rules.proofs.TypedLaw.{unbroken}

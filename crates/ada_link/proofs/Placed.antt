@@ -1,5 +1,5 @@
 -- Each variable of an accepted program has a place of its own: its name is visible behind the package, and no variable in front of it has it.
-use Rattle.std.proofs.Common.{◌≡◌, ℕ, zero, suc, ◌+◌, List, [], ◌∷◌, ◌++◌, append-nil, append_assoc, length, length-append, map, take, Bool, true, false, ◌||◌, ◌&&◌, Option, Some, None, refl, sym, ap, ◌∙◌, subst, arith}
+use Rattle.std.proofs.Common.{◌≡◌, ℕ, suc, ◌+◌, List, [], ◌∷◌, ◌++◌, append-nil, append_assoc, length, map, take, Bool, true, false, ◌||◌, ◌&&◌, Option, Some, None, refl, sym, ap, ◌∙◌, subst}
 use Rattle.std.specs.Prelude.{bytes_eq, if◌then◌else◌, is_none, is_some, nat_eq, not, slice_get}
 use Rattle.std.proofs.Math.Seq.{take-append_seam}
 use Rattle.ada_tree.specs.StatementTree.{ObjectTree}
@@ -9,7 +9,6 @@ use Rattle.types.specs.Places.{or_else}
 use Rattle.types.specs.Scopes.{Scope, is_visible, number_of}
 use Rattle.types.specs.Shapes.{value_words}
 use Rattle.type_rules.specs.SubtypeNames.{subtype_of}
-use Rattle.declaring.specs.ItemRules.{item_scope}
 use Rattle.declaring.specs.ProtectedRules.{protected_count}
 use Rattle.legality.specs.PackageBodyRules.{body_item_scope, body_items_scope}
 use Rattle.checking.specs.ProgramRules.{IsLegal}

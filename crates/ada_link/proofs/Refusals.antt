@@ -1,16 +1,16 @@
 -- Why no sections of a program are put together: what refuses its variables, its bodies, main or its tables refuses the program.
-use Rattle.std.proofs.Common.{◌≡◌, ℕ, zero, suc, ◌+◌, ◌≤◌, ◌<◌, List, [], ◌∷◌, ◌++◌, length, map, take, inl, inr, Bool, true, false, ◌&&◌, ◌||◌, Option, Some, None, refl, sym, ap, ◌∙◌, subst, arith, append-nil, length-append, take_all}
+use Rattle.std.proofs.Common.{◌≡◌, ℕ, zero, suc, ◌+◌, ◌≤◌, ◌<◌, List, [], ◌∷◌, ◌++◌, length, map, take, inl, inr, Bool, true, false, ◌&&◌, Option, Some, None, refl, sym, ap, ◌∙◌, subst, arith, length-append, take_all}
 use Rattle.std.specs.List.{list_all}
 use Rattle.std.specs.Prelude.{nat_eq, nat_le, not}
 use Rattle.base.specs.Names.{is_label, is_name}
-use Rattle.base.specs.declared.limits.TheConstants.{EXCEPTIONS, FRAME_WORDS, INSTRUCTIONS, LABELS, SUBPROGRAMS, WORDS}
+use Rattle.base.specs.declared.limits.TheConstants.{EXCEPTIONS, INSTRUCTIONS, LABELS, SUBPROGRAMS, WORDS}
 use Rattle.ada_tree.specs.ProgramTree.{BodyItemTree, ItemTree, OfItem, PackageTree, ProgramTree}
 use Rattle.image.specs.Sections.{Sections}
 use Rattle.image.specs.declared.tasks.Task.{Task}
 use Rattle.types.specs.Layouts.{total}
 use Rattle.types.specs.Scopes.{Scope}
 use Rattle.declaring.specs.ProtectedRules.{protected_count}
-use Rattle.meaning.specs.Programs.{base_priority, package_bodies, package_items, program_of}
+use Rattle.meaning.specs.Programs.{package_bodies, package_items, program_of}
 use Rattle.sound_programs.specs.Fronts.{declared_in}
 use Rattle.expr_code.specs.Code.{here}
 use Rattle.expr_code.specs.Refusing.{IsRefused}
@@ -19,16 +19,14 @@ use Rattle.expr_code.specs.declared.refusal.Refusal.{Refusal}
 use Rattle.expr_code.specs.declared.refusal.Refusal.TheVariants as refusal
 use Rattle.expr_code.proofs.Refusals.{or_left}
 use Rattle.stmt_code.specs.Bounds.{main_bound}
-use Rattle.stmt_code.specs.Refusing.{HasManyLabels, IsNeeding, RefusesMain, are_unknown, beyond_if}
-use Rattle.stmt_code.specs.Subprograms.{KeepsRules}
+use Rattle.stmt_code.specs.Refusing.{RefusesMain, are_unknown, beyond_if}
 use Rattle.stmt_code.proofs.Refused.{needing_refused}
 use Rattle.ada_link.specs.Counts.{bodies_among, bodies_before, bounds_from}
 use Rattle.ada_link.specs.Directory.{AreNumbered, HasManyBodies, IsDirectory}
 use Rattle.ada_link.specs.Globals.{AreGlobals, RefusesGlobals, refuses_items}
 use Rattle.ada_link.specs.Laws.{HasFew}
-use Rattle.ada_link.specs.Package.{first_words_of}
 use Rattle.ada_link.specs.Program.{HasProgram, has_texts, is_within_limits}
-use Rattle.ada_link.specs.Refusing.{HasMany, HasManyWords, IsMisspelt, RefusesCode, RefusesParts, RefusesProgram, is_spelled, items_labels, items_needs, number_among, number_in, program_bound, program_labels, program_needs, seen_at}
+use Rattle.ada_link.specs.Refusing.{RefusesCode, RefusesParts, RefusesProgram, is_spelled, items_labels, items_needs, number_among, program_bound, program_labels, program_needs, seen_at}
 use Rattle.ada_link.specs.Walking.{IsAsTold}
 use Rattle.ada_link.specs.declared.directory.Directory.{Directory}
 use Rattle.ada_link.specs.declared.globals.Globals.{Globals}

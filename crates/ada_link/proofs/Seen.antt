@@ -15,7 +15,6 @@ use Rattle.sound_programs.proofs.OneList.{scope_joined}
 use Rattle.sound_programs.proofs.Walked.{declares, kept_at, one_of, scope_next, stands_next}
 use Rattle.sound_programs.proofs.WiderScopes.{bytes_same, number_stands, stands}
 use Rattle.expr_code.specs.Seeing.{told_of}
-use Rattle.expr_code.specs.declared.visible.Slot.{Slot}
 use Rattle.expr_code.specs.declared.visible.Visible.{Visible}
 use Rattle.ada_link.specs.Directory.{IsDirectory, IsUnseen, TellsMore, TellsNext}
 use Rattle.ada_link.specs.Refusing.{number_in, seen_at, slot_in, told_behind}

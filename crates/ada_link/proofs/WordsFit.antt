@@ -1,11 +1,10 @@
 -- The variables of a legal program have no more words than an image.
-use Rattle.std.proofs.Common.{◌≡◌, ℕ, zero, suc, ◌+◌, ◌<◌, ◌≤◌, List, [], ◌∷◌, ◌++◌, append_assoc, length, length-append, take, cond, Bool, true, false, Option, Some, None, refl, sym, ap, ◌∙◌, subst, arith, take_all}
+use Rattle.std.proofs.Common.{◌≡◌, ℕ, zero, suc, ◌+◌, ◌<◌, ◌≤◌, List, [], ◌∷◌, ◌++◌, append_assoc, length, length-append, take, cond, Bool, true, false, Some, refl, sym, ap, ◌∙◌, subst, arith, take_all}
 use Rattle.std.specs.Prelude.{slice_get}
 use Rattle.base.specs.declared.limits.TheConstants.{WORDS}
 use Rattle.ada_tree.specs.StatementTree.{ObjectTree}
 use Rattle.ada_tree.specs.ProgramTree.{BodyItemTree, OfItem, OfObject, ProgramTree}
 use Rattle.types.specs.declared.entity.Role.TheVariants as role
-use Rattle.types.specs.declared.entity.Subtype.{Subtype}
 use Rattle.types.specs.Entities as entity
 use Rattle.types.specs.Laws.{ValuesHaveWords}
 use Rattle.types.specs.Layouts.{total, words_of}

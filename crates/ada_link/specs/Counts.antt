@@ -1,6 +1,6 @@
 -- How many instructions the code of each subprogram of a program has at most, and how many steps of one step of the program its frames take: by the text of the
 -- subprogram alone.
-use Rattle.std.specs.Prelude.{ℕ, suc, ◌+◌, ◌*◌, List, [], ◌∷◌, ◌++◌, Option, Some, None, slice_get, take}
+use Rattle.std.specs.Prelude.{ℕ, suc, ◌*◌, List, [], ◌∷◌, ◌++◌, Option, Some, None, slice_get, take}
 use Rattle.ada_tree.specs.ProgramTree.{BodyItemTree, ProgramTree, SubprogramBody}
 use Rattle.image.specs.Frames.{TaskState}
 use Rattle.sound_programs.specs.Fronts.{declared_in, front}
