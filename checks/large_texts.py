@@ -61,7 +61,7 @@ def lines(*values):
 
 
 def runs(name, frame, first, more, out):
-    """A long text of the first language, with what it writes, given how often its part is repeated."""
+    """A long text that runs, with what it writes, given how often its part is repeated."""
     text, count = filled(frame, first, more)
     return name, text, 0, out(count), ""
 
@@ -158,7 +158,7 @@ def deep(name, frame, opening, inside, closing, opens_at=0, each=1, breaks=None,
 
 
 def deep_parentheses():
-    """Those of Put open the first level, and the first language has them."""
+    """Those of Put open the first level."""
     head, tail = put()
     texts = [head + "(" * levels + "7" + ")" * levels + tail for levels in (LEVELS - 1, LEVELS)]
     fault = "fault 7 at " + place_of(texts[1], len(head) + LEVELS - 1)
