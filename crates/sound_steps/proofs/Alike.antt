@@ -1,5 +1,5 @@
 -- What agrees with the objects of one store agrees with those of each other one that is sound: objects have the same names and subtypes in both.
-use Rattle.std.proofs.Common.{◌≡◌, ◌⊎◌, ℕ, inl, inr, List, Option, Some, None, refl, sym, ap, ◌∙◌}
+use Rattle.std.proofs.Common.{◌≡◌, ℕ, inl, inr, List, Option, Some, None, refl, sym, ◌∙◌}
 use Rattle.std.specs.Prelude.{option_map}
 use Rattle.types.specs.Scopes.{Scope}
 use Rattle.types.specs.Places.{Object, Place, object_of, own_components}

@@ -1,5 +1,5 @@
 -- Ends of calls, of actions and of served bodies; results that are copied back; exceptions on their way (RM 6.4, 9.5.1, 9.5.3, 11.4).
-use Rattle.std.proofs.Common.{◌≡◌, ◌<◌, ℕ, List, [], ◌∷◌, map, inr, Option, Some, None, refl, sym, ap, ◌∙◌, subst}
+use Rattle.std.proofs.Common.{◌≡◌, ℕ, List, [], ◌∷◌, map, inr, Option, Some, None, refl, sym, ap, ◌∙◌, subst}
 use Rattle.kernel.specs.Effects.{Effect, Quiet, Ends}
 use Rattle.ada_tree.specs.StatementTree.{StmtTrees}
 use Rattle.types.specs.declared.entity.Subtype.{Subtype}

@@ -27,7 +27,7 @@ use Rattle.types.specs.Shapes.{shape_of}
 use Rattle.ada_tree.specs.ExpressionTree as expressions
 use Rattle.ada_tree.specs.StatementTree as tree
 use Rattle.meaning.specs.Meeting.{Last}
-use Rattle.meaning.specs.MeetingLaws.{moves_by, spends_takes}
+use Rattle.meaning.specs.MeetingLaws.{spends_takes}
 use Rattle.meaning.specs.SameMeaning.{frames_of}
 use Rattle.meaning.specs.Calls.{Actuals, Callee, actual_expression, actuals, activation_of, callee_by, callee_through, callee_with, declares_parameters, is_out, procedure_among, procedure_here, results, results_in, with_actuals}
 use Rattle.meaning.specs.Programs.{Parameter, Procedure, Program, object_numbered}
@@ -49,7 +49,7 @@ use Rattle.stmt_code.specs.Copying.{AreCopies, ArePlaced, actuals_on, addresses_
 use Rattle.stmt_code.specs.declared.call.Destination.{Destination}
 use Rattle.stmt_code.specs.Handling.{GoesBy, unhandled}
 use Rattle.stmt_code.specs.Statements.{IsCall, IsProcedure, Numbers, parameter_subtype, shapes_of}
-use Rattle.stmt_code.specs.Standing.{Going, Here, Jumps, Leads, LeadsEnd, Shares, There, WaitsFor, items_size, relation, work_size}
+use Rattle.stmt_code.specs.Standing.{Going, Here, Jumps, Leads, LeadsEnd, Shares, There, WaitsFor, items_size, work_size}
 use Rattle.stmt_code.specs.Laws.{HasCode}
 use Rattle.stmt_code.proofs.Going.{declares_end, declares_follow, earlier, jumps_up, narrows_same, parameters_end, parameters_follow, same_end}
 use Rattle.stmt_code.proofs.Sizes.{item_counts}

@@ -249,7 +249,8 @@ module _ (i : Sections) (program : Program) (g : Package) (numbers : Numbers) wh
       → (handler_for program x hs ≡ None → Caught x f fs own os items)
       → CaughtIf i program g numbers x f fs own os items o (Caught x f fs own os items)
   by_handler room a from at to outer x f fs own os hs items over follows code h (Some body) found later =
-      caught room a from at to outer x f fs own os hs body items over follows h (taking hs outer.visible outer.ways outer.raised a.raised at to x body code h.known found)
+      caught room a from at to outer x f fs own os hs body items over follows h
+      (taking hs outer.visible outer.ways outer.raised a.raised at to x body code h.known found)
   by_handler room a from at to outer x f fs own os hs items over follows code h None found later = later found
 
   -- ---- all items
@@ -281,7 +282,8 @@ module _ (i : Sections) (program : Program) (g : Package) (numbers : Numbers) wh
       let held : a.held ≡ outer.held = ap (λ q. q.held) follows.3.sequence in
       by_handler room a from follows.0 follows.1 outer x f fs own os hs items follows.3 follows.5 follows.4 h (handler_for program x hs) refl
       (λ found. catches room items outer follows.1 x f fs own os follows.5
-      (drop_outer a outer x f fs own (Handles hs) items (passing hs outer.visible outer.ways outer.raised a.raised follows.0 follows.1 x follows.4 h.known found)
+      (drop_outer a outer x f fs own (Handles hs) items
+      (passing hs outer.visible outer.ways outer.raised a.raised follows.0 follows.1 x follows.4 h.known found)
       (subst (λ q. Shows g q outer.handling) (sym (ap (λ q. q.handling) follows.3.sequence)) follows.3.reaches.2)
       (λ z. subst (λ q. AreHeld f.locals q) held z)
       (λ z. ap (λ q. map held_offset q) (sym held) ∙ z ∙ follows.3.narrows.reserved) refl h))

@@ -1,5 +1,5 @@
 -- Exceptions are raised and handled: each item that is dropped is met by no step, and the last one by the one step of code that raises.
-use Rattle.std.proofs.Common.{◌≡◌, ◌⊎◌, ⊎_elim, ℕ, suc, ◌+◌, ◌-◌, ◌<◌, ◌≤◌, ℤ, List, [], ◌∷◌, length, Option, Some, None, true, refl, sym, ap, ◌∙◌, subst, arith, rules}
+use Rattle.std.proofs.Common.{◌≡◌, ⊎_elim, ℕ, suc, ◌+◌, ◌-◌, ◌<◌, ◌≤◌, ℤ, List, [], ◌∷◌, length, Option, Some, None, true, refl, sym, ap, ◌∙◌, subst, arith, rules}
 use Rattle.std.specs.Prelude.{◌&&◌, if◌then◌else◌, nat_le, pos}
 use Rattle.base.specs.declared.schedule.ScheduleLine.{ScheduleLine}
 use Rattle.kernel.specs.State.{Kernel}
@@ -310,7 +310,8 @@ module _ (this : Scene) where
     met_raise place None items is h =
         let r = h.follows in
         let code = r.4.0 in
-        let held = handling_here i program g numbers items (scene.seeing this r.2 h.around) f.subprogram r.1 code.0 f.locals fs w.callers r.5 code.1 h.rests.held in
+        let around = scene.seeing this r.2 h.around in
+        let held = handling_here i program g numbers items around f.subprogram r.1 code.0 f.locals fs w.callers r.5 code.1 h.rests.held in
         met_throws held.0 place None items is h
         (ap (λ q. work_step now q) is ∙ ap (λ o. source.raise_number now o items) held.1) code.3 code.4
         (acts quiet i r.0 (op.LoadLocal code.0) code.2 schedule k t m f fs []

@@ -1,5 +1,5 @@
 -- Sequences of statements and blocks, with the handlers that cover them: they begin and end without code, or with a jump over the handlers.
-use Rattle.std.proofs.Common.{◌≡◌, ℕ, suc, ◌+◌, ◌<◌, ◌≤◌, List, ◌∷◌, map, refl, sym, ap, ◌∙◌, subst, arith}
+use Rattle.std.proofs.Common.{◌≡◌, ℕ, suc, ◌<◌, ◌≤◌, List, ◌∷◌, map, refl, sym, ap, ◌∙◌, subst, arith}
 use Rattle.std.specs.Prelude.{◌++◌}
 use Rattle.image.specs.Sections.{Sections}
 use Rattle.image.specs.Frames.{Frame, TaskState}
