@@ -1,4 +1,4 @@
--- The walk over a package goes as its text tells: what is visible, the labels, and the bound on instructions; and why it stops is a reason to refuse the program.
+-- The walk over a package goes as its text tells: what is visible, the labels, and the bound on instructions; why it stops is a reason to refuse the program.
 use Rattle.std.proofs.Common.{◌≡◌, ℕ, suc, ◌+◌, ◌≤◌, List, [], ◌∷◌, length, take, inl, inr, Some, true, refl, sym, ap, ◌∙◌, subst, arith, length-append}
 use Rattle.std.specs.Prelude.{not, nat_eq, slice_get}
 use Rattle.ada_tree.specs.declared.expression.Identifier.{Identifier}
@@ -41,7 +41,8 @@ none_taken (x ∷ xs) = refl
 
 -- ---- entries for all names, or for all but one
 
-pub entries_next : (v mid : Visible) (name : List ℕ) → HasEntries v → Grows v.scope name mid.scope → mid.slots ≡ v.slots → mid.subprograms ≡ v.subprograms → IsNext mid
+pub entries_next : (v mid : Visible) (name : List ℕ) → HasEntries v → Grows v.scope name mid.scope → mid.slots ≡ v.slots
+    → mid.subprograms ≡ v.subprograms → IsNext mid
 entries_next v mid name has (inl same) slots subprograms =
     inl (ap length slots ∙ has.slots ∙ ap length (sym same), ap length subprograms ∙ has.subprograms ∙ ap length (sym same))
 entries_next v mid name has (inr grown) slots subprograms =
@@ -150,7 +151,8 @@ module _ (t : ProgramTree) where
 
   -- ---- refusals
 
-  pub needs_refused : (m n : ℕ) (a : Needs) (why : Refusal) → m ≤ n → Within a (items_needs t 0 all) → n ≤ program_bound t → IsNeeding m a why → RefusesCode t why
+  pub needs_refused : (m n : ℕ) (a : Needs) (why : Refusal) → m ≤ n → Within a (items_needs t 0 all) → n ≤ program_bound t
+      → IsNeeding m a why → RefusesCode t why
   needs_refused m n a why up within low r =
       inl (needing_refused m (program_bound t) a (program_needs t) (omega (arith, up, low))
       (of_right a (beyond_if (not (nat_eq (protected_count whole) 0))) (items_needs t 0 all) within) why r)
@@ -163,7 +165,8 @@ module _ (t : ProgramTree) where
   -- code isn't made of this item
   pub item_refused : (place : ℕ) (x : BodyItemTree) → slice_get all place ≡ Some x → (item_needs t place x).outside ≡ true → RefusesCode t refusal.Outside
   item_refused place x at outside =
-      inl ((of_right (item_needs t place x) (beyond_if (not (nat_eq (protected_count whole) 0))) (items_needs t 0 all) (item_within place x at)).outside outside)
+      inl
+      ((of_right (item_needs t place x) (beyond_if (not (nat_eq (protected_count whole) 0))) (items_needs t 0 all) (item_within place x at)).outside outside)
 
   many_more : (a b : List (List ℕ)) (why : Refusal) → length a ≤ length b → HasManyLabels a why → HasManyLabels b why
   many_more a b refusal.Limit up h = omega (arith, up, h)
@@ -171,14 +174,15 @@ module _ (t : ProgramTree) where
   many_more a b refusal.Outside up h = absurd h
 
   pub body_refused : (old : Walk) (d : SubprogramTree) (b : BodyTree) (v : Visible) (draft : Draft) (why : Refusal) → IsAsTold t old
-      → slice_get all old.place ≡ Some (SubprogramBody d b) → v ≡ seen_at t (suc old.place) → draft ≡ old.draft → RefusesBody t v draft d b why → RefusesCode t why
+      → slice_get all old.place ≡ Some (SubprogramBody d b) → v ≡ seen_at t (suc old.place) → draft ≡ old.draft
+      → RefusesBody t v draft d b why → RefusesCode t why
   body_refused old d b v draft why told at seen same r =
       by_reason (subst (λ z. RefusesBody t (seen_at t (suc old.place)) z d b why) same (subst (λ u. RefusesBody t u draft d b why) seen r))
     where
       bounded : here old.draft.code + procedure_bound (front t (suc old.place)) d.formals b ≤ program_bound t
       bounded =
-          up (here old.draft.code) (procedure_bound (front t (suc old.place)) d.formals b) (total (bounds_from t 0 (take old.place all))) (total (bounds_from t 0 all))
-          (main_bound t.main.statements) told.few
+          up (here old.draft.code) (procedure_bound (front t (suc old.place)) d.formals b) (total (bounds_from t 0 (take old.place all)))
+          (total (bounds_from t 0 all)) (main_bound t.main.statements) told.few
           (let none : 0 + old.place ≡ old.place = omega arith in
           subst (λ n. total (bounds_from t 0 (take old.place all)) + procedure_bound (front t (suc n)) d.formals b ≤ total (bounds_from t 0 all)) none
           (bound_within t all 0 old.place d b at))

@@ -58,7 +58,8 @@ module _ (t : ProgramTree) (v : Visible) (old : Draft) (d : SubprogramTree) (b :
       let less = function_within v.scope d.formals b e is in
       value_needing r (Some e) some is
       (needing_refused (here old.code + function_bound d.formals e) bound
-      (function_if_any v d.formals (subtype_named (program_of t).scope r) (Some e)) (function_if_any v d.formals (subtype_named (program_of t).scope r) (Some e))
+      (function_if_any v d.formals (subtype_named (program_of t).scope r) (Some e))
+      (function_if_any v d.formals (subtype_named (program_of t).scope r) (Some e))
       (up (here old.code) (function_bound d.formals e) (procedure_bound v.scope d.formals b) less) (within_self _) why
       (subst (λ z. IsNeeding (here old.code + function_bound d.formals e) (function_if_any v d.formals z (Some e)) why) same n))
     where

@@ -97,7 +97,8 @@ pub differing_more : (xs : List (List ℕ)) (x : List ℕ) → AreDiffering xs �
 differing_more [] x differ new = (refl, tt)
 differing_more (y ∷ xs) x differ new =
     let parts = or_parts (bytes_eq x y) (is_of xs x) new in
-    (of_both xs (x ∷ []) y ∙ ap (λ b. b || (bytes_eq y x || false)) differ.0 ∙ ap (λ b. b || false) (unlike (bytes_eq y x) refl parts.0), differing_more xs x differ.1 parts.1)
+    let new_too = of_both xs (x ∷ []) y ∙ ap (λ b. b || (bytes_eq y x || false)) differ.0 ∙ ap (λ b. b || false) (unlike (bytes_eq y x) refl parts.0) in
+    (new_too, differing_more xs x differ.1 parts.1)
   where
     unlike : (b : Bool) → bytes_eq y x ≡ b → bytes_eq x y ≡ false → bytes_eq y x ≡ false
     unlike false e h = e

@@ -54,8 +54,9 @@ one_lacks s (d ∷ cs) zero c less is h =
 one_lacks s (d ∷ cs) (suc n) c less is h =
     or_right (lacks_word (shape_of s d.subtype)) (lack_word (component_shapes (shapes s) cs)) (one_lacks s cs n c (omega (arith, less)) is h)
 
-pub component_lacks : (s : Scope) → SoundScope s → (t : Subtype) (cs : List RecordComponent) (n : ℕ) (c : RecordComponent) → form_at s t.type_number ≡ Some (Records cs)
-    → n < length cs → c ≡ get_or cs n c → (why : Refusal) → IsRefused 0 0 (lacks_word (shape_of s c.subtype)) why → IsRefused 0 0 (lacks_word (shape_of s t)) why
+pub component_lacks : (s : Scope) → SoundScope s → (t : Subtype) (cs : List RecordComponent) (n : ℕ) (c : RecordComponent)
+    → form_at s t.type_number ≡ Some (Records cs) → n < length cs → c ≡ get_or cs n c → (why : Refusal)
+    → IsRefused 0 0 (lacks_word (shape_of s c.subtype)) why → IsRefused 0 0 (lacks_word (shape_of s t)) why
 component_lacks s sound t cs n c form less is why r =
     subst (λ x. IsRefused 0 0 (lacks_word x) why) (sym (grouped_shape s sound t cs form))
     (refused_beside 0 0 0 0 (lacks_word (shape_of s c.subtype)) (lack_word (component_shapes (shapes s) cs)) (λ x. x) (omega arith) (omega arith)
@@ -192,7 +193,8 @@ module _ (s : Scope) (a : Globals) (d : ObjectTree) where
       under : (n m k : ℕ) → n ≡ m → 65535 < n → m ≡ k → WORDS < k
       under n m k is more e = omega (arith, is, more, e)
 
-  pub lacking_refused : (t : Subtype) (why : Refusal) → subtype_of s d.subtype ≡ Some t → IsRefused 0 0 (lacks_first_words s t d.value) why → RefusesVariable s a d why
+  pub lacking_refused : (t : Subtype) (why : Refusal) → subtype_of s d.subtype ≡ Some t → IsRefused 0 0 (lacks_first_words s t d.value) why
+      → RefusesVariable s a d why
   lacking_refused t refusal.Memory known r front are = tt
   lacking_refused t refusal.Limit known r front are = absurd (none r)
     where

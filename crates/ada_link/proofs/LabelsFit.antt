@@ -90,7 +90,8 @@ used_by used text b = elim b [ true ↦ used | false ↦ used ++ text ∷ [] ]
 abbrev new_place : Bool → (place : ℕ) → List ℕ
 new_place b place = elim b [ true ↦ [] | false ↦ place ∷ [] ] ++ []
 
-label_counted : (text : List ℕ) (place : ℕ) (rest : ArgumentTrees) → IsCounted (λ labels. with_label labels text) (first_argument (MoreArguments (Text text place) rest))
+label_counted : (text : List ℕ) (place : ℕ) (rest : ArgumentTrees)
+    → IsCounted (λ labels. with_label labels text) (first_argument (MoreArguments (Text text place) rest))
 label_counted text place rest = record { once = once; kept = kept; labels = counted }
   where
     once : (used : List (List ℕ)) → length (used_all used (first_argument (MoreArguments (Text text place) rest)))
@@ -243,7 +244,8 @@ items_counted s (x ∷ items) =
     both_counted (λ l. item_labels l x) (λ l. items_labels l items) (body_item_inside s x) (body_items_inside (body_item_scope s x) items) (item_counted s x)
     (items_counted (body_item_scope s x) items)
 
-labels_behind : (ds : List ItemTree) (body : List BodyItemTree) (before : List (List ℕ)) → items_labels before (map OfItem ds ++ body) ≡ items_labels before body
+labels_behind : (ds : List ItemTree) (body : List BodyItemTree) (before : List (List ℕ))
+    → items_labels before (map OfItem ds ++ body) ≡ items_labels before body
 labels_behind [] body before = refl
 labels_behind (d ∷ ds) body before = labels_behind ds body before
 
@@ -275,8 +277,8 @@ labels_few (Some p) h =
     let used = all.once [] in
     let limit = within_limit LABELS (first_uses [] things) none in
     let same = ap length (labels_behind p.declaration.items p.body.items []) in
-    under (length (items_labels [] (declared_in (Some p)))) (length (items_labels [] p.body.items)) (length (used_all [] things)) (length (first_uses [] things))
-    same few used limit
+    under (length (items_labels [] (declared_in (Some p)))) (length (items_labels [] p.body.items)) (length (used_all [] things))
+    (length (first_uses [] things)) same few used limit
   where
     under : (a b c d : ℕ) → a ≡ b → b ≤ c → c ≡ 0 + d → d ≤ LABELS → a ≤ LABELS
     under a b c d e h k m = omega (arith, e, h, k, m)

@@ -51,7 +51,8 @@ module _ (s : Scope) (numbers : List (Option ℕ)) (many : length numbers ≡ le
   unseen_differ none false e = refl
   unseen_differ none true e = absurd (let bad = sym none ∙ ap (number_of s) (same_bytes name other e) ∙ seen in cc)
 
-  same_told : bytes_eq name other ≡ true → (o : Option ℕ) → told_of s numbers name ≡ o → or_else o (Some one) ≡ or_else (told_of s numbers other) (if bytes_eq name other then Some one else None)
+  same_told : bytes_eq name other ≡ true → (o : Option ℕ) → told_of s numbers name ≡ o
+      → or_else o (Some one) ≡ or_else (told_of s numbers other) (if bytes_eq name other then Some one else None)
   same_told is o e =
       let same = same_bytes name other is in
       (λ j. or_else (sym e j) (Some one)) ∙ ap (λ l. or_else (told_of s numbers l) (Some one)) same
@@ -71,7 +72,9 @@ module _ (s : Scope) (numbers : List (Option ℕ)) (many : length numbers ≡ le
   by_entry k e (Some (Some y)) there = by_test (bytes_eq name other) refl
     where
       told : told_of s numbers name ≡ Some y
-      told = ap (λ o. elim o [ None ↦ None | Some m ↦ elim (slice_get numbers m) [ None ↦ None | Some x ↦ x ] ]) e ∙ ap (λ o. elim o [ None ↦ None | Some x ↦ x ]) there
+      told =
+          ap (λ o. elim o [ None ↦ None | Some m ↦ elim (slice_get numbers m) [ None ↦ None | Some x ↦ x ] ]) e
+          ∙ ap (λ o. elim o [ None ↦ None | Some x ↦ x ]) there
 
       by_test : (b : Bool) → bytes_eq name other ≡ b → Told (slice_set numbers k (Some y))
       by_test true is =
@@ -94,7 +97,8 @@ among_both before [] x name = (let e : before ≡ before + 0 = omega arith in ap
 among_both before (SubprogramBody d b ∷ xs) x name = by_test (bytes_eq d.name.name name) (among_both (suc before) xs x name)
   where
     by_test : (c : Bool)
-        → number_among (suc before) (xs ++ x ∷ []) name ≡ or_else (number_among (suc before) xs name) (number_among (suc before + bodies_among xs) (x ∷ []) name)
+        → number_among (suc before) (xs ++ x ∷ []) name
+        ≡ or_else (number_among (suc before) xs name) (number_among (suc before + bodies_among xs) (x ∷ []) name)
         → (if c then Some before else number_among (suc before) (xs ++ x ∷ []) name)
         ≡ or_else (if c then Some before else number_among (suc before) xs name) (number_among (before + suc (bodies_among xs)) (x ∷ []) name)
     by_test true later = refl

@@ -46,7 +46,8 @@ SeesLater s next rest name =
 
 variable_named : (s u : Scope) (from : ℕ) (d : ObjectTree) (rest : List BodyItemTree) (name : List ℕ)
     → SeesLater s (body_item_scope u (OfItem (OfObject d))) rest name → (b : Bool) → bytes_eq d.name.name name ≡ b
-    → is_some (if b then Some (let w : Slot = record { region = regions.Plain; offset = from } in w) else place_among (from + length (value_words (object_named s d.name d.subtype d.value).value)) (variables_among s (items_among rest)) name) ≡ true
+    → is_some (if b then Some (let w : Slot = record { region = regions.Plain; offset = from } in w)
+    else place_among (from + length (value_words (object_named s d.name d.subtype d.value).value)) (variables_among s (items_among rest)) name) ≡ true
     → is_visible (body_items_scope (body_item_scope u (OfItem (OfObject d))) rest) name ≡ true
 variable_named s u from d rest name later true e k =
     subst (λ n. is_visible (body_items_scope (body_item_scope u (OfItem (OfObject d))) rest) n ≡ true) (same_bytes d.name.name name e) (behind_own u d rest)
@@ -94,7 +95,8 @@ module _ (premises : PremisesHold) (t : ProgramTree) (legal : IsLegal t) (restri
   abbrev all : List BodyItemTree
   all = declared_in t.package_
 
-  placed : (before rest : List BodyItemTree) (d : ObjectTree) → all ≡ before ++ OfItem (OfObject d) ∷ rest → is_unplaced s (items_among before) d.name.name ≡ false
+  placed : (before rest : List BodyItemTree) (d : ObjectTree) → all ≡ before ++ OfItem (OfObject d) ∷ rest
+      → is_unplaced s (items_among before) d.name.name ≡ false
   placed before rest d split = by_number (number_of s d.name.name) refl
     where
       k : ℕ
@@ -107,7 +109,9 @@ module _ (premises : PremisesHold) (t : ProgramTree) (legal : IsLegal t) (restri
       taken = ap (take k) split ∙ take-append_seam before (OfItem (OfObject d) ∷ rest)
 
       new : is_visible (front t k) d.name.name ≡ false
-      new = item_new (front t k) (OfObject d) (legal_at start all k (OfItem (OfObject d)) at (tree_package t legal restricted (premises t legal).sound).list.legal)
+      new =
+          item_new (front t k) (OfObject d)
+          (legal_at start all k (OfItem (OfObject d)) at (tree_package t legal restricted (premises t legal).sound).list.legal)
 
       not_placed : (b : Bool) → is_some (place_among 0 (variables_among s (items_among before)) d.name.name) ≡ b → b ≡ false
       not_placed false e = refl

@@ -52,7 +52,8 @@ whole_scope None = refl
 
 -- declarations and bodies add names behind those in front of them
 pub one_behind : (s : Scope) (x : BodyItemTree) → (more : Scope) × (body_item_scope s x ≡ s ++ more)
-one_behind s (OfItem d) = elim (item_grows s d) [ inl e ↦ ([], e ∙ sym (append-nil s)) | inr g ↦ (record { name = (item_name d).name; entity = g.0 } ∷ [], g.1) ]
+one_behind s (OfItem d) =
+    elim (item_grows s d) [ inl e ↦ ([], e ∙ sym (append-nil s)) | inr g ↦ (record { name = (item_name d).name; entity = g.0 } ∷ [], g.1) ]
 one_behind s (SubprogramBody d b) =
     elim (subprogram_grows s d) [ inl e ↦ ([], e ∙ sym (append-nil s)) | inr g ↦ (record { name = d.name.name; entity = g.0 } ∷ [], g.1) ]
 one_behind s (TaskBody name b) = ([], sym (append-nil s))
@@ -137,7 +138,8 @@ module _ (t : ProgramTree) where
     abbrev mid : Visible
     mid = record (seen_at t place) { scope = next }
 
-    told_more : {X : Type 0} (tell : List ℕ → Option X) (told : Option X) (e : Entity) → next ≡ here ++ record { name = name; entity = e } ∷ [] → told ≡ tell name
+    told_more : {X : Type 0} (tell : List ℕ → Option X) (told : Option X) (e : Entity) → next ≡ here ++ record { name = name; entity = e } ∷ []
+        → told ≡ tell name
         → told_behind (length start) tell here ++ told ∷ [] ≡ told_behind (length start) tell next
     told_more tell told e grown same =
         ap (λ o. told_behind (length start) tell here ++ o ∷ []) same

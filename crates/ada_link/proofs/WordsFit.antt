@@ -104,7 +104,8 @@ module _ (laws : LawsOfNames) (t : ProgramTree) (legal : IsLegal t) (restricted 
   object_added k d at constant =
       let here : Scope = front t k in
       let unbroken_ = legal_at start all k (OfItem (OfObject d)) at w.list.legal in
-      let u = known_subtype program start all w k d.subtype (front_empty (subtype_faults here d.subtype) _ (front_empty _ (declared_twice here d.name) unbroken_)) in
+      let u = known_subtype program start all w k d.subtype
+      (front_empty (subtype_faults here d.subtype) _ (front_empty _ (declared_twice here d.name) unbroken_)) in
       let named = named_is s d.subtype u.0 (subtype_kept here s (kept program start all w k) d.subtype u.0 u.1) in
       let declared : package_object_entity here d ≡ entity.Object role.Variable u.0 =
       ap

@@ -151,8 +151,9 @@ IsMisspelt t why = ⊥
 abbrev pub RefusesParts : ProgramTree → Refusal → Type 0
 RefusesParts t why = RefusesCode t why ⊎ (HasManyWords t why ⊎ (HasMany t why ⊎ IsMisspelt t why))
 
--- Why an accepted program is refused. Memory may always be refused. It is outside where it has what code isn't made of, or a text is misspelt. It passes a limit where
--- all its code may have more instructions than an image, where a frame and its operand stack need more words together than a frame has, where an object takes no
--- words, or more than an image has, or where it has more subprograms or exceptions than an image. No legal program has too many labels or words of variables.
+-- Why an accepted program is refused. Memory may always be refused. It is outside where it has what code isn't made of, or a text is misspelt. It passes a limit
+-- where all its code may have more instructions than an image, where a frame and its operand stack need more words together than a frame has, where an object
+-- takes no words, or more than an image has, or where it has more subprograms or exceptions than an image. No legal program has too many labels or words of
+-- variables.
 abbrev pub RefusesProgram : ProgramTree → Refusal → Type 0
 RefusesProgram t why = IsNeeding (program_bound t) (program_needs t) why ⊎ (HasMany t why ⊎ IsMisspelt t why)

@@ -20,7 +20,8 @@ push_default-requires t c =
 
 pub loop-preserved : goal.loop-preserved
 loop-preserved t c =
-    elements_next c.args.words.now.items c.loop.words.items c.push_default.new.words.items c.loop.counter _ c.loop.invariant c.in_ok-push_default-in-Some-Array.ensures.words
+    elements_next c.args.words.now.items c.loop.words.items c.push_default.new.words.items c.loop.counter _ c.loop.invariant
+    c.in_ok-push_default-in-Some-Array.ensures.words
 
 pub push_default-requires-in-loop-component : goal.push_default-requires-in-loop-component
 push_default-requires-in-loop-component t c =

@@ -21,7 +21,8 @@ returns-in-Subprogram-clause-adds c =
     (adds_nothing s (item_tree (item.Subprogram c.in-Subprogram.field-0)) g refl refl (λ bodies. refl))
 
 pub returns-in-Object-clause-adds : goal.returns-in-Object-clause-adds
-returns-in-Object-clause-adds c = subst (λ i. OnOk c.object.result (AddsItems c.args.scope.now c.args.self.now (item_tree i ∷ []) c.object.new.self)) (sym c.in-Object.is)
+returns-in-Object-clause-adds c =
+    subst (λ i. OnOk c.object.result (AddsItems c.args.scope.now c.args.self.now (item_tree i ∷ []) c.object.new.self)) (sym c.in-Object.is)
     c.object.ensures.adds
 
 pub returns-in_ok-exception-in-Exception-clause-adds : goal.returns-in_ok-exception-in-Exception-clause-adds
