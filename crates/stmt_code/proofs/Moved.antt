@@ -1,10 +1,9 @@
 -- Code of assignments that was added: two addresses, and what moves the words of an array or a record from one to the other.
 use Rattle.std.proofs.Common.{◌≡◌, ℕ, suc, ◌+◌, ◌≤◌, List, [], ◌∷◌, Option, Some, None, Bool, true, ◌&&◌, refl, sym, ap, ◌∙◌, subst, arith}
-use Rattle.std.specs.Prelude.{is_some, pos}
+use Rattle.std.specs.Prelude.{is_some}
 use Rattle.ada_tree.specs.declared.expression.BinaryOperator.{BinaryOperator}
-use Rattle.ada_tree.specs.declared.expression.Identifier.{Identifier}
 use Rattle.ada_tree.specs.declared.expression.Operand.{Operand}
-use Rattle.ada_tree.specs.ExpressionTree.{Binary, Conditional, ExprTree, Named, NameTree, Number, Parenthesized, SelectorTrees, Unary, chain_tree, expr_tree}
+use Rattle.ada_tree.specs.ExpressionTree.{Binary, Conditional, ExprTree, Named, NameTree, Number, Parenthesized, Unary, chain_tree, expr_tree}
 use Rattle.ada_tree.specs.Size.{expr_size, selectors_size}
 use Rattle.ada_tree.specs.StatementTree as statements
 use Rattle.kernel.specs.Laws.{QuietStays}
@@ -12,7 +11,6 @@ use Rattle.image.specs.Sections.{Sections}
 use Rattle.image.specs.Rules.{has_region, is_block, writes_region}
 use Rattle.image.specs.declared.instruction.Operation.TheVariants as op
 use Rattle.image.specs.declared.instruction.Region.{Region}
-use Rattle.image.specs.declared.instruction.Region.TheVariants as regions
 use Rattle.types.specs.declared.entity.Role.{Role}
 use Rattle.types.specs.declared.entity.Subtype.{Subtype}
 use Rattle.types.specs.declared.standing.Standing.TheVariants as standing
@@ -24,13 +22,12 @@ use Rattle.types.specs.Layouts.{words_of}
 use Rattle.types.specs.Places.{Place}
 use Rattle.types.specs.Scopes.{form_at, number_of}
 use Rattle.types.specs.Shapes.{has_shape, shape_of}
-use Rattle.types.specs.Standings.{standing_of, stands_first}
+use Rattle.types.specs.Standings.{stands_first}
 use Rattle.types.specs.Values.{Value}
 use Rattle.expr_rules.specs.declared.own.Wanted.{Wanted}
-use Rattle.expr_rules.specs.ExpressionRules.{faults_in, faults_of}
-use Rattle.expr_rules.proofs.TypedLaw.{front_empty}
+use Rattle.expr_rules.specs.ExpressionRules.{faults_in}
 use Rattle.well_typed.specs.Laws.{AgreementIsKept, CallsAreTyped, ExpressionsAreTyped}
-use Rattle.well_typed.specs.SoundScopes.{IsKnown, SoundScope}
+use Rattle.well_typed.specs.SoundScopes.{SoundScope}
 use Rattle.meaning.specs.Programs.{Program}
 use Rattle.expr_code.specs.Code.{Adds, Extends, Holds, here}
 use Rattle.expr_code.specs.Emitting as expressions

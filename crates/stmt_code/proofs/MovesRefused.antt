@@ -1,5 +1,5 @@
 -- What is moved by an assignment, and what refuses its code: of both addresses, and of what moves the words.
-use Rattle.std.proofs.Common.{◌≡◌, ◌≤◌, ◌+◌, ◌*◌, ◌⊎◌, inl, inr, ⊎_elim, ℕ, suc, List, Bool, true, false, ◌&&◌, ◌||◌, not, cond, Option, Some, None, refl, sym, ap, ◌∙◌, subst, arith}
+use Rattle.std.proofs.Common.{◌≡◌, ◌≤◌, ◌+◌, ◌*◌, ◌⊎◌, inl, inr, ⊎_elim, ℕ, List, Bool, true, false, ◌&&◌, cond, Option, Some, None, refl, ap, ◌∙◌, subst, arith}
 use Rattle.std.specs.Prelude.{max}
 use Rattle.ada_tree.specs.ExpressionTree.{ExprTree, NameTree}
 use Rattle.ada_tree.specs.StatementTree.{Assignment}
@@ -9,7 +9,6 @@ use Rattle.types.specs.declared.entity.Role.TheVariants as role
 use Rattle.types.specs.declared.entity.Subtype.{Subtype}
 use Rattle.types.specs.declared.standing.Standing.{Standing}
 use Rattle.types.specs.declared.standing.Standing.TheVariants as standing
-use Rattle.types.specs.Layouts.{words_of}
 use Rattle.types.specs.Scopes.{number_of}
 use Rattle.types.specs.Standings.{standing_of, stands_first}
 use Rattle.expr_code.specs.Code.{IsShallow, here}
