@@ -277,7 +277,7 @@ fn words_and_files_are_checked(rt: HostRuntime) -> Result<(), Fail> {
         &rt,
         alloc,
         &source,
-        "007",
+        "008",
         5,
         "0 MAIN a 14\nstep limit at 0\n",
     )
