@@ -158,6 +158,38 @@ fn programs_write_their_lines(rt: HostRuntime) -> Result<(), Fail> {
 }
 
 #[test]
+fn exceptions_find_their_handlers(rt: HostRuntime) -> Result<(), Fail> {
+    let alloc = rt.alloc();
+    let rows = [
+        (
+            "type Small is range 0 .. 9; procedure Run is begin declare S : Small := 10; begin Put (\"in\", 1); exception when others => Put (\"own\", 2); end; exception when Constraint_Error => Put (\"outer\", 3); end Run;",
+            0,
+            "0 MAIN outer 3\nended at 0\n",
+        ),
+        (
+            "Bad : exception; procedure Set (X : out Integer) is begin X := 9; raise Bad; end Set; procedure Run is V : Integer := 1; begin Set (V); exception when Bad => Put (\"v\", V); end Run;",
+            0,
+            "0 MAIN v 1\nended at 0\n",
+        ),
+        (
+            "function F (N : Integer) return Integer is begin return (if N = 0 then 0 else 1 + F (N - 1)); end F; procedure Run is begin Put (\"f\", F (29)); Put (\"g\", F (30)); exception when Storage_Error => Put (\"se\", 0); end Run;",
+            0,
+            "0 MAIN f 29\n0 MAIN se 0\nended at 0\n",
+        ),
+        (
+            "E1 : exception; E2 : exception; procedure Run is begin begin raise E1; exception when E1 => Put (\"a\", 1); raise E2; when others => Put (\"b\", 2); end; exception when E2 => Put (\"c\", 3); raise; end Run;",
+            3,
+            "0 MAIN a 1\n0 MAIN c 3\nunhandled E2 in MAIN at 0\n",
+        ),
+    ];
+    for (body, status, out) in rows {
+        let source = source_of(alloc, body)?;
+        expect_run(&rt, alloc, &source, "100000", status, out)?;
+    }
+    Ok(())
+}
+
+#[test]
 fn texts_without_a_program_are_refused(rt: HostRuntime) -> Result<(), Fail> {
     let alloc = rt.alloc();
     let whole = [
@@ -221,12 +253,12 @@ fn other_bodies_are_refused(rt: HostRuntime) -> Result<(), Fail> {
             "fault 4 at 9:34\n",
         ),
         (
-            "procedure Run is begin raise Constraint_Error; end Run;",
-            "fault 90 at 1:1\n",
+            "procedure Run is begin raise; end Run;",
+            "fault 19 at 9:24\n",
         ),
         (
-            "procedure Run is begin null; exception when others => null; end Run;",
-            "fault 90 at 1:1\n",
+            "procedure Run is begin null; exception when Run => null; end Run;",
+            "fault 20 at 9:45\n",
         ),
         (
             "procedure Run is begin delay until Clock; end Run;",

@@ -133,8 +133,17 @@ module _ (scopes : ScopesAreSound) (known : NamesAreKnown) (premises : PremisesH
       front_empty (stmts_faults later around b.statements) (handlers_faults later around b.handlers)
       (back_empty (locals_faults inside b.declarations) _ body_legal)
 
-  legal_run : IsLegalRun inside b.declarations b.statements
-  legal_run = record { declared = declared; statements = record { around = around; unbroken = statements } }
+  handled : handlers_faults later around b.handlers ≡ []
+  handled =
+      back_empty (stmts_faults later around b.statements) (handlers_faults later around b.handlers)
+      (back_empty (locals_faults inside b.declarations) _ body_legal)
+
+  legal_run : IsLegalRun inside b.declarations b.statements b.handlers
+  legal_run = record {
+    declared = declared;
+    statements = record { around = around; unbroken = statements };
+    handled = record { around = around; before = []; unbroken = handled };
+  }
 
   -- ---- nor does the value of a function
 

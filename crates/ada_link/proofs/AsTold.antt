@@ -1,4 +1,4 @@
--- The walk over a package goes as its text tells: what is visible, the labels, and the bound on instructions; why it stops is a reason to refuse the program.
+-- The walk over a package goes as its text tells: what is visible, labels, the number of rows, the bound on instructions; why it stops is a reason to refuse the program.
 use Rattle.std.proofs.Common.{◌≡◌, ℕ, suc, ◌+◌, ◌≤◌, List, [], ◌∷◌, length, take, inl, inr, Some, true, refl, sym, ap, ◌∙◌, subst, arith, length-append}
 use Rattle.std.specs.Prelude.{not, nat_eq, slice_get}
 use Rattle.ada_tree.specs.declared.expression.Identifier.{Identifier}
@@ -26,18 +26,14 @@ use Rattle.stmt_code.specs.declared.draft.Draft.{Draft}
 use Rattle.stmt_code.proofs.Refused.{Within, needing_refused, of_right}
 use Rattle.ada_link.specs.Counts.{bounds_from}
 use Rattle.ada_link.specs.Directory.{IsDirectory, IsNext, TellsNext}
-use Rattle.ada_link.specs.Refusing.{RefusesCode, item_needs, items_labels, items_needs, number_in, program_bound, program_labels, program_needs, seen_at, subprogram_labels, subprogram_needs}
-use Rattle.ada_link.specs.Walking.{AddsBody, BeginsWalk, IsAsTold, RefusesBody}
+use Rattle.ada_link.specs.Refusing.{RefusesCode, item_needs, items_labels, items_needs, items_rows, number_in, program_bound, program_labels, program_needs, seen_at, subprogram_labels, subprogram_needs, subprogram_rows}
+use Rattle.ada_link.specs.Walking.{AddsAsTold, AddsBody, BeginsWalk, IsAsTold, RefusesBody}
 use Rattle.ada_link.specs.declared.directory.Directory.{Directory}
 use Rattle.ada_link.specs.declared.walk.Walk.{Walk}
 use Rattle.ada_link.proofs.Counted.{adds_few}
-use Rattle.ada_link.proofs.ItemsTold.{bound_next, bound_within, bounds_next, labels_next, labels_within, needs_within}
+use Rattle.ada_link.proofs.ItemsTold.{bound_next, bound_within, bounds_next, labels_next, labels_within, needs_within, none_taken, rows_next}
 use Rattle.ada_link.proofs.Seen.{known_name, seen_first, seen_next}
 use Rattle.ada_link.proofs.Told.{Grows, item_grows, subprogram_grows}
-
-none_taken : {X : Type 0} (xs : List X) → take 0 xs ≡ []
-none_taken [] = refl
-none_taken (x ∷ xs) = refl
 
 -- ---- entries for all names, or for all but one
 
@@ -65,11 +61,12 @@ module _ (t : ProgramTree) where
   whole = (program_of t).scope
 
   -- in front of all
-  pub begins_told : (s : Scope) (w : Walk) → BeginsWalk s w → s ≡ start → IsAsTold t w
-  begins_told s w begins is = record {
+  pub begins_told : (s : Scope) (names : List (List ℕ)) (w : Walk) → BeginsWalk s names w → s ≡ start → IsAsTold t w
+  begins_told s names w begins is = record {
     seen = seen_first t s w.visible begins.visible is ∙ ap (seen_at t) (sym begins.place);
     few = (let none : here w.draft.code ≡ 0 = ap length begins.instructions in omega (arith, none));
     labels = begins.labels ∙ ap (items_labels []) (sym (ap (λ n. take n all) begins.place ∙ none_taken all));
+    rows = ap length begins.rows ∙ ap (items_rows 0) (sym (ap (λ n. take n all) begins.place ∙ none_taken all));
   }
 
   last_bound : (a b : ℕ) → a ≤ a + b
@@ -92,6 +89,7 @@ module _ (t : ProgramTree) where
         (ap (λ d. here d.code) draft) told.few (subst (λ n. total (bounds_from t 0 (take old.place all)) ≤ total (bounds_from t 0 (take n all))) (sym next)
         (bounds_next t all old.place (OfItem i) at));
     labels = ap (λ d. d.labels) draft ∙ told.labels ∙ sym (labels_next [] all old.place (OfItem i) at) ∙ ap (λ n. items_labels [] (take n all)) (sym next);
+    rows = ap (λ d. length d.rows.items) draft ∙ told.rows ∙ sym (rows_next 0 all old.place (OfItem i) at) ∙ ap (λ n. items_rows 0 (take n all)) (sym next);
   }
     where
       next : new.place ≡ suc old.place
@@ -128,9 +126,9 @@ module _ (t : ProgramTree) where
     number_there many numbered = is.numbers d.name.name known.0 known.1 ∙ numbered
 
     pub body_told : (mid after new : Walk) → mid.visible ≡ later → mid.draft ≡ old.draft → AddsBody t directory d b mid after
-        → after.draft.labels ≡ subprogram_labels mid.draft.labels d b
+        → AddsAsTold mid.draft d b after.draft
         → new.place ≡ old.place + 1 → new.draft ≡ after.draft → new.visible ≡ after.visible → IsAsTold t new
-    body_told mid after new visible draft adds labels place new_draft new_visible = record {
+    body_told mid after new visible draft adds told_there place new_draft new_visible = record {
       seen = new_visible ∙ adds.visible ∙ visible ∙ seen_there ∙ ap (seen_at t) (sym next);
       few = under (here old.draft.code) (here mid.draft.code) (here after.draft.code) (here new.draft.code) (procedure_bound mid.visible.scope d.formals b)
           (procedure_bound (front t (suc old.place)) d.formals b)
@@ -138,9 +136,12 @@ module _ (t : ProgramTree) where
           told.few (ap (λ z. here z.code) draft) (adds_few t d b mid.visible mid.draft adds.words after.draft adds.adds)
           (ap (λ v. procedure_bound v.scope d.formals b) (visible ∙ seen_there))
           (ap (λ z. here z.code) new_draft) (bound_next t all old.place d b at) (ap (λ n. total (bounds_from t 0 (take n all))) next);
-      labels = ap (λ z. z.labels) new_draft ∙ labels ∙ ap (λ z. subprogram_labels z.labels d b) draft
+      labels = ap (λ z. z.labels) new_draft ∙ told_there.labels ∙ ap (λ z. subprogram_labels z.labels d b) draft
           ∙ ap (λ l. subprogram_labels l d b) told.labels ∙ sym (labels_next [] all old.place (SubprogramBody d b) at)
           ∙ ap (λ n. items_labels [] (take n all)) (sym next);
+      rows = ap (λ z. length z.rows.items) new_draft ∙ told_there.rows ∙ ap (λ z. subprogram_rows (length z.rows.items) d b) draft
+          ∙ ap (λ n. subprogram_rows n d b) told.rows ∙ sym (rows_next 0 all old.place (SubprogramBody d b) at)
+          ∙ ap (λ n. items_rows 0 (take n all)) (sym next);
     }
       where
         next : new.place ≡ suc old.place
@@ -174,9 +175,10 @@ module _ (t : ProgramTree) where
   many_more a b refusal.Outside up h = absurd h
 
   pub body_refused : (old : Walk) (d : SubprogramTree) (b : BodyTree) (v : Visible) (draft : Draft) (why : Refusal) → IsAsTold t old
+      → old.draft.exceptions.items ≡ (program_of t).exceptions
       → slice_get all old.place ≡ Some (SubprogramBody d b) → v ≡ seen_at t (suc old.place) → draft ≡ old.draft
       → RefusesBody t v draft d b why → RefusesCode t why
-  body_refused old d b v draft why told at seen same r =
+  body_refused old d b v draft why told exceptions at seen same r =
       by_reason (subst (λ z. RefusesBody t (seen_at t (suc old.place)) z d b why) same (subst (λ u. RefusesBody t u draft d b why) seen r))
     where
       bounded : here old.draft.code + procedure_bound (front t (suc old.place)) d.formals b ≤ program_bound t
@@ -193,8 +195,10 @@ module _ (t : ProgramTree) where
       by_reason : RefusesBody t (seen_at t (suc old.place)) old.draft d b why → RefusesCode t why
       by_reason (inl n) =
           needs_refused (here old.draft.code + procedure_bound (front t (suc old.place)) d.formals b)
-          (here old.draft.code + procedure_bound (front t (suc old.place)) d.formals b) (subprogram_needs t (seen_at t (suc old.place)) d b) why (omega arith)
-          (item_within old.place (SubprogramBody d b) at) bounded n
+          (here old.draft.code + procedure_bound (front t (suc old.place)) d.formals b) (subprogram_needs t (seen_at t (suc old.place)) (program_of t).exceptions d b) why (omega arith)
+          (item_within old.place (SubprogramBody d b) at) bounded
+          (subst (λ l. IsNeeding (here old.draft.code + procedure_bound (front t (suc old.place)) d.formals b)
+          (subprogram_needs t (seen_at t (suc old.place)) l d b) why) exceptions n)
       by_reason (inr h) =
           inr (many_more (subprogram_labels old.draft.labels d b) (program_labels t) why
           (subst (λ l. length (subprogram_labels l d b) ≤ length (program_labels t)) (sym told.labels)

@@ -1,6 +1,6 @@
--- What refuses a procedure or a function refuses its body, and which labels stand behind it.
-use Rattle.std.proofs.Common.{◌≡◌, ℕ, ◌+◌, ◌≤◌, List, [], ◌∷◌, length, true, false, inl, inr, Option, Some, None, refl, sym, ap, ◌∙◌, subst, arith}
-use Rattle.std.specs.Prelude.{is_none}
+-- What refuses a procedure or a function refuses its body; which labels, and how many rows of handlers, stand behind it.
+use Rattle.std.proofs.Common.{◌≡◌, ℕ, ◌+◌, ◌≤◌, List, [], ◌∷◌, length, true, false, inl, inr, Option, Some, None, Result, Ok, Err, refl, sym, ap, ◌∙◌, subst, arith}
+use Rattle.std.specs.Prelude.{OnOk, is_none}
 use Rattle.ada_tree.specs.declared.expression.Identifier.{Identifier}
 use Rattle.ada_tree.specs.ExpressionTree.{ExprTree}
 use Rattle.ada_tree.specs.declared.statement.Stmt.{Stmt}
@@ -15,27 +15,43 @@ use Rattle.expr_code.specs.declared.refusal.Refusal.TheVariants as refusal
 use Rattle.expr_code.specs.declared.visible.Visible.{Visible}
 use Rattle.stmt_code.specs.Bounds.{function_bound, procedure_bound}
 use Rattle.stmt_code.specs.Refusing.{HasManyLabels, IsNeeding, Needs}
+use Rattle.stmt_code.specs.Rows.{body_rows}
 use Rattle.stmt_code.specs.WholeRefusals.{RefusesFunction, RefusesProcedure, body_labels, procedure_needs}
 use Rattle.stmt_code.specs.declared.draft.Draft.{Draft}
 use Rattle.stmt_code.proofs.Refused.{needing_refused, within_self}
 use Rattle.ada_link.specs.Refusing.{function_if_any}
-use Rattle.ada_link.specs.Walking.{AddsLabels, RefusesBody}
+use Rattle.ada_link.specs.Walking.{AddsAsTold, RefusesBody}
 use Rattle.ada_link.proofs.Counted.{function_within}
 
 abbrev labels_by : (before : List (List ℕ)) → BodyTree → Option Identifier → List (List ℕ)
 labels_by before b o = elim o [ None ↦ body_labels before b | Some r ↦ before ]
 
-pub procedure_labels : (old new : Draft) (d : SubprogramTree) (b : BodyTree) → d.result ≡ None → new.labels ≡ body_labels old.labels b → AddsLabels old d b new
-procedure_labels old new d b none same = record { labels = same ∙ sym (ap (labels_by old.labels b) none) }
+abbrev rows_by : (before : ℕ) → BodyTree → Option Identifier → ℕ
+rows_by before b o = elim o [ None ↦ body_rows before b | Some r ↦ before ]
 
-pub value_labels : (old new : Draft) (d : SubprogramTree) (b : BodyTree) (r : Identifier) → d.result ≡ Some r → new.labels ≡ old.labels → AddsLabels old d b new
-value_labels old new d b r some same = record { labels = same ∙ sym (ap (labels_by old.labels b) some) }
+pub procedure_told : (old new : Draft) (d : SubprogramTree) (b : BodyTree) → d.result ≡ None → new.labels ≡ body_labels old.labels b
+    → length new.rows.items ≡ body_rows (length old.rows.items) b → AddsAsTold old d b new
+procedure_told old new d b none labels rows = record {
+  labels = labels ∙ sym (ap (labels_by old.labels b) none);
+  rows = rows ∙ sym (ap (rows_by (length old.rows.items) b) none);
+}
+
+pub value_told : (old new : Draft) (d : SubprogramTree) (b : BodyTree) (r : Identifier) → d.result ≡ Some r → new.labels ≡ old.labels → new.rows ≡ old.rows
+    → AddsAsTold old d b new
+value_told old new d b r some labels rows = record {
+  labels = labels ∙ sym (ap (labels_by old.labels b) some);
+  rows = ap (λ l. length l.items) rows ∙ sym (ap (rows_by (length old.rows.items) b) some);
+}
+
+pub both_ok : {X Y : Type 0} (r : Result X Y) (P Q : Type 0) → OnOk r P → OnOk r Q → OnOk r (P × Q)
+both_ok (Ok x) P Q p q = (p, q)
+both_ok (Err y) P Q p q = tt
 
 module _ (t : ProgramTree) (v : Visible) (old : Draft) (d : SubprogramTree) (b : BodyTree) (why : Refusal) where
   abbrev needs_by : Option Identifier → Needs
   needs_by o =
       elim o [
-        | None ↦ procedure_needs v d.formals b
+        | None ↦ procedure_needs v old.exceptions.items d.formals b
         | Some r ↦ function_if_any v d.formals (subtype_named (program_of t).scope r) (returned b.statements)
       ]
 

@@ -67,7 +67,7 @@ no_more_than (x ∷ few) all differ among =
 
 -- ---- one more at the end
 
-of_both : (xs ys : List (List ℕ)) (q : List ℕ) → is_of (xs ++ ys) q ≡ (is_of xs q || is_of ys q)
+pub of_both : (xs ys : List (List ℕ)) (q : List ℕ) → is_of (xs ++ ys) q ≡ (is_of xs q || is_of ys q)
 of_both [] ys q = refl
 of_both (x ∷ xs) ys q = ap (λ b. bytes_eq q x || b) (of_both xs ys q) ∙ either (bytes_eq q x) (is_of xs q) (is_of ys q)
   where

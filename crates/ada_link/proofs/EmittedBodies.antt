@@ -26,18 +26,17 @@ use Rattle.expr_code.specs.Seeing.{Package}
 use Rattle.expr_code.specs.declared.visible.Visible.{Visible}
 use Rattle.expr_code.proofs.Growing.{holds_before, holds_later}
 use Rattle.stmt_code.specs.Copying.{GivesBack, left_out}
-use Rattle.stmt_code.specs.Emitting.{HasLabels, Serves, first_word}
+use Rattle.stmt_code.specs.Emitting.{HasLabels, IsHandled, Serves, first_word}
 use Rattle.stmt_code.specs.Layout.{EndsBy}
 use Rattle.stmt_code.specs.Formals.{AddsEach, AreReturned, Placed, outs_end, passed_end, words_returned}
 use Rattle.stmt_code.specs.Resting.{Framed}
 use Rattle.stmt_code.specs.Handling.{unhandled}
-use Rattle.stmt_code.specs.Statements.{AreParametersDeclared, IsProcedure, IsRun, Numbers}
+use Rattle.stmt_code.specs.Statements.{AreParametersDeclared, IsProcedure, Numbers}
 use Rattle.stmt_code.specs.Subprograms.{AddsProcedure, fresh}
 use Rattle.stmt_code.specs.declared.draft.Draft.{Draft}
 use Rattle.stmt_code.specs.declared.formals.PlacedFormal.{PlacedFormal}
 use Rattle.stmt_code.specs.declared.subprogram.SubprogramWords.{SubprogramWords}
 use Rattle.stmt_code.proofs.GivingBack.{AreGiven, gives_back}
-use Rattle.stmt_code.proofs.Handling.{goes_nowhere}
 use Rattle.stmt_code.proofs.Initials.{shape_there}
 use Rattle.ada_link.specs.Package.{IsInFront, IsPackageOf}
 use Rattle.ada_link.proofs.BodyFrames.{HasWidths}
@@ -57,7 +56,8 @@ module _ (laws : LawsOfNames) (quiet : QuietStays) (shaped : InitialValuesHaveSh
     (adds : AddsProcedure seen old d.formals b sizes new)
     (number : ℕ) (s : Subprogram) (there : called i number ≡ Some s) (first_is : first_place i number ≡ here old.code) (end_is : s.end_ ≡ here new.code)
     (parameters_are : s.parameters ≡ sizes.passed) (results_are : results_of (called i number) ≡ sizes.results) (locals_are : s.locals ≡ sizes.locals)
-    (holds : Holds i (here old.code) new.code) (labels : HasLabels i new.labels) (rows : i.rows ≡ [])
+    (holds : Holds i (here old.code) new.code) (labels : HasLabels i new.labels)
+    (handled : IsHandled i (program_of t) (record old { code = adds.initial; words = adds.framed }) adds.run adds.runs.rows unhandled)
     (numbered : (name : List ℕ) (q : Procedure) (n : ℕ) → procedure_here (program_of t) None name ≡ Some q → g.subprograms None name ≡ Some n
     → numbers q ≡ Some n) where
   abbrev program : Program
@@ -209,10 +209,8 @@ module _ (laws : LawsOfNames) (quiet : QuietStays) (shaped : InitialValuesHaveSh
           (ready_placed base (known laws t legal restricted).kept laws.sized quiet shaped i program g numbers adds.later.scope words_are starts widths d.formals items 0 passed
           passed top (here old.code) (here adds.initial) frames.begins frames.begun telling new_names adds.places.stand frames.outs
           (adds.initialises.stands i at_initial)));
-      runs = subst (IsRun i program g numbers last (here adds.initial) (here adds.run.code) b.declarations b.statements) (sym adds.unhandled)
-          (adds.runs.stands i (holds_later i (here old.code) (here adds.initial) adds.run.code grows_initial.longer at_run)
-          (subst (HasLabels i) adds.labels labels) program g numbers last names_same serves room_enough unhandled
-          (goes_nowhere i rows (here adds.initial) (here adds.run.code)) refl);
+      runs = adds.runs.stands i (holds_later i (here old.code) (here adds.initial) adds.run.code grows_initial.longer at_run)
+          (subst (HasLabels i) adds.labels labels) program g numbers last names_same serves room_enough unhandled handled refl;
       gives = giving.0;
       within = (let e = adds.returns.end in let b = giving.1 in omega (arith, e, b, end_is));
     }

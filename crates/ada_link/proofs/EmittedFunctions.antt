@@ -1,11 +1,10 @@
 -- Functions whose code methods have added are those of a program, in each image that holds the code.
-use Rattle.std.proofs.Common.{◌≡◌, ℕ, suc, List, [], map, length, None, Some, refl, sym, ap, ◌∙◌, subst, arith}
+use Rattle.std.proofs.Common.{◌≡◌, ℕ, suc, List, [], map, length, None, Some, refl, sym, ◌∙◌, subst, arith}
 use Rattle.std.specs.Prelude.{slice_get}
 use Rattle.ada_tree.specs.declared.expression.Identifier.{Identifier}
 use Rattle.ada_tree.specs.ExpressionTree.{ExprTree}
 use Rattle.ada_tree.specs.StatementTree.{SubprogramTree}
 use Rattle.ada_tree.specs.ProgramTree.{BodyTree, ProgramTree, SubprogramBody}
-use Rattle.handlers.specs.Innermost.{handler_of}
 use Rattle.image.specs.Operations.{called}
 use Rattle.image.specs.Rules.{IsWellFormed}
 use Rattle.image.specs.Sections.{Sections, first_place}
@@ -32,6 +31,7 @@ use Rattle.expr_code.specs.Views.{View}
 use Rattle.expr_code.specs.declared.visible.Visible.{Visible}
 use Rattle.expr_code.proofs.Growing.{added_at, added_extends, added_here, holds_before}
 use Rattle.stmt_code.specs.Formals.{AddsEach, Placed, passed_end}
+use Rattle.stmt_code.specs.Handling.{GoesBy, unhandled}
 use Rattle.stmt_code.specs.Resting.{Framed}
 use Rattle.stmt_code.specs.Statements.{Numbers}
 use Rattle.stmt_code.specs.Subprograms.{AddsFunction}
@@ -52,7 +52,7 @@ module _ (laws : LawsOfNames) (shaped : InitialValuesHaveShape) (t : ProgramTree
     (seen : Visible) (old new : Draft) (sizes : SubprogramWords) (adds : AddsFunction seen old d.formals result value sizes new)
     (number : ℕ) (s : Subprogram) (there : called i number ≡ Some s) (first_is : first_place i number ≡ here old.code) (end_is : s.end_ ≡ here new.code)
     (parameters_are : s.parameters ≡ sizes.passed) (results_are : s.results ≡ sizes.results) (outside : kind_object s.kind ≡ None)
-    (holds : Holds i (here old.code) new.code) (rows : i.rows ≡ []) where
+    (holds : Holds i (here old.code) new.code) (uncovered : GoesBy i unhandled (here old.code) (here new.code)) where
   abbrev program : Program
   program = program_of t
 
@@ -123,7 +123,8 @@ module _ (laws : LawsOfNames) (shaped : InitialValuesHaveShape) (t : ProgramTree
           (subst (λ y. ComputesChecked i (library_of g) (Sees g adds.later) (here old.code) (here adds.valued) y value) result_is computes));
       return = added_at adds.valued new.code 1 op.Return adds.returns i (here old.code) adds.emits.extends.longer holds;
       within = (let e = added_here adds.valued new.code 1 op.Return adds.returns in omega (arith, e, end_is));
-      bare = λ at_ y low high. ap (λ l. handler_of l at_ y) rows;
+      bare = λ at_ y low high.
+          uncovered at_ y (omega (arith, first_is, low)) (let e = added_here adds.valued new.code 1 op.Return adds.returns in omega (arith, e, high));
       sized = one_word;
     }
 

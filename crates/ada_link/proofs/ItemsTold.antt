@@ -1,20 +1,20 @@
--- What bounds, needs and labels of all items of a package have to do with those of one of them.
+-- What bounds, needs, labels and rows of handlers of all items of a package have to do with those of one of them.
 use Rattle.std.proofs.Common.{◌≡◌, ℕ, zero, suc, ◌+◌, ◌≤◌, List, [], ◌∷◌, ◌++◌, length, take, Bool, true, false, Option, Some, None, refl, sym, ap, ◌∙◌, subst, arith, length-append}
 use Rattle.std.specs.Prelude.{slice_get}
 use Rattle.std.proofs.lemmas.List.{take-take}
 use Rattle.ada_tree.specs.declared.expression.Identifier.{Identifier}
-use Rattle.ada_tree.specs.StatementTree.{AlternativeTrees, Block, Call, Case, ElsifTrees, If, Loop, MoreAlternatives, MoreElsifs, MoreStmts, NoAlternatives, NoElsifs, NoStmts, StmtTree, StmtTrees, SubprogramTree}
+use Rattle.ada_tree.specs.StatementTree.{AlternativeTrees, Block, Call, Case, ElsifTrees, HandlerTrees, If, Loop, MoreAlternatives, MoreElsifs, MoreHandlers, MoreStmts, NoAlternatives, NoElsifs, NoHandlers, NoStmts, StmtTree, StmtTrees, SubprogramTree}
 use Rattle.ada_tree.specs.ProgramTree.{BodyItemTree, BodyTree, ProgramTree, SubprogramBody}
 use Rattle.types.specs.Layouts.{total}
 use Rattle.sound_programs.specs.Fronts.{front}
 use Rattle.sound_programs.proofs.Listing.{same_some, taken_at, taken_next}
 use Rattle.stmt_code.specs.Bounds.{procedure_bound}
-use Rattle.stmt_code.specs.Labels.{alternatives_labels, elsifs_labels, is_label, stmt_labels, stmts_labels, with_label, with_line}
+use Rattle.stmt_code.specs.Labels.{alternatives_labels, elsifs_labels, handlers_labels, is_label, stmt_labels, stmts_labels, with_label, with_line}
 use Rattle.stmt_code.specs.Lines.{Line, line_of}
 use Rattle.stmt_code.specs.WholeRefusals.{body_labels}
 use Rattle.stmt_code.proofs.Refused.{Within, in_left, of_right}
 use Rattle.ada_link.specs.Counts.{bounds_from}
-use Rattle.ada_link.specs.Refusing.{item_labels, item_needs, items_labels, items_needs}
+use Rattle.ada_link.specs.Refusing.{item_labels, item_needs, item_rows, items_labels, items_needs, items_rows}
 
 -- ---- bounds
 
@@ -116,7 +116,9 @@ mutual
       (more_labels inside between (stmts_labels between others) (elsifs_grow inside elsifs) (stmts_grow between others))
   stmt_grows before (Case place value all) = alternatives_grow before all
   stmt_grows before (Loop place iteration body) = stmts_grow before body
-  stmt_grows before (Block place locals body all) = stmts_grow before body
+  stmt_grows before (Block place locals body all) =
+      more_labels before (stmts_labels before body) (handlers_labels (stmts_labels before body) all) (stmts_grow before body)
+      (handlers_grow (stmts_labels before body) all)
   stmt_grows before simple = omega arith
 
   pub stmts_grow : (before : List (List ℕ)) (body : StmtTrees) → length before ≤ length (stmts_labels before body)
@@ -136,6 +138,12 @@ mutual
       more_labels before (stmts_labels before body) (alternatives_labels (stmts_labels before body) rest) (stmts_grow before body)
       (alternatives_grow (stmts_labels before body) rest)
 
+  handlers_grow : (before : List (List ℕ)) (all : HandlerTrees) → length before ≤ length (handlers_labels before all)
+  handlers_grow before NoHandlers = omega arith
+  handlers_grow before (MoreHandlers choices body rest) =
+      more_labels before (stmts_labels before body) (handlers_labels (stmts_labels before body) rest) (stmts_grow before body)
+      (handlers_grow (stmts_labels before body) rest)
+
 abbrev labels_by : (before : List (List ℕ)) → BodyTree → Option Identifier → List (List ℕ)
 labels_by before b o = elim o [ None ↦ body_labels before b | Some r ↦ before ]
 
@@ -143,7 +151,9 @@ item_grows : (before : List (List ℕ)) (x : BodyItemTree) → length before ≤
 item_grows before (SubprogramBody d b) = by_result d.result
   where
     by_result : (o : Option Identifier) → length before ≤ length (labels_by before b o)
-    by_result None = stmts_grow before b.statements
+    by_result None =
+        more_labels before (stmts_labels before b.statements) (handlers_labels (stmts_labels before b.statements) b.handlers)
+        (stmts_grow before b.statements) (handlers_grow (stmts_labels before b.statements) b.handlers)
     by_result (Some r) = omega arith
 item_grows before x = omega arith
 
@@ -152,15 +162,15 @@ items_grow before [] = omega arith
 items_grow before (x ∷ items) =
     more_labels before (item_labels before x) (items_labels (item_labels before x) items) (item_grows before x) (items_grow (item_labels before x) items)
 
+pub none_taken : {X : Type 0} (xs : List X) → take 0 xs ≡ []
+none_taken [] = refl
+none_taken (x ∷ xs) = refl
+
 -- those behind one item more
 pub labels_next : (before : List (List ℕ)) (items : List BodyItemTree) (n : ℕ) (x : BodyItemTree) → slice_get items n ≡ Some x
     → items_labels before (take (suc n) items) ≡ item_labels (items_labels before (take n items)) x
 labels_next before [] n x h = cc
 labels_next before (y ∷ items) zero x h = ap (λ l. items_labels (item_labels before y) l) (none_taken items) ∙ ap (item_labels before) (same_some y x h)
-  where
-    none_taken : (xs : List BodyItemTree) → take 0 xs ≡ []
-    none_taken [] = refl
-    none_taken (z ∷ xs) = refl
 labels_next before (y ∷ items) (suc n) x h = labels_next (item_labels before y) items n x h
 
 pub labels_within : (before : List (List ℕ)) (items : List BodyItemTree) (n : ℕ) (x : BodyItemTree) → slice_get items n ≡ Some x
@@ -169,3 +179,12 @@ labels_within before [] n x h = cc
 labels_within before (y ∷ items) zero x h =
     subst (λ z. length (item_labels before z) ≤ length (items_labels (item_labels before y) items)) (same_some y x h) (items_grow (item_labels before y) items)
 labels_within before (y ∷ items) (suc n) x h = labels_within (item_labels before y) items n x h
+
+-- ---- rows of handlers
+
+-- those behind one item more
+pub rows_next : (before : ℕ) (items : List BodyItemTree) (n : ℕ) (x : BodyItemTree) → slice_get items n ≡ Some x
+    → items_rows before (take (suc n) items) ≡ item_rows (items_rows before (take n items)) x
+rows_next before [] n x h = cc
+rows_next before (y ∷ items) zero x h = ap (λ l. items_rows (item_rows before y) l) (none_taken items) ∙ ap (item_rows before) (same_some y x h)
+rows_next before (y ∷ items) (suc n) x h = rows_next (item_rows before y) items n x h

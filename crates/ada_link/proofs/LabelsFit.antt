@@ -16,7 +16,7 @@ use Rattle.size_rules.specs.Limits.{Things, first_use, first_uses, is_among, ove
 use Rattle.size_rules.specs.PackageSizes.{body_item_inside, body_items_inside, frame_faults, operations_inside, package_inside, package_things}
 use Rattle.size_rules.specs.ProgramSizes.{declared_faults, label_faults, optional_size_faults}
 use Rattle.sound_programs.specs.Fronts.{declared_in}
-use Rattle.stmt_code.specs.Labels.{alternatives_labels, elsifs_labels, is_label, stmt_labels, stmts_labels, with_label, with_line}
+use Rattle.stmt_code.specs.Labels.{alternatives_labels, elsifs_labels, handlers_labels, is_label, stmt_labels, stmts_labels, with_label, with_line}
 use Rattle.stmt_code.specs.Lines.{line_behind}
 use Rattle.stmt_code.specs.WholeRefusals.{body_labels}
 use Rattle.ada_link.specs.Refusing.{item_labels, items_labels}
@@ -173,7 +173,7 @@ module _ (s : Scope) where
     stmt_counted (Case place value all) = alternatives_counted all
     stmt_counted (Loop place iteration body) = stmts_counted body
     stmt_counted (Block place locals body all) =
-        both_counted (λ l. stmts_labels l body) same (locals_things s locals ++ stmts_things s body) (handlers_things s all)
+        both_counted (λ l. stmts_labels l body) (λ l. handlers_labels l all) (locals_things s locals ++ stmts_things s body) (handlers_things s all)
         (both_counted same (λ l. stmts_labels l body) (locals_things s locals) (stmts_things s body) (locals_counted locals) (stmts_counted body))
         (handlers_counted all)
     stmt_counted x = none_counted
@@ -195,11 +195,10 @@ module _ (s : Scope) where
         both_counted (λ l. stmts_labels l body) (λ l. alternatives_labels l rest) (stmts_things s body) (alternatives_things s rest) (stmts_counted body)
         (alternatives_counted rest)
 
-    -- of handlers there is no code
-    handlers_counted : (all : HandlerTrees) → IsCounted same (handlers_things s all)
+    handlers_counted : (all : HandlerTrees) → IsCounted (λ labels. handlers_labels labels all) (handlers_things s all)
     handlers_counted NoHandlers = none_counted
     handlers_counted (MoreHandlers choices body rest) =
-        both_counted same same (stmts_things s body) (handlers_things s rest) (ignored (λ l. stmts_labels l body) (stmts_things s body) (stmts_counted body))
+        both_counted (λ l. stmts_labels l body) (λ l. handlers_labels l rest) (stmts_things s body) (handlers_things s rest) (stmts_counted body)
         (handlers_counted rest)
 
 -- ---- bodies
@@ -210,8 +209,8 @@ body_counted s fs b =
     let second = locals_things s b.declarations in
     let third = stmts_things s b.statements in
     let last = handlers_things s b.handlers in
-    both_counted (λ l. body_labels l b) same (first ++ second ++ third) last
-    (both_counted same (λ l. body_labels l b) (first ++ second) third
+    both_counted (λ l. stmts_labels l b.statements) (λ l. handlers_labels l b.handlers) (first ++ second ++ third) last
+    (both_counted same (λ l. stmts_labels l b.statements) (first ++ second) third
     (both_counted same same first second (formals_counted s fs) (locals_counted s b.declarations)) (stmts_counted s b.statements))
     (handlers_counted s b.handlers)
 

@@ -1,6 +1,7 @@
 -- A well-formed image that was put together from an accepted program has the program's code, and so its meaning.
-use Rattle.std.proofs.Common.{◌≡◌, ℕ, zero, suc, ◌+◌, ◌≤◌, List, [], ◌∷◌, ◌++◌, length, map, Bool, true, false, cond, ◌&&◌, inl, inr, Option, None, Some, refl, sym, ap, ◌∙◌, subst, arith}
+use Rattle.std.proofs.Common.{◌≡◌, ℕ, zero, suc, ◌+◌, ◌≤◌, List, [], ◌∷◌, ◌++◌, length, map, Bool, true, false, cond, ◌&&◌, inl, inr, Option, None, Some, refl, sym, ap, ◌∙◌, subst, arith, append-nil, append_assoc}
 use Rattle.std.specs.Prelude.{bytes_eq, slice_get}
+use Rattle.std.proofs.lemmas.List.Elements.{All-nil, All-weaker}
 use Rattle.std.proofs.lemmas.Option.{slice_get_within}
 use Rattle.kernel.specs.Laws.{QuietStays}
 use Rattle.ada_tree.specs.declared.expression.Identifier.{Identifier}
@@ -9,6 +10,7 @@ use Rattle.ada_tree.specs.declared.program.MainStatement.TheVariants as main
 use Rattle.ada_tree.specs.ExpressionTree.{ExprTree}
 use Rattle.ada_tree.specs.StatementTree.{SubprogramTree}
 use Rattle.ada_tree.specs.ProgramTree.{BodyTree, ProgramTree, SubprogramBody}
+use Rattle.handlers.specs.declared.rows.Row.{Row}
 use Rattle.image.specs.Operations.{called, results_of}
 use Rattle.image.specs.Rules.{IsWellFormed}
 use Rattle.image.specs.Sections.{Sections, first_place}
@@ -38,17 +40,19 @@ use Rattle.expr_code.specs.Seeing.{Package, library_of, told_of}
 use Rattle.expr_code.specs.declared.visible.Visible.{Visible}
 use Rattle.expr_code.proofs.Growing.{added_extends, extends_trans, get_last}
 use Rattle.image.specs.declared.instruction.Operation.TheVariants as op
-use Rattle.stmt_code.specs.Emitting.{HasLabels}
+use Rattle.stmt_code.specs.Emitting.{HasLabels, IsHandled}
+use Rattle.stmt_code.specs.Handling.{GoesBy, unhandled}
+use Rattle.stmt_code.specs.Raising.{AreNamed}
 use Rattle.stmt_code.specs.Laws.{HasCode}
 use Rattle.stmt_code.specs.Resting.{Framed}
 use Rattle.stmt_code.specs.Statements.{IsProcedure, Numbers}
-use Rattle.stmt_code.proofs.Handling.{goes_nowhere}
 use Rattle.stmt_code.specs.Subprograms.{AddsProcedure, fresh}
 use Rattle.stmt_code.specs.declared.draft.Draft.{Draft}
 use Rattle.stmt_code.specs.declared.subprogram.SubprogramWords.{SubprogramWords}
 use Rattle.ada_link.specs.LinkLaws.{LinkedKeepsCount, LinkedMeansTheSame}
 use Rattle.ada_link.specs.Linked.{IsLinked, IsSequential}
 use Rattle.ada_link.specs.Package.{IsInFront, IsInOrder, IsPackageOf}
+use Rattle.ada_link.proofs.NamedExceptions.{exceptions_are_named}
 use Rattle.ada_link.proofs.CodedPackage.{HasBodies, ada_linkd}
 use Rattle.ada_link.proofs.EmittedBodies.{procedure_emitted}
 use Rattle.ada_link.proofs.EmittedFunctions.{function_emitted}
@@ -59,9 +63,10 @@ use Rattle.ada_link.proofs.LinkedMain.{DoesMain, main_linked}
 use Rattle.ada_link.specs.Directory.{AreTold}
 use Rattle.ada_link.specs.Laws.{SectionsMeanTheSame}
 use Rattle.ada_link.specs.Program.{HasProgram, main_row}
-use Rattle.ada_link.specs.Walking.{AddsSubprogram, AddsValue, HasBody, begins_at, row_of}
+use Rattle.ada_link.specs.Walking.{AddsSubprogram, AddsValue, HasBody, LieInFront, begins_at, row_of}
 use Rattle.ada_link.specs.declared.directory.Directory.{Directory}
-use Rattle.ada_link.proofs.Walked.{begins_kept}
+use Rattle.ada_link.proofs.BodyRows.{goes_by_own, goes_past}
+use Rattle.ada_link.proofs.Walked.{begins_kept, rows_in_front}
 
 -- ---- the package of code
 
@@ -223,6 +228,10 @@ module _ (t : ProgramTree) (i : Sections) (h : HasProgram t i) where
   pub holds_main : Holds i (here h.walk.draft.code) h.draft.code
   holds_main k x le e = ap (λ l. slice_get l k) h.instructions ∙ e
 
+  -- those of bodies: main has none
+  rows_are : i.rows ≡ h.walk.draft.rows.items
+  rows_are = h.rows ∙ ap (λ r. r.items) h.main.rows
+
   -- ---- bodies
 
   pub body_there : (place : ℕ) (d : SubprogramTree) (b : BodyTree) → slice_get (declared_in t.package_) place ≡ Some (SubprogramBody d b)
@@ -244,6 +253,30 @@ module _ (t : ProgramTree) (i : Sections) (h : HasProgram t i) where
 
     pub labels_there : HasLabels i body.new.labels
     labels_there = record { labels = λ k y le e. ap (λ l. slice_get l k) (h.labels ∙ h.main.labels) ∙ body.kept.labels k y (omega arith) e }
+
+    rows_with : (own : List Row) → body.new.rows.items ≡ body.old.rows.items ++ own → i.rows ≡ body.old.rows.items ++ (own ++ body.kept.later)
+    rows_with own more =
+        rows_are ∙ body.kept.rows ∙ ap (λ l. l ++ body.kept.later) more ∙ append_assoc body.old.rows.items own body.kept.later
+
+    -- what a procedure raises goes on by the rows that were added with its code
+    handled_there : AreNamed program → (adds : AddsProcedure body.seen body.old d.formals b body.words body.new)
+        → IsHandled i program (record body.old { code = adds.initial; words = adds.framed }) adds.run adds.runs.rows unhandled
+    handled_there named adds = record {
+      named = named;
+      exceptions = sym h.walked.exceptions ∙ ap (λ e. e.items) (body.kept.exceptions ∙ adds.exceptions ∙ adds.runs.rows.exceptions);
+      goes = goes_by_own i body.old.rows.items adds.runs.rows.added body.kept.later (here adds.initial) (here adds.run.code)
+          (rows_with adds.runs.rows.added (ap (λ r. r.items) adds.rows ∙ adds.runs.rows.appended))
+          (All-weaker (λ q. q.end_ ≤ here body.old.code) (λ q. q.end_ ≤ here adds.initial)
+          (λ q up. let e = adds.initialises.extends.longer in omega (arith, e, up)) body.old.rows.items body.before)
+          (All-weaker (λ q. here body.new.code ≤ q.start) (λ q. here adds.run.code ≤ q.start)
+          (λ q up. let e = adds.returns.extends.longer in omega (arith, e, up)) body.kept.later body.kept.behind);
+    }
+
+    -- no row covers code that adds none
+    uncovered_there : body.new.rows ≡ body.old.rows → GoesBy i unhandled (here body.old.code) (here body.new.code)
+    uncovered_there same =
+        goes_past i body.old.rows.items body.kept.later (here body.old.code) (here body.new.code)
+        (rows_are ∙ body.kept.rows ∙ ap (λ r. r.items ++ body.kept.later) same) body.before body.kept.behind
 
   module _ (laws : LawsOfNames) (quiet : QuietStays) (shaped : InitialValuesHaveShape) (legal : IsLegal t) (restricted : IsRestricted t)
       (well_formed : IsWellFormed i) where
@@ -271,8 +304,9 @@ module _ (t : ProgramTree) (i : Sections) (h : HasProgram t i) where
 
       procedure_there : d.result ≡ None → IsProcedure i program g numbers (procedure_by program.scope (subprogram_body None d b)) body.number
       procedure_there none =
+          let adds = as_procedure t d b body.seen body.old body.words body.new body.adds none in
           procedure_emitted laws quiet shaped t legal restricted i well_formed g of_program numbers place d b at body.seen body.old body.new body.words
-          (as_procedure t d b body.seen body.old body.words body.new body.adds none) body.number row there first refl refl (ap results_of there) refl holds labels h.rows
+          adds body.number row there first refl refl (ap results_of there) refl holds labels (handled_there place d b body (exceptions_are_named laws.premises t legal restricted) adds)
           (λ name q n found told. procedure_numbered program h.directory name q n found told)
           (in_front _ (suc place) body.scope body.told)
 
@@ -283,7 +317,8 @@ module _ (t : ProgramTree) (i : Sections) (h : HasProgram t i) where
           subst (λ e. IsFunctionCode i (library_of g) (function_by program.scope (subprogram_body None d b) r e) body.number)
           (same_some y.value value (sym y.returns ∙ returns))
           (function_emitted laws shaped t legal restricted i well_formed g of_program numbers place d b at r some y.value y.result y.named body.seen body.old
-          body.new body.words y.adds body.number row there first refl refl refl refl holds h.rows (in_front _ (suc place) body.scope body.told))
+          body.new body.words y.adds body.number row there first refl refl refl refl holds (uncovered_there place d b body y.adds.rows)
+          (in_front _ (suc place) body.scope body.told))
 
       -- the number is the one that is told of the name
       numbered : (number : ℕ) → told_of program.scope h.directory.numbers.items d.name.name ≡ Some number → body.number ≡ number
@@ -342,7 +377,10 @@ module _ (t : ProgramTree) (i : Sections) (h : HasProgram t i) where
       statements =
           main_emitted i program g numbers h.walk.visible h.walk.draft h.draft h.words t.main.statements h.main holds_main calls (length all) first_main;
       return = main_returns i program g numbers h.walk.visible h.walk.draft h.draft h.words t.main.statements h.main holds_main calls (length all) first_main;
-      uncovered = goes_nowhere i h.rows (first_place i (length all)) (here h.main.called);
+      uncovered = goes_past i h.walk.draft.rows.items [] (first_place i (length all)) (here h.main.called)
+          (rows_are ∙ sym (append-nil h.walk.draft.rows.items))
+          (subst (λ n. LieInFront n h.walk.draft.rows.items) (sym first_main) (rows_in_front all h.walk.draft h.walked.rows))
+          (All-nil (λ q. here h.main.called ≤ q.start));
       code = code;
     }
 

@@ -3,7 +3,7 @@ use Rattle.std.proofs.Common.{◌≡◌, ℕ, zero, suc, ◌+◌, ◌≤◌, ◌
 use Rattle.std.specs.List.{list_all}
 use Rattle.std.specs.Prelude.{nat_eq, nat_le, not}
 use Rattle.base.specs.Names.{is_label, is_name}
-use Rattle.base.specs.declared.limits.TheConstants.{EXCEPTIONS, INSTRUCTIONS, LABELS, SUBPROGRAMS, WORDS}
+use Rattle.base.specs.declared.limits.TheConstants.{EXCEPTIONS, INSTRUCTIONS, LABELS, ROWS, SUBPROGRAMS, WORDS}
 use Rattle.ada_tree.specs.ProgramTree.{BodyItemTree, ItemTree, OfItem, PackageTree, ProgramTree}
 use Rattle.image.specs.Sections.{Sections}
 use Rattle.image.specs.declared.tasks.Task.{Task}
@@ -26,7 +26,7 @@ use Rattle.ada_link.specs.Directory.{AreNumbered, HasManyBodies, IsDirectory}
 use Rattle.ada_link.specs.Globals.{AreGlobals, RefusesGlobals, refuses_items}
 use Rattle.ada_link.specs.Laws.{HasFew}
 use Rattle.ada_link.specs.Program.{HasProgram, has_texts, is_within_limits}
-use Rattle.ada_link.specs.Refusing.{RefusesCode, RefusesParts, RefusesProgram, is_spelled, items_labels, items_needs, number_among, program_bound, program_labels, program_needs, seen_at}
+use Rattle.ada_link.specs.Refusing.{RefusesCode, RefusesParts, RefusesProgram, is_spelled, items_labels, items_needs, items_rows, number_among, program_bound, program_labels, program_needs, program_rows, seen_at}
 use Rattle.ada_link.specs.Walking.{IsAsTold}
 use Rattle.ada_link.specs.declared.directory.Directory.{Directory}
 use Rattle.ada_link.specs.declared.globals.Globals.{Globals}
@@ -118,6 +118,9 @@ module _ (t : ProgramTree) where
     pub labels_told : walk.draft.labels ≡ program_labels t
     labels_told = told.labels ∙ ap (items_labels []) (ap (λ n. take n all) last ∙ take_all (length all) all (omega arith))
 
+    pub rows_told : length walk.draft.rows.items ≡ program_rows t
+    rows_told = told.rows ∙ ap (items_rows 0) (ap (λ n. take n all) last ∙ take_all (length all) all (omega arith))
+
     seen : walk.visible ≡ seen_at t (length all)
     seen = told.seen ∙ ap (seen_at t) last
 
@@ -156,7 +159,7 @@ module _ (t : ProgramTree) where
 
   -- ---- tables
 
-  module _ (i : Sections) (h : HasProgram t i) (labels : i.labels ≡ program_labels t) where
+  module _ (i : Sections) (h : HasProgram t i) (labels : i.labels ≡ program_labels t) (rows : length i.rows ≡ program_rows t) where
     abbrev main_named : Task → Bool
     main_named x = is_name x.name
 
@@ -195,10 +198,12 @@ module _ (t : ProgramTree) where
         either (nat_le (length i.subprograms) SUBPROGRAMS) _ (RefusesParts t refusal.Limit) missed
         (λ e. inr (inr (inl (inl (let up = beyond_ (length i.subprograms) SUBPROGRAMS e in omega (arith, up, many))))))
         (λ rest. either (nat_le (length i.exceptions) EXCEPTIONS) _ (RefusesParts t refusal.Limit) rest
-        (λ e. inr (inr (inl (inr (subst (λ l. EXCEPTIONS < length l) (h.exceptions ∙ h.are.exceptions) (beyond_ (length i.exceptions) EXCEPTIONS e))))))
-        (λ rest. either (nat_le (length i.labels) LABELS) (nat_le (length i.plain_words) WORDS) (RefusesParts t refusal.Limit) rest
+        (λ e. inr (inr (inl (inr (inl (subst (λ l. EXCEPTIONS < length l) (h.exceptions ∙ h.are.exceptions) (beyond_ (length i.exceptions) EXCEPTIONS e)))))))
+        (λ rest. either (nat_le (length i.labels) LABELS) _ (RefusesParts t refusal.Limit) rest
         (λ e. inl (inr (subst (λ l. LABELS < length l) labels (beyond_ (length i.labels) LABELS e))))
-        (λ e. inr (inl (subst (λ l. WORDS < length l) (h.plain_words ∙ h.are.words) (beyond_ (length i.plain_words) WORDS e))))))
+        (λ rest. either (nat_le (length i.plain_words) WORDS) (nat_le (length i.rows) ROWS) (RefusesParts t refusal.Limit) rest
+        (λ e. inr (inl (subst (λ l. WORDS < length l) (h.plain_words ∙ h.are.words) (beyond_ (length i.plain_words) WORDS e))))
+        (λ e. inr (inr (inl (inr (inr (subst (λ n. ROWS < n) rows (beyond_ (length i.rows) ROWS e))))))))))
 
   -- ---- no legal program has too many
 

@@ -1,12 +1,13 @@
--- How far a walk over a package is: in front of it, behind a declaration, and behind a body.
-use Rattle.std.proofs.Common.{◌≡◌, ℕ, zero, suc, ◌+◌, ◌<◌, ◌≤◌, List, [], ◌∷◌, ◌++◌, length, ◌⊎◌, inl, inr, Option, Some, None, refl, sym, ap, ◌∙◌, subst, arith, append-nil, length-append}
+-- How far a walk over a package is: in front of it, behind a declaration, and behind a body, with the rows of handlers that it has.
+use Rattle.std.proofs.Common.{◌≡◌, ℕ, zero, suc, ◌+◌, ◌<◌, ◌≤◌, List, [], ◌∷◌, ◌++◌, length, ◌⊎◌, inl, inr, Option, Some, refl, sym, ap, ◌∙◌, subst, arith, append-nil, append_assoc, length-append}
+use Rattle.std.proofs.lemmas.List.Elements.{All-append, All-nil, All-weaker}
 use Rattle.std.proofs.lemmas.Option.{slice_get_within}
 use Rattle.std.specs.Prelude.{slice_get, take}
 use Rattle.ada_tree.specs.declared.expression.Identifier.{Identifier}
 use Rattle.ada_tree.specs.StatementTree.{SubprogramTree}
 use Rattle.ada_tree.specs.ProgramTree.{BodyItemTree, BodyTree, ItemTree, OfItem, ProgramTree, SubprogramBody}
+use Rattle.handlers.specs.declared.rows.Row.{Row}
 use Rattle.image.specs.Sections.{end_of}
-use Rattle.image.specs.declared.instruction.Operation.TheVariants as op
 use Rattle.image.specs.declared.subprograms.Subprogram.{Subprogram}
 use Rattle.types.specs.Scopes.{Scope}
 use Rattle.type_rules.specs.ProfileRules.{subprogram_scope}
@@ -17,16 +18,18 @@ use Rattle.sound_programs.proofs.Listing.{same_some}
 use Rattle.sound_programs.proofs.Walked.{scope_next}
 use Rattle.sound_programs.specs.Fronts.{declared_in, front, start_in}
 use Rattle.well_typed.proofs.Positions.{item_kept}
-use Rattle.expr_code.proofs.Growing.{added_extends, extends_trans, get_last}
+use Rattle.expr_code.proofs.Growing.{get_last}
 use Rattle.expr_code.specs.Code.{Extends, StandsFrom, here}
 use Rattle.expr_code.specs.declared.visible.Visible.{Visible}
-use Rattle.stmt_code.specs.Subprograms.{AddsProcedure, KeepsRules, fresh}
+use Rattle.stmt_code.specs.Emitting.{AddsRows}
+use Rattle.stmt_code.specs.Rows.{LiesWithin}
+use Rattle.stmt_code.specs.Subprograms.{KeepsRules, fresh}
 use Rattle.stmt_code.specs.declared.draft.Draft.{Draft}
-use Rattle.stmt_code.specs.declared.subprogram.SubprogramWords.{SubprogramWords}
+use Rattle.stmt_code.proofs.RowsAdded.{rows_kept, rows_then}
 use Rattle.ada_link.specs.Counts.{bodies_among, bodies_before}
 use Rattle.ada_link.specs.Directory.{AreTold, TellsNext}
 use Rattle.ada_link.specs.Laws.{MayBeAdded}
-use Rattle.ada_link.specs.Walking.{AddsBody, AddsSubprogram, AddsValue, BeginsWalk, HasBody, IsKept, IsWalked, begins_at, row_of}
+use Rattle.ada_link.specs.Walking.{AddsBody, AddsSubprogram, BeginsWalk, HasBody, HasRows, IsKept, IsWalked, LieInFront, LiesInOne, begins_at, row_of}
 use Rattle.ada_link.specs.declared.directory.Directory.{Directory}
 use Rattle.ada_link.specs.declared.walk.Walk.{Walk}
 use Rattle.ada_link.proofs.Seen.{first_front}
@@ -38,40 +41,39 @@ stands_then : {X : Type 0} (a b c : List X) → StandsFrom 0 a b → StandsFrom 
 stands_then a b c h k n x up there = k n x up (h n x up there)
 
 pub kept_self : (a : Draft) → IsKept a a
-kept_self a = record { instructions = λ n x up there. there; longer = omega arith; labels = λ n x up there. there }
+kept_self a = record {
+  instructions = λ n x up there. there;
+  longer = omega arith;
+  labels = λ n x up there. there;
+  exceptions = refl;
+  later = [];
+  rows = sym (append-nil a.rows.items);
+  behind = All-nil (λ q. here a.code ≤ q.start);
+}
 
 pub kept_then : (a b c : Draft) → IsKept a b → IsKept b c → IsKept a c
 kept_then a b c h k = record {
   instructions = stands_then a.code.instructions.items b.code.instructions.items c.code.instructions.items h.instructions k.instructions;
   longer = (let one = h.longer in let two = k.longer in omega (arith, one, two));
   labels = stands_then a.labels b.labels c.labels h.labels k.labels;
+  exceptions = k.exceptions ∙ h.exceptions;
+  later = h.later ++ k.later;
+  rows = k.rows ∙ ap (λ l. l ++ k.later) h.rows ∙ append_assoc a.rows.items h.later k.later;
+  behind = All-append (λ q. here a.code ≤ q.start) h.later k.later h.behind
+      (All-weaker (λ q. here b.code ≤ q.start) (λ q. here a.code ≤ q.start) (λ q up. let one = h.longer in omega (arith, one, up)) k.later k.behind);
 }
 
--- code that extends what is there, with these labels
-kept_by : (old new : Draft) → Extends (fresh old.code) new.code → StandsFrom 0 old.labels new.labels → IsKept old new
-kept_by old new extends labels = record { instructions = extends.instructions; longer = extends.longer; labels = labels }
-
-procedure_kept : (v : Visible) (old new : Draft) (d : SubprogramTree) (b : BodyTree) (words : SubprogramWords) → AddsProcedure v old d.formals b words new
-    → IsKept old new
-procedure_kept v old new d b words adds =
-    kept_by old new
-    (extends_trans (fresh old.code) adds.initial new.code adds.initialises.extends
-    (extends_trans adds.initial adds.run.code new.code adds.runs.extends adds.returns.extends))
-    (subst (StandsFrom 0 old.labels) (sym adds.labels) adds.runs.labels)
-
-abbrev AddsBy : ProgramTree → SubprogramTree → BodyTree → Visible → (old : Draft) → SubprogramWords → (new : Draft) → Option Identifier → Type 0
-AddsBy t d b v old words new o = elim o [ None ↦ AddsProcedure v old d.formals b words new | Some r ↦ AddsValue t d b r v old words new ]
-
-pub adds_kept : (t : ProgramTree) (d : SubprogramTree) (b : BodyTree) (v : Visible) (old new : Draft) (words : SubprogramWords)
-    → AddsSubprogram t d b v old words new → IsKept old new
-adds_kept t d b v old new words adds = by_result d.result adds
-  where
-    by_result : (o : Option Identifier) → AddsBy t d b v old words new o → IsKept old new
-    by_result None h = procedure_kept v old new d b words h
-    by_result (Some r) h =
-        kept_by old new
-        (extends_trans (fresh old.code) h.adds.valued new.code h.adds.emits.extends (added_extends h.adds.valued new.code 1 op.Return h.adds.returns))
-        (subst (StandsFrom 0 old.labels) (sym h.adds.labels) (λ n x up there. there))
+-- code that extends what is there, with these labels and rows
+kept_by : (old new : Draft) → Extends (fresh old.code) new.code → StandsFrom 0 old.labels new.labels → AddsRows old new → IsKept old new
+kept_by old new extends labels rows = record {
+  instructions = extends.instructions;
+  longer = extends.longer;
+  labels = labels;
+  exceptions = rows.exceptions;
+  later = rows.added;
+  rows = rows.appended;
+  behind = All-weaker (LiesWithin (here old.code) (here new.code)) (λ q. here old.code ≤ q.start) (λ q within. within.start) rows.added rows.within;
+}
 
 -- ---- where subprograms begin
 
@@ -88,6 +90,65 @@ begins_behind : (all : List Subprogram) (s : Subprogram) → begins_at (all ++ s
 begins_behind all s =
     let long : length (all ++ s ∷ []) ≡ suc (length all) = (let e = length-append all (s ∷ []) in omega (arith, e)) in
     ap (begins_at (all ++ s ∷ [])) long ∙ ap end_of (get_last all s)
+
+-- ---- rows of handlers
+
+module _ (all : List Subprogram) (draft : Draft) where
+  pub rows_are : (has : HasRows all draft) → draft.rows.items ≡ has.rows.added
+  rows_are has = has.rows.appended ∙ ap (λ l. l ++ has.rows.added) has.none
+
+  pub rows_in_front : HasRows all draft → LieInFront (here draft.code) draft.rows.items
+  rows_in_front has =
+      subst (LieInFront (here draft.code)) (sym (rows_are has))
+      (All-weaker (LiesWithin (here has.begun.code) (here draft.code)) (λ q. q.end_ ≤ here draft.code) (λ q within. within.end) has.rows.added has.rows.within)
+
+  -- in front of all
+  rows_begin : draft.code.instructions.items ≡ [] → draft.rows.items ≡ [] → HasRows all draft
+  rows_begin bare none = record {
+    begun = draft;
+    bare = bare;
+    none = none;
+    rows = rows_kept draft draft (refl, refl);
+    inside = All-nil (LiesInOne all);
+  }
+
+-- behind the code of one subprogram more
+module _ (all : List Subprogram) (row : Subprogram) (old new : Draft) (has : HasRows all old) (adds : AddsRows old new)
+    (extends : Extends (fresh old.code) new.code) (begins : begins_at all (length all) ≡ here old.code) (ends : row.end_ ≡ here new.code) where
+  abbrev more : List Subprogram
+  more = all ++ row ∷ []
+
+  longer_by_one : length more ≡ suc (length all)
+  longer_by_one = let long = length-append all (row ∷ []) in omega (arith, long)
+
+  inside_before : (q : Row) → LiesInOne all q → LiesInOne more q
+  inside_before q x =
+      let less = x.there in
+      record {
+        number = x.number;
+        there = (let long = longer_by_one in omega (arith, less, long));
+        within = subst (λ a. LiesWithin a (begins_at more (suc x.number)) q) (sym (begins_kept all (row ∷ []) x.number (omega (arith, less))))
+            (subst (λ b. LiesWithin (begins_at all x.number) b q) (sym (begins_kept all (row ∷ []) (suc x.number) (omega (arith, less)))) x.within);
+      }
+
+  inside_last : (q : Row) → LiesWithin (here old.code) (here new.code) q → LiesInOne more q
+  inside_last q within = record {
+    number = length all;
+    there = (let long = longer_by_one in omega (arith, long));
+    within = subst (λ a. LiesWithin a (begins_at more (suc (length all))) q) (sym (begins_kept all (row ∷ []) (length all) (omega arith) ∙ begins))
+        (subst (λ b. LiesWithin (here old.code) b q) (sym (ap end_of (get_last all row) ∙ ends)) within);
+  }
+
+  rows_more : HasRows more new
+  rows_more = record {
+    begun = has.begun;
+    bare = has.bare;
+    none = has.none;
+    rows = rows_then has.begun old new has.rows adds (let none : here has.begun.code ≡ 0 = ap length has.bare in omega (arith, none)) extends.longer
+        (λ place h. record { operation = h.operation; there = extends.instructions place _ (omega arith) h.there });
+    inside = All-append (LiesInOne more) has.rows.added adds.added (All-weaker (LiesInOne all) (LiesInOne more) inside_before has.rows.added has.inside)
+        (All-weaker (LiesWithin (here old.code) (here new.code)) (LiesInOne more) inside_last adds.added adds.within);
+  }
 
 -- ---- how many bodies there are
 
@@ -125,13 +186,16 @@ module _ (t : ProgramTree) (directory : Directory) where
   plus_none : (n : ℕ) → n + 0 ≡ n
   plus_none n = omega arith
 
-  pub walk_begins : (s : Scope) (w : Walk) → BeginsWalk s w → s ≡ start_in t.package_ → IsWalked t directory w
-  walk_begins s w begins is = record {
+  pub walk_begins : (s : Scope) (names : List (List ℕ)) (w : Walk) → BeginsWalk s names w → s ≡ start_in t.package_
+      → names ≡ (program_of t).exceptions → IsWalked t directory w
+  walk_begins s names w begins is known = record {
     scope = begins.visible.scope ∙ is ∙ sym (ap (front t) begins.place ∙ first_front (start_in t.package_) all);
     told = unseen_told whole directory s w.visible begins.visible;
     bodies = λ n d b less at. absurd (let place = begins.place in omega (arith, less, place));
     end = ap (λ l. begins_at l (length l)) begins.subprograms ∙ sym (ap length begins.instructions);
     many = ap length begins.subprograms ∙ sym (ap (bodies_before t) begins.place);
+    exceptions = begins.exceptions ∙ known;
+    rows = rows_begin w.subprograms.items w.draft begins.instructions begins.rows;
   }
 
   -- what bodies have stays while more are added
@@ -150,6 +214,7 @@ module _ (t : ProgramTree) (directory : Directory) where
         adds = has.adds;
         called = has.called;
         keeps = has.keeps;
+        before = has.before;
         number = has.number;
         numbered = has.numbered;
         counted = has.counted;
@@ -176,6 +241,8 @@ module _ (t : ProgramTree) (directory : Directory) where
     bodies = λ n d b less there. by_place n d b there (last_or_before n old.place (omega (arith, less, place)));
     end = ap (λ l. begins_at l.items (length l.items)) subprograms ∙ walked.end ∙ ap (λ z. here z.code) (sym draft);
     many = ap (λ l. length l.items) subprograms ∙ walked.many ∙ sym (ap (bodies_before t) next ∙ more_before old.place (OfItem i) at ∙ plus_none (bodies_before t old.place));
+    exceptions = ap (λ z. z.exceptions.items) draft ∙ walked.exceptions;
+    rows = subst (λ z. HasRows new.subprograms.items z) (sym draft) (subst (λ l. HasRows l.items old.draft) (sym subprograms) walked.rows);
   }
     where
       next : new.place ≡ suc old.place
@@ -202,6 +269,9 @@ module _ (t : ProgramTree) (directory : Directory) where
     end = ap (λ l. begins_at l (length l)) rows ∙ begins_behind old.subprograms.items row ∙ ap (λ z. here z.code) (sym new_draft);
     many = ap length rows ∙ length-append old.subprograms.items (row ∷ []) ∙ ap (λ n. n + 1) walked.many
         ∙ sym (ap (bodies_before t) next ∙ more_before old.place (SubprogramBody d b) at);
+    exceptions = ap (λ e. e.items) kept.exceptions ∙ walked.exceptions;
+    rows = subst (λ l. HasRows l new.draft) (sym rows)
+        (rows_more old.subprograms.items row old.draft new.draft walked.rows keeps.rows keeps.extends walked.end (ap (λ z. here z.code) (sym new_draft)));
   }
     where
       next : new.place ≡ suc old.place
@@ -221,13 +291,13 @@ module _ (t : ProgramTree) (directory : Directory) where
           subst (AddsSubprogram t d b mid.visible old.draft adds.words) (sym new_draft)
           (subst (λ z. AddsSubprogram t d b mid.visible z adds.words after.draft) draft adds.adds)
 
-      kept : IsKept old.draft new.draft
-      kept = adds_kept t d b mid.visible old.draft new.draft adds.words added
-
       keeps : KeepsRules mid.visible old.draft adds.words new.draft
       keeps =
           subst (KeepsRules mid.visible old.draft adds.words) (sym new_draft)
           (subst (λ z. KeepsRules mid.visible z adds.words after.draft) draft adds.keeps)
+
+      kept : IsKept old.draft new.draft
+      kept = kept_by old.draft new.draft keeps.extends keeps.labels keeps.rows
 
       this : HasBody t directory old.place d b new
       this = record {
@@ -240,6 +310,7 @@ module _ (t : ProgramTree) (directory : Directory) where
         adds = added;
         called = adds.called;
         keeps = keeps;
+        before = rows_in_front old.subprograms.items old.draft walked.rows;
         number = length old.subprograms.items;
         numbered = adds.numbered ∙ ap (λ l. Some (length l.items)) subprograms;
         counted = walked.many;

@@ -25,6 +25,7 @@ use Rattle.ada_link.specs.Program.{HasProgram, KeepsTables}
 use Rattle.ada_link.proofs.InFront.{LawsOfNames}
 use Rattle.ada_link.proofs.KeptCode.{code_passes, long}
 use Rattle.ada_link.proofs.Linking.{called_main}
+use Rattle.ada_link.proofs.RowRules.{rows_cover, rows_find, rows_known, rows_nested, rows_within}
 
 -- ---- tests
 
@@ -73,10 +74,10 @@ module _ (t : ProgramTree) (i : Sections) (h : HasProgram t i) (tables : KeepsTa
 
   jumps : jumps_stay_inside i ≡ true
   jumps =
-      and_from (list_all covers_places i.rows) _ (ap (list_all covers_places) h.rows)
+      and_from (list_all covers_places i.rows) _ (rows_cover t i h)
       (asked (has_ends i) (all_placed (jumps_within i) 0 i.instructions && (list_all (is_closed i) i.subprograms && list_all (is_row_within i) i.rows))
       (and_from (all_placed (jumps_within i) 0 i.instructions) _ p.jumps
-      (and_from (list_all (is_closed i) i.subprograms) (list_all (is_row_within i) i.rows) p.closed (ap (list_all (is_row_within i)) h.rows))))
+      (and_from (list_all (is_closed i) i.subprograms) (list_all (is_row_within i) i.rows) p.closed (rows_within t i h p.ends))))
 
   main_there : list_all (has_body i) i.tasks ≡ true
   main_there =
@@ -96,7 +97,7 @@ module _ (t : ProgramTree) (i : Sections) (h : HasProgram t i) (tables : KeepsTa
       let empty = all_begun (λ first s. has_depth i first 0) 0 i.subprograms in
       let targets = list_all (λ r. has_depth i r.target 1) i.rows in
       asked (has_ends i) (kept && (empty && targets))
-      (and_from kept (empty && targets) p.depths (and_from empty targets p.empty (ap (list_all (λ r. has_depth i r.target 1)) h.rows)))
+      (and_from kept (empty && targets) p.depths (and_from empty targets p.empty (rows_find t i h)))
 
   -- ---- tables
 
@@ -156,7 +157,8 @@ module _ (t : ProgramTree) (i : Sections) (h : HasProgram t i) (tables : KeepsTa
       let k = nat_le (length i.plain_words + sum_by (λ o. length o.words) i.objects) WORDS in
       let few = and_parts (nat_le (length i.subprograms) SUBPROGRAMS) _ tables.limits in
       let fewer = and_parts (nat_le (length i.exceptions) EXCEPTIONS) _ few.1 in
-      let last = and_parts (nat_le (length i.labels) LABELS) (nat_le (length i.plain_words) WORDS) fewer.1 in
+      let last = and_parts (nat_le (length i.labels) LABELS) _ fewer.1 in
+      let ends = and_parts (nat_le (length i.plain_words) WORDS) (nat_le (length i.rows) ROWS) last.1 in
       let words : length i.plain_words + sum_by (λ o. length o.words) i.objects ≡ length i.plain_words + 0 =
       ap (λ l. length i.plain_words + sum_by (λ o. length o.words) l) h.objects in
       and_from a (b && (c && (d && (e && (f && (g && k))))))
@@ -168,9 +170,9 @@ module _ (t : ProgramTree) (i : Sections) (h : HasProgram t i) (tables : KeepsTa
       (and_from d (e && (f && (g && k)))
       (and_from (nat_le 4 (length i.exceptions)) (nat_le (length i.exceptions) EXCEPTIONS) (le-leb 4 (length i.exceptions) four) fewer.0)
       (and_from e (f && (g && k)) (ap (λ l. nat_le (length l) OBJECTS) h.objects)
-      (and_from f (g && k) (ap (λ l. nat_le (length l) ROWS) h.rows)
+      (and_from f (g && k) ends.1
       (and_from g k last.0
-      (ap (λ n. nat_le n WORDS) (words ∙ (let none : length i.plain_words + 0 ≡ length i.plain_words = omega arith in none)) ∙ last.1)))))))
+      (ap (λ n. nat_le n WORDS) (words ∙ (let none : length i.plain_words + 0 ≡ length i.plain_words = omega arith in none)) ∙ ends.0)))))))
 
   tables_whole : tables_agree i ≡ true
   tables_whole =
@@ -191,7 +193,7 @@ module _ (t : ProgramTree) (i : Sections) (h : HasProgram t i) (tables : KeepsTa
       (ap (begins_with predefined) exceptions_are ∙ begun_with predefined (exceptions_among (package_items t.package_)))
       (and_from j (k && (m && o)) exceptions_named
       (and_from k (m && o) labels_spelled
-      (and_from m o (ap (list_all (λ r. nat_le r.exception (length i.exceptions))) h.rows) (ap all_nested h.rows)))))))))
+      (and_from m o (rows_known t i h) (rows_nested t i h)))))))))
 
   pub well_formed : IsWellFormed i
   well_formed = record { operands = p.operands; jumps = jumps; named = named; depths = depths; tables = tables_whole }

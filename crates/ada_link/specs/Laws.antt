@@ -36,7 +36,7 @@ pub record MayBeAdded (t : ProgramTree) (s : Scope) (d : SubprogramTree) (b : Bo
   pub front : SoundScope s
   pub sound : SoundScope (formals_scope s d.formals)
   pub new_names : length (formals_scope s d.formals) ≡ length s + length d.formals
-  pub legal : IsLegalRun (formals_scope s d.formals) b.declarations b.statements
+  pub legal : IsLegalRun (formals_scope s d.formals) b.declarations b.statements b.handlers
   pub fit : (r : Identifier) (value : ExprTree) → d.result ≡ Some r → returned b.statements ≡ Some value
       → IsFit (formals_scope s d.formals) (subtype_named (program_of t).scope r) value
   pub result : (r : Identifier) → d.result ≡ Some r → is_some (subtype_of (program_of t).scope r) ≡ true

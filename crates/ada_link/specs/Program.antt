@@ -2,7 +2,7 @@
 use Rattle.std.specs.Prelude.{◌≡◌, ℕ, [], ◌∷◌, ◌++◌, length, Bool, ◌&&◌, true, nat_le}
 use Rattle.std.specs.List.{list_all}
 use Rattle.base.specs.Names.{is_label, is_name}
-use Rattle.base.specs.declared.limits.TheConstants.{EXCEPTIONS, LABELS, SUBPROGRAMS, WORDS}
+use Rattle.base.specs.declared.limits.TheConstants.{EXCEPTIONS, LABELS, ROWS, SUBPROGRAMS, WORDS}
 use Rattle.ada_tree.specs.ProgramTree.{ProgramTree}
 use Rattle.image.specs.Sections.{Sections}
 use Rattle.image.specs.declared.subprograms.Kind.TheVariants as kinds
@@ -47,7 +47,7 @@ pub record HasProgram (t : ProgramTree) (i : Sections) : Type 0 where
     priority = base_priority (program_of t).scope t.main.aspect;
     subprogram = length walk.subprograms.items;
   } ∷ []
-  pub rows : i.rows ≡ []
+  pub rows : i.rows ≡ draft.rows.items
   pub instructions : i.instructions ≡ draft.code.instructions.items
 
 -- texts are names and labels, as those of a source text are
@@ -58,7 +58,8 @@ has_texts i = list_all is_name i.exceptions && (list_all is_label i.labels && li
 abbrev pub is_within_limits : Sections → Bool
 is_within_limits i =
     nat_le (length i.subprograms) SUBPROGRAMS
-    && (nat_le (length i.exceptions) EXCEPTIONS && (nat_le (length i.labels) LABELS && nat_le (length i.plain_words) WORDS))
+    && (nat_le (length i.exceptions) EXCEPTIONS
+    && (nat_le (length i.labels) LABELS && (nat_le (length i.plain_words) WORDS && nat_le (length i.rows) ROWS)))
 
 pub record KeepsTables (i : Sections) : Type 0 where
   pub texts : has_texts i ≡ true

@@ -2,7 +2,7 @@
 use Rattle.std.specs.Prelude.{◌≡◌, ℕ, zero, suc, ◌+◌, ◌<◌, Bool, true, false, ◌||◌, ◌&&◌, not, nat_eq, List, [], ◌∷◌, length, Option, Some, None, bytes_eq, is_some, ◌⊎◌, if◌then◌else◌}
 use Rattle.std.specs.List.{list_all}
 use Rattle.base.specs.Names.{is_label, is_name}
-use Rattle.base.specs.declared.limits.TheConstants.{EXCEPTIONS, SUBPROGRAMS, WORDS}
+use Rattle.base.specs.declared.limits.TheConstants.{EXCEPTIONS, ROWS, SUBPROGRAMS, WORDS}
 use Rattle.ada_tree.specs.declared.declaration.Formal.{Formal}
 use Rattle.ada_tree.specs.ExpressionTree.{ExprTree}
 use Rattle.ada_tree.specs.StatementTree.{SubprogramTree}
@@ -22,6 +22,7 @@ use Rattle.expr_code.specs.declared.visible.Slot.{Slot}
 use Rattle.expr_code.specs.declared.visible.Visible.{Visible}
 use Rattle.stmt_code.specs.Bounds.{main_bound}
 use Rattle.stmt_code.specs.Refusing.{HasManyLabels, IsNeeding, Needs, beyond, beyond_if, both, lacks_word, nothing}
+use Rattle.stmt_code.specs.Rows.{body_rows}
 use Rattle.stmt_code.specs.WholeRefusals.{body_labels, function_needs, procedure_needs}
 use Rattle.ada_link.specs.Counts.{bodies_among, bounds_from}
 use Rattle.ada_link.specs.Package.{first_words_of, place_among}
@@ -81,17 +82,17 @@ abbrev pub function_if_any : Visible → List Formal → Subtype → Option Expr
 function_if_any v fs t (Some e) = function_needs v fs t e
 function_if_any v fs t None = beyond
 
--- the names in front of its parameters are visible
-abbrev pub subprogram_needs : ProgramTree → Visible → SubprogramTree → BodyTree → Needs
-subprogram_needs t v d b =
+-- the names in front of its parameters are visible, and the program has these exceptions
+abbrev pub subprogram_needs : ProgramTree → Visible → (exceptions : List (List ℕ)) → SubprogramTree → BodyTree → Needs
+subprogram_needs t v exceptions d b =
     elim d.result [
-      | None ↦ procedure_needs v d.formals b
+      | None ↦ procedure_needs v exceptions d.formals b
       | Some r ↦ function_if_any v d.formals (subtype_named (program_of t).scope r) (returned b.statements)
     ]
 
 abbrev pub item_needs : ProgramTree → (place : ℕ) → BodyItemTree → Needs
 item_needs t place (OfItem d) = beyond_if (is_outside_item (program_of t).scope d)
-item_needs t place (SubprogramBody d b) = subprogram_needs t (seen_at t (suc place)) d b
+item_needs t place (SubprogramBody d b) = subprogram_needs t (seen_at t (suc place)) (program_of t).exceptions d b
 item_needs t place (TaskBody name b) = beyond
 item_needs t place (ProtectedBody name items end_name) = beyond
 
@@ -123,15 +124,32 @@ items_labels before (x ∷ rest) = items_labels (item_labels before x) rest
 abbrev pub program_labels : ProgramTree → List (List ℕ)
 program_labels t = items_labels [] (declared_in t.package_)
 
+-- ---- rows of handlers, one for each choice
+
+abbrev pub subprogram_rows : (before : ℕ) → SubprogramTree → BodyTree → ℕ
+subprogram_rows before d b = elim d.result [ None ↦ body_rows before b | Some r ↦ before ]
+
+abbrev pub item_rows : (before : ℕ) → BodyItemTree → ℕ
+item_rows before (SubprogramBody d b) = subprogram_rows before d b
+item_rows before item = before
+
+abbrev pub items_rows : (before : ℕ) → List BodyItemTree → ℕ
+items_rows before [] = before
+items_rows before (x ∷ rest) = items_rows (item_rows before x) rest
+
+abbrev pub program_rows : ProgramTree → ℕ
+program_rows t = items_rows 0 (declared_in t.package_)
+
 -- ---- refusals
 
 -- why code of its bodies and main isn't made
 abbrev pub RefusesCode : ProgramTree → Refusal → Type 0
 RefusesCode t why = IsNeeding (program_bound t) (program_needs t) why ⊎ HasManyLabels (program_labels t) why
 
--- it has more subprograms, main's among them, or more exceptions than an image
+-- it has more subprograms, main's among them, more exceptions, or more rows of handlers than an image
 abbrev pub HasMany : ProgramTree → Refusal → Type 0
-HasMany t refusal.Limit = (SUBPROGRAMS < suc (bodies_among (declared_in t.package_))) ⊎ (EXCEPTIONS < length (program_of t).exceptions)
+HasMany t refusal.Limit =
+    (SUBPROGRAMS < suc (bodies_among (declared_in t.package_))) ⊎ ((EXCEPTIONS < length (program_of t).exceptions) ⊎ (ROWS < program_rows t))
 HasMany t why = ⊥
 
 -- ... or more words of variables
@@ -153,7 +171,7 @@ RefusesParts t why = RefusesCode t why ⊎ (HasManyWords t why ⊎ (HasMany t wh
 
 -- Why an accepted program is refused. Memory may always be refused. It is outside where it has what code isn't made of, or a text is misspelt. It passes a limit
 -- where all its code may have more instructions than an image, where a frame and its operand stack need more words together than a frame has, where an object
--- takes no words, or more than an image has, or where it has more subprograms or exceptions than an image. No legal program has too many labels or words of
--- variables.
+-- takes no words, or more than an image has, or where it has more subprograms, exceptions or rows of handlers than an image. No legal program has too many labels
+-- or words of variables.
 abbrev pub RefusesProgram : ProgramTree → Refusal → Type 0
 RefusesProgram t why = IsNeeding (program_bound t) (program_needs t) why ⊎ (HasMany t why ⊎ IsMisspelt t why)

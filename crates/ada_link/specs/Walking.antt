@@ -1,9 +1,11 @@
--- What a walk over the declarations and bodies of a package adds: the code of each body, one behind another, each of them a subprogram.
+-- What a walk over the declarations and bodies of a package adds: the code of each body, one behind another, each a subprogram, and the rows of its handlers.
 use Rattle.std.specs.Prelude.{◌≡◌, ◌+◌, ◌<◌, ◌≤◌, ◌⊎◌, ℕ, zero, suc, List, [], ◌∷◌, ◌++◌, length, Some, None, slice_get, take}
+use Rattle.std.specs.List.{All}
 use Rattle.ada_tree.specs.declared.expression.Identifier.{Identifier}
 use Rattle.ada_tree.specs.ExpressionTree.{ExprTree}
 use Rattle.ada_tree.specs.StatementTree.{SubprogramTree}
 use Rattle.ada_tree.specs.ProgramTree.{BodyItemTree, BodyTree, ProgramTree, SubprogramBody}
+use Rattle.handlers.specs.declared.rows.Row.{Row}
 use Rattle.image.specs.Sections.{end_of}
 use Rattle.image.specs.declared.subprograms.Kind.TheVariants as kinds
 use Rattle.image.specs.declared.subprograms.Subprogram.{Subprogram}
@@ -17,13 +19,15 @@ use Rattle.expr_code.specs.Seeing.{told_of}
 use Rattle.expr_code.specs.declared.refusal.Refusal.{Refusal}
 use Rattle.expr_code.specs.declared.visible.Visible.{Visible}
 use Rattle.stmt_code.specs.Bounds.{procedure_bound}
+use Rattle.stmt_code.specs.Emitting.{AddsRows}
 use Rattle.stmt_code.specs.Refusing.{HasManyLabels, IsNeeding}
+use Rattle.stmt_code.specs.Rows.{LiesWithin}
 use Rattle.stmt_code.specs.Subprograms.{AddsFunction, AddsProcedure, IsCalledFunction, IsCalledProcedure, KeepsRules}
 use Rattle.stmt_code.specs.declared.draft.Draft.{Draft}
 use Rattle.stmt_code.specs.declared.subprogram.SubprogramWords.{SubprogramWords}
 use Rattle.ada_link.specs.Counts.{bodies_before, bounds_from}
 use Rattle.ada_link.specs.Directory.{AreTold, IsUnseen}
-use Rattle.ada_link.specs.Refusing.{items_labels, seen_at, subprogram_labels, subprogram_needs}
+use Rattle.ada_link.specs.Refusing.{items_labels, items_rows, seen_at, subprogram_labels, subprogram_needs, subprogram_rows}
 use Rattle.ada_link.specs.declared.directory.Directory.{Directory}
 use Rattle.ada_link.specs.declared.walk.Walk.{Walk}
 
@@ -74,14 +78,16 @@ pub record AddsBody (t : ProgramTree) (directory : Directory) (d : SubprogramTre
   pub visible : new.visible ≡ old.visible
   pub place : new.place ≡ old.place
 
--- ... with the labels of its lines
-pub record AddsLabels (old : Draft) (d : SubprogramTree) (b : BodyTree) (new : Draft) : Type 0 where
+-- ... with the labels of its lines, and as many rows as its handlers have choices
+pub record AddsAsTold (old : Draft) (d : SubprogramTree) (b : BodyTree) (new : Draft) : Type 0 where
   pub labels : new.labels ≡ subprogram_labels old.labels d b
+  pub rows : length new.rows.items ≡ subprogram_rows (length old.rows.items) d b
 
 -- why the code of a body isn't made, where the names in front of its parameters are visible
 abbrev pub RefusesBody : ProgramTree → Visible → (old : Draft) → SubprogramTree → BodyTree → Refusal → Type 0
 RefusesBody t v old d b why =
-    IsNeeding (here old.code + procedure_bound v.scope d.formals b) (subprogram_needs t v d b) why ⊎ HasManyLabels (subprogram_labels old.labels d b) why
+    IsNeeding (here old.code + procedure_bound v.scope d.formals b) (subprogram_needs t v old.exceptions.items d b) why
+    ⊎ HasManyLabels (subprogram_labels old.labels d b) why
 
 -- ---- all of them
 
@@ -90,13 +96,21 @@ abbrev pub begins_at : List Subprogram → ℕ → ℕ
 begins_at all zero = 0
 begins_at all (suc n) = end_of (slice_get all n)
 
--- what one draft has, the other has too
+-- what one draft has, the other has too; its other rows of handlers are those of code behind
 pub record IsKept (old new : Draft) : Type 0 where
   pub instructions : StandsFrom 0 old.code.instructions.items new.code.instructions.items
   pub longer : here old.code ≤ here new.code
   pub labels : StandsFrom 0 old.labels new.labels
+  pub exceptions : new.exceptions ≡ old.exceptions
+  pub later : List Row
+  pub rows : new.rows.items ≡ old.rows.items ++ later
+  pub behind : All (λ q. here old.code ≤ q.start) later
 
--- the body at this place of the package has its code, and its subprogram
+-- rows of handlers that lie in front of a place
+abbrev pub LieInFront : (place : ℕ) → List Row → Type 0
+LieInFront place rows = All (λ q. q.end_ ≤ place) rows
+
+-- the body at this place of the package has its code, and its subprogram; the rows in front of its own lie in front of its code
 pub record HasBody (t : ProgramTree) (directory : Directory) (place : ℕ) (d : SubprogramTree) (b : BodyTree) (w : Walk) : Type 0 where
   pub seen : Visible
   pub scope : seen.scope ≡ front t (suc place)
@@ -107,6 +121,7 @@ pub record HasBody (t : ProgramTree) (directory : Directory) (place : ℕ) (d : 
   pub adds : AddsSubprogram t d b seen old words new
   pub called : IsCalledSubprogram t d seen.scope words
   pub keeps : KeepsRules seen old words new
+  pub before : LieInFront (here old.code) old.rows.items
   pub number : ℕ
   pub numbered : told_of (program_of t).scope directory.numbers.items d.name.name ≡ Some number
   pub counted : number ≡ bodies_before t place
@@ -114,15 +129,36 @@ pub record HasBody (t : ProgramTree) (directory : Directory) (place : ℕ) (d : 
   pub begins : begins_at w.subprograms.items number ≡ here old.code
   pub kept : IsKept new w.draft
 
--- in front of all of them, where these names are visible
-pub record BeginsWalk (s : Scope) (w : Walk) : Type 0 where
+-- ---- rows of handlers
+
+-- the row covers places of one of these subprograms, and leads to one of it
+pub record LiesInOne (all : List Subprogram) (q : Row) : Type 0 where
+  pub number : ℕ
+  pub there : number < length all
+  pub within : LiesWithin (begins_at all number) (begins_at all (suc number)) q
+
+-- All rows of the draft were added to one that had neither code nor rows, and each lies in one of these subprograms.
+pub record HasRows (all : List Subprogram) (draft : Draft) : Type 0 where
+  pub begun : Draft
+  pub bare : begun.code.instructions.items ≡ []
+  pub none : begun.rows.items ≡ []
+  pub rows : AddsRows begun draft
+  pub inside : All (LiesInOne all) rows.added
+
+-- ---- the walk
+
+-- in front of all of them, where these names are visible, in a program with these exceptions
+pub record BeginsWalk (s : Scope) (names : List (List ℕ)) (w : Walk) : Type 0 where
   pub visible : IsUnseen s w.visible
   pub place : w.place ≡ 0
   pub instructions : w.draft.code.instructions.items ≡ []
   pub labels : w.draft.labels ≡ []
+  pub rows : w.draft.rows.items ≡ []
+  pub exceptions : w.draft.exceptions.items ≡ names
   pub subprograms : w.subprograms.items ≡ []
 
--- Each body in front of the place where the walk is has its code, and no others have; what is visible there is told by the directory.
+-- Each body in front of the place where the walk is has its code, and no others have; what is visible there is told by the directory; the program has the
+-- draft's exceptions, and the rows of handlers are rows of the bodies.
 pub record IsWalked (t : ProgramTree) (directory : Directory) (w : Walk) : Type 0 where
   pub scope : w.visible.scope ≡ front t w.place
   pub told : AreTold (program_of t).scope directory w.visible
@@ -131,9 +167,12 @@ pub record IsWalked (t : ProgramTree) (directory : Directory) (w : Walk) : Type 
       → HasBody t directory place d b w
   pub end : begins_at w.subprograms.items (length w.subprograms.items) ≡ here w.draft.code
   pub many : length w.subprograms.items ≡ bodies_before t w.place
+  pub exceptions : w.draft.exceptions.items ≡ (program_of t).exceptions
+  pub rows : HasRows w.subprograms.items w.draft
 
--- What is visible where the walk is, the labels there, and how many instructions there are at most, are told by the text alone.
+-- What is visible where the walk is, the labels there, how many rows of handlers there are, and how many instructions at most, are told by the text alone.
 pub record IsAsTold (t : ProgramTree) (w : Walk) : Type 0 where
   pub seen : w.visible ≡ seen_at t w.place
   pub few : here w.draft.code ≤ total (bounds_from t 0 (take w.place (declared_in t.package_)))
   pub labels : w.draft.labels ≡ items_labels [] (take w.place (declared_in t.package_))
+  pub rows : length w.draft.rows.items ≡ items_rows 0 (take w.place (declared_in t.package_))

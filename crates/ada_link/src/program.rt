@@ -1,12 +1,12 @@
 //! The sections of the image of a program whose only task is main.
-ghost use Rattle.std.specs.Prelude.{◌≡◌, false, IfErr, IfOk};
+ghost use Rattle.std.specs.Prelude.{◌≡◌, false, length, IfErr, IfOk};
 ghost use Rattle.std.specs.List.{list_all};
 ghost use Rattle.base.specs.Names.{is_label, is_name};
 ghost use Rattle.ada_tree.specs.ProgramTree.{program_tree};
 ghost use Rattle.meaning.specs.Programs.{base_priority, program_of};
 ghost use Rattle.expr_code.specs.Refusing.{IsRefused};
 ghost use Rattle.ada_link.specs.Program.{HasProgram, KeepsTables, has_texts, is_within_limits};
-ghost use Rattle.ada_link.specs.Refusing.{RefusesParts, RefusesProgram, program_labels};
+ghost use Rattle.ada_link.specs.Refusing.{RefusesParts, RefusesProgram, program_labels, program_rows};
 
 use crate::directory::{Directory, number_bodies};
 use crate::globals::{Globals, globals_of};
@@ -14,11 +14,10 @@ use crate::laws::{
     main_is_known, main_may_be_added, names_are_sound, tables_are_small, variables_are_placed,
 };
 use crate::walk::{Walk, row, walk_over};
-use base::limits::{EXCEPTIONS, LABELS, SUBPROGRAMS, TASK_PRIORITY, WORDS};
+use base::limits::{EXCEPTIONS, LABELS, ROWS, SUBPROGRAMS, TASK_PRIORITY, WORDS};
 use base::names::{is_label, is_name};
 use declaring::{DEFAULT_PRIORITY, priority_of};
 use expr_code::Refusal;
-use handlers::Row;
 use image::{Kind, Object, Parts, Task};
 use lexer::Text;
 use ravenscar::Accepted;
@@ -39,10 +38,12 @@ fn main_task(accepted: &Accepted, number: usize) -> Result<Task, Refusal>
     })
 }
 
-// The code of its subprograms one behind another, in the order of their bodies, that of main behind them, and the variables in the order of their declarations.
+// The code of its subprograms one behind another, in the order of their bodies, with their rows of handlers, that of main behind them, and the variables in the
+// order of their declarations.
 fn put_together(alloc: Global, accepted: &Accepted) -> Result<Parts, Refusal>
     ensures program { IfOk result (λ parts. HasProgram (program_tree accepted.now) parts) }
     ensures labels { IfOk result (λ parts. parts.labels ≡ program_labels (program_tree accepted.now)) }
+    ensures rows { IfOk result (λ parts. length parts.rows ≡ program_rows (program_tree accepted.now)) }
     ensures refused { IfErr result (λ why. RefusesParts (program_tree accepted.now) why) }
 {
     names_are_sound();
@@ -61,7 +62,7 @@ fn put_together(alloc: Global, accepted: &Accepted) -> Result<Parts, Refusal>
     } = globals_of(alloc, scope, &program.package_)?;
     let numbers = number_bodies(alloc, scope, &program.package_)?;
     let directory = Directory { slots, numbers };
-    let walk = walk_over(alloc, accepted, &directory)?;
+    let walk = walk_over(alloc, accepted, &directory, exceptions)?;
     let Walk {
         mut draft,
         visible,
@@ -73,13 +74,13 @@ fn put_together(alloc: Global, accepted: &Accepted) -> Result<Parts, Refusal>
     tasks.push(main_task(accepted, subprograms.len())?)?;
     subprograms.push(row(Kind::TaskBody, main, &draft)?)?;
     Ok(Parts {
-        exceptions,
+        exceptions: draft.exceptions,
         labels: draft.labels.texts(alloc)?,
         plain_words: words,
         objects: Vec::<Object>::new(alloc),
         subprograms,
         tasks,
-        rows: Vec::<Row>::new(alloc),
+        rows: draft.rows,
         instructions: draft.code.instructions,
     })
 }
@@ -117,6 +118,7 @@ fn is_within_limits(parts: &Parts) -> bool
         && parts.exceptions.len() <= EXCEPTIONS
         && parts.labels.len() <= LABELS
         && parts.plain_words.len() <= WORDS
+        && parts.rows.len() <= ROWS
 }
 
 // They are put together, and have the texts and counts of an image.
@@ -135,12 +137,13 @@ fn within_tables(alloc: Global, accepted: &Accepted) -> Result<Parts, Refusal>
     Ok(parts)
 }
 
-/// The sections of the image of an accepted program (docs/FORMATS.md): the code of its subprograms one behind another, in the order of their bodies, that of main behind them,
-/// and the variables in the order of their declarations. They make a well-formed image (`sections_are_well_formed`).
+/// The sections of the image of an accepted program (docs/FORMATS.md): the code of its subprograms one behind another, in the order of their bodies, with their
+/// rows of handlers, that of main behind them, and the variables in the order of their declarations. They make a well-formed image (`sections_are_well_formed`).
 ///
 /// # Errors
 /// `Outside` where the program has tasks, protected objects, or what has no code yet (docs/CODEGEN.md), or a text that is no name or label; `Limit` where the bound on
-/// its instructions, or the words of a frame or of an object, pass those of images (specs/Refusing); `Memory` where memory was refused.
+/// its instructions, the choices of its handlers, or the words of a frame or of an object, pass those of images (specs/Refusing); `Memory` where memory was
+/// refused.
 pub(crate) fn sections(alloc: Global, accepted: &Accepted) -> Result<Parts, Refusal>
     ensures program { IfOk result (λ parts. HasProgram (program_tree accepted.now) parts) }
     ensures tables { IfOk result (λ parts. KeepsTables parts) }

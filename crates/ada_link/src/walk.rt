@@ -16,7 +16,7 @@ ghost use Rattle.stmt_code.specs.Subprograms.{IsCalledFunction, KeepsRules};
 ghost use Rattle.ada_link.specs.Directory.{IsDirectory};
 ghost use Rattle.ada_link.specs.Laws.{MayBeAdded};
 ghost use Rattle.ada_link.specs.Refusing.{RefusesCode};
-ghost use Rattle.ada_link.specs.Walking.{AddsBody, AddsLabels, AddsSubprogram, AddsValue, BeginsWalk, IsAsTold, IsCalledSubprogram, IsWalked, RefusesBody, StandFrom, row_of};
+ghost use Rattle.ada_link.specs.Walking.{AddsAsTold, AddsBody, AddsSubprogram, AddsValue, BeginsWalk, IsAsTold, IsCalledSubprogram, IsWalked, RefusesBody, StandFrom, row_of};
 
 use crate::directory::{Directory, unseen};
 use crate::laws::{bodies_are_numbered, bodies_may_be_added};
@@ -25,6 +25,7 @@ use declaring::declare_item;
 use expr_code::{Refusal, Visible};
 use image::Kind;
 use legality::{inside_scope, item_name};
+use lexer::Text;
 use ravenscar::Accepted;
 use std::alloc::Global;
 use stmt_code::{Draft, SubprogramWords};
@@ -99,15 +100,15 @@ pub(crate) fn row(
 }
 
 impl Walk {
-    // In front of all of them, where these names are visible.
-    fn new(alloc: Global, scope: Scope) -> Result<Walk, Refusal>
-        ensures begins { IfOk result (λ walk. BeginsWalk scope walk) }
+    // In front of all of them, where these names are visible, in a program with these exceptions.
+    fn new(alloc: Global, scope: Scope, exceptions: Vec<Text>) -> Result<Walk, Refusal>
+        ensures begins { IfOk result (λ walk. BeginsWalk scope exceptions.items walk) }
         ensures refused { IfErr result (λ why. IsRefused 0 0 false why) }
     {
         Ok(Walk {
             alloc,
             place: 0,
-            draft: Draft::new(alloc),
+            draft: Draft::new(alloc, exceptions),
             visible: unseen(alloc, scope)?,
             subprograms: Vec::new(alloc),
         })
@@ -130,7 +131,7 @@ impl Walk {
         ensures visible { OnOk result (self.new.visible ≡ self.old.visible) }
         ensures place { OnOk result (self.new.place ≡ self.old.place) }
         ensures subprograms { OnOk result (self.new.subprograms ≡ self.old.subprograms) }
-        ensures labels { OnOk result (AddsLabels self.old.draft (subprogram_tree subprogram.now) (body_tree body.now) self.new.draft) }
+        ensures told { OnOk result (AddsAsTold self.old.draft (subprogram_tree subprogram.now) (body_tree body.now) self.new.draft) }
         ensures refused { IfErr result (λ why. RefusesBody (program_tree accepted.now) self.old.visible self.old.draft (subprogram_tree subprogram.now) (body_tree body.now) why) }
     {
         let value = returned(&body.statements)?;
@@ -154,7 +155,7 @@ impl Walk {
         ensures visible { OnOk result (self.new.visible ≡ self.old.visible) }
         ensures place { OnOk result (self.new.place ≡ self.old.place) }
         ensures subprograms { OnOk result (self.new.subprograms ≡ self.old.subprograms) }
-        ensures labels { OnOk result (AddsLabels self.old.draft (subprogram_tree subprogram.now) (body_tree body.now) self.new.draft) }
+        ensures told { OnOk result (AddsAsTold self.old.draft (subprogram_tree subprogram.now) (body_tree body.now) self.new.draft) }
         ensures refused { IfErr result (λ why. RefusesBody (program_tree accepted.now) self.old.visible self.old.draft (subprogram_tree subprogram.now) (body_tree body.now) why) }
     {
         match &subprogram.result {
@@ -177,7 +178,7 @@ impl Walk {
         requires entries { HasEntries self.old.visible }
         requires numbered { told_of (program_of (program_tree accepted.now)).scope directory.now.numbers.items (subprogram_tree subprogram.now).name.name ≡ Some (length self.old.subprograms.items) }
         ensures adds { OnOk result (AddsBody (program_tree accepted.now) directory.now (subprogram_tree subprogram.now) (body_tree body.now) self.old self.new) }
-        ensures labels { OnOk result (AddsLabels self.old.draft (subprogram_tree subprogram.now) (body_tree body.now) self.new.draft) }
+        ensures told { OnOk result (AddsAsTold self.old.draft (subprogram_tree subprogram.now) (body_tree body.now) self.new.draft) }
         ensures refused { IfErr result (λ why. RefusesBody (program_tree accepted.now) self.old.visible self.old.draft (subprogram_tree subprogram.now) (body_tree body.now) why) }
     {
         let words = self.code(accepted, subprogram, body)?;
@@ -295,49 +296,59 @@ fn walk_package(
     alloc: Global,
     accepted: &Accepted,
     directory: &Directory,
+    exceptions: Vec<Text>,
     package_: &Package,
 ) -> Result<Walk, Refusal>
     requires legal { IsLegal (program_tree accepted.now) }
     requires restricted { IsRestricted (program_tree accepted.now) }
     requires is { accepted.now.package_ ≡ Some package_.now }
     requires directory { IsDirectory (program_tree accepted.now) directory.now }
+    requires exceptions { exceptions.items ≡ (program_of (program_tree accepted.now)).exceptions }
     ensures walked { IfOk result (λ walk. IsWalked (program_tree accepted.now) directory.now walk) }
     ensures whole { IfOk result (λ walk. walk.place ≡ length (declared_in (program_tree accepted.now).package_)) }
     ensures told { IfOk result (λ walk. IsAsTold (program_tree accepted.now) walk) }
     ensures refused { IfErr result (λ why. RefusesCode (program_tree accepted.now) why) }
 {
-    let mut walk = Walk::new(alloc, inside_scope(alloc, package_)?)?;
+    let mut walk = Walk::new(alloc, inside_scope(alloc, package_)?, exceptions)?;
     walk.declarations(accepted, directory, &package_.declaration.items)?;
     walk.bodies(accepted, directory, &package_.body.items)?;
     Ok(walk)
 }
 
 // That of a program without one.
-fn walk_nothing(alloc: Global, accepted: &Accepted, directory: &Directory) -> Result<Walk, Refusal>
+fn walk_nothing(
+    alloc: Global,
+    accepted: &Accepted,
+    directory: &Directory,
+    exceptions: Vec<Text>,
+) -> Result<Walk, Refusal>
     requires is { accepted.now.package_ ≡ None }
+    requires exceptions { exceptions.items ≡ (program_of (program_tree accepted.now)).exceptions }
     ensures walked { IfOk result (λ walk. IsWalked (program_tree accepted.now) directory.now walk) }
     ensures whole { IfOk result (λ walk. walk.place ≡ length (declared_in (program_tree accepted.now).package_)) }
     ensures told { IfOk result (λ walk. IsAsTold (program_tree accepted.now) walk) }
     ensures refused { IfErr result (λ why. RefusesCode (program_tree accepted.now) why) }
 {
-    let walk = Walk::new(alloc, Scope::standard(alloc)?)?;
+    let walk = Walk::new(alloc, Scope::standard(alloc)?, exceptions)?;
     Ok(walk)
 }
 
-/// The walk over all of a program's package.
+/// The walk over all of a program's package, where these are the program's exceptions.
 pub(crate) fn walk_over(
     alloc: Global,
     accepted: &Accepted,
     directory: &Directory,
+    exceptions: Vec<Text>,
 ) -> Result<Walk, Refusal>
     requires directory { IsDirectory (program_tree accepted.now) directory.now }
+    requires exceptions { exceptions.items ≡ (program_of (program_tree accepted.now)).exceptions }
     ensures walked { IfOk result (λ walk. IsWalked (program_tree accepted.now) directory.now walk) }
     ensures whole { IfOk result (λ walk. walk.place ≡ length (declared_in (program_tree accepted.now).package_)) }
     ensures told { IfOk result (λ walk. IsAsTold (program_tree accepted.now) walk) }
     ensures refused { IfErr result (λ why. RefusesCode (program_tree accepted.now) why) }
 {
     match &accepted.program().package_ {
-        None => walk_nothing(alloc, accepted, directory),
-        Some(package_) => walk_package(alloc, accepted, directory, package_),
+        None => walk_nothing(alloc, accepted, directory, exceptions),
+        Some(package_) => walk_package(alloc, accepted, directory, exceptions, package_),
     }
 }

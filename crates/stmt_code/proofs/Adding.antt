@@ -5,7 +5,7 @@ use Rattle.std.proofs.Math.Seq.{take-suc}
 use Rattle.ada_tree.specs.declared.statement.Stmt.{Stmt}
 use Rattle.ada_tree.specs.ExpressionTree.{ExprTree}
 use Rattle.ada_tree.specs.StatementTree as statements
-use Rattle.ada_tree.specs.StatementTree.{DeclarationTree, MoreStmts, NoHandlers, NoStmts, StmtTree, StmtTrees, stmt_tree, stmt_trees, stmts_of}
+use Rattle.ada_tree.specs.StatementTree.{DeclarationTree, HandlerTrees, MoreStmts, NoHandlers, NoStmts, StmtTree, StmtTrees, stmt_tree, stmt_trees, stmts_of}
 use Rattle.image.specs.Sections.{Sections}
 use Rattle.image.specs.Operations.{given_by, jump_target, taken_by}
 use Rattle.image.specs.Rules.{has_depth, has_operands, is_return, names_things, none_or}
@@ -17,11 +17,12 @@ use Rattle.types.specs.Statics.{start_of}
 use Rattle.declaring.specs.LocalRules.{locals_faults, locals_scope}
 use Rattle.expr_rules.specs.declared.own.Wanted.{Wanted}
 use Rattle.expr_rules.specs.ExpressionRules.{faults_in, faults_of}
+use Rattle.expr_rules.specs.Faults.{Faults}
 use Rattle.expr_rules.specs.NameRules.{mismatch}
 use Rattle.expr_rules.specs.Typing.{own_of}
 use Rattle.expr_rules.proofs.TypedLaw.{back_empty, front_empty}
 use Rattle.stmt_rules.specs.SimpleRules.{condition_faults, exit_rule, optional_condition_faults}
-use Rattle.stmt_rules.specs.StatementRules.{stmt_faults, stmts_faults}
+use Rattle.stmt_rules.specs.StatementRules.{more_handlers_faults, stmt_faults, stmts_faults}
 use Rattle.meaning.specs.Programs.{Program}
 use Rattle.expr_code.specs.Views.{At}
 use Rattle.expr_code.specs.Code.{Adds, Extends, Holds, StandsFrom, here}
@@ -35,13 +36,14 @@ use Rattle.expr_code.specs.declared.visible.Visible.{Visible}
 use Rattle.expr_code.proofs.Flowing.{kept_one, kept_then, widened}
 use Rattle.expr_code.proofs.Growing.{added_at, added_extends, added_here, added_there, extends_self, extends_trans, holds_before, holds_later}
 use Rattle.stmt_code.specs.Handling.{Handling}
-use Rattle.stmt_code.specs.Bounds.{stmt_bound, stmts_bound, stmts_words}
+use Rattle.stmt_code.specs.Bounds.{handlers_words, sequence_bound, stmt_bound, stmts_bound, stmts_words}
+use Rattle.stmt_code.specs.Covering.{EmitsSequence}
 use Rattle.stmt_code.specs.Suiting.{SuitsStatements}
-use Rattle.stmt_code.specs.Emitting.{Allows, AreLegal, Emits, EmitsDeclarations, EmitsStatement, EmitsStatements, HasLabels, IsLegal, IsReached, Meant, Serves, seeing}
+use Rattle.stmt_code.specs.Emitting.{Allows, AreLegal, AreLegalHandlers, Emits, EmitsDeclarations, EmitsStatement, EmitsStatements, HasLabels, IsLegal, IsReached, Meant, Serves, seeing}
 use Rattle.stmt_code.specs.Resting.{Framed}
-use Rattle.stmt_code.specs.Statements.{AreStatements, IsStatement, Numbers, Ways}
+use Rattle.stmt_code.specs.Statements.{AreStatements, IsSequence, IsStatement, Numbers, Ways}
 use Rattle.stmt_code.specs.declared.draft.Draft.{Draft}
-use Rattle.stmt_code.proofs.Handling.{goes_within}
+use Rattle.stmt_code.proofs.RowsAdded.{KeepsRows, Surrounds, finds_later, goes_front, goes_kept, handled_first, handled_inside, handled_second, rows_around, rows_kept, rows_then}
 
 -- ---- lists
 
@@ -75,7 +77,11 @@ labels_then a b c p q = λ k x le is. q k x le (p k x le is)
 -- ---- drafts of which one has other code alone
 
 abbrev pub IsBeside : (old new : Draft) → Type 0
-IsBeside old new = (new.labels ≡ old.labels) × (new.words ≡ old.words)
+IsBeside old new = (new.labels ≡ old.labels) × (new.words ≡ old.words) × KeepsRows old new
+
+-- as many words are taken as before
+abbrev pub given_back : (old new : Draft) → Draft
+given_back old new = record new { words = record new.words { taken = old.words.taken } }
 
 pub labels_beside : (old new : Draft) → IsBeside old new → StandsFrom 0 old.labels new.labels
 labels_beside old new same = labels_stay old.labels new.labels same.0
@@ -145,10 +151,16 @@ module _ (v : Visible) where
       taken = refl;
       most = omega arith;
       sized = omega arith;
+      rows = rows_kept c c (refl, refl);
       stands = λ i h l program g numbers f names serves room handling goes. same i program g numbers f handling (here c.code);
       flows = λ i s low high down up h l suits deep wide ends ways.
           record { begins = ends; shallow = omega arith; each = λ k x le less there. absurd (omega (arith, le, less)) };
     }
+
+    pub null_emits : (c : Draft) (place : ℕ) → EmitsStatement v w c (statements.Null place) c
+    null_emits c place = none_emits (λ i program g numbers f handling from to. IsStatement i program g numbers f w handling from to (statements.Null place)) c
+        (stmt_bound v.scope (statements.Null place))
+        (λ i program g numbers f handling at. refl)
 
     pub emits_then : (P Q R : Meant) (a b c : Draft) (m n : ℕ)
         → ((i : Sections) (program : Program) (g : Package) (numbers : Numbers) (f : Framed) (handling : Handling) (from mid to : ℕ)
@@ -161,14 +173,15 @@ module _ (v : Visible) where
       taken = q.taken ∙ p.taken;
       most = omega (arith, p.most, q.most);
       sized = omega (arith, p.sized, q.sized);
+      rows = rows_then a b c p.rows q.rows p.extends.longer q.extends.longer (finds_later b.code c.code q.extends);
       stands = λ i h l program g numbers f names serves room handling goes.
           both i program g numbers f handling (here a.code) (here b.code) (here c.code) p.extends.longer q.extends.longer
           (p.stands i (holds_before i (here a.code) b.code c.code q.extends h) (labels_before i b.labels c.labels q.labels l) program g numbers f names serves
           (omega (arith, q.most, room)) handling
-          (goes_within i handling (here a.code) (here a.code) (here b.code) (here c.code) goes (omega arith) q.extends.longer))
+          (handled_first a b c p.rows q.rows p.extends.longer q.extends.longer (finds_later b.code c.code q.extends) i program handling goes))
           (q.stands i (holds_later i (here a.code) (here b.code) c.code p.extends.longer h) l program g numbers f names
           (subst (Serves program g numbers f) (sym p.taken) serves) room handling
-          (goes_within i handling (here a.code) (here b.code) (here c.code) (here c.code) goes p.extends.longer (omega arith)));
+          (handled_second a b c p.rows q.rows p.extends.longer q.extends.longer (finds_later b.code c.code q.extends) i program handling goes));
       flows = λ i s low high down up h l suits deep wide ends ways.
           let second = q.flows i s low high (omega (arith, down, p.extends.longer)) up (holds_later i (here a.code) (here b.code) c.code p.extends.longer h) l suits deep wide ends ways in
           let first = p.flows i s low high down (omega (arith, up, q.extends.longer)) (holds_before i (here a.code) b.code c.code q.extends h)
@@ -187,6 +200,7 @@ module _ (v : Visible) where
       taken = p.taken;
       most = p.most;
       sized = omega (arith, p.sized, more);
+      rows = p.rows;
       stands = λ i h l program g numbers f names serves room handling goes.
           means i program g numbers f handling (here a.code) (here c.code) (p.stands i h l program g numbers f names serves room handling goes);
       flows = p.flows;
@@ -195,7 +209,7 @@ module _ (v : Visible) where
     -- ---- jumps to the ways out
 
     jump_emits : (Is : Meant) (a c : Draft) (place size : ℕ) → 1 ≤ size
-        → ((i : Sections) (low high : ℕ) → Allows i low high w → IsReached i low high place)
+        → ((i : Sections) (s : Subprogram) (low high : ℕ) → Allows i s low high w → IsReached i low high place)
         → ((i : Sections) (program : Program) (g : Package) (numbers : Numbers) (f : Framed) (handling : Handling) (from : ℕ)
         → At i from (op.Jump place)
         → Is i program g numbers f handling from (suc from))
@@ -208,12 +222,14 @@ module _ (v : Visible) where
           taken = taken_beside a c same;
           most = (let m = most_beside a c same in omega (arith, m));
           sized = omega (arith, next, one);
+          rows = rows_kept a c same.2;
           stands = λ i h l program g numbers f names serves room handling goes.
               subst (λ n. Is i program g numbers f handling (here a.code) n) (sym next)
               (means i program g numbers f handling (here a.code) (added_at a.code c.code 0 (op.Jump place) q i (here a.code) (omega arith) h));
           flows = λ i s low high down up h l suits deep wide ends ways.
               subst (λ n. AreKept i s low high (here a.code) n 0) (sym next)
-              (jump_kept i s low high (here a.code) place (added_there a.code c.code 0 (op.Jump place) q i (here a.code) (omega arith) h) (reached i low high ways));
+              (jump_kept i s low high (here a.code) place (added_there a.code c.code 0 (op.Jump place) q i (here a.code) (omega arith) h)
+              (reached i s low high ways));
         }
 
     pub exit_emits : (a c : Draft) (at place : ℕ) → w.exit ≡ Some place → Adds a.code 0 (op.Jump place) c.code → IsBeside a c
@@ -221,14 +237,14 @@ module _ (v : Visible) where
     exit_emits a c at place way q same =
         jump_emits (λ i program g numbers f handling from to. IsStatement i program g numbers f w handling from to (statements.Exit at None)) a c place
         (stmt_bound v.scope (statements.Exit at None)) (omega arith)
-        (λ i low high ways. ways.exit place way) (λ i program g numbers f handling from there. (place, way, there, refl)) q same
+        (λ i s low high ways. ways.exit place way) (λ i program g numbers f handling from there. (place, way, there, refl)) q same
 
     pub return_emits : (a c : Draft) (at place : ℕ) → w.return ≡ Some place → Adds a.code 0 (op.Jump place) c.code → IsBeside a c
         → EmitsStatement v w a (statements.Return at None) c
     return_emits a c at place way q same =
         jump_emits (λ i program g numbers f handling from to. IsStatement i program g numbers f w handling from to (statements.Return at None)) a c place
         (stmt_bound v.scope (statements.Return at None)) (omega arith)
-        (λ i low high ways. ways.return place way) (λ i program g numbers f handling from there. (place, way, there, refl)) q same
+        (λ i s low high ways. ways.return place way) (λ i program g numbers f handling from there. (place, way, there, refl)) q same
 
     pub exit_when_emits : (a c : Draft) (m : Code) (at place : ℕ) (e : ExprTree) → w.exit ≡ Some place → EmitsExpression v a.code 0 1 e m
         → Adds m 1 (op.JumpIfNotZero place) c.code → IsBeside a c → EmitsStatement v w a (statements.Exit at (Some e)) c
@@ -242,6 +258,7 @@ module _ (v : Visible) where
           taken = taken_beside a c same;
           most = (let m = most_beside a c same in omega (arith, m));
           sized = omega (arith, next, p.sized);
+          rows = rows_kept a c same.2;
           stands = λ i h l program g numbers f names serves room handling goes. (
             (
               place,
@@ -253,7 +270,7 @@ module _ (v : Visible) where
               added_at m c.code 1 o q i (here a.code) p.extends.longer h,
               next,
             ),
-            goes,
+            goes_kept a c same.2 i program handling goes,
           );
           flows = λ i s low high down up h l suits deep wide ends ways.
               value_kept a.code m c.code o p.extends p.flows q i s low high down up h suits deep refl refl (omega arith) (omega arith) refl ends
@@ -299,36 +316,53 @@ module _ (v : Visible) where
         → EmitsStatements v w a (stmt_trees all) c
     all_statements a c all n up p = subst (λ l. EmitsStatements v w a (stmt_trees l) c) (take_all all n up) p
 
-    -- ---- blocks that handle nothing
-    pub block_emits : (a b c d : Draft) (later : Visible) (place : ℕ) (ds : List DeclarationTree) (body : StmtTrees) → EmitsDeclarations v a ds later b
-        → EmitsStatements later w b body c
-        → d ≡ record c { words = record c.words { taken = a.words.taken } }
-        → EmitsStatement v w a (statements.Block place ds body NoHandlers) d
-    block_emits a b c d later place ds body p q same = subst (EmitsStatement v w a (statements.Block place ds body NoHandlers)) (sym same) (record {
-      extends = extends_trans a.code b.code c.code p.extends q.extends;
-      labels = labels_then a.labels b.labels c.labels p.labels q.labels;
-      taken = refl;
-      most = omega (arith, p.most, q.most);
-      sized = (let k = ap (λ s. stmts_words s body) p.scope in omega (arith, p.sized, q.sized, k));
-      stands = λ i h l program g numbers f names serves room handling goes.
-          let declared = p.stands i (holds_before i (here a.code) b.code c.code q.extends h) (labels_before i b.labels c.labels q.labels l) program g numbers f names serves
-          (omega (arith, q.most, room)) in (
-            here b.code,
-            seeing f later,
-            p.extends.longer,
-            q.extends.longer,
-            declared.0,
-            q.stands i (holds_later i (here a.code) (here b.code) c.code p.extends.longer h) l program g numbers (seeing f later) refl declared.1 room handling
-                (goes_within i handling (here a.code) (here b.code) (here c.code) (here c.code) goes p.extends.longer (omega arith)),
-            goes_within i handling (here a.code) (here a.code) (here b.code) (here c.code) goes (omega arith) q.extends.longer,
-          );
-      flows = λ i s low high down up h l suits deep wide ends ways.
-          let second = q.flows i s low high (omega (arith, down, p.extends.longer)) up (holds_later i (here a.code) (here b.code) c.code p.extends.longer h) l
-          (p.suits i s suits (omega (arith, q.most, wide))) deep wide ends ways in
-          let first = p.flows i s low high down (omega (arith, up, q.extends.longer)) (holds_before i (here a.code) b.code c.code q.extends h) suits
-          (omega (arith, q.extends.deeper, deep)) (omega (arith, q.most, wide)) second.begins in
-          kept_then i s low high (here a.code) (here b.code) (here c.code) 0 0 first second;
-    })
+    -- ---- statements that nothing covers, and blocks
+    pub without_handlers : (a c : Draft) (body : StmtTrees) → EmitsStatements v w a body c → EmitsSequence v w a body NoHandlers c
+    without_handlers a c body p =
+        emits_as (λ i program g numbers f handling from to. AreStatements i program g numbers f w handling from to body)
+        (λ i program g numbers f handling from to. IsSequence i program g numbers f w handling from to body NoHandlers) a c (stmts_bound v.scope body)
+        (sequence_bound v.scope body NoHandlers) (λ i program g numbers f handling from to h. h) (omega arith) p
+
+    pub block_emits : (a b c d : Draft) (later : Visible) (place : ℕ) (ds : List DeclarationTree) (body : StmtTrees) (all : HandlerTrees)
+        → EmitsDeclarations v a ds later b
+        → EmitsSequence later w b body all c
+        → d ≡ given_back a c
+        → EmitsStatement v w a (statements.Block place ds body all) d
+    block_emits a b c d later place ds body all p q same =
+        let around : Surrounds a b c (given_back a c) = record {
+          begun = (p.rows, p.exceptions);
+          ended = (refl, refl);
+          up = p.extends.longer;
+          mid = q.extends.longer;
+          over = omega arith;
+          still = λ place h. h;
+        } in
+        subst (EmitsStatement v w a (statements.Block place ds body all)) (sym same) (record {
+          extends = extends_trans a.code b.code c.code p.extends q.extends;
+          labels = labels_then a.labels b.labels c.labels p.labels q.labels;
+          taken = refl;
+          most = omega (arith, p.most, q.most);
+          sized = (let k = ap (λ s. stmts_words s body) p.scope in let m = ap (λ s. handlers_words s all) p.scope in omega (arith, p.sized, q.sized, k, m));
+          rows = rows_around a b c (given_back a c) around q.rows;
+          stands = λ i h l program g numbers f names serves room handling goes.
+              let declared = p.stands i (holds_before i (here a.code) b.code c.code q.extends h) (labels_before i b.labels c.labels q.labels l) program g numbers f names serves
+              (omega (arith, q.most, room)) in (
+                here b.code,
+                seeing f later,
+                p.extends.longer,
+                q.extends.longer,
+                declared.0,
+                q.stands i (holds_later i (here a.code) (here b.code) c.code p.extends.longer h) l program g numbers (seeing f later) refl declared.1 room handling
+                    (handled_inside a b c (given_back a c) around q.rows i program handling goes),
+                goes_front a b c (given_back a c) around q.rows i program handling goes,
+              );
+          flows = λ i s low high down up h l suits deep wide ends ways.
+              let second = q.flows i s low high (omega (arith, down, p.extends.longer)) up (holds_later i (here a.code) (here b.code) c.code p.extends.longer h) l
+              (p.suits i s suits (omega (arith, q.most, wide))) deep wide ends ways in
+              let first = p.flows i s low high down (omega (arith, up, q.extends.longer)) (holds_before i (here a.code) b.code c.code q.extends h) suits
+              (omega (arith, q.extends.deeper, deep)) (omega (arith, q.most, wide)) second.begins in
+              kept_then i s low high (here a.code) (here b.code) (here c.code) 0 0 first second;
+        })
 
 -- ---- what is legal
 
@@ -343,15 +377,24 @@ pub exit_condition : (s : Scope) (place : ℕ) (x : Option ExprTree) (e : ExprTr
 exit_condition s place x e is h =
     back_empty (exit_rule h.around place) (condition_faults s e) (ap (λ y. exit_rule h.around place ++ optional_condition_faults s y) (sym is) ∙ h.unbroken)
 
-module _ (s : Scope) (place : ℕ) (ds : List DeclarationTree) (body : StmtTrees) (h : IsLegal s (statements.Block place ds body NoHandlers)) where
-  both : (locals_faults s ds ++ stmts_faults (locals_scope s ds) h.around body) ≡ []
-  both = front_empty (locals_faults s ds ++ stmts_faults (locals_scope s ds) h.around body) [] h.unbroken
+module _ (s : Scope) (place : ℕ) (ds : List DeclarationTree) (body : StmtTrees) (all : HandlerTrees) (h : IsLegal s (statements.Block place ds body all)) where
+  abbrev own_faults : Faults
+  own_faults = locals_faults s ds ++ stmts_faults (locals_scope s ds) h.around body
+
+  abbrev handler_faults : Faults
+  handler_faults = more_handlers_faults (locals_scope s ds) h.around [] all
+
+  both : own_faults ≡ []
+  both = front_empty own_faults handler_faults h.unbroken
 
   pub block_declarations : locals_faults s ds ≡ []
   block_declarations = front_empty (locals_faults s ds) (stmts_faults (locals_scope s ds) h.around body) both
 
   pub block_body : AreLegal (locals_scope s ds) body
   block_body = record { around = h.around; unbroken = back_empty (locals_faults s ds) (stmts_faults (locals_scope s ds) h.around body) both }
+
+  pub block_handlers : AreLegalHandlers (locals_scope s ds) all
+  block_handlers = record { around = h.around; before = []; unbroken = back_empty own_faults handler_faults h.unbroken }
 
 pub statement_legal : (s : Scope) (all : List Stmt) (n : ℕ) (x : Stmt) → n < length all → x ≡ get_or all n x → AreLegal s (stmt_trees all) → IsLegal s (stmt_tree x)
 statement_legal s all n x less is h = record { around = h.around; unbroken = at all n less is h.unbroken }

@@ -35,7 +35,7 @@ use Rattle.stmt_code.specs.declared.draft.Draft.{Draft}
 use Rattle.stmt_code.proofs.Adding.{IsBeside, jump_kept, labels_before, labels_beside, labels_then, mapped_next, most_beside, take_all, taken_beside}
 use Rattle.stmt_code.proofs.Opening.{added_is, alone, append_again, append_none, joined, none_before, none_behind, not_alone, open_then, same_self, shorter}
 use Rattle.stmt_code.proofs.Selecting.{Selects, selecting_inside}
-use Rattle.stmt_code.proofs.Handling.{goes_within}
+use Rattle.stmt_code.proofs.RowsAdded.{Surrounds, finds_later, finds_rejoined, goes_front, handled_inside, rows_around, rows_kept}
 
 module _ (v : Visible) (w : Ways) (e : ExprTree) where
   -- ---- choices, the statements for them, and a jump to the end; where no choice is the value, the jumps in the choices lead behind that
@@ -94,6 +94,16 @@ module _ (v : Visible) (w : Ways) (e : ExprTree) where
       at_close : slice_get i.instructions (here valued.code) ≡ Some (record { depth = 0; operation = op.Jump end })
       at_close = j.jumps (here valued.code) (ap (λ t. t || false) (same_self (here valued.code)))
 
+    alternative_around : Surrounds start chosen valued new
+    alternative_around = record {
+      begun = same.2;
+      ended = still.2;
+      up = first.extends.longer;
+      mid = second.extends.longer;
+      over = omega (arith, four, patch.long);
+      still = λ place h. finds_rejoined closed new.code next (here closed) patch place (finds_later valued.code closed closing place h);
+    }
+
     pub alternative_emits : EmitsOpen (AreSelected w e ((place, (choices, body)) ∷ [])) v w 1 start
         (alternatives_bound v.scope (alternatives_of ((place, (choices, body)) ∷ [])))
         (here valued.code ∷ []) new
@@ -103,6 +113,7 @@ module _ (v : Visible) (w : Ways) (e : ExprTree) where
       taken = taken_beside valued new still ∙ second.taken ∙ taken_beside start chosen same;
       most = (let m = most_beside start chosen same in let n = most_beside valued new still in omega (arith, m, second.most, n));
       sized = omega (arith, first.sized, second.sized, four, patch.long);
+      rows = rows_around start chosen valued new alternative_around second.rows;
       inside = λ k is. let at = alone (here valued.code) k is in
           (omega (arith, at, first.extends.longer, second.extends.longer), omega (arith, at, four, patch.long));
       waits = λ k is. ap (slice_get new.code.instructions.items) (alone (here valued.code) k is) ∙ close_there;
@@ -116,7 +127,7 @@ module _ (v : Visible) (w : Ways) (e : ExprTree) where
             (first.chooses i (here closed) (omega (arith, chosen_extends.longer)) (in_chosen i end up j) program g numbers f names),
         second.stands i (in_valued i end up j) (labels_before i valued.labels new.labels (labels_beside valued new still) l) program g numbers f names
             (subst (Serves program g numbers f) (sym (taken_beside start chosen same)) serves) (let m = most_beside valued new still in omega (arith, m, room)) handling
-            (goes_within i handling (here start.code) (here chosen.code) (here valued.code) (here new.code) goes first.extends.longer (omega (arith, four, patch.long))),
+            (handled_inside start chosen valued new alternative_around second.rows i program handling goes),
         (0, at_close i end up j),
         subst (λ n. AreAlternatives i program g numbers f w handling n end e rest) (patch.long ∙ four) code,
       );
@@ -183,6 +194,7 @@ module _ (v : Visible) (w : Ways) (e : ExprTree) where
       taken = refl;
       most = omega arith;
       sized = omega arith;
+      rows = rows_kept c c (refl, refl);
       inside = λ k is. absurd cc;
       waits = λ k is. absurd cc;
       stands = λ i end up j l program g numbers f names serves room handling goes rest code. code;
@@ -254,6 +266,16 @@ module _ (v : Visible) (w : Ways) (e : ExprTree) where
           (none_behind p.waiting (here selected.code) (here selected.code) (λ m g. (p.emits.inside m g).1) (omega arith))
           (added_is selected.code dropped.code 1 op.Drop drop)
 
+    case_around : Surrounds start valued selected dropped
+    case_around = record {
+      begun = same.2;
+      ended = kept.2;
+      up = first.extends.longer;
+      mid = p.emits.extends.longer;
+      over = dropping.longer;
+      still = finds_later selected.code dropped.code dropping;
+    }
+
     case_open : EmitsOpen Whole v w 0 start (stmt_bound v.scope (statements.Case place e (alternatives_of all))) p.waiting dropped
     case_open = record {
       extends = extends_trans start.code valued.code dropped.code first.extends valued_extends;
@@ -262,6 +284,7 @@ module _ (v : Visible) (w : Ways) (e : ExprTree) where
       taken = taken_beside selected dropped kept ∙ p.emits.taken ∙ taken_beside start valued same;
       most = (let m = most_beside start valued same in let n = most_beside selected dropped kept in omega (arith, m, p.emits.most, n));
       sized = omega (arith, first.sized, p.emits.sized, five);
+      rows = rows_around start valued selected dropped case_around p.emits.rows;
       inside = λ k h. let x = p.emits.inside k h in (omega (arith, x.0, first.extends.longer), omega (arith, x.1, five));
       waits = λ k h. dropping.instructions k _ (omega arith) (p.emits.waits k h);
       stands = λ i end up j l program g numbers f names serves room handling goes. (
@@ -273,9 +296,9 @@ module _ (v : Visible) (w : Ways) (e : ExprTree) where
             (p.emits.stands i end (omega (arith, dropping.longer, up)) (in_selected i end j)
             (labels_before i selected.labels dropped.labels (labels_beside selected dropped kept) l) program g numbers f names
             (subst (Serves program g numbers f) (sym (taken_beside start valued same)) serves) (let m = most_beside selected dropped kept in omega (arith, m, room)) handling
-            (goes_within i handling (here start.code) (here valued.code) (here selected.code) (here dropped.code) goes first.extends.longer dropping.longer)
+            (handled_inside start valued selected dropped case_around p.emits.rows i program handling goes)
             NoAlternatives tt),
-        goes_within i handling (here start.code) (here start.code) (here valued.code) (here dropped.code) goes (omega arith) valued_extends.longer,
+        goes_front start valued selected dropped case_around p.emits.rows i program handling goes,
       );
       flows = λ i s low high end down up over j l suits deep wide shallow ends next ways.
           let one : 1 ≤ s.stack = omega (arith, drop.within, deep) in

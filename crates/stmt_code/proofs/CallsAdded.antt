@@ -50,6 +50,7 @@ use Rattle.stmt_code.specs.Statements.{IsCalled, Numbers, Ways}
 use Rattle.stmt_code.specs.declared.draft.Draft.{Draft}
 use Rattle.stmt_code.proofs.Actuals.{computes_none}
 use Rattle.stmt_code.proofs.Adding.{IsBeside, labels_beside, most_beside, taken_beside}
+use Rattle.stmt_code.proofs.RowsAdded.{goes_kept, rows_kept}
 use Rattle.stmt_code.proofs.CodeOfCalls.{calls_procedure}
 use Rattle.stmt_code.proofs.PassingWell.{passes_none}
 
@@ -225,7 +226,9 @@ module _ (quiet : QuietStays) (v : Visible) (w : Ways) (a c : Draft) (m n : Code
     taken = taken_beside a c beside;
     most = (let most = most_beside a c beside in omega (arith, most));
     sized = (let size = size_is name.selectors (argument_trees all) written in let same = sizes_are all in omega (arith, p.sized, r.sized, next, size, same));
-    stands = λ i h l program g numbers f seen serves room handling goes. (calls i h program g numbers f seen serves, goes);
+    rows = rows_kept a c beside.2;
+    stands = λ i h l program g numbers f seen serves room handling goes.
+        (calls i h program g numbers f seen serves, goes_kept a c beside.2 i program handling goes);
     flows = λ i s low high down up h l suits deep wide ends ways.
         widened i s (here a.code) (here c.code) low high (here a.code) (here c.code) 0 down up (flows.flows i s h suits deep (omega arith) ends);
   }

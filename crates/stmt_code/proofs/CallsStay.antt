@@ -173,7 +173,7 @@ pub call_stays : (v : Visible) (old : Draft) (name : NameTree) (profile : Profil
     → line_behind name.selectors ≡ None → (a b c : Code) (height k : ℕ) → height ≡ 0 + total (passed_width v.scope) (take k profile.formals)
     → IsShallow old.code a (actuals_needs 0 v profile.formals trees).stack → IsShallow a b height
     → IsShallow b c (copies_needs v (destinations_of v profile.formals trees)).stack
-    → Stays old (invoked_needs v name profile) (stmt_labels old.labels (Call name)) (coded old c)
+    → Stays old (invoked_needs v name profile) (stmt_labels old.labels (Call name)) (length old.rows.items) (coded old c)
 call_stays v old name profile trees is none a b c height k high p q r =
     let fs = profile.formals in
     let numbered = beyond_if (is_none (subprogram_of v name.first.name)) in
@@ -190,7 +190,7 @@ call_stays v old name profile trees is none a b c height k high p q r =
     let code = stays_code old (coded old b) n old.labels c copies.stack three r
     (stays_code old (coded old a) n old.labels b height (omega (arith, high, few, two)) q
     (stays_code old old n old.labels a passing.stack one p (stays_self old n))) in
-    record { labels = sym (ap (with_line old.labels) none); stack = code.stack; frame = code.frame }
+    record { labels = sym (ap (with_line old.labels) none); rows = code.rows; stack = code.stack; frame = code.frame }
   where
     some_words : (k : ℕ) (l : List FormalParameter) → total (passed_width v.scope) (take k l) ≤ total (passed_width v.scope) l
     some_words zero l = omega arith

@@ -57,6 +57,7 @@ use Rattle.stmt_code.specs.Statements.{AreDeclared, IsDeclared, Numbers}
 use Rattle.stmt_code.specs.Suiting.{SuitsStatements}
 use Rattle.stmt_code.specs.declared.draft.Draft.{Draft}
 use Rattle.stmt_code.specs.declared.draft.FrameWords.{FrameWords}
+use Rattle.stmt_code.proofs.RowsAdded.{KeepsRows}
 use Rattle.stmt_code.proofs.Adding.{labels_before, labels_stay, labels_then, mapped_next, take_all, value_extends, value_kept}
 use Rattle.stmt_code.proofs.Declaring.{IsTypedAs, declares_block, declares_initial, declares_initial_words, declares_value}
 use Rattle.stmt_code.proofs.Initials.{are_pushed, form_there, initial_word, pushed_extends, pushed_flows, pushed_here, shape_there}
@@ -87,7 +88,7 @@ module _ (kept : AgreementIsKept) (sized : ValuesHaveWords) (calls : CallsAreTyp
     (scopes : ScopesAreSound) where
   module _ (v later : Visible) (a c : Draft) (d : ObjectTree) (t : Subtype) (first : ℕ) (sound : SoundScope v.scope) (entries : HasEntries v)
       (legal : local_object_faults v.scope d ≡ []) (named : subtype_of v.scope d.subtype ≡ Some t) (stored : EmitsObject v a.code first t d.value c.code)
-      (takes : Takes a.words (words_of v.scope t) c.words) (first_is : first ≡ a.words.taken) (same : c.labels ≡ a.labels)
+      (takes : Takes a.words (words_of v.scope t) c.words) (first_is : first ≡ a.words.taken) (same : c.labels ≡ a.labels) (same_rows : KeepsRows a c)
       (scope : later.scope ≡ local_object_scope v.scope d)
       (slots : later.slots ≡ v.slots ++ Some (record { region = regions.Locals; offset = first }) ∷ [])
       (subprograms : later.subprograms ≡ v.subprograms ++ None ∷ []) where
@@ -406,6 +407,8 @@ module _ (kept : AgreementIsKept) (sized : ValuesHaveWords) (calls : CallsAreTyp
       labels = labels_stay a.labels c.labels same;
       most = takes.grows;
       sized = (let n = this.few in let k = ap (words_if_any v.scope) named in omega (arith, n, k));
+      rows = same_rows.0;
+      exceptions = same_rows.1;
       scope = scope;
       slots = slots_first stay v later d.name.name r t slot sound entries hidden scope_is slots subprograms;
       subprograms = subprograms_first stay v later d.name.name r t slot sound entries hidden scope_is slots subprograms;
@@ -470,6 +473,8 @@ no_declarations v a sound entries = record {
   labels = λ k x le h. h;
   most = omega arith;
   sized = omega arith;
+  rows = refl;
+  exceptions = refl;
   scope = refl;
   slots = all_taken v.slots;
   subprograms = all_taken v.subprograms;
@@ -494,6 +499,8 @@ declarations_then v behind later a b c ds es p q = record {
   labels = labels_then a.labels b.labels c.labels p.labels q.labels;
   most = omega (arith, p.most, q.most);
   sized = (let n = bounds v.scope ds es in let k = ap (λ s. locals_words s es) p.scope in omega (arith, p.sized, q.sized, n, k));
+  rows = q.rows ∙ p.rows;
+  exceptions = q.exceptions ∙ p.exceptions;
   scope = q.scope ∙ ap (λ s. locals_scope s es) p.scope ∙ sym (locals_again v.scope ds es);
   slots = taken_again v.slots behind.slots later.slots p.slots q.slots;
   subprograms = taken_again v.subprograms behind.subprograms later.subprograms p.subprograms q.subprograms;

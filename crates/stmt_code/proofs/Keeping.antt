@@ -1,5 +1,5 @@
 -- The code of whole subprograms keeps the rules of images: of procedures, functions and main.
-use Rattle.std.proofs.Common.{◌≡◌, ℕ, zero, suc, ◌<◌, ◌≤◌, List, [], ◌∷◌, ◌++◌, length, map, None, Some, Option, sym, ap, ◌∙◌, subst, arith}
+use Rattle.std.proofs.Common.{◌≡◌, ℕ, zero, suc, ◌<◌, ◌≤◌, List, [], ◌∷◌, ◌++◌, length, map, None, Some, Option, refl, sym, ap, ◌∙◌, subst, arith}
 use Rattle.std.specs.Prelude.{drop, slice_get, ⊤}
 use Rattle.std.specs.List.{All}
 use Rattle.std.proofs.lemmas.List.{take-append-drop}
@@ -44,6 +44,7 @@ use Rattle.stmt_code.specs.declared.formals.PlacedFormals.{PlacedFormals}
 use Rattle.stmt_code.specs.declared.subprogram.SubprogramWords.{SubprogramWords}
 use Rattle.stmt_code.proofs.Adding.{labels_stay}
 use Rattle.stmt_code.proofs.FormalFlows.{return_kept}
+use Rattle.stmt_code.proofs.RowsAdded.{Surrounds, finds_later, rows_around, rows_kept}
 use Rattle.stmt_code.proofs.Suiting.{suits_behind, words_behind}
 
 -- ---- the words of formal parameters are within the frame
@@ -163,8 +164,8 @@ module _ (stay : ShapesStay) (added : NamesAreAdded) (v later : Visible) (fs : L
 
 -- ---- procedures
 
-nowhere : (i : Sections) (low high : ℕ) → Allows i low high no_ways
-nowhere i low high = record { exit = λ place is. absurd cc; return = λ place is. absurd cc }
+nowhere : (i : Sections) (s : Subprogram) (low high : ℕ) → Allows i s low high no_ways
+nowhere i s low high = record { exit = λ place is. absurd cc; return = λ place is. absurd cc; handled = λ word is. absurd cc }
 
 module _ (stay : ShapesStay) (added : NamesAreAdded) (v : Visible) (old : Draft) (fs : List Formal) (b : BodyTree) (words : SubprogramWords) (new : Draft)
     (sound : SoundScope v.scope) (entries : HasEntries v) (few : here new.code ≤ INSTRUCTIONS) (adds : AddsProcedure v old fs b words new) where
@@ -207,7 +208,7 @@ module _ (stay : ShapesStay) (added : NamesAreAdded) (v : Visible) (old : Draft)
         adds.runs.flows i s start back first_up adds.returns.up in_run (subst (HasLabels i) adds.labels labels)
         (suits_body stay added v adds.later fs adds.framed adds.placed sound entries adds.places i s wide suits)
         (let d = adds.returns.extends.deeper in omega (arith, d, deep)) (let l = has.locals in let m = adds.locals in omega (arith, l, m)) given.begins
-        (nowhere i start back)
+        (nowhere i s start back)
 
     first_kept : AreKept i s start (here adds.initial) start (here adds.initial) 0
     first_kept =
@@ -222,11 +223,25 @@ module _ (stay : ShapesStay) (added : NamesAreAdded) (v : Visible) (old : Draft)
         (kept_then i s start back (here adds.initial) (here adds.run.code) (here new.code) 0 0 run_kept
         (widened i s (here adds.run.code) back start back (here adds.run.code) (here new.code) 0 (omega (arith, first_up, run_up)) (omega arith) given))
 
+  abbrev begun : Draft
+  begun = record old { code = adds.initial; words = adds.framed }
+
+  around : Surrounds old begun adds.run new
+  around = record {
+    begun = (refl, refl);
+    ended = (adds.rows, adds.exceptions);
+    up = first_up;
+    mid = run_up;
+    over = adds.returns.extends.longer;
+    still = finds_later adds.run.code new.code adds.returns.extends;
+  }
+
   pub procedure_keeps : KeepsRules v old words new
   procedure_keeps = record {
     extends = extends_trans (fresh old.code) adds.initial new.code adds.initialises.extends
         (extends_trans adds.initial adds.run.code new.code adds.runs.extends adds.returns.extends);
     labels = subst (StandsFrom 0 old.labels) (sym adds.labels) adds.runs.labels;
+    rows = rows_around old begun adds.run new around adds.runs.rows;
     passed = (let p = adds.passed in
         let w = passed_within stay added v adds.later fs adds.framed adds.placed sound entries adds.places words.locals wide_run in
         omega (arith, p, w));
@@ -272,6 +287,7 @@ module _ (stay : ShapesStay) (added : NamesAreAdded) (v : Visible) (old : Draft)
   function_keeps = record {
     extends = extends_trans (fresh old.code) adds.valued new.code adds.emits.extends (added_extends adds.valued new.code 1 op.Return adds.returns);
     labels = labels_stay old.labels new.labels adds.labels;
+    rows = rows_kept old new (adds.rows, adds.exceptions);
     passed = (let p = adds.passed in
         let w = passed_within stay added v adds.later fs adds.framed adds.placed sound entries adds.places words.locals wide_value in
         omega (arith, p, w));
@@ -327,6 +343,7 @@ module _ (v : Visible) (old : Draft) (all : List MainStatement) (words : Subprog
   main_keeps = record {
     extends = extends_trans (fresh old.code) adds.called new.code adds.calls.extends (added_extends adds.called new.code 0 op.Return adds.returns);
     labels = labels_stay old.labels new.labels adds.labels;
+    rows = rows_kept old new (adds.rows, adds.exceptions);
     passed = (let p = adds.passed in omega (arith, p));
     few = few;
     fits = adds.fits;

@@ -8,10 +8,11 @@ use Rattle.indexmap.specs.IndexSet.{insert_key}
 use Rattle.indexmap.proofs.MapLemmas.{some_index}
 use Rattle.ada_tree.specs.declared.statement.Alternative.{Alternative}
 use Rattle.ada_tree.specs.declared.statement.ElsifPart.{ElsifPart}
+use Rattle.ada_tree.specs.declared.statement.Handler.{Handler}
 use Rattle.ada_tree.specs.declared.statement.Stmt.{Stmt}
-use Rattle.ada_tree.specs.StatementTree.{AlternativeTrees, Block, Call, Case, ElsifTrees, If, Loop, MoreAlternatives, MoreElsifs, MoreStmts, NoAlternatives, NoElsifs, NoStmts, StmtTree, StmtTrees, alternative_tree, alternative_trees, alternatives_of, elsif_tree, elsif_trees, elsifs_of, stmt_tree, stmt_trees}
+use Rattle.ada_tree.specs.StatementTree.{AlternativeTrees, Block, Call, Case, ElsifTrees, HandlerTrees, If, Loop, MoreAlternatives, MoreElsifs, MoreHandlers, MoreStmts, NoAlternatives, NoElsifs, NoHandlers, NoStmts, StmtTree, StmtTrees, alternative_tree, alternative_trees, alternatives_of, elsif_tree, elsif_trees, elsifs_of, handler_tree, handler_trees, handlers_of, stmt_tree, stmt_trees}
 use Rattle.expr_code.specs.Code.{StandsFrom}
-use Rattle.stmt_code.specs.Labels.{alternatives_labels, elsifs_labels, is_label, stmt_labels, stmts_labels, with_label, with_line}
+use Rattle.stmt_code.specs.Labels.{alternatives_labels, elsifs_labels, handlers_labels, is_label, stmt_labels, stmts_labels, with_label, with_line}
 use Rattle.stmt_code.specs.Lines.{Line, line_of}
 
 abbrev Labels : Type 0
@@ -84,7 +85,8 @@ mutual
       omega (arith, one, two, three)
   stmt_longer l (Case place value all) = alternatives_longer l all
   stmt_longer l (Loop place iteration body) = stmts_longer l body
-  stmt_longer l (Block place locals body all) = stmts_longer l body
+  stmt_longer l (Block place locals body all) =
+      (let one = stmts_longer l body in let two = handlers_longer (stmts_labels l body) all in omega (arith, one, two))
   stmt_longer l simple = omega arith
 
   pub stmts_longer : (l : Labels) (body : StmtTrees) → length l ≤ length (stmts_labels l body)
@@ -100,6 +102,11 @@ mutual
   alternatives_longer l NoAlternatives = omega arith
   alternatives_longer l (MoreAlternatives place choices body rest) =
       (let one = stmts_longer l body in let two = alternatives_longer (stmts_labels l body) rest in omega (arith, one, two))
+
+  pub handlers_longer : (l : Labels) (all : HandlerTrees) → length l ≤ length (handlers_labels l all)
+  handlers_longer l NoHandlers = omega arith
+  handlers_longer l (MoreHandlers choices body rest) =
+      (let one = stmts_longer l body in let two = handlers_longer (stmts_labels l body) rest in omega (arith, one, two))
 
 -- ---- one by one
 
@@ -168,3 +175,27 @@ alternatives_few l (y ∷ ys) zero x less is =
     let rest = alternatives_longer (stmts_labels l (alternative_tree y).1.1) (alternative_trees ys) in
     omega (arith, same, rest)
 alternatives_few l (y ∷ ys) (suc n) x less is = alternatives_few (stmts_labels l (alternative_tree y).1.1) ys n x (omega (arith, less)) is
+
+pub handlers_next : (l : Labels) (all : List Handler) (n : ℕ) (x : Handler) → n < length all → x ≡ get_or all n x
+    → handlers_labels l (handler_trees (take (n + 1) all)) ≡ handlers_labels (handlers_labels l (handler_trees (take n all)))
+    (handlers_of (handler_tree x ∷ []))
+handlers_next l all n x less is =
+    let next : n + 1 ≡ suc n = omega arith in
+    ap (λ k. handlers_labels l (handler_trees (take k all))) next ∙ each l all n less is
+  where
+    each : (m : Labels) (xs : List Handler) (k : ℕ) → k < length xs → x ≡ get_or xs k x
+        → handlers_labels m (handler_trees (take (suc k) xs)) ≡ handlers_labels (handlers_labels m (handler_trees (take k xs)))
+        (handlers_of (handler_tree x ∷ []))
+    each m [] k up same = absurd (omega (arith, up))
+    each m (y ∷ ys) zero up same = ap (λ z. handlers_labels m (handlers_of (handler_tree z ∷ []))) (sym same)
+    each m (y ∷ ys) (suc k) up same = each (stmts_labels m (handler_tree y).1) ys k (omega (arith, up)) same
+
+pub handlers_few : (l : Labels) (all : List Handler) (n : ℕ) (x : Handler) → n < length all → x ≡ get_or all n x
+    → length (handlers_labels (handlers_labels l (handler_trees (take n all))) (handlers_of (handler_tree x ∷ [])))
+    ≤ length (handlers_labels l (handler_trees all))
+handlers_few l [] n x less is = absurd (omega (arith, less))
+handlers_few l (y ∷ ys) zero x less is =
+    let same = ap (λ z. length (handlers_labels l (handlers_of (handler_tree z ∷ [])))) is in
+    let rest = handlers_longer (stmts_labels l (handler_tree y).1) (handler_trees ys) in
+    omega (arith, same, rest)
+handlers_few l (y ∷ ys) (suc n) x less is = handlers_few (stmts_labels l (handler_tree y).1) ys n x (omega (arith, less)) is

@@ -60,7 +60,7 @@ return_stays v w old place a p = stays_code old old (beyond_if (not (is_some w.r
 
 pub line_stays : (v : Visible) (old : Draft) (name : NameTree) (line : Line) (a b : Code) (labels : List (List ℕ)) → line_of name ≡ Some line
     → IsShallow old.code a (0 + peak v.scope line.value) → IsShallow a b 1 → labels ≡ with_label old.labels line.label
-    → Stays old (put_needs v name) (stmt_labels old.labels (Call name)) (record { code = b; labels = labels; words = old.words })
+    → Stays old (put_needs v name) (stmt_labels old.labels (Call name)) (length old.rows.items) (record old { code = b; labels = labels })
 line_stays v old name line a b labels is p q told =
     let test = beyond_if (not (is_put (entity_named v.scope name.first.name))) in
     let n = put_needs v name in
@@ -70,7 +70,7 @@ line_stays v old name line a b labels is p q told =
     let some = peak_some v.scope line.value in
     let code = stays_code old (coded old a) n old.labels b 1 (omega (arith, some, high)) q
     (stays_code old old n old.labels a (0 + peak v.scope line.value) (omega (arith, high)) p (stays_self old n)) in
-    record { labels = told ∙ sym (ap (with_line old.labels) is); stack = code.stack; frame = code.frame }
+    record { labels = told ∙ sym (ap (with_line old.labels) is); rows = code.rows; stack = code.stack; frame = code.frame }
 
 -- ---- assignments
 
@@ -100,13 +100,15 @@ module _ (v : Visible) (old : Draft) (name : NameTree) (e : ExprTree) (r : Role)
       most : (a c : ℕ) → a ≡ words_of v.scope last → h ≤ suc (max a c)
       most a c same = omega (arith, up, same)
 
-  pub word_stays : (a b : Code) → IsShallow old.code a (0 + checked_peak (peak v.scope e)) → IsShallow a b 1 → Stays old needs old.labels (coded old b)
+  pub word_stays : (a b : Code) → IsShallow old.code a (0 + checked_peak (peak v.scope e)) → IsShallow a b 1
+      → Stays old needs old.labels (length old.rows.items) (coded old b)
   word_stays a b p q =
       stays_code old (coded old a) needs old.labels b 1 (store_high 1 (omega arith)) q
       (stays_code old old needs old.labels a (0 + checked_peak (peak v.scope e)) (value_high 0 (omega arith)) p (stays_self old needs))
 
   pub part_stays : (a b c : Code) (h : ℕ) → IsShallow old.code a (0 + selectors_peak v.scope 1 name.selectors)
-      → IsShallow a b (1 + checked_peak (peak v.scope e)) → h ≤ suc (words_of v.scope last) → IsShallow b c h → Stays old needs old.labels (coded old c)
+      → IsShallow a b (1 + checked_peak (peak v.scope e)) → h ≤ suc (words_of v.scope last) → IsShallow b c h
+      → Stays old needs old.labels (length old.rows.items) (coded old c)
   part_stays a b c h p q high s =
       let target = address_needs 0 v name.first name.selectors in
       let low = le-max_left target.stack (assigned_needs v (standing_of v.scope name.first name.selectors) e).stack in
@@ -177,29 +179,30 @@ module _ (v : Visible) (t : Subtype) where
 
 pub object_stays : (v : Visible) (old : Draft) (d : ObjectTree) (t : Subtype) (told : ℕ) (a : Code) (words : FrameWords) → subtype_of v.scope d.subtype ≡ Some t
     → told ≡ capped (words_of v.scope t) → words.most ≡ max old.words.most (old.words.taken + told) → IsShallow old.code a (initial_needs v t d.value).stack
-    → StaysDeclarations v old (LocalObject d ∷ []) (record { code = a; labels = old.labels; words = words })
+    → StaysDeclarations v old (LocalObject d ∷ []) (record old { code = a; words = words })
 object_stays v old d t told a words named is most p =
     let own = initial_needs v t d.value in
     let frame = framed (old.words.taken + words_of v.scope t) in
     let one = both frame own in
     let n = both one nothing in
-    let stays = stays_code old (record { code = old.code; labels = old.labels; words = words }) n old.labels a own.stack
+    let stays = stays_code old (record old { words = words }) n old.labels a own.stack
     (let x = (in_right frame own).stack in let y = (in_left one nothing).stack in omega (arith, x, y)) p
     (stays_taken old old n old.labels words (old.words.taken + told) most
     (let x = (in_left frame own).frame in let y = (in_left one nothing).frame in omega (arith, is, x, y)) (stays_self old n)) in
-    subst (λ o. Stays old (both (object_needs v old.words.taken o d.value) nothing) old.labels
-    (record { code = a; labels = old.labels; words = words })) (sym named) stays
+    subst (λ o. Stays old (both (object_needs v old.words.taken o d.value) nothing) old.labels (length old.rows.items)
+    (record old { code = a; words = words })) (sym named) stays
 
 pub locals_stay : (v later : Visible) (old mid new : Draft) (all : List Declaration) (n : ℕ) (x : Declaration) → n < length all → x ≡ get_or all n x
     → later ≡ locals_visible v old.words.taken (map declaration_tree (take n all))
     → mid.words.taken ≡ old.words.taken + locals_words v.scope (map declaration_tree (take n all))
-    → Stays old (locals_needs v old.words.taken (map declaration_tree all)) old.labels mid → StaysDeclarations later mid (declaration_tree x ∷ []) new
-    → Stays old (locals_needs v old.words.taken (map declaration_tree all)) old.labels new
+    → Stays old (locals_needs v old.words.taken (map declaration_tree all)) old.labels (length old.rows.items) mid
+    → StaysDeclarations later mid (declaration_tree x ∷ []) new
+    → Stays old (locals_needs v old.words.taken (map declaration_tree all)) old.labels (length old.rows.items) new
 locals_stay v later old mid new all n x less is seen same p q =
     let whole = locals_needs v old.words.taken (map declaration_tree all) in
     let among = (locals_among v old.words.taken all n x less is).1 in
     let inner = subst (λ y. Within
     (locals_needs y (old.words.taken + locals_words v.scope (map declaration_tree (take n all))) (declaration_tree x ∷ [])) whole)
     (sym seen) among in
-    stays_then old mid new whole (locals_needs later mid.words.taken (declaration_tree x ∷ [])) old.labels (λ l. l)
+    stays_then old mid new whole (locals_needs later mid.words.taken (declaration_tree x ∷ [])) old.labels (λ l. l) (λ r. r)
     (subst (λ k. Within (locals_needs later k (declaration_tree x ∷ [])) whole) (sym same) inner) p q

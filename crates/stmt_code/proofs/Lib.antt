@@ -5,7 +5,9 @@ mod Catching
 mod Raising
 mod Sequences
 mod ExceptionWords
-mod AddedRows
+pub mod AddedRows
+pub mod RowsAdded
+mod RowsCounted
 mod Holding
 mod Scenes
 mod Turning
@@ -48,7 +50,7 @@ mod FormalFlows
 pub mod FormalWords
 mod Keeping
 mod Called
-mod Whole
+pub mod Whole
 mod PartValues
 mod StoringParts
 mod Pointing
@@ -94,3 +96,11 @@ mod WholeRefused
 mod GivenStays
 mod CallsStay
 mod MovesRefused
+mod RaisesAdded
+mod RaisesRefused
+mod ChoiceRows
+mod CoveredRows
+mod HandlersAdded
+mod HandlersCovered
+mod HandlersRefused
+mod HandlersStay

@@ -54,6 +54,7 @@ use Rattle.stmt_code.specs.Resting.{Framed}
 use Rattle.stmt_code.specs.Statements.{IsAssigned, Numbers, Ways}
 use Rattle.stmt_code.specs.declared.draft.Draft.{Draft}
 use Rattle.stmt_code.specs.declared.moving.Source.{Source}
+use Rattle.stmt_code.proofs.RowsAdded.{goes_kept, rows_kept}
 use Rattle.stmt_code.proofs.Adding.{IsBeside, labels_beside, most_beside, taken_beside}
 use Rattle.stmt_code.proofs.Declaring.{IsTypedAs}
 use Rattle.stmt_code.proofs.MovingParts.{assigns_moved}
@@ -242,9 +243,10 @@ module _ (kept : AgreementIsKept) (sized : ValuesHaveWords) (places : PartsHaveP
     taken = taken_beside a c same;
     most = (let k = most_beside a c same in omega (arith, k));
     sized = (let small = (inside e moved is).size in omega (arith, p.sized, q.sized, next, small));
+    rows = rows_kept a c same.2;
     stands = λ i h l program g numbers f names serves room handling goes. (
       subst (λ k. IsAssigned i program g numbers f (here a.code) k name e) (sym next) (moved_there i h program g numbers f names serves.laid),
-      goes,
+      goes_kept a c same.2 i program handling goes,
     );
     flows = λ i s low high down up h l suits deep wide ends ways.
         widened i s (here a.code) (here c.code) low high (here a.code) (here c.code) 0 down up (whole_flows.flows i s h suits.names deep (omega arith) ends);

@@ -1,5 +1,5 @@
 -- What is moved by an assignment, and what refuses its code: of both addresses, and of what moves the words.
-use Rattle.std.proofs.Common.{◌≡◌, ◌≤◌, ◌+◌, ◌*◌, ◌⊎◌, inl, inr, ⊎_elim, ℕ, List, Bool, true, false, ◌&&◌, cond, Option, Some, None, refl, ap, ◌∙◌, subst, arith}
+use Rattle.std.proofs.Common.{◌≡◌, ◌≤◌, ◌+◌, ◌*◌, ◌⊎◌, inl, inr, ⊎_elim, ℕ, List, length, Bool, true, false, ◌&&◌, cond, Option, Some, None, refl, ap, ◌∙◌, subst, arith}
 use Rattle.std.specs.Prelude.{max}
 use Rattle.ada_tree.specs.ExpressionTree.{ExprTree, NameTree}
 use Rattle.ada_tree.specs.StatementTree.{Assignment}
@@ -190,7 +190,7 @@ module _ (v : Visible) (name moved : NameTree) (e : ExprTree) (is : name_inside 
 module _ (v : Visible) (name moved : NameTree) (old : Draft) where
   pub moved_stays : (a b c : Code) → IsShallow old.code a (0 + selectors_peak v.scope 1 name.selectors)
       → IsShallow a b (1 + selectors_peak v.scope 1 moved.selectors) → IsShallow b c 2
-      → Stays old (moved_needs v name moved) old.labels (coded old c)
+      → Stays old (moved_needs v name moved) old.labels (length old.rows.items) (coded old c)
   moved_stays a b c p q r =
       let needs = moved_needs v name moved in
       let k = selectors_some v.scope 1 moved.selectors in

@@ -35,6 +35,7 @@ use Rattle.stmt_code.specs.Statements.{AreStatements, IsOtherwise, IsStatement, 
 use Rattle.stmt_code.specs.declared.draft.Draft.{Draft}
 use Rattle.stmt_code.proofs.Adding.{IsBeside, emits_as, jump_kept, labels_before, labels_beside, labels_then, mapped_next, most_beside, same_place, take_all, taken_beside}
 use Rattle.stmt_code.proofs.Handling.{goes_within}
+use Rattle.stmt_code.proofs.RowsAdded.{Surrounds, finds_later, finds_patched, finds_rejoined, goes_front, handled_first, handled_inside, handled_second, rows_around, rows_kept, rows_then}
 
 -- ---- lists
 
@@ -61,7 +62,7 @@ pub append_none : {X : Type 0} (xs : List X) → xs ++ [] ≡ xs
 append_none [] = refl
 append_none (x ∷ xs) = ap (λ l. x ∷ l) (append_none xs)
 
-among_both : (a b : List ℕ) (k : ℕ) → is_among (a ++ b) k ≡ (is_among a k || is_among b k)
+pub among_both : (a b : List ℕ) (k : ℕ) → is_among (a ++ b) k ≡ (is_among a k || is_among b k)
 among_both [] b k = refl
 among_both (n ∷ a) b k = ap (λ t. nat_eq n k || t) (among_both a b k) ∙ again (nat_eq n k) (is_among a k) (is_among b k)
   where
@@ -69,7 +70,7 @@ among_both (n ∷ a) b k = ap (λ t. nat_eq n k || t) (among_both a b k) ∙ aga
     again true y z = refl
     again false y z = refl
 
-one_of : (a b : Bool) → (a || b) ≡ true → (a ≡ true) ⊎ (b ≡ true)
+pub one_of : (a b : Bool) → (a || b) ≡ true → (a ≡ true) ⊎ (b ≡ true)
 one_of true b e = inl refl
 one_of false b e = inr e
 
@@ -124,6 +125,7 @@ module _ (v : Visible) (w : Ways) where
     taken = p.taken;
     most = p.most;
     sized = p.sized;
+    rows = p.rows;
     inside = λ k is. absurd cc;
     waits = λ k is. absurd cc;
     stands = λ i end up j l program g numbers f names serves room handling goes.
@@ -166,15 +168,16 @@ module _ (v : Visible) (w : Ways) where
       taken = q.taken ∙ p.taken;
       most = omega (arith, p.most, q.most);
       sized = omega (arith, p.sized, q.sized);
+      rows = rows_then a b c p.rows q.rows p.extends.longer q.extends.longer (finds_later b.code c.code q.extends);
       inside = λ k is. within k (one_of (is_among first k) (is_among second k) (sym (among_both first second k) ∙ is));
       waits = λ k is. waiting k (one_of (is_among first k) (is_among second k) (sym (among_both first second k) ∙ is));
       stands = λ i end up j l program g numbers f names serves room handling goes.
           both i program g numbers f handling end (here a.code) (here b.code) (here c.code) p.extends.longer q.extends.longer up
           (p.stands i end (omega (arith, q.extends.longer, up)) (joins_before i end j) (labels_before i b.labels c.labels q.labels l) program g numbers f names serves
           (omega (arith, q.most, room)) handling
-          (goes_within i handling (here a.code) (here a.code) (here b.code) (here c.code) goes (omega arith) q.extends.longer))
+          (handled_first a b c p.rows q.rows p.extends.longer q.extends.longer (finds_later b.code c.code q.extends) i program handling goes))
           (q.stands i end up (joins_behind i end j) l program g numbers f names (subst (Serves program g numbers f) (sym p.taken) serves) room handling
-          (goes_within i handling (here a.code) (here b.code) (here c.code) (here c.code) goes p.extends.longer (omega arith)));
+          (handled_second a b c p.rows q.rows p.extends.longer q.extends.longer (finds_later b.code c.code q.extends) i program handling goes));
       flows = λ i s low high end down up over j l suits deep wide shallow ends next ways.
           let more = q.flows i s low high end (omega (arith, down, p.extends.longer)) up over (joins_behind i end j) l suits deep wide shallow ends next ways in
           let most = p.flows i s low high end down (omega (arith, q.extends.longer, up)) over (joins_before i end j) (labels_before i b.labels c.labels q.labels l)
@@ -210,6 +213,16 @@ module _ (v : Visible) (w : Ways) where
       deeper = omega (arith, p.extends.deeper, ap (λ n. n) r.deepest);
     }
 
+    rejoined : Surrounds a a c d
+    rejoined = record {
+      begun = (refl, refl);
+      ended = same.2;
+      up = omega arith;
+      mid = p.extends.longer;
+      over = omega (arith, r.long);
+      still = finds_rejoined c.code d.code waiting (here c.code) r;
+    }
+
     pub joined : Emits R v w a size d
     joined = record {
       extends = joined_extends;
@@ -217,12 +230,13 @@ module _ (v : Visible) (w : Ways) where
       taken = taken_beside c d same ∙ p.taken;
       most = (let m = most_beside c d same in omega (arith, m, p.most));
       sized = omega (arith, p.sized, r.long);
+      rows = rows_around a a c d rejoined p.rows;
       stands = λ i h l program g numbers f names serves room handling goes.
           subst (λ n. R i program g numbers f handling (here a.code) n) (sym r.long)
           (means i program g numbers f handling (here a.code) (here c.code)
           (p.stands i (here c.code) (omega arith) (joins i h) (labels_before i c.labels d.labels (labels_beside c d same) l) program g numbers f names serves
           (let m = most_beside c d same in omega (arith, m, room)) handling
-          (goes_within i handling (here a.code) (here a.code) (here c.code) (here d.code) goes (omega arith) (omega (arith, r.long)))));
+          (handled_inside a a c d rejoined p.rows i program handling goes)));
       flows = λ i s low high down up h l suits deep wide ends ways.
           let empty = ap (λ n. has_depth i n 0) (sym r.long) ∙ ends in
           subst (λ n. AreKept i s low high (here a.code) n 0) (sym r.long)
@@ -291,6 +305,16 @@ module _ (v : Visible) (w : Ways) where
       up_is : n ≤ end
       up_is = omega (arith, up, end_is)
 
+    around : Surrounds start jumped valued new
+    around = record {
+      begun = same.2;
+      ended = still.2;
+      up = omega (arith, two, first.extends.longer);
+      mid = second.extends.longer;
+      over = omega (arith, four, end_is);
+      still = λ place h. finds_patched closed new.code (here tested) (op.JumpIfZero n) patch place (finds_later valued.code closed closing place h);
+    }
+
     pub branch_emits : EmitsOpen (AreParts w ((e, body) ∷ [])) v w 0 start (elsifs_bound v.scope (elsifs_of ((e, body) ∷ []))) (here valued.code ∷ []) new
     branch_emits = record {
       extends = extends_trans start.code tested new.code first.extends tested_extends;
@@ -298,6 +322,7 @@ module _ (v : Visible) (w : Ways) where
       taken = taken_beside valued new still ∙ second.taken ∙ taken_beside start jumped same;
       most = (let m = most_beside start jumped same in let n = most_beside valued new still in omega (arith, m, second.most, n));
       sized = omega (arith, first.sized, second.sized, two, four, end_is);
+      rows = rows_around start jumped valued new around second.rows;
       inside = λ k is. let at = alone (here valued.code) k is in (omega (arith, at, first.extends.longer, two, second.extends.longer), omega (arith, at, four, end_is));
       waits = λ k is. ap (slice_get new.code.instructions.items) (alone (here valued.code) k is) ∙ close_there;
       stands = λ i end up j l program g numbers f names serves room handling goes rest others code.
@@ -313,12 +338,11 @@ module _ (v : Visible) (w : Ways) where
                 (second.stands i (in_valued i end up j)
                 (labels_before i valued.labels new.labels (labels_beside valued new still) l) program g numbers f names
                 (subst (Serves program g numbers f) (sym (taken_beside start jumped same)) serves) (let m = most_beside valued new still in omega (arith, m, room)) handling
-                (goes_within i handling (here start.code) (here jumped.code) (here valued.code) (here new.code) goes (omega (arith, two, first.extends.longer))
-                (omega (arith, four, end_is)))),
+                (handled_inside start jumped valued new around second.rows i program handling goes)),
             (0, at_close i end up j),
             subst (λ m. IsOtherwise i program g numbers f w handling m end rest (λ x y. AreStatements i program g numbers f w handling x y others)) (end_is ∙ four) code,
-            goes_within i handling (here start.code) (here start.code) (here tested) (here new.code) goes (omega arith)
-                (omega (arith, two, second.extends.longer, four, end_is)),
+            goes_within i handling (here start.code) (here start.code) (here tested) (here jumped.code)
+                (goes_front start jumped valued new around second.rows i program handling goes) (omega arith) (omega (arith, two)),
           );
       flows = λ i s low high end down up over j l suits deep wide shallow ends next ways.
           let to : n ≡ here new.code = sym end_is in
@@ -370,6 +394,7 @@ module _ (v : Visible) (w : Ways) where
       taken = refl;
       most = omega arith;
       sized = omega arith;
+      rows = rows_kept c c (refl, refl);
       inside = λ k is. absurd cc;
       waits = λ k is. absurd cc;
       stands = λ i end up j l program g numbers f names serves room handling goes rest others code. code;

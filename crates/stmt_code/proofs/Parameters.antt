@@ -137,7 +137,7 @@ inside (x ∷ words) zero w h = omega arith
 inside (x ∷ words) (suc n) w h = let k = inside words n w h in omega (arith, k)
 
 -- places among which one more stands
-free_one_more : (a : ℕ) (places : List ℕ) (offset many : ℕ) → AreApart a 1 offset many → IsFree places offset many → IsFree (a ∷ places) offset many
+pub free_one_more : (a : ℕ) (places : List ℕ) (offset many : ℕ) → AreApart a 1 offset many → IsFree places offset many → IsFree (a ∷ places) offset many
 free_one_more a places offset many first rest n among = by_test (nat_eq a n) refl among
   where
     is : (a n : ℕ) → nat_eq a n ≡ true → a ≡ n

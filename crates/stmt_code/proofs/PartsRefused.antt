@@ -1,14 +1,13 @@
 -- What refuses the code of a statement at each place of its method: its parts, one behind the other, and the instructions between them.
-use Rattle.std.proofs.Common.{◌≡◌, ◌≤◌, ◌<◌, ◌+◌, ◌*◌, ◌∷◌, ◌++◌, ◌⊎◌, inl, inr, ℕ, List, [], length, take, Bool, true, false, Some, None, refl, sym, ap, ◌∙◌, subst, arith}
+use Rattle.std.proofs.Common.{◌≡◌, ◌≤◌, ◌<◌, ◌+◌, ◌*◌, ◌∷◌, ◌++◌, ◌⊎◌, inl, inr, ℕ, List, [], length, take, Bool, false, Some, None, refl, sym, ap, ◌∙◌, subst, arith}
 use Rattle.std.specs.Prelude.{get_or, is_some, max, not}
 use Rattle.ada_tree.specs.declared.expression.Identifier.{Identifier}
 use Rattle.ada_tree.specs.declared.statement.Alternative.{Alternative}
 use Rattle.ada_tree.specs.declared.statement.ElsifPart.{ElsifPart}
-use Rattle.ada_tree.specs.declared.statement.Handler.{Handler}
 use Rattle.ada_tree.specs.declared.statement.Stmt.{Stmt}
 use Rattle.ada_tree.specs.ExpressionTree.{ExprTree, NameTree}
 use Rattle.ada_tree.specs.StatementTree as tree
-use Rattle.ada_tree.specs.StatementTree.{AlternativeTrees, Block, Case, ChoicesTree, DeclarationTree, ElsifTrees, Exit, For, Forever, HandlerTrees, If, IterationTree, Loop, NoHandlers, RangeTree, Return, StmtTree, StmtTrees, While, alternative_tree, alternative_trees, alternatives_of, declaration_tree, elsif_tree, elsif_trees, elsifs_of, handler_trees, stmt_tree, stmt_trees}
+use Rattle.ada_tree.specs.StatementTree.{AlternativeTrees, Block, Case, ChoicesTree, DeclarationTree, ElsifTrees, Exit, For, Forever, HandlerTrees, If, IterationTree, Loop, NoHandlers, RangeTree, Return, StmtTree, StmtTrees, While, alternative_tree, alternative_trees, alternatives_of, declaration_tree, elsif_tree, elsif_trees, elsifs_of, stmt_tree, stmt_trees}
 use Rattle.ada_tree.specs.Size.{choices_size, expr_size, selectors_size}
 use Rattle.image.specs.declared.instruction.Operation.TheVariants as op
 use Rattle.image.specs.declared.instruction.Region.TheVariants as regions
@@ -22,14 +21,14 @@ use Rattle.expr_code.specs.declared.visible.Visible.{Visible}
 use Rattle.expr_code.proofs.Growing.{added_here}
 use Rattle.expr_code.proofs.Refusals.{peak_some}
 use Rattle.stmt_code.specs.Emitting.{BeginsLoop}
-use Rattle.stmt_code.specs.Bounds.{alternatives_bound, declarations_bound, elsifs_bound, locals_words, run_bound, stmt_bound, stmts_bound}
-use Rattle.stmt_code.specs.Refusing.{Around, HasManyLabels, IsNeeding, Needs, Refuses, RefusesAlternatives, RefusesChoices, RefusesDeclarations, RefusesParts, RefusesRange, RefusesRun, RefusesStatement, RefusesStatements, alternatives_needs, around, behind_locals, beyond_if, both, choices_needs, counted_visible, elsifs_needs, framed, head_needs, in_body, in_loop, inside_counted, inside_loop, locals_needs, locals_visible, line_needs, needs_above, nothing, put_needs, run_needs, stmt_needs, stmts_needs, value_needs, with_object}
+use Rattle.stmt_code.specs.Bounds.{alternatives_bound, declarations_bound, elsifs_bound, locals_words, run_bound, sequence_bound, stmt_bound, stmts_bound}
+use Rattle.stmt_code.specs.Refusing.{Around, HasManyLabels, IsNeeding, Needs, Refuses, RefusesAlternatives, RefusesChoices, RefusesDeclarations, RefusesParts, RefusesRange, RefusesRun, RefusesSequence, RefusesStatement, RefusesStatements, alternatives_needs, around, behind_locals, beyond_if, both, choices_needs, counted_visible, elsifs_needs, framed, head_needs, in_body, in_loop, inside_counted, inside_loop, locals_needs, locals_visible, line_needs, needs_above, nothing, put_needs, run_needs, sequence_needs, stmt_needs, stmts_needs, value_needs, with_object}
 use Rattle.stmt_code.specs.Statements.{Ways, within_loop}
 use Rattle.stmt_code.specs.Turns.{BeginsRange, EndsTurn, bounds_compared, value_counted, values_compared}
 use Rattle.stmt_code.specs.declared.draft.Draft.{Draft}
 use Rattle.stmt_code.specs.declared.range_loop.Turns.{Turns}
 use Rattle.sound_steps.specs.Fitting.{entity_named}
-use Rattle.stmt_code.specs.Labels.{alternatives_labels, elsifs_labels, stmt_labels, stmts_labels, with_label, with_line}
+use Rattle.stmt_code.specs.Labels.{alternatives_labels, elsifs_labels, handlers_labels, stmt_labels, stmts_labels, with_label, with_line}
 use Rattle.stmt_code.specs.Lines.{Line, is_put, line_of}
 use Rattle.stmt_code.proofs.Labelled.{alternatives_few, as_many, elsifs_longer, parts_few, stmts_few, stmts_longer}
 use Rattle.stmt_code.proofs.Putting.{line_written}
@@ -40,12 +39,22 @@ use Rattle.stmt_code.proofs.Refused.{Within, alternatives_among, front_within, i
 pub part_high : (h : ℕ) (p b : Needs) → Within p b → h ≤ p.stack → h ≤ max b.stack b.frame
 part_high h p b within up = stack_within h b (let more = within.stack in omega (arith, up, more))
 
--- where as many words are taken
-pub around_same : (v : Visible) (w : Ways) (old mid : Draft) → mid.words.taken ≡ old.words.taken → around v w mid ≡ around v w old
-around_same v w old mid same = ap (λ n. record { visible = v; taken = n; looped = is_some w.exit; returns = is_some w.return }) same
+-- as many words are taken, in a program with the same exceptions
+abbrev pub IsLike : (old mid : Draft) → Type 0
+IsLike old mid = (mid.words.taken ≡ old.words.taken) × (mid.exceptions ≡ old.exceptions)
+
+-- what is around a statement, where names, words and exceptions are the same
+pub around_is : (v later : Visible) (w : Ways) (mid : Draft) (taken : ℕ) (exceptions : List (List ℕ)) → later ≡ v → mid.words.taken ≡ taken
+    → mid.exceptions.items ≡ exceptions
+    → around later w mid ≡ record { visible = v; taken = taken; looped = is_some w.exit; returns = is_some w.return; handled = is_some w.handled; exceptions = exceptions }
+around_is v later w mid taken exceptions seen same kept =
+    λ j. record { visible = seen j; taken = same j; looped = is_some w.exit; returns = is_some w.return; handled = is_some w.handled; exceptions = kept j }
+
+pub around_same : (v : Visible) (w : Ways) (old mid : Draft) → IsLike old mid → around v w mid ≡ around v w old
+around_same v w old mid same = around_is v v w mid old.words.taken old.exceptions.items refl same.0 (ap (λ l. l.items) same.1)
 
 pub placed_refused : (v : Visible) (w : Ways) (old mid : Draft) (few many : List (List ℕ)) (f : Around → Needs) (m n : ℕ) (b : Needs) (why : Refusal)
-    → mid.words.taken ≡ old.words.taken → m ≤ n → Within (f (around v w old)) b → length few ≤ length many
+    → IsLike old mid → m ≤ n → Within (f (around v w old)) b → length few ≤ length many
     → (IsNeeding m (f (around v w mid)) why ⊎ HasManyLabels few why) → (IsNeeding n b why ⊎ HasManyLabels many why)
 placed_refused v w old mid few many f m n b why same up within less r =
     part_refused m n (f (around v w mid)) b few many why up (subst (λ a. Within (f a) b) (sym (around_same v w old mid same)) within) less r
@@ -77,7 +86,7 @@ module _ (v : Visible) (w : Ways) (old : Draft) (why : Refusal) where
         (omega (arith, up))
         (part_high 1 (value_needs v e) (elsifs_needs at part) condition_in (let some = peak_some v.scope e in omega (arith, some))) r
 
-    pub body_refused : (mid : Draft) → mid.words.taken ≡ old.words.taken → mid.labels ≡ old.labels → here mid.code ≤ here old.code + (20 * expr_size e + 1)
+    pub body_refused : (mid : Draft) → IsLike old mid → mid.labels ≡ old.labels → here mid.code ≤ here old.code + (20 * expr_size e + 1)
         → RefusesStatements v w mid body why → RefusesParts v w old part why
     body_refused mid same labels up r =
         placed_refused v w old mid (stmts_labels mid.labels body) (elsifs_labels old.labels part) (λ a. stmts_needs a body)
@@ -91,7 +100,7 @@ module _ (v : Visible) (w : Ways) (old : Draft) (why : Refusal) where
         (omega (arith, up)) (omega arith) r
 
   -- one of those behind it
-  pub part_refuses : (mid : Draft) (all : List ElsifPart) (n : ℕ) (x : ElsifPart) → n < length all → x ≡ get_or all n x → mid.words.taken ≡ old.words.taken
+  pub part_refuses : (mid : Draft) (all : List ElsifPart) (n : ℕ) (x : ElsifPart) → n < length all → x ≡ get_or all n x → IsLike old mid
       → mid.labels ≡ elsifs_labels old.labels (elsif_trees (take n all))
       → here mid.code ≤ here old.code + elsifs_bound v.scope (elsif_trees (take n all))
       → RefusesParts v w mid (elsifs_of (elsif_tree x ∷ [])) why → RefusesParts v w old (elsif_trees all) why
@@ -126,7 +135,7 @@ module _ (v : Visible) (w : Ways) (old : Draft) (why : Refusal) where
         let two = stmts_longer (elsifs_labels (stmts_labels old.labels body) elsifs) others in
         omega (arith, one, two)) r
 
-    pub elsifs_refuse : (mid : Draft) → mid.words.taken ≡ old.words.taken → mid.labels ≡ stmts_labels old.labels body
+    pub elsifs_refuse : (mid : Draft) → IsLike old mid → mid.labels ≡ stmts_labels old.labels body
         → here mid.code ≤ here old.code + elsifs_bound v.scope (elsifs_of ((e, body) ∷ []))
         → RefusesParts v w mid elsifs why → RefusesStatement v w old if_whole why
     elsifs_refuse mid same labels up r =
@@ -138,7 +147,7 @@ module _ (v : Visible) (w : Ways) (old : Draft) (why : Refusal) where
         let two = stmts_longer (elsifs_labels (stmts_labels old.labels body) elsifs) others in
         omega (arith, one, two)) r
 
-    pub others_refuse : (mid : Draft) → mid.words.taken ≡ old.words.taken → mid.labels ≡ elsifs_labels (stmts_labels old.labels body) elsifs
+    pub others_refuse : (mid : Draft) → IsLike old mid → mid.labels ≡ elsifs_labels (stmts_labels old.labels body) elsifs
         → here mid.code ≤ here old.code + (elsifs_bound v.scope (elsifs_of ((e, body) ∷ [])) + elsifs_bound v.scope elsifs)
         → RefusesStatements v w mid others why → RefusesStatement v w old if_whole why
     others_refuse mid same labels up r =
@@ -168,10 +177,10 @@ module _ (v : Visible) (w : Ways) (old : Draft) (why : Refusal) where
         (part_high h (head_needs at iteration) (stmt_needs at loop_whole) (in_left (head_needs at iteration) (stmts_needs (in_loop at iteration) body)) high) r
 
   -- statements in a loop with a way out
-  looped_same : (exit : ℕ) (mid : Draft) → mid.words.taken ≡ old.words.taken → around v (within_loop exit w) mid ≡ inside_loop at
-  looped_same exit mid same = ap (λ n. record { visible = v; taken = n; looped = true; returns = is_some w.return }) same
+  looped_same : (exit : ℕ) (mid : Draft) → IsLike old mid → around v (within_loop exit w) mid ≡ inside_loop at
+  looped_same exit mid same = around_same v (within_loop exit w) old mid same
 
-  pub forever_body : (place exit : ℕ) (body : StmtTrees) (mid : Draft) → mid.words.taken ≡ old.words.taken → mid.labels ≡ old.labels
+  pub forever_body : (place exit : ℕ) (body : StmtTrees) (mid : Draft) → IsLike old mid → mid.labels ≡ old.labels
       → here mid.code ≤ here old.code + 2
       → RefusesStatements v (within_loop exit w) mid body why → RefusesStatement v w old (Loop place Forever body) why
   forever_body place exit body mid same labels up r =
@@ -191,7 +200,7 @@ module _ (v : Visible) (w : Ways) (old : Draft) (why : Refusal) where
         value_refused v m 0 e (here old.code + stmt_bound v.scope while_whole) (stmt_needs at while_whole) (stmts_labels old.labels body) why
         (omega (arith, up)) (in_left (value_needs v e) (stmts_needs (inside_loop at) body)) r
 
-    pub while_body_refused : (exit : ℕ) (mid : Draft) → mid.words.taken ≡ old.words.taken → mid.labels ≡ old.labels
+    pub while_body_refused : (exit : ℕ) (mid : Draft) → IsLike old mid → mid.labels ≡ old.labels
         → here mid.code ≤ here old.code + (20 * expr_size e + 3)
         → RefusesStatements v (within_loop exit w) mid body why → RefusesStatement v w old while_whole why
     while_body_refused exit mid same labels up r =
@@ -218,9 +227,9 @@ module _ (v : Visible) (w : Ways) (old : Draft) (why : Refusal) where
         range_needs n = both (framed (n + 2)) (both (value_needs v range.first) (needs_above 1 v range.last))
 
     pub counted_body : (exit : ℕ) (later : Visible) (mid : Draft) → later ≡ counted_visible at parameter range → mid.words.taken ≡ old.words.taken + 2
-        → mid.labels ≡ old.labels → here mid.code ≤ here old.code + (8 + 20 * (expr_size range.first + expr_size range.last))
+        → mid.exceptions ≡ old.exceptions → mid.labels ≡ old.labels → here mid.code ≤ here old.code + (8 + 20 * (expr_size range.first + expr_size range.last))
         → RefusesStatements later (within_loop exit w) mid body why → RefusesStatement v w old counted why
-    counted_body exit later mid seen same labels up r =
+    counted_body exit later mid seen same kept labels up r =
         part_refused (here mid.code + stmts_bound later.scope body) (here old.code + stmt_bound v.scope counted)
         (stmts_needs (around later (within_loop exit w) mid) body) (stmt_needs at counted) (stmts_labels mid.labels body)
         (stmts_labels old.labels body) why
@@ -230,7 +239,8 @@ module _ (v : Visible) (w : Ways) (old : Draft) (why : Refusal) where
         (as_many (stmts_labels mid.labels body) (stmts_labels old.labels body) (ap (λ l. stmts_labels l body) labels)) r
       where
         inside : around later (within_loop exit w) mid ≡ inside_counted at parameter range
-        inside = λ j. record { visible = seen j; taken = same j; looped = true; returns = is_some w.return }
+        inside = around_is (counted_visible at parameter range) later (within_loop exit w) mid (old.words.taken + 2) old.exceptions.items seen same
+            (ap (λ l. l.items) kept)
 
   -- ---- a `case`
 
@@ -251,7 +261,7 @@ module _ (v : Visible) (w : Ways) (old : Draft) (why : Refusal) where
         inl (needing_refused (here old.code + (20 * choices_size choices + 2)) (here old.code + alternatives_bound v.scope choice) (choices_needs v.scope choices)
         (alternatives_needs at choice) (omega arith) choices_in why r)
 
-    pub chosen_refused : (mid : Draft) → mid.words.taken ≡ old.words.taken → mid.labels ≡ old.labels
+    pub chosen_refused : (mid : Draft) → IsLike old mid → mid.labels ≡ old.labels
         → here mid.code ≤ here old.code + (20 * choices_size choices + 2)
         → RefusesStatements v w mid body why → RefusesAlternatives v w old choice why
     chosen_refused mid same labels up r =
@@ -267,7 +277,7 @@ module _ (v : Visible) (w : Ways) (old : Draft) (why : Refusal) where
         (omega (arith, up)) (omega arith) r
 
   pub alternative_refuses : (mid : Draft) (all : List Alternative) (n : ℕ) (x : Alternative) → n < length all → x ≡ get_or all n x
-      → mid.words.taken ≡ old.words.taken → mid.labels ≡ alternatives_labels old.labels (alternative_trees (take n all))
+      → IsLike old mid → mid.labels ≡ alternatives_labels old.labels (alternative_trees (take n all))
       → here mid.code ≤ here old.code + alternatives_bound v.scope (alternative_trees (take n all))
       → RefusesAlternatives v w mid (alternatives_of (alternative_tree x ∷ [])) why → RefusesAlternatives v w old (alternative_trees all) why
   alternative_refuses mid all n x less is same labels up r =
@@ -292,7 +302,7 @@ module _ (v : Visible) (w : Ways) (old : Draft) (why : Refusal) where
         value_refused v old.code 0 e (here old.code + stmt_bound v.scope case_whole) (stmt_needs at case_whole) (alternatives_labels old.labels all) why
         (omega arith) selected_in r
 
-    pub alternatives_refused : (mid : Draft) → mid.words.taken ≡ old.words.taken → mid.labels ≡ old.labels → here mid.code ≤ here old.code + 20 * expr_size e
+    pub alternatives_refused : (mid : Draft) → IsLike old mid → mid.labels ≡ old.labels → here mid.code ≤ here old.code + 20 * expr_size e
         → RefusesAlternatives v w mid all why → RefusesStatement v w old case_whole why
     alternatives_refused mid same labels up r =
         placed_refused v w old mid (alternatives_labels mid.labels all) (alternatives_labels old.labels all) (λ a. alternatives_needs a all)
@@ -348,7 +358,7 @@ module _ (v : Visible) (w : Ways) (old : Draft) (why : Refusal) where
 
   -- ---- statements one behind another
 
-  pub statement_refuses : (mid : Draft) (all : List Stmt) (n : ℕ) (x : Stmt) → n < length all → x ≡ get_or all n x → mid.words.taken ≡ old.words.taken
+  pub statement_refuses : (mid : Draft) (all : List Stmt) (n : ℕ) (x : Stmt) → n < length all → x ≡ get_or all n x → IsLike old mid
       → mid.labels ≡ stmts_labels old.labels (stmt_trees (take n all)) → here mid.code ≤ here old.code + stmts_bound v.scope (stmt_trees (take n all))
       → RefusesStatement v w mid (stmt_tree x) why → RefusesStatements v w old (stmt_trees all) why
   statement_refuses mid all n x less is same labels up r =
@@ -363,40 +373,35 @@ module _ (v : Visible) (w : Ways) (old : Draft) (why : Refusal) where
 
   -- ---- blocks
 
-  pub handlers_refused : (place : ℕ) (ds : List DeclarationTree) (body : StmtTrees) (hs : List Handler) → 1 ≤ length hs
-      → (stmt_needs at (Block place ds body (handler_trees hs))).outside ≡ true
-  handlers_refused place ds body [] some = absurd (omega (arith, some))
-  handlers_refused place ds body (h ∷ hs) some = refl
-
   module _ (place : ℕ) (ds : List DeclarationTree) (body : StmtTrees) where
     abbrev block : StmtTree
     block = Block place ds body NoHandlers
 
     abbrev block_needs : Needs
-    block_needs = both (locals_needs v old.words.taken ds) (stmts_needs (behind_locals at ds) body)
+    block_needs = both (stmts_needs (behind_locals at ds) body) nothing
 
     pub locals_refused : RefusesDeclarations v old ds why → RefusesStatement v w old block why
     locals_refused r =
         inl (needing_refused (here old.code + declarations_bound v.scope ds) (here old.code + stmt_bound v.scope block) (locals_needs v old.words.taken ds)
         (stmt_needs at block) (omega arith)
-        (of_right (locals_needs v old.words.taken ds) nothing block_needs
-        (in_left (locals_needs v old.words.taken ds) (stmts_needs (behind_locals at ds) body))) why r)
+        (in_left (locals_needs v old.words.taken ds) block_needs) why r)
 
     pub block_body_refused : (later : Visible) (mid : Draft) → later ≡ locals_visible v old.words.taken ds → later.scope ≡ locals_scope v.scope ds
-        → mid.words.taken ≡ old.words.taken + locals_words v.scope ds → mid.labels ≡ old.labels
+        → mid.words.taken ≡ old.words.taken + locals_words v.scope ds → mid.exceptions ≡ old.exceptions → mid.labels ≡ old.labels
         → here mid.code ≤ here old.code + declarations_bound v.scope ds
         → RefusesStatements later w mid body why → RefusesStatement v w old block why
-    block_body_refused later mid seen scope same labels up r =
+    block_body_refused later mid seen scope same kept labels up r =
         part_refused (here mid.code + stmts_bound later.scope body) (here old.code + stmt_bound v.scope block) (stmts_needs (around later w mid) body)
         (stmt_needs at block) (stmts_labels mid.labels body) (stmts_labels old.labels body) why
         (let inner = ap (λ s. stmts_bound s body) scope in omega (arith, up, inner))
         (subst (λ a. Within (stmts_needs a body) (stmt_needs at block)) (sym inside)
-        (of_right (stmts_needs (behind_locals at ds) body) nothing block_needs
-        (in_right (locals_needs v old.words.taken ds) (stmts_needs (behind_locals at ds) body))))
+        (of_right (stmts_needs (behind_locals at ds) body) (locals_needs v old.words.taken ds) block_needs
+        (in_left (stmts_needs (behind_locals at ds) body) nothing)))
         (as_many (stmts_labels mid.labels body) (stmts_labels old.labels body) (ap (λ l. stmts_labels l body) labels)) r
       where
         inside : around later w mid ≡ behind_locals at ds
-        inside = λ j. record { visible = seen j; taken = same j; looped = is_some w.exit; returns = is_some w.return }
+        inside = around_is (locals_visible v old.words.taken ds) later w mid (old.words.taken + locals_words v.scope ds) old.exceptions.items seen same
+            (ap (λ l. l.items) kept)
 
 -- ---- where instructions stand
 
@@ -460,33 +465,38 @@ range_two a parameter reversed range =
 
 -- ---- bodies
 
-module _ (v : Visible) (old : Draft) (why : Refusal) (ds : List DeclarationTree) (body : StmtTrees) where
+module _ (v : Visible) (old : Draft) (why : Refusal) (ds : List DeclarationTree) (body : StmtTrees) (all : HandlerTrees) where
   abbrev needed : Needs
-  needed = run_needs v old.words.taken ds body
+  needed = run_needs v old.words.taken old.exceptions.items ds body all
 
   abbrev own : Around
-  own = in_body v old.words.taken
+  own = in_body v old.words.taken old.exceptions.items
 
-  pub run_locals_refused : RefusesDeclarations v old ds why → RefusesRun v old ds body why
+  pub run_locals_refused : RefusesDeclarations v old ds why → RefusesRun v old ds body all why
   run_locals_refused r =
-      inl (needing_refused (here old.code + declarations_bound v.scope ds) (here old.code + run_bound v.scope ds body)
+      inl (needing_refused (here old.code + declarations_bound v.scope ds) (here old.code + run_bound v.scope ds body all)
       (locals_needs v old.words.taken ds) needed
-      (omega arith) (in_left (locals_needs v old.words.taken ds) (stmts_needs (behind_locals own ds) body)) why r)
+      (omega arith) (in_left (locals_needs v old.words.taken ds) (sequence_needs (behind_locals own ds) body all)) why r)
 
-  pub run_refused : (m : ℕ) → m ≤ here old.code + run_bound v.scope ds body → IsRefused m 0 false why → RefusesRun v old ds body why
-  run_refused m up r = plain_refused m (here old.code + run_bound v.scope ds body) 0 needed (stmts_labels old.labels body) why up (omega arith) r
+  pub run_refused : (m : ℕ) → m ≤ here old.code + run_bound v.scope ds body all → IsRefused m 0 false why → RefusesRun v old ds body all why
+  run_refused m up r = plain_refused m (here old.code + run_bound v.scope ds body all) 0 needed (handlers_labels (stmts_labels old.labels body) all) why up
+      (omega arith) r
 
   pub run_body_refused : (later : Visible) (out : ℕ) (mid : Draft) → later ≡ locals_visible v old.words.taken ds → later.scope ≡ locals_scope v.scope ds
-      → mid.words.taken ≡ old.words.taken + locals_words v.scope ds → mid.labels ≡ old.labels
+      → mid.words.taken ≡ old.words.taken + locals_words v.scope ds → mid.exceptions ≡ old.exceptions → mid.labels ≡ old.labels
       → here mid.code ≤ here old.code + (declarations_bound v.scope ds + 2)
-      → RefusesStatements later (record { exit = None; return = Some out; handled = None }) mid body why → RefusesRun v old ds body why
-  run_body_refused later out mid seen scope same labels up r =
-      part_refused (here mid.code + stmts_bound later.scope body) (here old.code + run_bound v.scope ds body)
-      (stmts_needs (around later (record { exit = None; return = Some out; handled = None }) mid) body) needed (stmts_labels mid.labels body) (stmts_labels old.labels body) why
-      (let inner = ap (λ s. stmts_bound s body) scope in omega (arith, up, inner))
-      (subst (λ a. Within (stmts_needs a body) needed) (sym inside)
-      (in_right (locals_needs v old.words.taken ds) (stmts_needs (behind_locals own ds) body)))
-      (as_many (stmts_labels mid.labels body) (stmts_labels old.labels body) (ap (λ l. stmts_labels l body) labels)) r
+      → RefusesSequence later (record { exit = None; return = Some out; handled = None }) mid body all why → RefusesRun v old ds body all why
+  run_body_refused later out mid seen scope same kept labels up r =
+      part_refused (here mid.code + (sequence_bound later.scope body all + 1)) (here old.code + run_bound v.scope ds body all)
+      (sequence_needs (around later (record { exit = None; return = Some out; handled = None }) mid) body all) needed
+      (handlers_labels (stmts_labels mid.labels body) all) (handlers_labels (stmts_labels old.labels body) all) why
+      (let inner = ap (λ s. sequence_bound s body all) scope in omega (arith, up, inner))
+      (subst (λ a. Within (sequence_needs a body all) needed) (sym inside)
+      (in_right (locals_needs v old.words.taken ds) (sequence_needs (behind_locals own ds) body all)))
+      (as_many (handlers_labels (stmts_labels mid.labels body) all) (handlers_labels (stmts_labels old.labels body) all)
+      (ap (λ l. handlers_labels (stmts_labels l body) all) labels)) r
     where
       inside : around later (record { exit = None; return = Some out; handled = None }) mid ≡ behind_locals own ds
-      inside = λ j. record { visible = seen j; taken = same j; looped = false; returns = true }
+      inside =
+          around_is (locals_visible v old.words.taken ds) later (record { exit = None; return = Some out; handled = None }) mid
+          (old.words.taken + locals_words v.scope ds) old.exceptions.items seen same (ap (λ l. l.items) kept)

@@ -1,12 +1,12 @@
 -- Each form of statement stays within bounds where its parts do, with the instructions between them.
-use Rattle.std.proofs.Common.{◌≡◌, ◌≤◌, ◌<◌, ◌+◌, ◌∷◌, ℕ, List, [], length, take, Bool, true, false, Some, None, sym, ap, ◌∙◌, subst, arith}
-use Rattle.std.specs.Prelude.{get_or, is_some, max, ⊤}
+use Rattle.std.proofs.Common.{◌≡◌, ◌≤◌, ◌<◌, ◌+◌, ◌∷◌, ℕ, List, [], length, take, Bool, Some, None, sym, ap, ◌∙◌, subst, arith}
+use Rattle.std.specs.Prelude.{get_or, max, ⊤}
 use Rattle.ada_tree.specs.declared.expression.Identifier.{Identifier}
 use Rattle.ada_tree.specs.declared.statement.Alternative.{Alternative}
 use Rattle.ada_tree.specs.declared.statement.ElsifPart.{ElsifPart}
 use Rattle.ada_tree.specs.declared.statement.Stmt.{Stmt}
 use Rattle.ada_tree.specs.ExpressionTree.{ExprTree}
-use Rattle.ada_tree.specs.StatementTree.{AlternativeTrees, Block, Case, ChoicesTree, DeclarationTree, ElsifTrees, For, Forever, If, Loop, NoHandlers, OtherValues, RangeTree, StmtTrees, Values, While, alternative_tree, alternative_trees, alternatives_of, elsif_tree, elsif_trees, elsifs_of, stmt_tree, stmt_trees}
+use Rattle.ada_tree.specs.StatementTree.{AlternativeTrees, Block, Case, ChoicesTree, DeclarationTree, ElsifTrees, For, Forever, HandlerTrees, If, Loop, NoHandlers, OtherValues, RangeTree, StmtTrees, Values, While, alternative_tree, alternative_trees, alternatives_of, elsif_tree, elsif_trees, elsifs_of, stmt_tree, stmt_trees}
 use Rattle.image.specs.declared.instruction.Instr.{Instr}
 use Rattle.types.specs.Scopes.{Scope}
 use Rattle.expr_code.specs.Code.{IsShallow}
@@ -18,19 +18,21 @@ use Rattle.expr_code.proofs.Shallow.{shallow_as, shallow_more, shallow_next, sha
 use Rattle.stmt_code.specs.Alternatives.{AddsChoices, AddsTest, TestsAll}
 use Rattle.stmt_code.specs.Bounds.{locals_words}
 use Rattle.stmt_code.specs.Emitting.{BeginsLoop, EndsLoop}
-use Rattle.stmt_code.specs.Labels.{alternatives_labels, elsifs_labels, stmt_labels, stmts_labels}
-use Rattle.stmt_code.specs.Refusing.{Around, Needs, alternatives_needs, around, behind_locals, both, choices_needs, counted_visible, elsifs_needs, framed, head_needs, inside_counted, inside_loop, locals_needs, locals_visible, needs_above, nothing, stmt_needs, stmts_needs, value_needs}
+use Rattle.stmt_code.specs.Labels.{alternatives_labels, elsifs_labels, handlers_labels, stmt_labels, stmts_labels}
+use Rattle.stmt_code.specs.Refusing.{Around, Needs, alternatives_needs, around, behind_locals, both, choices_needs, counted_visible, elsifs_needs, framed, head_needs, in_body, inside_counted, inside_loop, locals_needs, locals_visible, needs_above, nothing, sequence_needs, stmt_needs, stmts_needs, value_needs}
+use Rattle.stmt_code.specs.Rows.{alternatives_rows, elsifs_rows, handlers_rows, stmt_rows, stmts_rows}
 use Rattle.stmt_code.specs.Statements.{Ways, within_loop}
-use Rattle.stmt_code.specs.Staying.{Stays, StaysAlternatives, StaysDeclarations, StaysParts, StaysRange, StaysRun, StaysStatement, StaysStatements}
+use Rattle.stmt_code.specs.Staying.{Stays, StaysAlternatives, StaysDeclarations, StaysParts, StaysRange, StaysRun, StaysSequence, StaysStatement, StaysStatements}
 use Rattle.stmt_code.specs.Turns.{AddsAll, BeginsTurns, EndsTurn, bounds_compared, value_counted, values_compared}
 use Rattle.stmt_code.specs.declared.draft.Draft.{Draft}
 use Rattle.stmt_code.specs.declared.draft.FrameWords.{FrameWords}
 use Rattle.stmt_code.specs.declared.range_loop.Turns.{Turns}
 use Rattle.stmt_code.proofs.Adding.{take_all}
 use Rattle.stmt_code.proofs.Labelled.{alternatives_next, parts_next, stmts_next}
-use Rattle.stmt_code.proofs.PartsRefused.{around_same, range_two}
+use Rattle.stmt_code.proofs.PartsRefused.{IsLike, around_is, around_same, range_two}
 use Rattle.stmt_code.proofs.Refused.{Within, alternatives_among, front_within, in_left, in_right, of_right, parts_among, statements_among}
-use Rattle.stmt_code.proofs.Staying.{coded, stays_as, stays_code, stays_more, stays_self, stays_then}
+use Rattle.stmt_code.proofs.RowsCounted.{alternatives_counted, parts_counted, stmts_counted}
+use Rattle.stmt_code.proofs.Staying.{coded, stays_as, stays_code, stays_is, stays_more, stays_self, stays_then}
 
 -- ---- instructions
 
@@ -88,7 +90,7 @@ module _ (v : Visible) (w : Ways) (old : Draft) where
   at = around v w old
 
   -- where as many words are taken
-  same_within : (mid : Draft) (f : Around → Needs) (n : Needs) → mid.words.taken ≡ old.words.taken → Within (f at) n → Within (f (around v w mid)) n
+  same_within : (mid : Draft) (f : Around → Needs) (n : Needs) → IsLike old mid → Within (f at) n → Within (f (around v w mid)) n
   same_within mid f n same within = subst (λ a. Within (f a) n) (sym (around_same v w old mid same)) within
 
   pub branch_stays : (e : ExprTree) (body : StmtTrees) (a b : Code) (mid : Draft) (d : Code) → IsShallow old.code a (0 + peak v.scope e) → IsShallow a b 1
@@ -102,23 +104,25 @@ module _ (v : Visible) (w : Ways) (old : Draft) where
       let some = peak_some v.scope e in
       let high = first.stack in
       stays_code old mid n (stmts_labels old.labels body) d 0 (omega arith) close
-      (stays_then old (coded old b) mid n run old.labels (λ l. stmts_labels l body) (of_right run value (both run nothing) (in_left run nothing))
+      (stays_then old (coded old b) mid n run old.labels (λ l. stmts_labels l body) (λ r. stmts_rows r body) (of_right run value (both run nothing) (in_left run nothing))
       (stays_code old (coded old a) n old.labels b 1 (omega (arith, some, high)) test
       (stays_code old old n old.labels a (0 + peak v.scope e) (omega (arith, high)) condition (stays_self old n))) stays)
 
   -- the next one of several parts
-  pub parts_stay : (mid new : Draft) (all : List ElsifPart) (n : ℕ) (x : ElsifPart) → n < length all → x ≡ get_or all n x → mid.words.taken ≡ old.words.taken
-      → Stays old (elsifs_needs at (elsif_trees all)) (elsifs_labels old.labels (elsif_trees (take n all))) mid
+  pub parts_stay : (mid new : Draft) (all : List ElsifPart) (n : ℕ) (x : ElsifPart) → n < length all → x ≡ get_or all n x → IsLike old mid
+      → Stays old (elsifs_needs at (elsif_trees all)) (elsifs_labels old.labels (elsif_trees (take n all)))
+      (elsifs_rows (length old.rows.items) (elsif_trees (take n all))) mid
       → StaysParts v w mid (elsifs_of (elsif_tree x ∷ [])) new
-      → Stays old (elsifs_needs at (elsif_trees all)) (elsifs_labels old.labels (elsif_trees (take (n + 1) all))) new
+      → Stays old (elsifs_needs at (elsif_trees all)) (elsifs_labels old.labels (elsif_trees (take (n + 1) all)))
+      (elsifs_rows (length old.rows.items) (elsif_trees (take (n + 1) all))) new
   parts_stay mid new all n x less is same p q =
       let part = elsifs_of (elsif_tree x ∷ []) in
-      subst (λ l. Stays old (elsifs_needs at (elsif_trees all)) l new) (sym (parts_next old.labels all n x less is))
+      stays_is old new (elsifs_needs at (elsif_trees all)) (parts_next old.labels all n x less is) (parts_counted (length old.rows.items) all n x less is)
       (stays_then old mid new (elsifs_needs at (elsif_trees all)) (elsifs_needs (around v w mid) part) (elsifs_labels old.labels (elsif_trees (take n all)))
-      (λ l. elsifs_labels l part) (same_within mid (λ a. elsifs_needs a part) (elsifs_needs at (elsif_trees all)) same (parts_among at all n x less is).1) p q)
+      (λ l. elsifs_labels l part) (λ r. elsifs_rows r part) (same_within mid (λ a. elsifs_needs a part) (elsifs_needs at (elsif_trees all)) same (parts_among at all n x less is).1) p q)
 
   pub if_stays : (place : ℕ) (e : ExprTree) (body : StmtTrees) (elsifs : ElsifTrees) (others : StmtTrees) (one two three : Draft) (d : Code)
-      → one.words.taken ≡ old.words.taken → two.words.taken ≡ old.words.taken → StaysParts v w old (elsifs_of ((e, body) ∷ [])) one
+      → IsLike old one → IsLike old two → StaysParts v w old (elsifs_of ((e, body) ∷ [])) one
       → StaysParts v w one elsifs two → StaysStatements v w two others three → d.deepest ≡ three.code.deepest
       → StaysStatement v w old (If place e body elsifs others) (coded three d)
   if_stays place e body elsifs others one two three d same same_two p q r rejoined =
@@ -130,8 +134,9 @@ module _ (v : Visible) (w : Ways) (old : Draft) where
       let within = λ (m : Needs) (x : Within m (both more last)). of_right m value (both run (both more last)) (of_right m run (both more last) x) in
       stays_as old three n (stmts_labels (elsifs_labels (stmts_labels old.labels body) elsifs) others) d rejoined
       (stays_then old two three n (stmts_needs (around v w two) others) (elsifs_labels (stmts_labels old.labels body) elsifs) (λ l. stmts_labels l others)
+      (λ r. stmts_rows r others)
       (same_within two (λ a. stmts_needs a others) n same_two (within last (in_right more last)))
-      (stays_then old one two n (elsifs_needs (around v w one) elsifs) (stmts_labels old.labels body) (λ l. elsifs_labels l elsifs)
+      (stays_then old one two n (elsifs_needs (around v w one) elsifs) (stmts_labels old.labels body) (λ l. elsifs_labels l elsifs) (λ r. elsifs_rows r elsifs)
       (same_within one (λ a. elsifs_needs a elsifs) n same (within more (in_left more last)))
       (stays_more old one (both value (both run nothing)) n (stmts_labels old.labels body) (front_within value run (both more last)) p) q) r)
 
@@ -144,7 +149,7 @@ module _ (v : Visible) (w : Ways) (old : Draft) where
       let run = stmts_needs (inside_loop at) body in
       let n = both nothing run in
       stays_code old mid n (stmts_labels old.labels body) d 0 (omega arith) ended
-      (stays_then old (coded old a) mid n run old.labels (λ l. stmts_labels l body) (in_right nothing run)
+      (stays_then old (coded old a) mid n run old.labels (λ l. stmts_labels l body) (λ r. stmts_rows r body) (in_right nothing run)
       (stays_code old old n old.labels a 0 (omega arith) begun (stays_self old n)) stays)
 
   pub while_stays : (place exit : ℕ) (e : ExprTree) (body : StmtTrees) (a b c : Code) (mid : Draft) (d f : Code) → IsShallow old.code a 0
@@ -159,30 +164,33 @@ module _ (v : Visible) (w : Ways) (old : Draft) where
       let some = peak_some v.scope e in
       stays_as old (coded mid d) n (stmts_labels old.labels body) f patched
       (stays_code old mid n (stmts_labels old.labels body) d 0 (omega arith) ended
-      (stays_then old (coded old c) mid n run old.labels (λ l. stmts_labels l body) (in_right value run)
+      (stays_then old (coded old c) mid n run old.labels (λ l. stmts_labels l body) (λ r. stmts_rows r body) (in_right value run)
       (stays_code old (coded old b) n old.labels c 1 (omega (arith, some, high)) test
       (stays_code old (coded old a) n old.labels b (0 + peak v.scope e) (omega (arith, high)) condition
       (stays_code old old n old.labels a 0 (omega arith) begun (stays_self old n)))) stays))
 
   pub counted_stays : (place : ℕ) (parameter : Identifier) (reversed : Bool) (range : RangeTree) (body : StmtTrees) (exit : ℕ) (later : Visible) (a : Code)
-      (opened mid : Draft) (d f g h : Code) → later ≡ counted_visible at parameter range → opened.words.taken ≡ old.words.taken + 2 → IsShallow old.code a 0
+      (opened mid : Draft) (d f g h : Code) → later ≡ counted_visible at parameter range → opened.words.taken ≡ old.words.taken + 2
+      → opened.exceptions ≡ old.exceptions → IsShallow old.code a 0
       → StaysRange v (coded old a) parameter reversed range opened → StaysStatements later (within_loop exit w) opened body mid → IsShallow mid.code d 2
       → IsShallow d f 0 → g.deepest ≡ f.deepest → h.deepest ≡ g.deepest
       → StaysStatement v w old (Loop place (For parameter reversed range) body) (coded mid h)
-  counted_stays place parameter reversed range body exit later a opened mid d f g h seen same begun head stays turned ended patched again =
+  counted_stays place parameter reversed range body exit later a opened mid d f g h seen same kept begun head stays turned ended patched again =
       let bounds = head_needs at (For parameter reversed range) in
       let run = stmts_needs (inside_counted at parameter range) body in
       let n = both bounds run in
       let high = (in_left bounds run).stack in
       let two = range_two at parameter reversed range in
       let inside : around later (within_loop exit w) opened ≡ inside_counted at parameter range =
-      λ j. record { visible = seen j; taken = same j; looped = true; returns = is_some w.return } in
+      around_is (counted_visible at parameter range) later (within_loop exit w) opened (old.words.taken + 2) old.exceptions.items seen same
+      (ap (λ l. l.items) kept) in
       stays_as old (coded mid f) n (stmts_labels old.labels body) h (again ∙ patched)
       (stays_code old (coded mid d) n (stmts_labels old.labels body) f 0 (omega arith) ended
       (stays_code old mid n (stmts_labels old.labels body) d 2 (omega (arith, two, high)) turned
       (stays_then old opened mid n (stmts_needs (around later (within_loop exit w) opened) body) old.labels (λ l. stmts_labels l body)
+      (λ r. stmts_rows r body)
       (subst (λ x. Within (stmts_needs x body) n) (sym inside) (in_right bounds run))
-      (stays_then old (coded old a) opened n bounds old.labels (λ l. l) (in_left bounds run)
+      (stays_then old (coded old a) opened n bounds old.labels (λ l. l) (λ r. r) (in_left bounds run)
       (stays_code old old n old.labels a 0 (omega arith) begun (stays_self old n)) head) stays)))
 
   -- ---- a `case`
@@ -198,19 +206,22 @@ module _ (v : Visible) (w : Ways) (old : Draft) where
       let high = (in_left test (both run nothing)).stack in
       stays_as old (coded mid d) n (stmts_labels old.labels body) f rejoined
       (stays_code old mid n (stmts_labels old.labels body) d 0 (omega arith) left
-      (stays_then old (coded old a) mid n run old.labels (λ l. stmts_labels l body) (of_right run test (both run nothing) (in_left run nothing))
+      (stays_then old (coded old a) mid n run old.labels (λ l. stmts_labels l body) (λ r. stmts_rows r body) (of_right run test (both run nothing) (in_left run nothing))
       (stays_code old old n old.labels a test.stack high chosen (stays_self old n)) stays))
 
   pub alternatives_stay : (mid new : Draft) (all : List Alternative) (n : ℕ) (x : Alternative) → n < length all → x ≡ get_or all n x
-      → mid.words.taken ≡ old.words.taken
-      → Stays old (alternatives_needs at (alternative_trees all)) (alternatives_labels old.labels (alternative_trees (take n all))) mid
+      → IsLike old mid
+      → Stays old (alternatives_needs at (alternative_trees all)) (alternatives_labels old.labels (alternative_trees (take n all)))
+      (alternatives_rows (length old.rows.items) (alternative_trees (take n all))) mid
       → StaysAlternatives v w mid (alternatives_of (alternative_tree x ∷ [])) new
-      → Stays old (alternatives_needs at (alternative_trees all)) (alternatives_labels old.labels (alternative_trees (take (n + 1) all))) new
+      → Stays old (alternatives_needs at (alternative_trees all)) (alternatives_labels old.labels (alternative_trees (take (n + 1) all)))
+      (alternatives_rows (length old.rows.items) (alternative_trees (take (n + 1) all))) new
   alternatives_stay mid new all n x less is same p q =
       let part = alternatives_of (alternative_tree x ∷ []) in
-      subst (λ l. Stays old (alternatives_needs at (alternative_trees all)) l new) (sym (alternatives_next old.labels all n x less is))
+      stays_is old new (alternatives_needs at (alternative_trees all)) (alternatives_next old.labels all n x less is)
+      (alternatives_counted (length old.rows.items) all n x less is)
       (stays_then old mid new (alternatives_needs at (alternative_trees all)) (alternatives_needs (around v w mid) part)
-      (alternatives_labels old.labels (alternative_trees (take n all))) (λ l. alternatives_labels l part)
+      (alternatives_labels old.labels (alternative_trees (take n all))) (λ l. alternatives_labels l part) (λ r. alternatives_rows r part)
       (same_within mid (λ a. alternatives_needs a part) (alternatives_needs at (alternative_trees all)) same (alternatives_among at all n x less is).1) p q)
 
   pub case_stays : (place : ℕ) (e : ExprTree) (all : AlternativeTrees) (a : Code) (mid : Draft) (d f : Code) → IsShallow old.code a (0 + peak v.scope e)
@@ -224,58 +235,70 @@ module _ (v : Visible) (w : Ways) (old : Draft) where
       let some = peak_some v.scope e in
       stays_as old (coded mid d) n (alternatives_labels old.labels all) f rejoined
       (stays_code old mid n (alternatives_labels old.labels all) d 1 (omega (arith, some, high)) dropped
-      (stays_then old (coded old a) mid n rest old.labels (λ l. alternatives_labels l all) (in_right value rest)
+      (stays_then old (coded old a) mid n rest old.labels (λ l. alternatives_labels l all) (λ r. alternatives_rows r all) (in_right value rest)
       (stays_code old old n old.labels a (0 + peak v.scope e) (omega (arith, high)) selected (stays_self old n)) stays))
 
   -- ---- statements one behind another
 
-  pub statements_stay : (mid new : Draft) (all : List Stmt) (n : ℕ) (x : Stmt) → n < length all → x ≡ get_or all n x → mid.words.taken ≡ old.words.taken
-      → Stays old (stmts_needs at (stmt_trees all)) (stmts_labels old.labels (stmt_trees (take n all))) mid → StaysStatement v w mid (stmt_tree x) new
-      → Stays old (stmts_needs at (stmt_trees all)) (stmts_labels old.labels (stmt_trees (take (n + 1) all))) new
+  pub statements_stay : (mid new : Draft) (all : List Stmt) (n : ℕ) (x : Stmt) → n < length all → x ≡ get_or all n x → IsLike old mid
+      → Stays old (stmts_needs at (stmt_trees all)) (stmts_labels old.labels (stmt_trees (take n all)))
+      (stmts_rows (length old.rows.items) (stmt_trees (take n all))) mid
+      → StaysStatement v w mid (stmt_tree x) new
+      → Stays old (stmts_needs at (stmt_trees all)) (stmts_labels old.labels (stmt_trees (take (n + 1) all)))
+      (stmts_rows (length old.rows.items) (stmt_trees (take (n + 1) all))) new
   statements_stay mid new all n x less is same p q =
-      subst (λ l. Stays old (stmts_needs at (stmt_trees all)) l new) (sym (stmts_next old.labels all n x less is))
+      stays_is old new (stmts_needs at (stmt_trees all)) (stmts_next old.labels all n x less is) (stmts_counted (length old.rows.items) all n x less is)
       (stays_then old mid new (stmts_needs at (stmt_trees all)) (stmt_needs (around v w mid) (stmt_tree x)) (stmts_labels old.labels (stmt_trees (take n all)))
-      (λ l. stmt_labels l (stmt_tree x))
+      (λ l. stmt_labels l (stmt_tree x)) (λ r. stmt_rows r (stmt_tree x))
       (same_within mid (λ a. stmt_needs a (stmt_tree x)) (stmts_needs at (stmt_trees all)) same (statements_among at all n x less is).1) p q)
 
   -- ---- blocks
 
   pub block_stays : (place : ℕ) (ds : List DeclarationTree) (body : StmtTrees) (later : Visible) (declared mid : Draft)
-      → later ≡ locals_visible v old.words.taken ds → declared.words.taken ≡ old.words.taken + locals_words v.scope ds → StaysDeclarations v old ds declared
+      → later ≡ locals_visible v old.words.taken ds → declared.words.taken ≡ old.words.taken + locals_words v.scope ds
+      → declared.exceptions ≡ old.exceptions → StaysDeclarations v old ds declared
       → StaysStatements later w declared body mid → StaysStatement v w old (Block place ds body NoHandlers) mid
-  block_stays place ds body later declared mid seen same p q =
+  block_stays place ds body later declared mid seen same kept p q =
       let locals = locals_needs v old.words.taken ds in
       let run = stmts_needs (behind_locals at ds) body in
-      let n = both nothing (both locals run) in
+      let n = both locals (both run nothing) in
       let inside : around later w declared ≡ behind_locals at ds =
-      λ j. record { visible = seen j; taken = same j; looped = is_some w.exit; returns = is_some w.return } in
-      stays_then old declared mid n (stmts_needs (around later w declared) body) old.labels (λ l. stmts_labels l body)
-      (subst (λ x. Within (stmts_needs x body) n) (sym inside) (of_right run nothing (both locals run) (in_right locals run)))
-      (stays_more old declared locals n old.labels (of_right locals nothing (both locals run) (in_left locals run)) p) q
+      around_is (locals_visible v old.words.taken ds) later w declared (old.words.taken + locals_words v.scope ds) old.exceptions.items seen same
+      (ap (λ l. l.items) kept) in
+      stays_then old declared mid n (stmts_needs (around later w declared) body) old.labels (λ l. stmts_labels l body) (λ r. stmts_rows r body)
+      (subst (λ x. Within (stmts_needs x body) n) (sym inside) (of_right run locals (both run nothing) (in_left run nothing)))
+      (stays_more old declared locals n old.labels (in_left locals (both run nothing)) p) q
 
 -- ---- all of a list
 
 pub parts_end : (old new : Draft) (all : List ElsifPart) (n : ℕ) (m : Needs) → length all ≤ n
-    → Stays old m (elsifs_labels old.labels (elsif_trees (take n all))) new → Stays old m (elsifs_labels old.labels (elsif_trees all)) new
-parts_end old new all n m up p = subst (λ l. Stays old m (elsifs_labels old.labels (elsif_trees l)) new) (take_all all n up) p
+    → Stays old m (elsifs_labels old.labels (elsif_trees (take n all))) (elsifs_rows (length old.rows.items) (elsif_trees (take n all))) new
+    → Stays old m (elsifs_labels old.labels (elsif_trees all)) (elsifs_rows (length old.rows.items) (elsif_trees all)) new
+parts_end old new all n m up p =
+    subst (λ l. Stays old m (elsifs_labels old.labels (elsif_trees l)) (elsifs_rows (length old.rows.items) (elsif_trees l)) new) (take_all all n up) p
 
 pub alternatives_end : (old new : Draft) (all : List Alternative) (n : ℕ) (m : Needs) → length all ≤ n
-    → Stays old m (alternatives_labels old.labels (alternative_trees (take n all))) new
-    → Stays old m (alternatives_labels old.labels (alternative_trees all)) new
-alternatives_end old new all n m up p = subst (λ l. Stays old m (alternatives_labels old.labels (alternative_trees l)) new) (take_all all n up) p
+    → Stays old m (alternatives_labels old.labels (alternative_trees (take n all))) (alternatives_rows (length old.rows.items) (alternative_trees (take n all))) new
+    → Stays old m (alternatives_labels old.labels (alternative_trees all)) (alternatives_rows (length old.rows.items) (alternative_trees all)) new
+alternatives_end old new all n m up p =
+    subst (λ l. Stays old m (alternatives_labels old.labels (alternative_trees l)) (alternatives_rows (length old.rows.items) (alternative_trees l)) new)
+    (take_all all n up) p
 
 pub statements_end : (old new : Draft) (all : List Stmt) (n : ℕ) (m : Needs) → length all ≤ n
-    → Stays old m (stmts_labels old.labels (stmt_trees (take n all))) new → Stays old m (stmts_labels old.labels (stmt_trees all)) new
-statements_end old new all n m up p = subst (λ l. Stays old m (stmts_labels old.labels (stmt_trees l)) new) (take_all all n up) p
+    → Stays old m (stmts_labels old.labels (stmt_trees (take n all))) (stmts_rows (length old.rows.items) (stmt_trees (take n all))) new
+    → Stays old m (stmts_labels old.labels (stmt_trees all)) (stmts_rows (length old.rows.items) (stmt_trees all)) new
+statements_end old new all n m up p =
+    subst (λ l. Stays old m (stmts_labels old.labels (stmt_trees l)) (stmts_rows (length old.rows.items) (stmt_trees l)) new) (take_all all n up) p
 
 -- ---- the head of a loop over a range, and bodies
 
 -- words that are taken
-pub stays_taken : (old mid : Draft) (n : Needs) (l : List (List ℕ)) (words : FrameWords) (k : ℕ) → words.most ≡ max mid.words.most k → k ≤ n.frame
-    → Stays old n l mid
-    → Stays old n l (record { code = mid.code; labels = mid.labels; words = words })
+pub stays_taken : (old mid : Draft) (n : Needs) (l : List (List ℕ)) {r : ℕ} (words : FrameWords) (k : ℕ) → words.most ≡ max mid.words.most k → k ≤ n.frame
+    → Stays old n l r mid
+    → Stays old n l r (record mid { words = words })
 stays_taken old mid n l words k most up p = record {
   labels = p.labels;
+  rows = p.rows;
   stack = p.stack;
   frame = more old.words.most mid.words.most words.most n.frame most up p.frame;
 }
@@ -286,7 +309,7 @@ stays_taken old mid n l words k most up p = record {
 pub range_stays : (v : Visible) (old : Draft) (parameter : Identifier) (reversed : Bool) (range : RangeTree) (a b c : Code) (t : Turns) (null : ℕ)
     (words : FrameWords) → IsShallow old.code a (0 + peak v.scope range.first) → IsShallow a b (1 + peak v.scope range.last) → BeginsTurns b t null c
     → words.most ≡ max old.words.most (old.words.taken + 2)
-    → StaysRange v old parameter reversed range (record { code = c; labels = old.labels; words = words })
+    → StaysRange v old parameter reversed range (record old { code = c; words = words })
 range_stays v old parameter reversed range a b c t null words first last begins most =
     let frame = framed (old.words.taken + 2) in
     let one = value_needs v range.first in
@@ -296,25 +319,30 @@ range_stays v old parameter reversed range a b c t null words first last begins 
     let in_two = (of_right two frame (both one two) (in_right one two)).stack in
     let taken = (in_left frame (both one two)).frame in
     let some = peak_some v.scope range.last in
-    stays_code old (record { code = b; labels = old.labels; words = words }) n old.labels c 2 (omega (arith, some, in_two)) (turns_shallow b t null c begins)
+    stays_code old (record old { code = b; words = words }) n old.labels c 2 (omega (arith, some, in_two)) (turns_shallow b t null c begins)
     (stays_taken old (coded old b) n old.labels words (old.words.taken + 2) most taken
     (stays_code old (coded old a) n old.labels b (1 + peak v.scope range.last) (omega (arith, in_two)) last
     (stays_code old old n old.labels a (0 + peak v.scope range.first) (omega (arith, in_one)) first (stays_self old n))))
 
-pub run_stays : (v : Visible) (old : Draft) (ds : List DeclarationTree) (body : StmtTrees) (later : Visible) (out : ℕ) (declared : Draft) (a : Code)
+pub run_stays : (v : Visible) (old : Draft) (ds : List DeclarationTree) (body : StmtTrees) (all : HandlerTrees) (later : Visible) (out : ℕ)
+    (declared : Draft) (a : Code)
     (mid : Draft)
     (d : Code) → later ≡ locals_visible v old.words.taken ds → declared.words.taken ≡ old.words.taken + locals_words v.scope ds
-    → StaysDeclarations v old ds declared → IsShallow declared.code a 0
-    → StaysStatements later (record { exit = None; return = Some out; handled = None }) (coded declared a) body mid → d.deepest ≡ mid.code.deepest
-    → StaysRun v old ds body (coded mid d)
-run_stays v old ds body later out declared a mid d seen same p begun q patched =
+    → declared.exceptions ≡ old.exceptions → StaysDeclarations v old ds declared → IsShallow declared.code a 0
+    → StaysSequence later (record { exit = None; return = Some out; handled = None }) (coded declared a) body all mid → d.deepest ≡ mid.code.deepest
+    → StaysRun v old ds body all (coded mid d)
+run_stays v old ds body all later out declared a mid d seen same kept p begun q patched =
     let locals = locals_needs v old.words.taken ds in
-    let inner : Around = behind_locals (record { visible = v; taken = old.words.taken; looped = false; returns = true }) ds in
-    let run = stmts_needs inner body in
+    let inner : Around = behind_locals (in_body v old.words.taken old.exceptions.items) ds in
+    let run = sequence_needs inner body all in
     let n = both locals run in
     let inside : around later (record { exit = None; return = Some out; handled = None }) (coded declared a) ≡ inner =
-    λ j. record { visible = seen j; taken = same j; looped = false; returns = true } in
-    stays_as old mid n (stmts_labels old.labels body) d patched
-    (stays_then old (coded declared a) mid n (stmts_needs (around later (record { exit = None; return = Some out; handled = None }) (coded declared a)) body) old.labels
-    (λ l. stmts_labels l body) (subst (λ x. Within (stmts_needs x body) n) (sym inside) (in_right locals run))
+    around_is (locals_visible v old.words.taken ds) later (record { exit = None; return = Some out; handled = None }) (coded declared a)
+    (old.words.taken + locals_words v.scope ds) old.exceptions.items seen same (ap (λ l. l.items) kept) in
+    stays_as old mid n (handlers_labels (stmts_labels old.labels body) all) d patched
+    (stays_then old (coded declared a) mid n
+    (sequence_needs (around later (record { exit = None; return = Some out; handled = None }) (coded declared a)) body all)
+    old.labels
+    (λ l. handlers_labels (stmts_labels l body) all) (λ r. handlers_rows (stmts_rows r body) all)
+    (subst (λ x. Within (sequence_needs x body all) n) (sym inside) (in_right locals run))
     (stays_code old declared n old.labels a 0 (omega arith) begun (stays_more old declared locals n old.labels (in_left locals run) p)) q)

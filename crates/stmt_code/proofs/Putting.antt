@@ -39,6 +39,7 @@ use Rattle.stmt_code.specs.Lines.{Line, is_put, line_behind, line_in, line_of}
 use Rattle.stmt_code.specs.Resting.{Framed}
 use Rattle.stmt_code.specs.Statements.{IsCalled, Numbers, Ways}
 use Rattle.stmt_code.specs.declared.draft.Draft.{Draft}
+use Rattle.stmt_code.proofs.RowsAdded.{KeepsRows, goes_kept, rows_kept}
 use Rattle.stmt_code.proofs.Adding.{value_extends, value_kept}
 use Rattle.stmt_code.proofs.Opening.{shorter}
 
@@ -151,7 +152,7 @@ many_selectors (selectors.Arguments' shape row ∷ b ∷ rest) le = refl
 module _ (v : Visible) (w : Ways) (a c : Draft) (m : Code) (name : NameTree) (label : List ℕ) (value : ExprTree) (number : ℕ)
     (put : entity_named v.scope name.first.name ≡ Some Put) (written : line_of name ≡ Some (record { label = label; value = value }))
     (p : EmitsExpression v a.code 0 1 value m) (q : Adds m 1 (op.PutLine number) c.code)
-    (stay : StandsFrom 0 a.labels c.labels) (still : c.words ≡ a.words) (there : slice_get c.labels number ≡ Some label) where
+    (stay : StandsFrom 0 a.labels c.labels) (still : c.words ≡ a.words) (kept : KeepsRows a c) (there : slice_get c.labels number ≡ Some label) where
   next : here c.code ≡ suc (here m)
   next = added_here m c.code 1 (op.PutLine number) q
 
@@ -188,7 +189,9 @@ module _ (v : Visible) (w : Ways) (a c : Draft) (m : Code) (name : NameTree) (la
     taken = ap (λ x. x.taken) still;
     most = (let m = ap (λ x. x.most) still in omega (arith, m));
     sized = let size = ap selectors_size (line_written name.selectors label value written).is in omega (arith, p.sized, next, size);
-    stands = λ i h l program g numbers f names serves room handling goes. (means i h l program g numbers f names serves room, goes);
+    rows = rows_kept a c kept;
+    stands = λ i h l program g numbers f names serves room handling goes.
+        (means i h l program g numbers f names serves room, goes_kept a c kept i program handling goes);
     flows = λ i s low high down up h l suits deep wide ends ways.
         value_kept v a.code m c.code (op.PutLine number) p.extends p.flows q i s low high down up h suits deep refl
         (lt_true number (length i.labels) (shorter i.labels number label (l.labels number label (omega arith) there))) (omega arith) (omega arith) refl ends

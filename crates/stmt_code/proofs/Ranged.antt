@@ -25,7 +25,7 @@ use Rattle.expr_code.proofs.Flowing.{kept_one, kept_then, widened}
 use Rattle.expr_code.proofs.Growing.{added_extends, added_here, extends_trans, patched_extends, patched_here, patched_other}
 use Rattle.stmt_code.specs.Handling.{GoesBy, Handling}
 use Rattle.stmt_code.specs.Bounds.{stmts_words}
-use Rattle.stmt_code.specs.Emitting.{Allows, BeginsLoop, EmitsStatement, EmitsStatements, EndsLoop, HasEntries, HasLabels, IsReached, Serves, seeing}
+use Rattle.stmt_code.specs.Emitting.{Allows, BeginsLoop, EmitsStatement, EmitsStatements, EndsLoop, HasEntries, HasLabels, IsHandled, IsReached, Serves, seeing}
 use Rattle.stmt_code.specs.Resting.{Framed}
 use Rattle.stmt_code.specs.Suiting.{SuitsStatements}
 use Rattle.stmt_code.specs.Statements.{AreStatements, IsStatement, Numbers, Ways, within_loop}
@@ -40,6 +40,7 @@ use Rattle.stmt_code.proofs.Repeating.{in_the_loop}
 use Rattle.stmt_code.proofs.Turned.{HasBoth, StandAll, advances_by, all_extends, all_here, all_there, begins_by, bounds_flow, counted_flow, values_flow}
 use Rattle.stmt_code.proofs.Walking.{behind}
 use Rattle.stmt_code.proofs.Handling.{goes_within}
+use Rattle.stmt_code.proofs.RowsAdded.{Surrounds, finds_later, finds_patched, goes_behind, goes_front, handled_inside, keeps_then, rows_around}
 
 -- no place of a part of code is this one
 abbrev IsOutside : (from to place : ℕ) → Type 0
@@ -284,7 +285,8 @@ module _ (stay : ShapesStay) (v later : Visible) (w : Ways) (a b e c : Draft) (c
 
     module _ (quiet : QuietStays) (kept : AgreementIsKept) (sized : ValuesHaveWords) (l : HasLabels i c.labels) (program : Program) (g : Package)
         (numbers : Numbers) (f : Framed) (serves : Serves program g numbers (seeing f v) b.words.taken) (room : c.words.most ≤ f.room)
-        (handling : Handling) (goes : GoesBy i handling (here a.code) (here whole)) where
+        (handling : Handling) (handled : IsHandled i program e c p.rows handling) (bounds_go : GoesBy i handling (here a.code) (here e.code))
+        (turns_go : GoesBy i handling (here c.code) (here whole)) where
       abbrev in_loop : Framed
       in_loop = record { names = later; room = f.room; reserved = t.counter ∷ t.limit ∷ f.reserved }
 
@@ -297,8 +299,7 @@ module _ (stay : ShapesStay) (v later : Visible) (w : Ways) (a b e c : Draft) (c
           (subst (λ n. AreStatements i program g numbers in_loop (within_loop out w) handling n (here c.code) body) (opened_at ∙ ap suc compared_at)
           (p.stands i in_body l program g numbers in_loop refl
           (serves_inside stay v later b e parameter reversed range t null sound entries legal of_type r kept sized program g numbers f serves room_before) room handling
-          (goes_within i handling (here a.code) (here e.code) (here c.code) (here whole) goes (omega (arith, before_body, begun_at))
-          (omega (arith, whole_at, turned_at, counted_at, tested_at, values_at)))))
+          handled))
 
       pub loop_stands : (place : ℕ) → IsStatement i program g numbers (seeing f v) w handling (here a.code) (here whole) (Loop place (For parameter reversed range) body)
       loop_stands place =
@@ -312,12 +313,15 @@ module _ (stay : ShapesStay) (v later : Visible) (w : Ways) (a b e c : Draft) (c
           (subst (λ n. Computes i (library_of g) (Sees g v) n (here r.middle) range.first) begun_at (r.first.computes i in_first g))
           (r.last.computes i in_last g) begins_there body_there advances_there
           (subst (λ n. At i n (op.Jump (behind 6 start))) (counted_at ∙ ap (behind 4) (tested_at ∙ ap suc values_at))
-          (subst (λ n. At i (here counted) (op.Jump n)) (opened_at ∙ ap suc compared_at) (0, at_back))) goes
+          (subst (λ n. At i (here counted) (op.Jump n)) (opened_at ∙ ap suc compared_at) (0, at_back)))
+          (goes_within i handling (here a.code) (here a.code + 2) (behind 6 start) (here e.code) bounds_go (omega arith)
+          (omega (arith, opened_at, compared_at)))
+          turns_go
 
     -- ---- the rules of images
 
     module _ (s : Subprogram) (low high : ℕ) (l : HasLabels i c.labels) (down : low ≤ here a.code) (up : here whole ≤ high) (suits : SuitsStatements v i s)
-        (deep : whole.deepest ≤ s.stack) (wide : c.words.most ≤ s.locals) (empty : has_depth i (here whole) 0 ≡ true) (ways : Allows i low high w) where
+        (deep : whole.deepest ≤ s.stack) (wide : c.words.most ≤ s.locals) (empty : has_depth i (here whole) 0 ≡ true) (ways : Allows i s low high w) where
       deepest : turned.deepest ≤ s.stack
       deepest = omega (arith, ap (λ n. n) again.deepest, ap (λ n. n) patch.deepest, ap (λ n. n) ends.patches.deepest, deep)
 
@@ -384,7 +388,7 @@ module _ (stay : ShapesStay) (v later : Visible) (w : Ways) (a b e c : Draft) (c
       body_kept =
           p.flows i s low high opened_down (omega (arith, counted_up, counted_at, tested_at, values_at)) in_body l
           (suits_inside stay v later b e parameter reversed range t null sound entries legal of_type r i s has.counter suits)
-          (omega (arith, body_grows.deeper, deepest)) wide values_kept.begins (in_the_loop i low high out w ways out_reached)
+          (omega (arith, body_grows.deeper, deepest)) wide values_kept.begins (in_the_loop i s low high out w ways out_reached)
 
       null_kept : AreKept i s low high (here compared) (here e.code) 1
       null_kept = test_kept (here compared) (here e.code) at_null opened_at body_kept.begins
@@ -444,8 +448,24 @@ module _ (stay : ShapesStay) (v later : Visible) (w : Ways) (a b e c : Draft) (c
 
   -- ---- the whole
 
+  abbrev looped : Draft
+  looped = record c { code = whole; words = record c.words { taken = a.words.taken } }
+
+  around : Surrounds a e c looped
+  around = record {
+    begun = keeps_then a b e same.2 (r.rows, r.exceptions);
+    ended = (refl, refl);
+    up = omega (arith, before_body, begun_at);
+    mid = p.extends.longer;
+    over = omega (arith, whole_at, turned_at, counted_at, tested_at, values_at);
+    still = λ place h.
+        finds_patched patched whole last (op.JumpIfNotZero end) again place
+        (finds_patched ended patched null (op.JumpIfNotZero end) patch place
+        (finds_patched turned ended out (op.Jump (here turned)) ends.patches place (finds_later c.code turned body_grows place h)));
+  }
+
   pub range_emits : QuietStays → AgreementIsKept → ValuesHaveWords → (place : ℕ) (d : Draft)
-      → d ≡ record { code = whole; labels = c.labels; words = record c.words { taken = a.words.taken } }
+      → d ≡ record c { code = whole; words = record c.words { taken = a.words.taken } }
       → EmitsStatement v w a (Loop place (For parameter reversed range) body) d
   range_emits quiet kept sized place d is = subst (EmitsStatement v w a (Loop place (For parameter reversed range) body)) (sym is) (record {
     extends = patched_extends patched whole last (op.JumpIfNotZero end) again a.code (omega (arith, last_at, before_body, begun_at))
@@ -457,10 +477,14 @@ module _ (stay : ShapesStay) (v later : Visible) (w : Ways) (a b e c : Draft) (c
     most = (let m = most_beside a b same in omega (arith, m, r.takes.grows, p.most));
     sized = (let k = ap (λ s. stmts_words s body) r.scope in
         omega (arith, whole_at, turned_at, counted_at, tested_at, values_at, p.sized, opened_at, compared_at, r.last.sized, r.first.sized, begun_at, k));
+    rows = rows_around a e c looped around p.rows;
     stands = λ i h l program g numbers f names serves room handling goes.
         let frame : seeing f v ≡ f = λ j. record f { names = (sym names) j } in
         subst (λ z. IsStatement i program g numbers z w handling (here a.code) (here whole) (Loop place (For parameter reversed range) body)) frame
         (loop_stands i h quiet kept sized l program g numbers f
-        (subst (λ z. Serves program g numbers z b.words.taken) (sym frame) (subst (Serves program g numbers f) (sym (taken_beside a b same)) serves)) room handling goes place);
+        (subst (λ z. Serves program g numbers z b.words.taken) (sym frame)
+        (subst (Serves program g numbers f) (sym (taken_beside a b same)) serves)) room handling
+        (handled_inside a e c looped around p.rows i program handling goes) (goes_front a e c looped around p.rows i program handling goes)
+        (goes_behind a e c looped around p.rows i program handling goes) place);
     flows = λ i s low high down up h l suits deep wide empty ways. loop_kept i h s low high l down up suits deep wide empty ways;
   })

@@ -43,7 +43,6 @@ use Rattle.stmt_code.specs.Statements.{AreStatements, IsStatement, Numbers, Ways
 use Rattle.stmt_code.specs.Turns.{next_operation}
 use Rattle.stmt_code.proofs.Parameters.{HoldsRange, both_swapped, inside, next_rests, null_rests, parameter_fits, parameter_shows, turn_rests, with_both, with_word, word_long}
 use Rattle.stmt_code.proofs.Walking.{Walks, behind, compares, jumps_if, loads_local, orders, puts, stores_local, then_step}
-use Rattle.stmt_code.proofs.Handling.{goes_within}
 
 -- ---- the bounds
 
@@ -370,10 +369,10 @@ module _ (quiet : QuietStays) (kept : AgreementIsKept) (sized : ValuesHaveWords)
       → Begins i counter limit mid to reversed
       → AreStatements i program g numbers inner (within_loop (from + 1) w) handling (behind 6 mid) back body
       → Advances i counter limit back to reversed → At i (behind 8 back) (op.Jump (behind 6 mid))
-      → GoesBy i handling from to
+      → GoesBy i handling (from + 2) (behind 6 mid) → GoesBy i handling back to
       → IsStatement i program g numbers v w handling from to (Loop place (For parameter reversed range) body)
   stands_counted program numbers w handling parameter same place reversed range body from middle mid back to low high over end skip out first last begin statements code
-      jump goes =
+      jump bounds_go turns_go =
       subst
       (λ q. (c : IsCounted i g v from to q reversed)
       × IsRange i g v c.inner c.counter c.limit (from + 2) c.start to q reversed range
@@ -382,6 +381,6 @@ module _ (quiet : QuietStays) (kept : AgreementIsKept) (sized : ValuesHaveWords)
         is_counted reversed from (behind 6 mid) back to (omega (arith, low, high)) over end skip out code jump,
         is_range range reversed (from + 2) middle mid to low high first last begin,
         statements,
-        goes_within i handling from (from + 2) (behind 6 mid) to goes (omega arith) (omega (arith, over, end)),
-        goes_within i handling from back to to goes (omega (arith, low, high, over)) (omega arith),
+        bounds_go,
+        turns_go,
       )

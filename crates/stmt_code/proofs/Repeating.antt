@@ -8,6 +8,7 @@ use Rattle.image.specs.Sections.{Sections}
 use Rattle.image.specs.Rules.{has_depth}
 use Rattle.image.specs.declared.instruction.Operation.{Operation}
 use Rattle.image.specs.declared.instruction.Operation.TheVariants as op
+use Rattle.image.specs.declared.subprograms.Subprogram.{Subprogram}
 use Rattle.types.specs.Scopes.{Scope}
 use Rattle.expr_rules.proofs.TypedLaw.{back_empty, front_empty}
 use Rattle.stmt_rules.specs.SimpleRules.{condition_faults}
@@ -22,14 +23,16 @@ use Rattle.stmt_code.specs.Emitting.{Allows, AreLegal, BeginsLoop, EmitsStatemen
 use Rattle.stmt_code.specs.Statements.{AreStatements, Ways, within_loop}
 use Rattle.stmt_code.specs.declared.draft.Draft.{Draft}
 use Rattle.stmt_code.proofs.Adding.{IsBeside, depth_there, jump_kept, labels_before, labels_beside, labels_then, most_beside, taken_beside}
-use Rattle.stmt_code.proofs.Handling.{goes_within}
 use Rattle.stmt_code.proofs.Opening.{added_is, patched_is, some_same}
+use Rattle.stmt_code.proofs.RowsAdded.{Surrounds, finds_later, finds_patched, handled_inside, rows_around}
 
 -- in a loop the way out behind it is reached, where its jump stands with an empty operand stack
-pub in_the_loop : (i : Sections) (low high exit : ℕ) (w : Ways) → Allows i low high w → IsReached i low high exit → Allows i low high (within_loop exit w)
-in_the_loop i low high exit w ways r = record {
+pub in_the_loop : (i : Sections) (s : Subprogram) (low high exit : ℕ) (w : Ways) → Allows i s low high w → IsReached i low high exit
+    → Allows i s low high (within_loop exit w)
+in_the_loop i s low high exit w ways r = record {
   exit = λ place is. subst (IsReached i low high) (some_same exit place is) r;
   return = ways.return;
+  handled = ways.handled;
 }
 
 module _ (v : Visible) (w : Ways) where
@@ -99,6 +102,16 @@ module _ (v : Visible) (w : Ways) where
     abbrev inner_labels : (i : Sections) → HasLabels i d.labels → HasLabels i c.labels
     inner_labels i l = labels_before i c.labels d.labels (labels_beside c d still) l
 
+    around : Surrounds a b c d
+    around = record {
+      begun = same.2;
+      ended = still.2;
+      up = omega (arith, one, two);
+      mid = p.extends.longer;
+      over = omega (arith, three, four);
+      still = λ place h. finds_patched ends.turned d.code out (op.Jump (here ends.turned)) ends.patches place (finds_later c.code ends.turned turning place h);
+    }
+
     pub forever_emits : (place : ℕ) → EmitsStatement v w a (statements.Loop place Forever body) d
     forever_emits place = record {
       extends = patched_extends ends.turned d.code out (op.Jump (here ends.turned)) ends.patches a.code (omega (arith, out_is))
@@ -107,6 +120,7 @@ module _ (v : Visible) (w : Ways) where
       taken = taken_beside c d still ∙ p.taken ∙ taken_beside a b same;
       most = (let m = most_beside a b same in let n = most_beside c d still in omega (arith, m, p.most, n));
       sized = omega (arith, one, two, three, four, p.sized);
+      rows = rows_around a b c d around p.rows;
       stands = λ i h l program g numbers f names serves room handling goes. (
         here c.code,
         omega (arith, one, two, p.extends.longer),
@@ -117,7 +131,7 @@ module _ (v : Visible) (w : Ways) where
             (subst (λ n. AreStatements i program g numbers f (within_loop out w) handling n (here c.code) body) head_is
             (p.stands i (in_body i h) (inner_labels i l) program g numbers f names (subst (Serves program g numbers f) (sym (taken_beside a b same)) serves)
             (let m = most_beside c d still in omega (arith, m, room)) handling
-            (goes_within i handling (here a.code) (here b.code) (here c.code) (here d.code) goes (omega (arith, one, two)) (omega (arith, three, four))))),
+            (handled_inside a b c d around p.rows i program handling goes))),
         (0, subst (λ n. slice_get i.instructions (here c.code) ≡ Some (record { depth = 0; operation = op.Jump n })) back_is (at_back i h)),
         four ∙ three,
       );
@@ -129,7 +143,7 @@ module _ (v : Visible) (w : Ways) where
           } in
           let kept = p.flows i s low high (omega (arith, down, one, two)) (omega (arith, up, four, three)) (in_body i h) (inner_labels i l) suits
           (omega (arith, turning.deeper, ap (λ n. n) ends.patches.deepest, deep)) (let m = most_beside c d still in omega (arith, m, wide)) (depth_there i (here c.code) 0 (op.Jump back) (at_back i h))
-          (in_the_loop i low high out w ways reached) in
+          (in_the_loop i s low high out w ways reached) in
           let head : back ≡ here b.code = omega (arith, back_is, one, two) in
           let turn : IsReached i low high back = record {
             down = omega (arith, head, down, one, two);

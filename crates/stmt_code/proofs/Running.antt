@@ -1,7 +1,10 @@
 -- The code of a body up to its end: its declarations, the way out, and its statements.
-use Rattle.std.proofs.Common.{◌≡◌, ℕ, suc, ◌+◌, ◌≤◌, List, None, Some, refl, sym, ap, ◌∙◌, subst, arith}
+use Rattle.std.proofs.Common.{◌≡◌, ℕ, suc, ◌+◌, ◌≤◌, List, map, None, Some, refl, sym, ap, ◌∙◌, subst, arith}
 use Rattle.std.specs.Prelude.{slice_get}
-use Rattle.ada_tree.specs.StatementTree.{DeclarationTree, StmtTrees}
+use Rattle.ada_tree.specs.declared.declaration.Declaration.{Declaration}
+use Rattle.ada_tree.specs.declared.statement.Handler.{Handler}
+use Rattle.ada_tree.specs.declared.statement.Stmt.{Stmt}
+use Rattle.ada_tree.specs.StatementTree.{DeclarationTree, HandlerTrees, StmtTrees, declaration_tree, handler_trees, stmt_trees}
 use Rattle.image.specs.Sections.{Sections}
 use Rattle.image.specs.Rules.{has_depth}
 use Rattle.image.specs.declared.instruction.Operation.{Operation}
@@ -13,21 +16,25 @@ use Rattle.expr_code.specs.declared.visible.Visible.{Visible}
 use Rattle.expr_code.proofs.Flowing.{kept_then}
 use Rattle.expr_code.proofs.Growing.{added_extends, added_here, extends_trans, holds_before, patched_extends, patched_here, patched_holds, patched_other}
 use Rattle.stmt_code.specs.Handling.{GoesBy}
-use Rattle.stmt_code.specs.Bounds.{stmts_words}
-use Rattle.stmt_code.specs.Emitting.{Allows, BeginsLoop, EmitsDeclarations, EmitsRun, EmitsStatements, HasLabels, IsReached, Serves, seeing}
-use Rattle.stmt_code.specs.Statements.{AreStatements, Ways}
+use Rattle.stmt_code.specs.Bounds.{handlers_words, stmts_words}
+use Rattle.stmt_code.specs.Covering.{EmitsSequence}
+use Rattle.stmt_code.specs.Emitting.{Allows, BeginsLoop, EmitsDeclarations, EmitsRun, HasLabels, IsReached, Serves, seeing}
+use Rattle.stmt_code.specs.Statements.{IsSequence, Ways}
 use Rattle.stmt_code.specs.declared.draft.Draft.{Draft}
 use Rattle.stmt_code.proofs.Adding.{IsBeside, depth_there, jump_kept, labels_before, labels_beside, labels_then, most_beside, taken_beside}
 use Rattle.stmt_code.proofs.Opening.{added_is, patched_is, some_same}
 use Rattle.stmt_code.proofs.Handling.{goes_within}
+use Rattle.stmt_code.proofs.RowsAdded.{KeepsRows, Surrounds, finds_patched, goes_front, handled_inside, keeps_then, rows_around}
 
 -- a return leads to the way out, and there is no loop to leave
 abbrev pub returning : ℕ → Ways
 returning out = record { exit = None; return = Some out; handled = None }
 
-module _ (v later : Visible) (a b c d e : Draft) (ds : List DeclarationTree) (body : StmtTrees) (out end : ℕ) (p : EmitsDeclarations v a ds later b)
-    (begins : BeginsLoop b.code c.code) (same : IsBeside b c) (out_is : out ≡ here b.code + 1) (q : EmitsStatements later (returning out) c body d)
+module _ (v later : Visible) (a b c d e : Draft) (ds : List DeclarationTree) (body : StmtTrees) (all : HandlerTrees) (out end : ℕ)
+    (p : EmitsDeclarations v a ds later b)
+    (begins : BeginsLoop b.code c.code) (same : IsBeside b c) (out_is : out ≡ here b.code + 1) (q : EmitsSequence later (returning out) c body all d)
     (end_is : end ≡ here d.code) (patch : Patches d.code out (op.Jump end) e.code) (labels : e.labels ≡ d.labels)
+    (kept : KeepsRows d e)
     (words : e.words ≡ record d.words { taken = a.words.taken }) where
   abbrev skip : Operation
   skip = op.Jump (here b.code + 2)
@@ -95,14 +102,26 @@ module _ (v later : Visible) (a b c d e : Draft) (ds : List DeclarationTree) (bo
   end_here : end ≡ here e.code
   end_here = end_is ∙ sym three
 
-  pub run_emits : EmitsRun v a ds body e
+  around : Surrounds a c d e
+  around = record {
+    begun = keeps_then a b c (p.rows, p.exceptions) same.2;
+    ended = kept;
+    up = omega (arith, one, two, p.extends.longer);
+    mid = q.extends.longer;
+    over = omega (arith, three);
+    still = finds_patched d.code e.code out (op.Jump end) patch;
+  }
+
+  pub run_emits : EmitsRun v a ds body all e
   run_emits = record {
     extends = extends_trans a.code b.code e.code p.extends declared;
     labels = labels_then a.labels b.labels e.labels p.labels
         (labels_then b.labels c.labels e.labels (labels_beside b c same) (subst (λ l. StandsFrom 0 c.labels l) (sym labels) q.labels));
     taken = ap (λ w. w.taken) words;
     most = omega (arith, p.most, many);
-    sized = (let k = ap (λ s. stmts_words s body) p.scope in omega (arith, one, two, three, p.sized, q.sized, k));
+    sized = (let k = ap (λ s. stmts_words s body) p.scope in let m = ap (λ s. handlers_words s all) p.scope in
+        omega (arith, one, two, three, p.sized, q.sized, k, m));
+    rows = rows_around a c d e around q.rows;
     stands = λ i h l program g numbers f names serves room handling goes none.
         let front = p.stands i (in_front i h) (labels_in_front i l) program g numbers f names serves (omega (arith, many, room)) in
         record {
@@ -113,19 +132,18 @@ module _ (v later : Visible) (a b c d e : Draft) (ds : List DeclarationTree) (bo
           declared = front.0;
           uncovered =
               subst (λ q. GoesBy i q (here a.code) (here b.code)) none
-              (goes_within i handling (here a.code) (here a.code) (here b.code) (here e.code) goes (omega arith)
-              (omega (arith, one, two, three, q.extends.longer)));
+              (goes_within i handling (here a.code) (here a.code) (here b.code) (here c.code)
+              (goes_front a c d e around q.rows i program handling goes) (omega arith) (omega (arith, one, two)));
           skip = (0, at_skip i h);
           way = subst (λ n. At i n (op.Jump (here e.code))) out_is (subst (λ m. At i out (op.Jump m)) end_here (0, at_way i h));
           statements =
-              subst (λ z. AreStatements i program g numbers (seeing f later) (returning (here b.code + 1)) z (here b.code + 2) (here e.code) body) none
-              (subst (λ n. AreStatements i program g numbers (seeing f later) (returning n) handling (here b.code + 2) (here e.code) body) out_is
-              (subst (λ n. AreStatements i program g numbers (seeing f later) (returning out) handling n (here e.code) body) head_is
-              (subst (λ n. AreStatements i program g numbers (seeing f later) (returning out) handling (here c.code) n body) (sym three)
+              subst (λ z. IsSequence i program g numbers (seeing f later) (returning (here b.code + 1)) z (here b.code + 2) (here e.code) body all) none
+              (subst (λ n. IsSequence i program g numbers (seeing f later) (returning n) handling (here b.code + 2) (here e.code) body all) out_is
+              (subst (λ n. IsSequence i program g numbers (seeing f later) (returning out) handling n (here e.code) body all) head_is
+              (subst (λ n. IsSequence i program g numbers (seeing f later) (returning out) handling (here c.code) n body all) (sym three)
               (q.stands i (in_body i h) (labels_of i l) program g numbers (seeing f later) refl
               (subst (Serves program g numbers (seeing f later)) (sym (taken_beside b c same)) front.1) (omega (arith, most_is, room)) handling
-              (goes_within i handling (here a.code) (here c.code) (here d.code) (here e.code) goes (omega (arith, one, two, p.extends.longer))
-              (omega (arith, three)))))));
+              (handled_inside a c d e around q.rows i program handling goes)))));
         };
     flows = λ i s low high down up h l suits deep wide ends ways.
         let way : IsReached i low high out = record {
@@ -133,9 +151,10 @@ module _ (v later : Visible) (a b c d e : Draft) (ds : List DeclarationTree) (bo
           up = omega (arith, up, three, q.extends.longer, two, one, out_is);
           empty = depth_there i out 0 (op.Jump end) (at_way i h);
         } in
-        let inner : Allows i low high (returning out) = record {
+        let inner : Allows i s low high (returning out) = record {
           exit = λ place is. absurd cc;
           return = λ place is. subst (IsReached i low high) (some_same out place is) way;
+          handled = λ word is. absurd cc;
         } in
         let wider = p.suits i s suits (omega (arith, many, wide)) in
         let kept = q.flows i s low high (omega (arith, down, one, two, p.extends.longer)) (omega (arith, up, three)) (in_body i h) (labels_of i l) wider
@@ -161,3 +180,10 @@ module _ (v later : Visible) (a b c d e : Draft) (ds : List DeclarationTree) (bo
         (subst (λ n. AreKept i s low high out n 0) (let k : suc out ≡ here c.code = omega (arith, out_is, one, two) in k) leave))
         (subst (λ n. AreKept i s low high (here c.code) n 0) (sym three) kept));
   }
+
+-- ---- the parts of a body, as they are handed on
+
+pub body_parts : (Is : List DeclarationTree → StmtTrees → HandlerTrees → Type 0) (ds es : List Declaration) (xs ys : List Stmt) (hs gs : List Handler)
+    → es ≡ ds → ys ≡ xs → gs ≡ hs → Is (map declaration_tree es) (stmt_trees ys) (handler_trees gs)
+    → Is (map declaration_tree ds) (stmt_trees xs) (handler_trees hs)
+body_parts Is ds es xs ys hs gs p q r h = subst (λ t. t) (λ j. Is (map declaration_tree (p j)) (stmt_trees (q j)) (handler_trees (r j))) h

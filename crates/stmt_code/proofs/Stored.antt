@@ -47,6 +47,7 @@ use Rattle.stmt_code.specs.Suiting.{SuitsStatements}
 use Rattle.stmt_code.specs.Resting.{Framed}
 use Rattle.stmt_code.specs.Statements.{IsAssigned, Numbers, Ways}
 use Rattle.stmt_code.specs.declared.draft.Draft.{Draft}
+use Rattle.stmt_code.proofs.RowsAdded.{goes_kept, rows_kept}
 use Rattle.stmt_code.proofs.Adding.{IsBeside, labels_beside, most_beside, taken_beside, value_extends, value_kept}
 use Rattle.stmt_code.proofs.Assigning.{assigns_local_word, assigns_plain_word}
 use Rattle.stmt_code.proofs.Declaring.{IsTypedAs}
@@ -207,9 +208,10 @@ module _ (kept : AgreementIsKept) (sized : ValuesHaveWords) (calls : CallsAreTyp
     taken = taken_beside a c same;
     most = (let n = most_beside a c same in omega (arith, n));
     sized = omega (arith, p.sized, next);
+    rows = rows_kept a c same.2;
     stands = λ i h l program g numbers f names serves room handling goes. (
       subst (λ n. IsAssigned i program g numbers f (here a.code) n name e) (sym next) (stored i h program g numbers f names serves.laid),
-      goes,
+      goes_kept a c same.2 i program handling goes,
     );
     flows = λ i s low high down up h l suits deep wide ends ways. flows_by i s low high down up h suits deep ends slot.region refl operation;
   }

@@ -25,6 +25,7 @@ use Rattle.stmt_code.proofs.Adding.{IsBeside, depth_there, jump_kept, labels_bef
 use Rattle.stmt_code.proofs.Opening.{added_is, patched_is, shorter}
 use Rattle.stmt_code.proofs.Repeating.{in_the_loop}
 use Rattle.stmt_code.proofs.Handling.{goes_within}
+use Rattle.stmt_code.proofs.RowsAdded.{Surrounds, finds_later, finds_patched, goes_front, handled_inside, keeps_then, rows_around}
 
 module _ (v : Visible) (w : Ways) where
   -- ---- with a condition
@@ -143,6 +144,18 @@ module _ (v : Visible) (w : Ways) where
     after : d.words ≡ c.words
     after = last.1 ∙ still.1
 
+    around : Surrounds a jumped c d
+    around = record {
+      begun = keeps_then a b jumped same.2 on.2;
+      ended = keeps_then c d' d still.2 last.2;
+      up = omega (arith, one, two, first.extends.longer, tested_here);
+      mid = p.extends.longer;
+      over = omega (arith, three, four, five);
+      still = λ place h.
+          finds_patched d'.code d.code test (op.JumpIfZero end) patch place
+          (finds_patched ends.turned d'.code out (op.Jump (here ends.turned)) ends.patches place (finds_later c.code ends.turned turning place h));
+    }
+
     abbrev inner_labels : (i : Sections) → HasLabels i d.labels → HasLabels i c.labels
     inner_labels i l = labels_before i c.labels d.labels behind l
 
@@ -156,6 +169,7 @@ module _ (v : Visible) (w : Ways) where
       taken = ap (λ x. x.taken) after ∙ p.taken ∙ ap (λ x. x.taken) ahead;
       most = (let m = ap (λ x. x.most) ahead in let n = ap (λ x. x.most) after in omega (arith, m, p.most, n));
       sized = omega (arith, one, two, three, four, five, tested_here, first.sized, p.sized);
+      rows = rows_around a jumped c d around p.rows;
       stands = λ i h l program g numbers f names serves room handling goes. (
         here tested,
         here c.code,
@@ -170,12 +184,11 @@ module _ (v : Visible) (w : Ways) where
             (subst (λ n. AreStatements i program g numbers f (within_loop out w) handling n (here c.code) body) tested_here
             (p.stands i (in_body i h) (inner_labels i l) program g numbers f names (subst (λ x. Serves program g numbers f x.taken) (sym ahead) serves)
             (let m = ap (λ x. x.most) after in omega (arith, m, room)) handling
-            (goes_within i handling (here a.code) (here jumped.code) (here c.code) (here d.code) goes (omega (arith, one, two, first.extends.longer, tested_here))
-            (omega (arith, three, four, five))))),
+            (handled_inside a jumped c d around p.rows i program handling goes))),
         (0, subst (λ n. slice_get i.instructions (here c.code) ≡ Some (record { depth = 0; operation = op.Jump n })) back_is (at_back i h)),
         five ∙ four ∙ three,
-        goes_within i handling (here a.code) (here a.code + 2) (here tested) (here d.code) goes (omega arith)
-            (omega (arith, tested_here, p.extends.longer, three, four, five)),
+        goes_within i handling (here a.code) (here a.code + 2) (here tested) (here jumped.code) (goes_front a jumped c d around p.rows i program handling goes)
+            (omega arith) (omega (arith, tested_here)),
       );
       flows = λ i s low high down up h l suits deep wide empty ways.
           let deepest : ends.turned.deepest ≤ s.stack = omega (arith, ap (λ n. n) patch.deepest, ap (λ n. n) ends.patches.deepest, deep) in
@@ -187,7 +200,7 @@ module _ (v : Visible) (w : Ways) where
           } in
           let kept = p.flows i s low high (omega (arith, down, one, two, first.extends.longer, tested_here)) (omega (arith, up, five, four, three)) (in_body i h)
           (inner_labels i l) suits (omega (arith, turning.deeper, deepest)) (let m = ap (λ x. x.most) after in omega (arith, m, wide)) (depth_there i (here c.code) 0 (op.Jump back) (at_back i h))
-          (in_the_loop i low high out w ways reached) in
+          (in_the_loop i s low high out w ways reached) in
           let tests = kept_one i s low high (here tested) 1 0 (op.JumpIfZero (here d.code)) (at_test i h) single (omega arith) refl refl (omega arith) (omega arith) refl
           (λ g. ap (λ m. has_depth i m 0) (sym tested_here) ∙ kept.begins)
           (λ t g. let to : t ≡ here d.code = same_place (op.JumpIfZero (here d.code)) (here d.code) t refl g in (

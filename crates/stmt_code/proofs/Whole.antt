@@ -103,11 +103,11 @@ module _ (i : Sections) where
   abbrev ends_after : ℕ → Subprogram → Bool
   ends_after place s = nat_lt place s.end_
 
-  number_here : (s : Subprogram) (rest : List Subprogram) (a : ℕ) → a < s.end_ → holder_number (s ∷ rest) a ≡ Some 0
+  pub number_here : (s : Subprogram) (rest : List Subprogram) (a : ℕ) → a < s.end_ → holder_number (s ∷ rest) a ≡ Some 0
   number_here s rest a less =
       place_is (ends_after a) (s ∷ rest) ∙ ap (λ b. cond b (Some 0) (option_map suc (first_place (ends_after a) rest))) (lt-ltb a s.end_ less)
 
-  number_later : (s : Subprogram) (rest : List Subprogram) (a n : ℕ) → s.end_ ≤ a → holder_number rest a ≡ Some n → holder_number (s ∷ rest) a ≡ Some (suc n)
+  pub number_later : (s : Subprogram) (rest : List Subprogram) (a n : ℕ) → s.end_ ≤ a → holder_number rest a ≡ Some n → holder_number (s ∷ rest) a ≡ Some (suc n)
   number_later s rest a n past h =
       place_is (ends_after a) (s ∷ rest) ∙ ap (λ b. cond b (Some 0) (option_map suc (first_place (ends_after a) rest))) (le-ltb a s.end_ past)
       ∙ ap (option_map suc) (sym (place_is (ends_after a) rest) ∙ h)

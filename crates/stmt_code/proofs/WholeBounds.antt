@@ -19,7 +19,7 @@ use Rattle.expr_code.specs.Emitting.{EmitsChecked}
 use Rattle.expr_code.specs.declared.code.Code.{Code}
 use Rattle.expr_code.specs.declared.visible.Visible.{Visible}
 use Rattle.expr_code.proofs.Growing.{added_here}
-use Rattle.stmt_code.specs.Bounds.{formals_words, function_bound, locals_words, main_bound, procedure_bound, run_bound, stmts_words, words_if_any}
+use Rattle.stmt_code.specs.Bounds.{formals_words, function_bound, handlers_words, locals_words, main_bound, procedure_bound, run_bound, stmts_words, words_if_any}
 use Rattle.stmt_code.specs.Emitting.{AddsInitial, EmitsObject, Pushes}
 use Rattle.stmt_code.specs.Formals.{Initialises, PlacesFormals, Returns, StandInTurn, placed_words}
 use Rattle.stmt_code.specs.Subprograms.{AddsCalls, fresh}
@@ -68,7 +68,7 @@ formals_total s behind (f ∷ fs) (x ∷ xs) from out last top h =
 pub procedure_few : (v later : Visible) (fs : List Formal) (b : BodyTree) (words : FrameWords) (placed : PlacedFormals) (old begun run new : Code) (height : ℕ)
     → PlacesFormals v fs later words placed
     → Initialises later.scope old placed.formals.items begun
-    → here run ≤ here begun + run_bound later.scope b.declarations b.statements
+    → here run ≤ here begun + run_bound later.scope b.declarations b.statements b.handlers
     → Returns later.scope run placed.formals.items height new
     → here new ≤ here old + procedure_bound v.scope fs b
 procedure_few v later fs b words placed old begun run new height p i within r =
@@ -78,9 +78,10 @@ procedure_few v later fs b words placed old begun run new height p i within r =
     let formals = ap (λ s. formals_words v.scope s fs) p.scope in
     let locals = ap (λ s. locals_words s b.declarations) p.scope in
     let inside = ap (λ s. stmts_words (locals_scope s b.declarations) b.statements) p.scope in
+    let handled = ap (λ s. handlers_words (locals_scope s b.declarations) b.handlers) p.scope in
     let first = i.sized in
     let last = r.sized in
-    omega (arith, long, all, formals, locals, inside, first, within, last)
+    omega (arith, long, all, formals, locals, inside, handled, first, within, last)
 
 -- ---- functions, and main
 

@@ -4,11 +4,9 @@ use Rattle.std.specs.Prelude.{get_or, max}
 use Rattle.ada_tree.specs.declared.declaration.Formal.{Formal}
 use Rattle.ada_tree.specs.declared.declaration.Mode.{Mode}
 use Rattle.ada_tree.specs.declared.declaration.Mode.TheVariants as mode
-use Rattle.ada_tree.specs.declared.statement.Handler.{Handler}
 use Rattle.ada_tree.specs.ExpressionTree.{ExprTree}
 use Rattle.ada_tree.specs.ProgramTree.{BodyTree}
 use Rattle.ada_tree.specs.Size.{expr_size, total}
-use Rattle.ada_tree.specs.StatementTree.{handler_trees}
 use Rattle.types.specs.declared.entity.Subtype.{Subtype}
 use Rattle.declaring.specs.LocalRules.{locals_scope}
 use Rattle.meaning.specs.Calls.{is_out}
@@ -17,12 +15,10 @@ use Rattle.expr_code.specs.Refusing.{HasUnfitObject, IsRefused, RefusesChecked, 
 use Rattle.expr_code.specs.declared.code.Code.{Code}
 use Rattle.expr_code.specs.declared.refusal.Refusal.{Refusal}
 use Rattle.expr_code.specs.declared.visible.Visible.{Visible}
-use Rattle.expr_code.proofs.Refusals.{or_left}
 use Rattle.expr_code.proofs.Shallow.{shallow_as, shallow_more, shallow_next}
-use Rattle.stmt_code.specs.Bounds.{formals_words, function_bound, locals_words, procedure_bound, run_bound, stmts_words}
+use Rattle.stmt_code.specs.Bounds.{formals_words, function_bound, handlers_words, locals_words, procedure_bound, run_bound, stmts_words}
 use Rattle.stmt_code.specs.Formals.{PlacesFormals, placed_words}
-use Rattle.stmt_code.specs.Labels.{stmts_labels}
-use Rattle.stmt_code.specs.Refusing.{Needs, RefusesFormals, RefusesOuts, RefusesReturned, RefusesRun, all_given, both, formals_frame, formals_needs, handlers_needs, initial_needs, nothing, out_needs, outs_needs, run_needs, stacked}
+use Rattle.stmt_code.specs.Refusing.{Needs, RefusesFormals, RefusesOuts, RefusesReturned, RefusesRun, all_given, both, formals_frame, formals_needs, initial_needs, nothing, out_needs, outs_needs, run_needs, stacked}
 use Rattle.stmt_code.specs.Staying.{StaysRun}
 use Rattle.stmt_code.specs.WholeRefusals.{RefusesFunction, RefusesProcedure, body_labels, formals_placed, formals_visible, function_needs, inside_needs, procedure_needs, returned_needs, together}
 use Rattle.stmt_code.specs.declared.draft.Draft.{Draft}
@@ -42,7 +38,7 @@ over p k l h = omega (arith, h)
 
 -- ---- procedures
 
-module _ (v : Visible) (fs : List Formal) (b : BodyTree) where
+module _ (v : Visible) (fs : List Formal) (b : BodyTree) (old : Draft) where
   abbrev inner : Visible
   inner = formals_visible v fs
 
@@ -52,9 +48,6 @@ module _ (v : Visible) (fs : List Formal) (b : BodyTree) where
   abbrev frame : ℕ
   frame = formals_frame v.scope fs
 
-  abbrev handled : Needs
-  handled = handlers_needs b.handlers
-
   abbrev formal : Needs
   formal = formals_needs v.scope fs
 
@@ -62,25 +55,25 @@ module _ (v : Visible) (fs : List Formal) (b : BodyTree) where
   first = outs_needs inner xs
 
   abbrev runs : Needs
-  runs = run_needs inner frame b.declarations b.statements
+  runs = run_needs inner frame old.exceptions.items b.declarations b.statements b.handlers
 
   abbrev given : Needs
   given = stacked (all_given inner.scope xs)
 
   abbrev inside : Needs
-  inside = inside_needs inner xs frame b
+  inside = inside_needs inner xs frame old.exceptions.items b
 
   abbrev parts : Needs
-  parts = both handled (both formal inside)
+  parts = both formal inside
 
   abbrev whole : Needs
-  whole = procedure_needs v fs b
+  whole = procedure_needs v old.exceptions.items fs b
 
   part_in : (m : Needs) → Within m inside → Within m parts
-  part_in m p = of_right m handled (both formal inside) (of_right m formal inside p)
+  part_in m p = of_right m formal inside p
 
   formal_in : Within formal parts
-  formal_in = of_right formal handled (both formal inside) (in_left formal inside)
+  formal_in = in_left formal inside
 
   first_in : Within first parts
   first_in = part_in first (in_left first (both runs given))
@@ -95,121 +88,123 @@ module _ (v : Visible) (fs : List Formal) (b : BodyTree) where
   within_whole : (m : Needs) → Within m parts → Within m whole
   within_whole m p = within_then m parts (together parts) p (together_within parts)
 
-  module _ (old : Draft) where
-    abbrev bound : ℕ
-    bound = here old.code + procedure_bound v.scope fs b
+  abbrev bound : ℕ
+  bound = here old.code + procedure_bound v.scope fs b
 
-    pub handled_refuses : (hs : List Handler) → b.handlers ≡ handler_trees hs → 1 ≤ length hs → whole.outside ≡ true
-    handled_refuses hs is some = or_left handled.outside (both formal inside).outside (ap (λ h. (handlers_needs h).outside) is ∙ beyond_all hs some)
+  pub formals_refuse : (why : Refusal) → RefusesFormals v.scope fs why → RefusesProcedure v old fs b why
+  formals_refuse why r = inl (needing_refused 0 bound formal whole (omega arith) (within_whole formal formal_in) why r)
+
+  module _ (later : Visible) (words : FrameWords) (placed : PlacedFormals) (p : PlacesFormals v fs later words placed) where
+    abbrev items : List PlacedFormal
+    items = placed.formals.items
+
+    long : length items ≡ length fs
+    long = placed_long v.scope fs items 0 placed.passed placed.passed words.taken p.stand
+
+    sums : total (placed_words later.scope) items ≡ formals_words v.scope later.scope fs
+    sums = formals_total v.scope later.scope fs items 0 placed.passed placed.passed words.taken p.stand
+
+    pub outs_refuse : (start : Code) (why : Refusal) → here start ≡ here old.code → RefusesOuts later start items why → RefusesProcedure v old fs b why
+    outs_refuse start why same r =
+        let formals = ap (λ s. formals_words v.scope s fs) p.scope in
+        inl (needing_refused (here start + (2 * length items + total (placed_words later.scope) items)) bound (outs_needs later items) whole
+        (omega (arith, same, long, sums, formals))
+        (subst (λ n. Within n whole) (λ j. outs_needs (sym (later_is v fs later words placed p) j) (sym (items_are v fs later words placed p) j))
+        (within_whole first first_in)) why r)
+
+    pub run_refuses : (begun : Draft) (why : Refusal) → begun.words.taken ≡ words.taken → begun.exceptions ≡ old.exceptions → begun.labels ≡ old.labels
+        → here begun.code ≤ here old.code + (2 * length items + total (placed_words later.scope) items)
+        → RefusesRun later begun b.declarations b.statements b.handlers why → RefusesProcedure v old fs b why
+    run_refuses begun why taken kept labels up r = by_kind r
       where
-        beyond_all : (l : List Handler) → 1 ≤ length l → (handlers_needs (handler_trees l)).outside ≡ true
-        beyond_all [] k = absurd (omega (arith, k))
-        beyond_all (h ∷ l) k = refl
+        formals : formals_words v.scope later.scope fs ≡ formals_words v.scope inner.scope fs
+        formals = ap (λ s. formals_words v.scope s fs) p.scope
 
-    pub formals_refuse : (why : Refusal) → RefusesFormals v.scope fs why → RefusesProcedure v old fs b why
-    formals_refuse why r = inl (needing_refused 0 bound formal whole (omega arith) (within_whole formal formal_in) why r)
+        locals : locals_words later.scope b.declarations ≡ locals_words inner.scope b.declarations
+        locals = ap (λ s. locals_words s b.declarations) p.scope
 
-    module _ (later : Visible) (words : FrameWords) (placed : PlacedFormals) (p : PlacesFormals v fs later words placed) where
-      abbrev items : List PlacedFormal
-      items = placed.formals.items
+        inside_words : stmts_words (locals_scope later.scope b.declarations) b.statements ≡ stmts_words (locals_scope inner.scope b.declarations) b.statements
+        inside_words = ap (λ s. stmts_words (locals_scope s b.declarations) b.statements) p.scope
 
-      long : length items ≡ length fs
-      long = placed_long v.scope fs items 0 placed.passed placed.passed words.taken p.stand
+        handled_words : handlers_words (locals_scope later.scope b.declarations) b.handlers
+            ≡ handlers_words (locals_scope inner.scope b.declarations) b.handlers
+        handled_words = ap (λ s. handlers_words (locals_scope s b.declarations) b.handlers) p.scope
 
-      sums : total (placed_words later.scope) items ≡ formals_words v.scope later.scope fs
-      sums = formals_total v.scope later.scope fs items 0 placed.passed placed.passed words.taken p.stand
+        same : begun.words.taken ≡ frame
+        same = taken ∙ taken_is v fs later words placed p
 
-      pub outs_refuse : (start : Code) (why : Refusal) → here start ≡ here old.code → RefusesOuts later start items why → RefusesProcedure v old fs b why
-      outs_refuse start why same r =
-          let formals = ap (λ s. formals_words v.scope s fs) p.scope in
-          inl (needing_refused (here start + (2 * length items + total (placed_words later.scope) items)) bound (outs_needs later items) whole
-          (omega (arith, same, long, sums, formals))
-          (subst (λ n. Within n whole) (λ j. outs_needs (sym (later_is v fs later words placed p) j) (sym (items_are v fs later words placed p) j))
-          (within_whole first first_in)) why r)
+        by_kind : RefusesRun later begun b.declarations b.statements b.handlers why → RefusesProcedure v old fs b why
+        by_kind (inl n) =
+            inl (needing_refused (here begun.code + run_bound later.scope b.declarations b.statements b.handlers) bound
+            (run_needs later begun.words.taken begun.exceptions.items b.declarations b.statements b.handlers) whole
+            (omega (arith, up, long, sums, formals, locals, inside_words, handled_words))
+            (subst (λ m. Within m whole)
+            (λ j. run_needs (sym (later_is v fs later words placed p) j) (sym same j) (sym kept j).items b.declarations b.statements b.handlers)
+            (within_whole runs runs_in)) why n)
+        by_kind (inr h) =
+            inr (labelled (body_labels begun.labels b) (body_labels old.labels b)
+            (let count = ap (λ l. length (body_labels l b)) labels in omega (arith, count)) why h)
 
-      pub run_refuses : (begun : Draft) (why : Refusal) → begun.words.taken ≡ words.taken → begun.labels ≡ old.labels
-          → here begun.code ≤ here old.code + (2 * length items + total (placed_words later.scope) items)
-          → RefusesRun later begun b.declarations b.statements why → RefusesProcedure v old fs b why
-      run_refuses begun why taken labels up r = by_kind r
+    pub returned_refuses : (run : Code) (why : Refusal)
+        → here run ≤ here old.code + (2 * length items + total (placed_words later.scope) items + run_bound later.scope b.declarations b.statements b.handlers)
+        → RefusesReturned later.scope run items why → RefusesProcedure v old fs b why
+    returned_refuses run why up r =
+        let formals = ap (λ s. formals_words v.scope s fs) p.scope in
+        let locals = ap (λ s. locals_words s b.declarations) p.scope in
+        let inside_words = ap (λ s. stmts_words (locals_scope s b.declarations) b.statements) p.scope in
+        let handled_words = ap (λ s. handlers_words (locals_scope s b.declarations) b.handlers) p.scope in
+        let high = (within_whole given given_in).stack in
+        let same : all_given later.scope items ≡ all_given inner.scope xs =
+        λ j. all_given (p.scope j) (items_are v fs later words placed p j) in
+        inl (plain_needing (here run + suc (3 * length items)) bound (all_given later.scope items) whole why
+        (omega (arith, up, long, sums, formals, locals, inside_words, handled_words))
+        (over (all_given later.scope items) whole.stack whole.frame (omega (arith, high, same))) r)
+
+    -- the words of the frame, and those of the operand stack
+    module _ (begun run : Draft) (end : Code) (taken : begun.words.taken ≡ words.taken) (kept : begun.exceptions ≡ old.exceptions)
+        (most : begun.words.most ≡ words.taken)
+        (stays : StaysRun later begun b.declarations b.statements b.handlers run) where
+      needed : run_needs later begun.words.taken begun.exceptions.items b.declarations b.statements b.handlers ≡ runs
+      needed = λ j. run_needs (later_is v fs later words placed p j) ((taken ∙ taken_is v fs later words placed p) j)
+          (kept j).items b.declarations b.statements b.handlers
+
+      frame_few : run.words.most ≤ parts.frame
+      frame_few =
+          let same = taken_is v fs later words placed p in
+          let one = formal_in.frame in
+          let two = runs_in.frame in
+          let n = ap (λ m. m.frame) needed in
+          most_of run.words.most begun.words.most
+          (run_needs later begun.words.taken begun.exceptions.items b.declarations b.statements b.handlers).frame parts.frame stays.frame
+          (omega (arith, most, same, one)) (omega (arith, n, two))
         where
-          formals : formals_words v.scope later.scope fs ≡ formals_words v.scope inner.scope fs
-          formals = ap (λ s. formals_words v.scope s fs) p.scope
+          most_of : (r m k l : ℕ) → r ≤ max m k → m ≤ l → k ≤ l → r ≤ l
+          most_of r m k l h i j = omega (arith, h, i, j)
 
-          locals : locals_words later.scope b.declarations ≡ locals_words inner.scope b.declarations
-          locals = ap (λ s. locals_words s b.declarations) p.scope
-
-          inside_words : stmts_words (locals_scope later.scope b.declarations) b.statements ≡ stmts_words (locals_scope inner.scope b.declarations) b.statements
-          inside_words = ap (λ s. stmts_words (locals_scope s b.declarations) b.statements) p.scope
-
-          same : begun.words.taken ≡ frame
-          same = taken ∙ taken_is v fs later words placed p
-
-          by_kind : RefusesRun later begun b.declarations b.statements why → RefusesProcedure v old fs b why
-          by_kind (inl n) =
-              inl (needing_refused (here begun.code + run_bound later.scope b.declarations b.statements) bound
-              (run_needs later begun.words.taken b.declarations b.statements) whole
-              (omega (arith, up, long, sums, formals, locals, inside_words))
-              (subst (λ m. Within m whole) (λ j. run_needs (sym (later_is v fs later words placed p) j) (sym same j) b.declarations b.statements)
-              (within_whole runs runs_in)) why n)
-          by_kind (inr h) =
-              inr (labelled (stmts_labels begun.labels b.statements) (body_labels old.labels b)
-              (let count = ap (λ l. length (stmts_labels l b.statements)) labels in omega (arith, count)) why h)
-
-      pub returned_refuses : (run : Code) (why : Refusal)
-          → here run ≤ here old.code + (2 * length items + total (placed_words later.scope) items + run_bound later.scope b.declarations b.statements)
-          → RefusesReturned later.scope run items why → RefusesProcedure v old fs b why
-      returned_refuses run why up r =
-          let formals = ap (λ s. formals_words v.scope s fs) p.scope in
-          let locals = ap (λ s. locals_words s b.declarations) p.scope in
-          let inside_words = ap (λ s. stmts_words (locals_scope s b.declarations) b.statements) p.scope in
-          let high = (within_whole given given_in).stack in
-          let same : all_given later.scope items ≡ all_given inner.scope xs =
-          λ j. all_given (p.scope j) (items_are v fs later words placed p j) in
-          inl (plain_needing (here run + suc (3 * length items)) bound (all_given later.scope items) whole why
-          (omega (arith, up, long, sums, formals, locals, inside_words))
-          (over (all_given later.scope items) whole.stack whole.frame (omega (arith, high, same))) r)
-
-      -- the words of the frame, and those of the operand stack
-      module _ (begun run : Draft) (end : Code) (taken : begun.words.taken ≡ words.taken) (most : begun.words.most ≡ words.taken)
-          (stays : StaysRun later begun b.declarations b.statements run) where
-        needed : run_needs later begun.words.taken b.declarations b.statements ≡ runs
-        needed = λ j. run_needs (later_is v fs later words placed p j) ((taken ∙ taken_is v fs later words placed p) j) b.declarations b.statements
-
-        frame_few : run.words.most ≤ parts.frame
-        frame_few =
-            let same = taken_is v fs later words placed p in
-            let one = formal_in.frame in
-            let two = runs_in.frame in
-            let n = ap (λ m. m.frame) needed in
-            most_of run.words.most begun.words.most (run_needs later begun.words.taken b.declarations b.statements).frame parts.frame stays.frame
-            (omega (arith, most, same, one)) (omega (arith, n, two))
+      module _ (start : Code) (none : start.deepest ≡ 0) (outs : IsShallow start begun.code (outs_needs later items).stack)
+          (back : IsShallow run.code end (all_given later.scope items)) where
+        stack_few : end.deepest ≤ parts.stack
+        stack_few =
+            let one = first_in.stack in
+            let two = runs_in.stack in
+            let three = given_in.stack in
+            let same : (outs_needs later items).stack ≡ first.stack =
+            λ j. (outs_needs (later_is v fs later words placed p j) (items_are v fs later words placed p j)).stack in
+            let n = ap (λ m. m.stack) needed in
+            let given_same : all_given later.scope items ≡ given.stack = λ j. all_given (p.scope j) (items_are v fs later words placed p j) in
+            let all = shallow_next start run.code end (all_given later.scope items) parts.stack (omega (arith, given_same, three))
+            (shallow_next start begun.code run.code
+            (run_needs later begun.words.taken begun.exceptions.items b.declarations b.statements b.handlers).stack parts.stack (omega (arith, n, two))
+            (shallow_more start begun.code (outs_needs later items).stack parts.stack (omega (arith, same, one)) outs) stays.stack) back in
+            deep start.deepest end.deepest parts.stack none all
           where
-            most_of : (r m k l : ℕ) → r ≤ max m k → m ≤ l → k ≤ l → r ≤ l
-            most_of r m k l h i j = omega (arith, h, i, j)
+            deep : (a e m : ℕ) → a ≡ 0 → e ≤ max a m → e ≤ m
+            deep a e m z h = omega (arith, z, h)
 
-        module _ (start : Code) (none : start.deepest ≡ 0) (outs : IsShallow start begun.code (outs_needs later items).stack)
-            (back : IsShallow run.code end (all_given later.scope items)) where
-          stack_few : end.deepest ≤ parts.stack
-          stack_few =
-              let one = first_in.stack in
-              let two = runs_in.stack in
-              let three = given_in.stack in
-              let same : (outs_needs later items).stack ≡ first.stack =
-              λ j. (outs_needs (later_is v fs later words placed p j) (items_are v fs later words placed p j)).stack in
-              let n = ap (λ m. m.stack) needed in
-              let given_same : all_given later.scope items ≡ given.stack = λ j. all_given (p.scope j) (items_are v fs later words placed p j) in
-              let all = shallow_next start run.code end (all_given later.scope items) parts.stack (omega (arith, given_same, three))
-              (shallow_next start begun.code run.code (run_needs later begun.words.taken b.declarations b.statements).stack parts.stack (omega (arith, n, two))
-              (shallow_more start begun.code (outs_needs later items).stack parts.stack (omega (arith, same, one)) outs) stays.stack) back in
-              deep start.deepest end.deepest parts.stack none all
-            where
-              deep : (a e m : ℕ) → a ≡ 0 → e ≤ max a m → e ≤ m
-              deep a e m z h = omega (arith, z, h)
-
-          pub frame_refuses : (why : Refusal) → IsRefused 0 (run.words.most + end.deepest) false why → RefusesProcedure v old fs b why
-          frame_refuses why r =
-              inl (plain_needing 0 bound (run.words.most + end.deepest) whole why (omega arith)
-              (over (run.words.most + end.deepest) whole.stack whole.frame (omega (arith, frame_few, stack_few))) r)
+        pub frame_refuses : (why : Refusal) → IsRefused 0 (run.words.most + end.deepest) false why → RefusesProcedure v old fs b why
+        frame_refuses why r =
+            inl (plain_needing 0 bound (run.words.most + end.deepest) whole why (omega arith)
+            (over (run.words.most + end.deepest) whole.stack whole.frame (omega (arith, frame_few, stack_few))) r)
 
 -- ---- functions
 

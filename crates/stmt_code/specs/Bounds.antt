@@ -7,7 +7,7 @@ use Rattle.ada_tree.specs.declared.program.MainStatement.{MainStatement}
 use Rattle.ada_tree.specs.ExpressionTree.{ExprTree}
 use Rattle.ada_tree.specs.ProgramTree.{BodyTree}
 use Rattle.ada_tree.specs.StatementTree.{AlternativeTrees, Block, Case, DeclarationTree, ElsifTrees, HandlerTrees, If, LocalObject, Loop, MoreAlternatives, MoreElsifs, MoreHandlers, MoreStmts, NoAlternatives, NoElsifs, NoHandlers, NoStmts, StmtTree, StmtTrees}
-use Rattle.ada_tree.specs.Size.{alternatives_size, body_size, declaration_size, elsifs_size, expr_size, stmt_size, stmts_size, total}
+use Rattle.ada_tree.specs.Size.{alternatives_size, body_size, declaration_size, elsifs_size, expr_size, handlers_size, stmt_size, stmts_size, total}
 use Rattle.types.specs.declared.entity.Subtype.{Subtype}
 use Rattle.types.specs.Layouts.{words_of}
 use Rattle.types.specs.Scopes.{Scope}
@@ -83,12 +83,21 @@ elsifs_bound s all = 20 * elsifs_size all + 2 * elsifs_words s all
 abbrev pub alternatives_bound : Scope → AlternativeTrees → ℕ
 alternatives_bound s all = 20 * alternatives_size all + 2 * alternatives_words s all
 
+abbrev pub handlers_bound : Scope → HandlerTrees → ℕ
+handlers_bound s all = 20 * handlers_size all + 2 * handlers_words s all
+
+-- statements with their handlers
+abbrev pub sequence_bound : Scope → StmtTrees → HandlerTrees → ℕ
+sequence_bound s body all = stmts_bound s body + handlers_bound s all
+
 abbrev pub declarations_bound : Scope → List DeclarationTree → ℕ
 declarations_bound s ds = 20 * total declaration_size ds + 2 * locals_words s ds
 
--- those of the declarations and statements of a body
-abbrev pub run_bound : Scope → List DeclarationTree → StmtTrees → ℕ
-run_bound s ds body = 20 * suc (total declaration_size ds + stmts_size body) + 2 * (locals_words s ds + stmts_words (locals_scope s ds) body)
+-- those of the declarations, the statements and the handlers of a body
+abbrev pub run_bound : Scope → List DeclarationTree → StmtTrees → HandlerTrees → ℕ
+run_bound s ds body all =
+    20 * suc (total declaration_size ds + stmts_size body + handlers_size all)
+    + 2 * (locals_words s ds + stmts_words (locals_scope s ds) body + handlers_words (locals_scope s ds) all)
 
 -- those of whole subprograms: of a procedure, of a function that returns the value of an expression, and of main, by the names in front of their parameters
 abbrev pub procedure_bound : Scope → List Formal → BodyTree → ℕ

@@ -1,7 +1,10 @@
 -- What methods that add the code of statements promise.
+use Rattle.std.specs.List.{All}
 use Rattle.std.specs.Prelude.{◌≡◌, ℕ, ◌+◌, ◌≤◌, ◌<◌, ◌⊎◌, true, List, [], ◌∷◌, ◌++◌, cond, length, nat_eq, take, Option, Some, None, pos, slice_get, ⊤, ℤ}
 use Rattle.ada_tree.specs.ExpressionTree.{ExprTree}
-use Rattle.ada_tree.specs.StatementTree.{DeclarationTree, ElsifTrees, MoreElsifs, NoHandlers, StmtTree, StmtTrees, elsifs_of}
+use Rattle.ada_tree.specs.StatementTree.{DeclarationTree, ElsifTrees, HandlerTrees, MoreElsifs, StmtTree, StmtTrees, elsifs_of}
+use Rattle.handlers.specs.Nesting.{all_nested}
+use Rattle.handlers.specs.declared.rows.Row.{Row}
 use Rattle.image.specs.Sections.{Sections}
 use Rattle.image.specs.Rules.{has_depth, is_block}
 use Rattle.image.specs.declared.instruction.Operation.{Operation}
@@ -17,7 +20,7 @@ use Rattle.types.specs.Scopes.{Scope, form_at}
 use Rattle.types.specs.Shapes.{initial, value_words}
 use Rattle.declaring.specs.LocalRules.{locals_faults, locals_scope}
 use Rattle.stmt_rules.specs.declared.around.Around.{Around}
-use Rattle.stmt_rules.specs.StatementRules.{elsifs_faults, stmt_faults, stmts_faults}
+use Rattle.stmt_rules.specs.StatementRules.{elsifs_faults, more_handlers_faults, stmt_faults, stmts_faults}
 use Rattle.well_typed.specs.Agreeing.{Agrees}
 use Rattle.well_typed.specs.SoundScopes.{SoundScope}
 use Rattle.meaning.specs.Calls.{procedure_here}
@@ -35,7 +38,9 @@ use Rattle.stmt_code.specs.Bounds.{declarations_bound, elsifs_bound, run_bound, 
 use Rattle.stmt_code.specs.Layout.{EndsBy, IsLaidOut}
 use Rattle.stmt_code.specs.Suiting.{SuitsStatements}
 use Rattle.stmt_code.specs.Resting.{Framed}
-use Rattle.stmt_code.specs.Handling.{GoesBy, Handling, unhandled}
+use Rattle.stmt_code.specs.Handling.{GoesByRows, Handling, unhandled}
+use Rattle.stmt_code.specs.Raising.{AreNamed}
+use Rattle.stmt_code.specs.Rows.{LiesWithin}
 use Rattle.stmt_code.specs.Statements.{AreDeclared, AreStatements, IsOtherwise, IsRun, IsStatement, Numbers, Ways}
 use Rattle.stmt_code.specs.declared.draft.Draft.{Draft}
 use Rattle.stmt_code.specs.declared.draft.FrameWords.{FrameWords}
@@ -52,13 +57,19 @@ pub record AreLegal (s : Scope) (body : StmtTrees) : Type 0 where
   pub around : Around
   pub unbroken : stmts_faults s around body ≡ []
 
+-- ... in handlers, behind others that name some exceptions
+pub record AreLegalHandlers (s : Scope) (all : HandlerTrees) : Type 0 where
+  pub around : Around
+  pub before : List (List ℕ)
+  pub unbroken : more_handlers_faults s around before all ≡ []
+
 pub record AreLegalElsifs (s : Scope) (all : ElsifTrees) : Type 0 where
   pub around : Around
   pub unbroken : elsifs_faults s around all ≡ []
 
 -- the ways out, as places of code
 abbrev pub ways_of : Leaving → Ways
-ways_of l = record { exit = l.exit; return = l.return_; handled = None }
+ways_of l = record { exit = l.exit; return = l.return_; handled = l.handled }
 
 -- so many words of the frame more are taken
 pub record Takes (old : FrameWords) (many : ℕ) (new : FrameWords) : Type 0 where
@@ -92,9 +103,35 @@ pub record IsReached (i : Sections) (low high place : ℕ) : Type 0 where
   pub up : place ≤ high
   pub empty : has_depth i place 0 ≡ true
 
-pub record Allows (i : Sections) (low high : ℕ) (w : Ways) : Type 0 where
+-- The ways out may be gone to, and the word that holds an exception is one of the frame.
+pub record Allows (i : Sections) (s : Subprogram) (low high : ℕ) (w : Ways) : Type 0 where
   pub exit : (place : ℕ) → w.exit ≡ Some place → IsReached i low high place
   pub return : (place : ℕ) → w.return ≡ Some place → IsReached i low high place
+  pub handled : (word : ℕ) → w.handled ≡ Some word → word < s.locals
+
+-- ---- rows of handlers that were added
+
+-- the instruction there finds one word on the operand stack, which is the exception
+pub record FindsException (c : Code) (place : ℕ) : Type 0 where
+  pub operation : Operation
+  pub there : slice_get c.instructions.items place ≡ Some (record { depth = 1; operation = operation })
+
+-- Rows were added for the code that was added: each covers places of it, and leads to one of it that finds the exception; they are for exceptions of the
+-- program; and the regions of any two are nested, equal or disjoint. The exceptions stay the same.
+pub record AddsRows (old new : Draft) : Type 0 where
+  pub added : List Row
+  pub appended : new.rows.items ≡ old.rows.items ++ added
+  pub exceptions : new.exceptions ≡ old.exceptions
+  pub within : All (LiesWithin (here old.code) (here new.code)) added
+  pub nested : all_nested added ≡ true
+  pub known : All (λ q. q.exception ≤ length old.exceptions.items) added
+  pub ready : All (λ q. FindsException new.code q.target) added
+
+-- The program has these exceptions, each of which is found by its name, and what the added code raises goes on as the added rows tell, and else as around it.
+pub record IsHandled (i : Sections) (program : Program) (old new : Draft) (rows : AddsRows old new) (r : Handling) : Type 0 where
+  pub exceptions : program.exceptions ≡ old.exceptions.items
+  pub named : AreNamed program
+  pub goes : GoesByRows i rows.added r (here old.code) (here new.code)
 
 -- ---- code that was added
 
@@ -111,14 +148,15 @@ pub record Emits (Is : Meant) (v : Visible) (w : Ways) (old : Draft) (size : ℕ
   pub taken : new.words.taken ≡ old.words.taken
   pub most : old.words.most ≤ new.words.most
   pub sized : here new.code ≤ here old.code + size
+  pub rows : AddsRows old new
   pub stands : (i : Sections) → Holds i (here old.code) new.code → HasLabels i new.labels
       → (program : Program) (g : Package) (numbers : Numbers) (f : Framed) → f.names ≡ v → Serves program g numbers f old.words.taken
       → new.words.most ≤ f.room
-      → (handling : Handling) → GoesBy i handling (here old.code) (here new.code)
+      → (handling : Handling) → IsHandled i program old new rows handling
       → Is i program g numbers f handling (here old.code) (here new.code)
   pub flows : (i : Sections) (s : Subprogram) (low high : ℕ) → low ≤ here old.code → here new.code ≤ high
       → Holds i (here old.code) new.code → HasLabels i new.labels → SuitsStatements v i s → new.code.deepest ≤ s.stack → new.words.most ≤ s.locals
-      → has_depth i (here new.code) 0 ≡ true → Allows i low high w
+      → has_depth i (here new.code) 0 ≡ true → Allows i s low high w
       → AreKept i s low high (here old.code) (here new.code) 0
 
 abbrev pub EmitsStatement : Visible → Ways → Draft → StmtTree → Draft → Type 0
@@ -220,6 +258,8 @@ pub record EmitsDeclarations (v : Visible) (old : Draft) (ds : List DeclarationT
   pub labels : StandsFrom 0 old.labels new.labels
   pub most : old.words.most ≤ new.words.most
   pub sized : here new.code ≤ here old.code + declarations_bound v.scope ds
+  pub rows : new.rows ≡ old.rows
+  pub exceptions : new.exceptions ≡ old.exceptions
   pub scope : later.scope ≡ locals_scope v.scope ds
   pub slots : take (length v.slots) later.slots ≡ v.slots
   pub subprograms : take (length v.subprograms) later.subprograms ≡ v.subprograms
@@ -248,17 +288,18 @@ pub record EmitsOpen (Is : MeantTo) (v : Visible) (w : Ways) (depth : ℕ) (old 
   pub taken : new.words.taken ≡ old.words.taken
   pub most : old.words.most ≤ new.words.most
   pub sized : here new.code ≤ here old.code + size
+  pub rows : AddsRows old new
   pub inside : (k : ℕ) → is_among waiting k ≡ true → (here old.code ≤ k) × (k < here new.code)
   pub waits : (k : ℕ) → is_among waiting k ≡ true → slice_get new.code.instructions.items k ≡ Some (record { depth = 0; operation = op.Jump 0 })
   pub stands : (i : Sections) (end : ℕ) → here new.code ≤ end → Joins i (here old.code) waiting end 0 new.code → HasLabels i new.labels
       → (program : Program) (g : Package) (numbers : Numbers) (f : Framed) → f.names ≡ v → Serves program g numbers f old.words.taken
       → new.words.most ≤ f.room
-      → (handling : Handling) → GoesBy i handling (here old.code) (here new.code)
+      → (handling : Handling) → IsHandled i program old new rows handling
       → Is i program g numbers f handling end (here old.code) (here new.code)
   pub flows : (i : Sections) (s : Subprogram) (low high end : ℕ) → low ≤ here old.code → here new.code ≤ end → end ≤ high
       → Joins i (here old.code) waiting end 0 new.code → HasLabels i new.labels → SuitsStatements v i s → new.code.deepest ≤ s.stack
       → new.words.most ≤ s.locals → depth ≤ s.stack
-      → has_depth i end 0 ≡ true → has_depth i (here new.code) depth ≡ true → Allows i low high w
+      → has_depth i end 0 ≡ true → has_depth i (here new.code) depth ≡ true → Allows i s low high w
       → AreKept i s low high (here old.code) (here new.code) depth
 
 -- these parts of an `if` in front of others
@@ -295,16 +336,17 @@ pub record EndsLoop (old : Code) (out back : ℕ) (new : Code) : Type 0 where
 
 -- ---- bodies
 
--- no rule is broken in the declarations and the statements of a body
-pub record IsLegalRun (s : Scope) (ds : List DeclarationTree) (body : StmtTrees) : Type 0 where
+-- no rule is broken in the declarations, the statements and the handlers of a body
+pub record IsLegalRun (s : Scope) (ds : List DeclarationTree) (body : StmtTrees) (all : HandlerTrees) : Type 0 where
   pub declared : locals_faults s ds ≡ []
   pub statements : AreLegal (locals_scope s ds) body
+  pub handled : AreLegalHandlers (locals_scope s ds) all
 
 abbrev pub no_ways : Ways
 no_ways = record { exit = None; return = None; handled = None }
 
--- the code of both was added, with a way out of the body between them, where nothing is handled around
-abbrev pub EmitsRun : Visible → Draft → List DeclarationTree → StmtTrees → Draft → Type 0
-EmitsRun v old ds body new =
-    Emits (λ i program g numbers f handling from to. handling ≡ unhandled → IsRun i program g numbers f from to ds body NoHandlers) v no_ways old
-    (run_bound v.scope ds body) new
+-- the code of all was added, with a way out of the body in front of the statements, where nothing is handled around
+abbrev pub EmitsRun : Visible → Draft → List DeclarationTree → StmtTrees → HandlerTrees → Draft → Type 0
+EmitsRun v old ds body all new =
+    Emits (λ i program g numbers f handling from to. handling ≡ unhandled → IsRun i program g numbers f from to ds body all) v no_ways old
+    (run_bound v.scope ds body all) new

@@ -1,6 +1,6 @@
 -- Which labels code has behind statements: those in front of them, and each label of their lines that is not among these yet, in the order of the lines.
 use Rattle.std.specs.Prelude.{ℕ, Bool, true, false, List, [], ◌∷◌, ◌++◌, bytes_eq, is_some, position, Option, Some, None}
-use Rattle.ada_tree.specs.StatementTree.{AlternativeTrees, Block, Call, Case, ElsifTrees, If, Loop, MoreAlternatives, MoreElsifs, MoreStmts, NoAlternatives, NoElsifs, NoStmts, StmtTree, StmtTrees}
+use Rattle.ada_tree.specs.StatementTree.{AlternativeTrees, Block, Call, Case, ElsifTrees, HandlerTrees, If, Loop, MoreAlternatives, MoreElsifs, MoreHandlers, MoreStmts, NoAlternatives, NoElsifs, NoHandlers, NoStmts, StmtTree, StmtTrees}
 use Rattle.stmt_code.specs.Lines.{Line, line_of}
 
 abbrev pub is_label : (labels : List (List ℕ)) → List ℕ → Bool
@@ -19,7 +19,7 @@ abbrev mutual
   stmt_labels before (If place condition body elsifs others) = stmts_labels (elsifs_labels (stmts_labels before body) elsifs) others
   stmt_labels before (Case place value all) = alternatives_labels before all
   stmt_labels before (Loop place iteration body) = stmts_labels before body
-  stmt_labels before (Block place locals body all) = stmts_labels before body
+  stmt_labels before (Block place locals body all) = handlers_labels (stmts_labels before body) all
   stmt_labels before simple = before
 
   pub stmts_labels : (before : List (List ℕ)) → StmtTrees → List (List ℕ)
@@ -33,3 +33,7 @@ abbrev mutual
   pub alternatives_labels : (before : List (List ℕ)) → AlternativeTrees → List (List ℕ)
   alternatives_labels before NoAlternatives = before
   alternatives_labels before (MoreAlternatives place choices body rest) = alternatives_labels (stmts_labels before body) rest
+
+  pub handlers_labels : (before : List (List ℕ)) → HandlerTrees → List (List ℕ)
+  handlers_labels before NoHandlers = before
+  handlers_labels before (MoreHandlers choices body rest) = handlers_labels (stmts_labels before body) rest

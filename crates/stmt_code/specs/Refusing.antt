@@ -7,8 +7,9 @@ use Rattle.ada_tree.specs.declared.declaration.Mode.TheVariants as mode
 use Rattle.ada_tree.specs.declared.expression.Identifier.{Identifier}
 use Rattle.ada_tree.specs.declared.program.MainStatement.{MainStatement}
 use Rattle.ada_tree.specs.declared.program.MainStatement.TheVariants as main
+use Rattle.ada_tree.specs.declared.statement.ExceptionChoice.{ExceptionChoice}
 use Rattle.ada_tree.specs.ExpressionTree.{ArgumentTree, ArgumentTrees, ExprTree, MoreArguments, Named, NameTree, NoArguments, SelectorTrees, Text, Value}
-use Rattle.ada_tree.specs.StatementTree.{AlternativeTrees, Assignment, Block, Call, Case, ChoicesTree, DeclarationTree, ElsifTrees, Exit, For, Forever, HandlerTrees, If, IterationTree, LocalObject, Loop, MoreAlternatives, MoreElsifs, MoreStmts, NoAlternatives, NoElsifs, NoHandlers, NoStmts, Null, OtherValues, RangeTree, Return, StmtTree, StmtTrees, Values, While}
+use Rattle.ada_tree.specs.StatementTree.{AlternativeTrees, Assignment, Block, Call, Case, ChoicesTree, DeclarationTree, ElsifTrees, Exit, For, Forever, HandlerTrees, If, IterationTree, LocalObject, Loop, MoreAlternatives, MoreElsifs, MoreHandlers, MoreStmts, NoAlternatives, NoElsifs, NoHandlers, NoStmts, Null, OtherValues, RangeTree, Raise, Return, StmtTree, StmtTrees, Values, While}
 use Rattle.ada_tree.specs.Size.{expr_size, total}
 use Rattle.image.specs.declared.instruction.Region.TheVariants as regions
 use Rattle.types.specs.declared.entity.FormalParameter.{FormalParameter}
@@ -36,11 +37,12 @@ use Rattle.expr_code.specs.declared.refusal.Refusal.TheVariants as refusal
 use Rattle.expr_code.specs.declared.visible.Slot.{Slot}
 use Rattle.expr_code.specs.declared.visible.Visible.{Visible}
 use Rattle.stmt_code.specs.Formals.{passed_for, placed_words, returned_more}
-use Rattle.stmt_code.specs.Bounds.{alternatives_bound, declarations_bound, elsifs_bound, local_words, locals_words, run_bound, stmt_bound, stmts_bound, words_named}
-use Rattle.stmt_code.specs.Labels.{alternatives_labels, elsifs_labels, stmt_labels, stmts_labels}
+use Rattle.stmt_code.specs.Bounds.{alternatives_bound, declarations_bound, elsifs_bound, handlers_bound, local_words, locals_words, run_bound, sequence_bound, stmt_bound, stmts_bound, words_named}
+use Rattle.stmt_code.specs.Labels.{alternatives_labels, elsifs_labels, handlers_labels, stmt_labels, stmts_labels}
 use Rattle.stmt_code.specs.Lines.{Line, is_put, line_of}
 use Rattle.stmt_code.specs.Moving.{moved_from}
 use Rattle.stmt_code.specs.Passing.{actuals_behind, copied_width, holds_variables}
+use Rattle.stmt_code.specs.Raising.{are_numbered, number_among}
 use Rattle.stmt_code.specs.Statements.{Ways}
 use Rattle.stmt_code.specs.Suiting.{passed_width}
 use Rattle.stmt_code.specs.declared.call.Destination.{Destination}
@@ -107,15 +109,26 @@ needs_if_any v (Some e) = value_needs v e
 
 -- ---- where a statement stands
 
--- what is visible there, the words of the frame that are taken, whether a loop stands around it, and whether a return may be left by
+-- what is visible there, the words of the frame that are taken, whether a loop stands around it, whether a return may be left by, whether a handler stands around
+-- it, and the program's exceptions
 pub record Around : Type 0 where
   pub visible : Visible
   pub taken : ℕ
   pub looped : Bool
   pub returns : Bool
+  pub handled : Bool
+  pub exceptions : List (List ℕ)
 
 abbrev pub around : Visible → Ways → Draft → Around
-around v w d = record { visible = v; taken = d.words.taken; looped = is_some w.exit; returns = is_some w.return }
+around v w d =
+    record {
+      visible = v;
+      taken = d.words.taken;
+      looped = is_some w.exit;
+      returns = is_some w.return;
+      handled = is_some w.handled;
+      exceptions = d.exceptions.items;
+    }
 
 abbrev pub inside_loop : Around → Around
 inside_loop a = record a { looped = true }
@@ -142,7 +155,15 @@ abbrev pub counted_visible : Around → Identifier → RangeTree → Visible
 counted_visible a parameter range = with_object a.visible (loop_scope a.visible.scope parameter range) a.taken
 
 abbrev pub inside_counted : Around → Identifier → RangeTree → Around
-inside_counted a parameter range = record { visible = counted_visible a parameter range; taken = a.taken + 2; looped = true; returns = a.returns }
+inside_counted a parameter range =
+    record {
+      visible = counted_visible a parameter range;
+      taken = a.taken + 2;
+      looped = true;
+      returns = a.returns;
+      handled = a.handled;
+      exceptions = a.exceptions;
+    }
 
 abbrev pub behind_locals : Around → List DeclarationTree → Around
 behind_locals a ds =
@@ -151,6 +172,8 @@ behind_locals a ds =
       taken = a.taken + locals_words a.visible.scope ds;
       looped = a.looped;
       returns = a.returns;
+      handled = a.handled;
+      exceptions = a.exceptions;
     }
 
 -- ---- declarations
@@ -381,6 +404,11 @@ abbrev pub return_needs : (returns : Bool) → Option ExprTree → Needs
 return_needs returns None = beyond_if (not returns)
 return_needs returns (Some e) = beyond
 
+-- of a raise: its exception, which is one of the program, or that of a handler around
+abbrev pub raise_needs : Around → Option Identifier → Needs
+raise_needs a (Some name) = stacked_unless (is_none (number_among a.exceptions name.name)) 1
+raise_needs a None = stacked_unless (not a.handled) 1
+
 -- ---- statements
 
 -- choices are static, and tested by three words
@@ -403,10 +431,12 @@ abbrev pub in_loop : Around → IterationTree → Around
 in_loop a (For parameter reversed range) = inside_counted a parameter range
 in_loop a iteration = inside_loop a
 
--- of handlers there is no code yet
-abbrev pub handlers_needs : HandlerTrees → Needs
-handlers_needs NoHandlers = nothing
-handlers_needs all = beyond
+-- of a handler: the exception on the operand stack, and a word of the frame for it; each choice is one of the program's exceptions, or stands for all
+abbrev pub handler_needs : Around → List ExceptionChoice → Needs
+handler_needs a choices = record { stack = 1; frame = a.taken + 1; unfit = false; outside = not (are_numbered a.exceptions choices) }
+
+abbrev pub inside_handler : Around → Around
+inside_handler a = record a { taken = a.taken + 1; handled = true }
 
 abbrev mutual
   pub stmt_needs : Around → StmtTree → Needs
@@ -415,12 +445,13 @@ abbrev mutual
   stmt_needs a (Call name) = call_needs a.visible name
   stmt_needs a (Exit place condition) = both (beyond_if (not a.looped)) (needs_if_any a.visible condition)
   stmt_needs a (Return place value) = return_needs a.returns value
+  stmt_needs a (Raise place name) = raise_needs a name
   stmt_needs a (If place condition body elsifs others) =
       both (value_needs a.visible condition) (both (stmts_needs a body) (both (elsifs_needs a elsifs) (stmts_needs a others)))
   stmt_needs a (Case place value all) = both (value_needs a.visible value) (alternatives_needs a all)
   stmt_needs a (Loop place iteration body) = both (head_needs a iteration) (stmts_needs (in_loop a iteration) body)
   stmt_needs a (Block place ds body all) =
-      both (handlers_needs all) (both (locals_needs a.visible a.taken ds) (stmts_needs (behind_locals a ds) body))
+      both (locals_needs a.visible a.taken ds) (both (stmts_needs (behind_locals a ds) body) (handlers_needs (behind_locals a ds) all))
   stmt_needs a other = beyond
 
   pub stmts_needs : Around → StmtTrees → Needs
@@ -435,6 +466,15 @@ abbrev mutual
   alternatives_needs a NoAlternatives = nothing
   alternatives_needs a (MoreAlternatives place choices body rest) =
       both (choices_needs a.visible.scope choices) (both (stmts_needs a body) (alternatives_needs a rest))
+
+  pub handlers_needs : Around → HandlerTrees → Needs
+  handlers_needs a NoHandlers = nothing
+  handlers_needs a (MoreHandlers choices body rest) =
+      both (handler_needs a choices) (both (stmts_needs (inside_handler a) body) (handlers_needs a rest))
+
+-- of statements with their handlers
+abbrev pub sequence_needs : Around → StmtTrees → HandlerTrees → Needs
+sequence_needs a body all = both (stmts_needs a body) (handlers_needs a all)
 
 -- ---- refusals
 
@@ -464,6 +504,18 @@ RefusesParts v w old all why = Refuses old (elsifs_labels old.labels all) (elsif
 abbrev pub RefusesAlternatives : Visible → Ways → (old : Draft) → AlternativeTrees → Refusal → Type 0
 RefusesAlternatives v w old all why =
     Refuses old (alternatives_labels old.labels all) (alternatives_bound v.scope all) (alternatives_needs (around v w old) all) why
+
+abbrev pub RefusesHandlers : Visible → Ways → (old : Draft) → HandlerTrees → Refusal → Type 0
+RefusesHandlers v w old all why = Refuses old (handlers_labels old.labels all) (handlers_bound v.scope all) (handlers_needs (around v w old) all) why
+
+-- statements with their handlers, if they have any, and a jump over these
+abbrev pub RefusesSequence : Visible → Ways → (old : Draft) → StmtTrees → HandlerTrees → Refusal → Type 0
+RefusesSequence v w old body all why =
+    Refuses old (handlers_labels (stmts_labels old.labels body) all) (sequence_bound v.scope body all + 1) (sequence_needs (around v w old) body all) why
+
+-- statements that handlers cover, and a jump over these
+abbrev pub RefusesCovered : Visible → Ways → (old : Draft) → StmtTrees → Refusal → Type 0
+RefusesCovered v w old body why = Refuses old (stmts_labels old.labels body) (stmts_bound v.scope body + 1) (stmts_needs (around v w old) body) why
 
 abbrev pub RefusesDeclarations : Visible → (old : Draft) → List DeclarationTree → Refusal → Type 0
 RefusesDeclarations v old ds why = IsNeeding (here old.code + declarations_bound v.scope ds) (locals_needs v old.words.taken ds) why
@@ -503,14 +555,16 @@ RefusesRange v old parameter reversed range why =
 -- ---- bodies
 
 -- the ways out of a body: a return alone
-abbrev pub in_body : Visible → (taken : ℕ) → Around
-in_body v taken = record { visible = v; taken = taken; looped = false; returns = true }
+abbrev pub in_body : Visible → (taken : ℕ) → (exceptions : List (List ℕ)) → Around
+in_body v taken exceptions = record { visible = v; taken = taken; looped = false; returns = true; handled = false; exceptions = exceptions }
 
-abbrev pub run_needs : Visible → (taken : ℕ) → List DeclarationTree → StmtTrees → Needs
-run_needs v taken ds body = both (locals_needs v taken ds) (stmts_needs (behind_locals (in_body v taken) ds) body)
+abbrev pub run_needs : Visible → (taken : ℕ) → (exceptions : List (List ℕ)) → List DeclarationTree → StmtTrees → HandlerTrees → Needs
+run_needs v taken exceptions ds body all = both (locals_needs v taken ds) (sequence_needs (behind_locals (in_body v taken exceptions) ds) body all)
 
-abbrev pub RefusesRun : Visible → (old : Draft) → List DeclarationTree → StmtTrees → Refusal → Type 0
-RefusesRun v old ds body why = Refuses old (stmts_labels old.labels body) (run_bound v.scope ds body) (run_needs v old.words.taken ds body) why
+abbrev pub RefusesRun : Visible → (old : Draft) → List DeclarationTree → StmtTrees → HandlerTrees → Refusal → Type 0
+RefusesRun v old ds body all why =
+    Refuses old (handlers_labels (stmts_labels old.labels body) all) (run_bound v.scope ds body all)
+    (run_needs v old.words.taken old.exceptions.items ds body all) why
 
 -- ---- formal parameters
 

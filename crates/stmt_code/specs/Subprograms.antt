@@ -9,7 +9,6 @@ use Rattle.ada_tree.specs.declared.program.MainStatement.TheVariants as main
 use Rattle.ada_tree.specs.ExpressionTree.{ExprTree}
 use Rattle.ada_tree.specs.ProgramTree.{BodyTree}
 use Rattle.ada_tree.specs.Size.{total}
-use Rattle.ada_tree.specs.StatementTree.{NoHandlers}
 use Rattle.image.specs.Operations.{called}
 use Rattle.image.specs.Rules.{is_plain}
 use Rattle.image.specs.Sections.{Sections}
@@ -31,7 +30,7 @@ use Rattle.expr_code.specs.Views.{At}
 use Rattle.expr_code.specs.declared.code.Code.{Code}
 use Rattle.expr_code.specs.declared.visible.Visible.{Visible}
 use Rattle.stmt_code.specs.Bounds.{function_bound, main_bound, procedure_bound}
-use Rattle.stmt_code.specs.Emitting.{EmitsRun, HasLabels}
+use Rattle.stmt_code.specs.Emitting.{AddsRows, EmitsRun, HasLabels}
 use Rattle.stmt_code.specs.Formals.{Initialises, PlacesFormals, Returns}
 use Rattle.stmt_code.specs.Suiting.{SuitsStatements, passed_width, returned_width}
 use Rattle.stmt_code.specs.declared.draft.Draft.{Draft}
@@ -54,10 +53,11 @@ pub record AddsProcedure (v : Visible) (old : Draft) (fs : List Formal) (b : Bod
   pub initial : Code
   pub initialises : Initialises later.scope (fresh old.code) placed.formals.items initial
   pub run : Draft
-  pub runs : EmitsRun later (record { code = initial; labels = old.labels; words = framed }) b.declarations b.statements run
+  pub runs : EmitsRun later (record old { code = initial; words = framed }) b.declarations b.statements b.handlers run
   pub returns : Returns later.scope run.code placed.formals.items words.results new.code
   pub labels : new.labels ≡ run.labels
-  pub unhandled : b.handlers ≡ NoHandlers
+  pub rows : new.rows ≡ run.rows
+  pub exceptions : new.exceptions ≡ run.exceptions
   pub passed : words.passed ≡ placed.passed
   pub locals : words.locals ≡ run.words.most
   pub stack : words.stack ≡ new.code.deepest
@@ -74,6 +74,8 @@ pub record AddsFunction (v : Visible) (old : Draft) (fs : List Formal) (result :
   pub emits : EmitsChecked later (fresh old.code) 0 result value valued
   pub returns : Adds valued 1 op.Return new.code
   pub labels : new.labels ≡ old.labels
+  pub rows : new.rows ≡ old.rows
+  pub exceptions : new.exceptions ≡ old.exceptions
   pub passed : words.passed ≡ placed.passed
   pub results : words.results ≡ 1
   pub locals : words.locals ≡ framed.most
@@ -121,6 +123,8 @@ pub record AddsMain (v : Visible) (old : Draft) (all : List MainStatement) (word
   pub calls : AddsCalls v (fresh old.code) all called
   pub returns : Adds called 0 op.Return new.code
   pub labels : new.labels ≡ old.labels
+  pub rows : new.rows ≡ old.rows
+  pub exceptions : new.exceptions ≡ old.exceptions
   pub passed : words.passed ≡ 0
   pub results : words.results ≡ 0
   pub locals : words.locals ≡ 0
@@ -162,12 +166,13 @@ pub record HasWords (s : code.Subprogram) (words : SubprogramWords) : Type 0 whe
   pub stack : s.stack ≡ words.stack
 
 -- The code that was added keeps the rules of images on one subprogram (docs/FORMATS.md, 43 to 47): its words are within a frame, and what is passed within those
--- of its names; it ends with a return; and in every image that holds it, in a subprogram with these words and whatever has what is visible in front of it, each
--- instruction keeps the rules, jumps within the subprogram, and the first one finds an empty operand stack.
+-- of its names; it ends with a return; the rows that were added are rows of its code; and in every image that holds it, in a subprogram with these words and
+-- whatever has what is visible in front of it, each instruction keeps the rules, jumps within the subprogram, and the first one finds an empty operand stack.
 pub record KeepsRules (v : Visible) (old : Draft) (words : SubprogramWords) (new : Draft) : Type 0 where
   pub extends : Extends (fresh old.code) new.code
   pub labels : StandsFrom 0 old.labels new.labels
   pub few : here new.code ≤ INSTRUCTIONS
+  pub rows : AddsRows old new
   pub passed : words.passed ≤ words.locals
   pub fits : words.locals + words.stack ≤ FRAME_WORDS
   pub last : ℕ

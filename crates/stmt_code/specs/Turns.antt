@@ -68,6 +68,8 @@ pub record BeginsRange (v : Visible) (old : Draft) (parameter : Identifier) (rev
   pub limit : t.limit ≡ suc t.counter
   pub goes : t.reversed ≡ reversed
   pub labels : new.labels ≡ old.labels
+  pub rows : new.rows ≡ old.rows
+  pub exceptions : new.exceptions ≡ old.exceptions
   pub scope : later.scope ≡ loop_scope v.scope parameter range
   pub slots : later.slots ≡ v.slots ++ Some (record { region = regions.Locals; offset = t.counter }) ∷ []
   pub subprograms : later.subprograms ≡ v.subprograms ++ None ∷ []

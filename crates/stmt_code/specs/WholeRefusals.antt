@@ -16,8 +16,8 @@ use Rattle.expr_code.specs.declared.refusal.Refusal.{Refusal}
 use Rattle.expr_code.specs.declared.visible.Visible.{Visible}
 use Rattle.stmt_code.specs.Bounds.{function_bound, procedure_bound, words_named}
 use Rattle.stmt_code.specs.Formals.{no_subprogram, passed_for, slot_for}
-use Rattle.stmt_code.specs.Labels.{stmts_labels}
-use Rattle.stmt_code.specs.Refusing.{HasManyLabels, IsNeeding, Needs, all_given, both, formals_frame, formals_needs, handlers_needs, has_unfit, outs_needs, run_needs, stacked}
+use Rattle.stmt_code.specs.Labels.{handlers_labels, stmts_labels}
+use Rattle.stmt_code.specs.Refusing.{HasManyLabels, IsNeeding, Needs, all_given, both, formals_frame, formals_needs, has_unfit, outs_needs, run_needs, stacked}
 use Rattle.stmt_code.specs.declared.draft.Draft.{Draft}
 use Rattle.stmt_code.specs.declared.formals.PlacedFormal.{PlacedFormal}
 
@@ -70,13 +70,14 @@ formals_visible v fs =
 
 -- ---- what code needs
 
-abbrev pub inside_needs : Visible → List PlacedFormal → (taken : ℕ) → BodyTree → Needs
-inside_needs v xs taken b = both (outs_needs v xs) (both (run_needs v taken b.declarations b.statements) (stacked (all_given v.scope xs)))
+abbrev pub inside_needs : Visible → List PlacedFormal → (taken : ℕ) → (exceptions : List (List ℕ)) → BodyTree → Needs
+inside_needs v xs taken exceptions b =
+    both (outs_needs v xs) (both (run_needs v taken exceptions b.declarations b.statements b.handlers) (stacked (all_given v.scope xs)))
 
-abbrev pub procedure_needs : Visible → List Formal → BodyTree → Needs
-procedure_needs v fs b =
-    together (both (handlers_needs b.handlers) (both (formals_needs v.scope fs)
-    (inside_needs (formals_visible v fs) (formals_placed v.scope fs) (formals_frame v.scope fs) b)))
+abbrev pub procedure_needs : Visible → (exceptions : List (List ℕ)) → List Formal → BodyTree → Needs
+procedure_needs v exceptions fs b =
+    together (both (formals_needs v.scope fs)
+    (inside_needs (formals_visible v fs) (formals_placed v.scope fs) (formals_frame v.scope fs) exceptions b))
 
 -- of the value of a function, which is checked
 abbrev pub returned_needs : Visible → Subtype → ExprTree → Needs
@@ -88,12 +89,12 @@ function_needs v fs t e = together (both (formals_needs v.scope fs) (returned_ne
 
 -- ---- refusals
 
--- the labels behind the statements of a body
+-- the labels behind the statements and handlers of a body
 abbrev pub body_labels : (before : List (List ℕ)) → BodyTree → List (List ℕ)
-body_labels before b = stmts_labels before b.statements
+body_labels before b = handlers_labels (stmts_labels before b.statements) b.handlers
 
 abbrev pub RefusesProcedure : Visible → (old : Draft) → List Formal → BodyTree → Refusal → Type 0
-RefusesProcedure v old fs b why = IsNeeding (here old.code + procedure_bound v.scope fs b) (procedure_needs v fs b) why
+RefusesProcedure v old fs b why = IsNeeding (here old.code + procedure_bound v.scope fs b) (procedure_needs v old.exceptions.items fs b) why
     ⊎ HasManyLabels (body_labels old.labels b) why
 
 abbrev pub RefusesFunction : Visible → (old : Draft) → List Formal → Subtype → ExprTree → Refusal → Type 0

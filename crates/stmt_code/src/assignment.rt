@@ -1,5 +1,5 @@
 //! The code of assignments (RM 5.2).
-ghost use Rattle.std.specs.Prelude.{◌≡◌, IfErr, OnOk, Some};
+ghost use Rattle.std.specs.Prelude.{◌≡◌, length, IfErr, OnOk, Some};
 ghost use Rattle.ada_tree.specs.ExpressionTree.{expr_tree, name_tree, NoSelectors};
 ghost use Rattle.ada_tree.specs.StatementTree.{Assignment};
 ghost use Rattle.types.specs.declared.entity.Role.{Role};
@@ -65,7 +65,7 @@ impl Draft {
         requires legal { IsLegal visible.now.scope (Assignment (name_tree name.now) (expr_tree value.now)) }
         ensures emits { (w : Ways) → OnOk result (EmitsStatement visible.now w self.old (Assignment (name_tree name.now) (expr_tree value.now)) self.new) }
         ensures refused { IfErr result (λ why. Refuses self.old self.old.labels (stmt_bound visible.now.scope (Assignment (name_tree name.now) (expr_tree value.now))) (assignment_needs visible.now (name_tree name.now) (expr_tree value.now)) why) }
-        ensures stays { OnOk result (Stays self.old (assignment_needs visible.now (name_tree name.now) (expr_tree value.now)) self.old.labels self.new) }
+        ensures stays { OnOk result (Stays self.old (assignment_needs visible.now (name_tree name.now) (expr_tree value.now)) self.old.labels (length self.old.rows.items) self.new) }
     {
         let Standing::Part(_, subtype) = visible.scope.stands_first(&name.first) else {
             return Err(Refusal::Outside);
@@ -105,7 +105,7 @@ impl Draft {
         requires single { words_of visible.now.scope subtype ≡ 1 }
         ensures emits { (w : Ways) → OnOk result (EmitsStatement visible.now w self.old (Assignment (name_tree name.now) (expr_tree value.now)) self.new) }
         ensures refused { IfErr result (λ why. Refuses self.old self.old.labels (stmt_bound visible.now.scope (Assignment (name_tree name.now) (expr_tree value.now))) (stored_needs visible.now (name_tree name.now) (expr_tree value.now)) why) }
-        ensures stays { OnOk result (Stays self.old (stored_needs visible.now (name_tree name.now) (expr_tree value.now)) self.old.labels self.new) }
+        ensures stays { OnOk result (Stays self.old (stored_needs visible.now (name_tree name.now) (expr_tree value.now)) self.old.labels (length self.old.rows.items) self.new) }
     {
         agreement_is_kept();
         calls_are_typed();
@@ -133,7 +133,7 @@ impl Draft {
         requires there { slot_of visible.now (name_tree name.now).first.name ≡ Some slot }
         ensures emits { (w : Ways) → OnOk result (EmitsStatement visible.now w self.old (Assignment (name_tree name.now) (expr_tree value.now)) self.new) }
         ensures refused { IfErr result (λ why. Refuses self.old self.old.labels (stmt_bound visible.now.scope (Assignment (name_tree name.now) (expr_tree value.now))) (stored_needs visible.now (name_tree name.now) (expr_tree value.now)) why) }
-        ensures stays { OnOk result (Stays self.old (stored_needs visible.now (name_tree name.now) (expr_tree value.now)) self.old.labels self.new) }
+        ensures stays { OnOk result (Stays self.old (stored_needs visible.now (name_tree name.now) (expr_tree value.now)) self.old.labels (length self.old.rows.items) self.new) }
     {
         agreement_is_kept();
         calls_are_typed();

@@ -1,7 +1,7 @@
 //! The code of bodies of procedures (RM 6.3).
 ghost use Rattle.std.specs.Prelude.{◌≡◌, ◌≤◌, ◌+◌, false, map, max, suc, true, IfErr, IfOk, None, OnOk};
 ghost use Rattle.base.specs.declared.limits.TheConstants.{FRAME_WORDS, INSTRUCTIONS};
-ghost use Rattle.ada_tree.specs.StatementTree.{declaration_tree, stmt_trees};
+ghost use Rattle.ada_tree.specs.StatementTree.{declaration_tree, handler_trees, stmt_trees};
 ghost use Rattle.expr_code.specs.Code.{here, IsShallow};
 ghost use Rattle.expr_code.specs.Refusing.{IsRefused};
 ghost use Rattle.expr_code.specs.Flows.{Flows};
@@ -20,7 +20,7 @@ use crate::extent::Extent;
 use crate::formals::PlacedFormal;
 use crate::leaving::Leaving;
 use crate::looping::begin_loop;
-use ada_tree::{Declaration, Mode, Stmt};
+use ada_tree::{Declaration, Handler, Mode, Stmt};
 use declaring::laws::names_are_added;
 use expr_code::{Code, Refusal, Visible};
 use image::{Operation, Region};
@@ -161,20 +161,21 @@ pub(crate) fn return_all(
 }
 
 impl Draft {
-    /// Adds the code of a body without handlers up to its end: its declarations, a jump over the way out, the way out, and its statements. A return leads to the
-    /// way out, and so to the end.
+    /// Adds the code of a body up to its end: its declarations, a jump over the way out, the way out, and its statements with their handlers. A return leads to
+    /// the way out, and so to the end.
     pub fn run(
         &mut self,
         visible: &mut Visible,
         declarations: &[Declaration],
         statements: &[Stmt],
+        all: &[Handler],
     ) -> Result<(), Refusal>
         requires sound { SoundScope visible.old.scope }
         requires entries { HasEntries visible.old }
-        requires legal { IsLegalRun visible.old.scope (map declaration_tree declarations.now) (stmt_trees statements.now) }
-        ensures emits { OnOk result (EmitsRun visible.old self.old (map declaration_tree declarations.now) (stmt_trees statements.now) self.new) }
-        ensures refused { IfErr result (λ why. RefusesRun visible.old self.old (map declaration_tree declarations.now) (stmt_trees statements.now) why) }
-        ensures stays { OnOk result (StaysRun visible.old self.old (map declaration_tree declarations.now) (stmt_trees statements.now) self.new) }
+        requires legal { IsLegalRun visible.old.scope (map declaration_tree declarations.now) (stmt_trees statements.now) (handler_trees all.now) }
+        ensures emits { OnOk result (EmitsRun visible.old self.old (map declaration_tree declarations.now) (stmt_trees statements.now) (handler_trees all.now) self.new) }
+        ensures refused { IfErr result (λ why. RefusesRun visible.old self.old (map declaration_tree declarations.now) (stmt_trees statements.now) (handler_trees all.now) why) }
+        ensures stays { OnOk result (StaysRun visible.old self.old (map declaration_tree declarations.now) (stmt_trees statements.now) (handler_trees all.now) self.new) }
         ensures same { OnOk result (visible.new ≡ visible.old) }
     {
         names_are_added();
@@ -184,8 +185,9 @@ impl Draft {
         let leaving = Leaving {
             exit: None,
             return_: Some(head.exit),
+            handled: None,
         };
-        self.statements(visible, leaving, statements)?;
+        self.sequence(visible, leaving, statements, all)?;
         let end = self.code.end()?;
         self.code
             .patch(usize::from(head.exit), Operation::Jump(end));

@@ -340,7 +340,7 @@ impl Draft {
         requires legal { IsLegal visible.now.scope (Call (name_tree name.now)) }
         ensures emits { (w : Ways) → OnOk result (EmitsStatement visible.now w self.old (Call (name_tree name.now)) self.new) }
         ensures refused { IfErr result (λ why. Refuses self.old (stmt_labels self.old.labels (Call (name_tree name.now))) (stmt_bound visible.now.scope (Call (name_tree name.now))) (call_needs visible.now (name_tree name.now)) why) }
-        ensures stays { OnOk result (Stays self.old (call_needs visible.now (name_tree name.now)) (stmt_labels self.old.labels (Call (name_tree name.now))) self.new) }
+        ensures stays { OnOk result (Stays self.old (call_needs visible.now (name_tree name.now)) (stmt_labels self.old.labels (Call (name_tree name.now))) (length self.old.rows.items) self.new) }
     {
         match visible.profile(&name.first.name) {
             Some(profile) => self.invoke(visible, name, profile),
@@ -360,7 +360,7 @@ impl Draft {
         requires legal { IsLegal visible.now.scope (Call (name_tree name.now)) }
         ensures emits { (w : Ways) → OnOk result (EmitsStatement visible.now w self.old (Call (name_tree name.now)) self.new) }
         ensures refused { IfErr result (λ why. Refuses self.old (stmt_labels self.old.labels (Call (name_tree name.now))) (stmt_bound visible.now.scope (Call (name_tree name.now))) (invoked_needs visible.now (name_tree name.now) (profile_value profile.now)) why) }
-        ensures stays { OnOk result (Stays self.old (invoked_needs visible.now (name_tree name.now) (profile_value profile.now)) (stmt_labels self.old.labels (Call (name_tree name.now))) self.new) }
+        ensures stays { OnOk result (Stays self.old (invoked_needs visible.now (name_tree name.now) (profile_value profile.now)) (stmt_labels self.old.labels (Call (name_tree name.now))) (length self.old.rows.items) self.new) }
     {
         quiet_stays();
         let Some(number) = visible.subprogram(&name.first.name) else {

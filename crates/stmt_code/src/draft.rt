@@ -8,6 +8,7 @@ ghost use Rattle.stmt_code.specs.Refusing.{HasManyLabels};
 
 use base::limits::{FRAME_WORDS, LABELS};
 use expr_code::{Code, Refusal};
+use handlers::Row;
 use indexmap::IndexSet;
 use lexer::Text;
 use std::alloc::Global;
@@ -120,20 +121,28 @@ pub struct Draft {
     pub code: Code,
     pub labels: Labels,
     pub words: FrameWords,
+    /// The rows of handlers in the code, inner ones first (docs/FORMATS.md).
+    pub rows: Vec<Row>,
+    /// The names of the program's exceptions, by their numbers from 1.
+    pub exceptions: Vec<Text>,
 }
 
 impl Draft {
-    /// No code.
-    pub fn new(alloc: Global) -> Draft
+    /// No code, in a program with these exceptions.
+    pub fn new(alloc: Global, exceptions: Vec<Text>) -> Draft
         ensures instructions { result.code.instructions.items ≡ [] }
         ensures labels { result.labels ≡ [] }
         ensures taken { result.words.taken ≡ 0 }
         ensures most { result.words.most ≡ 0 }
+        ensures rows { result.rows.items ≡ [] }
+        ensures exceptions { result.exceptions ≡ exceptions }
     {
         Draft {
             code: Code::new(alloc),
             labels: Labels::new(alloc),
             words: FrameWords::new(),
+            rows: Vec::new(alloc),
+            exceptions,
         }
     }
 }

@@ -165,6 +165,8 @@ impl Draft {
         ensures places { IfOk result (λ placed. PlacesFormals visible.old formals.now visible.new self.new.words placed) }
         ensures code { OnOk result (self.new.code ≡ self.old.code) }
         ensures labels { OnOk result (self.new.labels ≡ self.old.labels) }
+        ensures rows { OnOk result (self.new.rows ≡ self.old.rows) }
+        ensures exceptions { OnOk result (self.new.exceptions ≡ self.old.exceptions) }
         ensures refused { IfErr result (λ why. RefusesFormals visible.old.scope formals.now why) }
         ensures most { OnOk result (self.new.words.most ≡ self.new.words.taken) }
     {

@@ -1,5 +1,5 @@
 //! Assignments of arrays and records from variables, or from parts of them: one instruction moves their words (RM 5.2).
-ghost use Rattle.std.specs.Prelude.{◌≡◌, option_map, true, IfErr, OnOk, Some};
+ghost use Rattle.std.specs.Prelude.{◌≡◌, length, option_map, true, IfErr, OnOk, Some};
 ghost use Rattle.ada_tree.specs.ExpressionTree.{expr_tree, name_tree};
 ghost use Rattle.ada_tree.specs.StatementTree.{Assignment};
 ghost use Rattle.types.specs.declared.entity.Role.{Role};
@@ -118,7 +118,7 @@ impl Draft {
         requires whole { is_composite (form_at visible.now.scope subtype.type_number) ≡ true }
         ensures emits { (w : Ways) → OnOk result (EmitsStatement visible.now w self.old (Assignment (name_tree name.now) (expr_tree value.now)) self.new) }
         ensures refused { IfErr result (λ why. Refuses self.old self.old.labels (stmt_bound visible.now.scope (Assignment (name_tree name.now) (expr_tree value.now))) (assignment_needs visible.now (name_tree name.now) (expr_tree value.now)) why) }
-        ensures stays { OnOk result (Stays self.old (assignment_needs visible.now (name_tree name.now) (expr_tree value.now)) self.old.labels self.new) }
+        ensures stays { OnOk result (Stays self.old (assignment_needs visible.now (name_tree name.now) (expr_tree value.now)) self.old.labels (length self.old.rows.items) self.new) }
     {
         let Some(moved) = name_inside(value) else {
             return self.assign_part(visible, slot, subtype, name, value);
@@ -150,7 +150,7 @@ impl Draft {
         requires source { source_at visible.now (name_tree moved.now) ≡ Some source }
         ensures emits { (w : Ways) → OnOk result (EmitsStatement visible.now w self.old (Assignment (name_tree name.now) (expr_tree value.now)) self.new) }
         ensures refused { IfErr result (λ why. Refuses self.old self.old.labels (stmt_bound visible.now.scope (Assignment (name_tree name.now) (expr_tree value.now))) (moved_needs visible.now (name_tree name.now) (name_tree moved.now)) why) }
-        ensures stays { OnOk result (Stays self.old (moved_needs visible.now (name_tree name.now) (name_tree moved.now)) self.old.labels self.new) }
+        ensures stays { OnOk result (Stays self.old (moved_needs visible.now (name_tree name.now) (name_tree moved.now)) self.old.labels (length self.old.rows.items) self.new) }
     {
         agreement_is_kept();
         calls_are_typed();

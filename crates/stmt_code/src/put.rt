@@ -1,5 +1,5 @@
 //! The code of lines (docs/LANGUAGE.md, `Put` of Control_IO).
-ghost use Rattle.std.specs.Prelude.{◌≡◌, option_map, IfErr, OnOk};
+ghost use Rattle.std.specs.Prelude.{◌≡◌, length, option_map, IfErr, OnOk};
 ghost use Rattle.ada_tree.specs.ExpressionTree.{argument_trees, expr_tree, name_tree};
 ghost use Rattle.ada_tree.specs.StatementTree.{Call};
 ghost use Rattle.sound_steps.specs.Fitting.{entity_named};
@@ -65,7 +65,7 @@ impl Draft {
         requires legal { IsLegal visible.now.scope (Call (name_tree name.now)) }
         ensures emits { (w : Ways) → OnOk result (EmitsStatement visible.now w self.old (Call (name_tree name.now)) self.new) }
         ensures refused { IfErr result (λ why. Refuses self.old (stmt_labels self.old.labels (Call (name_tree name.now))) (stmt_bound visible.now.scope (Call (name_tree name.now))) (put_needs visible.now (name_tree name.now)) why) }
-        ensures stays { OnOk result (Stays self.old (put_needs visible.now (name_tree name.now)) (stmt_labels self.old.labels (Call (name_tree name.now))) self.new) }
+        ensures stays { OnOk result (Stays self.old (put_needs visible.now (name_tree name.now)) (stmt_labels self.old.labels (Call (name_tree name.now))) (length self.old.rows.items) self.new) }
     {
         if !is_put(visible, &name.first.name) {
             return Err(Refusal::Outside);

@@ -16,6 +16,7 @@ use ada_tree::laws::statements_by_parts;
 use ada_tree::{Declaration, ElsifPart, Expr, Iteration, Stmt};
 use declaring::laws::names_are_added;
 use expr_code::{Refusal, Visible};
+use handlers::laws::{rows_around, rows_inside};
 use image::Operation;
 
 impl Draft {
@@ -80,6 +81,9 @@ impl Draft {
         ensures same { OnOk result (visible.new ≡ visible.old) }
     {
         statements_by_parts();
+        names_are_added();
+        rows_inside();
+        rows_around();
         match statement {
             Stmt::Null(_) => Ok(()),
             Stmt::Assignment(name, value) => self.assign(visible, name, value),
@@ -93,20 +97,22 @@ impl Draft {
                 self.statements(visible, leaving, others)?;
                 self.code.rejoin(&waiting)
             }
-            Stmt::Case(place, value, alternatives) => {
-                self.case(visible, leaving, *place, alternatives, value)
-            }
+            Stmt::Case(place, value, all) => self.case(visible, leaving, *place, all, value),
             Stmt::Loop(place, iteration, body) => {
                 self.repeated(visible, leaving, *place, iteration, body)
             }
             Stmt::Block(place, declarations, body, handlers) => {
                 if handlers.is_empty() {
-                    self.block(visible, leaving, *place, body, declarations)
-                } else {
-                    Err(Refusal::Outside)
+                    return self.block(visible, leaving, *place, body, declarations);
                 }
+                let extent = Extent::of(visible, self.words);
+                self.declarations(visible, declarations)?;
+                let cover = self.covered(visible, leaving, body)?;
+                self.handlers(visible, leaving, handlers, cover)?;
+                extent.restore(visible, &mut self.words);
+                Ok(())
             }
-            Stmt::Raise(..) => Err(Refusal::Outside),
+            Stmt::Raise(place, name) => self.raise(visible, leaving, *place, name),
             Stmt::Delay(..) => Err(Refusal::Outside),
             Stmt::DelayUntil(..) => Err(Refusal::Outside),
             Stmt::Abort(..) => Err(Refusal::Outside),

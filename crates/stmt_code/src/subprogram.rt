@@ -12,6 +12,7 @@ ghost use Rattle.stmt_code.specs.WholeRefusals.{body_labels, RefusesFunction, Re
 ghost use Rattle.stmt_code.specs.Bounds.{main_bound};
 ghost use Rattle.stmt_code.specs.Refusing.{beyond_if, IsNeeding, RefusesMain};
 ghost use Rattle.stmt_code.specs.Emitting.{HasEntries, IsLegalRun};
+ghost use Rattle.stmt_code.specs.Rows.{body_rows};
 ghost use Rattle.stmt_code.specs.Subprograms.{AddsCalls, AddsFunction, AddsMain, AddsMainCall, AddsProcedure, CallsProcedures, IsCalledFunction, IsCalledProcedure, KeepsRules};
 ghost use Rattle.well_typed.specs.SoundScopes.{SoundScope};
 
@@ -79,7 +80,7 @@ fn add_calls(
 }
 
 impl Draft {
-    /// Adds the code of a procedure whose body handles nothing, where the names in front of its parameters are visible.
+    /// Adds the code of a procedure, where the names in front of its parameters are visible.
     pub fn procedure(
         &mut self,
         visible: &mut Visible,
@@ -90,24 +91,27 @@ impl Draft {
         requires sound { SoundScope (formals_scope visible.old.scope formals.now) }
         requires entries { HasEntries visible.old }
         requires new_names { length (formals_scope visible.old.scope formals.now) ≡ length visible.old.scope + length formals.now }
-        requires legal { IsLegalRun (formals_scope visible.old.scope formals.now) (body_tree body.now).declarations (body_tree body.now).statements }
+        requires legal { IsLegalRun (formals_scope visible.old.scope formals.now) (body_tree body.now).declarations (body_tree body.now).statements (body_tree body.now).handlers }
         ensures adds { IfOk result (λ words. AddsProcedure visible.old self.old formals.now (body_tree body.now) words self.new) }
         ensures called { IfOk result (λ words. IsCalledProcedure visible.old.scope formals.now words) }
         ensures refused { IfErr result (λ why. RefusesProcedure visible.old self.old formals.now (body_tree body.now) why) }
         ensures labels { OnOk result (self.new.labels ≡ body_labels self.old.labels (body_tree body.now)) }
+        ensures rows { OnOk result (length self.new.rows.items ≡ body_rows (length self.old.rows.items) (body_tree body.now)) }
         ensures keeps { IfOk result (λ words. KeepsRules visible.old self.old words self.new) }
         ensures same { OnOk result (visible.new ≡ visible.old) }
     {
-        if !body.handlers.is_empty() {
-            return Err(Refusal::Outside);
-        }
         names_are_added();
         shapes_stay();
         let extent = Extent::of(visible, self.words);
         let placed = self.formals(visible, formals)?;
         self.code.deepest = 0;
         initialise_all(&mut self.code, visible, &placed.formals)?;
-        self.run(visible, &body.declarations, &body.statements)?;
+        self.run(
+            visible,
+            &body.declarations,
+            &body.statements,
+            &body.handlers,
+        )?;
         let results = return_all(&mut self.code, &visible.scope, &placed.formals)?;
         let words = SubprogramWords {
             passed: placed.passed,
@@ -136,6 +140,7 @@ impl Draft {
         ensures called { IfOk result (λ words. IsCalledFunction visible.old.scope formals.now subtype words) }
         ensures refused { IfErr result (λ why. RefusesFunction visible.old self.old formals.now subtype (expr_tree value.now) why) }
         ensures labels { OnOk result (self.new.labels ≡ self.old.labels) }
+        ensures rows { OnOk result (self.new.rows ≡ self.old.rows) }
         ensures keeps { IfOk result (λ words. KeepsRules visible.old self.old words self.new) }
         ensures same { OnOk result (visible.new ≡ visible.old) }
     {
@@ -167,6 +172,7 @@ impl Draft {
         ensures adds { IfOk result (λ words. AddsMain visible.now self.old statements.now words self.new) }
         ensures refused { IfErr result (λ why. RefusesMain visible.now self.old.code statements.now (main_bound statements.now) why) }
         ensures labels { OnOk result (self.new.labels ≡ self.old.labels) }
+        ensures rows { OnOk result (self.new.rows ≡ self.old.rows) }
         ensures keeps { IfOk result (λ words. KeepsRules visible.now self.old words self.new) }
     {
         self.code.deepest = 0;

@@ -14,7 +14,7 @@ use Rattle.expr_code.specs.declared.refusal.Refusal.TheVariants as refusal
 use Rattle.ada_link.specs.Refusing.{RefusesParts}
 use Rattle.ada_link.specs.Directory.{AreNumbered, HasManyBodies}
 use Rattle.ada_link.specs.Globals.{AreGlobals, RefusesGlobals}
-use Rattle.ada_link.proofs.Refusals.{bodies_refused, code_refused, directory_told, globals_refused, labels_told, main_refused, plain_refused, protected_refused, row_refused, task_refused}
+use Rattle.ada_link.proofs.Refusals.{bodies_refused, code_refused, directory_told, globals_refused, labels_told, main_refused, plain_refused, protected_refused, row_refused, rows_told, task_refused}
 use Rattle.ada_link.proofs.program.put_together.Goals as goal
 
 pub globals_of-requires : goal.globals_of-requires
@@ -33,7 +33,7 @@ walk_over-requires c =
     let numbered = subst (λ z. AreNumbered z (package_bodies t.package_) c.in_ok-numbers.numbers.items) c.scope-scope.ensures
     (subst (λ p. AreNumbered c.scope-scope.result.now (package_bodies (optional_tree package_tree p.package_)) c.in_ok-numbers.numbers.items)
     c.program-program.ensures.same c.in_ok-numbers.ensures.numbered) in
-    record { directory = directory_told t g c.in_ok-numbers.numbers.items _ are numbered refl refl }
+    record { directory = directory_told t g c.in_ok-numbers.numbers.items _ are numbered refl refl; exceptions = are.exceptions }
 
 pub main-requires : goal.main-requires
 main-requires c =
@@ -56,11 +56,12 @@ returns-clause-program c =
     let task : Task = c.in_ok-main_task.field-0 in
     let task_at : ℕ → Task = λ n.
     record { name = t.main.name.name; priority = base_priority (program_of t).scope t.main.aspect; subprogram = n } in
+    let are = subst (λ z. AreGlobals z (package_items t.package_) c.in_ok-slots.field-0) c.scope-scope.ensures
+    (subst (λ p. AreGlobals c.scope-scope.result.now (package_items (optional_tree package_tree p.package_)) c.in_ok-slots.field-0)
+    c.program-program.ensures.same c.in_ok-slots.ensures.globals) in
     record {
       globals = c.in_ok-slots.field-0;
-      are = subst (λ z. AreGlobals z (package_items t.package_) c.in_ok-slots.field-0) c.scope-scope.ensures
-          (subst (λ p. AreGlobals c.scope-scope.result.now (package_items (optional_tree package_tree p.package_)) c.in_ok-slots.field-0)
-          c.program-program.ensures.same c.in_ok-slots.ensures.globals);
+      are = are;
       directory = record { slots = c.in_ok-slots.field-0.slots; numbers = c.in_ok-numbers.numbers };
       slots = refl;
       walk = walk;
@@ -72,14 +73,14 @@ returns-clause-program c =
           (c.deref.ensures.value ∙ ap (λ p. p.main.statements.items) c.program-program.ensures.same) c.in_ok-main.ensures.adds;
       keeps = c.in_ok-main.ensures.keeps;
       unprotected = sym (ap protected_count c.scope-scope.ensures) ∙ sym c.protected_count.ensures.count ∙ none;
-      exceptions = refl;
+      exceptions = ap (λ e. e.items) c.in_ok-main.ensures.adds.exceptions ∙ c.in_ok-walk.ensures.walked.exceptions ∙ sym are.exceptions;
       labels = c.in_ok-texts.ensures.texts;
       plain_words = refl;
       objects = c.new.ensures.items;
       subprograms = c.in_ok-push-2.ensures.items ∙ ap (λ x. walk.subprograms.items ++ x ∷ []) c.in_ok-row.ensures.row;
       tasks = subst (λ n. c.push.new.self.items ≡ task_at n ∷ []) number
           (c.in_ok-push.ensures.items ∙ ap (λ l. l ++ task ∷ []) c.new-tasks.ensures.items ∙ ap (λ x. x ∷ []) c.in_ok-main_task.ensures.task);
-      rows = c.new-2.ensures.items;
+      rows = refl;
       instructions = refl;
     }
 
@@ -87,6 +88,11 @@ pub returns-clause-labels : goal.returns-clause-labels
 returns-clause-labels c =
     let t = program_tree c.args.accepted.now in
     c.in_ok-texts.ensures.texts ∙ c.in_ok-main.ensures.adds.labels ∙ labels_told t c.in_ok-walk.walk c.in_ok-walk.ensures.told c.in_ok-walk.ensures.whole
+
+pub returns-clause-rows : goal.returns-clause-rows
+returns-clause-rows c =
+    let t = program_tree c.args.accepted.now in
+    ap (λ r. length r.items) c.in_ok-main.ensures.adds.rows ∙ rows_told t c.in_ok-walk.walk c.in_ok-walk.ensures.told c.in_ok-walk.ensures.whole
 
 pub returns-then-protected_count-ne0-clause-refused : goal.returns-then-protected_count-ne0-clause-refused
 returns-then-protected_count-ne0-clause-refused c =

@@ -8,8 +8,8 @@ use Rattle.ada_link.proofs.walk.walk_nothing.Goals as goal
 
 pub returns-clause-walked : goal.returns-clause-walked
 returns-clause-walked c =
-    walk_begins (program_tree c.args.accepted.now) c.args.directory.now c.in_ok-standard.field-0 c.in_ok-walk.walk c.in_ok-walk.ensures.begins
-    (c.in_ok-standard.ensures ∙ ap (λ o. start_in (optional_tree package_tree o)) (sym c.requires.is))
+    walk_begins (program_tree c.args.accepted.now) c.args.directory.now c.in_ok-standard.field-0 _ c.in_ok-walk.walk c.in_ok-walk.ensures.begins
+    (c.in_ok-standard.ensures ∙ ap (λ o. start_in (optional_tree package_tree o)) (sym c.requires.is)) c.requires.exceptions
 
 pub returns-clause-whole : goal.returns-clause-whole
 returns-clause-whole c =
@@ -17,5 +17,5 @@ returns-clause-whole c =
 
 pub returns-clause-told : goal.returns-clause-told
 returns-clause-told c =
-    begins_told (program_tree c.args.accepted.now) c.in_ok-standard.field-0 c.in_ok-walk.walk c.in_ok-walk.ensures.begins
+    begins_told (program_tree c.args.accepted.now) c.in_ok-standard.field-0 _ c.in_ok-walk.walk c.in_ok-walk.ensures.begins
     (c.in_ok-standard.ensures ∙ ap (λ o. start_in (optional_tree package_tree o)) (sym c.requires.is))

@@ -9,8 +9,8 @@ use Rattle.ada_link.proofs.walk.walk_package.Goals as goal
 
 pub declarations-requires-clause-walked : goal.declarations-requires-clause-walked
 declarations-requires-clause-walked c =
-    walk_begins (program_tree c.args.accepted.now) c.args.directory.now c.in_ok-inside_scope.field-0 c.in_ok-walk.walk c.in_ok-walk.ensures.begins
-    (c.in_ok-inside_scope.ensures ∙ ap (λ o. start_in (optional_tree package_tree o)) (sym c.requires.is))
+    walk_begins (program_tree c.args.accepted.now) c.args.directory.now c.in_ok-inside_scope.field-0 _ c.in_ok-walk.walk c.in_ok-walk.ensures.begins
+    (c.in_ok-inside_scope.ensures ∙ ap (λ o. start_in (optional_tree package_tree o)) (sym c.requires.is)) c.requires.exceptions
 
 pub declarations-requires-clause-at : goal.declarations-requires-clause-at
 declarations-requires-clause-at c =
@@ -30,5 +30,5 @@ returns-clause-whole c =
 
 pub declarations-requires-clause-told : goal.declarations-requires-clause-told
 declarations-requires-clause-told c =
-    begins_told (program_tree c.args.accepted.now) c.in_ok-inside_scope.field-0 c.in_ok-walk.walk c.in_ok-walk.ensures.begins
+    begins_told (program_tree c.args.accepted.now) c.in_ok-inside_scope.field-0 _ c.in_ok-walk.walk c.in_ok-walk.ensures.begins
     (c.in_ok-inside_scope.ensures ∙ ap (λ o. start_in (optional_tree package_tree o)) (sym c.requires.is))

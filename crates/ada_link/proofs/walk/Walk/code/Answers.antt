@@ -4,15 +4,15 @@ use Rattle.ada_tree.specs.StatementTree.{subprogram_tree}
 use Rattle.ada_tree.specs.ProgramTree.{body_tree, program_tree}
 use Rattle.stmt_code.specs.WholeRefusals.{RefusesProcedure}
 use Rattle.ada_link.specs.Walking.{RefusesBody}
-use Rattle.ada_link.proofs.BodyRefused.{procedure_labels, procedure_refused}
+use Rattle.ada_link.proofs.BodyRefused.{both_ok, procedure_refused, procedure_told}
 use Rattle.ada_link.proofs.walk.Walk.code.Goals as goal
 
-pub returns-in-None-clause-labels : goal.returns-in-None-clause-labels
-returns-in-None-clause-labels c =
+pub returns-in-None-clause-told : goal.returns-in-None-clause-told
+returns-in-None-clause-told c =
     let none : (subprogram_tree c.args.subprogram.now).result ≡ None = search rules in
     on_ok_weaker c.procedure.result
-    (λ h. procedure_labels c.args.self.now.draft c.procedure.new.self (subprogram_tree c.args.subprogram.now) (body_tree c.args.body.now) none h)
-    c.procedure.ensures.labels
+    (λ h. procedure_told c.args.self.now.draft c.procedure.new.self (subprogram_tree c.args.subprogram.now) (body_tree c.args.body.now) none h.0 h.1)
+    (both_ok c.procedure.result _ _ c.procedure.ensures.labels c.procedure.ensures.rows)
 
 pub returns-in-None-clause-refused : goal.returns-in-None-clause-refused
 returns-in-None-clause-refused c =

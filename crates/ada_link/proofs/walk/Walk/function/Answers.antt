@@ -9,7 +9,7 @@ use Rattle.expr_code.specs.Emitting.{IsFit}
 use Rattle.stmt_code.specs.Subprograms.{AddsFunction, IsCalledFunction}
 use Rattle.stmt_code.specs.WholeRefusals.{RefusesFunction}
 use Rattle.ada_link.specs.Walking.{AddsValue, RefusesBody}
-use Rattle.ada_link.proofs.BodyRefused.{value_labels, value_refused}
+use Rattle.ada_link.proofs.BodyRefused.{both_ok, value_refused, value_told}
 use Rattle.ada_link.proofs.walk.Walk.function.Goals as goal
 
 pub function-requires-clause-fit : goal.function-requires-clause-fit
@@ -52,11 +52,11 @@ returns-clause-called c =
     subst (λ l. IsCalledFunction s l (subtype_named (program_of (program_tree c.args.accepted.now)).scope c.args.subtype.now) words) c.deref-2.ensures.value
     (subst (λ t. IsCalledFunction s c.deref-2.result.now t words) named h)) c.function.ensures.called
 
-pub returns-clause-labels : goal.returns-clause-labels
-returns-clause-labels c =
+pub returns-clause-told : goal.returns-clause-told
+returns-clause-told c =
     on_ok_weaker c.function.result
-    (λ h. value_labels c.args.self.now.draft c.function.new.self (subprogram_tree c.args.subprogram.now) (body_tree c.args.body.now) c.args.subtype.now
-    c.requires.subtype h) c.function.ensures.labels
+    (λ h. value_told c.args.self.now.draft c.function.new.self (subprogram_tree c.args.subprogram.now) (body_tree c.args.body.now) c.args.subtype.now
+    c.requires.subtype h.0 h.1) (both_ok c.function.result _ _ c.function.ensures.labels c.function.ensures.rows)
 
 pub returns-clause-refused : goal.returns-clause-refused
 returns-clause-refused c =

@@ -43,7 +43,7 @@ returns-clause-told c =
     body_told (program_tree c.args.accepted.now) c.args.directory.now c.requires.directory c.args.self.now (subprogram_tree c.args.subprogram.now)
     (body_tree c.args.body.now) c.declare_subprogram.new.scope c.scope.result.now c.tell.new.visible c.requires.told c.requires.at
     c.in_ok-declare_subprogram.ensures.ok c.scope.ensures c.in_ok-tell.ensures.tells
-    _ c.body.new.self _ refl refl c.in_ok-body.ensures.adds c.in_ok-body.ensures.labels.labels (ap (λ n. n + 1) c.in_ok-body.ensures.adds.place) refl refl
+    _ c.body.new.self _ refl refl c.in_ok-body.ensures.adds c.in_ok-body.ensures.told (ap (λ n. n + 1) c.in_ok-body.ensures.adds.place) refl refl
 
 pub returns-in_err-body-clause-refused : goal.returns-in_err-body-clause-refused
 returns-in_err-body-clause-refused c =
@@ -51,5 +51,5 @@ returns-in_err-body-clause-refused c =
     (body_tree c.args.body.now) c.declare_subprogram.new.scope c.scope.result.now c.tell.new.visible c.requires.told c.requires.at
     c.in_ok-declare_subprogram.ensures.ok c.scope.ensures c.in_ok-tell.ensures.tells in
     let whole = body_refused (program_tree c.args.accepted.now) c.args.self.now (subprogram_tree c.args.subprogram.now) (body_tree c.args.body.now)
-    c.tell.new.visible c.args.self.now.draft c.in_err-body.field-0.0 c.requires.told c.requires.at seen refl c.in_err-body.ensures.refused in
+    c.tell.new.visible c.args.self.now.draft c.in_err-body.field-0.0 c.requires.told c.requires.walked.exceptions c.requires.at seen refl c.in_err-body.ensures.refused in
     search (rules, whole)

@@ -1,11 +1,12 @@
 mod Added
+mod Covered
 mod Refused
 mod Stays
 use Rattle.std.proofs.Common.{◌≡◌, ◌∷◌, ◌++◌, [], length, map, take, refl, sym, ap, ◌∙◌, rules, subst}
 use Rattle.std.proofs.lemmas.Result.{on_ok_weaker}
 use Rattle.ada_tree.specs.declared.statement.Stmt as statements
 use Rattle.ada_tree.specs.ExpressionTree.{expr_tree}
-use Rattle.ada_tree.specs.StatementTree.{Loop, alternative_tree, alternative_trees, alternatives_of, choices_tree, declaration_tree, elsif_tree, elsif_trees, elsifs_of, iteration_tree, range_tree, stmt_trees}
+use Rattle.ada_tree.specs.StatementTree.{Loop, NoHandlers, alternative_tree, alternative_trees, alternatives_of, choices_tree, declaration_tree, elsif_tree, elsif_trees, elsifs_of, iteration_tree, range_tree, stmt_trees}
 use Rattle.expr_rules.specs.Typing.{boolean_wanted}
 use Rattle.stmt_rules.specs.CaseRules.{selecting_faults}
 use Rattle.stmt_rules.specs.SimpleRules.{condition_faults}
@@ -17,7 +18,7 @@ use Rattle.stmt_code.specs.Refusing.{alternatives_needs, around, elsifs_needs}
 use Rattle.stmt_code.specs.Staying.{StaysAlternatives, StaysParts}
 use Rattle.stmt_code.specs.Alternatives.{AddsAlternatives, AreLegalChoices}
 use Rattle.stmt_code.specs.Emitting.{AddsParts, AreLegal, EmitsStatement, EmitsStatements, EndsLoop, HasEntries, IsLegal, ways_of}
-use Rattle.stmt_code.proofs.Adding.{block_body, block_declarations, block_emits, wanted_legal}
+use Rattle.stmt_code.proofs.Adding.{block_body, block_declarations, block_emits, wanted_legal, without_handlers}
 use Rattle.stmt_code.proofs.Alternatives.{all_alternatives, alternative_closed, alternative_legal, alternatives_next, case_alternatives, case_emits, case_selecting, case_waiting, choices_waiting, no_alternatives, selecting_legal}
 use Rattle.stmt_code.proofs.Opening.{all_parts, branch_closed, no_parts, part_legal, parts_next}
 use Rattle.stmt_code.proofs.Bounded.{entries_inside, loop_body, loop_range, range_type, slots_stay, sound_inside, subprograms_stay}
@@ -29,6 +30,7 @@ use Rattle.stmt_code.proofs.Selecting.{choices_select, selecting_width}
 use Rattle.stmt_code.proofs.Testing.{while_emits}
 use Rattle.stmt_code.proofs.draft.Draft.+statement.Goals as goal
 use Rattle.stmt_code.proofs.draft.Draft.+statement.Answers.Added as added
+use Rattle.stmt_code.proofs.draft.Draft.+statement.Answers.Covered as covered
 use Rattle.stmt_code.proofs.draft.Draft.+statement.Answers.Refused as refused
 use Rattle.stmt_code.proofs.draft.Draft.+statement.Answers.Stays as stays
 
@@ -44,10 +46,10 @@ branch-statements-requires t c = (search (rules, statements.the_lemmas), (c.requ
 pub branch-returns-clause-adds : goal.branch-returns-clause-adds
 branch-returns-clause-adds t c = on_ok_weaker _
     (λ k.
-    branch_closed c.args.visible.now (ways_of c.args.leaving) c.args.self.now (record { code = c.test.new.self; labels = c.args.self.now.labels; words = c.args.self.now.words })
-    c.statements.new.self (record { code = c.close.new.self; labels = c.statements.new.self.labels; words = c.statements.new.self.words }) c.of_width.new.self (expr_tree c.args.condition.now)
+    branch_closed c.args.visible.now (ways_of c.args.leaving) c.args.self.now (record c.args.self.now { code = c.test.new.self })
+    c.statements.new.self (record c.statements.new.self { code = c.close.new.self }) c.of_width.new.self (expr_tree c.args.condition.now)
     (stmt_trees c.args.body.now) c.in_ok-test.test c.args.waiting.now.items c.close.new.waiting.items c.in_ok-test.ensures.place
-    c.in_ok-of_width.ensures.emits c.in_ok-test.ensures.adds (refl, refl) c.in_ok-statements.ensures.emits k (refl, refl))
+    c.in_ok-of_width.ensures.emits c.in_ok-test.ensures.adds (refl, refl, (refl, refl)) c.in_ok-statements.ensures.emits k (refl, refl, (refl, refl)))
     c.close.ensures.closes
 
 pub branch-returns-clause-same : goal.branch-returns-clause-same
@@ -91,7 +93,7 @@ elsifs-loop-part-preserved t c =
           c.branch-self.new.waiting.items c.branch-self.new.self) c.deref.ensures.value c.in_ok-branch.ensures.adds)),
       c.in_ok-branch.ensures.same ∙ there,
       parts_stay v w c.args.self.now c.loop-part.self c.branch-self.new.self c.args.elsifs.now _ c.part-item.result c.loop-part-test.true c.part-item.is
-          c.loop-part.invariant.0.emits.taken c.loop-part.invariant.2
+          (c.loop-part.invariant.0.emits.taken, c.loop-part.invariant.0.emits.rows.exceptions) c.loop-part.invariant.2
           (subst (λ x. StaysParts x w c.loop-part.self (elsifs_of (elsif_tree c.part-item.result ∷ [])) c.branch-self.new.self) there
           (subst (λ l. StaysParts c.loop-part.visible w c.loop-part.self (elsifs_of ((expr_tree c.part-item.result.condition, stmt_trees l) ∷ []))
           c.branch-self.new.self) c.deref.ensures.value c.in_ok-branch.ensures.stays)),
@@ -114,7 +116,7 @@ alternative-rejoin-requires t c =
     let v = c.args.visible.now in
     let e = expr_tree c.args.value.now in
     let a = c.args.alternative.now in
-    let chosen : Draft = record { code = c.add_choices.new.code; labels = c.args.self.now.labels; words = c.args.self.now.words } in
+    let chosen : Draft = record c.args.self.now { code = c.add_choices.new.code } in
     let body = subst (λ l. EmitsStatements v (ways_of c.args.leaving) chosen (stmt_trees l) c.statements.new.self) c.deref.ensures.value
     c.in_ok-statements.ensures.emits in
     record {
@@ -131,8 +133,8 @@ alternative-returns-clause-adds t c =
     let w = ways_of c.args.leaving in
     let e = expr_tree c.args.value.now in
     let a = c.args.alternative.now in
-    let chosen : Draft = record { code = c.add_choices.new.code; labels = c.args.self.now.labels; words = c.args.self.now.words } in
-    let closed : Draft = record { code = c.rejoin.new.self; labels = c.statements.new.self.labels; words = c.statements.new.self.words } in
+    let chosen : Draft = record c.args.self.now { code = c.add_choices.new.code } in
+    let closed : Draft = record c.statements.new.self { code = c.rejoin.new.self } in
     let body = subst (λ l. EmitsStatements v w chosen (stmt_trees l) c.statements.new.self) c.deref.ensures.value c.in_ok-statements.ensures.emits in
     let waits : c.push.new.self.items ≡ c.args.waiting.now.items ++ here c.statements.new.self.code ∷ [] = search rules in
     on_ok_weaker _
@@ -141,7 +143,7 @@ alternative-returns-clause-adds t c =
     c.in_ok-next.next.items c.deref-2.result.now c.args.waiting.now.items c.push.new.self.items
     (choices_select c.calls_are_typed.ensures c.static_is_value.ensures c.quiet_stays.ensures v e c.requires.selecting (choices_tree a.choices)
     c.args.self.now.code c.in_ok-next.next.items c.add_choices.new.code c.requires.choices c.in_ok-next.ensures.adds)
-    (refl, refl) body c.in_ok-emit.ensures.adds waits c.deref-2.ensures.value r (refl, refl))
+    (refl, refl, (refl, refl)) body c.in_ok-emit.ensures.adds waits c.deref-2.ensures.value r (refl, refl, (refl, refl)))
     c.rejoin.ensures.rejoins
 
 pub alternatives-loop-alternative-init : goal.alternatives-loop-alternative-init
@@ -185,7 +187,8 @@ alternatives-loop-alternative-preserved t c =
           c.alternative.new.waiting.items c.alternative.new.self) there c.in_ok-alternative.ensures.adds),
       c.in_ok-alternative.ensures.same ∙ there,
       alternatives_stay v w c.args.self.now c.loop-alternative.self c.alternative.new.self c.args.all.now _ c.alternative-item.result
-          c.loop-alternative-test.true c.alternative-item.is c.loop-alternative.invariant.0.emits.taken c.loop-alternative.invariant.2
+          c.loop-alternative-test.true c.alternative-item.is
+          (c.loop-alternative.invariant.0.emits.taken, c.loop-alternative.invariant.0.emits.rows.exceptions) c.loop-alternative.invariant.2
           (subst (λ x. StaysAlternatives x w c.loop-alternative.self (alternatives_of (alternative_tree c.alternative-item.result ∷ []))
           c.alternative.new.self) there
           c.in_ok-alternative.ensures.stays),
@@ -230,26 +233,28 @@ pub case-rejoin-requires : goal.case-rejoin-requires
 case-rejoin-requires t c =
     let v = c.args.visible.now in
     let w = ways_of c.args.leaving in
-    let valued : Draft = record { code = c.of_width.new.self; labels = c.args.self.now.labels; words = c.args.self.now.words } in
-    let dropped : Draft = record { code = c.emit.new.self; labels = c.alternatives.new.self.labels; words = c.alternatives.new.self.words } in
+    let valued : Draft = record c.args.self.now { code = c.of_width.new.self } in
+    let dropped : Draft = record c.alternatives.new.self { code = c.emit.new.self } in
     record {
       there = case_waiting v w (expr_tree c.args.value.now) c.args.self.now valued c.alternatives.new.self dropped dropped c.args.place
           (map alternative_tree c.args.alternatives.now) c.new-waiting.result.items c.alternatives.new.waiting.items c.deref.result.now c.new-waiting.ensures.items
-          c.deref.ensures.value c.in_ok-of_width.ensures.emits (refl, refl) c.in_ok-alternatives.ensures.adds c.in_ok-emit.ensures.adds (refl, refl);
+          c.deref.ensures.value c.in_ok-of_width.ensures.emits (refl, refl, (refl, refl)) c.in_ok-alternatives.ensures.adds c.in_ok-emit.ensures.adds
+          (refl, refl, (refl, refl));
     }
 
 pub case-returns-clause-emits : goal.case-returns-clause-emits
 case-returns-clause-emits t c =
     let v = c.args.visible.now in
     let w = ways_of c.args.leaving in
-    let valued : Draft = record { code = c.of_width.new.self; labels = c.args.self.now.labels; words = c.args.self.now.words } in
-    let dropped : Draft = record { code = c.emit.new.self; labels = c.alternatives.new.self.labels; words = c.alternatives.new.self.words } in
-    let joined : Draft = record { code = c.rejoin.new.self; labels = c.alternatives.new.self.labels; words = c.alternatives.new.self.words } in
+    let valued : Draft = record c.args.self.now { code = c.of_width.new.self } in
+    let dropped : Draft = record c.alternatives.new.self { code = c.emit.new.self } in
+    let joined : Draft = record c.alternatives.new.self { code = c.rejoin.new.self } in
     on_ok_weaker _
     (λ r.
     case_emits v w (expr_tree c.args.value.now) c.args.self.now valued c.alternatives.new.self dropped joined c.args.place
     (map alternative_tree c.args.alternatives.now) c.new-waiting.result.items c.alternatives.new.waiting.items c.deref.result.now c.new-waiting.ensures.items
-    c.deref.ensures.value c.in_ok-of_width.ensures.emits (refl, refl) c.in_ok-alternatives.ensures.adds c.in_ok-emit.ensures.adds (refl, refl) _ refl r (refl, refl))
+    c.deref.ensures.value c.in_ok-of_width.ensures.emits (refl, refl, (refl, refl)) c.in_ok-alternatives.ensures.adds c.in_ok-emit.ensures.adds
+    (refl, refl, (refl, refl)) _ refl r (refl, refl, (refl, refl)))
     c.rejoin.ensures.rejoins
 
 -- ---- loops
@@ -283,46 +288,52 @@ repeated-returns-in_ok-end_loop-in-Forever-clause-emits t c =
     let v = c.args.visible.now in
     let w = ways_of c.args.leaving in
     let body = stmt_trees c.args.body.now in
-    let begun : Draft = record { code = c.begin_loop.new.code; labels = c.args.self.now.labels; words = c.args.self.now.words } in
-    let ended : Draft = record { code = c.end_loop.new.code; labels = c.statements.new.self.labels; words = c.statements.new.self.words } in subst (λ i. EmitsStatement v w c.args.self.now (Loop c.args.place (iteration_tree i) body) ended) (sym c.in-Forever.is)
-    (forever_emits v w c.args.self.now begun c.statements.new.self ended body c.in_ok-head-in-Forever.head.exit c.in_ok-head-in-Forever.head.turn c.in_ok-head-in-Forever.ensures.begins (refl, refl)
+    let begun : Draft = record c.args.self.now { code = c.begin_loop.new.code } in
+    let ended : Draft = record c.statements.new.self { code = c.end_loop.new.code } in subst
+    (λ i. EmitsStatement v w c.args.self.now (Loop c.args.place (iteration_tree i) body) ended) (sym c.in-Forever.is)
+    (forever_emits v w c.args.self.now begun c.statements.new.self ended body c.in_ok-head-in-Forever.head.exit c.in_ok-head-in-Forever.head.turn
+    c.in_ok-head-in-Forever.ensures.begins (refl, refl, (refl, refl))
     c.in_ok-head-in-Forever.ensures.exit c.in_ok-head-in-Forever.ensures.turn
     (subst (λ x. EmitsStatements v x begun body c.statements.new.self) c.in_loop.ensures c.in_ok-statements-in-Forever.ensures.emits)
-    c.in_ok-end_loop-in-Forever.ensures.ends (refl, refl) c.args.place)
+    c.in_ok-end_loop-in-Forever.ensures.ends (refl, refl, (refl, refl)) c.args.place)
 
 pub repeated-returns-in_ok-end_loop-in-Forever-clause-same : goal.repeated-returns-in_ok-end_loop-in-Forever-clause-same
 repeated-returns-in_ok-end_loop-in-Forever-clause-same t c =
     let v = c.args.visible.now in
     let w = ways_of c.args.leaving in
     let body = stmt_trees c.args.body.now in
-    let begun : Draft = record { code = c.begin_loop.new.code; labels = c.args.self.now.labels; words = c.args.self.now.words } in
-    let ended : Draft = record { code = c.end_loop.new.code; labels = c.statements.new.self.labels; words = c.statements.new.self.words } in c.in_ok-statements-in-Forever.ensures.same
+    let begun : Draft = record c.args.self.now { code = c.begin_loop.new.code } in
+    let ended : Draft = record c.statements.new.self { code = c.end_loop.new.code } in c.in_ok-statements-in-Forever.ensures.same
 
 pub repeated-returns-in_ok-end-in-While-clause-emits : goal.repeated-returns-in_ok-end-in-While-clause-emits
 repeated-returns-in_ok-end-in-While-clause-emits t c =
     let v = c.args.visible.now in
     let w = ways_of c.args.leaving in
     let body = stmt_trees c.args.body.now in
-    let begun : Draft = record { code = c.begin_loop-in-While.new.code; labels = c.args.self.now.labels; words = c.args.self.now.words } in
-    let jumped : Draft = record { code = c.test.new.self; labels = c.args.self.now.labels; words = c.args.self.now.words } in
-    let ended : Draft = record { code = c.end_loop-in-While.new.code; labels = c.statements-in-While.new.self.labels; words = c.statements-in-While.new.self.words } in
-    let whole : Draft = record { code = c.patch.new.self; labels = c.statements-in-While.new.self.labels; words = c.statements-in-While.new.self.words } in subst (λ i. EmitsStatement v w c.args.self.now (Loop c.args.place (iteration_tree i) body) whole) (sym c.in-While.is)
+    let begun : Draft = record c.args.self.now { code = c.begin_loop-in-While.new.code } in
+    let jumped : Draft = record c.args.self.now { code = c.test.new.self } in
+    let ended : Draft = record c.statements-in-While.new.self { code = c.end_loop-in-While.new.code } in
+    let whole : Draft = record c.statements-in-While.new.self { code = c.patch.new.self } in subst
+    (λ i. EmitsStatement v w c.args.self.now (Loop c.args.place (iteration_tree i) body) whole) (sym c.in-While.is)
     (while_emits v w c.args.self.now begun jumped c.statements-in-While.new.self ended whole c.of_width.new.self (expr_tree c.in-While.condition) body
-    c.in_ok-head-in-While.head.exit c.in_ok-head-in-While.head.turn c.in_ok-test-in-While.test c.in_ok-end-in-While.end c.in_ok-head-in-While.ensures.begins (refl, refl)
-    c.in_ok-head-in-While.ensures.exit c.in_ok-head-in-While.ensures.turn c.in_ok-of_width-in-While.ensures.emits c.in_ok-test-in-While.ensures.adds (refl, refl)
+    c.in_ok-head-in-While.head.exit c.in_ok-head-in-While.head.turn c.in_ok-test-in-While.test c.in_ok-end-in-While.end c.in_ok-head-in-While.ensures.begins
+    (refl, refl, (refl, refl))
+    c.in_ok-head-in-While.ensures.exit c.in_ok-head-in-While.ensures.turn c.in_ok-of_width-in-While.ensures.emits c.in_ok-test-in-While.ensures.adds
+    (refl, refl, (refl, refl))
     c.in_ok-test-in-While.ensures.place
     (subst (λ x. EmitsStatements v x jumped body c.statements-in-While.new.self) c.in_loop-in-While.ensures c.in_ok-statements-in-While.ensures.emits)
-    c.in_ok-end-in-While.ensures.ends (refl, refl) c.in_ok-end-in-While.ensures.end c.patch.ensures.patches (refl, refl) c.args.place)
+    c.in_ok-end-in-While.ensures.ends (refl, refl, (refl, refl)) c.in_ok-end-in-While.ensures.end c.patch.ensures.patches (refl, refl, (refl, refl))
+    c.args.place)
 
 pub repeated-returns-in_ok-end-in-While-clause-same : goal.repeated-returns-in_ok-end-in-While-clause-same
 repeated-returns-in_ok-end-in-While-clause-same t c =
     let v = c.args.visible.now in
     let w = ways_of c.args.leaving in
     let body = stmt_trees c.args.body.now in
-    let begun : Draft = record { code = c.begin_loop-in-While.new.code; labels = c.args.self.now.labels; words = c.args.self.now.words } in
-    let jumped : Draft = record { code = c.test.new.self; labels = c.args.self.now.labels; words = c.args.self.now.words } in
-    let ended : Draft = record { code = c.end_loop-in-While.new.code; labels = c.statements-in-While.new.self.labels; words = c.statements-in-While.new.self.words } in
-    let whole : Draft = record { code = c.patch.new.self; labels = c.statements-in-While.new.self.labels; words = c.statements-in-While.new.self.words } in c.in_ok-statements-in-While.ensures.same
+    let begun : Draft = record c.args.self.now { code = c.begin_loop-in-While.new.code } in
+    let jumped : Draft = record c.args.self.now { code = c.test.new.self } in
+    let ended : Draft = record c.statements-in-While.new.self { code = c.end_loop-in-While.new.code } in
+    let whole : Draft = record c.statements-in-While.new.self { code = c.patch.new.self } in c.in_ok-statements-in-While.ensures.same
 
 pub repeated-counted-requires : goal.repeated-counted-requires
 repeated-counted-requires t c =
@@ -356,7 +367,7 @@ pub counted-statements-requires : goal.counted-statements-requires
 counted-statements-requires t c =
     let v = c.args.visible.now in
     let range = range_tree c.args.range.now in
-    let begun : Draft = record { code = c.begin_loop.new.code; labels = c.args.self.now.labels; words = c.args.self.now.words } in
+    let begun : Draft = record c.args.self.now { code = c.begin_loop.new.code } in
     let legal = loop_range v.scope c.args.place c.args.parameter.now c.args.reversed range (stmt_trees c.args.body.now) c.requires.legal in
     let type_is = range_type v.scope c.args.parameter.now range legal c.requires.sound in
     let r = c.in_ok-turns.ensures.begins in (
@@ -379,7 +390,7 @@ counted-returns-clause-emits t c =
     let range = range_tree c.args.range.now in
     let body = stmt_trees c.args.body.now in
     let later = c.begin_range.new.visible in
-    let begun : Draft = record { code = c.begin_loop.new.code; labels = c.args.self.now.labels; words = c.args.self.now.words } in
+    let begun : Draft = record c.args.self.now { code = c.begin_loop.new.code } in
     let opened = c.begin_range.new.self in
     let legal = loop_range v.scope c.args.place c.args.parameter.now c.args.reversed range body c.requires.legal in
     let statements = subst (λ x. EmitsStatements later x opened body c.statements.new.self) c.in_loop.ensures c.in_ok-statements.ensures.emits in
@@ -387,16 +398,17 @@ counted-returns-clause-emits t c =
     let words = c.restore.ensures.words ∙ ap (λ n. record c.statements.new.self.words { taken = n }) c.of-extent.ensures.taken in
     range_emits c.shapes_stay.ensures v later (ways_of c.args.leaving) c.args.self.now begun opened c.statements.new.self c.end_turn.new.code
     c.end_loop.new.code c.patch.new.self c.patch-2.new.self c.args.parameter.now c.args.reversed range body _ c.in_ok-head.head.exit _ c.in_ok-last.last c.in_ok-end.end
-    c.requires.sound c.requires.entries legal (range_type v.scope c.args.parameter.now range legal c.requires.sound) c.in_ok-head.ensures.begins (refl, refl)
+    c.requires.sound c.requires.entries legal (range_type v.scope c.args.parameter.now range legal c.requires.sound) c.in_ok-head.ensures.begins
+    (refl, refl, (refl, refl))
     c.in_ok-head.ensures.exit c.in_ok-turns.ensures.begins statements c.in_ok-last.ensures.ends ends c.in_ok-end.ensures.end c.patch.ensures.patches
     c.patch-2.ensures.patches c.quiet_stays.ensures c.agreement_is_kept.ensures c.values_have_words.ensures c.args.place _
-    (λ j. record { code = c.patch-2.new.self; labels = c.statements.new.self.labels; words = words j })
+    (λ j. record c.statements.new.self { code = c.patch-2.new.self; words = words j })
 
 pub counted-returns-clause-same : goal.counted-returns-clause-same
 counted-returns-clause-same t c =
     let v = c.args.visible.now in
     let range = range_tree c.args.range.now in
-    let begun : Draft = record { code = c.begin_loop.new.code; labels = c.args.self.now.labels; words = c.args.self.now.words } in
+    let begun : Draft = record c.args.self.now { code = c.begin_loop.new.code } in
     let legal = loop_range v.scope c.args.place c.args.parameter.now c.args.reversed range (stmt_trees c.args.body.now) c.requires.legal in
     let type_is = range_type v.scope c.args.parameter.now range legal c.requires.sound in
     let r = c.in_ok-turns.ensures.begins in
@@ -415,7 +427,8 @@ counted-returns-clause-same t c =
 
 pub block-declarations-requires-clause-legal : goal.block-declarations-requires-clause-legal
 block-declarations-requires-clause-legal t c =
-    block_declarations c.args.visible.now.scope c.args.place (map declaration_tree c.args.declarations.now) (stmt_trees c.args.body.now) c.requires.legal
+    block_declarations c.args.visible.now.scope c.args.place (map declaration_tree c.args.declarations.now)
+    (stmt_trees c.args.body.now) NoHandlers c.requires.legal
 
 pub block-statements-requires : goal.block-statements-requires
 block-statements-requires t c =
@@ -426,7 +439,8 @@ block-statements-requires t c =
         (
           declared.entries,
           subst (λ s. AreLegal s (stmt_trees c.args.body.now)) (sym declared.scope)
-              (block_body c.args.visible.now.scope c.args.place (map declaration_tree c.args.declarations.now) (stmt_trees c.args.body.now) c.requires.legal),
+              (block_body c.args.visible.now.scope c.args.place (map declaration_tree c.args.declarations.now)
+              (stmt_trees c.args.body.now) NoHandlers c.requires.legal),
         ),
       ),
     )
@@ -435,7 +449,9 @@ pub block-returns-clause-emits : goal.block-returns-clause-emits
 block-returns-clause-emits t c =
     let words = c.restore.ensures.words ∙ ap (λ n. record c.statements.new.self.words { taken = n }) c.of-extent.ensures.taken in
     block_emits c.args.visible.now (ways_of c.args.leaving) c.args.self.now c.declarations.new.self c.statements.new.self _ c.declarations.new.visible c.args.place
-    (map declaration_tree c.args.declarations.now) (stmt_trees c.args.body.now) c.in_ok-declarations.ensures.emits c.in_ok-statements.ensures.emits
+    (map declaration_tree c.args.declarations.now) (stmt_trees c.args.body.now) NoHandlers c.in_ok-declarations.ensures.emits
+    (without_handlers c.declarations.new.visible (ways_of c.args.leaving) c.declarations.new.self c.statements.new.self (stmt_trees c.args.body.now)
+    c.in_ok-statements.ensures.emits)
     (λ j. record c.statements.new.self { words = words j })
 
 pub block-returns-clause-same : goal.block-returns-clause-same
@@ -471,6 +487,9 @@ statement-returns-in_ok-statements-in-If-clause-same = added.statement-returns-i
 
 pub statement-case-requires : goal.statement-case-requires
 statement-case-requires = added.statement-case-requires
+
+pub statement-returns-in-Null-clause-emits : goal.statement-returns-in-Null-clause-emits
+statement-returns-in-Null-clause-emits = added.statement-returns-in-Null-clause-emits
 
 pub statement-returns-in-Case-clause-emits : goal.statement-returns-in-Case-clause-emits
 statement-returns-in-Case-clause-emits = added.statement-returns-in-Case-clause-emits
@@ -646,8 +665,11 @@ statement-returns-then-is_empty-clause-refused = refused.statement-returns-then-
 pub statements-returns-in_err-statement-clause-refused : goal.statements-returns-in_err-statement-clause-refused
 statements-returns-in_err-statement-clause-refused = refused.statements-returns-in_err-statement-clause-refused
 
-pub statement-returns-else-is_empty-clause-refused : goal.statement-returns-else-is_empty-clause-refused
-statement-returns-else-is_empty-clause-refused = refused.statement-returns-else-is_empty-clause-refused
+pub statement-returns-in-Raise-clause-emits : goal.statement-returns-in-Raise-clause-emits
+statement-returns-in-Raise-clause-emits = added.statement-returns-in-Raise-clause-emits
+
+pub statement-returns-in-Raise-clause-stays : goal.statement-returns-in-Raise-clause-stays
+statement-returns-in-Raise-clause-stays = stays.statement-returns-in-Raise-clause-stays
 
 pub statement-returns-in-Raise-clause-refused : goal.statement-returns-in-Raise-clause-refused
 statement-returns-in-Raise-clause-refused = refused.statement-returns-in-Raise-clause-refused
@@ -713,3 +735,65 @@ statement-returns-in-Assignment-clause-stays = stays.statement-returns-in-Assign
 
 pub statement-returns-in-Call-clause-stays : goal.statement-returns-in-Call-clause-stays
 statement-returns-in-Call-clause-stays = stays.statement-returns-in-Call-clause-stays
+
+-- ---- handlers
+
+pub covered-returns-clause-covers : goal.covered-returns-clause-covers
+covered-returns-clause-covers = covered.covered-returns-clause-covers
+
+pub each_handler-loop-handler-init : goal.each_handler-loop-handler-init
+each_handler-loop-handler-init = covered.each_handler-loop-handler-init
+
+pub each_handler-handler-requires : goal.each_handler-handler-requires
+each_handler-handler-requires = covered.each_handler-handler-requires
+
+pub each_handler-loop-handler-preserved : goal.each_handler-loop-handler-preserved
+each_handler-loop-handler-preserved = covered.each_handler-loop-handler-preserved
+
+pub each_handler-returns-in_err-handler-clause-refused : goal.each_handler-returns-in_err-handler-clause-refused
+each_handler-returns-in_err-handler-clause-refused = covered.each_handler-returns-in_err-handler-clause-refused
+
+pub each_handler-returns-clause-adds : goal.each_handler-returns-clause-adds
+each_handler-returns-clause-adds = covered.each_handler-returns-clause-adds
+
+pub each_handler-returns-clause-stays : goal.each_handler-returns-clause-stays
+each_handler-returns-clause-stays = covered.each_handler-returns-clause-stays
+
+pub each_handler-returns-clause-many : goal.each_handler-returns-clause-many
+each_handler-returns-clause-many = covered.each_handler-returns-clause-many
+
+pub each_handler-returns-clause-same : goal.each_handler-returns-clause-same
+each_handler-returns-clause-same = covered.each_handler-returns-clause-same
+
+pub handler-returns-clause-adds : goal.handler-returns-clause-adds
+handler-returns-clause-adds = covered.handler-returns-clause-adds
+
+pub handler-returns-clause-many : goal.handler-returns-clause-many
+handler-returns-clause-many = covered.handler-returns-clause-many
+
+pub handlers-returns-clause-handles : goal.handlers-returns-clause-handles
+handlers-returns-clause-handles = covered.handlers-returns-clause-handles
+
+pub handlers-returns-clause-stays : goal.handlers-returns-clause-stays
+handlers-returns-clause-stays = covered.handlers-returns-clause-stays
+
+pub statement-declarations-requires-clause-legal : goal.statement-declarations-requires-clause-legal
+statement-declarations-requires-clause-legal = covered.statement-declarations-requires-clause-legal
+
+pub statement-covered-requires : goal.statement-covered-requires
+statement-covered-requires = covered.statement-covered-requires
+
+pub statement-returns-in_err-cover-in-Block-clause-refused : goal.statement-returns-in_err-cover-in-Block-clause-refused
+statement-returns-in_err-cover-in-Block-clause-refused = covered.statement-returns-in_err-cover-in-Block-clause-refused
+
+pub statement-handlers-requires : goal.statement-handlers-requires
+statement-handlers-requires = covered.statement-handlers-requires
+
+pub statement-returns-in_err-handlers-in-Block-clause-refused : goal.statement-returns-in_err-handlers-in-Block-clause-refused
+statement-returns-in_err-handlers-in-Block-clause-refused = covered.statement-returns-in_err-handlers-in-Block-clause-refused
+
+pub statement-returns-in_ok-handlers-in-Block-clause-emits : goal.statement-returns-in_ok-handlers-in-Block-clause-emits
+statement-returns-in_ok-handlers-in-Block-clause-emits = covered.statement-returns-in_ok-handlers-in-Block-clause-emits
+
+pub statement-returns-in_ok-handlers-in-Block-clause-stays : goal.statement-returns-in_ok-handlers-in-Block-clause-stays
+statement-returns-in_ok-handlers-in-Block-clause-stays = covered.statement-returns-in_ok-handlers-in-Block-clause-stays

@@ -39,13 +39,13 @@ returns-clause-emits c =
     on_ok_weaker _
     (λ q.
     assigned_part_emits c.agreement_is_kept.ensures c.values_have_words.ensures c.calls_are_typed.ensures c.quiet_stays.ensures v w c.args.self.now
-    (record { code = c.emit.new.self; labels = c.args.self.now.labels; words = c.args.self.now.words }) c.address.new.self c.of_subtype.new.self name e r
+    (record c.args.self.now { code = c.emit.new.self }) c.address.new.self c.of_subtype.new.self name e r
     c.args.subtype last c.args.slot c.in_ok-words.words _ c.in-Some.store c.requires.sound c.requires.stands.1
     (assigned_variable v.scope name e r last part c.requires.legal) c.requires.there c.in_ok-words.ensures.words c.in_ok-words.ensures.block
     (sym c.in-Some.ensures)
     (subst (λ l. EmitsAddress v c.args.self.now.code 0 c.args.slot.offset c.args.subtype (selector_trees l) last c.address.new.self) c.deref.ensures.value
     c.in_ok-last.ensures.emits)
-    c.in_ok-words.ensures.emits c.in_ok-raised.ensures.more q (refl, refl))
+    c.in_ok-words.ensures.emits c.in_ok-raised.ensures.more q (refl, refl, (refl, refl)))
     c.emit.ensures.adds
 
 pub returns-in_err-last-clause-refused : goal.returns-in_err-last-clause-refused

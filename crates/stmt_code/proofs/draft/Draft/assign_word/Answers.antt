@@ -25,10 +25,11 @@ returns-clause-emits c =
     on_ok_weaker _
     (λ q.
     assigned_emits c.agreement_is_kept.ensures c.values_have_words.ensures c.calls_are_typed.ensures c.quiet_stays.ensures v w c.args.self.now
-    (record { code = c.emit.new.self; labels = c.args.self.now.labels; words = c.args.self.now.words }) c.of_subtype.new.self name e r c.args.subtype
+    (record c.args.self.now { code = c.emit.new.self }) c.of_subtype.new.self name e r c.args.subtype
     c.args.slot c.in-Some.store c.requires.whole c.requires.stands.1 (assigned_variable v.scope name e r c.args.subtype whole c.requires.legal)
     c.requires.there (sym c.in-Some.ensures)
-    (fitting_checked v c.args.self.now.code c.of_subtype.new.self 0 c.args.subtype e c.requires.single c.in_ok-of_subtype.ensures.emits) q (refl, refl))
+    (fitting_checked v c.args.self.now.code c.of_subtype.new.self 0 c.args.subtype e c.requires.single c.in_ok-of_subtype.ensures.emits) q
+    (refl, refl, (refl, refl)))
     c.emit.ensures.adds
 
 pub returns-in_default-clause-refused : goal.returns-in_default-clause-refused

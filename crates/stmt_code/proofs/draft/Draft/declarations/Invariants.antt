@@ -1,4 +1,4 @@
-use Rattle.std.proofs.Common.{◌≡◌, ◌+◌, map, take}
+use Rattle.std.proofs.Common.{◌≡◌, ◌+◌, length, map, take}
 use Rattle.ada_tree.specs.StatementTree.{declaration_tree}
 use Rattle.stmt_code.specs.Bounds.{locals_words}
 use Rattle.stmt_code.specs.Emitting.{EmitsDeclarations}
@@ -11,4 +11,4 @@ invariant-loop-declaration l =
     EmitsDeclarations l.fn.visible l.fn.self (map declaration_tree (take l.declaration-index l.all)) l.visible l.self
     × (l.visible ≡ locals_visible l.fn.visible l.fn.self.words.taken (map declaration_tree (take l.declaration-index l.all)))
     × (l.self.words.taken ≡ l.fn.self.words.taken + locals_words l.fn.visible.scope (map declaration_tree (take l.declaration-index l.all)))
-    × Stays l.fn.self (locals_needs l.fn.visible l.fn.self.words.taken (map declaration_tree l.all)) l.fn.self.labels l.self
+    × Stays l.fn.self (locals_needs l.fn.visible l.fn.self.words.taken (map declaration_tree l.all)) l.fn.self.labels (length l.fn.self.rows.items) l.self

@@ -21,18 +21,19 @@ pub returns-in-None-clause-emits : goal.returns-in-None-clause-emits
 returns-in-None-clause-emits c = on_ok_weaker _
     (λ q.
     subst (λ x. EmitsStatement c.args.visible.now (ways_of c.args.leaving) c.args.self.now (Exit c.args.place (optional_tree expr_tree x))
-    (record { code = c.emit.new.self; labels = c.args.self.now.labels; words = c.args.self.now.words })) (sym c.in-None.is)
-    (exit_emits c.args.visible.now (ways_of c.args.leaving) c.args.self.now (record { code = c.emit.new.self; labels = c.args.self.now.labels; words = c.args.self.now.words }) c.args.place c.in-Some.exit
-    c.in-Some.is q (refl, refl)))
+    (record c.args.self.now { code = c.emit.new.self })) (sym c.in-None.is)
+    (exit_emits c.args.visible.now (ways_of c.args.leaving) c.args.self.now (record c.args.self.now { code = c.emit.new.self }) c.args.place c.in-Some.exit
+    c.in-Some.is q (refl, refl, (refl, refl))))
     c.emit.ensures.adds
 
 pub returns-in_ok-of_width-in-Some-condition-clause-emits : goal.returns-in_ok-of_width-in-Some-condition-clause-emits
 returns-in_ok-of_width-in-Some-condition-clause-emits c = on_ok_weaker _
     (λ q.
     subst (λ x. EmitsStatement c.args.visible.now (ways_of c.args.leaving) c.args.self.now (Exit c.args.place (optional_tree expr_tree x))
-    (record { code = c.emit-in-Some-condition.new.self; labels = c.args.self.now.labels; words = c.args.self.now.words })) (sym c.in-Some-condition.is)
-    (exit_when_emits c.args.visible.now (ways_of c.args.leaving) c.args.self.now (record { code = c.emit-in-Some-condition.new.self; labels = c.args.self.now.labels; words = c.args.self.now.words })
-    c.of_width.new.self c.args.place c.in-Some.exit (expr_tree c.in-Some-condition.condition) c.in-Some.is c.in_ok-of_width-in-Some-condition.ensures.emits q (refl, refl)))
+    (record c.args.self.now { code = c.emit-in-Some-condition.new.self })) (sym c.in-Some-condition.is)
+    (exit_when_emits c.args.visible.now (ways_of c.args.leaving) c.args.self.now (record c.args.self.now { code = c.emit-in-Some-condition.new.self })
+    c.of_width.new.self c.args.place c.in-Some.exit (expr_tree c.in-Some-condition.condition) c.in-Some.is c.in_ok-of_width-in-Some-condition.ensures.emits q
+    (refl, refl, (refl, refl))))
     c.emit-in-Some-condition.ensures.adds
 
 pub returns-in_err-of_width-in-Some-condition-clause-refused : goal.returns-in_err-of_width-in-Some-condition-clause-refused
@@ -50,7 +51,7 @@ pub returns-in-None-clause-stays : goal.returns-in-None-clause-stays
 returns-in-None-clause-stays c = on_ok_weaker _
     (λ q.
     subst (λ x. StaysStatement c.args.visible.now (ways_of c.args.leaving) c.args.self.now (Exit c.args.place (optional_tree expr_tree x))
-    (record { code = c.emit.new.self; labels = c.args.self.now.labels; words = c.args.self.now.words })) (sym c.in-None.is)
+    (record c.args.self.now { code = c.emit.new.self })) (sym c.in-None.is)
     (exit_stays c.args.visible.now (ways_of c.args.leaving) c.args.self.now c.args.place c.emit.new.self q.shallow))
     c.emit.ensures.adds
 
@@ -58,7 +59,7 @@ pub returns-in_ok-of_width-in-Some-condition-clause-stays : goal.returns-in_ok-o
 returns-in_ok-of_width-in-Some-condition-clause-stays c = on_ok_weaker _
     (λ q.
     subst (λ x. StaysStatement c.args.visible.now (ways_of c.args.leaving) c.args.self.now (Exit c.args.place (optional_tree expr_tree x))
-    (record { code = c.emit-in-Some-condition.new.self; labels = c.args.self.now.labels; words = c.args.self.now.words })) (sym c.in-Some-condition.is)
+    (record c.args.self.now { code = c.emit-in-Some-condition.new.self })) (sym c.in-Some-condition.is)
     (exit_when_stays c.args.visible.now (ways_of c.args.leaving) c.args.self.now c.args.place (expr_tree c.in-Some-condition.condition) c.of_width.new.self
     c.emit-in-Some-condition.new.self c.in_ok-of_width-in-Some-condition.ensures.shallow q.shallow))
     c.emit-in-Some-condition.ensures.adds

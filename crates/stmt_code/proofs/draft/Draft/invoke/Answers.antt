@@ -50,9 +50,9 @@ returns-clause-emits c =
     on_ok_weaker _
     (λ r.
     call_emits c.quiet_stays.ensures v w c.args.self.now
-    (record { code = c.add_copies.new.code; labels = c.args.self.now.labels; words = c.args.self.now.words }) c.add_actuals.new.code c.emit.new.self name
+    (record c.args.self.now { code = c.add_copies.new.code }) c.add_actuals.new.code c.emit.new.self name
     profile c.requires.names c.requires.legal c.in-Some.number (sym c.in-Some.ensures) all written ds c.in_ok-height.height actuals
-    c.in_ok-emit.ensures.adds (subst (λ l. EmitsCopies v c.emit.new.self l 0 c.add_copies.new.code) told r) (refl, refl))
+    c.in_ok-emit.ensures.adds (subst (λ l. EmitsCopies v c.emit.new.self l 0 c.add_copies.new.code) told r) (refl, refl, (refl, refl)))
     c.add_copies.ensures.emits
 
 pub add_copies-requires : goal.add_copies-requires

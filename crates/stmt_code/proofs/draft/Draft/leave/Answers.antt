@@ -12,15 +12,15 @@ pub returns-in-Some-None-clause-emits : goal.returns-in-Some-None-clause-emits
 returns-in-Some-None-clause-emits c = on_ok_weaker _
     (λ q.
     subst (λ x. EmitsStatement c.args.visible.now (ways_of c.args.leaving) c.args.self.now (Return c.args.place (optional_tree expr_tree x))
-    (record { code = c.emit.new.self; labels = c.args.self.now.labels; words = c.args.self.now.words })) (sym c.in-Some-None.is-1)
-    (return_emits c.args.visible.now (ways_of c.args.leaving) c.args.self.now (record { code = c.emit.new.self; labels = c.args.self.now.labels; words = c.args.self.now.words }) c.args.place
-    c.in-Some-None.end c.in-Some-None.is-0 q (refl, refl)))
+    (record c.args.self.now { code = c.emit.new.self })) (sym c.in-Some-None.is-1)
+    (return_emits c.args.visible.now (ways_of c.args.leaving) c.args.self.now (record c.args.self.now { code = c.emit.new.self }) c.args.place
+    c.in-Some-None.end c.in-Some-None.is-0 q (refl, refl, (refl, refl))))
     c.emit.ensures.adds
 
 pub returns-in-Some-None-clause-stays : goal.returns-in-Some-None-clause-stays
 returns-in-Some-None-clause-stays c = on_ok_weaker _
     (λ q.
     subst (λ x. StaysStatement c.args.visible.now (ways_of c.args.leaving) c.args.self.now (Return c.args.place (optional_tree expr_tree x))
-    (record { code = c.emit.new.self; labels = c.args.self.now.labels; words = c.args.self.now.words })) (sym c.in-Some-None.is-1)
+    (record c.args.self.now { code = c.emit.new.self })) (sym c.in-Some-None.is-1)
     (return_stays c.args.visible.now (ways_of c.args.leaving) c.args.self.now c.args.place c.emit.new.self q.shallow))
     c.emit.ensures.adds

@@ -48,7 +48,7 @@ returns-clause-emits c =
     (λ q.
     moved_emits c.agreement_is_kept.ensures c.values_have_words.ensures c.parts_have_places.ensures c.expressions_are_typed.ensures
     c.calls_are_typed.ensures c.quiet_stays.ensures v w c.args.self.now
-    (record { code = c.emit.new.self; labels = c.args.self.now.labels; words = c.args.self.now.words }) c.address.new.self c.address-2.new.self name moved e
+    (record c.args.self.now { code = c.emit.new.self }) c.address.new.self c.address-2.new.self name moved e
     r c.args.subtype last final c.args.slot c.args.source c.in_ok-words.words c.requires.sound c.requires.stands.1
     (assigned_variable v.scope name e r last part c.requires.legal) c.requires.there (assigned_fit v.scope name e r last part c.requires.legal)
     (ap (names_composite v.scope) (sym part) ∙ c.requires.composite) c.requires.holds c.requires.inside (source_is v moved c.args.source c.requires.source) c.in_ok-words.ensures.words
@@ -57,7 +57,7 @@ returns-clause-emits c =
     c.in_ok-last.ensures.emits)
     (subst (λ l. EmitsAddress v c.address.new.self 1 c.args.source.slot.offset c.args.source.whole (selector_trees l) final c.address-2.new.self)
     c.deref-2.ensures.value c.in_ok-address.ensures.emits)
-    q (refl, refl))
+    q (refl, refl, (refl, refl)))
     c.emit.ensures.adds
 
 pub returns-in_err-last-clause-refused : goal.returns-in_err-last-clause-refused

@@ -1,21 +1,22 @@
-use Rattle.std.proofs.Common.{◌+◌, ◌≤◌, ◌∙◌, ap, arith, inl, length, map, refl, rules, subst, sym}
+use Rattle.std.proofs.Common.{◌≡◌, ◌+◌, ◌≤◌, ◌∙◌, ap, arith, length, map, refl, rules, subst, sym}
 use Rattle.base.specs.declared.limits.TheConstants.{FRAME_WORDS}
 use Rattle.ada_tree.specs.ProgramTree.{body_tree}
 use Rattle.ada_tree.specs.StatementTree.{declaration_tree, handler_trees, stmt_trees}
 use Rattle.expr_code.specs.Code.{IsShallow, here}
 use Rattle.stmt_code.specs.Emitting.{EmitsRun}
 use Rattle.stmt_code.specs.Formals.{Initialises, Returns}
-use Rattle.stmt_code.specs.Labels.{stmts_labels}
 use Rattle.stmt_code.specs.Refusing.{RefusesOuts, RefusesReturned, RefusesRun, all_given, outs_needs}
+use Rattle.stmt_code.specs.Rows.{body_rows}
 use Rattle.stmt_code.specs.Staying.{StaysRun}
 use Rattle.stmt_code.specs.Subprograms.{fresh}
+use Rattle.stmt_code.specs.WholeRefusals.{body_labels}
 use Rattle.stmt_code.specs.declared.draft.Draft.{Draft}
-use Rattle.stmt_code.proofs.Adding.{none_there}
 use Rattle.stmt_code.proofs.FormalWords.{formals_entries}
 use Rattle.stmt_code.proofs.Called.{procedure_called}
 use Rattle.stmt_code.proofs.Keeping.{procedure_keeps}
+use Rattle.stmt_code.proofs.Running.{body_parts}
 use Rattle.stmt_code.proofs.WholeBounds.{procedure_few}
-use Rattle.stmt_code.proofs.WholeRefused.{formals_refuse, frame_refuses, handled_refuses, outs_refuse, returned_refuses, run_refuses}
+use Rattle.stmt_code.proofs.WholeRefused.{formals_refuse, frame_refuses, outs_refuse, returned_refuses, run_refuses}
 use Rattle.stmt_code.proofs.draft.Draft.procedure.Goals as goal
 
 pub run-requires-clause-entries : goal.run-requires-clause-entries
@@ -27,21 +28,20 @@ pub returns-clause-adds : goal.returns-clause-adds
 returns-clause-adds c =
     let v = c.formals.new.visible in
     let xs = c.in_ok-placed.placed.formals.items in
-    let begun : Draft = record { code = c.initialise_all.new.code; labels = c.formals.new.self.labels; words = c.formals.new.self.words } in
+    let begun : Draft = record c.formals.new.self { code = c.initialise_all.new.code } in
     let initialises : Initialises v.scope (fresh c.args.self.now.code) xs c.initialise_all.new.code =
     subst (λ z. Initialises v.scope (fresh z) xs c.initialise_all.new.code) c.in_ok-placed.ensures.code
     (subst (λ l. Initialises v.scope (fresh c.formals.new.self.code) l c.initialise_all.new.code) c.deref.ensures.value
     c.in_ok-initialise_all.ensures.adds) in
-    let runs : EmitsRun v (record begun { labels = c.args.self.now.labels }) (map declaration_tree c.args.body.now.declarations.items)
-    (stmt_trees c.args.body.now.statements.items) c.run.new.self =
-    subst (λ l. EmitsRun v (record begun { labels = l }) (map declaration_tree c.args.body.now.declarations.items)
-    (stmt_trees c.args.body.now.statements.items) c.run.new.self) c.in_ok-placed.ensures.labels
-    (subst (λ l. EmitsRun v begun (map declaration_tree l) (stmt_trees c.args.body.now.statements.items) c.run.new.self) c.deref-2.ensures.value
-    (subst (λ l. EmitsRun v begun (map declaration_tree c.deref-2.result.now) (stmt_trees l) c.run.new.self) c.deref-3.ensures.value
-    c.in_ok-run.ensures.emits)) in
+    let begun_is : begun ≡ record c.args.self.now { code = c.initialise_all.new.code; words = c.formals.new.self.words } =
+    λ j. record begun { labels = c.in_ok-placed.ensures.labels j; rows = c.in_ok-placed.ensures.rows j; exceptions = c.in_ok-placed.ensures.exceptions j } in
+    let runs = subst (λ d. EmitsRun v d (map declaration_tree c.args.body.now.declarations.items) (stmt_trees c.args.body.now.statements.items)
+    (handler_trees c.args.body.now.handlers.items) c.run.new.self) begun_is
+    (body_parts (λ ds body all. EmitsRun v begun ds body all c.run.new.self) _ _ _ _ _ _ c.deref-2.ensures.value c.deref-3.ensures.value c.deref-4.ensures.value
+    c.in_ok-run.ensures.emits) in
     let returns : Returns v.scope c.run.new.self.code xs c.in_ok-results.results c.return_all.new.code =
     subst (λ z. Returns z.scope c.run.new.self.code xs c.in_ok-results.results c.return_all.new.code) c.in_ok-run.ensures.same
-    (subst (λ l. Returns c.run.new.visible.scope c.run.new.self.code l c.in_ok-results.results c.return_all.new.code) c.deref-4.ensures.value
+    (subst (λ l. Returns c.run.new.visible.scope c.run.new.self.code l c.in_ok-results.results c.return_all.new.code) c.deref-5.ensures.value
     c.in_ok-results.ensures.returns) in
     record {
       sized = procedure_few c.args.visible.now v c.args.formals.now (body_tree c.args.body.now) c.formals.new.self.words c.in_ok-placed.placed
@@ -57,7 +57,8 @@ returns-clause-adds c =
       runs = runs;
       returns = subst (λ n. Returns v.scope c.run.new.self.code xs n c.return_all.new.code) (sym (ap (λ w. w.results) c.in_ok-words.ensures.same)) returns;
       labels = refl;
-      unhandled = ap handler_trees (none_there c.args.body.now.handlers.items (search rules));
+      rows = refl;
+      exceptions = refl;
       passed = ap (λ w. w.passed) c.in_ok-words.ensures.same;
       locals = ap (λ w. w.locals) c.in_ok-words.ensures.same;
       stack = ap (λ w. w.stack) c.in_ok-words.ensures.same;
@@ -74,12 +75,6 @@ returns-clause-keeps c =
     procedure_keeps c.shapes_stay.ensures c.names_are_added.ensures c.args.visible.now c.args.self.now c.args.formals.now (body_tree c.args.body.now)
     c.in_ok-words.words _ c.requires.front c.requires.entries c.in_ok-results.ensures.few (returns-clause-adds c)
 
-pub returns-then-not-is_empty-clause-refused : goal.returns-then-not-is_empty-clause-refused
-returns-then-not-is_empty-clause-refused c =
-    let b = body_tree c.args.body.now in
-    let some : 1 ≤ length c.args.body.now.handlers.items = search rules in
-    inl (handled_refuses c.args.visible.now c.args.formals.now b c.args.self.now c.args.body.now.handlers.items refl some)
-
 pub returns-in_err-placed-clause-refused : goal.returns-in_err-placed-clause-refused
 returns-in_err-placed-clause-refused c =
     let whole = formals_refuse c.args.visible.now c.args.formals.now (body_tree c.args.body.now) c.args.self.now c.in_err-placed.field-0.0
@@ -95,7 +90,7 @@ returns-in_err-initialise_all-clause-refused c =
     let words = c.formals.new.self.words in
     let placed = c.in_ok-placed.placed in
     let places = c.in_ok-placed.ensures.places in
-    let begun : Draft = record { code = c.initialise_all.new.code; labels = c.formals.new.self.labels; words = words } in
+    let begun : Draft = record c.formals.new.self { code = c.initialise_all.new.code; words = words } in
     let why = c.in_err-initialise_all.field-0.0 in
     let whole = outs_refuse v fs b c.args.self.now later words placed places (fresh c.formals.new.self.code) why (ap here c.in_ok-placed.ensures.code)
     (subst (λ l. RefusesOuts later (fresh c.formals.new.self.code) l why) c.deref.ensures.value c.in_err-initialise_all.ensures.refused) in
@@ -110,17 +105,16 @@ returns-in_err-run-clause-refused c =
     let words = c.formals.new.self.words in
     let placed = c.in_ok-placed.placed in
     let places = c.in_ok-placed.ensures.places in
-    let begun : Draft = record { code = c.initialise_all.new.code; labels = c.formals.new.self.labels; words = words } in
+    let begun : Draft = record c.formals.new.self { code = c.initialise_all.new.code; words = words } in
     let initialises : Initialises later.scope (fresh c.args.self.now.code) placed.formals.items c.initialise_all.new.code =
     subst (λ z. Initialises later.scope (fresh z) placed.formals.items c.initialise_all.new.code) c.in_ok-placed.ensures.code
     (subst (λ l. Initialises later.scope (fresh c.formals.new.self.code) l c.initialise_all.new.code) c.deref.ensures.value
     c.in_ok-initialise_all.ensures.adds) in
     let long = initialises.sized in
     let why = c.in_err-run.field-0.0 in
-    let whole = run_refuses v fs b c.args.self.now later words placed places begun why refl c.in_ok-placed.ensures.labels long
-    (subst (λ l. RefusesRun later begun (map declaration_tree l) (stmt_trees c.args.body.now.statements.items) why) c.deref-2.ensures.value
-    (subst (λ l. RefusesRun later begun (map declaration_tree c.deref-2.result.now) (stmt_trees l) why) c.deref-3.ensures.value
-    c.in_err-run.ensures.refused)) in
+    let whole = run_refuses v fs b c.args.self.now later words placed places begun why refl c.in_ok-placed.ensures.exceptions c.in_ok-placed.ensures.labels long
+    (body_parts (λ ds body all. RefusesRun later begun ds body all why) _ _ _ _ _ _ c.deref-2.ensures.value c.deref-3.ensures.value c.deref-4.ensures.value
+    c.in_err-run.ensures.refused) in
     search (rules, whole)
 
 pub returns-in_err-results-clause-refused : goal.returns-in_err-results-clause-refused
@@ -132,21 +126,19 @@ returns-in_err-results-clause-refused c =
     let words = c.formals.new.self.words in
     let placed = c.in_ok-placed.placed in
     let places = c.in_ok-placed.ensures.places in
-    let begun : Draft = record { code = c.initialise_all.new.code; labels = c.formals.new.self.labels; words = words } in
+    let begun : Draft = record c.formals.new.self { code = c.initialise_all.new.code; words = words } in
     let initialises : Initialises later.scope (fresh c.args.self.now.code) placed.formals.items c.initialise_all.new.code =
     subst (λ z. Initialises later.scope (fresh z) placed.formals.items c.initialise_all.new.code) c.in_ok-placed.ensures.code
     (subst (λ l. Initialises later.scope (fresh c.formals.new.self.code) l c.initialise_all.new.code) c.deref.ensures.value
     c.in_ok-initialise_all.ensures.adds) in
     let long = initialises.sized in
-    let runs : EmitsRun later begun (map declaration_tree c.args.body.now.declarations.items) (stmt_trees c.args.body.now.statements.items) c.run.new.self =
-    subst (λ l. EmitsRun later begun (map declaration_tree l) (stmt_trees c.args.body.now.statements.items) c.run.new.self) c.deref-2.ensures.value
-    (subst (λ l. EmitsRun later begun (map declaration_tree c.deref-2.result.now) (stmt_trees l) c.run.new.self) c.deref-3.ensures.value
-    c.in_ok-run.ensures.emits) in
+    let runs = body_parts (λ ds body all. EmitsRun later begun ds body all c.run.new.self) _ _ _ _ _ _ c.deref-2.ensures.value c.deref-3.ensures.value
+    c.deref-4.ensures.value c.in_ok-run.ensures.emits in
     let more = runs.sized in
     let why = c.in_err-results.field-0.0 in
     let whole = returned_refuses v fs b c.args.self.now later words placed places c.run.new.self.code why (omega (arith, long, more))
     (subst (λ z. RefusesReturned z.scope c.run.new.self.code placed.formals.items why) c.in_ok-run.ensures.same
-    (subst (λ l. RefusesReturned c.run.new.visible.scope c.run.new.self.code l why) c.deref-4.ensures.value c.in_err-results.ensures.refused)) in
+    (subst (λ l. RefusesReturned c.run.new.visible.scope c.run.new.self.code l why) c.deref-5.ensures.value c.in_err-results.ensures.refused)) in
     search (rules, whole)
 
 pub returns-in_err-words-clause-refused : goal.returns-in_err-words-clause-refused
@@ -158,26 +150,31 @@ returns-in_err-words-clause-refused c =
     let words = c.formals.new.self.words in
     let placed = c.in_ok-placed.placed in
     let places = c.in_ok-placed.ensures.places in
-    let begun : Draft = record { code = c.initialise_all.new.code; labels = c.formals.new.self.labels; words = words } in
-    let stays : StaysRun later begun (map declaration_tree c.args.body.now.declarations.items) (stmt_trees c.args.body.now.statements.items) c.run.new.self =
-    subst (λ l. StaysRun later begun (map declaration_tree l) (stmt_trees c.args.body.now.statements.items) c.run.new.self) c.deref-2.ensures.value
-    (subst (λ l. StaysRun later begun (map declaration_tree c.deref-2.result.now) (stmt_trees l) c.run.new.self) c.deref-3.ensures.value
-    c.in_ok-run.ensures.stays) in
+    let begun : Draft = record c.formals.new.self { code = c.initialise_all.new.code; words = words } in
+    let stays = body_parts (λ ds body all. StaysRun later begun ds body all c.run.new.self) _ _ _ _ _ _ c.deref-2.ensures.value c.deref-3.ensures.value
+    c.deref-4.ensures.value c.in_ok-run.ensures.stays in
     let outs = subst (λ l. IsShallow (fresh c.formals.new.self.code) c.initialise_all.new.code (outs_needs later l).stack) c.deref.ensures.value
     c.in_ok-initialise_all.ensures.shallow in
     let back = subst (λ z. IsShallow c.run.new.self.code c.return_all.new.code (all_given z.scope placed.formals.items)) c.in_ok-run.ensures.same
-    (subst (λ l. IsShallow c.run.new.self.code c.return_all.new.code (all_given c.run.new.visible.scope l)) c.deref-4.ensures.value
+    (subst (λ l. IsShallow c.run.new.self.code c.return_all.new.code (all_given c.run.new.visible.scope l)) c.deref-5.ensures.value
     c.in_ok-results.ensures.shallow) in
-    let whole = frame_refuses v fs b c.args.self.now later words placed places begun c.run.new.self c.return_all.new.code refl c.in_ok-placed.ensures.most stays
+    let whole = frame_refuses v fs b c.args.self.now later words placed places begun c.run.new.self c.return_all.new.code refl c.in_ok-placed.ensures.exceptions
+    c.in_ok-placed.ensures.most stays
     (fresh c.formals.new.self.code) refl outs back c.in_err-words.field-0.0 c.in_err-words.ensures.refused in
     search (rules, whole)
 
 pub returns-clause-labels : goal.returns-clause-labels
 returns-clause-labels c =
     let later = c.formals.new.visible in
-    let begun : Draft = record { code = c.initialise_all.new.code; labels = c.formals.new.self.labels; words = c.formals.new.self.words } in
-    let stays : StaysRun later begun (map declaration_tree c.args.body.now.declarations.items) (stmt_trees c.args.body.now.statements.items) c.run.new.self =
-    subst (λ l. StaysRun later begun (map declaration_tree l) (stmt_trees c.args.body.now.statements.items) c.run.new.self) c.deref-2.ensures.value
-    (subst (λ l. StaysRun later begun (map declaration_tree c.deref-2.result.now) (stmt_trees l) c.run.new.self) c.deref-3.ensures.value
-    c.in_ok-run.ensures.stays) in
-    stays.labels ∙ ap (λ l. stmts_labels l (stmt_trees c.args.body.now.statements.items)) c.in_ok-placed.ensures.labels
+    let begun : Draft = record c.formals.new.self { code = c.initialise_all.new.code } in
+    let stays = body_parts (λ ds body all. StaysRun later begun ds body all c.run.new.self) _ _ _ _ _ _ c.deref-2.ensures.value c.deref-3.ensures.value
+    c.deref-4.ensures.value c.in_ok-run.ensures.stays in
+    stays.labels ∙ ap (λ l. body_labels l (body_tree c.args.body.now)) c.in_ok-placed.ensures.labels
+
+pub returns-clause-rows : goal.returns-clause-rows
+returns-clause-rows c =
+    let later = c.formals.new.visible in
+    let begun : Draft = record c.formals.new.self { code = c.initialise_all.new.code } in
+    let stays = body_parts (λ ds body all. StaysRun later begun ds body all c.run.new.self) _ _ _ _ _ _ c.deref-2.ensures.value c.deref-3.ensures.value
+    c.deref-4.ensures.value c.in_ok-run.ensures.stays in
+    stays.rows ∙ ap (λ l. body_rows (length l.items) (body_tree c.args.body.now)) c.in_ok-placed.ensures.rows

@@ -27,10 +27,11 @@ pub returns-in_ok-number-in-Some-clause-emits : goal.returns-in_ok-number-in-Som
 returns-in_ok-number-in-Some-clause-emits c = λ w.
     on_ok_weaker _
     (λ q.
-    put_emits c.args.visible.now w c.args.self.now (record { code = c.emit.new.self; labels = c.number.new.self; words = c.args.self.now.words }) c.of_width.new.self (name_tree c.args.name.now)
+    put_emits c.args.visible.now w c.args.self.now (record c.args.self.now { code = c.emit.new.self; labels = c.number.new.self }) c.of_width.new.self
+    (name_tree c.args.name.now)
     c.in-Some.label.now (expr_tree c.in-Some.value.now) c.in_ok-number-in-Some.number
     (put_is (entity_named c.args.visible.now.scope c.args.name.now.first.name) (sym c.if-not-is_put.ensures)) (sym c.in-Some.ensures)
-    c.in_ok-of_width-in-Some.ensures.emits q c.in_ok-number-in-Some.ensures.stay refl c.in_ok-number-in-Some.ensures.number)
+    c.in_ok-of_width-in-Some.ensures.emits q c.in_ok-number-in-Some.ensures.stay refl (refl, refl) c.in_ok-number-in-Some.ensures.number)
     c.emit.ensures.adds
 
 pub returns-in_err-of_width-in-Some-clause-refused : goal.returns-in_err-of_width-in-Some-clause-refused

@@ -1,9 +1,9 @@
 use Rattle.std.proofs.Common.{◌∙◌, ap, arith, length, map, refl, rules, subst, take}
-use Rattle.ada_tree.specs.StatementTree.{declaration_tree, stmt_trees}
+use Rattle.ada_tree.specs.StatementTree.{declaration_tree, handler_trees, stmt_trees}
 use Rattle.image.specs.declared.instruction.Operation.TheVariants as op
 use Rattle.expr_code.specs.Code.{Patches}
 use Rattle.stmt_code.specs.declared.draft.Draft.{Draft}
-use Rattle.stmt_code.specs.Bounds.{stmts_bound}
+use Rattle.stmt_code.specs.Bounds.{sequence_bound}
 use Rattle.stmt_code.proofs.PartsRefused.{begun_here, run_body_refused, run_locals_refused, run_refused}
 use Rattle.stmt_code.proofs.PartsStay.{begun_shallow, run_stays}
 use Rattle.stmt_code.proofs.Running.{run_emits}
@@ -12,18 +12,18 @@ use Rattle.stmt_code.proofs.draft.Draft.run.Goals as goal
 
 pub returns-clause-emits : goal.returns-clause-emits
 returns-clause-emits c =
-    let begun : Draft = record { code = c.begin_loop.new.code; labels = c.declarations.new.self.labels; words = c.declarations.new.self.words } in
-    run_emits c.args.visible.now c.declarations.new.visible c.args.self.now c.declarations.new.self begun c.statements.new.self _
-    (map declaration_tree c.args.declarations.now) (stmt_trees c.args.statements.now) c.in_ok-head.head.exit c.in_ok-end.end
-    c.in_ok-declarations.ensures.emits c.in_ok-head.ensures.begins (refl, refl) c.in_ok-head.ensures.exit c.in_ok-statements.ensures.emits
+    let begun : Draft = record c.declarations.new.self { code = c.begin_loop.new.code } in
+    run_emits c.args.visible.now c.declarations.new.visible c.args.self.now c.declarations.new.self begun c.sequence.new.self _
+    (map declaration_tree c.args.declarations.now) (stmt_trees c.args.statements.now) (handler_trees c.args.all.now) c.in_ok-head.head.exit c.in_ok-end.end
+    c.in_ok-declarations.ensures.emits c.in_ok-head.ensures.begins (refl, refl, (refl, refl)) c.in_ok-head.ensures.exit c.in_ok-sequence.ensures.emits
     c.in_ok-end.ensures.end
-    (subst (λ n. Patches c.statements.new.self.code n (op.Jump c.in_ok-end.end) c.patch.new.self) c.from.ensures c.patch.ensures.patches)
-    refl (c.restore.ensures.words ∙ ap (λ n. record c.statements.new.self.words { taken = n }) c.of-extent.ensures.taken)
+    (subst (λ n. Patches c.sequence.new.self.code n (op.Jump c.in_ok-end.end) c.patch.new.self) c.from.ensures c.patch.ensures.patches)
+    refl (refl, refl) (c.restore.ensures.words ∙ ap (λ n. record c.sequence.new.self.words { taken = n }) c.of-extent.ensures.taken)
 
 pub returns-clause-same : goal.returns-clause-same
 returns-clause-same c =
     let declared = c.in_ok-declarations.ensures.emits in
-    let there = c.in_ok-statements.ensures.same in
+    let there = c.in_ok-sequence.ensures.same in
     let ds = map declaration_tree c.args.declarations.now in
     let scope = (λ j. take (c.of-extent.ensures.names j) (there j).scope) ∙ ap (take (length c.args.visible.now.scope)) declared.scope
     ∙ c.names_are_added.ensures.locals c.args.visible.now.scope ds in
@@ -34,26 +34,28 @@ returns-clause-same c =
 pub returns-in_err-declarations-clause-refused : goal.returns-in_err-declarations-clause-refused
 returns-in_err-declarations-clause-refused c =
     let whole = run_locals_refused c.args.visible.now c.args.self.now c.in_err-declarations.field-0.0
-    (map declaration_tree c.args.declarations.now) (stmt_trees c.args.statements.now) c.in_err-declarations.ensures.refused in
+    (map declaration_tree c.args.declarations.now) (stmt_trees c.args.statements.now) (handler_trees c.args.all.now) c.in_err-declarations.ensures.refused in
     search (rules, whole)
 
 pub returns-in_err-head-clause-refused : goal.returns-in_err-head-clause-refused
 returns-in_err-head-clause-refused c =
     let one = c.in_ok-declarations.ensures.emits.sized in
     let whole = run_refused c.args.visible.now c.args.self.now c.in_err-head.field-0.0
-    (map declaration_tree c.args.declarations.now) (stmt_trees c.args.statements.now) _ (omega (arith, one)) c.in_err-head.ensures.refused in
+    (map declaration_tree c.args.declarations.now) (stmt_trees c.args.statements.now) (handler_trees c.args.all.now) _
+    (omega (arith, one)) c.in_err-head.ensures.refused in
     search (rules, whole)
 
-pub returns-in_err-statements-clause-refused : goal.returns-in_err-statements-clause-refused
-returns-in_err-statements-clause-refused c =
+pub returns-in_err-sequence-clause-refused : goal.returns-in_err-sequence-clause-refused
+returns-in_err-sequence-clause-refused c =
     let declared = c.in_ok-declarations.ensures.emits in
     let one = declared.sized in
     let two = begun_here _ _ c.in_ok-head.ensures.begins in
-    let begun : Draft = record { code = c.begin_loop.new.code; labels = c.declarations.new.self.labels; words = c.declarations.new.self.words } in
-    let whole = run_body_refused c.args.visible.now c.args.self.now c.in_err-statements.field-0.0
-    (map declaration_tree c.args.declarations.now) (stmt_trees c.args.statements.now) c.declarations.new.visible c.in_ok-head.head.exit begun
-    c.in_ok-declarations.ensures.shown declared.scope c.in_ok-declarations.ensures.taken c.in_ok-declarations.ensures.stays.labels
-    (omega (arith, one, two)) c.in_err-statements.ensures.refused in
+    let begun : Draft = record c.declarations.new.self { code = c.begin_loop.new.code } in
+    let whole = run_body_refused c.args.visible.now c.args.self.now c.in_err-sequence.field-0.0
+    (map declaration_tree c.args.declarations.now) (stmt_trees c.args.statements.now)
+    (handler_trees c.args.all.now) c.declarations.new.visible c.in_ok-head.head.exit begun
+    c.in_ok-declarations.ensures.shown declared.scope c.in_ok-declarations.ensures.taken declared.exceptions c.in_ok-declarations.ensures.stays.labels
+    (omega (arith, one, two)) c.in_err-sequence.ensures.refused in
     search (rules, whole)
 
 pub returns-in_err-end-clause-refused : goal.returns-in_err-end-clause-refused
@@ -61,20 +63,23 @@ returns-in_err-end-clause-refused c =
     let declared = c.in_ok-declarations.ensures.emits in
     let one = declared.sized in
     let two = begun_here _ _ c.in_ok-head.ensures.begins in
-    let three = c.in_ok-statements.ensures.emits.sized in
-    let inner = ap (λ s. stmts_bound s (stmt_trees c.args.statements.now)) declared.scope in
+    let three = c.in_ok-sequence.ensures.emits.sized in
+    let inner = ap (λ s. sequence_bound s (stmt_trees c.args.statements.now) (handler_trees c.args.all.now)) declared.scope in
     let whole = run_refused c.args.visible.now c.args.self.now c.in_err-end.field-0.0
-    (map declaration_tree c.args.declarations.now) (stmt_trees c.args.statements.now) _ (omega (arith, one, two, three, inner)) c.in_err-end.ensures.refused in
+    (map declaration_tree c.args.declarations.now) (stmt_trees c.args.statements.now) (handler_trees c.args.all.now) _
+    (omega (arith, one, two, three, inner)) c.in_err-end.ensures.refused in
     search (rules, whole)
 
 pub returns-clause-stays : goal.returns-clause-stays
 returns-clause-stays c =
-    let begun : Draft = record { code = c.begin_loop.new.code; labels = c.declarations.new.self.labels; words = c.declarations.new.self.words } in
-    let patches : Patches c.statements.new.self.code c.in_ok-head.head.exit (op.Jump c.in_ok-end.end) c.patch.new.self =
-    subst (λ n. Patches c.statements.new.self.code n (op.Jump c.in_ok-end.end) c.patch.new.self) c.from.ensures c.patch.ensures.patches in
-    stays_words c.args.self.now _ _ (record { code = c.patch.new.self; labels = c.statements.new.self.labels; words = c.statements.new.self.words }) _
-    (c.restore.ensures.words ∙ ap (λ n. record c.statements.new.self.words { taken = n }) c.of-extent.ensures.taken)
-    (run_stays c.args.visible.now c.args.self.now (map declaration_tree c.args.declarations.now) (stmt_trees c.args.statements.now) c.declarations.new.visible
-    c.in_ok-head.head.exit c.declarations.new.self c.begin_loop.new.code c.statements.new.self c.patch.new.self c.in_ok-declarations.ensures.shown
-    c.in_ok-declarations.ensures.taken c.in_ok-declarations.ensures.stays (begun_shallow _ _ c.in_ok-head.ensures.begins)
-    c.in_ok-statements.ensures.stays patches.deepest)
+    let begun : Draft = record c.declarations.new.self { code = c.begin_loop.new.code } in
+    let patches : Patches c.sequence.new.self.code c.in_ok-head.head.exit (op.Jump c.in_ok-end.end) c.patch.new.self =
+    subst (λ n. Patches c.sequence.new.self.code n (op.Jump c.in_ok-end.end) c.patch.new.self) c.from.ensures c.patch.ensures.patches in
+    stays_words c.args.self.now _ _ (record c.sequence.new.self { code = c.patch.new.self }) _
+    (c.restore.ensures.words ∙ ap (λ n. record c.sequence.new.self.words { taken = n }) c.of-extent.ensures.taken)
+    (run_stays c.args.visible.now c.args.self.now (map declaration_tree c.args.declarations.now) (stmt_trees c.args.statements.now)
+    (handler_trees c.args.all.now) c.declarations.new.visible
+    c.in_ok-head.head.exit c.declarations.new.self c.begin_loop.new.code c.sequence.new.self c.patch.new.self c.in_ok-declarations.ensures.shown
+    c.in_ok-declarations.ensures.taken c.in_ok-declarations.ensures.emits.exceptions c.in_ok-declarations.ensures.stays
+    (begun_shallow _ _ c.in_ok-head.ensures.begins)
+    c.in_ok-sequence.ensures.stays patches.deepest)

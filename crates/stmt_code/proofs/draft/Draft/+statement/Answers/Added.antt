@@ -8,13 +8,18 @@ use Rattle.well_typed.specs.SoundScopes.{SoundScope}
 use Rattle.stmt_code.specs.Refusing.{around, stmts_needs}
 use Rattle.stmt_code.specs.Staying.{StaysStatement}
 use Rattle.stmt_code.specs.Emitting.{AddsParts, AreLegal, AreLegalElsifs, EmitsStatement, EmitsStatements, HasEntries, IsLegal, ways_of}
-use Rattle.stmt_code.proofs.Adding.{all_statements, no_statements, none_there, statement_legal, statements_next}
+use Rattle.stmt_code.proofs.Adding.{all_statements, no_statements, none_there, null_emits, statement_legal, statements_next}
 use Rattle.stmt_code.proofs.Opening.{if_body, if_condition, if_elsifs, if_emits, if_others, waiting_there}
 use Rattle.stmt_code.proofs.PartsStay.{statements_end, statements_stay}
 use Rattle.stmt_code.proofs.Staying.{stays_self}
 use Rattle.stmt_code.proofs.draft.Draft.+statement.Goals as goal
 
 -- ---- a statement
+
+pub statement-returns-in-Null-clause-emits : goal.statement-returns-in-Null-clause-emits
+statement-returns-in-Null-clause-emits t c =
+    subst (λ x. EmitsStatement c.args.visible.now (ways_of c.args.leaving) c.args.self.now x c.args.self.now) (sym (ap stmt_tree c.in-Null.is))
+    (null_emits c.args.visible.now (ways_of c.args.leaving) c.args.self.now c.in-Null.field-0)
 
 pub statement-branch-self-requires : goal.statement-branch-self-requires
 statement-branch-self-requires t c =
@@ -108,11 +113,12 @@ statement-returns-in_ok-statements-in-If-clause-emits t c =
     (subst (λ l. EmitsStatements c.elsifs.new.visible w c.elsifs.new.self (stmt_trees l) c.statements.new.self) c.deref-in-If-2.ensures.value
     c.in_ok-statements-in-If.ensures.emits) in on_ok_weaker _
     (λ r.
-    subst (λ x. EmitsStatement v w c.args.self.now x (record { code = c.rejoin.new.self; labels = c.statements.new.self.labels; words = c.statements.new.self.words })) (sym tree)
-    (if_emits v w c.args.self.now c.branch-self.new.self c.elsifs.new.self c.statements.new.self (record { code = c.rejoin.new.self; labels = c.statements.new.self.labels; words = c.statements.new.self.words }) c.in-If.field-0
+    subst (λ x. EmitsStatement v w c.args.self.now x (record c.statements.new.self { code = c.rejoin.new.self })) (sym tree)
+    (if_emits v w c.args.self.now c.branch-self.new.self c.elsifs.new.self c.statements.new.self (record c.statements.new.self { code = c.rejoin.new.self })
+    c.in-If.field-0
     (expr_tree c.in-If.condition) (stmt_trees c.in-If.body.items) c.in-If.elsifs.items (stmt_trees c.in-If.others.items) c.new-waiting.result.items
     c.branch-self.new.waiting.items c.elsifs.new.waiting.items c.deref-in-If-3.result.now c.new-waiting.ensures.items c.deref-in-If-3.ensures.value
-    first others last _ refl r (refl, refl)))
+    first others last _ refl r (refl, refl, (refl, refl))))
     c.rejoin.ensures.rejoins
 
 pub statement-returns-in_ok-statements-in-If-clause-same : goal.statement-returns-in_ok-statements-in-If-clause-same
@@ -137,7 +143,7 @@ pub statement-case-requires : goal.statement-case-requires
 statement-case-requires t c =
     let s = c.args.visible.now.scope in
     let e = expr_tree c.in-Case.value in
-    let tree = ap stmt_tree c.in-Case.is ∙ c.statements_by_parts.ensures.cases c.in-Case.place c.in-Case.value c.in-Case.alternatives in (
+    let tree = ap stmt_tree c.in-Case.is ∙ c.statements_by_parts.ensures.cases c.in-Case.place c.in-Case.value c.in-Case.all in (
       search (rules, statements.the_lemmas),
       (
         c.requires.sound,
@@ -153,7 +159,7 @@ statement-returns-in-Case-clause-emits t c =
     let v = c.args.visible.now in
     let w = ways_of c.args.leaving in
     let e = expr_tree c.in-Case.value in
-    let tree = ap stmt_tree c.in-Case.is ∙ c.statements_by_parts.ensures.cases c.in-Case.place c.in-Case.value c.in-Case.alternatives in
+    let tree = ap stmt_tree c.in-Case.is ∙ c.statements_by_parts.ensures.cases c.in-Case.place c.in-Case.value c.in-Case.all in
     on_ok_weaker _
     (λ p.
     subst (λ x. EmitsStatement v w c.args.self.now x c.case.new.self) (sym tree)
@@ -171,6 +177,12 @@ statement-returns-in-Call-clause-emits t c =
     on_ok_weaker _
     (λ p. subst (λ x. EmitsStatement c.args.visible.now (ways_of c.args.leaving) c.args.self.now x c.call.new.self) (sym (ap stmt_tree c.in-Call.is)) p)
     (c.call.ensures.emits (ways_of c.args.leaving))
+
+pub statement-returns-in-Raise-clause-emits : goal.statement-returns-in-Raise-clause-emits
+statement-returns-in-Raise-clause-emits t c =
+    on_ok_weaker _
+    (λ p. subst (λ x. EmitsStatement c.args.visible.now (ways_of c.args.leaving) c.args.self.now x c.raise.new.self) (sym (ap stmt_tree c.in-Raise.is)) p)
+    c.raise.ensures.emits
 
 pub statement-repeated-requires : goal.statement-repeated-requires
 statement-repeated-requires t c =
@@ -281,7 +293,8 @@ statements-loop-statement-preserved t c =
           (subst (λ x. EmitsStatement x w c.loop-statement.self (stmt_tree c.statement-item.result) c.statement.new.self) there c.in_ok-statement.ensures.emits),
       c.in_ok-statement.ensures.same ∙ there,
       statements_stay c.args.visible.now w c.args.self.now c.loop-statement.self c.statement.new.self c.args.all.now _ c.statement-item.result
-          c.loop-statement-test.true c.statement-item.is c.loop-statement.invariant.0.taken c.loop-statement.invariant.2
+          c.loop-statement-test.true c.statement-item.is (c.loop-statement.invariant.0.taken, c.loop-statement.invariant.0.rows.exceptions)
+          c.loop-statement.invariant.2
           (subst (λ x. StaysStatement x w c.loop-statement.self (stmt_tree c.statement-item.result) c.statement.new.self) there
           c.in_ok-statement.ensures.stays),
     )

@@ -1,5 +1,5 @@
 -- What refuses the code of parts of statements and of whole ones, answered for the methods that add it.
-use Rattle.std.proofs.Common.{◌≡◌, ◌≤◌, ◌∷◌, [], arith, inl, length, map, refl, sym, ap, ◌∙◌, rules, subst}
+use Rattle.std.proofs.Common.{◌≡◌, ◌∷◌, [], arith, inl, map, refl, sym, ap, ◌∙◌, rules, subst}
 use Rattle.std.proofs.lemmas.Result.{IfErr-weaker}
 use Rattle.ada_tree.specs.ExpressionTree.{expr_tree}
 use Rattle.ada_tree.specs.StatementTree.{Block, Case, For, Forever, Loop, NoHandlers, While, alternative_tree, alternative_trees, alternatives_of, choices_tree, declaration_tree, elsif_tree, elsif_trees, elsifs_of, handler_trees, iteration_tree, range_tree, stmt_tree, stmt_trees}
@@ -13,7 +13,7 @@ use Rattle.stmt_code.specs.Refusing.{RefusesAlternatives, RefusesParts, RefusesS
 use Rattle.stmt_code.specs.Staying.{StaysParts}
 use Rattle.stmt_code.specs.Emitting.{AddsParts, EmitsStatements, ways_of}
 use Rattle.stmt_code.proofs.Adding.{none_there}
-use Rattle.stmt_code.proofs.PartsRefused.{alternative_refuses, alternatives_refused, begun_here, block_body_refused, body_refused, choices_refused, chosen_refused, close_refused, condition_refused, counted_body, dropped_refused, elsifs_refuse, first_refuses, forever_body, handlers_refused, instruction_refuses, leaving_refused, locals_refused, others_refuse, part_refuses, range_here, range_refused, range_seen, range_two, rejoin_refuses, selected_refused, statement_refuses, test_refused, turn_here, while_body_refused, while_condition_refused}
+use Rattle.stmt_code.proofs.PartsRefused.{alternative_refuses, alternatives_refused, begun_here, block_body_refused, body_refused, choices_refused, chosen_refused, close_refused, condition_refused, counted_body, dropped_refused, elsifs_refuse, first_refuses, forever_body, instruction_refuses, leaving_refused, locals_refused, others_refuse, part_refuses, range_here, range_refused, range_seen, range_two, rejoin_refuses, selected_refused, statement_refuses, test_refused, turn_here, while_body_refused, while_condition_refused}
 use Rattle.stmt_code.proofs.Selecting.{choices_select}
 use Rattle.stmt_code.proofs.draft.Draft.+statement.Goals as goal
 
@@ -35,9 +35,9 @@ pub branch-returns-in_err-statements-clause-refused : goal.branch-returns-in_err
 branch-returns-in_err-statements-clause-refused t c =
     let first = c.in_ok-of_width.ensures.emits.sized in
     let jump = added_here _ _ _ _ c.in_ok-test.ensures.adds in
-    let mid : Draft = record { code = c.test.new.self; labels = c.args.self.now.labels; words = c.args.self.now.words } in
+    let mid : Draft = record c.args.self.now { code = c.test.new.self } in
     let whole = body_refused c.args.visible.now (ways_of c.args.leaving) c.args.self.now c.in_err-statements.field-0.0
-    (expr_tree c.args.condition.now) (stmt_trees c.args.body.now) mid refl refl (omega (arith, first, jump)) c.in_err-statements.ensures.refused in
+    (expr_tree c.args.condition.now) (stmt_trees c.args.body.now) mid (refl, refl) refl (omega (arith, first, jump)) c.in_err-statements.ensures.refused in
     search (rules, whole)
 
 pub branch-returns-clause-refused : goal.branch-returns-clause-refused
@@ -63,7 +63,7 @@ elsifs-returns-in_err-branch-clause-refused t c =
     (subst (λ l. RefusesParts c.loop-part.visible w c.loop-part.self (elsifs_of ((expr_tree c.part-item.result.condition, stmt_trees l) ∷ []))
     c.in_err-branch.field-0.0) c.deref.ensures.value c.in_err-branch.ensures.refused) in
     let whole = part_refuses v w c.args.self.now c.in_err-branch.field-0.0 c.loop-part.self c.args.elsifs.now _ c.part-item.result
-    c.loop-part-test.true c.part-item.is before.taken c.loop-part.invariant.2.labels up part in
+    c.loop-part-test.true c.part-item.is (before.taken, before.rows.exceptions) c.loop-part.invariant.2.labels up part in
     search (rules, whole)
 
 -- ---- refusals: alternatives
@@ -80,11 +80,11 @@ alternative-returns-in_err-statements-clause-refused t c =
     let v = c.args.visible.now in
     let w = ways_of c.args.leaving in
     let a = c.args.alternative.now in
-    let chosen : Draft = record { code = c.add_choices.new.code; labels = c.args.self.now.labels; words = c.args.self.now.words } in
+    let chosen : Draft = record c.args.self.now { code = c.add_choices.new.code } in
     let selects = choices_select c.calls_are_typed.ensures c.static_is_value.ensures c.quiet_stays.ensures v (expr_tree c.args.value.now) c.requires.selecting
     (choices_tree a.choices) c.args.self.now.code c.in_ok-next.next.items c.add_choices.new.code c.requires.choices c.in_ok-next.ensures.adds in
     let whole = chosen_refused v w c.args.self.now c.in_err-statements.field-0.0 a.place (choices_tree a.choices)
-    (stmt_trees a.statements.items) chosen refl refl selects.sized
+    (stmt_trees a.statements.items) chosen (refl, refl) refl selects.sized
     (subst (λ l. RefusesStatements v w chosen (stmt_trees l) c.in_err-statements.field-0.0) c.deref.ensures.value
     c.in_err-statements.ensures.refused) in
     search (rules, whole)
@@ -94,7 +94,7 @@ alternative-returns-in_err-emit-clause-refused t c =
     let v = c.args.visible.now in
     let w = ways_of c.args.leaving in
     let a = c.args.alternative.now in
-    let chosen : Draft = record { code = c.add_choices.new.code; labels = c.args.self.now.labels; words = c.args.self.now.words } in
+    let chosen : Draft = record c.args.self.now { code = c.add_choices.new.code } in
     let selects = choices_select c.calls_are_typed.ensures c.static_is_value.ensures c.quiet_stays.ensures v (expr_tree c.args.value.now) c.requires.selecting
     (choices_tree a.choices) c.args.self.now.code c.in_ok-next.next.items c.add_choices.new.code c.requires.choices c.in_ok-next.ensures.adds in
     let body = subst (λ l. EmitsStatements v w chosen (stmt_trees l) c.statements.new.self) c.deref.ensures.value c.in_ok-statements.ensures.emits in
@@ -109,7 +109,7 @@ alternative-returns-clause-refused t c =
     let v = c.args.visible.now in
     let w = ways_of c.args.leaving in
     let a = c.args.alternative.now in
-    let chosen : Draft = record { code = c.add_choices.new.code; labels = c.args.self.now.labels; words = c.args.self.now.words } in
+    let chosen : Draft = record c.args.self.now { code = c.add_choices.new.code } in
     let selects = choices_select c.calls_are_typed.ensures c.static_is_value.ensures c.quiet_stays.ensures v (expr_tree c.args.value.now) c.requires.selecting
     (choices_tree a.choices) c.args.self.now.code c.in_ok-next.next.items c.add_choices.new.code c.requires.choices c.in_ok-next.ensures.adds in
     let body = subst (λ l. EmitsStatements v w chosen (stmt_trees l) c.statements.new.self) c.deref.ensures.value c.in_ok-statements.ensures.emits in
@@ -129,7 +129,7 @@ alternatives-returns-in_err-alternative-clause-refused t c =
     let before = c.loop-alternative.invariant.0.emits in
     let up = before.sized in
     let whole = alternative_refuses v w c.args.self.now c.in_err-alternative.field-0.0 c.loop-alternative.self c.args.all.now _
-    c.alternative-item.result c.loop-alternative-test.true c.alternative-item.is before.taken c.loop-alternative.invariant.2.labels up
+    c.alternative-item.result c.loop-alternative-test.true c.alternative-item.is (before.taken, before.rows.exceptions) c.loop-alternative.invariant.2.labels up
     (subst (λ x. RefusesAlternatives x w c.loop-alternative.self (alternatives_of (alternative_tree c.alternative-item.result ∷ []))
     c.in_err-alternative.field-0.0) c.loop-alternative.invariant.1 c.in_err-alternative.ensures.refused) in
     search (rules, whole)
@@ -142,9 +142,9 @@ case-returns-in_err-of_width-clause-refused t c =
 
 pub case-returns-in_err-alternatives-clause-refused : goal.case-returns-in_err-alternatives-clause-refused
 case-returns-in_err-alternatives-clause-refused t c =
-    let valued : Draft = record { code = c.of_width.new.self; labels = c.args.self.now.labels; words = c.args.self.now.words } in
+    let valued : Draft = record c.args.self.now { code = c.of_width.new.self } in
     let whole = alternatives_refused c.args.visible.now (ways_of c.args.leaving) c.args.self.now c.in_err-alternatives.field-0.0
-    c.args.place (expr_tree c.args.value.now) (alternative_trees c.args.alternatives.now) valued refl refl c.in_ok-of_width.ensures.emits.sized
+    c.args.place (expr_tree c.args.value.now) (alternative_trees c.args.alternatives.now) valued (refl, refl) refl c.in_ok-of_width.ensures.emits.sized
     c.in_err-alternatives.ensures.refused in
     search (rules, whole)
 
@@ -181,10 +181,10 @@ repeated-returns-in_err-statements-in-Forever-clause-refused t c =
     let w = ways_of c.args.leaving in
     let body = stmt_trees c.args.body.now in
     let why = c.in_err-statements-in-Forever.field-0.0 in
-    let begun : Draft = record { code = c.begin_loop.new.code; labels = c.args.self.now.labels; words = c.args.self.now.words } in
+    let begun : Draft = record c.args.self.now { code = c.begin_loop.new.code } in
     let long = begun_here _ _ c.in_ok-head-in-Forever.ensures.begins in
     let whole = subst (λ i. RefusesStatement v w c.args.self.now (Loop c.args.place (iteration_tree i) body) why) (sym c.in-Forever.is)
-    (forever_body v w c.args.self.now why c.args.place c.in_ok-head-in-Forever.head.exit body begun refl refl (omega (arith, long))
+    (forever_body v w c.args.self.now why c.args.place c.in_ok-head-in-Forever.head.exit body begun (refl, refl) refl (omega (arith, long))
     (subst (λ x. RefusesStatements v x begun body why) c.in_loop.ensures c.in_err-statements-in-Forever.ensures.refused)) in
     search (rules, whole)
 
@@ -240,13 +240,13 @@ repeated-returns-in_err-statements-in-While-clause-refused t c =
     let w = ways_of c.args.leaving in
     let body = stmt_trees c.args.body.now in
     let why = c.in_err-statements-in-While.field-0.0 in
-    let jumped : Draft = record { code = c.test.new.self; labels = c.args.self.now.labels; words = c.args.self.now.words } in
+    let jumped : Draft = record c.args.self.now { code = c.test.new.self } in
     let long = begun_here _ _ c.in_ok-head-in-While.ensures.begins in
     let first = c.in_ok-of_width-in-While.ensures.emits.sized in
     let jump = added_here _ _ _ _ c.in_ok-test-in-While.ensures.adds in
     let whole = subst (λ i. RefusesStatement v w c.args.self.now (Loop c.args.place (iteration_tree i) body) why) (sym c.in-While.is)
     (while_body_refused v w c.args.self.now why c.args.place (expr_tree c.in-While.condition) body
-    c.in_ok-head-in-While.head.exit jumped refl refl (omega (arith, long, first, jump))
+    c.in_ok-head-in-While.head.exit jumped (refl, refl) refl (omega (arith, long, first, jump))
     (subst (λ x. RefusesStatements v x jumped body why) c.in_loop-in-While.ensures
     c.in_err-statements-in-While.ensures.refused)) in
     search (rules, whole)
@@ -285,7 +285,7 @@ counted-returns-in_err-head-clause-refused t c =
 
 pub counted-returns-in_err-turns-clause-refused : goal.counted-returns-in_err-turns-clause-refused
 counted-returns-in_err-turns-clause-refused t c =
-    let begun : Draft = record { code = c.begin_loop.new.code; labels = c.args.self.now.labels; words = c.args.self.now.words } in
+    let begun : Draft = record c.args.self.now { code = c.begin_loop.new.code } in
     let long = begun_here _ _ c.in_ok-head.ensures.begins in
     let whole = range_refused c.args.visible.now (ways_of c.args.leaving) c.args.self.now c.in_err-turns.field-0.0 c.args.place
     c.args.parameter.now c.args.reversed (range_tree c.args.range.now) (stmt_trees c.args.body.now) begun refl (omega (arith, long))
@@ -311,7 +311,7 @@ counted-returns-in_err-statements-clause-refused t c =
     let range = range_here _ _ _ _ _ _ _ _ _ c.in_ok-turns.ensures.begins in
     let whole = counted_body v w c.args.self.now why c.args.place c.args.parameter.now c.args.reversed (range_tree c.args.range.now) body
     c.in_ok-head.head.exit c.begin_range.new.visible c.begin_range.new.self (range_seen _ _ _ _ _ _ _ _ _ c.in_ok-turns.ensures.begins)
-    c.in_ok-turns.ensures.begins.takes.taken c.in_ok-turns.ensures.stays.labels (omega (arith, long, range))
+    c.in_ok-turns.ensures.begins.takes.taken c.in_ok-turns.ensures.begins.exceptions c.in_ok-turns.ensures.stays.labels (omega (arith, long, range))
     (subst (λ x. RefusesStatements c.begin_range.new.visible x c.begin_range.new.self body why) c.in_loop.ensures
     c.in_err-statements.ensures.refused) in
     search (rules, whole)
@@ -360,7 +360,7 @@ block-returns-in_err-statements-clause-refused t c =
     let declared = c.in_ok-declarations.ensures.emits in
     let whole = block_body_refused c.args.visible.now (ways_of c.args.leaving) c.args.self.now c.in_err-statements.field-0.0 c.args.place
     (map declaration_tree c.args.declarations.now) (stmt_trees c.args.body.now) c.declarations.new.visible c.declarations.new.self
-    c.in_ok-declarations.ensures.shown declared.scope c.in_ok-declarations.ensures.taken c.in_ok-declarations.ensures.stays.labels declared.sized
+    c.in_ok-declarations.ensures.shown declared.scope c.in_ok-declarations.ensures.taken declared.exceptions c.in_ok-declarations.ensures.stays.labels declared.sized
     c.in_err-statements.ensures.refused in
     search (rules, whole)
 
@@ -393,7 +393,8 @@ statement-returns-in_err-elsifs-in-If-clause-refused t c =
     c.deref.ensures.value c.in_ok-branch-in-If.ensures.stays in
     let whole = subst (λ x. RefusesStatement v w c.args.self.now x why) (sym tree)
     (elsifs_refuse v w c.args.self.now why c.in-If.field-0 (expr_tree c.in-If.condition) (stmt_trees c.in-If.body.items)
-    (elsif_trees c.in-If.elsifs.items) (stmt_trees c.in-If.others.items) c.branch-self.new.self first.emits.taken kept.labels first.emits.sized
+    (elsif_trees c.in-If.elsifs.items) (stmt_trees c.in-If.others.items) c.branch-self.new.self
+    (first.emits.taken, first.emits.rows.exceptions) kept.labels first.emits.sized
     (subst (λ x. RefusesParts x w c.branch-self.new.self (elsif_trees c.in-If.elsifs.items) why) c.in_ok-branch-in-If.ensures.same
     (subst (λ l. RefusesParts c.branch-self.new.visible w c.branch-self.new.self (elsif_trees l) why) c.deref-in-If.ensures.value
     c.in_err-elsifs-in-If.ensures.refused))) in
@@ -423,7 +424,8 @@ statement-returns-in_err-statements-in-If-clause-refused t c =
     let labels = kept_others.labels ∙ ap (λ l. elsifs_labels l (elsif_trees c.in-If.elsifs.items)) kept.labels in
     let whole = subst (λ x. RefusesStatement v w c.args.self.now x why) (sym tree)
     (others_refuse v w c.args.self.now why c.in-If.field-0 (expr_tree c.in-If.condition) (stmt_trees c.in-If.body.items)
-    (elsif_trees c.in-If.elsifs.items) (stmt_trees c.in-If.others.items) c.elsifs.new.self (others.emits.taken ∙ first.emits.taken) labels
+    (elsif_trees c.in-If.elsifs.items) (stmt_trees c.in-If.others.items) c.elsifs.new.self
+    (others.emits.taken ∙ first.emits.taken, others.emits.rows.exceptions ∙ first.emits.rows.exceptions) labels
     (omega (arith, up, more))
     (subst (λ x. RefusesStatements x w c.elsifs.new.self (stmt_trees c.in-If.others.items) why) (c.in_ok-elsifs-in-If.ensures.same ∙ one)
     (subst (λ l. RefusesStatements c.elsifs.new.visible w c.elsifs.new.self (stmt_trees l) why) c.deref-in-If-2.ensures.value
@@ -462,7 +464,7 @@ statement-returns-in-Case-clause-refused t c =
     let v = c.args.visible.now in
     let w = ways_of c.args.leaving in
     let e = expr_tree c.in-Case.value in
-    let tree = ap stmt_tree c.in-Case.is ∙ c.statements_by_parts.ensures.cases c.in-Case.place c.in-Case.value c.in-Case.alternatives in
+    let tree = ap stmt_tree c.in-Case.is ∙ c.statements_by_parts.ensures.cases c.in-Case.place c.in-Case.value c.in-Case.all in
     IfErr-weaker _ _ _
     (λ why r.
     subst (λ x. RefusesStatement v w c.args.self.now x why) (sym tree)
@@ -506,25 +508,16 @@ statements-returns-in_err-statement-clause-refused t c =
     let why = c.in_err-statement.field-0.0 in
     let before = c.loop-statement.invariant.0 in
     let whole = statement_refuses v w c.args.self.now why c.loop-statement.self c.args.all.now _ c.statement-item.result
-    c.loop-statement-test.true c.statement-item.is before.taken c.loop-statement.invariant.2.labels before.sized
+    c.loop-statement-test.true c.statement-item.is (before.taken, before.rows.exceptions) c.loop-statement.invariant.2.labels before.sized
     (subst (λ x. RefusesStatement x w c.loop-statement.self (stmt_tree c.statement-item.result) why) c.loop-statement.invariant.1
     c.in_err-statement.ensures.refused) in
     search (rules, whole)
 
-pub statement-returns-else-is_empty-clause-refused : goal.statement-returns-else-is_empty-clause-refused
-statement-returns-else-is_empty-clause-refused t c =
-    let v = c.args.visible.now in
-    let w = ways_of c.args.leaving in
-    let some : 1 ≤ length c.in-Block.handlers.items = search rules in
-    let tree = ap stmt_tree c.in-Block.is
-    ∙ c.statements_by_parts.ensures.blocks c.in-Block.place c.in-Block.declarations c.in-Block.body c.in-Block.handlers in
-    subst (λ x. RefusesStatement v w c.args.self.now x refusal.Outside) (sym tree)
-    (inl (handlers_refused v w c.args.self.now refusal.Outside c.in-Block.place (map declaration_tree c.in-Block.declarations.items)
-    (stmt_trees c.in-Block.body.items) c.in-Block.handlers.items some))
-
 pub statement-returns-in-Raise-clause-refused : goal.statement-returns-in-Raise-clause-refused
 statement-returns-in-Raise-clause-refused t c =
-    subst (λ x. RefusesStatement c.args.visible.now (ways_of c.args.leaving) c.args.self.now x refusal.Outside) (sym (ap stmt_tree c.in-Raise.is)) (inl refl)
+    IfErr-weaker _ _ _
+    (λ why r. subst (λ x. RefusesStatement c.args.visible.now (ways_of c.args.leaving) c.args.self.now x why) (sym (ap stmt_tree c.in-Raise.is)) r)
+    c.raise.ensures.refused
 
 pub statement-returns-in-Delay-clause-refused : goal.statement-returns-in-Delay-clause-refused
 statement-returns-in-Delay-clause-refused t c =

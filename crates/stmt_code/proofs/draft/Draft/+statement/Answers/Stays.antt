@@ -29,7 +29,7 @@ alternative-returns-clause-stays t c =
     let v = c.args.visible.now in
     let w = ways_of c.args.leaving in
     let a = c.args.alternative.now in
-    let chosen : Draft = record { code = c.add_choices.new.code; labels = c.args.self.now.labels; words = c.args.self.now.words } in
+    let chosen : Draft = record c.args.self.now { code = c.add_choices.new.code } in
     on_ok_weaker _
     (λ r.
     alternative_stays v w c.args.self.now a.place (choices_tree a.choices) (stmt_trees a.statements.items) c.add_choices.new.code c.statements.new.self
@@ -52,8 +52,8 @@ repeated-returns-in_ok-end_loop-in-Forever-clause-stays t c =
     let v = c.args.visible.now in
     let w = ways_of c.args.leaving in
     let body = stmt_trees c.args.body.now in
-    let begun : Draft = record { code = c.begin_loop.new.code; labels = c.args.self.now.labels; words = c.args.self.now.words } in
-    let ended : Draft = record { code = c.end_loop.new.code; labels = c.statements.new.self.labels; words = c.statements.new.self.words } in
+    let begun : Draft = record c.args.self.now { code = c.begin_loop.new.code } in
+    let ended : Draft = record c.statements.new.self { code = c.end_loop.new.code } in
     subst (λ i. StaysStatement v w c.args.self.now (Loop c.args.place (iteration_tree i) body) ended) (sym c.in-Forever.is)
     (forever_stays v w c.args.self.now c.args.place c.in_ok-head-in-Forever.head.exit body c.begin_loop.new.code c.statements.new.self c.end_loop.new.code
     (begun_shallow _ _ c.in_ok-head-in-Forever.ensures.begins)
@@ -65,8 +65,8 @@ repeated-returns-in_ok-end-in-While-clause-stays t c =
     let v = c.args.visible.now in
     let w = ways_of c.args.leaving in
     let body = stmt_trees c.args.body.now in
-    let jumped : Draft = record { code = c.test.new.self; labels = c.args.self.now.labels; words = c.args.self.now.words } in
-    let whole : Draft = record { code = c.patch.new.self; labels = c.statements-in-While.new.self.labels; words = c.statements-in-While.new.self.words } in
+    let jumped : Draft = record c.args.self.now { code = c.test.new.self } in
+    let whole : Draft = record c.statements-in-While.new.self { code = c.patch.new.self } in
     subst (λ i. StaysStatement v w c.args.self.now (Loop c.args.place (iteration_tree i) body) whole) (sym c.in-While.is)
     (while_stays v w c.args.self.now c.args.place c.in_ok-head-in-While.head.exit (expr_tree c.in-While.condition) body c.begin_loop-in-While.new.code
     c.of_width.new.self c.test.new.self c.statements-in-While.new.self c.end_loop-in-While.new.code c.patch.new.self
@@ -89,10 +89,10 @@ counted-returns-clause-stays t c =
     let body = stmt_trees c.args.body.now in
     let began = c.in_ok-turns.ensures.begins in
     let words = c.restore.ensures.words ∙ ap (λ n. record c.statements.new.self.words { taken = n }) c.of-extent.ensures.taken in
-    stays_words c.args.self.now _ _ (record { code = c.patch-2.new.self; labels = c.statements.new.self.labels; words = c.statements.new.self.words }) _ words
+    stays_words c.args.self.now _ _ (record c.statements.new.self { code = c.patch-2.new.self }) _ words
     (counted_stays v w c.args.self.now c.args.place c.args.parameter.now c.args.reversed (range_tree c.args.range.now) body c.in_ok-head.head.exit
     c.begin_range.new.visible c.begin_loop.new.code c.begin_range.new.self c.statements.new.self c.end_turn.new.code c.end_loop.new.code c.patch.new.self
-    c.patch-2.new.self (range_seen _ _ _ _ _ _ _ _ _ began) began.takes.taken (begun_shallow _ _ c.in_ok-head.ensures.begins)
+    c.patch-2.new.self (range_seen _ _ _ _ _ _ _ _ _ began) began.takes.taken began.exceptions (begun_shallow _ _ c.in_ok-head.ensures.begins)
     c.in_ok-turns.ensures.stays
     (subst (λ x. StaysStatements c.begin_range.new.visible x c.begin_range.new.self body c.statements.new.self) c.in_loop.ensures
     c.in_ok-statements.ensures.stays)
@@ -106,7 +106,7 @@ block-returns-clause-stays t c =
     stays_words c.args.self.now _ _ c.statements.new.self _ words
     (block_stays c.args.visible.now (ways_of c.args.leaving) c.args.self.now c.args.place (map declaration_tree c.args.declarations.now)
     (stmt_trees c.args.body.now) c.declarations.new.visible c.declarations.new.self c.statements.new.self c.in_ok-declarations.ensures.shown
-    c.in_ok-declarations.ensures.taken c.in_ok-declarations.ensures.stays c.in_ok-statements.ensures.stays)
+    c.in_ok-declarations.ensures.taken declared.exceptions c.in_ok-declarations.ensures.stays c.in_ok-statements.ensures.stays)
 
 pub statement-returns-in_ok-statements-in-If-clause-stays : goal.statement-returns-in_ok-statements-in-If-clause-stays
 statement-returns-in_ok-statements-in-If-clause-stays t c =
@@ -134,11 +134,12 @@ statement-returns-in_ok-statements-in-If-clause-stays t c =
     on_ok_weaker _
     (λ r.
     subst (λ x. StaysStatement v w c.args.self.now x
-    (record { code = c.rejoin.new.self; labels = c.statements.new.self.labels; words = c.statements.new.self.words }))
+    (record c.statements.new.self { code = c.rejoin.new.self }))
     (sym tree)
     (if_stays v w c.args.self.now c.in-If.field-0 (expr_tree c.in-If.condition) (stmt_trees c.in-If.body.items) (elsif_trees c.in-If.elsifs.items)
-    (stmt_trees c.in-If.others.items) c.branch-self.new.self c.elsifs.new.self c.statements.new.self c.rejoin.new.self first.emits.taken
-    (others.emits.taken ∙ first.emits.taken) kept kept_others last r.deepest))
+    (stmt_trees c.in-If.others.items) c.branch-self.new.self c.elsifs.new.self c.statements.new.self c.rejoin.new.self
+    (first.emits.taken, first.emits.rows.exceptions)
+    (others.emits.taken ∙ first.emits.taken, others.emits.rows.exceptions ∙ first.emits.rows.exceptions) kept kept_others last r.deepest))
     c.rejoin.ensures.rejoins
 
 pub statement-returns-in-Case-clause-stays : goal.statement-returns-in-Case-clause-stays
@@ -146,7 +147,7 @@ statement-returns-in-Case-clause-stays t c =
     let v = c.args.visible.now in
     let w = ways_of c.args.leaving in
     let e = expr_tree c.in-Case.value in
-    let tree = ap stmt_tree c.in-Case.is ∙ c.statements_by_parts.ensures.cases c.in-Case.place c.in-Case.value c.in-Case.alternatives in
+    let tree = ap stmt_tree c.in-Case.is ∙ c.statements_by_parts.ensures.cases c.in-Case.place c.in-Case.value c.in-Case.all in
     on_ok_weaker _
     (λ r.
     subst (λ x. StaysStatement v w c.args.self.now x c.case.new.self) (sym tree)
@@ -188,6 +189,12 @@ statement-returns-in-Assignment-clause-stays t c =
     on_ok_weaker _
     (λ r. subst (λ x. StaysStatement c.args.visible.now (ways_of c.args.leaving) c.args.self.now x c.assign.new.self) (sym (ap stmt_tree c.in-Assignment.is)) r)
     c.assign.ensures.stays
+
+pub statement-returns-in-Raise-clause-stays : goal.statement-returns-in-Raise-clause-stays
+statement-returns-in-Raise-clause-stays t c =
+    on_ok_weaker _
+    (λ r. subst (λ x. StaysStatement c.args.visible.now (ways_of c.args.leaving) c.args.self.now x c.raise.new.self) (sym (ap stmt_tree c.in-Raise.is)) r)
+    c.raise.ensures.stays
 
 pub statement-returns-in-Call-clause-stays : goal.statement-returns-in-Call-clause-stays
 statement-returns-in-Call-clause-stays t c =
