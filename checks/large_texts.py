@@ -192,7 +192,7 @@ DEEP = [
     deep("for loops", statements(), "for X in 1..2 loop ", "null;", "end loop;", breaks=(11, "X in", 2)),
     deep("blocks", statements(), "begin ", "null;", "end;", ends=(0, LAST_LINE)),
     deep("blocks with declarations", statements(), "declare X:T; begin ", "null;", "end;", breaks=(10, "T;")),
-    deep("blocks in handlers", statements(), "begin null; exception when others=>", "null;", "end;"),
+    deep("blocks in handlers", statements(), "begin null; exception when others=>", "null;", "end;", ends=(0, LAST_LINE)),
     deep("parentheses of a number", known("X:=", ";"), "(", "7", ")", ends=(0, lines(7))),
     deep("if expressions of numbers", known("X:=", ";"), "(if B then ", "7", " else 8)", each=2, ends=(0, lines(7))),
     deep("calls of a function", known("X:=", ";"), "F(", "7", ")", 1, ends=(0, lines(7))),

@@ -1,5 +1,5 @@
 #!/usr/bin/env python3
-"""Gives the program texts that just keep and just pass each limit on declarations, and compares what it tells of each.
+"""Gives the program texts that just keep and just pass each limit on declarations, and the limit on rows of handlers, and compares what it tells of each.
 
     limits.py PROGRAM SCRATCH
 """
@@ -17,6 +17,10 @@ LIMITS = [
     (127, "", "^procedure P# is begin null; end P#;"),
     (16, "type T# is array (1 .. 512) of Integer; ^V# : T#;", ""),
 ]
+
+# Exceptions that a handler may name, beside the predefined ones, and rows of an image.
+EXCEPTIONS = 32
+ROWS = 4_096
 
 
 def each(count, pattern, text):
@@ -38,6 +42,17 @@ def program_of(count, declaration, body):
     return text, mark if declared is None else declared
 
 
+def handled(count):
+    """A program with so many choices of handlers, each of which makes a row."""
+    names = ["Constraint_Error", "Program_Error", "Storage_Error", "Tasking_Error"] + [f"E{number}" for number in range(1, EXCEPTIONS + 1)]
+    text = "pragma Profile (Ravenscar);\npackage App is procedure Run;\n" + "".join(f"{name} : exception;\n" for name in names[4:])
+    text += "end App;\npackage body App is\nprocedure Run is begin\n"
+    while count > 0:
+        text += "begin null; exception when " + " | ".join(names[:count]) + " => null; end;\n"
+        count -= min(count, len(names))
+    return text + "end Run;\nend App;\nwith App;\nprocedure Main is begin App.Run; end Main;\n"
+
+
 def told(program, scratch, text):
     """What the program tells of the text on standard error."""
     source = os.path.join(scratch, "limit.adb")
@@ -46,21 +61,31 @@ def told(program, scratch, text):
     return subprocess.run([program, "go", source, "/dev/null", "100000"], capture_output=True, text=True, check=False).stderr
 
 
-def main():
-    program, scratch = sys.argv[1:]
-    right = 0
+def texts():
+    """Each text by a name, with what may be told of it: what is legal runs, or is no text of the language that is compiled today."""
     for most, declaration, body in LIMITS:
+        name = f"{most} of `{declaration or body}`"
         kept, _ = program_of(most, declaration, body)
+        yield name, kept, ("", "fault 90 at 1:1\n")
         passed, mark = program_of(most + 1, declaration, body)
         line, column = passed.count("\n", 0, mark) + 1, mark - (passed.rfind("\n", 0, mark) + 1) + 1
-        # what is legal runs, or is no text of the language that is compiled today
-        is_kept = told(program, scratch, kept) in ("", "fault 90 at 1:1\n")
-        is_told = told(program, scratch, passed) == f"fault 23 at {line}:{column}\n"
-        right += is_kept + is_told
-        if not is_kept or not is_told:
-            print(f"limits: {most} of `{declaration or body}`: kept {is_kept}, told {is_told}", file=sys.stderr)
-    print(f"limits: {right} of {2 * len(LIMITS)} texts are judged as they should be")
-    return 0 if right == 2 * len(LIMITS) else 1
+        yield "one more than " + name, passed, (f"fault 23 at {line}:{column}\n",)
+    yield f"{ROWS} rows", handled(ROWS), ("",)
+    passed = handled(ROWS + 1)
+    yield f"one more than {ROWS} rows", passed, (f"fault 23 at {passed.count(chr(10))}:1\n",)
+
+
+def main():
+    program, scratch = sys.argv[1:]
+    right = many = 0
+    for name, text, allowed in texts():
+        given = told(program, scratch, text)
+        many += 1
+        right += given in allowed
+        if given not in allowed:
+            print(f"limits: {name}: told {given!r}", file=sys.stderr)
+    print(f"limits: {right} of {many} texts are judged as they should be")
+    return 0 if right == many else 1
 
 
 sys.exit(main())

@@ -21,8 +21,9 @@ def status_of(lines):
 
 
 def lines_of(word):
-    """What a row's program writes: its number, or that an exception ends it."""
-    return f"unhandled {EXCEPTIONS[word]} in MAIN at 0\n" if word in EXCEPTIONS else f"0 MAIN n {word}\nended at 0\n"
+    """What a row's program writes: its number, or that an exception ends it, which is named, or told by what happens."""
+    name = EXCEPTIONS.get(word, word)
+    return f"unhandled {name} in MAIN at 0\n" if name.isidentifier() else f"0 MAIN n {word}\nended at 0\n"
 
 
 def rows_of(lines):
