@@ -1,3 +1,4 @@
 mod ProtectedExamples
+mod TaskExamples
 mod BodyExamples
 mod Growing

@@ -11,6 +11,5 @@ pub mod Rules
 pub mod Scalars
 pub mod Sections
 pub mod Steps
-pub mod Taken
 pub mod Texts
 pub mod WordRanges

@@ -10,7 +10,6 @@ mod Plain
 mod Runs
 mod Shapes
 mod StepLinks
-mod Today
 mod Unread
 mod WellFormed
 mod Wholeness

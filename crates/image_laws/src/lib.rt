@@ -1,7 +1,7 @@
 //! The laws of images and their runs: each is what a function without work ensures.
 #![tactic(auto)]
 
-ghost use Rattle.image_laws.specs.Laws.{BeginsSound, CodeLeadsOn, EachIsHeld, FitsAlways, FourInEveryWorld, FramesHaveRoom, ImagesHaveSize, KernelKept, LinesGrowOn, LinkedInEveryWorld, OutcomeStays, SoundToday, StepsSound};
+ghost use Rattle.image_laws.specs.Laws.{BeginsSound, CodeLeadsOn, EachIsHeld, FitsAlways, FourInEveryWorld, FramesHaveRoom, ImagesHaveSize, KernelKept, LinesGrowOn, LinkedInEveryWorld, OutcomeStays, StepsSound};
 ghost use Rattle.image_laws.specs.Whole.{EffectsNamed, LinesUnread, RunnerOwes, RunnerPasses, RunnerSound, StartsWhole, StepsWhole, UnseenWhole};
 
 use image::Image;
@@ -33,11 +33,6 @@ pub fn code_leads_on()
     ensures leads_on { CodeLeadsOn }
     ensures held { EachIsHeld }
     ensures size { ImagesHaveSize }
-{}
-
-/// In every world that a run of an image reaches which the machine runs today, the frames of each task have their shape.
-pub fn sound_today()
-    ensures { SoundToday }
 {}
 
 /// A world that has an outcome does not change.

@@ -10,3 +10,4 @@ mod program;
 mod thing;
 
 pub use program::size_fault;
+pub use thing::Kind;

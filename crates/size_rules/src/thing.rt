@@ -10,7 +10,7 @@ pub const DECLARED_EXCEPTIONS: usize = EXCEPTIONS - PREDEFINED_EXCEPTIONS;
 
 /// What is counted, each kind by itself.
 #[derive(Clone, Copy, Debug, PartialEq, Eq)]
-pub(crate) enum Kind {
+pub enum Kind {
     /// A subprogram, or an operation or entry of a protected object.
     Subprogram,
     Task,

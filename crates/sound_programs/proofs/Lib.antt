@@ -42,6 +42,7 @@ pub mod PackageBodies
 pub mod ObjectTrees
 pub mod Trees
 pub mod Moved
+pub mod ObjectItems
 pub mod ObjectBodies
 pub mod ObjectCalls
 pub mod Parted

@@ -1,5 +1,5 @@
 -- The body of a protected object: each operation's body has the profile that its name stands for there, and its name is neither that of a component nor visible in front.
-use Rattle.std.proofs.Common.{◌≡◌, ◌<◌, ℕ, zero, suc, ◌+◌, List, [], ◌∷◌, ◌++◌, take, drop, map, not, Bool, true, false, cond, ◌&&◌, ◌||◌, ◌⊎◌, inl, inr, Option, Some, None, refl, sym, ap, ◌∙◌, subst, arith}
+use Rattle.std.proofs.Common.{◌≡◌, ◌<◌, ℕ, zero, suc, ◌+◌, List, [], ◌∷◌, ◌++◌, take, drop, map, Bool, true, false, cond, ◌&&◌, ◌⊎◌, inl, inr, Option, Some, None, refl, sym, ap, ◌∙◌, subst, arith}
 use Rattle.std.specs.Prelude.{bytes_eq, is_some, option_map, slice_get, ⊤}
 use Rattle.std.specs.List.{list_any}
 use Rattle.std.proofs.lemmas.List.{append_assoc, append-nil}
@@ -8,7 +8,7 @@ use Rattle.ada_tree.specs.declared.declaration.Formal.{Formal}
 use Rattle.ada_tree.specs.ExpressionTree.{ExprTree}
 use Rattle.ada_tree.specs.StatementTree.{EntryTree, OperationTree, ProtectedTree, SubprogramTree}
 use Rattle.ada_tree.specs.StatementTree as operation
-use Rattle.ada_tree.specs.ProgramTree.{BodyTree, BodyItemTree, OfItem, SubprogramBody, TaskBody, ProtectedBody, OfType, OfObject, OfException, OfSubprogram, OfTask, OfProtected, ProtectedItemTree, OperationBody, EntryBody}
+use Rattle.ada_tree.specs.ProgramTree.{BodyTree, BodyItemTree, OfItem, SubprogramBody, TaskBody, ProtectedBody, OfType, OfSubprogram, OfProtected, ProtectedItemTree, OperationBody, EntryBody}
 use Rattle.types.specs.declared.entity.RecordComponent.{RecordComponent}
 use Rattle.types.specs.declared.entity.Subtype.{Subtype}
 use Rattle.types.specs.Entities.{Entity, Operation, Profile, ProtectedObject, Protected, Subprogram, Doubtful}
@@ -20,7 +20,7 @@ use Rattle.expr_rules.proofs.TypedLaw.{back_empty, front_empty, judged, unbroken
 use Rattle.type_rules.specs.SubtypeNames.{declared_twice, end_rule, named_entity, subtype_in, subtype_of}
 use Rattle.type_rules.specs.ProfileRules.{formal_parameters, profile_entity, profile_with, subprogram_scope}
 use Rattle.declaring.specs.BodyNames.{components_scope, object_body_scope, component_role, operation_entity, operations_scope}
-use Rattle.declaring.specs.ProtectedRules.{is_operation_in, object_components, object_operations, object_with, operation_name, operation_profile, protected_entity, protected_faults}
+use Rattle.declaring.specs.ProtectedRules.{is_operation_in, object_components, object_operations, operation_name, operation_profile, protected_entity, protected_faults}
 use Rattle.declaring.specs.ProtectedRules as declared
 use Rattle.matching.specs.MatchingRules.{any_declared, has_unlike_operation, is_second_operation, is_unlike_operation, operation_bodies_faults, operation_body_rule, passes_declared, same_formals, same_name, same_result, conforms}
 use Rattle.matching.specs.MatchingRules as matching
@@ -28,7 +28,7 @@ use Rattle.base.specs.declared.faults.TheConstants.{UNMATCHED_BODY}
 use Rattle.legality.specs.MainRules.{item_name}
 use Rattle.legality.specs.PackageBodyRules.{body_items_scope}
 use Rattle.legality.specs.BodyRules.{body_name_faults, function_body_faults, head_faults, is_subprogram, subprogram_body_faults}
-use Rattle.legality.specs.ProtectedBodyRules.{components_at, entry_rule, is_entry, known_body_faults, object_items_faults, object_rule, outer_name_rule, outer_names_faults, protected_item_faults, protected_items_faults}
+use Rattle.legality.specs.ProtectedBodyRules.{components_at, entry_rule, is_entry, known_body_faults, object_items_faults, object_rule, outer_names_faults, protected_item_faults, protected_items_faults}
 use Rattle.checking.specs.LikeNames.{is_its_body, item_like_faults}
 use Rattle.well_typed.specs.SoundScopes.{SoundScope}
 use Rattle.meaning.specs.Programs.{Program}
@@ -36,7 +36,7 @@ use Rattle.sound_programs.specs.Fronts.{scope_at}
 use Rattle.sound_programs.proofs.Listing.{dropped_at, none_passes, not_both, one_passes, or_else_some, passes_at, same_some, taken_at, taken_further, within_taken}
 use Rattle.sound_programs.proofs.WiderScopes.{bytes_same, equal_bytes, found_in, number_stands, same_bytes, some_seen, stands, stands_with_all, unseen_none, with_all}
 use Rattle.sound_programs.proofs.BodyProfiles.{profile_kept, profile_same}
-use Rattle.sound_programs.proofs.Walked.{Constants, Entries, IsOne, Origin, Others, ProtectedOnes, Subprograms, Variables, body_item_kind, declared_one, declares, item_entity, item_new, kept_all, kept_at, kind, legal_at, one_of, origin, own_profile, scope_both, scope_next, stands_next}
+use Rattle.sound_programs.proofs.Walked.{Entries, IsOne, Origin, Others, Subprograms, body_item_kind, declared_one, declares, item_entity, item_new, kept_all, kept_at, kind, legal_at, one_of, origin, own_profile, scope_both, scope_next, stands_next}
 use Rattle.sound_programs.proofs.OneList.{is_object_body, like_at, matched_at}
 use Rattle.sound_programs.proofs.Callables.{at_map, map_at}
 use Rattle.sound_programs.proofs.Whole.{IsPackage, came, is_first, kept, known_kind, origin_kind, profile_known, subprogram_is}
@@ -44,58 +44,7 @@ use Rattle.sound_programs.proofs.Called.{HasObject, object_there}
 use Rattle.sound_programs.proofs.Agreed.{no_entry}
 use Rattle.sound_programs.proofs.ObjectTrees.{IsDeclared, between_at, component_object, components_all, components_named, found_operation, no_part, operation_declared, operation_legal, operations_all, operations_named, part_legal_from, parts_legal}
 use Rattle.sound_programs.proofs.Moved.{IsHidden, KeepsTypes, as_item, counted_with, grows_at, hidden_stands, item_legal_at, object_parts, offering_kind, offering_subtype, profile_moved}
-
-either_false : (a b : Bool) → (a || b) ≡ false → (a ≡ false) × (b ≡ false)
-either_false true b h = cc
-either_false false b h = (refl, h)
-
-both_true : (a b : Bool) → (a && b) ≡ true → (a ≡ true) × (b ≡ true)
-both_true true b h = (refl, h)
-both_true false b h = cc
-
-not_true : (b : Bool) → not b ≡ false → b ≡ true
-not_true true h = refl
-not_true false h = cc
-
-protected_item : (i : BodyItemTree) → ProtectedOnes ≡ body_item_kind i → (d : ProtectedTree) × (i ≡ OfItem (OfProtected d))
-protected_item (OfItem (OfProtected d)) h = (d, refl)
-protected_item (OfItem (OfObject d)) h = absurd (by_constant d.constant h)
-  where
-    by_constant : (b : Bool) → ProtectedOnes ≡ cond b Constants Variables → ⊥
-    by_constant true k = cc
-    by_constant false k = cc
-protected_item (OfItem (OfException own)) h = cc
-protected_item (OfItem (OfType d)) h = cc
-protected_item (OfItem (OfSubprogram d)) h = cc
-protected_item (OfItem (OfTask d)) h = cc
-protected_item (SubprogramBody d b) h = cc
-protected_item (TaskBody own b) h = cc
-protected_item (ProtectedBody own items end_name) h = cc
-
-pub order : (a b : ℕ) → (a < b) ⊎ ((a ≡ b) ⊎ (b < a))
-order zero zero = inr (inl refl)
-order zero (suc b) = inl (omega arith)
-order (suc a) zero = inr (inr (omega arith))
-order (suc a) (suc b) = elim (order a b) [
-  | inl l ↦ inl (omega (arith, l))
-  | inr x ↦ elim x [ inl e ↦ inr (inl (ap suc e)) | inr l ↦ inr (inr (omega (arith, l))) ]
-]
-
-further_by : (a b : ℕ) → a < b → (m : ℕ) × (suc a + m ≡ b)
-further_by zero zero l = absurd (omega (arith, l))
-further_by zero (suc b) l = (b, omega arith)
-further_by (suc a) zero l = absurd (omega (arith, l))
-further_by (suc a) (suc b) l = let n = further_by a b (omega (arith, l)) in (n.0, let e = n.1 in omega (arith, e))
-
-outer_at : (s : Scope) (items : List ProtectedItemTree) (j : ℕ) (e : SubprogramTree) (b : BodyTree) → outer_names_faults s items ≡ []
-    → slice_get items j ≡ Some (OperationBody e b)
-    → stands s e.name.name ≡ None
-outer_at s [] j e b h at = cc
-outer_at s (x ∷ xs) zero e b h at =
-    let one : outer_name_rule s (OperationBody e b) ≡ [] =
-    subst (λ y. outer_name_rule s y ≡ []) (same_some x (OperationBody e b) at) (front_empty (outer_name_rule s x) (outer_names_faults s xs) h) in
-    unseen_none s e.name.name (unbroken _ e.name.place _ one)
-outer_at s (x ∷ xs) (suc j) e b h at = outer_at s xs j e b (back_empty (outer_name_rule s x) (outer_names_faults s xs) h) at
+use Rattle.sound_programs.proofs.ObjectItems.{both_true, either_false, further_by, not_true, order, outer_at, protected_item}
 
 -- ---- operations in bodies
 

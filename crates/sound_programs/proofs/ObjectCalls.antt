@@ -31,7 +31,8 @@ use Rattle.sound_programs.proofs.OneList.{is_object_body, restricted_at}
 use Rattle.sound_programs.proofs.Callables.{Bodied, InObject, InPackage, all_functions, all_procedures, any_entry, any_function, any_procedure, bodies_among, body_place, found_entry, found_function, found_procedure, functions_are, operation_body, operation_has, procedure_by, procedures_are}
 use Rattle.sound_programs.proofs.Whole.{IsPackage, kept, value_returned}
 use Rattle.sound_programs.proofs.Called.{object_there}
-use Rattle.sound_programs.proofs.ObjectBodies.{object_at, order, only_body, same_tree, unit_entity, unit_formals, unit_name, unit_result}
+use Rattle.sound_programs.proofs.ObjectItems.{order}
+use Rattle.sound_programs.proofs.ObjectBodies.{object_at, only_body, same_tree, unit_entity, unit_formals, unit_name, unit_result}
 use Rattle.sound_programs.proofs.ObjectBodies as bodies
 
 -- ---- at most one entry
