@@ -1,7 +1,6 @@
 //! What the commands on images write and leave: compile, list and run (docs/FORMATS.md).
 ghost use Rattle.std.specs.Prelude.{◌≡◌};
 
-use crate::images::{RETURN_ALONE, THOUSAND, beginning, joined};
 use crate::memory::{Entry, Left, call};
 use machine::Plan;
 use std::alloc::{AllocError, Global};
@@ -20,6 +19,23 @@ end App;
 with App;
 procedure Main is begin App.Run; end Main;
 ";
+
+// Images by their bytes: a return alone, and a line `x 1000` and a return.
+const RETURN_ALONE: &[u8] =
+    b"ARVN\x00\x01\x00\x01\x00\x01\x00\x00\x00\x01\x00\x04\x00\x00\x00\x00\x00\x00\
+    \x10CONSTRAINT_ERROR\x0dPROGRAM_ERROR\x0dSTORAGE_ERROR\x0dTASKING_ERROR\
+    \x04\xff\xff\x00\x01\x00\x00\x00\x00\x00\x00\x00\x00\
+    \x04MAIN\x0f\x00\x00\
+    (\x00\x00\x00\x00\x00\x00\x00\x00\x00\x00\x00\x00";
+
+const THOUSAND: &[u8] =
+    b"ARVN\x00\x01\x00\x03\x00\x01\x00\x00\x00\x01\x00\x04\x00\x00\x00\x01\x00\x00\
+    \x10CONSTRAINT_ERROR\x0dPROGRAM_ERROR\x0dSTORAGE_ERROR\x0dTASKING_ERROR\x01x\
+    \x04\xff\xff\x00\x03\x00\x00\x00\x00\x00\x00\x00\x01\
+    \x04MAIN\x0f\x00\x00\
+    \x01\x00\x00\x00\x00\x00\x00\x00\x00\x00\x00\x03\xe8\
+    ,\x00\x01\x00\x00\x00\x00\x00\x00\x00\x00\x00\x00\
+    (\x00\x00\x00\x00\x00\x00\x00\x00\x00\x00\x00\x00";
 
 const REFUSED: &[u8] = b"procedure Main is begin end Main;";
 
@@ -98,9 +114,7 @@ const fn writes<'a>(words: &'a [&'a str], status: u8, out: &'a str) -> Row<'a> {
 #[test]
 fn images_are_listed_and_run(rt: HostRuntime) -> Result<(), Fail> {
     let alloc = rt.alloc();
-    let first = joined(alloc, &RETURN_ALONE)?;
-    let second = joined(alloc, &THOUSAND)?;
-    let entries = files(&first, &second);
+    let entries = files(RETURN_ALONE, THOUSAND);
     let mut listed = String::from_str(alloc, NAMES_LISTED)?;
     listed.push_str(
         "label 0 x
@@ -145,9 +159,7 @@ sub 0 kind 4 object - params 0 results 0 locals 0 stack 1
 #[test]
 fn faulty_images_are_refused(rt: HostRuntime) -> Result<(), Fail> {
     let alloc = rt.alloc();
-    let second = joined(alloc, &THOUSAND)?;
-    let short = beginning(alloc, &second, 142)?;
-    let entries = files(&short, &second);
+    let entries = files(&THOUSAND[..142], THOUSAND);
     let rows = [
         stops(&["list", "return.img"], 6, "image fault 41 at byte 142\n"),
         stops(

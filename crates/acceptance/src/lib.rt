@@ -1,4 +1,4 @@
-//! Tests that cross crates: spelling, grammar, images, and the whole program over files and streams in memory.
+//! Tests of the whole program over files and streams in memory.
 #![tactic(auto)]
 
 ghost use Rattle.std.specs.Prelude.{◌≡◌};
@@ -6,36 +6,6 @@ ghost use Rattle.std.specs.Prelude.{◌≡◌};
 #[cfg(test)]
 mod commands;
 #[cfg(test)]
-mod declarations;
-#[cfg(test)]
-mod exclusion;
-#[cfg(test)]
-mod expressions;
-#[cfg(test)]
-mod grammar;
-#[cfg(test)]
-mod image_text;
-#[cfg(test)]
-mod images;
-#[cfg(test)]
 mod memory;
 #[cfg(test)]
-mod names;
-#[cfg(test)]
-mod operations;
-#[cfg(test)]
-mod protected_actions;
-#[cfg(test)]
 mod rows;
-#[cfg(test)]
-mod spelling;
-#[cfg(test)]
-mod statements;
-#[cfg(test)]
-mod tables;
-#[cfg(test)]
-mod task_rows;
-#[cfg(test)]
-mod tasking_scripts;
-#[cfg(test)]
-mod virtual_time;

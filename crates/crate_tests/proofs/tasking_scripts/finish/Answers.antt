@@ -1,8 +1,8 @@
 use Rattle.std.proofs.Common.{sym, ◌∙◌}
 use Rattle.kernel.specs.Effects.{Finishes}
 use Rattle.tasking.specs.Held.{kernel_of}
-use Rattle.acceptance.proofs.Scripts.{step_kept}
-use Rattle.acceptance.proofs.tasking_scripts.finish.Goals as goal
+use Rattle.crate_tests.proofs.Scripts.{step_kept}
+use Rattle.crate_tests.proofs.tasking_scripts.finish.Goals as goal
 
 pub returns-else-is_inside_any : goal.returns-else-is_inside_any
 returns-else-is_inside_any g c =

@@ -165,7 +165,7 @@ fn lists_what_was_built(rt: HostRuntime) -> Result<(), Fail> {
 }
 
 // A single return, in the sections of docs/FORMATS.md: header, names, subprogram, task, instruction.
-pub(crate) const RETURN_ALONE: [&[u8]; 5] = [
+const RETURN_ALONE: [&[u8]; 5] = [
     b"ARVN\x00\x01\x00\x01\x00\x01\x00\x00\x00\x01\x00\x04\x00\x00\x00\x00\x00\x00",
     b"\x10CONSTRAINT_ERROR\x0dPROGRAM_ERROR\x0dSTORAGE_ERROR\x0dTASKING_ERROR",
     b"\x04\xff\xff\x00\x01\x00\x00\x00\x00\x00\x00\x00\x00",
@@ -174,7 +174,7 @@ pub(crate) const RETURN_ALONE: [&[u8]; 5] = [
 ];
 
 // A line `x 1000` and a return.
-pub(crate) const THOUSAND: [&[u8]; 7] = [
+const THOUSAND: [&[u8]; 7] = [
     b"ARVN\x00\x01\x00\x03\x00\x01\x00\x00\x00\x01\x00\x04\x00\x00\x00\x01\x00\x00",
     b"\x10CONSTRAINT_ERROR\x0dPROGRAM_ERROR\x0dSTORAGE_ERROR\x0dTASKING_ERROR\x01x",
     b"\x04\xff\xff\x00\x03\x00\x00\x00\x00\x00\x00\x00\x01",
@@ -184,7 +184,7 @@ pub(crate) const THOUSAND: [&[u8]; 7] = [
     b"(\x00\x00\x00\x00\x00\x00\x00\x00\x00\x00\x00\x00",
 ];
 
-pub(crate) fn joined(alloc: Global, parts: &[&[u8]]) -> Result<Vec<u8>, AllocError> {
+fn joined(alloc: Global, parts: &[&[u8]]) -> Result<Vec<u8>, AllocError> {
     let mut bytes = Vec::new(alloc);
     for part in parts {
         bytes.extend_from_slice(part)?;
@@ -217,7 +217,7 @@ fn images_come_back_from_their_bytes(rt: HostRuntime) -> Result<(), Fail> {
 }
 
 // The first bytes, so many of them.
-pub(crate) fn beginning(alloc: Global, bytes: &[u8], length: usize) -> Result<Vec<u8>, AllocError> {
+fn beginning(alloc: Global, bytes: &[u8], length: usize) -> Result<Vec<u8>, AllocError> {
     bytes.iter().copied().take(length).collect(alloc)
 }
 

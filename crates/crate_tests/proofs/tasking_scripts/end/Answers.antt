@@ -1,7 +1,7 @@
 use Rattle.std.proofs.Common.{sym}
 use Rattle.tasking.specs.Held.{kernel_of}
-use Rattle.acceptance.proofs.Scripts.{end_kept}
-use Rattle.acceptance.proofs.tasking_scripts.end.Goals as goal
+use Rattle.crate_tests.proofs.Scripts.{end_kept}
+use Rattle.crate_tests.proofs.tasking_scripts.end.Goals as goal
 
 pub returns-in-Some : goal.returns-in-Some
 returns-in-Some g c =

@@ -1,7 +1,7 @@
 use Rattle.std.proofs.Common.{sym, subst, false}
 use Rattle.kernel.specs.Invariant.{Kept}
 use Rattle.tasking.specs.Held.{partition_of}
-use Rattle.acceptance.proofs.tasking_scripts.started.Goals as goal
+use Rattle.crate_tests.proofs.tasking_scripts.started.Goals as goal
 
 pub returns : goal.returns
 returns g c =

@@ -1,8 +1,8 @@
 use Rattle.std.proofs.Common.{refl, sym, ◌∙◌}
 use Rattle.kernel.specs.Effects.{Queues}
 use Rattle.tasking.specs.Held.{kernel_of}
-use Rattle.acceptance.proofs.Scripts.{step_kept}
-use Rattle.acceptance.proofs.tasking_scripts.call.Goals as goal
+use Rattle.crate_tests.proofs.Scripts.{step_kept}
+use Rattle.crate_tests.proofs.tasking_scripts.call.Goals as goal
 
 pub returns-else-is_full : goal.returns-else-is_full
 returns-else-is_full g c =

@@ -1,8 +1,8 @@
 use Rattle.std.proofs.Common.{sym, ◌∙◌}
 use Rattle.kernel.specs.Effects.{Opens, call_refusal}
 use Rattle.tasking.specs.Held.{kernel_of}
-use Rattle.acceptance.proofs.Scripts.{not_refused, step_kept}
-use Rattle.acceptance.proofs.tasking_scripts.write.Goals as goal
+use Rattle.crate_tests.proofs.Scripts.{not_refused, step_kept}
+use Rattle.crate_tests.proofs.tasking_scripts.write.Goals as goal
 
 pub returns-else-is_some : goal.returns-else-is_some
 returns-else-is_some g c =
