@@ -1,12 +1,14 @@
 -- Code that grows, and the images that hold it.
-use Rattle.std.proofs.Common.{◌≡◌, ◌≢◌, ℤ, ℕ, zero, suc, ◌<◌, ◌≤◌, List, [], ◌∷◌, ◌++◌, length, Some, refl, ap, ◌∙◌, subst, arith, length-append}
-use Rattle.std.specs.Prelude.{slice_get, slice_set}
+use Rattle.std.proofs.Common.{◌≡◌, ◌≢◌, ℤ, ℕ, zero, suc, ◌<◌, ◌≤◌, List, [], ◌∷◌, ◌++◌, length, Some, refl, ap, ◌∙◌, subst, arith, length-append, take}
+use Rattle.std.specs.Prelude.{slice_get, slice_set, Result, Ok, Err, IfErr, OnOk}
 use Rattle.image.specs.Sections.{Sections}
 use Rattle.image.specs.declared.instruction.Operation.{Operation}
 use Rattle.image.specs.declared.instruction.Operation.TheVariants as op
 use Rattle.expr_code.specs.Views.{At}
-use Rattle.expr_code.specs.Code.{Holds, Extends, Adds, Patches, here}
+use Rattle.expr_code.specs.Branches.{Closes}
+use Rattle.expr_code.specs.Code.{Holds, Extends, Adds, IsAsBefore, Patches, here}
 use Rattle.expr_code.specs.declared.code.Code.{Code}
+use Rattle.expr_code.specs.declared.refusal.Refusal.{Refusal}
 
 get_before : {X : Type 0} (xs ys : List X) (k : ℕ) (x : X) → slice_get xs k ≡ Some x → slice_get (xs ++ ys) k ≡ Some x
 get_before [] ys k x h = absurd cc
@@ -70,6 +72,32 @@ extends_trans a b c p q = record {
   deeper = omega (arith, p.deeper, q.deeper);
 }
 
+-- one behind the other, and behind an instruction that was added
+pub then_kept : {a b c : Code} → Extends a b → Extends b c → Extends a c
+then_kept p q = extends_trans _ _ _ p q
+
+pub added_kept : {a b c : Code} {depth : ℕ} {o : Operation} → Adds a depth o b → Extends b c → Extends a c
+added_kept p q = extends_trans _ _ _ (added_extends _ _ _ _ p) q
+
+-- ... the same code, and code that was cut back to where it began
+pub as_before : (a b : Code) → IsAsBefore a b → Extends a b
+as_before a b s = record {
+  instructions = λ k x le h. ap (λ l. slice_get l k) s.instructions ∙ h;
+  longer = omega (arith, ap length s.instructions);
+  deeper = omega (arith, ap (λ n. n) s.deepest);
+}
+
+cut_there : {X : Type 0} (xs ys : List X) → ((k : ℕ) (x : X) → slice_get xs k ≡ Some x → slice_get ys k ≡ Some x) → take (length xs) ys ≡ xs
+cut_there [] ys h = refl
+cut_there (x ∷ xs) [] h = absurd (let none = h 0 x refl in cc)
+cut_there (x ∷ xs) (y ∷ ys) h = ap (λ l. y ∷ l) (cut_there xs ys (λ k z g. h (suc k) z g)) ∙ ap (λ z. z ∷ xs) (same y x (h 0 x refl))
+  where
+    same : {X : Type 0} (a b : X) → Some a ≡ Some b → a ≡ b
+    same a b e = cc
+
+pub cut_back : (a b : Code) → Extends a b → take (here a) b.instructions.items ≡ a.instructions.items
+cut_back a b e = cut_there a.instructions.items b.instructions.items (λ k x h. e.instructions k x (omega arith) h)
+
 -- an image that holds the code holds what it was before, and the code from a later place on
 pub holds_before : (i : Sections) (from : ℕ) (old new : Code) → Extends old new → Holds i from new → Holds i from old
 holds_before i from old new e h = λ k x le g. h k x le (e.instructions k x (omega arith) g)
@@ -106,3 +134,18 @@ module _ (old new : Code) (place : ℕ) (o : Operation) (p : Patches old place o
       shorter [] k x h = absurd cc
       shorter (y ∷ xs) zero x h = omega arith
       shorter (y ∷ xs) (suc k) x h = let below = shorter xs k x h in omega (arith, below)
+
+-- what began in front of the place of a patch, or of a jump that waits and its test, is there still
+pub patched_kept : {start first last new : Code} {place : ℕ} {o : Operation} → place ≡ here first → Extends start first → Extends start last
+    → Patches last place o new → Extends start new
+patched_kept {start} {first} {last} {new} {place} {o} at p q patch =
+    patched_extends last new place o patch start (let up = p.longer in omega (arith, at, up)) q
+
+pub closed_kept : {start first last new : Code} {height place : ℕ} {before after : List ℕ} → place ≡ here first → Extends start first → Extends start last
+    → Closes last height place before after new → Extends start new
+closed_kept at p q c = patched_kept at p (then_kept q (added_extends _ _ _ _ c.adds)) c.patches
+
+-- whether all was added or not
+pub either_kept : {X : Type 0} (r : Result X Refusal) (a b : Code) → OnOk r (Extends a b) → IfErr r (λ why. Extends a b) → Extends a b
+either_kept (Ok x) a b p q = p
+either_kept (Err why) a b p q = q

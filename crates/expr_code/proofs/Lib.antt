@@ -8,7 +8,7 @@ pub mod Locating
 pub mod Paths
 pub mod Growing
 pub mod Flowing
-mod Legal
+pub mod Legal
 mod Emitted
 mod ShortCircuits
 mod Chains

@@ -23,6 +23,11 @@ pub record Extends (old new : Code) : Type 0 where
   pub longer : here old ≤ here new
   pub deeper : old.deepest ≤ new.deepest
 
+-- the same instructions, and as deep
+pub record IsAsBefore (old new : Code) : Type 0 where
+  pub instructions : new.instructions.items ≡ old.instructions.items
+  pub deepest : new.deepest ≡ old.deepest
+
 -- nothing was added that finds more than so many words on the operand stack
 abbrev pub IsShallow : (old new : Code) → (words : ℕ) → Type 0
 IsShallow old new words = new.deepest ≤ max old.deepest words

@@ -6,7 +6,7 @@ ghost use Rattle.types.specs.Entities.{profile_value};
 ghost use Rattle.well_typed.specs.Agreeing.{parameter_subtype};
 ghost use Rattle.expr_code.specs.Emitting.{EmitsExpression, IsLegal};
 ghost use Rattle.expr_code.specs.Actuals.{AddsCall, ArePassedLegally, EmitsActual, EmitsActuals, IsPassedLegally};
-ghost use Rattle.expr_code.specs.Code.{here, IsShallow};
+ghost use Rattle.expr_code.specs.Code.{Extends, here, IsShallow};
 ghost use Rattle.expr_code.specs.Refusing.{is_called, IsRefused, RefusesActual, RefusesActuals, RefusesExpression, argument_peak, arguments_peak, peak};
 ghost use Rattle.expr_code.specs.Seeing.{NamesProfile, subprogram_of};
 ghost use Rattle.expr_code.specs.Widths.{width_of};
@@ -38,6 +38,7 @@ impl Code {
         requires legal { IsLegal visible.now.scope (Named first.now (MoreSelectors (Arguments (argument_trees arguments.now)) NoSelectors)) }
         ensures width { OnOk result (width_of visible.now.scope (Named first.now (MoreSelectors (Arguments (argument_trees arguments.now)) NoSelectors)) ≡ 1) }
         ensures refused { IfErr result (λ why. RefusesExpression visible.now self.old depth (Named first.now (MoreSelectors (Arguments (argument_trees arguments.now)) NoSelectors)) why) }
+        ensures kept { IfErr result (λ why. Extends self.old self.new) }
         ensures shallow { OnOk result (IsShallow self.old self.new (depth + peak visible.now.scope (Named first.now (MoreSelectors (Arguments (argument_trees arguments.now)) NoSelectors)))) }
         ensures emits { OnOk result (EmitsExpression visible.now self.old depth 1 (Named first.now (MoreSelectors (Arguments (argument_trees arguments.now)) NoSelectors)) self.new) }
     {
@@ -58,6 +59,7 @@ impl Code {
         requires legal { IsLegal visible.now.scope (Named first.now NoSelectors) }
         ensures width { OnOk result (width_of visible.now.scope (Named first.now NoSelectors) ≡ 1) }
         ensures refused { IfErr result (λ why. RefusesExpression visible.now self.old depth (Named first.now NoSelectors) why) }
+        ensures kept { IfErr result (λ why. Extends self.old self.new) }
         ensures shallow { OnOk result (IsShallow self.old self.new (depth + peak visible.now.scope (Named first.now NoSelectors))) }
         ensures emits { OnOk result (EmitsExpression visible.now self.old depth 1 (Named first.now NoSelectors) self.new) }
     {
@@ -74,6 +76,7 @@ impl Code {
         profile: &Profile,
     ) -> Result<(), Refusal>
         ensures refused { IfErr result (λ why. IsRefused (here self.old + 1) height (not (is_called visible.now.scope (subprogram_of visible.now first.now.name) (profile_value profile.now))) why) }
+        ensures kept { IfErr result (λ why. Extends self.old self.new) }
         ensures adds { OnOk result (AddsCall visible.now first.now.name (profile_value profile.now) self.old height self.new) }
     {
         let Some(number) = visible.subprogram(&first.name) else {
@@ -101,6 +104,7 @@ impl Code {
         requires ins { AreIn formals.now }
         requires legal { ArePassedLegally visible.now.scope formals.now (map argument_tree arguments.now) }
         ensures refused { IfErr result (λ why. RefusesActuals visible.now self.old depth formals.now (argument_trees arguments.now) why) }
+        ensures kept { IfErr result (λ why. Extends self.old self.new) }
         ensures shallow { OnOk result (IsShallow self.old self.new (depth + arguments_peak visible.now.scope (argument_trees arguments.now))) }
         ensures high { IfOk result (λ height. height ≡ depth + length arguments.now) }
         ensures emits { IfOk result (λ height. EmitsActuals visible.now self.old depth (map parameter_subtype (take (length arguments.now) formals.now)) (map argument_tree arguments.now) height self.new) }
@@ -131,6 +135,7 @@ impl Code {
         requires ins { formal.now.mode ≡ In }
         requires legal { IsPassedLegally visible.now.scope formal.now (argument_tree argument.now) }
         ensures refused { IfErr result (λ why. RefusesActual visible.now self.old depth formal.now.subtype (argument_tree argument.now) why) }
+        ensures kept { IfErr result (λ why. Extends self.old self.new) }
         ensures shallow { OnOk result (IsShallow self.old self.new (depth + argument_peak visible.now.scope (argument_tree argument.now))) }
         ensures emits { OnOk result (EmitsActual visible.now self.old depth formal.now.subtype (argument_tree argument.now) self.new) }
     {

@@ -5,7 +5,7 @@ ghost use Rattle.ada_tree.specs.ExpressionTree.{expr_tree};
 ghost use Rattle.types.specs.Layouts.{words_of};
 ghost use Rattle.types.specs.Scopes.{form_at};
 ghost use Rattle.expr_code.specs.Emitting.{EmitsChecked, EmitsFitting, is_composite, IsFit};
-ghost use Rattle.expr_code.specs.Code.{IsShallow};
+ghost use Rattle.expr_code.specs.Code.{Extends, IsShallow};
 ghost use Rattle.expr_code.specs.Refusing.{RefusesChecked, RefusesFitting, checked_peak, peak};
 ghost use Rattle.well_typed.specs.SoundScopes.{SoundScope};
 
@@ -33,6 +33,7 @@ impl Code {
         requires sound { SoundScope visible.now.scope }
         requires fit { IsFit visible.now.scope subtype (expr_tree e.now) }
         ensures refused { IfErr result (λ why. RefusesChecked visible.now self.old depth subtype (expr_tree e.now) why) }
+        ensures kept { IfErr result (λ why. Extends self.old self.new) }
         ensures shallow { OnOk result (IsShallow self.old self.new (depth + checked_peak (peak visible.now.scope (expr_tree e.now)))) }
         ensures emits { OnOk result (EmitsChecked visible.now self.old depth subtype (expr_tree e.now) self.new) }
     {

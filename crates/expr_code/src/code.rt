@@ -1,7 +1,7 @@
 //! The instructions of a program as they are put together.
 ghost use Rattle.std.specs.Prelude.{◌≡◌, ◌+◌, ◌<◌, ◌≤◌, [], false, max, IfErr, IfOk, OnOk};
 ghost use Rattle.base.specs.declared.limits.TheConstants.{FRAME_WORDS, INSTRUCTIONS};
-ghost use Rattle.expr_code.specs.Code.{Adds, here, Patches};
+ghost use Rattle.expr_code.specs.Code.{Adds, Extends, here, Patches};
 ghost use Rattle.expr_code.specs.Refusing.{IsRefused};
 
 use crate::refusal::Refusal;
@@ -62,6 +62,7 @@ impl Code {
         ensures shallow { OnOk result (depth ≤ FRAME_WORDS) }
         ensures deepest { OnOk result (self.new.deepest ≡ max self.old.deepest depth) }
         ensures refused { IfErr result (λ why. IsRefused (here self.old + 1) depth false why) }
+        ensures kept { IfErr result (λ why. Extends self.old self.new) }
     {
         if FRAME_WORDS < usize::from(depth) || INSTRUCTIONS <= self.instructions.len() {
             return Err(Refusal::Limit);

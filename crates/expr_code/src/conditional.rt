@@ -2,7 +2,7 @@
 ghost use Rattle.std.specs.Prelude.{◌≡◌, ◌+◌, ◌<◌, false, map, true, ℕ, IfErr, IfOk, OnOk, max};
 ghost use Rattle.types.specs.Places.{is_among};
 ghost use Rattle.expr_code.specs.Branches.{AddsBranches, AreLegalBranches, branch_of, Closes, Rejoins};
-ghost use Rattle.expr_code.specs.Code.{Adds, here, IsShallow};
+ghost use Rattle.expr_code.specs.Code.{Adds, Extends, here, IsShallow};
 ghost use Rattle.expr_code.specs.Refusing.{IsRefused, RefusesBranches, branches_peak};
 ghost use Rattle.expr_code.specs.Widths.{AreWide};
 ghost use Rattle.well_typed.specs.SoundScopes.{SoundScope};
@@ -18,6 +18,7 @@ impl Code {
     /// Adds a jump where the condition above `depth` words does not hold, and tells its place; where it leads is not known yet.
     pub fn test(&mut self, depth: u16) -> Result<usize, Refusal>
         ensures refused { IfErr result (λ why. IsRefused (here self.old + 1) (depth + 1) false why) }
+        ensures kept { IfErr result (λ why. Extends self.old self.new) }
         ensures place { IfOk result (λ place. place ≡ here self.old) }
         ensures adds { OnOk result (Adds self.old (depth + 1) (JumpIfZero 0) self.new) }
     {
@@ -36,6 +37,7 @@ impl Code {
     ) -> Result<(), Refusal>
         requires there { test < here self.old }
         ensures refused { IfErr result (λ why. IsRefused (here self.old + 1) height false why) }
+        ensures kept { IfErr result (λ why. Extends self.old self.new) }
         ensures closes { OnOk result (Closes self.old height test waiting.old.items waiting.new.items self.new) }
     {
         waiting.push(self.instructions.len())?;
@@ -59,6 +61,7 @@ impl Code {
         requires legal { AreLegalBranches visible.now.scope (map branch_of elsifs.now) }
         requires wide { AreWide visible.now.scope width (map branch_of elsifs.now) }
         ensures refused { IfErr result (λ why. RefusesBranches visible.now self.old depth width (map branch_of elsifs.now) why) }
+        ensures kept { IfErr result (λ why. Extends self.old self.new) }
         ensures shallow { OnOk result (IsShallow self.old self.new (depth + max width (branches_peak visible.now.scope (map branch_of elsifs.now)))) }
         ensures adds { OnOk result (AddsBranches visible.now self.old depth width (map branch_of elsifs.now) waiting.old.items waiting.new.items self.new) }
     {
@@ -75,6 +78,7 @@ impl Code {
     pub fn rejoin(&mut self, places: &[usize]) -> Result<(), Refusal>
         requires there { (k : ℕ) → is_among places.now k ≡ true → k < here self.old }
         ensures refused { IfErr result (λ why. IsRefused (here self.old) 0 false why) }
+        ensures kept { IfErr result (λ why. Extends self.old self.new) }
         ensures rejoins { OnOk result (Rejoins self.old places.now (here self.old) self.new) }
     {
         let end = self.end()?;

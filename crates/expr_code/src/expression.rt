@@ -3,7 +3,7 @@ ghost use Rattle.std.specs.Prelude.{◌≡◌, ◌+◌, ◌*◌, ◌≤◌, ◌�
 ghost use Rattle.ada_tree.specs.ExpressionTree.{chain_tree, expr_tree};
 ghost use Rattle.expr_code.specs.Emitting.{AreLegal, EmitsExpression, EmitsOperands, IsLegal};
 ghost use Rattle.expr_code.specs.OperatorCode.{binary_operation};
-ghost use Rattle.expr_code.specs.Code.{here, IsShallow};
+ghost use Rattle.expr_code.specs.Code.{Extends, here, IsAsBefore, IsShallow};
 ghost use Rattle.expr_code.specs.Refusing.{operands_size, RefusesExpression, RefusesOperands, operands_peak, peak};
 ghost use Rattle.expr_code.specs.Widths.{AreSingle, width_of};
 ghost use Rattle.well_typed.specs.SoundScopes.{SoundScope};
@@ -19,14 +19,19 @@ use kernel::laws::quiet_stays;
 use well_typed::laws::expressions_are_typed;
 
 impl Code {
-    /// Adds the code of an expression, where its names are visible, and tells how many words its value takes, as its own type says. It finds `depth` words on
-    /// the operand stack, and leaves the value above them. All visible names are to be known, as legal declarations make them.
+    /// Adds the code of an expression, and tells how many words its value takes, as its own type says. A refusal leaves what was added, behind what stood there.
     #[cycle(expression)]
-    pub fn expression(&mut self, visible: &Visible, depth: u16, e: &Expr) -> Result<u16, Refusal>
+    pub(crate) fn expression(
+        &mut self,
+        visible: &Visible,
+        depth: u16,
+        e: &Expr,
+    ) -> Result<u16, Refusal>
         requires sound { SoundScope visible.now.scope }
         requires legal { IsLegal visible.now.scope (expr_tree e.now) }
         ensures width { IfOk result (λ width. width ≡ width_of visible.now.scope (expr_tree e.now)) }
         ensures refused { IfErr result (λ why. RefusesExpression visible.now self.old depth (expr_tree e.now) why) }
+        ensures kept { IfErr result (λ why. Extends self.old self.new) }
         ensures shallow { OnOk result (IsShallow self.old self.new (depth + peak visible.now.scope (expr_tree e.now))) }
         ensures emits { IfOk result (λ width. EmitsExpression visible.now self.old depth width (expr_tree e.now) self.new) }
     {
@@ -71,7 +76,11 @@ impl Code {
         }
     }
 
-    /// Adds that of an expression whose value takes so many words, as is known of its type.
+    /// Adds the code of an expression, where its names are visible, whose value takes so many words, as is known of its type. It finds `depth` words on the
+    /// operand stack, and leaves the value above them. All visible names are to be known, as legal declarations make them.
+    ///
+    /// # Errors
+    /// Where memory was refused, a limit would be passed, or the expression has what code isn't made of. The code is as before then.
     #[cycle(expression)]
     pub fn of_width(
         &mut self,
@@ -84,11 +93,20 @@ impl Code {
         requires legal { IsLegal visible.now.scope (expr_tree e.now) }
         requires wide { width_of visible.now.scope (expr_tree e.now) ≡ width }
         ensures refused { IfErr result (λ why. RefusesExpression visible.now self.old depth (expr_tree e.now) why) }
+        ensures restored { IfErr result (λ why. IsAsBefore self.old self.new) }
         ensures shallow { OnOk result (IsShallow self.old self.new (depth + peak visible.now.scope (expr_tree e.now))) }
         ensures emits { OnOk result (EmitsExpression visible.now self.old depth width (expr_tree e.now) self.new) }
     {
-        self.expression(visible, depth, e)?;
-        Ok(())
+        let start = self.instructions.len();
+        let deepest = self.deepest;
+        match self.expression(visible, depth, e) {
+            Ok(_) => Ok(()),
+            Err(why) => {
+                self.instructions.truncate(start);
+                self.deepest = deepest;
+                Err(why)
+            }
+        }
     }
 
     // Adds the code of an operator and the operand behind it, which finds its left operand's value above `depth` words.
@@ -98,6 +116,7 @@ impl Code {
         requires legal { IsLegal visible.now.scope (expr_tree operand.now.value) }
         requires single { width_of visible.now.scope (expr_tree operand.now.value) ≡ 1 }
         ensures refused { IfErr result (λ why. RefusesOperands visible.now self.old depth (operand.now ∷ []) why) }
+        ensures extends { Extends self.old self.new }
         ensures shallow { OnOk result (IsShallow self.old self.new (depth + operands_peak visible.now.scope (operand.now ∷ []))) }
         ensures sized { OnOk result (here self.new ≤ here self.old + 20 * operands_size (operand.now ∷ [])) }
         ensures emits { OnOk result (EmitsOperands visible.now self.old depth (operand.now ∷ []) self.new) }
@@ -126,6 +145,7 @@ impl Code {
         requires single { width_of visible.now.scope (expr_tree operand.now.value) ≡ 1 }
         requires short { binary_operation operand.now.operator ≡ None }
         ensures refused { IfErr result (λ why. RefusesOperands visible.now self.old depth (operand.now ∷ []) why) }
+        ensures extends { Extends self.old self.new }
         ensures shallow { OnOk result (IsShallow self.old self.new (depth + operands_peak visible.now.scope (operand.now ∷ []))) }
         ensures sized { OnOk result (here self.new ≤ here self.old + 20 * operands_size (operand.now ∷ [])) }
         ensures emits { OnOk result (EmitsOperands visible.now self.old depth (operand.now ∷ []) self.new) }
@@ -153,6 +173,7 @@ impl Code {
         requires legal { AreLegal visible.now.scope all.now }
         requires single { AreSingle visible.now.scope all.now }
         ensures refused { IfErr result (λ why. RefusesOperands visible.now self.old depth all.now why) }
+        ensures extends { Extends self.old self.new }
         ensures shallow { OnOk result (IsShallow self.old self.new (depth + operands_peak visible.now.scope all.now)) }
         ensures sized { OnOk result (here self.new ≤ here self.old + 20 * operands_size all.now) }
         ensures emits { OnOk result (EmitsOperands visible.now self.old depth all.now self.new) }

@@ -9,7 +9,7 @@ ghost use Rattle.types.specs.Evaluating.{fixed_value};
 ghost use Rattle.types.specs.Scopes.{number_of};
 ghost use Rattle.types.specs.Standings.{standing_of, stands_first};
 ghost use Rattle.types.specs.declared.standing.Standing.TheVariants as standing;
-ghost use Rattle.expr_code.specs.Code.{Adds, here, IsShallow};
+ghost use Rattle.expr_code.specs.Code.{Adds, Extends, here, IsShallow};
 ghost use Rattle.expr_code.specs.Emitting.{EmitsExpression, IsLegal};
 ghost use Rattle.expr_code.specs.Naming.{load_operation, scalar_word};
 ghost use Rattle.expr_code.specs.Seeing.{slot_of};
@@ -74,6 +74,7 @@ impl Code {
         requires legal { IsLegal visible.now.scope (Named (name_tree name.now).first (name_tree name.now).selectors) }
         ensures width { IfOk result (λ width. width ≡ width_of visible.now.scope (Named (name_tree name.now).first (name_tree name.now).selectors)) }
         ensures refused { IfErr result (λ why. RefusesExpression visible.now self.old depth (Named (name_tree name.now).first (name_tree name.now).selectors) why) }
+        ensures kept { IfErr result (λ why. Extends self.old self.new) }
         ensures shallow { OnOk result (IsShallow self.old self.new (depth + peak visible.now.scope (Named (name_tree name.now).first (name_tree name.now).selectors))) }
         ensures emits { IfOk result (λ width. EmitsExpression visible.now self.old depth width (Named (name_tree name.now).first (name_tree name.now).selectors) self.new) }
     {
@@ -105,6 +106,7 @@ impl Code {
         requires parts { bare_name (Named first.now (selector_trees selectors.now)) ≡ None }
         ensures width { IfOk result (λ width. width ≡ width_of visible.now.scope (Named first.now (selector_trees selectors.now))) }
         ensures refused { IfErr result (λ why. RefusesExpression visible.now self.old depth (Named first.now (selector_trees selectors.now)) why) }
+        ensures kept { IfErr result (λ why. Extends self.old self.new) }
         ensures shallow { OnOk result (IsShallow self.old self.new (depth + peak visible.now.scope (Named first.now (selector_trees selectors.now)))) }
         ensures emits { IfOk result (λ width. EmitsExpression visible.now self.old depth width (Named first.now (selector_trees selectors.now)) self.new) }
     {
@@ -135,6 +137,7 @@ impl Code {
         requires valueless { fixed_value (standing_of visible.now.scope first.now (selector_trees selectors.now)) ≡ None }
         ensures width { IfOk result (λ width. width ≡ width_of visible.now.scope (Named first.now (selector_trees selectors.now))) }
         ensures refused { IfErr result (λ why. RefusesExpression visible.now self.old depth (Named first.now (selector_trees selectors.now)) why) }
+        ensures kept { IfErr result (λ why. Extends self.old self.new) }
         ensures shallow { OnOk result (IsShallow self.old self.new (depth + peak visible.now.scope (Named first.now (selector_trees selectors.now)))) }
         ensures emits { IfOk result (λ width. EmitsExpression visible.now self.old depth width (Named first.now (selector_trees selectors.now)) self.new) }
     {
@@ -167,6 +170,7 @@ impl Code {
         requires parts { bare_name (Named first.now (selector_trees selectors.now)) ≡ None }
         ensures width { IfOk result (λ width. width ≡ width_of visible.now.scope (Named first.now (selector_trees selectors.now))) }
         ensures refused { IfErr result (λ why. RefusesExpression visible.now self.old depth (Named first.now (selector_trees selectors.now)) why) }
+        ensures kept { IfErr result (λ why. Extends self.old self.new) }
         ensures shallow { OnOk result (IsShallow self.old self.new (depth + peak visible.now.scope (Named first.now (selector_trees selectors.now)))) }
         ensures emits { IfOk result (λ width. EmitsExpression visible.now self.old depth width (Named first.now (selector_trees selectors.now)) self.new) }
     {
@@ -201,6 +205,7 @@ impl Code {
         requires legal { IsLegal visible.now.scope (Named first.now (MoreSelectors (Arguments (argument_trees arguments.now)) NoSelectors)) }
         ensures width { OnOk result (width_of visible.now.scope (Named first.now (MoreSelectors (Arguments (argument_trees arguments.now)) NoSelectors)) ≡ 1) }
         ensures refused { IfErr result (λ why. RefusesExpression visible.now self.old depth (Named first.now (MoreSelectors (Arguments (argument_trees arguments.now)) NoSelectors)) why) }
+        ensures kept { IfErr result (λ why. Extends self.old self.new) }
         ensures shallow { OnOk result (IsShallow self.old self.new (depth + peak visible.now.scope (Named first.now (MoreSelectors (Arguments (argument_trees arguments.now)) NoSelectors)))) }
         ensures emits { OnOk result (EmitsExpression visible.now self.old depth 1 (Named first.now (MoreSelectors (Arguments (argument_trees arguments.now)) NoSelectors)) self.new) }
     {
@@ -221,6 +226,7 @@ impl Code {
         requires valueless { fixed_value (standing_of visible.now.scope name.now NoSelectors) ≡ None }
         ensures width { IfOk result (λ width. width ≡ width_of visible.now.scope (Named name.now NoSelectors)) }
         ensures refused { IfErr result (λ why. RefusesExpression visible.now self.old depth (Named name.now NoSelectors) why) }
+        ensures kept { IfErr result (λ why. Extends self.old self.new) }
         ensures shallow { OnOk result (IsShallow self.old self.new (depth + peak visible.now.scope (Named name.now NoSelectors))) }
         ensures emits { IfOk result (λ width. EmitsExpression visible.now self.old depth width (Named name.now NoSelectors) self.new) }
     {
@@ -255,6 +261,7 @@ impl Code {
         requires there { slot_of visible.now name.now.name ≡ Some slot }
         ensures width { IfOk result (λ width. width ≡ width_of visible.now.scope (Named name.now NoSelectors)) }
         ensures refused { IfErr result (λ why. RefusesExpression visible.now self.old depth (Named name.now NoSelectors) why) }
+        ensures kept { IfErr result (λ why. Extends self.old self.new) }
         ensures shallow { OnOk result (IsShallow self.old self.new (depth + peak visible.now.scope (Named name.now NoSelectors))) }
         ensures emits { IfOk result (λ width. EmitsExpression visible.now self.old depth width (Named name.now NoSelectors) self.new) }
     {
@@ -278,6 +285,7 @@ impl Code {
         words: u16,
     ) -> Result<(), Refusal>
         ensures refused { IfErr result (λ why. IsRefusedBeside (is_block words ≡ false) (here self.old + 1) height false why) }
+        ensures kept { IfErr result (λ why. Extends self.old self.new) }
         ensures adds { OnOk result (Adds self.old height (LoadBlock region words) self.new) }
         ensures block { OnOk result (is_block words ≡ true) }
     {

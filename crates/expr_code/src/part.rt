@@ -9,7 +9,7 @@ ghost use Rattle.types.specs.Scopes.{form_at, number_of};
 ghost use Rattle.types.specs.Standings.{standing_of, stands_first};
 ghost use Rattle.expr_code.specs.Emitting.{EmitsExpression, IsLegal};
 ghost use Rattle.expr_code.specs.Going.{AddsOffset, EmitsAddress, EmitsPath, EndsAt, IsLegalPart, IsLegalPath, Selects, SelectsAll};
-ghost use Rattle.expr_code.specs.Code.{here, IsShallow};
+ghost use Rattle.expr_code.specs.Code.{Extends, here, IsShallow};
 ghost use Rattle.expr_code.specs.Refusing.{IsRefused, KeepsFit, RefusesAddress, RefusesExpression, RefusesPath, peak, selectors_peak};
 ghost use Rattle.expr_code.specs.Seeing.{slot_of};
 ghost use Rattle.expr_code.specs.Widths.{width_of};
@@ -68,6 +68,7 @@ impl Code {
         requires parts { bare_name (Named first.now (selector_trees selectors.now)) ≡ None }
         ensures width { IfOk result (λ width. width ≡ width_of visible.now.scope (Named first.now (selector_trees selectors.now))) }
         ensures refused { IfErr result (λ why. RefusesExpression visible.now self.old depth (Named first.now (selector_trees selectors.now)) why) }
+        ensures kept { IfErr result (λ why. Extends self.old self.new) }
         ensures shallow { OnOk result (IsShallow self.old self.new (depth + peak visible.now.scope (Named first.now (selector_trees selectors.now)))) }
         ensures emits { IfOk result (λ width. EmitsExpression visible.now self.old depth width (Named first.now (selector_trees selectors.now)) self.new) }
     {
@@ -94,6 +95,7 @@ impl Code {
         requires sound { SoundScope visible.now.scope }
         requires legal { IsLegalPath visible.now.scope subtype (selector_trees selectors.now) }
         ensures refused { IfErr result (λ why. RefusesPath visible.now self.old depth subtype (selector_trees selectors.now) why) }
+        ensures kept { IfErr result (λ why. Extends self.old self.new) }
         ensures shallow { OnOk result (IsShallow self.old self.new (depth + selectors_peak visible.now.scope 1 (selector_trees selectors.now))) }
         ensures fit { IfOk result (λ last. KeepsFit visible.now.scope subtype last) }
         ensures stands { IfOk result (λ last. SelectsAll visible.now.scope subtype (map selector_tree selectors.now) last) }
@@ -118,6 +120,7 @@ impl Code {
         requires sound { SoundScope visible.now.scope }
         requires legal { IsLegalPart visible.now.scope subtype (selector_tree selector.now) }
         ensures refused { IfErr result (λ why. RefusesPath visible.now self.old depth subtype (MoreSelectors (selector_tree selector.now) NoSelectors) why) }
+        ensures kept { IfErr result (λ why. Extends self.old self.new) }
         ensures shallow { OnOk result (IsShallow self.old self.new (depth + selectors_peak visible.now.scope 1 (MoreSelectors (selector_tree selector.now) NoSelectors))) }
         ensures stands { IfOk result (λ last. Selects visible.now.scope subtype (selector_tree selector.now) last) }
         ensures emits { IfOk result (λ last. EmitsPath visible.now self.old depth subtype (selector_tree selector.now ∷ []) last self.new) }
@@ -141,6 +144,7 @@ impl Code {
         requires sound { SoundScope visible.now.scope }
         requires legal { IsLegalPart visible.now.scope subtype (Component name.now) }
         ensures refused { IfErr result (λ why. RefusesPath visible.now self.old depth subtype (MoreSelectors (Component name.now) NoSelectors) why) }
+        ensures kept { IfErr result (λ why. Extends self.old self.new) }
         ensures shallow { OnOk result (IsShallow self.old self.new (depth + selectors_peak visible.now.scope 1 (MoreSelectors (Component name.now) NoSelectors))) }
         ensures stands { IfOk result (λ last. Selects visible.now.scope subtype (Component name.now) last) }
         ensures emits { IfOk result (λ last. EmitsPath visible.now self.old depth subtype (Component name.now ∷ []) last self.new) }
@@ -178,6 +182,7 @@ impl Code {
         requires sound { SoundScope visible.now.scope }
         requires legal { IsLegalPart visible.now.scope subtype (Arguments (argument_trees arguments.now)) }
         ensures refused { IfErr result (λ why. RefusesPath visible.now self.old depth subtype (MoreSelectors (Arguments (argument_trees arguments.now)) NoSelectors) why) }
+        ensures kept { IfErr result (λ why. Extends self.old self.new) }
         ensures shallow { OnOk result (IsShallow self.old self.new (depth + selectors_peak visible.now.scope 1 (MoreSelectors (Arguments (argument_trees arguments.now)) NoSelectors))) }
         ensures stands { IfOk result (λ last. Selects visible.now.scope subtype (Arguments (argument_trees arguments.now)) last) }
         ensures emits { IfOk result (λ last. EmitsPath visible.now self.old depth subtype (Arguments (argument_trees arguments.now) ∷ []) last self.new) }
@@ -207,6 +212,7 @@ impl Code {
     // Adds what makes of an address and a checked index above it the address of the component, given the first index and the words of a component.
     fn offset(&mut self, depth: u16, first: i64, words: u16) -> Result<(), Refusal>
         ensures refused { IfErr result (λ why. IsRefused (here self.old + 5) (depth + 1) false why) }
+        ensures kept { IfErr result (λ why. Extends self.old self.new) }
         ensures adds { OnOk result (AddsOffset self.old depth first words self.new) }
     {
         let two = above(depth)?;

@@ -1,3 +1,5 @@
+mod Forms
+mod Kept
 mod Refused
 mod Stack
 use Rattle.std.proofs.Common.{◌+◌, arith, length, ltb-true, map, take, rules, refl, sym, ap, ◌∙◌, ◌≤◌, ◌∷◌, [], subst, ◌≡◌}
@@ -5,82 +7,47 @@ use Rattle.std.specs.Prelude.{IfErr, IfOk, OnOk}
 use Rattle.std.proofs.lemmas.Result.{IfErr-weaker, IfOk-weaker, on_ok_weaker}
 use Rattle.ada_tree.specs.declared.expression.Expr as expressions
 use Rattle.ada_tree.specs.ExpressionTree.{argument_tree, argument_trees, Arguments, expr_tree, MoreSelectors, Named, name_tree, NoSelectors, selector_tree, selector_trees}
-use Rattle.expr_code.specs.Branches.{AddsBranches, AreLegalBranches, branch_of}
-use Rattle.expr_code.specs.Emitting.{AreLegal, EmitsExpression, IsLegal}
+use Rattle.expr_code.specs.Emitting.{EmitsExpression, IsLegal}
 use Rattle.expr_code.specs.Going.{EmitsPath, IsLegalPart, IsLegalPath}
-use Rattle.expr_code.proofs.Branching.{adds_none, all_branches, branch_closed, branches_next, conditional_legal, whole_at}
+use Rattle.expr_code.proofs.Branching.{adds_none, all_branches}
 use Rattle.expr_code.proofs.Checking.{checked_emits, fit_legal, unchecked_emits}
-use Rattle.expr_code.proofs.Chains.{all_emitted, and_then_at, chain_emits, first_legal, legal_at, more_legal, none_emitted, one_emitted, operand_at, or_else_at, second_legal}
+use Rattle.expr_code.proofs.Chains.{all_emitted, and_then_at, none_emitted, operand_at, or_else_at}
 use Rattle.expr_code.proofs.Emitted.{number_emits, parenthesized_emits, sign_emits, unary_at}
 use Rattle.types.specs.Evaluating.{fixed_value}
 use Rattle.expr_code.proofs.Conversions.{conversion_emits}
 use Rattle.expr_code.proofs.Names.{fixed_emits}
 use Rattle.expr_code.proofs.Going.{block_words, drop_at, element_goes, first_part, further_path, goes_next, one_argument, part_emits, uncapped_words, whole_path}
-use Rattle.expr_code.proofs.Legal.{legal_branch, legal_operand}
 use Rattle.well_typed.specs.Agreeing.{parameter_subtype}
 use Rattle.expr_code.specs.Actuals.{ArePassedLegally, EmitsActuals}
 use Rattle.expr_code.proofs.Actuals.{actuals_next, all_actuals, all_legal, as_many, call_emits, got, mapped, sizes_are}
 use Rattle.expr_code.proofs.CallsRefused.{actual_refused, call_ins, call_refused, counted_high, word_passed}
 use Rattle.expr_code.proofs.FitShapes.{selected_keeps}
+use Rattle.expr_code.proofs.Growing.{cut_back, extends_self}
 use Rattle.expr_code.proofs.LegalNames.{in_at}
 use Rattle.well_typed.specs.SoundScopes.{AreIn}
-use Rattle.expr_code.specs.Widths.{AreSingle, AreWide, width_of}
+use Rattle.expr_code.specs.Widths.{width_of}
 use Rattle.expr_code.specs.Code.{IsShallow}
 use Rattle.expr_code.specs.Refusing.{peak, RefusesExpression}
-use Rattle.expr_code.proofs.Refusals.{operand_refused, second_word_refused, sized_all, sized_next}
-use Rattle.expr_code.proofs.Shallow.{among_shallow, bare_tree, branch_shallow, closed_shallow, passed_shallow, path_shallow, shallow_self}
+use Rattle.expr_code.proofs.Refusals.{operand_refused, second_word_refused, sized_all}
+use Rattle.expr_code.proofs.Shallow.{bare_tree, passed_shallow, path_shallow, shallow_self}
 use Rattle.expr_code.proofs.Selecting.{one_selector, selects_next, whole_selects}
-use Rattle.expr_code.proofs.Widths.{call_width, chain_words, conditional_words, conversion_width, booleans_fit_width, fixed_width, integers_fit_width, part_width, single_at, unary_width, wide_at}
+use Rattle.expr_code.proofs.Widths.{call_width, chain_words, conversion_width, booleans_fit_width, fixed_width, integers_fit_width, part_width, unary_width}
 use Rattle.expr_code.proofs.code.Code.+expression.Goals as goal
+use Rattle.expr_code.proofs.code.Code.+expression.Answers.Forms as forms
+use Rattle.expr_code.proofs.code.Code.+expression.Answers.Kept as kept
 use Rattle.expr_code.proofs.code.Code.+expression.Answers.Refused as refused
 use Rattle.expr_code.proofs.code.Code.+expression.Answers.Stack as stack
 
 -- ---- chains of operators
 
 pub expression-of_width-requires-in-Chain : goal.expression-of_width-requires-in-Chain
-expression-of_width-requires-in-Chain t c =
-    let tree = ap expr_tree c.in-Chain.is ∙ c.chains_by_parts.ensures c.in-Chain.first c.in-Chain.second c.in-Chain.more in
-    let words = chain_words c.args.visible.now.scope c.requires.sound _ _ c.in-Chain.second.value c.in-Chain.more.items tree c.requires.legal in (
-      search (rules, expressions.the_lemmas),
-      (
-        c.requires.sound,
-        (
-          subst (λ e. IsLegal c.args.visible.now.scope (expr_tree e)) (sym c.deref-in-Chain.ensures)
-              (first_legal c.args.visible.now _ _ c.in-Chain.second.value c.in-Chain.more.items tree c.requires.legal),
-          subst (λ e. width_of c.args.visible.now.scope (expr_tree e) ≡ 1) (sym c.deref-in-Chain.ensures) words.first,
-        ),
-      ),
-    )
+expression-of_width-requires-in-Chain = forms.expression-of_width-requires-in-Chain
 
 pub expression-operand-requires : goal.expression-operand-requires
-expression-operand-requires t c =
-    let tree = ap expr_tree c.in-Chain.is ∙ c.chains_by_parts.ensures c.in-Chain.first c.in-Chain.second c.in-Chain.more in
-    let words = chain_words c.args.visible.now.scope c.requires.sound _ _ c.in-Chain.second.value c.in-Chain.more.items tree c.requires.legal in (
-      search (rules, expressions.the_lemmas),
-      (
-        c.requires.sound,
-        (
-          subst (λ o. IsLegal c.args.visible.now.scope (expr_tree o.value)) (sym c.deref-in-Chain-2.ensures)
-              (second_legal c.args.visible.now _ _ c.in-Chain.second.value c.in-Chain.more.items tree c.requires.legal),
-          subst (λ o. width_of c.args.visible.now.scope (expr_tree o.value) ≡ 1) (sym c.deref-in-Chain-2.ensures) words.others.0,
-        ),
-      ),
-    )
+expression-operand-requires = forms.expression-operand-requires
 
 pub expression-operands-requires : goal.expression-operands-requires
-expression-operands-requires t c =
-    let tree = ap expr_tree c.in-Chain.is ∙ c.chains_by_parts.ensures c.in-Chain.first c.in-Chain.second c.in-Chain.more in
-    let words = chain_words c.args.visible.now.scope c.requires.sound _ _ c.in-Chain.second.value c.in-Chain.more.items tree c.requires.legal in (
-      search (rules, expressions.the_lemmas),
-      (
-        c.requires.sound,
-        (
-          subst (λ all. AreLegal c.args.visible.now.scope all) (sym c.deref-in-Chain-3.ensures.value)
-              (more_legal c.args.visible.now _ _ c.in-Chain.second.value c.in-Chain.more.items tree c.requires.legal),
-          subst (λ all. AreSingle c.args.visible.now.scope all) (sym c.deref-in-Chain-3.ensures.value) words.others.1,
-        ),
-      ),
-    )
+expression-operands-requires = forms.expression-operands-requires
 
 pub expression-returns-in_ok-operands-in-Chain-clause-width : goal.expression-returns-in_ok-operands-in-Chain-clause-width
 expression-returns-in_ok-operands-in-Chain-clause-width t c =
@@ -89,36 +56,17 @@ expression-returns-in_ok-operands-in-Chain-clause-width t c =
     sym (ap (width_of c.args.visible.now.scope) tree ∙ words.whole)
 
 pub expression-returns-in_ok-operands-in-Chain-clause-emits : goal.expression-returns-in_ok-operands-in-Chain-clause-emits
-expression-returns-in_ok-operands-in-Chain-clause-emits t c =
-    let tree = ap expr_tree c.in-Chain.is ∙ c.chains_by_parts.ensures c.in-Chain.first c.in-Chain.second c.in-Chain.more in
-    chain_emits c.args.visible.now _ _ c.in-Chain.second.value c.in-Chain.more.items tree c.requires.legal _ _ _ _ c.args.depth
-    (rw c.deref-in-Chain.ensures at c.in_ok-of_width-in-Chain.ensures.emits)
-    (rw c.deref-in-Chain-2.ensures at c.in_ok-operand-in-Chain.ensures.emits)
-    (rw c.deref-in-Chain-3.ensures.value at c.in_ok-operands-in-Chain.ensures.emits)
+expression-returns-in_ok-operands-in-Chain-clause-emits = forms.expression-returns-in_ok-operands-in-Chain-clause-emits
 
 pub operands-operand-requires : goal.operands-operand-requires
-operands-operand-requires t c = (
-  search (rules, expressions.the_lemmas),
-  (
-    c.requires.sound,
-    (
-      legal_at c.args.visible.now.scope c.args.all.now _ _ c.loop-operand-test.true c.operand-item.is c.requires.legal,
-      single_at c.args.visible.now.scope c.args.all.now _ _ c.loop-operand-test.true c.operand-item.is c.requires.single,
-    ),
-  ),
-)
+operands-operand-requires = forms.operands-operand-requires
 
 pub operands-loop-operand-preserved : goal.operands-loop-operand-preserved
-operands-loop-operand-preserved t c = (
-  one_emitted c.args.visible.now _ _ _ _ _ _ _ c.loop-operand-test.true c.operand-item.is c.loop-operand.invariant.0 c.in_ok-operand.ensures.emits,
-  sized_next c.args.visible.now c.args.self.now c.loop-operand.self c.operand.new.self c.args.all.now _ c.operand-item.result c.loop-operand-test.true
-      c.operand-item.is c.loop-operand.invariant.1 c.in_ok-operand.ensures.sized,
-  among_shallow c.args.visible.now c.args.depth c.args.all.now _ c.operand-item.result c.args.self.now c.loop-operand.self c.operand.new.self
-      c.loop-operand-test.true c.operand-item.is c.loop-operand.invariant.2 c.in_ok-operand.ensures.shallow,
-)
+operands-loop-operand-preserved = forms.operands-loop-operand-preserved
 
 pub operands-loop-operand-init : goal.operands-loop-operand-init
-operands-loop-operand-init t c = (none_emitted c.args.visible.now c.args.self.now c.args.depth, omega arith, shallow_self c.args.self.now _)
+operands-loop-operand-init t c =
+    (none_emitted c.args.visible.now c.args.self.now c.args.depth, omega arith, shallow_self c.args.self.now _, extends_self c.args.self.now)
 
 pub operands-returns-clause-shallow : goal.operands-returns-clause-shallow
 operands-returns-clause-shallow t c = c.loop-operand.invariant.2
@@ -247,159 +195,47 @@ expression-returns-in-None-clause-emits t c =
     (rw c.deref-in-Unary.ensures at c.in_ok-of_width-in-Unary.ensures.emits))
 
 -- the words that were told are those that were wanted
-pub of_width-returns-clause-emits : goal.of_width-returns-clause-emits
-of_width-returns-clause-emits t c =
+pub of_width-returns-in-Ok-clause-emits : goal.of_width-returns-in-Ok-clause-emits
+of_width-returns-in-Ok-clause-emits t c =
     subst (λ n. EmitsExpression c.args.visible.now c.args.self.now c.args.depth n (expr_tree c.args.e.now) c.expression.new.self)
-    (c.in_ok-expression.ensures.width ∙ c.requires.wide) c.in_ok-expression.ensures.emits
+    (c.in-Ok.ensures.width ∙ c.requires.wide) c.in-Ok.ensures.emits
+
+pub of_width-returns-in-Err-clause-restored : goal.of_width-returns-in-Err-clause-restored
+of_width-returns-in-Err-clause-restored t c =
+    let cut = cut_back c.args.self.now c.expression.new.self c.in-Err.ensures.kept in
+    record { instructions = search (rules, cut); deepest = search rules }
 
 pub expression-of_width-requires : goal.expression-of_width-requires
-expression-of_width-requires t c =
-    let s = c.args.visible.now.scope in
-    let legal = rw c.in-Unary.is at c.requires.legal in (
-      search (rules, expressions.the_lemmas),
-      (
-        c.requires.sound,
-        (
-          subst (λ e. IsLegal s (expr_tree e)) (sym c.deref-in-Unary.ensures) (legal_operand s _ _ _ legal),
-          subst (λ e. width_of s (expr_tree e) ≡ 1) (sym c.deref-in-Unary.ensures) (unary_width s c.requires.sound _ _ _ legal).left,
-        ),
-      ),
-    )
+expression-of_width-requires = forms.expression-of_width-requires
 
 -- ---- if expressions
 
 pub expression-of_width-requires-in-Conditional : goal.expression-of_width-requires-in-Conditional
-expression-of_width-requires-in-Conditional t c =
-    let s = c.args.visible.now.scope in
-    let tree = ap expr_tree c.in-Conditional.is ∙ c.conditional_by_parts.ensures c.in-Conditional.field-0 c.in-Conditional.condition c.in-Conditional.value
-    c.in-Conditional.elsifs c.in-Conditional.last in
-    let parts = conditional_legal s _ c.in-Conditional.field-0 _ _ c.in-Conditional.elsifs.items _ tree c.requires.legal in
-    let words = conditional_words s c.requires.sound _ c.in-Conditional.field-0 _ _ c.in-Conditional.elsifs.items _ tree c.requires.legal in (
-      search (rules, expressions.the_lemmas),
-      (
-        c.requires.sound,
-        (
-          subst (λ e. IsLegal s (expr_tree e)) (sym c.deref-in-Conditional.ensures) parts.condition,
-          subst (λ e. width_of s (expr_tree e) ≡ 1)
-              (sym c.deref-in-Conditional.ensures) words.condition,
-        ),
-      ),
-    )
+expression-of_width-requires-in-Conditional = forms.expression-of_width-requires-in-Conditional
 
 pub expression-expression-requires-in-Conditional : goal.expression-expression-requires-in-Conditional
-expression-expression-requires-in-Conditional t c =
-    let s = c.args.visible.now.scope in
-    let tree = ap expr_tree c.in-Conditional.is ∙ c.conditional_by_parts.ensures c.in-Conditional.field-0 c.in-Conditional.condition c.in-Conditional.value
-    c.in-Conditional.elsifs c.in-Conditional.last in
-    let parts = conditional_legal s _ c.in-Conditional.field-0 _ _ c.in-Conditional.elsifs.items _ tree c.requires.legal in
-    (search (rules, expressions.the_lemmas), (c.requires.sound, subst (λ e. IsLegal s (expr_tree e)) (sym c.deref-in-Conditional-2.ensures) parts.value))
+expression-expression-requires-in-Conditional = forms.expression-expression-requires-in-Conditional
 
 pub expression-elsifs-requires : goal.expression-elsifs-requires
-expression-elsifs-requires t c =
-    let s = c.args.visible.now.scope in
-    let tree = ap expr_tree c.in-Conditional.is ∙ c.conditional_by_parts.ensures c.in-Conditional.field-0 c.in-Conditional.condition c.in-Conditional.value
-    c.in-Conditional.elsifs c.in-Conditional.last in
-    let parts = conditional_legal s _ c.in-Conditional.field-0 _ _ c.in-Conditional.elsifs.items _ tree c.requires.legal in
-    let words = conditional_words s c.requires.sound _ c.in-Conditional.field-0 _ _ c.in-Conditional.elsifs.items _ tree c.requires.legal in
-    let told = c.in_ok-width-in-Conditional.ensures.width ∙ ap (λ e. width_of s (expr_tree e)) c.deref-in-Conditional-2.ensures in (
-      search (rules, expressions.the_lemmas),
-      (
-        c.requires.sound,
-        (
-          subst (λ all. AreLegalBranches s (map branch_of all)) (sym c.deref-in-Conditional-3.ensures.value) parts.elsifs,
-          subst (λ all. AreWide s c.in_ok-width-in-Conditional.width (map branch_of all)) (sym c.deref-in-Conditional-3.ensures.value)
-              (subst (λ n. AreWide s n (map branch_of c.in-Conditional.elsifs.items)) (sym told) words.elsifs),
-        ),
-      ),
-    )
+expression-elsifs-requires = forms.expression-elsifs-requires
 
 pub expression-of_width-requires-in-Conditional-2 : goal.expression-of_width-requires-in-Conditional-2
-expression-of_width-requires-in-Conditional-2 t c =
-    let s = c.args.visible.now.scope in
-    let tree = ap expr_tree c.in-Conditional.is ∙ c.conditional_by_parts.ensures c.in-Conditional.field-0 c.in-Conditional.condition c.in-Conditional.value
-    c.in-Conditional.elsifs c.in-Conditional.last in
-    let parts = conditional_legal s _ c.in-Conditional.field-0 _ _ c.in-Conditional.elsifs.items _ tree c.requires.legal in
-    let words = conditional_words s c.requires.sound _ c.in-Conditional.field-0 _ _ c.in-Conditional.elsifs.items _ tree c.requires.legal in
-    let told = c.in_ok-width-in-Conditional.ensures.width ∙ ap (λ e. width_of s (expr_tree e)) c.deref-in-Conditional-2.ensures in (
-      search (rules, expressions.the_lemmas),
-      (
-        c.requires.sound,
-        (
-          subst (λ e. IsLegal s (expr_tree e)) (sym c.deref-in-Conditional-4.ensures) parts.last,
-          subst (λ e. width_of s (expr_tree e) ≡ c.in_ok-width-in-Conditional.width) (sym c.deref-in-Conditional-4.ensures) (words.last ∙ sym told),
-        ),
-      ),
-    )
+expression-of_width-requires-in-Conditional-2 = forms.expression-of_width-requires-in-Conditional-2
 
 pub expression-returns-in_ok-rejoin-in-Conditional-clause-width : goal.expression-returns-in_ok-rejoin-in-Conditional-clause-width
-expression-returns-in_ok-rejoin-in-Conditional-clause-width t c =
-    let v = c.args.visible.now in
-    let tree = ap expr_tree c.in-Conditional.is ∙ c.conditional_by_parts.ensures c.in-Conditional.field-0 c.in-Conditional.condition c.in-Conditional.value
-    c.in-Conditional.elsifs c.in-Conditional.last in
-    let words = conditional_words v.scope c.requires.sound _ c.in-Conditional.field-0 _ _ c.in-Conditional.elsifs.items _ tree c.requires.legal in
-    let told = c.in_ok-width-in-Conditional.ensures.width ∙ ap (λ e. width_of v.scope (expr_tree e)) c.deref-in-Conditional-2.ensures in
-    told ∙ words.whole
+expression-returns-in_ok-rejoin-in-Conditional-clause-width = forms.expression-returns-in_ok-rejoin-in-Conditional-clause-width
 
 pub expression-returns-in_ok-rejoin-in-Conditional-clause-emits : goal.expression-returns-in_ok-rejoin-in-Conditional-clause-emits
-expression-returns-in_ok-rejoin-in-Conditional-clause-emits t c =
-    let v = c.args.visible.now in
-    let depth = c.args.depth in
-    let width = c.in_ok-width-in-Conditional.width in
-    let tree = ap expr_tree c.in-Conditional.is ∙ c.conditional_by_parts.ensures c.in-Conditional.field-0 c.in-Conditional.condition c.in-Conditional.value
-    c.in-Conditional.elsifs c.in-Conditional.last in
-    let first = branch_closed v depth width _ _ _ _ _ _ _ _ _ _ _ c.in_ok-raised-in-Conditional.ensures.more c.in_ok-test-in-Conditional.ensures.place
-    (subst (λ e. EmitsExpression v c.args.self.now depth 1 (expr_tree e) c.of_width-in-Conditional.new.self) c.deref-in-Conditional.ensures
-    c.in_ok-of_width-in-Conditional.ensures.emits)
-    c.in_ok-test-in-Conditional.ensures.adds
-    (subst (λ e. EmitsExpression v c.test.new.self depth width (expr_tree e) c.expression-in-Conditional.new.self) c.deref-in-Conditional-2.ensures
-    c.in_ok-width-in-Conditional.ensures.emits)
-    c.in_ok-close-in-Conditional.ensures.closes in
-    let others = subst (λ all. AddsBranches v c.close.new.self depth width (map branch_of all) c.close.new.waiting.items c.elsifs.new.waiting.items
-    c.elsifs.new.self) c.deref-in-Conditional-3.ensures.value c.in_ok-elsifs-in-Conditional.ensures.adds in
-    let last = subst (λ e. EmitsExpression v c.elsifs.new.self depth width (expr_tree e) c.of_width-in-Conditional-2.new.self)
-    c.deref-in-Conditional-4.ensures c.in_ok-of_width-in-Conditional-2.ensures.emits in
-    subst (λ e. EmitsExpression v c.args.self.now depth width e c.rejoin.new.self) (sym tree)
-    (whole_at v depth width _ _ _ _ _ _ _ _ _ _ _ _ _ c.deref-in-Conditional-5.result.now c.new-waiting.ensures.items
-    c.deref-in-Conditional-5.ensures.value first others last c.quiet_stays.ensures refl
-    c.in_ok-rejoin-in-Conditional.ensures.rejoins c.in-Conditional.field-0)
+expression-returns-in_ok-rejoin-in-Conditional-clause-emits = forms.expression-returns-in_ok-rejoin-in-Conditional-clause-emits
 
 pub elsifs-of_width-requires : goal.elsifs-of_width-requires
-elsifs-of_width-requires t c = (
-  search (rules, expressions.the_lemmas),
-  (
-    c.requires.sound,
-    (
-      (legal_branch c.args.visible.now.scope c.args.elsifs.now _ _ c.loop-elsif-test.true c.elsif-item.is c.requires.legal).0,
-      (wide_at c.args.visible.now.scope c.args.width c.args.elsifs.now _ _ c.loop-elsif-test.true c.elsif-item.is c.requires.wide).0,
-    ),
-  ),
-)
+elsifs-of_width-requires = forms.elsifs-of_width-requires
 
 pub elsifs-of_width-requires-in-loop-elsif : goal.elsifs-of_width-requires-in-loop-elsif
-elsifs-of_width-requires-in-loop-elsif t c = (
-  search (rules, expressions.the_lemmas),
-  (
-    c.requires.sound,
-    (
-      (legal_branch c.args.visible.now.scope c.args.elsifs.now _ _ c.loop-elsif-test.true c.elsif-item.is c.requires.legal).1,
-      (wide_at c.args.visible.now.scope c.args.width c.args.elsifs.now _ _ c.loop-elsif-test.true c.elsif-item.is c.requires.wide).1,
-    ),
-  ),
-)
+elsifs-of_width-requires-in-loop-elsif = forms.elsifs-of_width-requires-in-loop-elsif
 
 pub elsifs-loop-elsif-preserved : goal.elsifs-loop-elsif-preserved
-elsifs-loop-elsif-preserved t c = (
-  branches_next c.args.visible.now _ _ _ c.args.depth c.args.width c.args.elsifs.now _ c.elsif-item.result _ _ _ c.loop-elsif-test.true c.elsif-item.is
-      c.loop-elsif.invariant.0
-      (branch_closed c.args.visible.now c.args.depth c.args.width _ _ _ _ _ _ _ _ _ _ _ c.in_ok-raised.ensures.more c.in_ok-test.ensures.place
-      c.in_ok-of_width.ensures.emits c.in_ok-test.ensures.adds
-      c.in_ok-of_width-2.ensures.emits c.in_ok-close.ensures.closes),
-  branch_shallow c.args.visible.now c.args.depth c.args.width c.args.elsifs.now _ c.elsif-item.result c.args.self.now c.loop-elsif.self c.of_width.new.self
-      c.test.new.self c.of_width-in-loop-elsif.new.self c.close.new.self _ c.loop-elsif-test.true c.elsif-item.is c.in_ok-raised.ensures.more
-      c.loop-elsif.invariant.1
-      c.in_ok-of_width.ensures.shallow c.in_ok-test.ensures.adds.shallow c.in_ok-of_width-2.ensures.shallow
-      (closed_shallow _ _ _ _ _ _ c.in_ok-close.ensures.closes),
-)
+elsifs-loop-elsif-preserved = forms.elsifs-loop-elsif-preserved
 
 pub elsifs-loop-elsif-init : goal.elsifs-loop-elsif-init
 elsifs-loop-elsif-init t c = (adds_none c.args.visible.now c.args.self.now c.args.depth c.args.width c.args.waiting.now.items, shallow_self c.args.self.now _)
@@ -777,3 +613,149 @@ name-returns-in-Some-bare-clause-shallow t c =
     let same = sym (bare_tree n.first n.selectors c.in-Some-bare.identifier.now c.in-Some-bare.ensures) in
     subst (λ e. OnOk c.bare-in-Some-bare.result (IsShallow c.args.self.now c.bare-in-Some-bare.new.self (c.args.depth + peak v.scope e))) same
     c.bare-in-Some-bare.ensures.shallow
+
+-- ---- what a refusal leaves
+
+pub expression-returns-in_err-of_width-in-Unary-clause-kept : goal.expression-returns-in_err-of_width-in-Unary-clause-kept
+expression-returns-in_err-of_width-in-Unary-clause-kept = kept.expression-returns-in_err-of_width-in-Unary-clause-kept
+
+pub expression-returns-in_err-above-in-Some-clause-kept : goal.expression-returns-in_err-above-in-Some-clause-kept
+expression-returns-in_err-above-in-Some-clause-kept = kept.expression-returns-in_err-above-in-Some-clause-kept
+
+pub expression-returns-in_err-emit-in-Some-clause-kept : goal.expression-returns-in_err-emit-in-Some-clause-kept
+expression-returns-in_err-emit-in-Some-clause-kept = kept.expression-returns-in_err-emit-in-Some-clause-kept
+
+pub expression-returns-in_err-of_width-in-Chain-clause-kept : goal.expression-returns-in_err-of_width-in-Chain-clause-kept
+expression-returns-in_err-of_width-in-Chain-clause-kept = kept.expression-returns-in_err-of_width-in-Chain-clause-kept
+
+pub expression-returns-in_err-operand-in-Chain-clause-kept : goal.expression-returns-in_err-operand-in-Chain-clause-kept
+expression-returns-in_err-operand-in-Chain-clause-kept = kept.expression-returns-in_err-operand-in-Chain-clause-kept
+
+pub expression-returns-in_err-operands-in-Chain-clause-kept : goal.expression-returns-in_err-operands-in-Chain-clause-kept
+expression-returns-in_err-operands-in-Chain-clause-kept = kept.expression-returns-in_err-operands-in-Chain-clause-kept
+
+pub expression-returns-in_err-of_width-in-Conditional-clause-kept : goal.expression-returns-in_err-of_width-in-Conditional-clause-kept
+expression-returns-in_err-of_width-in-Conditional-clause-kept = kept.expression-returns-in_err-of_width-in-Conditional-clause-kept
+
+pub expression-returns-in_err-test-in-Conditional-clause-kept : goal.expression-returns-in_err-test-in-Conditional-clause-kept
+expression-returns-in_err-test-in-Conditional-clause-kept = kept.expression-returns-in_err-test-in-Conditional-clause-kept
+
+pub expression-returns-in_err-width-in-Conditional-clause-kept : goal.expression-returns-in_err-width-in-Conditional-clause-kept
+expression-returns-in_err-width-in-Conditional-clause-kept = kept.expression-returns-in_err-width-in-Conditional-clause-kept
+
+pub expression-returns-in_err-raised-in-Conditional-clause-kept : goal.expression-returns-in_err-raised-in-Conditional-clause-kept
+expression-returns-in_err-raised-in-Conditional-clause-kept = kept.expression-returns-in_err-raised-in-Conditional-clause-kept
+
+pub expression-returns-in_err-close-in-Conditional-clause-kept : goal.expression-returns-in_err-close-in-Conditional-clause-kept
+expression-returns-in_err-close-in-Conditional-clause-kept = kept.expression-returns-in_err-close-in-Conditional-clause-kept
+
+pub expression-returns-in_err-elsifs-in-Conditional-clause-kept : goal.expression-returns-in_err-elsifs-in-Conditional-clause-kept
+expression-returns-in_err-elsifs-in-Conditional-clause-kept = kept.expression-returns-in_err-elsifs-in-Conditional-clause-kept
+
+pub expression-returns-in_err-of_width-in-Conditional-2-clause-kept : goal.expression-returns-in_err-of_width-in-Conditional-2-clause-kept
+expression-returns-in_err-of_width-in-Conditional-2-clause-kept = kept.expression-returns-in_err-of_width-in-Conditional-2-clause-kept
+
+pub expression-returns-in_err-rejoin-in-Conditional-clause-kept : goal.expression-returns-in_err-rejoin-in-Conditional-clause-kept
+expression-returns-in_err-rejoin-in-Conditional-clause-kept = kept.expression-returns-in_err-rejoin-in-Conditional-clause-kept
+
+pub operands-returns-in_err-operand-clause-extends : goal.operands-returns-in_err-operand-clause-extends
+operands-returns-in_err-operand-clause-extends = kept.operands-returns-in_err-operand-clause-extends
+
+pub operands-returns-clause-extends : goal.operands-returns-clause-extends
+operands-returns-clause-extends = kept.operands-returns-clause-extends
+
+pub operand-returns-in_err-of_width-in-Some-clause-extends : goal.operand-returns-in_err-of_width-in-Some-clause-extends
+operand-returns-in_err-of_width-in-Some-clause-extends = kept.operand-returns-in_err-of_width-in-Some-clause-extends
+
+pub operand-returns-in_err-above-in-Some-clause-extends : goal.operand-returns-in_err-above-in-Some-clause-extends
+operand-returns-in_err-above-in-Some-clause-extends = kept.operand-returns-in_err-above-in-Some-clause-extends
+
+pub operand-returns-in_ok-above-in-Some-clause-extends : goal.operand-returns-in_ok-above-in-Some-clause-extends
+operand-returns-in_ok-above-in-Some-clause-extends = kept.operand-returns-in_ok-above-in-Some-clause-extends
+
+pub short_circuit-returns-in_err-above-clause-extends : goal.short_circuit-returns-in_err-above-clause-extends
+short_circuit-returns-in_err-above-clause-extends = kept.short_circuit-returns-in_err-above-clause-extends
+
+pub short_circuit-returns-in_err-emit-2-clause-extends : goal.short_circuit-returns-in_err-emit-2-clause-extends
+short_circuit-returns-in_err-emit-2-clause-extends = kept.short_circuit-returns-in_err-emit-2-clause-extends
+
+pub short_circuit-returns-in_err-emit-3-clause-extends : goal.short_circuit-returns-in_err-emit-3-clause-extends
+short_circuit-returns-in_err-emit-3-clause-extends = kept.short_circuit-returns-in_err-emit-3-clause-extends
+
+pub short_circuit-returns-in_err-of_width-clause-extends : goal.short_circuit-returns-in_err-of_width-clause-extends
+short_circuit-returns-in_err-of_width-clause-extends = kept.short_circuit-returns-in_err-of_width-clause-extends
+
+pub short_circuit-returns-in_err-end-clause-extends : goal.short_circuit-returns-in_err-end-clause-extends
+short_circuit-returns-in_err-end-clause-extends = kept.short_circuit-returns-in_err-end-clause-extends
+
+pub short_circuit-returns-in-OrElse-clause-extends : goal.short_circuit-returns-in-OrElse-clause-extends
+short_circuit-returns-in-OrElse-clause-extends = kept.short_circuit-returns-in-OrElse-clause-extends
+
+pub short_circuit-returns-in_default-clause-extends : goal.short_circuit-returns-in_default-clause-extends
+short_circuit-returns-in_default-clause-extends = kept.short_circuit-returns-in_default-clause-extends
+
+pub elsifs-returns-in_err-of_width-clause-kept : goal.elsifs-returns-in_err-of_width-clause-kept
+elsifs-returns-in_err-of_width-clause-kept = kept.elsifs-returns-in_err-of_width-clause-kept
+
+pub elsifs-returns-in_err-test-clause-kept : goal.elsifs-returns-in_err-test-clause-kept
+elsifs-returns-in_err-test-clause-kept = kept.elsifs-returns-in_err-test-clause-kept
+
+pub elsifs-returns-in_err-of_width-2-clause-kept : goal.elsifs-returns-in_err-of_width-2-clause-kept
+elsifs-returns-in_err-of_width-2-clause-kept = kept.elsifs-returns-in_err-of_width-2-clause-kept
+
+pub elsifs-returns-in_err-raised-clause-kept : goal.elsifs-returns-in_err-raised-clause-kept
+elsifs-returns-in_err-raised-clause-kept = kept.elsifs-returns-in_err-raised-clause-kept
+
+pub elsifs-returns-in_err-close-clause-kept : goal.elsifs-returns-in_err-close-clause-kept
+elsifs-returns-in_err-close-clause-kept = kept.elsifs-returns-in_err-close-clause-kept
+
+pub checked-returns-in_err-of_width-in-Some-Integer-clause-kept : goal.checked-returns-in_err-of_width-in-Some-Integer-clause-kept
+checked-returns-in_err-of_width-in-Some-Integer-clause-kept = kept.checked-returns-in_err-of_width-in-Some-Integer-clause-kept
+
+pub checked-returns-in_err-one-in-Some-Integer-clause-kept : goal.checked-returns-in_err-one-in-Some-Integer-clause-kept
+checked-returns-in_err-one-in-Some-Integer-clause-kept = kept.checked-returns-in_err-one-in-Some-Integer-clause-kept
+
+pub checked-returns-in_err-two-in-Some-Integer-clause-kept : goal.checked-returns-in_err-two-in-Some-Integer-clause-kept
+checked-returns-in_err-two-in-Some-Integer-clause-kept = kept.checked-returns-in_err-two-in-Some-Integer-clause-kept
+
+pub checked-returns-in_err-emit-in-Some-Integer-clause-kept : goal.checked-returns-in_err-emit-in-Some-Integer-clause-kept
+checked-returns-in_err-emit-in-Some-Integer-clause-kept = kept.checked-returns-in_err-emit-in-Some-Integer-clause-kept
+
+pub checked-returns-in_err-emit-in-Some-Integer-2-clause-kept : goal.checked-returns-in_err-emit-in-Some-Integer-2-clause-kept
+checked-returns-in_err-emit-in-Some-Integer-2-clause-kept = kept.checked-returns-in_err-emit-in-Some-Integer-2-clause-kept
+
+pub checked-returns-in_err-above-in-Some-Integer-clause-kept : goal.checked-returns-in_err-above-in-Some-Integer-clause-kept
+checked-returns-in_err-above-in-Some-Integer-clause-kept = kept.checked-returns-in_err-above-in-Some-Integer-clause-kept
+
+pub checked-returns-in_ok-above-in-Some-Integer-clause-kept : goal.checked-returns-in_ok-above-in-Some-Integer-clause-kept
+checked-returns-in_ok-above-in-Some-Integer-clause-kept = kept.checked-returns-in_ok-above-in-Some-Integer-clause-kept
+
+pub checked-returns-in-Some-Boolean-clause-kept : goal.checked-returns-in-Some-Boolean-clause-kept
+checked-returns-in-Some-Boolean-clause-kept = kept.checked-returns-in-Some-Boolean-clause-kept
+
+pub part-returns-in_err-last-clause-kept : goal.part-returns-in_err-last-clause-kept
+part-returns-in_err-last-clause-kept = kept.part-returns-in_err-last-clause-kept
+
+pub part-returns-in_err-load_block-clause-kept : goal.part-returns-in_err-load_block-clause-kept
+part-returns-in_err-load_block-clause-kept = kept.part-returns-in_err-load_block-clause-kept
+
+pub path-returns-in_err-last-clause-kept : goal.path-returns-in_err-last-clause-kept
+path-returns-in_err-last-clause-kept = kept.path-returns-in_err-last-clause-kept
+
+pub element-returns-in_err-above-clause-kept : goal.element-returns-in_err-above-clause-kept
+element-returns-in_err-above-clause-kept = kept.element-returns-in_err-above-clause-kept
+
+pub element-returns-in_err-offset-clause-kept : goal.element-returns-in_err-offset-clause-kept
+element-returns-in_err-offset-clause-kept = kept.element-returns-in_err-offset-clause-kept
+
+pub call-returns-clause-kept : goal.call-returns-clause-kept
+call-returns-clause-kept = kept.call-returns-clause-kept
+
+pub actuals-returns-in_default-clause-kept : goal.actuals-returns-in_default-clause-kept
+actuals-returns-in_default-clause-kept = kept.actuals-returns-in_default-clause-kept
+
+pub actuals-returns-in_err-actual-clause-kept : goal.actuals-returns-in_err-actual-clause-kept
+actuals-returns-in_err-actual-clause-kept = kept.actuals-returns-in_err-actual-clause-kept
+
+pub actuals-returns-in_err-height-clause-kept : goal.actuals-returns-in_err-height-clause-kept
+actuals-returns-in_err-height-clause-kept = kept.actuals-returns-in_err-height-clause-kept

@@ -4,7 +4,7 @@ use Rattle.ada_tree.specs.ExpressionTree.{argument_tree, argument_trees, selecto
 use Rattle.well_typed.specs.Agreeing.{parameter_subtype}
 use Rattle.expr_code.specs.Actuals.{EmitsActuals}
 use Rattle.expr_code.specs.Branches.{AddsBranches, branch_of}
-use Rattle.expr_code.specs.Code.{IsShallow, here}
+use Rattle.expr_code.specs.Code.{Extends, IsShallow, here}
 use Rattle.expr_code.specs.Emitting.{EmitsOperands}
 use Rattle.expr_code.specs.Refusing.{KeepsFit, arguments_peak, branches_peak, operands_peak, operands_size, selectors_peak}
 use Rattle.expr_code.specs.Going.{EmitsPath, IsLegalPath, SelectsAll}
@@ -25,6 +25,7 @@ abbrev pub invariant-operands-loop-operand : goal.invariant-operands-loop-operan
 invariant-operands-loop-operand l =
     EmitsOperands l.visible l.fn.self l.depth (take l.operand-index l.all) l.self × (here l.self ≤ here l.fn.self + 20 * operands_size (take l.operand-index l.all))
     × IsShallow l.fn.self l.self (l.depth + operands_peak l.visible.scope l.all)
+    × Extends l.fn.self l.self
 
 abbrev pub invariant-path-loop-selector : goal.invariant-path-loop-selector
 invariant-path-loop-selector l =

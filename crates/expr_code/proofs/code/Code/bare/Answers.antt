@@ -2,6 +2,7 @@ use Rattle.std.proofs.Common.{◌∙◌, refl}
 use Rattle.ada_tree.specs.ExpressionTree.{NoSelectors}
 use Rattle.types.specs.Scopes.{number_of}
 use Rattle.types.specs.Standings.{stands_first}
+use Rattle.expr_code.proofs.Growing.{extends_self}
 use Rattle.expr_code.proofs.LegalNames.{begins_otherwise, no_type_alone}
 use Rattle.expr_code.proofs.NamesRefused.{begin_outside}
 use Rattle.expr_code.proofs.code.Code.bare.Goals as goal
@@ -14,4 +15,4 @@ returns-in_default c =
     (stands_first v.scope (number_of v.scope name.name)) refl
     (λ r u e. c.in_default.not-Part r u (c.stands_first.ensures ∙ e)) (λ u e. no_type_alone v.scope name u c.requires.legal e)
     (λ f e. c.in_default.not-Callee f (c.stands_first.ensures ∙ e)) in
-    record { width = tt; refused = begin_outside v name NoSelectors c.requires.valueless made; shallow = tt; emits = tt }
+    record { width = tt; refused = begin_outside v name NoSelectors c.requires.valueless made; kept = extends_self c.args.self.now; shallow = tt; emits = tt }

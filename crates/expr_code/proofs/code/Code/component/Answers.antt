@@ -2,6 +2,7 @@ use Rattle.std.proofs.Common.{inr, rules, sym, ◌∙◌}
 use Rattle.types.specs.Shapes.{shapes}
 use Rattle.expr_code.proofs.FitShapes.{far_offset, no_offset}
 use Rattle.expr_code.proofs.Going.{component_goes, uncapped}
+use Rattle.expr_code.proofs.Growing.{added_kept}
 use Rattle.expr_code.proofs.Shallow.{component_shallow}
 use Rattle.expr_code.proofs.code.Code.component.Goals as goal
 
@@ -24,3 +25,8 @@ pub returns-clause-shallow : goal.returns-clause-shallow
 returns-clause-shallow c =
     component_shallow c.args.visible.now c.args.depth c.args.name.now c.args.self.now c.emit.new.self c.emit-2.new.self _ _ c.in_ok-address.ensures.more
     c.in_ok-above.ensures.more c.in_ok-emit.ensures.adds.shallow c.in_ok-emit-2.ensures.adds.shallow
+
+pub returns-in_err-emit-2-clause-kept : goal.returns-in_err-emit-2-clause-kept
+returns-in_err-emit-2-clause-kept c =
+    let whole = added_kept c.in_ok-emit.ensures.adds c.in_err-emit-2.ensures.kept in
+    search (rules, whole)

@@ -1,10 +1,10 @@
 use Rattle.std.proofs.Common.{rules, subst, ◌+◌}
 use Rattle.std.specs.Prelude.{pos}
-use Rattle.std.proofs.lemmas.Result.{on_ok_weaker}
+use Rattle.std.proofs.lemmas.Result.{IfErr-weaker, on_ok_weaker}
 use Rattle.image.specs.declared.instruction.Operation.TheVariants as op
 use Rattle.expr_code.specs.Code.{Adds}
 use Rattle.expr_code.specs.Going.{AddsOffset}
-use Rattle.expr_code.proofs.Growing.{pushes_same}
+use Rattle.expr_code.proofs.Growing.{added_kept, pushes_same}
 use Rattle.expr_code.proofs.code.Code.offset.Goals as goal
 
 pub returns-clause-adds : goal.returns-clause-adds
@@ -24,3 +24,15 @@ returns-clause-adds c =
       multiply = multiply;
       add = p;
     } in all) c.emit-5.ensures.adds
+
+pub returns-in_err-emit-4-clause-kept : goal.returns-in_err-emit-4-clause-kept
+returns-in_err-emit-4-clause-kept c =
+    let whole = added_kept c.in_ok-emit.ensures.adds (added_kept c.in_ok-emit-2.ensures.adds
+    (added_kept c.in_ok-emit-3.ensures.adds c.in_err-emit-4.ensures.kept)) in
+    search (rules, whole)
+
+pub returns-clause-kept : goal.returns-clause-kept
+returns-clause-kept c =
+    IfErr-weaker _ _ _
+    (λ why p. added_kept c.in_ok-emit.ensures.adds (added_kept c.in_ok-emit-2.ensures.adds
+    (added_kept c.in_ok-emit-3.ensures.adds (added_kept c.in_ok-emit-4.ensures.adds p)))) c.emit-5.ensures.kept

@@ -13,7 +13,7 @@ use Rattle.expr_code.proofs.NamesRefused.{begin_outside, behind_outside, index_r
 use Rattle.expr_code.specs.Widths.{width_of}
 use Rattle.expr_code.specs.Code.{here}
 use Rattle.expr_code.specs.Refusing.{operands_size, RefusesBranches, RefusesExpression, RefusesOperands, RefusesPath}
-use Rattle.expr_code.proofs.Growing.{added_here}
+use Rattle.expr_code.proofs.Growing.{added_here, extends_self}
 use Rattle.expr_code.proofs.Refusals.{between_refused, closed_here, condition_refused, else_refused, first_refused, jump_refused, more_refused, others_refused, second_refused, value_refused, word_refused}
 use Rattle.expr_code.proofs.Selecting.{one_selector}
 use Rattle.expr_code.proofs.Widths.{conditional_words}
@@ -232,7 +232,7 @@ named-returns-in_default t c =
     (stands_first v.scope (number_of v.scope c.args.first.now.name)) refl
     (λ r u e. c.in_default.not-Part r u (c.stands_first.ensures ∙ e)) (λ u e. c.in_default.not-Named u (c.stands_first.ensures ∙ e))
     (λ f e. c.in_default.not-Callee f (c.stands_first.ensures ∙ e)) in
-    record { width = tt; refused = begin_outside v c.args.first.now all c.requires.valueless made; shallow = tt; emits = tt }
+    record { width = tt; refused = begin_outside v c.args.first.now all c.requires.valueless made; kept = extends_self c.args.self.now; shallow = tt; emits = tt }
 
 pub element-returns-in_default-2-clause-refused : goal.element-returns-in_default-2-clause-refused
 element-returns-in_default-2-clause-refused t c =
