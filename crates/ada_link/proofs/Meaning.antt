@@ -40,7 +40,8 @@ use Rattle.stmt_code.specs.Handling.{unhandled}
 use Rattle.stmt_code.specs.Laws.{StepsAreMet}
 use Rattle.stmt_code.specs.Resting.{Shows}
 use Rattle.stmt_code.specs.Statements.{Numbers}
-use Rattle.stmt_code.specs.Standing.{Around, CodeStands, Follows, Going, Here, Inside, Left, Shares, WorkStands, relation, work_size}
+use Rattle.stmt_code.specs.Jumping.{Here}
+use Rattle.stmt_code.specs.Standing.{Around, CodeStands, Follows, Going, Inside, Left, Shares, WorkStands, relation, work_size}
 use Rattle.stmt_code.proofs.Handling.{goes_within}
 use Rattle.ada_link.specs.LinkLaws.{LinkedKeepsCount, LinkedMeansTheSame}
 use Rattle.ada_link.specs.Linked.{AreMain, IsLinked}

@@ -49,7 +49,8 @@ use Rattle.stmt_code.specs.Copying.{AreCopies, ArePlaced, actuals_on, addresses_
 use Rattle.stmt_code.specs.declared.call.Destination.{Destination}
 use Rattle.stmt_code.specs.Handling.{GoesBy, unhandled}
 use Rattle.stmt_code.specs.Statements.{IsCall, IsProcedure, Numbers, parameter_subtype, shapes_of}
-use Rattle.stmt_code.specs.Standing.{Going, Here, Jumps, Leads, LeadsEnd, Shares, There, WaitsFor, items_size, work_size}
+use Rattle.stmt_code.specs.Jumping.{Here, Jumps, There}
+use Rattle.stmt_code.specs.Standing.{Going, Leads, LeadsEnd, Shares, WaitsFor, items_size, work_size}
 use Rattle.stmt_code.specs.Laws.{HasCode}
 use Rattle.stmt_code.proofs.Going.{declares_end, declares_follow, earlier, jumps_up, narrows_same, parameters_end, parameters_follow, same_end}
 use Rattle.stmt_code.proofs.Sizes.{item_counts}
@@ -331,7 +332,7 @@ module _ (this : Scene) where
               handling = proc.middle;
             } in
             let enter = proc.enters z.values addresses locals given.0 given.1 (as_many z ez) (replicated (proc.s.locals - proc.s.parameters)) in
-            let ending : (last : Framed) → (from : ℕ) → Jumps i program g numbers from proc.stop → In number from → Narrows g last proc.middle
+            let ending : (last : Framed) → (from : ℕ) → Jumps i from proc.stop → In number from → Narrows g last proc.middle
             → (same : proc.begins.reserved ≡ proc.middle.reserved)
             → LeadsEnd i program g numbers (seeing last around) number from last names addresses =
             λ last from jumps inside nar same. record {

@@ -16,7 +16,8 @@ use Rattle.stmt_code.specs.Resting.{AreHeld, Framed, Rests, RestsWith, Shows, he
 use Rattle.stmt_code.specs.Handling.{Handling, exception_in}
 use Rattle.stmt_code.specs.Counting.{in_turn}
 use Rattle.stmt_code.specs.Statements.{AreHandlers, Numbers, Ways}
-use Rattle.stmt_code.specs.Standing.{AreInner, Around, Catches, CaughtIf, Follows, Here, Inside, IsCaught, LeadsOver, There, in_handler, with_visible}
+use Rattle.stmt_code.specs.Jumping.{Here, There}
+use Rattle.stmt_code.specs.Standing.{AreInner, Around, Catches, CaughtIf, Follows, Inside, IsCaught, LeadsOver, in_handler, with_visible}
 use Rattle.stmt_code.proofs.Going.{before_ends, before_follows, rest_of}
 
 -- whether a handler has a choice for the exception: it goes to the handler, or on

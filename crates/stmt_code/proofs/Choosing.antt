@@ -32,7 +32,8 @@ use Rattle.expr_code.specs.Seeing.{Package, Sees}
 use Rattle.stmt_code.specs.Resting.{Framed}
 use Rattle.stmt_code.specs.Handling.{Handling}
 use Rattle.stmt_code.specs.Statements.{AreAlternatives, AreStatements, Numbers, Ways}
-use Rattle.stmt_code.specs.Standing.{CodeStands, Going, Here, Shares, There, items_size, work_size}
+use Rattle.stmt_code.specs.Jumping.{Here, There}
+use Rattle.stmt_code.specs.Standing.{CodeStands, Going, Shares, items_size, work_size}
 use Rattle.stmt_code.proofs.Going.{before_ends, before_follows, earlier, jumps_up, narrows_same}
 use Rattle.stmt_code.proofs.Sizes.{before_size, item_counts}
 use Rattle.stmt_code.proofs.Scenes.{Scene}

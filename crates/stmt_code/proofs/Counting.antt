@@ -33,7 +33,8 @@ use Rattle.expr_code.proofs.Coming.{acts}
 use Rattle.stmt_code.specs.Resting.{Framed, RestsWith}
 use Rattle.stmt_code.specs.Counting.{Bounds, GoesOn, IsCounted, IsRange, bounds, in_turn, number_bounds, turn_first, turn_last, with_last, with_parameter}
 use Rattle.stmt_code.specs.Statements.{Numbers}
-use Rattle.stmt_code.specs.Standing.{CodeStands, Going, Here, Shares, in_range, items_size, work_size}
+use Rattle.stmt_code.specs.Jumping.{Here}
+use Rattle.stmt_code.specs.Standing.{CodeStands, Going, Shares, in_range, items_size, work_size}
 use Rattle.stmt_code.proofs.Going.{before_ends, before_follows, jumps_up, narrows_same, rest_of}
 use Rattle.stmt_code.proofs.Sizes.{before_size, item_counts}
 use Rattle.stmt_code.proofs.Turning as turn

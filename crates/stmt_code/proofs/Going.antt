@@ -12,7 +12,8 @@ use Rattle.stmt_code.specs.Handling.{GoesBy, exception_in}
 use Rattle.stmt_code.specs.Copying.{addresses_of}
 use Rattle.stmt_code.specs.Counting.{IsCounted, in_turn}
 use Rattle.stmt_code.specs.Statements.{AreDeclared, AreParametersDeclared, AreStatements, Numbers}
-use Rattle.stmt_code.specs.Standing.{Around, Follows, Here, Inside, IsOutermost, Jumps, Leads, LeadsBack, LeadsBehind, LeadsEnd, LeadsInto, LeadsNext, LeadsOut, LeadsOver, Reaches, There, with_visible}
+use Rattle.stmt_code.specs.Jumping.{Here, Jumps, There}
+use Rattle.stmt_code.specs.Standing.{Around, Follows, Inside, IsOutermost, Leads, LeadsBack, LeadsBehind, LeadsEnd, LeadsInto, LeadsNext, LeadsOut, LeadsOver, Reaches, with_visible}
 use Rattle.stmt_code.proofs.Handling.{goes_within}
 
 pub narrows_same : (g : Package) (v : Framed) → Narrows g v v
@@ -39,7 +40,7 @@ module _ (i : Sections) (program : Program) (g : Package) (numbers : Numbers) wh
   In n place = Inside i program g numbers n place
 
   abbrev Jump : ℕ → ℕ → Type 0
-  Jump a b = Jumps i program g numbers a b
+  Jump a b = Jumps i a b
 
   abbrev Follow : Setting → (n from : ℕ) → List Item → List Frame → List Activation → Type 0
   Follow a n from items fs os = Follows i program g numbers a n from items fs os

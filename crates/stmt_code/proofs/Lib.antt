@@ -84,6 +84,7 @@ mod CallsRefused
 mod BodiesRefused
 mod Choosable
 mod MovingParts
+mod Moves
 mod Moved
 mod AssignmentsRefused
 mod TargetsRefused

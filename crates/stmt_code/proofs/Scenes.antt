@@ -41,7 +41,8 @@ use Rattle.expr_code.proofs.Coming as coming
 use Rattle.stmt_code.specs.Resting.{Framed, Held, IsSmall, Knows, Narrows, Rests, RestsWith, Shows, StandsFor}
 use Rattle.stmt_code.specs.Handling.{GoesBy}
 use Rattle.stmt_code.specs.Statements.{Numbers}
-use Rattle.stmt_code.specs.Standing.{AreInner, Around, Catches, CodeStands, Follows, Going, Here, Inside, IsGoing, IsSound, Jumps, Leads, with_visible, Raised, Shares, StaysAlone, There, WorkStands, items_size, relation, work_size}
+use Rattle.stmt_code.specs.Jumping.{Here, Jumps, There}
+use Rattle.stmt_code.specs.Standing.{AreInner, Around, Catches, CodeStands, Follows, Going, Inside, IsGoing, IsSound, Leads, with_visible, Raised, Shares, StaysAlone, WorkStands, items_size, relation, work_size}
 use Rattle.stmt_code.specs.Laws.{HasCode}
 use Rattle.stmt_code.proofs.Going.{Drops, earlier, jumps_up, shows_then, way_back, way_out}
 use Rattle.stmt_code.proofs.Catching.{catches}
@@ -241,7 +242,7 @@ module _ (this : Scene) where
   begun (Within alone here above low) = let x = taken_unseen (behaviour i schedule) t frames_of (most_steps i) above in inr (x.0, ap suc x.1)
 
   -- forward jumps, and then what comes
-  pub jumps_spend : (f : Frame) (fs : List Frame) (a b : ℕ) → Jumps i program g numbers a b
+  pub jumps_spend : (f : Frame) (fs : List Frame) (a b : ℕ) → Jumps i a b
       → Spends (behaviour i schedule) t frames_of (most_steps i) (suc (length fs)) (b - a) k (in_frame m (placed f a []) fs) k (in_frame m (placed f b []) fs)
   jumps_spend f fs a b Here = Done
   jumps_spend f fs a b (There {b = c} here le rest) =
@@ -526,7 +527,7 @@ module _ (this : Scene) where
     -- a step without a value: jumps, and one instruction
     pub met_plain : (o : Operation) (x : source.Stepped) (y : steps.Stepped) (at : ℕ) (items : List Item) → work_step now w.work ≡ x → s.frame.stack ≡ []
         → s.raising ≡ None
-        → Jumps i program g numbers f.place at → In f.subprogram f.place → In f.subprogram at
+        → Jumps i f.place at → In f.subprogram f.place → In f.subprogram at
         → At i at o
         → does_operation i schedule k t m (placed f at []) fs o ≡ y
         → Meets x y

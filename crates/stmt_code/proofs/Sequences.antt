@@ -11,7 +11,8 @@ use Rattle.meaning.specs.Works.{Item, Declares, Sequence, Does, Handles, EndsHan
 use Rattle.expr_code.specs.Seeing.{Package}
 use Rattle.stmt_code.specs.Resting.{Framed, Narrows, RestsWith}
 use Rattle.stmt_code.specs.Statements.{IsSequence, Numbers}
-use Rattle.stmt_code.specs.Standing.{Here, Reaches, There, in_sequence, items_size, work_size}
+use Rattle.stmt_code.specs.Jumping.{Here, There}
+use Rattle.stmt_code.specs.Standing.{Reaches, in_sequence, items_size, work_size}
 use Rattle.stmt_code.proofs.Going.{before_ends, before_follows, declares_end, declares_follow, drops_handler, earlier, jumps_up, narrows_same, shows_then}
 use Rattle.stmt_code.proofs.Scenes.{Scene}
 use Rattle.stmt_code.proofs.Scenes as scene

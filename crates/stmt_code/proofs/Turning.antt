@@ -39,7 +39,8 @@ use Rattle.stmt_code.proofs.Holding.{held_kept}
 use Rattle.stmt_code.specs.Handling.{GoesBy}
 use Rattle.stmt_code.specs.Storing.{Arrives, Assigned, Assigns, Puts, assigned, assigned_to, declared, declared_from, object_declared}
 use Rattle.stmt_code.specs.Statements.{AreStatements, IsOtherwise, IsPut, IsWhile, Numbers, within_loop}
-use Rattle.stmt_code.specs.Standing.{Going, Here, Jumps, Leads, LeadsInto, Reaches, in_loop, Shares, There, items_size, work_size}
+use Rattle.stmt_code.specs.Jumping.{Here, Jumps, There}
+use Rattle.stmt_code.specs.Standing.{Going, Leads, LeadsInto, Reaches, in_loop, Shares, items_size, work_size}
 use Rattle.stmt_code.proofs.Going.{before_ends, before_follows, earlier, into, jumps_up, narrows_same, way_out}
 use Rattle.stmt_code.proofs.Sizes.{item_counts}
 use Rattle.stmt_code.proofs.Handling.{goes_within}
@@ -450,7 +451,7 @@ module _ (this : Scene) where
         rests outside (depth ∙ sym (before_ends i program g numbers body (RepeatsWhile e body ∷ items))) inner)
 
     -- jumps, and one more jump to the condition of a loop
-    pub reaches_head : (at head : ℕ) → Jumps i program g numbers f.place at → At i at (op.Jump (head + 2))
+    pub reaches_head : (at head : ℕ) → Jumps i f.place at → At i at (op.Jump (head + 2))
         → Reaching f fs ((at - f.place) + 1) f.place (head + 2)
     reaches_head at head jumps here =
         spends_trans (behaviour i schedule) t frames_of (most_steps i) 1 k (in_frame m (placed f (head + 2) []) fs)
@@ -502,9 +503,9 @@ module _ (this : Scene) where
 
     -- ---- values that are stored
 
-    -- the instruction that stores a value meets the step that does
+    -- the instruction that stores a value meets the step that does, where forward jumps lead on behind it
     stored_meets : (items : List Item) (now' later : Framed) (mid to : ℕ) (store' : Store) (own' : Activation) (a : Setting) (stack : List ℤ)
-        → to ≡ suc mid → later.reserved ≡ now'.reserved
+        → Jumps i (suc mid) to → In f.subprogram (suc mid) → later.reserved ≡ now'.reserved
         → RestsWith g now' a.held w.own f.locals
         → Follow (seeing later a) f.subprogram to items fs w.callers
         → own'.within ≡ None
@@ -518,51 +519,61 @@ module _ (this : Scene) where
           solo = record { memory = store'; task = record { work = Goes items; own = own'; callers = w.callers } };
           given = None;
         }) y
-    stored_meets items now' later mid to store' own' a stack end same here rest outside depth inner put =
+    stored_meets items now' later mid to store' own' a stack jumps inside same here rest outside depth inner put =
         let kept : RestsWith g later a.held own' put.locals =
         record {
           rests = put.rests;
           held = held_kept a.held later.reserved f.locals put.locals (here.apart ∙ sym same) put.keeps here.held;
           apart = here.apart ∙ sym same;
         } in (
-          steps.does Quiet put.words (goes_at f to put.locals) fs None None,
-          put.acts ∙ ap (λ q. steps.does Quiet put.words (goes_at f q put.locals) fs None None) (sym end),
+          steps.does Quiet put.words (goes_at f (suc mid) put.locals) fs None None,
+          put.acts,
           record {
             effect = refl;
             waits = refl;
             alone = tt;
-            code = Going items refl (scene.goes_on this s items own' (seeing later a) to put.locals rest kept outside depth inner);
+            code = Going items refl
+                (scene.goes_on this s items own' (seeing later a) (suc mid) put.locals
+                (earlier i program g numbers items (seeing later a) later f.subprogram (suc mid) to fs w.callers jumps (narrows_same g later) inside rest)
+                kept outside depth inner);
             words = put.shared;
           },
         )
 
     -- code that arrives at an instruction which meets the step meets it
-    met_arrived : {A : Type 0} (items : List Item) (go : A → source.Stepped) (n from mid : ℕ) (later : Framed) (store_after' : A → Store)
+    met_arrived : {A : Type 0} (items : List Item) (go : A → source.Stepped) (n from to : ℕ) (later : Framed) (store_after' : A → Store)
         (own_after : A → Activation) (u : Val A)
         → work_step now w.work ≡ with_value now u items go
         → items_size items < work_size w.work
         → Removable f fs
-        → Handled u items from mid
+        → Handled u items from to
         → Reaching f fs n f.place from
-        → n + (mid - from) < size_of i f.subprogram + size_of i f.subprogram
-        → ((z : A) (stack : List ℤ) → Puts i program g schedule k t m f fs mid stack [] later (store_after' z) (own_after z)
+        → n + (to - from) < size_of i f.subprogram + size_of i f.subprogram
+        → ((z : A) (mid : ℕ) (stack : List ℤ) → from ≤ mid → suc mid ≤ to → Jumps i (suc mid) to
+        → Puts i program g schedule k t m f fs mid stack [] later (store_after' z) (own_after z)
         → (y : steps.Stepped) × (act i schedule k t (in_frame m (placed f mid stack) fs) ≡ y) × Meets (go z) y)
-        → Arrives i program g schedule k t m f fs from mid later store_after' own_after u
+        → Arrives i program g schedule k t m f fs from to later store_after' own_after u
         → Meet (in_frame m (placed f f.place []) fs).task
-    met_arrived {A} items go n from mid later store_after' own_after u is less inner handled first low meets h =
-        by_evaluation (Arrives i program g schedule k t m f fs from mid later store_after' own_after) (Meet (in_frame m (placed f f.place []) fs).task) u
+    met_arrived {A} items go n from to later store_after' own_after u is less inner handled first low meets h =
+        by_evaluation (Arrives i program g schedule k t m f fs from to later store_after' own_after) (Meet (in_frame m (placed f f.place []) fs).task) u
         (λ z e it.
-        scene.met_comes this f fs n from (mid - from) mid (λ y. it.0) (Gives z) items go first it.1 low (is ∙ ap (λ q. with_value now q items go) e) less inner
+        let up = it.2 in
+        let over = it.3 in
+        scene.met_comes this f fs n from (it.0 - from) it.0 (λ y. it.1) (Gives z) items go first it.5 (lower n from it.0 to _ up over low)
+        (is ∙ ap (λ q. with_value now q items go) e) less inner
         (λ x place left known ex low' high. absurd cc)
-        (λ x ex. meets x it.0
-        (subst (λ y. Puts i program g schedule k t m f fs mid it.0 [] later (store_after' y) (own_after y)) (same_given z x ex) it.2)))
+        (λ x ex. meets x it.0 it.1 up over it.4
+        (subst (λ y. Puts i program g schedule k t m f fs it.0 it.1 [] later (store_after' y) (own_after y)) (same_given z x ex) it.6)))
         (λ x e it.
-        scene.met_comes this f fs n from (mid - from) mid (λ (y : A). []) (Raises x) items go first it low (is ∙ ap (λ q. with_value now q items go) e) less
+        scene.met_comes this f fs n from (to - from) to (λ (y : A). []) (Raises x) items go first it low (is ∙ ap (λ q. with_value now q items go) e) less
         inner (λ y place left known ey low' high. handled y place left known (e ∙ ey) low' high) (λ y ey. cc))
         (λ e it.
-        scene.met_comes this f fs n from (mid - from) mid (λ (y : A). []) Meaningless items go first tt low (is ∙ ap (λ q. with_value now q items go) e) less
+        scene.met_comes this f fs n from (to - from) to (λ (y : A). []) Meaningless items go first tt low (is ∙ ap (λ q. with_value now q items go) e) less
         inner (λ x place left known ex low' high. absurd cc) (λ y ey. cc))
         h
+      where
+        lower : (n from mid to most : ℕ) → from ≤ mid → suc mid ≤ to → n + (to - from) < most → n + (mid - from) < most
+        lower n from mid to most up over low = omega (arith, up, over, low)
 
     pub met_assigns : {A : Type 0} (i' : Item) (items : List Item) → w.work ≡ Goes (i' ∷ items) → s.frame.stack ≡ [] → s.raising ≡ None
         → (v later : Framed) (at to : ℕ) (value : Calls → Place → Val A) (store_after' : A → Store → Store) (own_after : A → Activation → Activation)
@@ -588,9 +599,7 @@ module _ (this : Scene) where
         → Handled (value (call (frames_left items)) (place_of now items)) items at to
         → Meet s
     met_assigns i' items is stack going v later at to value store_after' own_after same a now' leads code rest rests before outside depth inner handled =
-        let mid = code.mid in
-        let le = code.up in
-        let end = code.end in
+        let le = leads.up in
         let x = leads.from_inside in
         let y = leads.to_inside in
         let up = jumps_up i program g numbers f.place at leads.jumps in
@@ -601,13 +610,13 @@ module _ (this : Scene) where
           effect = Quiet;
           solo = record { memory = store_after' z store; task = record { work = Goes items; own = own_after z w.own; callers = w.callers } };
           given = None;
-        }) (at - f.place) at mid later (λ z. store_after' z store) (λ z. own_after z w.own)
+        }) (at - f.place) at to later (λ z. store_after' z store) (λ z. own_after z w.own)
         (value (call (frames_left items)) (place_of now items)) (ap (λ q. work_step now q) is ∙ same)
-        (subst (λ q. items_size items < work_size q) (sym is) (let h = item_counts i' items in omega (arith, h))) inner
-        (λ x place left known e low high. handled x place left known e low (omega (arith, high, end)))
-        (scene.jumps_spend this f fs f.place at leads.jumps) (omega (arith, x.0, y.1, up, le, end))
-        (λ z left put.
-        stored_meets items now' later mid to (store_after' z store) (own_after z w.own) a left end code.same here rest (outside z) depth inner put)
+        (subst (λ q. items_size items < work_size q) (sym is) (let h = item_counts i' items in omega (arith, h))) inner handled
+        (scene.jumps_spend this f fs f.place at leads.jumps) (omega (arith, x.0, y.1, up, le))
+        (λ z mid left low high jumps put.
+        stored_meets items now' later mid to (store_after' z store) (own_after z w.own) a left jumps
+        (omega (arith, x.0, up, low), omega (arith, y.1, high)) code.same here rest (outside z) depth inner put)
         (code.arrives schedule k t m f fs store w.own (place_of now items) this.has.functions calm
         (record { scope = refl; functions = refl; variables = refl; components = refl }) refl refl shares.stands here.rests
         (scene.sees_here this now' items f fs here) before (ap (λ n. FRAMES - suc n) (sym depth))))

@@ -1,5 +1,6 @@
 pub mod Resting
 pub mod Handling
+pub mod Jumping
 pub mod Storing
 pub mod Layout
 pub mod Parts
@@ -15,6 +16,7 @@ pub mod Bounds
 pub mod Emitting
 pub mod Passing
 pub mod Moving
+pub mod Moves
 pub mod Alternatives
 pub mod Covering
 pub mod Formals

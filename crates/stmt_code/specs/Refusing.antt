@@ -8,9 +8,9 @@ use Rattle.ada_tree.specs.declared.expression.Identifier.{Identifier}
 use Rattle.ada_tree.specs.declared.program.MainStatement.{MainStatement}
 use Rattle.ada_tree.specs.declared.program.MainStatement.TheVariants as main
 use Rattle.ada_tree.specs.declared.statement.ExceptionChoice.{ExceptionChoice}
-use Rattle.ada_tree.specs.ExpressionTree.{ArgumentTree, ArgumentTrees, ExprTree, MoreArguments, Named, NameTree, NoArguments, SelectorTrees, Text, Value}
+use Rattle.ada_tree.specs.ExpressionTree.{ArgumentTree, ArgumentTrees, Conditional, ElsifValueTrees, ExprTree, MoreArguments, MoreElsifValues, Named, NameTree, NoArguments, NoElsifValues, Parenthesized, SelectorTrees, Text, Value}
 use Rattle.ada_tree.specs.StatementTree.{AlternativeTrees, Assignment, Block, Call, Case, ChoicesTree, DeclarationTree, ElsifTrees, Exit, For, Forever, HandlerTrees, If, IterationTree, LocalObject, Loop, MoreAlternatives, MoreElsifs, MoreHandlers, MoreStmts, NoAlternatives, NoElsifs, NoHandlers, NoStmts, Null, OtherValues, RangeTree, Raise, Return, StmtTree, StmtTrees, Values, While}
-use Rattle.ada_tree.specs.Size.{expr_size, total}
+use Rattle.ada_tree.specs.Size.{elsif_values_size, expr_size, total}
 use Rattle.image.specs.declared.instruction.Region.TheVariants as regions
 use Rattle.types.specs.declared.entity.FormalParameter.{FormalParameter}
 use Rattle.types.specs.declared.entity.Subtype.{Subtype}
@@ -27,6 +27,7 @@ use Rattle.type_rules.specs.SubtypeNames.{subtype_of}
 use Rattle.declaring.specs.BodyNames.{loop_scope}
 use Rattle.declaring.specs.LocalRules.{local_scope}
 use Rattle.sound_steps.specs.Fitting.{entity_named}
+use Rattle.expr_code.specs.Branches.{Branch}
 use Rattle.expr_code.specs.Code.{here}
 use Rattle.expr_code.specs.Emitting.{is_composite}
 use Rattle.expr_code.specs.Refusing.{IsRefused, IsRefusedBeside, IsUnfit, checked_peak, is_fit, is_outside, is_passable, peak, selectors_outside, selectors_peak}
@@ -40,7 +41,8 @@ use Rattle.stmt_code.specs.Formals.{passed_for, placed_words, returned_more}
 use Rattle.stmt_code.specs.Bounds.{alternatives_bound, declarations_bound, elsifs_bound, handlers_bound, local_words, locals_words, run_bound, sequence_bound, stmt_bound, stmts_bound, words_named}
 use Rattle.stmt_code.specs.Labels.{alternatives_labels, elsifs_labels, handlers_labels, stmt_labels, stmts_labels}
 use Rattle.stmt_code.specs.Lines.{Line, is_put, line_of}
-use Rattle.stmt_code.specs.Moving.{moved_from}
+use Rattle.stmt_code.specs.Moves.{alone}
+use Rattle.stmt_code.specs.Moving.{moves}
 use Rattle.stmt_code.specs.Passing.{actuals_behind, copied_width, holds_variables}
 use Rattle.stmt_code.specs.Raising.{are_numbered, number_among}
 use Rattle.stmt_code.specs.Statements.{Ways}
@@ -272,16 +274,29 @@ assigned_needs v target e =
 abbrev pub stored_needs : Visible → NameTree → ExprTree → Needs
 stored_needs v name e = both (address_needs 0 v name.first name.selectors) (assigned_needs v (standing_of v.scope name.first name.selectors) e)
 
--- where it is moved from another variable, or from a part of one
-abbrev pub moved_needs : Visible → (name moved : NameTree) → Needs
-moved_needs v name moved = both (address_needs 0 v name.first name.selectors) (address_needs 1 v moved.first moved.selectors)
+abbrev mutual
+  -- of what moves a value, above the address of what it is assigned to: conditions, and the address of what is named
+  pub move_needs : Visible → ExprTree → Needs
+  move_needs v (Named first selectors) = address_needs 1 v first selectors
+  move_needs v (Parenthesized place e) = move_needs v e
+  move_needs v (Conditional place condition value elsifs last) =
+      both (needs_above 1 v condition) (both (move_needs v value) (both (moves_needs v elsifs) (move_needs v last)))
+  move_needs v e = beyond
 
-abbrev pub needs_from : Visible → NameTree → ExprTree → (moved : Option NameTree) → Needs
-needs_from v name e None = stored_needs v name e
-needs_from v name e (Some moved) = moved_needs v name moved
+  pub moves_needs : Visible → ElsifValueTrees → Needs
+  moves_needs v NoElsifValues = nothing
+  moves_needs v (MoreElsifValues condition value rest) = both (needs_above 1 v condition) (both (move_needs v value) (moves_needs v rest))
+
+-- where it is moved from other variables, or from parts of them
+abbrev pub moved_needs : Visible → NameTree → ExprTree → Needs
+moved_needs v name e = both (address_needs 0 v name.first name.selectors) (move_needs v e)
+
+abbrev pub needs_by : Visible → NameTree → ExprTree → (moved : Bool) → Needs
+needs_by v name e false = stored_needs v name e
+needs_by v name e true = moved_needs v name e
 
 abbrev pub assignment_needs : Visible → NameTree → ExprTree → Needs
-assignment_needs v name e = needs_from v name e (moved_from v name e)
+assignment_needs v name e = needs_by v name e (moves v name e)
 
 -- ---- lines
 
@@ -521,6 +536,13 @@ abbrev pub RefusesDeclarations : Visible → (old : Draft) → List DeclarationT
 RefusesDeclarations v old ds why = IsNeeding (here old.code + declarations_bound v.scope ds) (locals_needs v old.words.taken ds) why
 
 -- ---- code that is added by parts
+
+-- what moves a value, or those of branches
+abbrev pub RefusesMove : Visible → (old : Code) → ExprTree → Refusal → Type 0
+RefusesMove v old e why = IsNeeding (here old + 20 * expr_size e) (move_needs v e) why
+
+abbrev pub RefusesMoves : Visible → (old : Code) → List Branch → Refusal → Type 0
+RefusesMoves v old all why = IsNeeding (here old + 20 * elsif_values_size (alone all)) (moves_needs v (alone all)) why
 
 -- the instructions of an object's initial value, and so many more
 abbrev pub initial_bound : Scope → Subtype → Option ExprTree → ℕ

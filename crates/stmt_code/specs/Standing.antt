@@ -25,6 +25,7 @@ use Rattle.stmt_code.specs.Handling.{GoesBy, Handling, exception_in}
 use Rattle.stmt_code.specs.Copying.{AreCopies, ArePlaced, GivesBack, addresses_of, copies_on, held_at}
 use Rattle.stmt_code.specs.declared.call.Destination.{Destination}
 use Rattle.stmt_code.specs.Counting.{IsCounted, in_turn}
+use Rattle.stmt_code.specs.Jumping.{Jumps}
 use Rattle.stmt_code.specs.Statements.{AreHandlers, AreStatements, IsDeclared, IsForever, IsMainStatement, IsParameterDeclared, IsSequence, IsStatement, IsWhile, Numbers, Ways, within_handler, within_loop}
 
 -- ---- what is left to do, as a size that falls where no code is run
@@ -53,11 +54,6 @@ StaysAlone (Dies x) = ⊤
 StaysAlone e = ⊥
 
 module _ (i : Sections) (program : Program) (g : Package) (numbers : Numbers) where
-  -- forward jumps that lead from one place to another
-  pub data Jumps : ℕ → ℕ → Type 0 where
-    Here : {a : ℕ} → Jumps a a
-    There : {a b c : ℕ} → At i a (op.Jump b) → suc a ≤ b → Jumps b c → Jumps a c
-
   -- places of the subprogram's code
   abbrev pub Inside : ℕ → ℕ → Type 0
   Inside n place = (first_place i n ≤ place) × (place < first_place i n + size_of i n)
@@ -107,7 +103,7 @@ module _ (i : Sections) (program : Program) (g : Package) (numbers : Numbers) wh
 
   -- the part of the subprogram's code between two places, to which forward jumps lead, in front of all statements
   pub record LeadsInto (v : Framed) (n from at to : ℕ) (now : Framed) : Type 0 where
-    pub jumps : Jumps from at
+    pub jumps : Jumps i from at
     pub narrows : Narrows g v now
     pub from_inside : Inside n from
     pub up : at ≤ to
@@ -115,7 +111,7 @@ module _ (i : Sections) (program : Program) (g : Package) (numbers : Numbers) wh
 
   -- ... from which ways out may lead
   pub record Leads (a : Around) (n from at to : ℕ) (now : Framed) : Type 0 where
-    pub jumps : Jumps from at
+    pub jumps : Jumps i from at
     pub narrows : Narrows g a.visible now
     pub reaches : Reaches a now
     pub from_inside : Inside n from
@@ -125,7 +121,7 @@ module _ (i : Sections) (program : Program) (g : Package) (numbers : Numbers) wh
   -- the jump back to the head of a loop, whose code ends behind it
   pub record LeadsBack (a : Around) (n from head to : ℕ) (outer : Around) : Type 0 where
     pub back : ℕ
-    pub jumps : Jumps from back
+    pub jumps : Jumps i from back
     pub jump : At i back (op.Jump (head + 2))
     pub end : to ≡ suc back
     pub up : head ≤ back
@@ -139,7 +135,7 @@ module _ (i : Sections) (program : Program) (g : Package) (numbers : Numbers) wh
 
   -- forward jumps to the end of a turn of a loop over a range
   pub record LeadsNext (a : Around) (n from head to back counter limit : ℕ) (now last : ℤ) (inner : Framed) (outer : Around) : Type 0 where
-    pub jumps : Jumps from back
+    pub jumps : Jumps i from back
     pub loop : a ≡ in_range (head + 1) counter limit now last a.visible outer
     pub narrows : Narrows g a.visible inner
     pub reaches : Shows g outer.visible outer.ending
@@ -150,7 +146,7 @@ module _ (i : Sections) (program : Program) (g : Package) (numbers : Numbers) wh
 
   -- forward jumps over the handlers of a sequence, which stand in front of its end
   pub record LeadsOver (a : Around) (n from at to : ℕ) (outer : Around) : Type 0 where
-    pub jumps : Jumps from to
+    pub jumps : Jumps i from to
     pub sequence : a ≡ in_sequence a.raised a.visible outer
     pub narrows : Narrows g a.visible outer.visible
     pub reaches : Reaches outer outer.visible
@@ -160,7 +156,7 @@ module _ (i : Sections) (program : Program) (g : Package) (numbers : Numbers) wh
 
   -- forward jumps from the end of a handler to the end of its sequence
   pub record LeadsBehind (a : Around) (n from to word exception : ℕ) (outer : Around) : Type 0 where
-    pub jumps : Jumps from to
+    pub jumps : Jumps i from to
     pub handler : a ≡ in_handler word exception a.visible outer
     pub shows : Shows g a.visible outer.visible
     pub reserved : a.visible.reserved ≡ word ∷ outer.visible.reserved
@@ -176,7 +172,7 @@ module _ (i : Sections) (program : Program) (g : Package) (numbers : Numbers) wh
   -- the return of a body without results
   pub record LeadsOut (a : Around) (n from : ℕ) : Type 0 where
     pub at : ℕ
-    pub jumps : Jumps from at
+    pub jumps : Jumps i from at
     pub return : At i at op.Return
     pub results : results_of (called i n) ≡ 0
     pub outermost : IsOutermost a
@@ -187,7 +183,7 @@ module _ (i : Sections) (program : Program) (g : Package) (numbers : Numbers) wh
   pub record LeadsEnd (a : Around) (n from : ℕ) (now : Framed) (names : List (List ℕ)) (addresses : List ℕ) : Type 0 where
     pub at : ℕ
     pub last : Framed
-    pub jumps : Jumps from at
+    pub jumps : Jumps i from at
     pub narrows : Narrows g now last
     pub gives : GivesBack i program g last names n at
     pub held : a.held ≡ held_at last.reserved addresses

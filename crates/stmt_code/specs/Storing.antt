@@ -25,6 +25,7 @@ use Rattle.expr_code.specs.Views.{At, frames_above, in_frame, placed, view_of}
 use Rattle.expr_code.specs.Coming.{Comes, most_steps}
 use Rattle.expr_code.specs.Computing.{Answers, Everywhere}
 use Rattle.expr_code.specs.Seeing.{library_of, Package, Sees}
+use Rattle.stmt_code.specs.Jumping.{Jumps}
 use Rattle.stmt_code.specs.Resting.{AreKept, Framed, IsAt, Knows, Rests, StandsFor}
 
 -- ---- what is stored
@@ -93,24 +94,26 @@ module _ (i : Sections) (program : Program) (g : Package) where
         → value (call p.frames_left) p ≡ Gives x
         → Puts schedule k t m f fs mid (stack [] x) [] later (store_after x store) (own_after x a)
 
-  -- From its place the frame comes to the instruction that stores the value, with whatever that one stores it by on the operand stack; or it raises.
-  abbrev pub Arrives : {A : Type 0} → (schedule : List ScheduleLine) → Kernel → ℕ → Words → Frame → List Frame → (from mid : ℕ) → (later : Framed)
+  -- From its place the frame comes to the instruction that stores the value, with whatever that one stores it by on the operand stack, and behind which forward
+  -- jumps lead to the end of the code; or it raises.
+  abbrev pub Arrives : {A : Type 0} → (schedule : List ScheduleLine) → Kernel → ℕ → Words → Frame → List Frame → (from to : ℕ) → (later : Framed)
       → (store_after : A → Store) → (own_after : A → Activation) → Val A → Type 0
-  Arrives schedule k t m f fs from mid later store_after own_after (Gives x) =
-      (stack : List ℤ)
+  Arrives schedule k t m f fs from to later store_after own_after (Gives x) =
+      (mid : ℕ) × (stack : List ℤ)
+      × (from ≤ mid)
+      × (suc mid ≤ to)
+      × Jumps i (suc mid) to
       × Spends (behaviour i schedule) t frames_of (most_steps i) (suc (length fs)) (mid - from) k (in_frame m (placed f from []) fs) k
       (in_frame m (placed f mid stack) fs)
       × Puts schedule k t m f fs mid stack [] later (store_after x) (own_after x)
-  Arrives schedule k t m f fs from mid later store_after own_after (Raises e) =
-      Comes i schedule k t m (placed f from []) fs (mid - from) mid (λ (stack : List ℤ). stack) (Raises e)
-  Arrives schedule k t m f fs from mid later store_after own_after Meaningless = ⊤
+  Arrives schedule k t m f fs from to later store_after own_after (Raises e) =
+      Comes i schedule k t m (placed f from []) fs (to - from) to (λ (stack : List ℤ). stack) (Raises e)
+  Arrives schedule k t m f fs from to later store_after own_after Meaningless = ⊤
 
-  -- The code between two places stores what is computed, wherever a frame stands for the place of evaluation; its last instruction stores it.
+  -- The code between two places stores what is computed, wherever a frame stands for the place of evaluation; nothing but jumps is behind the instruction that
+  -- stores it.
   pub record Assigns {A : Type 0} (v later : Framed) (from to : ℕ) (value : Calls → Place → Val A) (store_after : A → Store → Store)
       (own_after : A → Activation → Activation) : Type 0 where
-    pub mid : ℕ
-    pub up : from ≤ mid
-    pub end : to ≡ suc mid
     pub same : later.reserved ≡ v.reserved
     pub arrives : (schedule : List ScheduleLine) (k : Kernel) (t : ℕ) (m : Words) (f : Frame) (fs : List Frame) (store : Store) (a : Activation) (p : Place)
         → ((left : ℕ) → Answers i (library_of g) (call left) left)
@@ -123,4 +126,4 @@ module _ (i : Sections) (program : Program) (g : Package) where
         → Knows g v p (view_of i schedule k m f fs)
         → a.within ≡ None
         → p.frames_left ≡ frames_above fs
-        → Arrives schedule k t m f fs from mid later (λ x. store_after x store) (λ x. own_after x a) (value (call p.frames_left) p)
+        → Arrives schedule k t m f fs from to later (λ x. store_after x store) (λ x. own_after x a) (value (call p.frames_left) p)

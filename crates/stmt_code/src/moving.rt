@@ -1,18 +1,24 @@
-//! Assignments of arrays and records from variables, or from parts of them: one instruction moves their words (RM 5.2).
-ghost use Rattle.std.specs.Prelude.{◌≡◌, length, option_map, true, IfErr, OnOk, Some};
-ghost use Rattle.ada_tree.specs.ExpressionTree.{expr_tree, name_tree};
+//! Assignments of arrays and records from variables, or from parts of them, one of which an if expression may choose: one instruction moves their words (RM 5.2).
+ghost use Rattle.std.specs.Prelude.{◌≡◌, ◌∷◌, [], length, map, true, ℕ, IfErr, OnOk, Some};
+ghost use Rattle.ada_tree.specs.ExpressionTree.{elsif_value_trees, expr_tree, Named, name_tree};
 ghost use Rattle.ada_tree.specs.StatementTree.{Assignment};
+ghost use Rattle.image.specs.Rules.{is_block};
 ghost use Rattle.types.specs.declared.entity.Role.{Role};
 ghost use Rattle.types.specs.declared.standing.Standing.TheVariants as standing;
 ghost use Rattle.types.specs.Scopes.{form_at, number_of};
 ghost use Rattle.types.specs.Standings.{standing_of, stands_first};
+ghost use Rattle.expr_code.specs.Branches.{AreLegalBranches, branch_of};
+ghost use Rattle.expr_code.specs.Code.{IsShallow};
 ghost use Rattle.expr_code.specs.Emitting.{is_composite};
+ghost use Rattle.expr_code.specs.Emitting as expressions;
 ghost use Rattle.expr_code.specs.Seeing.{slot_of};
+ghost use Rattle.expr_code.specs.Widths.{AreWide, width_of};
 ghost use Rattle.stmt_code.specs.Emitting.{EmitsStatement, IsLegal};
-ghost use Rattle.stmt_code.specs.Moving.{name_inside, names_composite, source_at, variable_at};
+ghost use Rattle.stmt_code.specs.Moves.{AddsMoves, alone, EmitsMove};
+ghost use Rattle.stmt_code.specs.Moving.{are_moved, is_moved, names_composite, source_at, variable_at};
 ghost use Rattle.stmt_code.specs.Bounds.{stmt_bound};
 ghost use Rattle.stmt_code.specs.Passing.{holds_variables};
-ghost use Rattle.stmt_code.specs.Refusing.{assignment_needs, moved_needs, Refuses};
+ghost use Rattle.stmt_code.specs.Refusing.{assignment_needs, move_needs, moved_needs, moves_needs, Refuses, RefusesMove, RefusesMoves};
 ghost use Rattle.stmt_code.specs.Staying.{Stays};
 ghost use Rattle.stmt_code.specs.Statements.{Ways};
 ghost use Rattle.well_typed.specs.SoundScopes.{SoundScope};
@@ -20,9 +26,9 @@ ghost use Rattle.well_typed.specs.SoundScopes.{SoundScope};
 use crate::call::{holds_variables, words_of};
 use crate::draft::Draft;
 use ada_tree::laws::{chains_by_parts, conditional_by_parts, names_by_parts};
-use ada_tree::{Expr, NameExpr};
-use expr_code::{Refusal, Slot, Visible};
-use image::Operation;
+use ada_tree::{ElsifValue, Expr, NameExpr};
+use expr_code::{Code, Refusal, Slot, Visible};
+use image::{Operation, Region};
 use kernel::laws::quiet_stays;
 use types::laws::{parts_have_places, values_have_words};
 use types::{Role, Standing, Subtype, TypeForm};
@@ -35,21 +41,11 @@ pub struct Source {
     pub whole: Subtype,
 }
 
-// The name that an expression is, in whatever parentheses.
-fn name_inside(e: &Expr) -> Option<&NameExpr>
-    ensures { option_map (λ name. name_tree name.now) result ≡ name_inside (expr_tree e.now) }
-{
-    chains_by_parts();
-    conditional_by_parts();
-    names_by_parts();
-    match e {
-        Expr::Number(..) => None,
-        Expr::Name(name) => Some(name),
-        Expr::Parenthesized(_, inner) => name_inside(inner),
-        Expr::Unary(..) => None,
-        Expr::Chain(..) => None,
-        Expr::Conditional(..) => None,
-    }
+/// The words that are moved: how many, and to an address in which region.
+#[derive(Clone, Copy)]
+pub struct Moved {
+    pub region: Region,
+    pub words: u16,
 }
 
 /// Whether values of a subtype are arrays or records.
@@ -99,6 +95,145 @@ fn source_of(visible: &Visible, name: &NameExpr) -> Option<Source>
     }
 }
 
+// Whether each value that may be chosen is that of a variable, or of a part of one.
+#[cycle(is_moved)]
+fn is_moved(visible: &Visible, e: &Expr) -> bool
+    ensures { result ≡ is_moved visible.now (expr_tree e.now) }
+{
+    chains_by_parts();
+    conditional_by_parts();
+    names_by_parts();
+    match e {
+        Expr::Number(..) => false,
+        Expr::Name(name) => source_of(visible, name).is_some(),
+        Expr::Parenthesized(_, inner) => is_moved(visible, inner),
+        Expr::Unary(..) => false,
+        Expr::Chain(..) => false,
+        Expr::Conditional(_, _, value, elsifs, last) => {
+            is_moved(visible, value) && (are_moved(visible, elsifs) && is_moved(visible, last))
+        }
+    }
+}
+
+// ... in the parts behind the first one.
+#[cycle(is_moved)]
+fn are_moved(visible: &Visible, elsifs: &[ElsifValue]) -> bool
+    ensures { result ≡ are_moved visible.now (elsif_value_trees elsifs.now) }
+{
+    for elsif in elsifs {
+        if !is_moved(visible, &elsif.value) {
+            return false;
+        }
+    }
+    true
+}
+
+// Adds the address of what is named, above that on the operand stack, and what moves its words from there.
+fn add_named(code: &mut Code, visible: &Visible, to: Moved, name: &NameExpr) -> Result<(), Refusal>
+    requires sound { SoundScope visible.now.scope }
+    requires legal { expressions.IsLegal visible.now.scope (Named (name_tree name.now).first (name_tree name.now).selectors) }
+    requires moved { is_moved visible.now (Named (name_tree name.now).first (name_tree name.now).selectors) ≡ true }
+    requires block { is_block to.words ≡ true }
+    requires holds { holds_variables to.region ≡ true }
+    ensures emits { OnOk result (EmitsMove visible.now to code.old (Named (name_tree name.now).first (name_tree name.now).selectors) code.new) }
+    ensures refused { IfErr result (λ why. RefusesMove visible.now code.old (Named (name_tree name.now).first (name_tree name.now).selectors) why) }
+    ensures shallow { OnOk result (IsShallow code.old code.new (move_needs visible.now (Named (name_tree name.now).first (name_tree name.now).selectors)).stack) }
+{
+    let Some(source) = source_of(visible, name) else {
+        unreachable!();
+    };
+    code.address(visible, 1, source.slot, source.whole, &name.selectors)?;
+    let copy = Operation::Copy {
+        target: to.region,
+        source: source.slot.region,
+        words: to.words,
+    };
+    code.emit(2, copy)
+}
+
+// Adds what moves the words of an array or a record to the address on the operand stack, which is taken off.
+#[cycle(add_move)]
+fn add_move(code: &mut Code, visible: &Visible, to: Moved, e: &Expr) -> Result<(), Refusal>
+    requires sound { SoundScope visible.now.scope }
+    requires legal { expressions.IsLegal visible.now.scope (expr_tree e.now) }
+    requires moved { is_moved visible.now (expr_tree e.now) ≡ true }
+    requires block { is_block to.words ≡ true }
+    requires holds { holds_variables to.region ≡ true }
+    ensures emits { OnOk result (EmitsMove visible.now to code.old (expr_tree e.now) code.new) }
+    ensures refused { IfErr result (λ why. RefusesMove visible.now code.old (expr_tree e.now) why) }
+    ensures shallow { OnOk result (IsShallow code.old code.new (move_needs visible.now (expr_tree e.now)).stack) }
+{
+    chains_by_parts();
+    conditional_by_parts();
+    names_by_parts();
+    match e {
+        Expr::Number(..) => unreachable!(),
+        Expr::Name(name) => add_named(code, visible, to, name),
+        Expr::Parenthesized(_, inner) => add_move(code, visible, to, inner),
+        Expr::Unary(..) => unreachable!(),
+        Expr::Chain(..) => unreachable!(),
+        Expr::Conditional(_, condition, value, elsifs, last) => {
+            let mut waiting = Vec::new(code.alloc);
+            add_branch(code, visible, to, value, condition, &mut waiting)?;
+            add_branches(code, visible, to, elsifs, &mut waiting)?;
+            add_move(code, visible, to, last)?;
+            code.rejoin(&waiting)
+        }
+    }
+}
+
+// Adds a condition, a jump behind the value for it where it does not hold, what moves that value, and a jump whose place waits for the end (RM 4.5.7).
+#[cycle(add_move)]
+fn add_branch(
+    code: &mut Code,
+    visible: &Visible,
+    to: Moved,
+    value: &Expr,
+    condition: &Expr,
+    waiting: &mut Vec<usize>,
+) -> Result<(), Refusal>
+    requires sound { SoundScope visible.now.scope }
+    requires condition { expressions.IsLegal visible.now.scope (expr_tree condition.now) }
+    requires wide { width_of visible.now.scope (expr_tree condition.now) ≡ 1 }
+    requires legal { expressions.IsLegal visible.now.scope (expr_tree value.now) }
+    requires moved { is_moved visible.now (expr_tree value.now) ≡ true }
+    requires block { is_block to.words ≡ true }
+    requires holds { holds_variables to.region ≡ true }
+    ensures adds { OnOk result (AddsMoves visible.now to code.old (record { condition = expr_tree condition.now; value = expr_tree value.now } ∷ []) waiting.old.items waiting.new.items code.new) }
+    ensures refused { IfErr result (λ why. RefusesMoves visible.now code.old (record { condition = expr_tree condition.now; value = expr_tree value.now } ∷ []) why) }
+    ensures shallow { OnOk result (IsShallow code.old code.new (moves_needs visible.now (alone (record { condition = expr_tree condition.now; value = expr_tree value.now } ∷ []))).stack) }
+{
+    code.of_width(visible, 1, 1, condition)?;
+    let test = code.test(1)?;
+    add_move(code, visible, to, value)?;
+    code.close(0, test, waiting)
+}
+
+// Adds those of the parts behind the first one.
+#[cycle(add_move)]
+fn add_branches(
+    code: &mut Code,
+    visible: &Visible,
+    to: Moved,
+    elsifs: &[ElsifValue],
+    waiting: &mut Vec<usize>,
+) -> Result<(), Refusal>
+    requires sound { SoundScope visible.now.scope }
+    requires legal { AreLegalBranches visible.now.scope (map branch_of elsifs.now) }
+    requires wide { (n : ℕ) × AreWide visible.now.scope n (map branch_of elsifs.now) }
+    requires moved { are_moved visible.now (alone (map branch_of elsifs.now)) ≡ true }
+    requires block { is_block to.words ≡ true }
+    requires holds { holds_variables to.region ≡ true }
+    ensures adds { OnOk result (AddsMoves visible.now to code.old (map branch_of elsifs.now) waiting.old.items waiting.new.items code.new) }
+    ensures refused { IfErr result (λ why. RefusesMoves visible.now code.old (map branch_of elsifs.now) why) }
+    ensures shallow { OnOk result (IsShallow code.old code.new (moves_needs visible.now (alone (map branch_of elsifs.now))).stack) }
+{
+    for elsif in elsifs {
+        add_branch(code, visible, to, &elsif.value, &elsif.condition, waiting)?;
+    }
+    Ok(())
+}
+
 impl Draft {
     /// Adds the code of an assignment to an array or a record, or to a part that is one.
     pub(crate) fn assign_composite(
@@ -120,16 +255,13 @@ impl Draft {
         ensures refused { IfErr result (λ why. Refuses self.old self.old.labels (stmt_bound visible.now.scope (Assignment (name_tree name.now) (expr_tree value.now))) (assignment_needs visible.now (name_tree name.now) (expr_tree value.now)) why) }
         ensures stays { OnOk result (Stays self.old (assignment_needs visible.now (name_tree name.now) (expr_tree value.now)) self.old.labels (length self.old.rows.items) self.new) }
     {
-        let Some(moved) = name_inside(value) else {
-            return self.assign_part(visible, slot, subtype, name, value);
-        };
-        match source_of(visible, moved) {
-            Some(source) => { self.move_words(visible, slot, subtype, name, value, moved, source) }
-            None => self.assign_part(visible, slot, subtype, name, value),
+        if is_moved(visible, value) {
+            return self.move_words(visible, slot, subtype, name, value);
         }
+        self.assign_part(visible, slot, subtype, name, value)
     }
 
-    // From a variable, or a part of one: both addresses, and what moves the words from one to the other.
+    // From variables, or parts of them: the target's address, and what moves the words to it.
     fn move_words(
         &mut self,
         visible: &Visible,
@@ -137,8 +269,6 @@ impl Draft {
         subtype: Subtype,
         name: &NameExpr,
         value: &Expr,
-        moved: &NameExpr,
-        source: Source,
     ) -> Result<(), Refusal>
         requires sound { SoundScope visible.now.scope }
         requires legal { IsLegal visible.now.scope (Assignment (name_tree name.now) (expr_tree value.now)) }
@@ -146,11 +276,10 @@ impl Draft {
         requires there { slot_of visible.now (name_tree name.now).first.name ≡ Some slot }
         requires composite { let n = name_tree name.now in names_composite visible.now.scope (standing_of visible.now.scope n.first n.selectors) ≡ true }
         requires holds { holds_variables slot.region ≡ true }
-        requires inside { name_inside (expr_tree value.now) ≡ Some (name_tree moved.now) }
-        requires source { source_at visible.now (name_tree moved.now) ≡ Some source }
+        requires moved { is_moved visible.now (expr_tree value.now) ≡ true }
         ensures emits { (w : Ways) → OnOk result (EmitsStatement visible.now w self.old (Assignment (name_tree name.now) (expr_tree value.now)) self.new) }
-        ensures refused { IfErr result (λ why. Refuses self.old self.old.labels (stmt_bound visible.now.scope (Assignment (name_tree name.now) (expr_tree value.now))) (moved_needs visible.now (name_tree name.now) (name_tree moved.now)) why) }
-        ensures stays { OnOk result (Stays self.old (moved_needs visible.now (name_tree name.now) (name_tree moved.now)) self.old.labels (length self.old.rows.items) self.new) }
+        ensures refused { IfErr result (λ why. Refuses self.old self.old.labels (stmt_bound visible.now.scope (Assignment (name_tree name.now) (expr_tree value.now))) (moved_needs visible.now (name_tree name.now) (expr_tree value.now)) why) }
+        ensures stays { OnOk result (Stays self.old (moved_needs visible.now (name_tree name.now) (expr_tree value.now)) self.old.labels (length self.old.rows.items) self.new) }
     {
         agreement_is_kept();
         calls_are_typed();
@@ -161,14 +290,11 @@ impl Draft {
         let last = self
             .code
             .address(visible, 0, slot, subtype, &name.selectors)?;
-        self.code
-            .address(visible, 1, source.slot, source.whole, &moved.selectors)?;
         let words = words_of(visible, last)?;
-        let copy = Operation::Copy {
-            target: slot.region,
-            source: source.slot.region,
+        let to = Moved {
+            region: slot.region,
             words,
         };
-        self.code.emit(2, copy)
+        add_move(&mut self.code, visible, to, value)
     }
 }
