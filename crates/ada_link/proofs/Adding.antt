@@ -122,7 +122,7 @@ module _ (scopes : ScopesAreSound) (known : NamesAreKnown) (premises : PremisesH
   abbrev around : Around
   around = in_body (kind_of before d.result)
 
-  body_legal : body_faults inside (kind_of before d.result) b ≡ []
+  pub body_legal : body_faults inside (kind_of before d.result) b ≡ []
   body_legal = body_unbroken scopes program start all w fronts k d b at
 
   declared : locals_faults inside b.declarations ≡ []
@@ -187,15 +187,14 @@ module _ (scopes : ScopesAreSound) (known : NamesAreKnown) (premises : PremisesH
         ∙ ap (λ o. result_wanted (kind.Function (type_number o))) told.1
         ∙ ap (λ u. OfType u.type_number) (sym named)
 
+    pub value_legal : faults_of inside (OfType result.type_number) value ≡ []
+    value_legal =
+        subst (λ x. faults_of inside x value ≡ []) wanted
+        (subst (λ s. faults_of s (result_wanted (kind_of before d.result)) value ≡ []) no_more
+        (value_unbroken later around b.statements value is statements))
+
     fit : IsFit inside result value
-    fit = record {
-      wanted = OfType result.type_number;
-      fits = refl;
-      unbroken =
-          subst (λ x. faults_of inside x value ≡ []) wanted
-          (subst (λ s. faults_of s (result_wanted (kind_of before d.result)) value ≡ []) no_more
-          (value_unbroken later around b.statements value is statements));
-    }
+    fit = record { wanted = OfType result.type_number; fits = refl; unbroken = value_legal }
 
   pub body_added : MayBeAdded t (front t (suc k)) d b
   body_added = record {

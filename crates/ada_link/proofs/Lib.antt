@@ -20,13 +20,13 @@ pub mod EmittedFrames
 pub mod EmittedBodies
 pub mod EmittedFunctions
 pub mod EmittedMain
-mod Variables
+pub mod Variables
 mod InitialWords
 mod Declared
 mod Told
 mod Walked
 mod BodyRows
-mod Adding
+pub mod Adding
 mod MainCalls
 mod Linking
 mod Counted
@@ -34,7 +34,7 @@ mod Suited
 mod KeptCode
 mod RowRules
 mod WellFormed
-mod Seen
+pub mod Seen
 mod ItemsTold
 mod AsTold
 mod Numbered
@@ -46,6 +46,7 @@ mod Refusals
 mod Differing
 mod LabelsFit
 mod WordsFit
+mod CountsFit
 mod Tables
 mod BodyRefused
 mod MemoryAlone

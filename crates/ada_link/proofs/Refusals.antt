@@ -178,7 +178,7 @@ module _ (t : ProgramTree) where
         main_is = ap (list_all main_named) h.tasks ∙ and_true (is_name t.main.name.name)
 
     pub texts_refused : has_texts i ≡ false → RefusesParts t refusal.Outside
-    texts_refused missed = inr (inr (inr (sym texts_are ∙ missed)))
+    texts_refused missed = inr (inr (inr (inr (sym texts_are ∙ missed))))
 
     either : (a b : Bool) (C : Type 0) → (a && b) ≡ false → (a ≡ false → C) → (b ≡ false → C) → C
     either false b C e left right = left refl
@@ -198,21 +198,25 @@ module _ (t : ProgramTree) where
         either (nat_le (length i.subprograms) SUBPROGRAMS) _ (RefusesParts t refusal.Limit) missed
         (λ e. inr (inr (inl (inl (let up = beyond_ (length i.subprograms) SUBPROGRAMS e in omega (arith, up, many))))))
         (λ rest. either (nat_le (length i.exceptions) EXCEPTIONS) _ (RefusesParts t refusal.Limit) rest
-        (λ e. inr (inr (inl (inr (inl (subst (λ l. EXCEPTIONS < length l) (h.exceptions ∙ h.are.exceptions) (beyond_ (length i.exceptions) EXCEPTIONS e)))))))
+        (λ e. inr (inr (inl (inr (subst (λ l. EXCEPTIONS < length l) (h.exceptions ∙ h.are.exceptions) (beyond_ (length i.exceptions) EXCEPTIONS e))))))
         (λ rest. either (nat_le (length i.labels) LABELS) _ (RefusesParts t refusal.Limit) rest
         (λ e. inl (inr (subst (λ l. LABELS < length l) labels (beyond_ (length i.labels) LABELS e))))
         (λ rest. either (nat_le (length i.plain_words) WORDS) (nat_le (length i.rows) ROWS) (RefusesParts t refusal.Limit) rest
         (λ e. inr (inl (subst (λ l. WORDS < length l) (h.plain_words ∙ h.are.words) (beyond_ (length i.plain_words) WORDS e))))
-        (λ e. inr (inr (inl (inr (inr (subst (λ n. ROWS < n) rows (beyond_ (length i.rows) ROWS e))))))))))
+        (λ e. inr (inr (inr (inl (subst (λ n. ROWS < n) rows (beyond_ (length i.rows) ROWS e)))))))))
 
   -- ---- no legal program has too many
 
   pub few_refused : HasFew t → (why : Refusal) → RefusesParts t why → RefusesProgram t why
   few_refused few why (inl (inl r)) = inl r
-  few_refused few why (inr (inr r)) = inr r
+  few_refused few why (inr (inr (inr r))) = inr r
   few_refused few refusal.Limit (inl (inr h)) = absurd (let up = few.labels in omega (arith, h, up))
   few_refused few refusal.Memory (inl (inr h)) = absurd h
   few_refused few refusal.Outside (inl (inr h)) = absurd h
   few_refused few refusal.Limit (inr (inl h)) = absurd (let up = few.words in omega (arith, h, up))
   few_refused few refusal.Memory (inr (inl h)) = absurd h
   few_refused few refusal.Outside (inr (inl h)) = absurd h
+  few_refused few refusal.Limit (inr (inr (inl (inl h)))) = absurd (let up = few.subprograms in omega (arith, h, up))
+  few_refused few refusal.Limit (inr (inr (inl (inr h)))) = absurd (let up = few.exceptions in omega (arith, h, up))
+  few_refused few refusal.Memory (inr (inr (inl h))) = absurd h
+  few_refused few refusal.Outside (inr (inr (inl h))) = absurd h

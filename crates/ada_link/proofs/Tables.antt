@@ -1,4 +1,4 @@
--- An accepted program has no more labels, and its variables no more words, than an image.
+-- An accepted program has no more labels, subprograms and exceptions, and its variables no more words, than an image.
 use Rattle.std.proofs.Common.{◌≡◌, []}
 use Rattle.expr_rules.proofs.TypedLaw.{back_empty}
 use Rattle.ada_tree.specs.ProgramTree.{ProgramTree}
@@ -6,6 +6,7 @@ use Rattle.checking.specs.ProgramLayouts.{WordsHaveRoom}
 use Rattle.checking.specs.ProgramRules.{IsLegal}
 use Rattle.size_rules.specs.ProgramSizes.{size_faults}
 use Rattle.ada_link.specs.Laws.{TablesAreSmall}
+use Rattle.ada_link.proofs.CountsFit.{exceptions_few, subprograms_few}
 use Rattle.ada_link.proofs.InFront.{LawsOfNames}
 use Rattle.ada_link.proofs.LabelsFit.{labels_few}
 use Rattle.ada_link.proofs.WordsFit.{words_few}
@@ -19,4 +20,6 @@ tables_small laws room t legal restricted =
     record {
       labels = labels_few t.package_ sizes;
       words = words_few laws t legal restricted room sizes;
+      subprograms = subprograms_few laws.premises t legal restricted sizes;
+      exceptions = exceptions_few t.package_ sizes;
     }

@@ -1,6 +1,6 @@
 -- What is proved of code that is put together from a program, as statements; each is the contract of a public function.
 use Rattle.std.specs.Prelude.{◌≡◌, ◌+◌, ◌≤◌, ℕ, suc, [], length, true, false, Some, is_some, slice_get}
-use Rattle.base.specs.declared.limits.TheConstants.{LABELS, WORDS}
+use Rattle.base.specs.declared.limits.TheConstants.{EXCEPTIONS, LABELS, SUBPROGRAMS, WORDS}
 use Rattle.ada_tree.specs.declared.expression.Identifier.{Identifier}
 use Rattle.ada_tree.specs.ExpressionTree.{ExprTree}
 use Rattle.ada_tree.specs.StatementTree.{SubprogramTree}
@@ -21,7 +21,7 @@ use Rattle.expr_code.specs.Emitting.{IsFit}
 use Rattle.stmt_code.specs.Emitting.{IsLegalRun}
 use Rattle.stmt_code.specs.Refusing.{are_unknown}
 use Rattle.stmt_code.specs.Subprograms.{CallsProcedures}
-use Rattle.ada_link.specs.Counts.{bodies_before, instructions_bound}
+use Rattle.ada_link.specs.Counts.{bodies_among, bodies_before, instructions_bound}
 use Rattle.ada_link.specs.Globals.{refuses_items}
 use Rattle.ada_link.specs.Package.{first_words_of}
 use Rattle.ada_link.specs.Program.{HasProgram, KeepsTables}
@@ -62,10 +62,12 @@ abbrev pub VariablesArePlaced : Type 0
 VariablesArePlaced = (t : ProgramTree) → IsLegal t → IsRestricted t → refuses_items (program_of t).scope [] (package_items t.package_) ≡ true
     → (program_needs t).outside ≡ true
 
--- a program has no more labels, and its variables no more words, than an image
+-- a program has no more labels, subprograms, main's among them, and exceptions, and its variables no more words, than an image
 pub record HasFew (t : ProgramTree) : Type 0 where
   pub labels : length (program_labels t) ≤ LABELS
   pub words : length (first_words_of (program_of t).variables) ≤ WORDS
+  pub subprograms : suc (bodies_among (declared_in t.package_)) ≤ SUBPROGRAMS
+  pub exceptions : length (program_of t).exceptions ≤ EXCEPTIONS
 
 -- that is so of accepted ones
 abbrev pub TablesAreSmall : Type 0

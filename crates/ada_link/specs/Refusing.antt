@@ -146,11 +146,15 @@ program_rows t = items_rows 0 (declared_in t.package_)
 abbrev pub RefusesCode : ProgramTree → Refusal → Type 0
 RefusesCode t why = IsNeeding (program_bound t) (program_needs t) why ⊎ HasManyLabels (program_labels t) why
 
--- it has more subprograms, main's among them, more exceptions, or more rows of handlers than an image
+-- it has more subprograms, main's among them, or more exceptions than an image
 abbrev pub HasMany : ProgramTree → Refusal → Type 0
-HasMany t refusal.Limit =
-    (SUBPROGRAMS < suc (bodies_among (declared_in t.package_))) ⊎ ((EXCEPTIONS < length (program_of t).exceptions) ⊎ (ROWS < program_rows t))
+HasMany t refusal.Limit = (SUBPROGRAMS < suc (bodies_among (declared_in t.package_))) ⊎ (EXCEPTIONS < length (program_of t).exceptions)
 HasMany t why = ⊥
+
+-- ... or more rows of handlers
+abbrev pub HasManyRows : ProgramTree → Refusal → Type 0
+HasManyRows t refusal.Limit = ROWS < program_rows t
+HasManyRows t why = ⊥
 
 -- ... or more words of variables
 abbrev pub HasManyWords : ProgramTree → Refusal → Type 0
@@ -167,11 +171,11 @@ IsMisspelt t why = ⊥
 
 -- Why no sections are put together: for want of memory, because of its code, because an image has fewer of something, or because of a text.
 abbrev pub RefusesParts : ProgramTree → Refusal → Type 0
-RefusesParts t why = RefusesCode t why ⊎ (HasManyWords t why ⊎ (HasMany t why ⊎ IsMisspelt t why))
+RefusesParts t why = RefusesCode t why ⊎ (HasManyWords t why ⊎ (HasMany t why ⊎ (HasManyRows t why ⊎ IsMisspelt t why)))
 
 -- Why an accepted program is refused. Memory may always be refused. It is outside where it has what code isn't made of, or a text is misspelt. It passes a limit
 -- where all its code may have more instructions than an image, where a frame and its operand stack need more words together than a frame has, where an object
--- takes no words, or more than an image has, or where it has more subprograms, exceptions or rows of handlers than an image. No legal program has too many labels
--- or words of variables.
+-- takes no words, or more than an image has, or where it has more rows of handlers than an image. No legal program has too many labels, words of variables,
+-- subprograms or exceptions.
 abbrev pub RefusesProgram : ProgramTree → Refusal → Type 0
-RefusesProgram t why = IsNeeding (program_bound t) (program_needs t) why ⊎ (HasMany t why ⊎ IsMisspelt t why)
+RefusesProgram t why = IsNeeding (program_bound t) (program_needs t) why ⊎ (HasManyRows t why ⊎ IsMisspelt t why)

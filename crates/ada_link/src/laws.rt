@@ -41,7 +41,7 @@ pub fn variables_are_placed()
     premises_hold();
 }
 
-/// An accepted program has no more labels and words of variables than an image (docs/LANGUAGE.md, "Limits").
+/// An accepted program has no more labels, words of variables, subprograms and exceptions than an image (docs/LANGUAGE.md, "Limits").
 pub fn tables_are_small()
     ensures { TablesAreSmall }
 {
