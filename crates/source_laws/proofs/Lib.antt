@@ -1,0 +1,31 @@
+mod SpelledTokens
+mod SpelledStatements
+mod SpelledPrograms
+mod RowsCounted
+mod CodeCounted
+mod WholeItems
+mod UnitClauses
+mod BoundedNames
+mod FullShapes
+mod VisibleWords
+mod FewCallees
+mod CalleesSmall
+mod FitScopes
+mod FitNeeds
+mod FitBodies
+mod SmallBodies
+pub mod Peaks
+pub mod PeakBounds
+pub mod PeakSlots
+pub mod NeedsScopes
+pub mod NeedsBounds
+pub mod NeedsShapes
+pub mod NeedsValues
+pub mod NeedsCalls
+pub mod NeedsAssignments
+pub mod NeedsLocals
+pub mod NeedsStatements
+pub mod NeedsFormals
+pub mod NeedsBodies
+pub mod NeedsNames
+pub mod NeedsMoves

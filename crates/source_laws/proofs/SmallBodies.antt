@@ -1,0 +1,307 @@
+-- Each body of a small accepted text is small, so its code has room; and no limit refuses the text.
+use Rattle.std.proofs.Common.{◌≡◌, ℕ, zero, suc, ◌+◌, ◌≤◌, max, Bool, true, false, List, [], ◌∷◌, ◌++◌, length, map, inl, inr, Option, Some, None, refl, sym, ap, ◌∙◌, subst, arith}
+use Rattle.std.specs.Prelude.{bytes_eq, cond, nat_eq, not, slice_get}
+use Rattle.std.proofs.lemmas.Bool.{or_from, or_parts}
+use Rattle.base.specs.declared.limits.TheConstants.{FORMALS, FRAME_WORDS}
+use Rattle.lexer.specs.declared.token.Token.{Token}
+use Rattle.ada_tree.specs.declared.expression.Identifier.{Identifier}
+use Rattle.ada_tree.specs.Depth.{body_depth, body_item_depth, deepest, depth, depth_if_any, expr_depth, item_depth, main_depth, package_depth, stmts_depth, subprogram_depth}
+use Rattle.ada_tree.specs.ExpressionGrammar.{expression}
+use Rattle.ada_tree.specs.ExpressionTree.{ExprTree}
+use Rattle.ada_tree.specs.Language.{Limit, Tokens, each, optional}
+use Rattle.ada_tree.specs.ProgramGrammar.{body, body_item, package_part, program}
+use Rattle.ada_tree.specs.StatementGrammar.{stmts}
+use Rattle.ada_tree.specs.StatementTree.{MoreStmts, NoStmts, Return, StmtTrees, SubprogramTree}
+use Rattle.ada_tree.specs.ProgramTree.{BodyItemTree, BodyTree, ItemTree, OfItem, PackageTree, ProgramTree, ProtectedBody, SubprogramBody, TaskBody}
+use Rattle.image.specs.declared.instruction.Region.TheVariants as regions
+use Rattle.types.specs.Places.{Object}
+use Rattle.types.specs.Scopes.{Scope}
+use Rattle.types.specs.Shapes.{value_words}
+use Rattle.expr_rules.proofs.TypedLaw.{front_empty}
+use Rattle.type_rules.specs.ProfileRules.{formals_faults, function_faults, profile_faults, result_faults}
+use Rattle.declaring.specs.BodyNames.{formals_scope}
+use Rattle.declaring.specs.ProtectedRules.{protected_count}
+use Rattle.legality.specs.BodyRules.{body_name_faults, function_body_faults, kind_of, own_name_faults}
+use Rattle.checking.specs.ProgramRules.{IsLegal}
+use Rattle.ravenscar.specs.ProgramRules.{IsRestricted}
+use Rattle.meaning.specs.Programs.{program_of, returned, subtype_named}
+use Rattle.well_typed.specs.Laws.{ScopesAreSound}
+use Rattle.sound_programs.specs.BodyLaws.{NamesAreKnown, PremisesHold}
+use Rattle.sound_programs.specs.Fronts.{declared_in, front, start_in}
+use Rattle.sound_programs.proofs.Called.{head_legal}
+use Rattle.sound_programs.proofs.Listing.{same_some}
+use Rattle.sound_programs.proofs.Trees.{tree_package}
+use Rattle.expr_code.specs.declared.refusal.Refusal.TheVariants as refusal
+use Rattle.stmt_code.specs.Bounds.{body_words, formals_words}
+use Rattle.stmt_code.specs.Refusing.{Needs, beyond_if, both}
+use Rattle.stmt_code.specs.WholeRefusals.{procedure_needs}
+use Rattle.expr_code.specs.declared.visible.Slot.{Slot}
+use Rattle.ada_link.specs.Package.{place_among}
+use Rattle.ada_link.specs.Refusing.{RefusesProgram, slot_in, told_behind, function_if_any, item_needs, items_needs, program_needs, seen_at}
+use Rattle.ada_link.proofs.Adding.{body_legal, value_legal}
+use Rattle.source_laws.specs.Depths.{AreHeld, FunctionsHaveRoom, HasRoom, IsSmallVisible, IsSmallFunction, IsSmallProcedure, ProceduresHaveRoom}
+use Rattle.source_laws.specs.Limits.{SmallHasRoom, SmallIsUnlimited}
+use Rattle.source_laws.specs.Small.{IsSmall, SmallCodeFits, body_loops}
+use Rattle.source_laws.specs.Visible.{FrontsAreSmall, NothingIsUnfit}
+use Rattle.source_laws.proofs.CodeCounted.{behind, behind_is}
+use Rattle.source_laws.proofs.FewCallees.{few_formals}
+
+-- ---- the tokens of a body, and its depth
+
+-- those that spell the body at a place
+items_spelled : (limit : Limit) (xs : List BodyItemTree) (ts : Tokens) (k : ℕ) (d : SubprogramTree) (b : BodyTree) → each (body_item limit) xs ts
+    → slice_get xs k ≡ Some (SubprogramBody d b)
+    → (u : Tokens) × body limit b u
+items_spelled limit [] ts k d b h at = cc
+items_spelled limit (x ∷ xs) ts zero d b h at =
+    let own = subst (λ y. body_item limit y h.0) (same_some x (SubprogramBody d b) at) h.3 in (own.4.1, own.4.4)
+items_spelled limit (x ∷ xs) ts (suc k) d b h at = items_spelled limit xs h.1 k d b h.4 at
+
+-- a body is none of the declarations in front
+behind_items : {P : Type 0} (ds : List ItemTree) (xs : List BodyItemTree) (k : ℕ) (d : SubprogramTree) (b : BodyTree)
+    → slice_get (map OfItem ds ++ xs) k ≡ Some (SubprogramBody d b)
+    → ((n : ℕ) → slice_get xs n ≡ Some (SubprogramBody d b) → P)
+    → P
+behind_items [] xs k d b at f = f k at
+behind_items (e ∷ ds) xs zero d b at f = cc
+behind_items (e ∷ ds) xs (suc k) d b at f = behind_items ds xs k d b at f
+
+body_spelled : (limit : Limit) (t : ProgramTree) (ts : Tokens) (k : ℕ) (d : SubprogramTree) (b : BodyTree) → program limit t ts
+    → slice_get (declared_in t.package_) k ≡ Some (SubprogramBody d b)
+    → (u : Tokens) × body limit b u
+body_spelled limit t ts k d b h at = by_package t.package_ h.4.0 h.4.3 at
+  where
+    by_package : (o : Option PackageTree) (us : Tokens) → optional (package_part limit) o us → slice_get (declared_in o) k ≡ Some (SubprogramBody d b)
+        → (u : Tokens) × body limit b u
+    by_package None us i there = cc
+    by_package (Some p) us i there =
+        behind_items p.declaration.items p.body.items k d b there (λ n found. items_spelled limit p.body.items _ n d b i.4.4.3.4.4.4.4.3 found)
+
+items_deep : (xs : List BodyItemTree) (k : ℕ) (d : SubprogramTree) (b : BodyTree) → slice_get xs k ≡ Some (SubprogramBody d b)
+    → body_depth b ≤ deepest body_item_depth xs
+items_deep [] k d b at = cc
+items_deep (x ∷ xs) zero d b at =
+    within (subprogram_depth d) (body_depth b) (body_item_depth x) (deepest body_item_depth xs) (ap body_item_depth (same_some x (SubprogramBody d b) at))
+  where
+    within : (a c e f : ℕ) → e ≡ max a c → c ≤ max e f
+    within a c e f h = omega (arith, h)
+items_deep (x ∷ xs) (suc k) d b at =
+    further (body_depth b) (body_item_depth x) (deepest body_item_depth xs) (items_deep xs k d b at)
+  where
+    further : (a c e : ℕ) → a ≤ e → a ≤ max c e
+    further a c e h = omega (arith, h)
+
+body_shallow : (t : ProgramTree) (k : ℕ) (d : SubprogramTree) (b : BodyTree) → slice_get (declared_in t.package_) k ≡ Some (SubprogramBody d b)
+    → body_depth b ≤ depth t
+body_shallow t k d b at = by_package t.package_ at
+  where
+    within : (a c e f : ℕ) → a ≤ e → a ≤ max (max c e) f
+    within a c e f h = omega (arith, h)
+
+    by_package : (o : Option PackageTree) → slice_get (declared_in o) k ≡ Some (SubprogramBody d b)
+        → body_depth b ≤ max (depth_if_any package_depth o) (main_depth t.main)
+    by_package None there = cc
+    by_package (Some p) there =
+        behind_items p.declaration.items p.body.items k d b there
+        (λ n found. within (body_depth b) (deepest item_depth p.declaration.items) (deepest body_item_depth p.body.items) (main_depth t.main)
+        (items_deep p.body.items n d b found))
+
+-- the value that a function returns
+record IsValue (limit : Limit) (body : StmtTrees) (e : ExprTree) : Type 0 where
+  tokens : Tokens
+  spelled : expression limit e tokens
+  shallow : expr_depth e ≤ stmts_depth body
+
+value_there : (limit : Limit) (body : StmtTrees) (ts : Tokens) (e : ExprTree) → stmts body limit ts → returned body ≡ Some e → IsValue limit body e
+value_there limit (MoreStmts (Return place (Some x)) NoStmts) ts e h is =
+    let same = same_some x e is in
+    record {
+      tokens = h.3.4.0;
+      spelled = subst (λ y. expression limit y h.3.4.0) same h.3.4.3;
+      shallow = subst (λ y. expr_depth y ≤ max (expr_depth x) 0) same (omega arith);
+    }
+value_there limit (MoreStmts (Return place (Some x)) (MoreStmts y rest)) ts e h is = cc
+value_there limit (MoreStmts (Return place None) NoStmts) ts e h is = cc
+value_there limit (MoreStmts (Return place None) (MoreStmts y rest)) ts e h is = cc
+value_there limit body ts e h is = cc
+
+-- ---- bodies that have room
+
+abbrev IsMade : Needs → Type 0
+IsMade n = n.outside ≡ false
+
+room_of_both : (a b : Needs) → HasRoom a → HasRoom b → HasRoom (both a b)
+room_of_both a b h k =
+    record { stack = most a.stack b.stack h.stack k.stack; frame = most a.frame b.frame h.frame k.frame; fit = or_from a.unfit b.unfit h.fit k.fit }
+  where
+    most : (m n : ℕ) → m ≤ FRAME_WORDS → n ≤ FRAME_WORDS → max m n ≤ FRAME_WORDS
+    most m n i j = omega (arith, i, j)
+
+abbrev HaveRoom : ProgramTree → (place : ℕ) → List BodyItemTree → Type 0
+HaveRoom t place xs = (k : ℕ) (d : SubprogramTree) (b : BodyTree) → slice_get xs k ≡ Some (SubprogramBody d b)
+    → IsMade (item_needs t (behind place k) (SubprogramBody d b))
+    → HasRoom (item_needs t (behind place k) (SubprogramBody d b))
+
+items_room : (t : ProgramTree) (place : ℕ) (xs : List BodyItemTree) → HaveRoom t place xs → IsMade (items_needs t place xs) → HasRoom (items_needs t place xs)
+items_room t place [] room made = record { stack = omega arith; frame = omega arith; fit = refl }
+items_room t place (x ∷ rest) room made =
+    let parts = or_parts (item_needs t place x).outside (items_needs t (suc place) rest).outside made in
+    room_of_both (item_needs t place x) (items_needs t (suc place) rest) (one x (λ d b at. room 0 d b at) parts.0)
+    (items_room t (suc place) rest (λ k d b at own. room (suc k) d b at own) parts.1)
+  where
+    one : (y : BodyItemTree)
+        → ((d : SubprogramTree) (b : BodyTree) → Some y ≡ Some (SubprogramBody d b) → IsMade (item_needs t place (SubprogramBody d b))
+        → HasRoom (item_needs t place (SubprogramBody d b)))
+        → IsMade (item_needs t place y)
+        → HasRoom (item_needs t place y)
+    one (SubprogramBody d b) f own = f d b refl own
+    one (OfItem d) f own = record { stack = omega arith; frame = omega arith; fit = refl }
+    one (TaskBody name b) f own = record { stack = omega arith; frame = omega arith; fit = refl }
+    one (ProtectedBody name items end_name) f own = record { stack = omega arith; frame = omega arith; fit = refl }
+
+-- ---- words of what is visible in front of a body stand among those of the package
+
+held_with : (from : ℕ) (xs : List Object) (name : List ℕ) (rest : List (Option Slot)) → AreHeld rest → AreHeld (place_among from xs name ∷ rest)
+held_with from [] name rest h = h
+held_with from (x ∷ xs) name rest h =
+    by_test (bytes_eq x.name name) (held_with (from + length (value_words x.value)) xs name rest h)
+  where
+    by_test : (b : Bool) → AreHeld (place_among (from + length (value_words x.value)) xs name ∷ rest)
+        → AreHeld (cond b (Some (record { region = regions.Plain; offset = from })) (place_among (from + length (value_words x.value)) xs name) ∷ rest)
+    by_test true k = (refl, h)
+    by_test false k = k
+
+all_held : (t : ProgramTree) (first : ℕ) (s : Scope) → AreHeld (told_behind first (slot_in t) s)
+all_held t first [] = tt
+all_held t zero (n ∷ s) = held_with 0 (program_of t).variables n.name (told_behind zero (slot_in t) s) (all_held t zero s)
+all_held t (suc first) (n ∷ s) = all_held t first s
+
+-- ---- the bodies of a small text
+
+few_together : (a c e : ℕ) → a + c + e ≤ 64 → a + c ≤ 64
+few_together a c e h = omega (arith, h)
+
+few_formals_alone : (a c e : ℕ) → a + c + e ≤ 64 → a ≤ 64
+few_formals_alone a c e h = omega (arith, h)
+
+module _ (premises : PremisesHold) (names : NamesAreKnown) (scopes : ScopesAreSound) (fronts : FrontsAreSmall)
+    (procedures : ProceduresHaveRoom) (functions : FunctionsHaveRoom) (limit : Limit) (t : ProgramTree) (tokens : List Token) (spelled : program limit t tokens)
+    (legal : IsLegal t) (restricted : IsRestricted t) (small : IsSmall t tokens) (place : ℕ) (d : SubprogramTree) (b : BodyTree)
+    (at : slice_get (declared_in t.package_) place ≡ Some (SubprogramBody d b)) where
+  abbrev s : Scope
+  s = front t (suc place)
+
+  few : length d.formals ≤ FORMALS
+  few =
+      let here = front t place in
+      let w = tree_package t legal restricted (premises t legal).sound in
+      let head = head_legal (program_of t) (start_in t.package_) (declared_in t.package_) w place d b at in
+      let named = front_empty _ (function_body_faults d b) head in
+      let own = front_empty _ (body_name_faults here d.name) named in
+      let profile = front_empty (profile_faults here d) (own_name_faults d.name d.formals) own in
+      let given = front_empty _ (function_faults here d.name d.formals d.result) profile in
+      let many = few_formals here [] d.formals (omega arith) (front_empty (formals_faults here [] d.formals) (result_faults here d.result) given) in
+      omega (arith, many)
+
+  shallow : body_depth b ≤ 16
+  shallow = let own = body_shallow t place d b at in let whole = small.flat in omega (arith, own, whole)
+
+  small_visible : IsSmallVisible (seen_at t (suc place))
+  small_visible =
+      record {
+        names = fronts limit t tokens spelled legal restricted small (suc place);
+        slots = all_held t (length (start_in t.package_)) (front t (suc place));
+      }
+
+  small_procedure : IsSmallProcedure s d.formals b
+  small_procedure =
+      let own = body_spelled limit t tokens place d b spelled at in
+      record {
+        few = few;
+        limit = limit;
+        tokens = own.0;
+        spelled = own.1;
+        kind = kind_of (front t place) d.result;
+        legal = body_legal scopes names premises t legal restricted place d b at;
+        shallow = shallow;
+        words = few_together (formals_words s (formals_scope s d.formals) d.formals) (body_words (formals_scope s d.formals) b) (body_loops b)
+            (small.bodies place d b at);
+      }
+
+  small_function : (r : Identifier) (e : ExprTree) → d.result ≡ Some r → returned b.statements ≡ Some e
+      → IsSmallFunction s d.formals (subtype_named (program_of t).scope r) e
+  small_function r e some is =
+      let own = body_spelled limit t tokens place d b spelled at in
+      let value = value_there limit b.statements _ e own.1.4.4.3 is in
+      let up = value.shallow in
+      let whole = shallow in
+      record {
+        few = few;
+        limit = limit;
+        tokens = value.tokens;
+        spelled = value.spelled;
+        legal = value_legal scopes names premises t legal restricted place d b at r e some is;
+        shallow = under (expr_depth e) (stmts_depth b.statements) _ _ up whole;
+        words =
+            few_formals_alone (formals_words s (formals_scope s d.formals) d.formals) (body_words (formals_scope s d.formals) b) (body_loops b)
+            (small.bodies place d b at);
+      }
+    where
+      under : (a c e f : ℕ) → a ≤ c → max e (max c f) ≤ 16 → a ≤ 16
+      under a c e f h k = omega (arith, h, k)
+
+  body_room : IsMade (item_needs t place (SubprogramBody d b)) → HasRoom (item_needs t place (SubprogramBody d b))
+  body_room made = by_result d.result refl made
+    where
+      by_value : (r : Identifier) → d.result ≡ Some r → (o : Option ExprTree) → returned b.statements ≡ o
+          → IsMade (function_if_any (seen_at t (suc place)) d.formals (subtype_named (program_of t).scope r) o)
+          → HasRoom (function_if_any (seen_at t (suc place)) d.formals (subtype_named (program_of t).scope r) o)
+      by_value r some (Some e) is own =
+          functions (seen_at t (suc place)) d.formals (subtype_named (program_of t).scope r) e
+          (fronts limit t tokens spelled legal restricted small (suc place))
+          (small_function r e some is) own
+      by_value r some None is own = cc
+
+      by_result : (r : Option Identifier) → d.result ≡ r
+          → IsMade (elim r [
+            | None ↦ procedure_needs (seen_at t (suc place)) (program_of t).exceptions d.formals b
+            | Some x ↦ function_if_any (seen_at t (suc place)) d.formals (subtype_named (program_of t).scope x) (returned b.statements)
+          ])
+          → HasRoom (elim r [
+            | None ↦ procedure_needs (seen_at t (suc place)) (program_of t).exceptions d.formals b
+            | Some x ↦ function_if_any (seen_at t (suc place)) d.formals (subtype_named (program_of t).scope x) (returned b.statements)
+          ])
+      by_result None e own =
+          procedures (seen_at t (suc place)) (program_of t).exceptions d.formals b small_visible small_procedure own
+      by_result (Some x) e own = by_value x e (returned b.statements) refl own
+
+-- ---- the whole text
+
+pub small_has_room : PremisesHold → NamesAreKnown → ScopesAreSound → FrontsAreSmall → ProceduresHaveRoom → FunctionsHaveRoom → SmallHasRoom
+small_has_room premises names scopes fronts procedures functions limit t tokens spelled legal restricted small made =
+    let objects = beyond_if (not (nat_eq (protected_count (program_of t).scope) 0)) in
+    let parts = or_parts objects.outside (items_needs t 0 (declared_in t.package_)).outside made in
+    room_of_both objects (items_needs t 0 (declared_in t.package_)) (record { stack = omega arith; frame = omega arith; fit = refl })
+    (items_room t 0 (declared_in t.package_)
+    (λ k d b at own. at_place k d b at own
+    (body_room premises names scopes fronts procedures functions limit t tokens spelled legal restricted small k d b at))
+    parts.1)
+  where
+    at_place : (k : ℕ) (d : SubprogramTree) (b : BodyTree) → slice_get (declared_in t.package_) k ≡ Some (SubprogramBody d b)
+        → IsMade (item_needs t (behind 0 k) (SubprogramBody d b))
+        → (IsMade (item_needs t k (SubprogramBody d b)) → HasRoom (item_needs t k (SubprogramBody d b)))
+        → HasRoom (item_needs t (behind 0 k) (SubprogramBody d b))
+    at_place k d b at own f =
+        let same : k ≡ behind 0 k = (let e = behind_is 0 k in omega (arith, e)) in
+        subst (λ n. IsMade (item_needs t n (SubprogramBody d b)) → HasRoom (item_needs t n (SubprogramBody d b))) same f own
+
+pub small_is_unlimited : SmallHasRoom → SmallCodeFits → NothingIsUnfit → SmallIsUnlimited
+small_is_unlimited has_room fits unfit limit t tokens spelled legal restricted small made refused =
+    by_reason (has_room limit t tokens spelled legal restricted small made) refused
+  where
+    by_reason : HasRoom (program_needs t) → RefusesProgram t refusal.Limit → ⊥
+    by_reason room (inl (inl many)) = let up = (fits limit t tokens spelled legal restricted small).instructions in omega (arith, many, up)
+    by_reason room (inl (inr (inl deep))) = let one = room.stack in let two = room.frame in omega (arith, deep, one, two)
+    by_reason room (inl (inr (inr bad))) = let none = unfit limit t tokens spelled legal restricted in let never = sym none ∙ bad in cc
+    by_reason room (inr (inl many)) = let up = (fits limit t tokens spelled legal restricted small).rows in omega (arith, many, up)
+    by_reason room (inr (inr bad)) = bad

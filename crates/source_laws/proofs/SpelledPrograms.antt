@@ -1,0 +1,115 @@
+-- Where each token of a whole text is spelled, what stands as a name or a label in its tree is one.
+use Rattle.std.proofs.Common.{◌≡◌, ℕ, true, List, [], ◌∷◌, ◌++◌, map, Option, Some, None, inl, inr, refl, sym, ◌∙◌, subst}
+use Rattle.std.specs.List.{list_all}
+use Rattle.std.proofs.lemmas.Bool.{and_from}
+use Rattle.std.proofs.lemmas.List.Folds.{list_all-append}
+use Rattle.base.specs.Names.{is_name, predefined}
+use Rattle.ada_tree.specs.declared.expression.Identifier.{Identifier}
+use Rattle.ada_tree.specs.StatementTree.{SubprogramTree}
+use Rattle.ada_tree.specs.ProgramTree.{BodyItemTree, BodyTree, ItemTree, OfException, OfItem, PackageTree, ProgramTree, SubprogramBody}
+use Rattle.ada_tree.specs.Language.{Limit, each, optional}
+use Rattle.ada_tree.specs.ProgramGrammar.{body, body_item, item, package_part, program}
+use Rattle.meaning.specs.Programs.{exceptions_among, items_among, package_items}
+use Rattle.sound_programs.specs.Fronts.{declared_in}
+use Rattle.stmt_code.specs.WholeRefusals.{body_labels}
+use Rattle.ada_link.specs.Refusing.{is_spelled, item_labels, items_labels, program_labels}
+use Rattle.ada_link.proofs.Variables.{exceptions_both}
+use Rattle.source_laws.specs.Spelled.{OutsideIsTold, TextsAreSpelled}
+use Rattle.source_laws.proofs.SpelledTokens.{spelled_tokens}
+use Rattle.source_laws.proofs.SpelledStatements.{AreLabels, Keeps, Tells, body_told, both_told, joined, known, later, named, same, sooner}
+
+-- ---- labels of bodies
+
+subprogram_told : (d : SubprogramTree) (b : BodyTree) (l : Limit)
+    → Tells (body_item l (SubprogramBody d b)) (Keeps (λ before. item_labels before (SubprogramBody d b)))
+subprogram_told d b l = later (later (by_result d.result))
+  where
+    by_result : (r : Option Identifier) → Tells (body l b) (Keeps (λ before. elim r [ None ↦ body_labels before b | Some x ↦ before ]))
+    by_result None = body_told b l
+    by_result (Some x) = known same
+
+item_told : (x : BodyItemTree) (l : Limit) → Tells (body_item l x) (Keeps (λ before. item_labels before x))
+item_told (SubprogramBody d b) l = subprogram_told d b l
+item_told x l = known same
+
+items_told : (xs : List BodyItemTree) (l : Limit) → Tells (each (body_item l) xs) (Keeps (λ before. items_labels before xs))
+items_told [] l = known same
+items_told (x ∷ rest) l = joined (item_told x l) (items_told rest l)
+
+-- declarations of the specification have none
+declared_labels : (ds : List ItemTree) (xs : List BodyItemTree) (before : List (List ℕ)) → items_labels before (map OfItem ds ++ xs) ≡ items_labels before xs
+declared_labels [] xs before = refl
+declared_labels (d ∷ ds) xs before = declared_labels ds xs before
+
+package_labels_told : (o : Option PackageTree) (l : Limit) → Tells (optional (package_part l) o) (AreLabels (items_labels [] (declared_in o)))
+package_labels_told None l = known refl
+package_labels_told (Some p) l = later (later (sooner (later (later (later (later (sooner (begun (items_told p.body.items l)))))))))
+  where
+    begun : Tells (each (body_item l) p.body.items) (Keeps (λ before. items_labels before p.body.items))
+        → Tells (each (body_item l) p.body.items) (AreLabels (items_labels [] (declared_in (Some p))))
+    begun t =
+        record { told = λ ts h s. subst AreLabels (sym (declared_labels p.declaration.items p.body.items [])) ((t.told ts h s).kept [] refl) }
+
+-- ---- names of exceptions
+
+abbrev AreNames : List (List ℕ) → Type 0
+AreNames names = list_all is_name names ≡ true
+
+both_names : (xs ys : List (List ℕ)) → AreNames xs → AreNames ys → AreNames (xs ++ ys)
+both_names xs ys h k = list_all-append is_name xs ys ∙ and_from (list_all is_name xs) (list_all is_name ys) h k
+
+exceptions_told : (ds : List ItemTree) (l : Limit) → Tells (each (item l) ds) (AreNames (exceptions_among ds))
+exceptions_told [] l = known refl
+exceptions_told (OfException name ∷ ds) l =
+    both_told (λ one rest. and_from (is_name name.name) (list_all is_name (exceptions_among ds)) one rest) (sooner (named name)) (exceptions_told ds l)
+exceptions_told (d ∷ ds) l = later (exceptions_told ds l)
+
+body_exceptions_told : (xs : List BodyItemTree) (l : Limit) → Tells (each (body_item l) xs) (AreNames (exceptions_among (items_among xs)))
+body_exceptions_told [] l = known refl
+body_exceptions_told (OfItem (OfException name) ∷ xs) l =
+    both_told (λ one rest. and_from (is_name name.name) (list_all is_name (exceptions_among (items_among xs))) one rest) (sooner (named name))
+    (body_exceptions_told xs l)
+body_exceptions_told (x ∷ xs) l = later (body_exceptions_told xs l)
+
+package_exceptions_told : (o : Option PackageTree) (l : Limit)
+    → Tells (optional (package_part l) o) (AreNames (predefined ++ exceptions_among (package_items o)))
+package_exceptions_told None l = known refl
+package_exceptions_told (Some p) l =
+    later (both_told all_names (later (later (later (sooner (exceptions_told p.declaration.items l)))))
+    (sooner (later (later (later (later (sooner (body_exceptions_told p.body.items l))))))))
+  where
+    all_names : AreNames (exceptions_among p.declaration.items) → AreNames (exceptions_among (items_among p.body.items))
+        → AreNames (predefined ++ exceptions_among (package_items (Some p)))
+    all_names h k =
+        both_names predefined (exceptions_among (package_items (Some p))) refl
+        (subst AreNames (sym (exceptions_both p.declaration.items (items_among p.body.items)))
+        (both_names (exceptions_among p.declaration.items) (exceptions_among (items_among p.body.items)) h k))
+
+-- ---- whole texts
+
+program_told : (limit : Limit) (t : ProgramTree) → Tells (program limit t) (is_spelled t ≡ true)
+program_told limit t =
+    record {
+      told = λ ts h s.
+          let labels = labels_told.told ts h s in
+          let exceptions = exceptions_are.told ts h s in
+          let main = main_told.told ts h s in
+          and_from _ _ exceptions (and_from _ _ labels main);
+    }
+  where
+    labels_told : Tells (program limit t) (AreLabels (program_labels t))
+    labels_told = later (sooner (package_labels_told t.package_ limit))
+
+    exceptions_are : Tells (program limit t) (AreNames (predefined ++ exceptions_among (package_items t.package_)))
+    exceptions_are = later (sooner (package_exceptions_told t.package_ limit))
+
+    main_told : Tells (program limit t) (is_name t.main.name.name ≡ true)
+    main_told = later (later (later (sooner (named t.main.name))))
+
+pub texts_spelled : TextsAreSpelled
+texts_spelled text tokens t is = (program_told is.limit t).told tokens is.tree (spelled_tokens is.spelled.row)
+
+pub outside_told : OutsideIsTold
+outside_told text tokens t is (inl needed) = needed
+outside_told text tokens t is (inr (inl many)) = absurd many
+outside_told text tokens t is (inr (inr misspelt)) = absurd (let spelled = texts_spelled text tokens t is in let bad = sym spelled ∙ misspelt in cc)

@@ -1,0 +1,5 @@
+pub mod Depths
+pub mod Spelled
+pub mod Small
+pub mod Visible
+pub mod Limits

@@ -1,0 +1,5 @@
+//! What the compiler promises of source texts: laws over their tokens, their trees and the images of these.
+#![tactic(auto)]
+
+pub mod depth_laws;
+pub mod laws;
