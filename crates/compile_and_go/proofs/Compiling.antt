@@ -1,5 +1,5 @@
 -- The layers of compiling, one behind another.
-use Rattle.std.proofs.Common.{◌≡◌, ◌<◌, arith, ℕ, List, [], Result, Ok, Err, ap, inl, inr, subst, sym}
+use Rattle.std.proofs.Common.{◌≡◌, ◌<◌, arith, ℕ, Bool, true, false, List, [], None, Result, Ok, Err, ap, inl, inr, refl, subst, sym}
 use Rattle.std.proofs.lemmas.List.Elements.{All-contains}
 use Rattle.std.specs.List.{Contains}
 use Rattle.std.specs.Prelude.{IfOk, IfErr}
@@ -19,7 +19,10 @@ use Rattle.fault_numbers.specs.Numbers.{AreNumbered, GrammarNumbers, IsNumbered,
 use Rattle.meaning.specs.SameMeaning.{KeepsCount, SameMeaning}
 use Rattle.expr_code.specs.Coming.{most_steps}
 use Rattle.ada_link.specs.Compiled.{IsBounded, RefusesTree}
-use Rattle.compile_and_go.specs.Accepted.{Compiles, IsAccepted, IsGiven, IsJudged, IsLeftOut, IsTreeOf, RefusesText}
+use Rattle.ada_link.specs.Refusing.{program_needs}
+use Rattle.source_laws.specs.Limits.{SmallIsUnlimited}
+use Rattle.source_laws.specs.Spelled.{OutsideIsTold}
+use Rattle.compile_and_go.specs.Accepted.{Compiles, IsAccepted, IsGiven, IsJudged, IsLeftOut, IsTreeOf, RefusesAccepted, RefusesText}
 
 -- the program that was read is the one that was checked
 pub compiles : {E : Type 0} (r : Result Sections E) (text : List ℕ) (tokens list : List Token) (read : Program)
@@ -42,11 +45,33 @@ compiles (Ok i) text tokens list read spells same derives checked is legal restr
     }
 compiles (Err e) text tokens list read spells same derives checked is legal restricted means counted bounded well_formed = tt
 
-pub given : (r : Result Sections Fault) (tree made : ProgramTree) → made ≡ tree → IfOk r (λ i. SameMeaning made i)
+-- what is told of an accepted text where its tree is refused, by the laws of source texts
+abbrev Tells : List ℕ → ProgramTree → Type 0
+Tells text tree = (fault : Fault) → RefusesTree tree fault → RefusesAccepted text tree fault
+
+pub tells : OutsideIsTold → SmallIsUnlimited → (text : List ℕ) (tree : ProgramTree) → IsTreeOf tree text → IsLegal tree → IsRestricted tree → Tells text tree
+tells outside unlimited text tree is_tree legal restricted fault (inl memory) = inl memory
+tells outside unlimited text tree is_tree legal restricted fault (inr (inl beyond)) =
+    inr (inl (beyond.0, outside text is_tree.tokens tree (record { limit = None; spelled = is_tree.spells; tree = is_tree.derives.derives }) beyond.1))
+tells outside unlimited text tree is_tree legal restricted fault (inr (inr large)) =
+    inr (inr (
+      large.0,
+      (
+        large.1,
+        λ it. not_false (program_needs tree).outside
+            (λ none. unlimited None tree it.is_tree.tokens it.is_tree.derives.derives legal restricted it.small none large.1),
+      ),
+    ))
+  where
+    not_false : (b : Bool) → (b ≡ false → ⊥) → b ≡ true
+    not_false true h = refl
+    not_false false h = absurd (h refl)
+
+pub given : (r : Result Sections Fault) (text : List ℕ) (tree made : ProgramTree) → Tells text tree → made ≡ tree → IfOk r (λ i. SameMeaning made i)
     → IfErr r (λ f. RefusesTree made f)
-    → IsGiven tree r
-given (Ok i) tree made same means refused = subst (λ t. SameMeaning t i) same means
-given (Err f) tree made same means refused = subst (λ t. RefusesTree t f) same refused
+    → IsGiven text tree r
+given (Ok i) text tree made told same means refused = subst (λ t. SameMeaning t i) same means
+given (Err f) text tree made told same means refused = told f (subst (λ t. RefusesTree t f) same refused)
 
 -- ---- where nothing is broken nothing is the least
 
@@ -58,33 +83,38 @@ nothing_least faults fault none least =
 
 -- what is legal is not refused by the check but for want of memory, and what is restricted not by the restrictions
 
-pub legal_given : (tree made : ProgramTree) (fault : Fault) → made ≡ tree → IsLegal tree → RefusesProgram made fault → IsGiven tree (Err fault)
-legal_given tree made fault same legal (inl memory) = inl memory
-legal_given tree made fault same legal (inr least) = absurd (nothing_least (program_faults tree) fault legal (subst (λ t. IsLeast (program_faults t) fault) same least))
+pub legal_given : (text : List ℕ) (tree made : ProgramTree) (fault : Fault) → made ≡ tree → IsLegal tree → RefusesProgram made fault
+    → IsGiven text tree (Err fault)
+legal_given text tree made fault same legal (inl memory) = inl memory
+legal_given text tree made fault same legal (inr least) = absurd (nothing_least (program_faults tree) fault legal (subst (λ t. IsLeast (program_faults t) fault) same least))
 
-pub restricted_given : (tree made : ProgramTree) (fault : Fault) → made ≡ tree → IsRestricted tree → RefusesUnrestricted made fault → IsGiven tree (Err fault)
-restricted_given tree made fault same restricted (inl memory) = inl memory
-restricted_given tree made fault same restricted (inr least) =
+pub restricted_given : (text : List ℕ) (tree made : ProgramTree) (fault : Fault) → made ≡ tree → IsRestricted tree → RefusesUnrestricted made fault
+    → IsGiven text tree (Err fault)
+restricted_given text tree made fault same restricted (inl memory) = inl memory
+restricted_given text tree made fault same restricted (inr least) =
     absurd (nothing_least (restriction_faults tree) fault restricted (subst (λ t. IsLeast (restriction_faults t) fault) same least))
 
 -- ---- how a tree is judged
 
 -- what the check refuses
-pub judged : (tree made : ProgramTree) (fault : Fault) → made ≡ tree → RefusesProgram made fault → IsJudged tree (Err fault)
-judged tree made fault same (inl memory) = inl memory
-judged tree made fault same (inr least) = inr (inl (subst (λ t. IsLeast (program_faults t) fault) same least))
+pub judged : (text : List ℕ) (tree made : ProgramTree) (fault : Fault) → made ≡ tree → RefusesProgram made fault → IsJudged text tree (Err fault)
+judged text tree made fault same (inl memory) = inl memory
+judged text tree made fault same (inr least) = inr (inl (subst (λ t. IsLeast (program_faults t) fault) same least))
 
 -- what is legal and refused by a restriction
-pub judged_legal : (tree made : ProgramTree) (fault : Fault) → made ≡ tree → IsLegal made → RefusesUnrestricted made fault → IsJudged tree (Err fault)
-judged_legal tree made fault same legal (inl memory) = inl memory
-judged_legal tree made fault same legal (inr least) = inr (inr (inl (subst IsLegal same legal, subst (λ t. IsLeast (restriction_faults t) fault) same least)))
+pub judged_legal : (text : List ℕ) (tree made : ProgramTree) (fault : Fault) → made ≡ tree → IsLegal made → RefusesUnrestricted made fault
+    → IsJudged text tree (Err fault)
+judged_legal text tree made fault same legal (inl memory) = inl memory
+judged_legal text tree made fault same legal (inr least) = inr (inr (inl (subst IsLegal same legal, subst (λ t. IsLeast (restriction_faults t) fault) same least)))
 
 -- what breaks no rule
-pub judged_accepted : (r : Result Sections Fault) (tree made : ProgramTree) → made ≡ tree → IsLegal made → IsRestricted made
-    → IfErr r (λ f. RefusesTree made f) → IsJudged tree r
-judged_accepted (Ok i) tree made same legal restricted refused = (subst IsLegal same legal, subst IsRestricted same restricted)
-judged_accepted (Err fault) tree made same legal restricted refused =
-    inr (inr (inr (subst IsLegal same legal, (subst IsRestricted same restricted, subst (λ t. RefusesTree t fault) same refused))))
+pub judged_accepted : OutsideIsTold → SmallIsUnlimited → (r : Result Sections Fault) (text : List ℕ) (tree made : ProgramTree) → IsTreeOf tree text → made ≡ tree
+    → IsLegal made → IsRestricted made → IfErr r (λ f. RefusesTree made f) → IsJudged text tree r
+judged_accepted outside unlimited (Ok i) text tree made is_tree same legal restricted refused = (subst IsLegal same legal, subst IsRestricted same restricted)
+judged_accepted outside unlimited (Err fault) text tree made is_tree same legal restricted refused =
+    let fine = subst IsLegal same legal in
+    let held = subst IsRestricted same restricted in
+    inr (inr (inr (fine, (held, tells outside unlimited text tree is_tree fine held fault (subst (λ t. RefusesTree t fault) same refused)))))
 
 -- ---- texts that are not compiled
 
@@ -112,17 +142,18 @@ unrestricted_text text tokens list read checked fault spells same derives is leg
     })))))
 
 -- it is accepted
-pub refused_text : {A : Type 0} (r : Result A Fault) (text : List ℕ) (tokens list : List Token) (read checked : Program)
+pub refused_text : {A : Type 0} → OutsideIsTold → SmallIsUnlimited → (r : Result A Fault) (text : List ℕ) (tokens list : List Token) (read checked : Program)
     → Spells text tokens → list ≡ tokens → Derives (program_tree read) list → checked ≡ read
     → IsLegal (program_tree checked) → IsRestricted (program_tree checked)
     → IfErr r (λ f. RefusesTree (program_tree checked) f)
     → IfErr r (λ f. RefusesText text f)
-refused_text (Ok a) text tokens list read checked spells same derives is legal restricted refused = tt
-refused_text (Err fault) text tokens list read checked spells same derives is legal restricted refused =
+refused_text outside unlimited (Ok a) text tokens list read checked spells same derives is legal restricted refused = tt
+refused_text outside unlimited (Err fault) text tokens list read checked spells same derives is legal restricted refused =
+    let is_tree = read_tree text tokens list read checked spells same derives is in
     inr (inr (inr (inr (inr (record {
       tree = program_tree checked;
-      accepted = record { is_tree = read_tree text tokens list read checked spells same derives is; legal = legal; restricted = restricted };
-      refused = refused;
+      accepted = record { is_tree = is_tree; legal = legal; restricted = restricted };
+      refused = tells outside unlimited text (program_tree checked) is_tree legal restricted fault refused;
     })))))
 
 -- ---- what is refused as outside the language of today
@@ -131,7 +162,7 @@ module _ (spelling : SpellingNumbers) (grammar : GrammarNumbers) (legality : Leg
   among : (first last : ℕ) (faults : Faults) (fault : Fault) → AreNumbered first last faults → IsLeast faults fault → IsNumbered first last fault
   among first last faults fault all least = All-contains (IsNumbered first last) faults fault all least.listed
 
-  of_tree : (text : List ℕ) (tree : ProgramTree) (fault : Fault) → IsAccepted tree text → RefusesTree tree fault → IsLeftOut text fault
+  of_tree : (text : List ℕ) (tree : ProgramTree) (fault : Fault) → IsAccepted tree text → RefusesAccepted text tree fault → IsLeftOut text fault
   of_tree text tree fault accepted (inl memory) = λ is. let n = ap (λ f. f.number) memory in absurd (omega (arith, n, is))
   of_tree text tree fault accepted (inr (inl out)) = λ is. (out.0, (tree, (accepted, out.1)))
   of_tree text tree fault accepted (inr (inr large)) = λ is. let n = ap (λ f. f.number) large.0 in absurd (omega (arith, n, is))

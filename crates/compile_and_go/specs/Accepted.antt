@@ -1,5 +1,5 @@
 -- Which texts are programs, which of these are accepted, and which are compiled.
-use Rattle.std.specs.Prelude.{◌≡◌, ◌⊎◌, ℕ, List, Result, Ok, Err}
+use Rattle.std.specs.Prelude.{◌≡◌, ◌⊎◌, ℕ, true, List, Result, Ok, Err}
 use Rattle.base.specs.declared.faults.TheConstants.{OUTSIDE_LANGUAGE}
 use Rattle.lexer.specs.Fault.{memory_fault}
 use Rattle.lexer.specs.Spelling.{Spells, IsBroken}
@@ -16,8 +16,10 @@ use Rattle.ravenscar.specs.ProgramRules.{IsRestricted, restriction_faults}
 use Rattle.meaning.specs.SameMeaning.{KeepsCount, SameMeaning}
 use Rattle.expr_code.specs.Coming.{most_steps}
 use Rattle.expr_code.specs.declared.refusal.Refusal.TheVariants as refusal
-use Rattle.ada_link.specs.Compiled.{IsBounded, RefusesTree, outside}
+use Rattle.ada_link.specs.Compiled.{IsBounded, outside, too_large}
+use Rattle.ada_link.specs.Refusing.{program_needs}
 use Rattle.ada_link.specs.Refusing as sections
+use Rattle.source_laws.specs.Small.{IsSmall}
 
 -- the tree is what the text spells
 pub record IsTreeOf (tree : ProgramTree) (text : List ℕ) : Type 0 where
@@ -31,6 +33,23 @@ pub record IsAccepted (tree : ProgramTree) (text : List ℕ) : Type 0 where
   pub is_tree : IsTreeOf tree text
   pub legal : IsLegal tree
   pub restricted : IsRestricted tree
+
+-- a small text: it has few tokens, few levels are open at once in its tree, and its bodies have few words (docs/LANGUAGE.md, "Limits")
+pub record IsSmallText (tree : ProgramTree) (text : List ℕ) : Type 0 where
+  pub is_tree : IsTreeOf tree text
+  pub small : IsSmall tree is_tree.tokens
+
+-- it has something that no code is made of
+abbrev pub IsBeyond : ProgramTree → Type 0
+IsBeyond tree = (program_needs tree).outside ≡ true
+
+-- Why an accepted text is not compiled: memory was refused; it has something that no code is made of; or, as its tree tells, its code may pass a limit of images. The
+-- last is told of no small text of which all code is made.
+abbrev pub RefusesAccepted : List ℕ → ProgramTree → Fault → Type 0
+RefusesAccepted text tree fault =
+    (fault ≡ memory_fault)
+    ⊎ (((fault ≡ outside) × IsBeyond tree)
+    ⊎ ((fault ≡ too_large tree) × (sections.RefusesProgram tree refusal.Limit × (IsSmallText tree text → IsBeyond tree))))
 
 -- a well-formed image that means the same as the text's tree, keeps the count of steps, and has no more instructions than the text tells
 pub record Compiles (text : List ℕ) (image : Sections) : Type 0 where
@@ -64,7 +83,7 @@ pub record HasUnrestrictedTree (text : List ℕ) (fault : Fault) : Type 0 where
 pub record HasRefusedTree (text : List ℕ) (fault : Fault) : Type 0 where
   pub tree : ProgramTree
   pub accepted : IsAccepted tree text
-  pub refused : RefusesTree tree fault
+  pub refused : RefusesAccepted text tree fault
 
 -- memory was refused; no tokens spell the text; they have no tree; the tree is illegal; it is legal and breaks a restriction; or the text is accepted and not
 -- compiled
@@ -76,19 +95,19 @@ RefusesText text fault =
 -- What is outside the language of today is an accepted text that has what no code is made of, refused by this number at byte 0. No other text is.
 abbrev pub IsLeftOut : List ℕ → Fault → Type 0
 IsLeftOut text fault =
-    fault.number ≡ OUTSIDE_LANGUAGE → (fault ≡ outside) × ((tree : ProgramTree) × (IsAccepted tree text × sections.RefusesProgram tree refusal.Outside))
+    fault.number ≡ OUTSIDE_LANGUAGE → (fault ≡ outside) × ((tree : ProgramTree) × (IsAccepted tree text × IsBeyond tree))
 
--- The tree breaks no rule; or its text is refused for want of memory, by the least rule from 10 to 23 that it breaks, where it is legal by the least one from
--- 30 to 39, and where it breaks none of these for what is compiled today.
-abbrev pub IsJudged : ProgramTree → Result Image Fault → Type 0
-IsJudged tree (Ok image) = IsLegal tree × IsRestricted tree
-IsJudged tree (Err fault) =
+-- The tree of this text breaks no rule; or the text is refused for want of memory, by the least rule from 10 to 23 that it breaks, where it is legal by the least one
+-- from 30 to 39, and where it breaks none of these as an accepted one is.
+abbrev pub IsJudged : List ℕ → ProgramTree → Result Image Fault → Type 0
+IsJudged text tree (Ok image) = IsLegal tree × IsRestricted tree
+IsJudged text tree (Err fault) =
     (fault ≡ memory_fault)
     ⊎ (IsLeast (program_faults tree) fault
     ⊎ ((IsLegal tree × IsLeast (restriction_faults tree) fault)
-    ⊎ (IsLegal tree × (IsRestricted tree × RefusesTree tree fault))))
+    ⊎ (IsLegal tree × (IsRestricted tree × RefusesAccepted text tree fault))))
 
 -- an accepted text is compiled, and refused for these reasons alone
-abbrev pub IsGiven : ProgramTree → Result Image Fault → Type 0
-IsGiven tree (Ok image) = SameMeaning tree image
-IsGiven tree (Err fault) = RefusesTree tree fault
+abbrev pub IsGiven : List ℕ → ProgramTree → Result Image Fault → Type 0
+IsGiven text tree (Ok image) = SameMeaning tree image
+IsGiven text tree (Err fault) = RefusesAccepted text tree fault

@@ -1,8 +1,7 @@
 //! Compiling and running in one call.
 ghost use Rattle.std.specs.Prelude.{◌≡◌, ◌<◌, Err, IfErr, IfOk, OnOk};
 ghost use Rattle.ada_tree.specs.ProgramTree.{ProgramTree};
-ghost use Rattle.ada_link.specs.Compiled.{RefusesTree};
-ghost use Rattle.compile_and_go.specs.Accepted.{IsAccepted};
+ghost use Rattle.compile_and_go.specs.Accepted.{IsAccepted, RefusesAccepted};
 ghost use Rattle.compile_and_go.specs.Headline.{Runs, WritesBeginning};
 ghost use Rattle.compile_and_go.specs.Stopping.{Refuses};
 
@@ -46,8 +45,9 @@ pub fn go<S: Sink>(
     ensures kept { OnOk result (S.failures sink.new ≡ S.failures sink.old) }
     // A refusal is that of the call it comes from, where the calls before it gave their answers.
     ensures refused { IfErr result (Refuses source.now schedule.now) }
-    // An accepted text is refused only for want of memory, as one outside what is compiled today, or because its code may be too large: its text tells which.
-    ensures accepted { (tree : ProgramTree) (fault : Fault) → IsAccepted tree source.now → result ≡ Err (GoFault.Source fault) → RefusesTree tree fault }
+    // An accepted text is refused only for want of memory, as one outside what is compiled today, or because its code may be too large, which that of no small text
+    // is: its text tells which.
+    ensures accepted { (tree : ProgramTree) (fault : Fault) → IsAccepted tree source.now → result ≡ Err (GoFault.Source fault) → RefusesAccepted source.now tree fault }
     ensures source { (fault : Fault) → result ≡ Err (GoFault.Source fault) → sink.new ≡ sink.old }
     ensures schedule { (fault : ScheduleFault) → result ≡ Err (GoFault.Schedule fault) → sink.new ≡ sink.old }
     ensures memory { result ≡ Err (GoFault.Run RunFault.Memory) → sink.new ≡ sink.old }

@@ -4,7 +4,7 @@ use Rattle.ada_tree.specs.ProgramTree.{program_tree}
 use Rattle.checking.specs.ProgramRules.{IsLegal}
 use Rattle.parser.specs.Parsing.{Derives}
 use Rattle.compile_and_go.specs.Accepted.{IsGiven, IsJudged, RefusesText}
-use Rattle.compile_and_go.proofs.Compiling.{compiles, given, judged, judged_accepted, judged_legal, legal_given, refused_left_out, refused_text, restricted_given, unrestricted_text}
+use Rattle.compile_and_go.proofs.Compiling.{compiles, given, judged, judged_accepted, judged_legal, legal_given, refused_left_out, refused_text, restricted_given, tells, unrestricted_text}
 use Rattle.compile_and_go.proofs.compilation.compile.Goals as goal
 
 pub returns-in_err-program-clause-judged : goal.returns-in_err-program-clause-judged
@@ -12,14 +12,14 @@ returns-in_err-program-clause-judged c = λ tree is_tree.
     let same = c.deref.ensures.value ∙ c.in_ok-list.ensures.complete is_tree.tokens is_tree.spells in
     let memory = c.in_err-program.ensures.only tree (subst (Derives tree) (sym same) is_tree.derives) in
     let is : c.from_residual-in_err-program.result ≡ Err c.in_err-program.field-0.0 = search rules in
-    subst (IsJudged tree) (sym is) (inl memory)
+    subst (IsJudged c.args.source.now tree) (sym is) (inl memory)
 
 pub returns-in_err-checked-clause-judged : goal.returns-in_err-checked-clause-judged
 returns-in_err-checked-clause-judged c = λ tree is_tree.
     let same = c.deref.ensures.value ∙ c.in_ok-list.ensures.complete is_tree.tokens is_tree.spells in
     let only = c.in_ok-program.ensures.only tree (subst (Derives tree) (sym same) is_tree.derives) in
     let is : c.from_residual-in_err-checked.result ≡ Err c.in_err-checked.field-0.0 = search rules in
-    subst (IsJudged tree) (sym is) (judged _ _ _ only c.in_err-checked.ensures.refused)
+    subst (IsJudged c.args.source.now tree) (sym is) (judged _ _ _ _ only c.in_err-checked.ensures.refused)
 
 pub returns-in_err-accepted-clause-judged : goal.returns-in_err-accepted-clause-judged
 returns-in_err-accepted-clause-judged c = λ tree is_tree.
@@ -27,15 +27,15 @@ returns-in_err-accepted-clause-judged c = λ tree is_tree.
     let only = c.in_ok-program.ensures.only tree (subst (Derives tree) (sym same) is_tree.derives) in
     let checked = c.in_ok-checked.ensures.same in
     let is : c.from_residual-in_err-accepted.result ≡ Err c.in_err-accepted.field-0.0 = search rules in
-    subst (IsJudged tree) (sym is)
-    (judged_legal _ _ _ (ap program_tree checked ∙ only) (subst (λ p. IsLegal (program_tree p)) (sym checked) c.in_ok-checked.ensures.legal)
+    subst (IsJudged c.args.source.now tree) (sym is)
+    (judged_legal _ _ _ _ (ap program_tree checked ∙ only) (subst (λ p. IsLegal (program_tree p)) (sym checked) c.in_ok-checked.ensures.legal)
     c.in_err-accepted.ensures.refused)
 
 pub returns-clause-judged : goal.returns-clause-judged
 returns-clause-judged c = λ tree is_tree.
     let same = c.deref.ensures.value ∙ c.in_ok-list.ensures.complete is_tree.tokens is_tree.spells in
     let lent = ap program_tree (c.in_ok-accepted.ensures.same ∙ c.in_ok-checked.ensures.same) in
-    judged_accepted _ _ _ (lent ∙ c.in_ok-program.ensures.only tree (subst (Derives tree) (sym same) is_tree.derives))
+    judged_accepted c.outside_is_told.ensures c.small_is_unlimited.ensures _ _ _ _ is_tree (lent ∙ c.in_ok-program.ensures.only tree (subst (Derives tree) (sym same) is_tree.derives))
     c.compile_tree.ensures.legal
     c.compile_tree.ensures.restricted
     c.compile_tree.ensures.refused
@@ -57,7 +57,7 @@ returns-in_err-checked-clause-accepted c = λ tree given_tree.
     let same = c.deref.ensures.value ∙ c.in_ok-list.ensures.complete is_tree.tokens is_tree.spells in
     let only = c.in_ok-program.ensures.only tree (subst (Derives tree) (sym same) is_tree.derives) in
     let is : c.from_residual-in_err-checked.result ≡ Err c.in_err-checked.field-0.0 = search rules in
-    subst (IsGiven tree) (sym is) (legal_given _ _ _ only given_tree.legal c.in_err-checked.ensures.refused)
+    subst (IsGiven c.args.source.now tree) (sym is) (legal_given _ _ _ _ only given_tree.legal c.in_err-checked.ensures.refused)
 
 pub returns-in_err-accepted-clause-accepted : goal.returns-in_err-accepted-clause-accepted
 returns-in_err-accepted-clause-accepted c = λ tree given_tree.
@@ -65,15 +65,16 @@ returns-in_err-accepted-clause-accepted c = λ tree given_tree.
     let same = c.deref.ensures.value ∙ c.in_ok-list.ensures.complete is_tree.tokens is_tree.spells in
     let only = c.in_ok-program.ensures.only tree (subst (Derives tree) (sym same) is_tree.derives) in
     let is : c.from_residual-in_err-accepted.result ≡ Err c.in_err-accepted.field-0.0 = search rules in
-    subst (IsGiven tree) (sym is)
-    (restricted_given _ _ _ (ap program_tree c.in_ok-checked.ensures.same ∙ only) given_tree.restricted c.in_err-accepted.ensures.refused)
+    subst (IsGiven c.args.source.now tree) (sym is)
+    (restricted_given _ _ _ _ (ap program_tree c.in_ok-checked.ensures.same ∙ only) given_tree.restricted c.in_err-accepted.ensures.refused)
 
 pub returns-clause-accepted : goal.returns-clause-accepted
 returns-clause-accepted c = λ tree given_tree.
     let is_tree = given_tree.is_tree in
     let same = c.deref.ensures.value ∙ c.in_ok-list.ensures.complete is_tree.tokens is_tree.spells in
     let lent = ap program_tree (c.in_ok-accepted.ensures.same ∙ c.in_ok-checked.ensures.same) in
-    given _ _ _ (lent ∙ c.in_ok-program.ensures.only tree (subst (Derives tree) (sym same) is_tree.derives))
+    let told = tells c.outside_is_told.ensures c.small_is_unlimited.ensures c.args.source.now tree is_tree given_tree.legal given_tree.restricted in
+    given _ _ _ _ told (lent ∙ c.in_ok-program.ensures.only tree (subst (Derives tree) (sym same) is_tree.derives))
     c.compile_tree.ensures.means
     c.compile_tree.ensures.refused
 
@@ -86,7 +87,7 @@ returns-in_err-accepted-clause-refused c =
 
 pub returns-clause-refused : goal.returns-clause-refused
 returns-clause-refused c =
-    refused_text _ _ _ _ _ _ c.in_ok-list.ensures.sound c.deref.ensures.value c.in_ok-program.ensures.found
+    refused_text c.outside_is_told.ensures c.small_is_unlimited.ensures _ _ _ _ _ _ c.in_ok-list.ensures.sound c.deref.ensures.value c.in_ok-program.ensures.found
     (c.in_ok-accepted.ensures.same ∙ c.in_ok-checked.ensures.same)
     c.compile_tree.ensures.legal
     c.compile_tree.ensures.restricted

@@ -1,5 +1,5 @@
 use Rattle.std.proofs.Common.{◌≡◌, subst}
-use Rattle.ada_link.specs.Compiled.{RefusesTree}
+use Rattle.compile_and_go.specs.Accepted.{RefusesAccepted}
 use Rattle.compile_and_go.proofs.Running.{runs}
 use Rattle.compile_and_go.proofs.going.go.Goals as goal
 
@@ -9,4 +9,4 @@ returns-in-Ok-run-clause-runs g c = runs _ _ _ _ _ _ _ _ c.outcome_stays.ensures
 pub returns-in-Err-clause-accepted : goal.returns-in-Err-clause-accepted
 returns-in-Err-clause-accepted g c = λ tree fault is same.
     let told : c.in-Err.fault ≡ fault = cc in
-    subst (RefusesTree tree) told (c.in-Err.ensures.accepted tree is)
+    subst (RefusesAccepted c.args.source.now tree) told (c.in-Err.ensures.accepted tree is)
