@@ -25,7 +25,7 @@ use Rattle.stmt_code.specs.Refusing.{HasManyLabels, IsNeeding, Needs, beyond_if}
 use Rattle.stmt_code.specs.declared.draft.Draft.{Draft}
 use Rattle.stmt_code.proofs.Refused.{Within, needing_refused, of_right}
 use Rattle.ada_link.specs.Counts.{bounds_from}
-use Rattle.ada_link.specs.Directory.{IsDirectory, IsNext, TellsNext}
+use Rattle.ada_link.specs.Directory.{IsDirectory, HasEntriesSoFar, TellsNext}
 use Rattle.ada_link.specs.Refusing.{RefusesCode, item_needs, items_labels, items_needs, items_rows, number_in, program_bound, program_labels, program_needs, seen_at, subprogram_labels, subprogram_needs, subprogram_rows}
 use Rattle.ada_link.specs.Walking.{AddsAsTold, AddsBody, BeginsWalk, IsAsTold, RefusesBody}
 use Rattle.ada_link.specs.declared.directory.Directory.{Directory}
@@ -38,7 +38,7 @@ use Rattle.ada_link.proofs.Told.{Grows, item_grows, subprogram_grows}
 -- ---- entries for all names, or for all but one
 
 pub entries_next : (v mid : Visible) (name : List ℕ) → HasEntries v → Grows v.scope name mid.scope → mid.slots ≡ v.slots
-    → mid.subprograms ≡ v.subprograms → IsNext mid
+    → mid.subprograms ≡ v.subprograms → HasEntriesSoFar mid
 entries_next v mid name has (inl same) slots subprograms =
     inl (ap length slots ∙ has.slots ∙ ap length (sym same), ap length subprograms ∙ has.subprograms ∙ ap length (sym same))
 entries_next v mid name has (inr grown) slots subprograms =

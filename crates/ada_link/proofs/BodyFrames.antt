@@ -23,7 +23,7 @@ use Rattle.sound_programs.proofs.Formals.{AreNew, named_formal}
 use Rattle.expr_code.specs.Seeing.{Package}
 use Rattle.expr_code.specs.declared.visible.Slot.{Slot}
 use Rattle.stmt_code.specs.Layout.{IsLaidOut, Spares, Widens}
-use Rattle.stmt_code.specs.Resting.{Framed, Narrows}
+use Rattle.stmt_code.specs.Resting.{Framed, NarrowsFrame}
 use Rattle.stmt_code.proofs.Narrowing.{narrows_wider}
 use Rattle.stmt_code.specs.Formals.{AddsEach, AddsParameter, AreInTurn, Placed, addresses_from, outs_end, parameter_at, passed_end}
 use Rattle.ada_link.specs.Package.{HoldsAll, HoldsOne}
@@ -53,7 +53,7 @@ pub record BeginsOut (g : Package) (base : Scope) (v : Framed) (x : Placed) (nex
   pub at : slot.offset ≡ x.1
   pub widens : Widens v x.0.name (formal_role x.0.mode) x.0.subtype slot next
   pub spares : Spares v x.0.subtype slot next
-  pub narrows : Narrows g next v
+  pub narrows : NarrowsFrame g next v
 
 abbrev pub OutsBegin : Package → Scope → Framed → List Placed → Framed → Type 0
 OutsBegin g base v [] last = last ≡ v

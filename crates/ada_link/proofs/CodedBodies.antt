@@ -28,7 +28,7 @@ use Rattle.expr_code.specs.Seeing.{Package, Sees, library_of}
 use Rattle.expr_code.specs.Views.{At, View}
 use Rattle.stmt_code.specs.Copying.{GivesBack, left_out}
 use Rattle.stmt_code.specs.Resting.{Framed}
-use Rattle.stmt_code.specs.Statements.{AreParametersDeclared, IsProcedure, IsRun, Numbers}
+use Rattle.stmt_code.specs.Statements.{AreParametersDeclared, IsProcedureCode, IsRun, Numbers}
 use Rattle.stmt_code.specs.Formals.{Placed, passed_end}
 use Rattle.ada_link.specs.Package.{HoldsAll, IsInFront, IsPackageOf}
 use Rattle.ada_link.proofs.Entered.{function_code, function_takes, procedure_code, procedure_takes}
@@ -71,7 +71,7 @@ module _ (laws : LawsOfNames) (t : ProgramTree) (legal : IsLegal t) (restricted 
       pub gives : GivesBack i program g middle (results ps) number stop
       pub within : suc gives.back ≤ s.end_
 
-    pub procedure_coded : DoesBody → IsProcedure i program g numbers procedure number
+    pub procedure_coded : DoesBody → IsProcedureCode i program g numbers procedure number
     procedure_coded does = record {
       s = s;
       there = there;

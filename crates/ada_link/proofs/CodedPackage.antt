@@ -23,7 +23,7 @@ use Rattle.expr_code.specs.Computing.{IsFunctionCode}
 use Rattle.expr_code.specs.Seeing.{IsCoded, Package, library_of}
 use Rattle.expr_code.proofs.Calling.{functions_answer}
 use Rattle.stmt_code.specs.Laws.{HasCode}
-use Rattle.stmt_code.specs.Statements.{HasProcedures, IsProcedure, Numbers}
+use Rattle.stmt_code.specs.Statements.{HasProcedures, IsProcedureCode, Numbers}
 use Rattle.ada_link.specs.Package.{IsPackageOf}
 use Rattle.ada_link.proofs.InFront.{LawsOfNames, known, whole}
 
@@ -125,7 +125,7 @@ module _ (laws : LawsOfNames) (t : ProgramTree) (legal : IsLegal t) (restricted 
     pub record HasBodies : Type 1 where
       pub procedures : (place : ℕ) (d : SubprogramTree) (b : BodyTree) → slice_get all place ≡ Some (SubprogramBody d b) → d.result ≡ None → (number : ℕ)
           → numbers (procedure_by program.scope (subprogram_body None d b)) ≡ Some number
-          → IsProcedure i program g numbers (procedure_by program.scope (subprogram_body None d b)) number
+          → IsProcedureCode i program g numbers (procedure_by program.scope (subprogram_body None d b)) number
       pub functions : (place : ℕ) (d : SubprogramTree) (b : BodyTree) → slice_get all place ≡ Some (SubprogramBody d b) → (r : Identifier) → d.result ≡ Some r
           → (value : ExprTree) → returned b.statements ≡ Some value → (number : ℕ) → g.subprograms None d.name.name ≡ Some number
           → IsFunctionCode i (library_of g) (function_by program.scope (subprogram_body None d b) r value) number
@@ -135,7 +135,7 @@ module _ (laws : LawsOfNames) (t : ProgramTree) (legal : IsLegal t) (restricted 
       procedures_coded : HasProcedures i program g numbers
       procedures_coded name q number found n =
           let x = procedure_stands name q (once (procedure_among program.procedures None name) found) in
-          subst (λ y. IsProcedure i program g numbers y number) (sym x.is)
+          subst (λ y. IsProcedureCode i program g numbers y number) (sym x.is)
           (has.procedures x.place x.d x.b x.at x.none number (ap numbers (sym x.is) ∙ n))
 
       functions_coded : (f : Function) (number : ℕ) → IsCoded g f number → IsFunctionCode i (library_of g) f number

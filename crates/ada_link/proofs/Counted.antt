@@ -27,7 +27,7 @@ use Rattle.stmt_code.specs.declared.subprogram.SubprogramWords.{SubprogramWords}
 use Rattle.ada_link.specs.Counts.{bodies_among, bodies_before, bounds_from, instructions_bound, or_zero}
 use Rattle.ada_link.specs.Laws.{SectionsAreBounded}
 use Rattle.ada_link.specs.Program.{HasProgram, main_row}
-use Rattle.ada_link.specs.Walking.{AddsSubprogram, AddsValue, HasBody, begins_at, row_of}
+use Rattle.ada_link.specs.Walking.{AddsSubprogram, AddsValueFunction, HasBody, begins_at, row_of}
 use Rattle.ada_link.specs.declared.directory.Directory.{Directory}
 use Rattle.ada_link.specs.declared.walk.Walk.{Walk}
 use Rattle.ada_link.proofs.Linking.{called_front, called_main, first_is, first_main}
@@ -103,7 +103,7 @@ pub function_within : (s : Scope) (fs : List Formal) (b : BodyTree) (value : Exp
 function_within s fs b value h = (let up = returned_within b.statements value h in omega (arith, up))
 
 abbrev AddsAny : ProgramTree → SubprogramTree → BodyTree → Visible → (old : Draft) → SubprogramWords → (new : Draft) → Option Identifier → Type 0
-AddsAny t d b v old words new o = elim o [ None ↦ AddsProcedure v old d.formals b words new | Some r ↦ AddsValue t d b r v old words new ]
+AddsAny t d b v old words new o = elim o [ None ↦ AddsProcedure v old d.formals b words new | Some r ↦ AddsValueFunction t d b r v old words new ]
 
 pub adds_few : (t : ProgramTree) (d : SubprogramTree) (b : BodyTree) (v : Visible) (old : Draft) (words : SubprogramWords) (new : Draft)
     → AddsSubprogram t d b v old words new → here new.code ≤ here old.code + procedure_bound v.scope d.formals b

@@ -27,11 +27,11 @@ use Rattle.expr_code.specs.declared.visible.Visible.{Visible}
 use Rattle.expr_code.proofs.Growing.{holds_before, holds_later}
 use Rattle.stmt_code.specs.Copying.{GivesBack, left_out}
 use Rattle.stmt_code.specs.Emitting.{HasLabels, IsHandled, Serves, first_word}
-use Rattle.stmt_code.specs.Layout.{EndsBy}
+use Rattle.stmt_code.specs.Layout.{EndsBelow}
 use Rattle.stmt_code.specs.Formals.{AddsEach, AreReturned, Placed, outs_end, passed_end, words_returned}
 use Rattle.stmt_code.specs.Resting.{Framed}
 use Rattle.stmt_code.specs.Handling.{unhandled}
-use Rattle.stmt_code.specs.Statements.{AreParametersDeclared, IsProcedure, Numbers}
+use Rattle.stmt_code.specs.Statements.{AreParametersDeclared, IsProcedureCode, Numbers}
 use Rattle.stmt_code.specs.Subprograms.{AddsProcedure, fresh}
 use Rattle.stmt_code.specs.declared.draft.Draft.{Draft}
 use Rattle.stmt_code.specs.declared.formals.PlacedFormal.{PlacedFormal}
@@ -128,7 +128,7 @@ module _ (laws : LawsOfNames) (quiet : QuietStays) (shaped : InitialValuesHaveSh
           here = a.here;
           agrees = a.agrees;
           laid = frames.laid;
-          ends = subst (EndsBy last) (outs_at laws shaped t legal restricted g place d b x before) frames.ends;
+          ends = subst (EndsBelow last) (outs_at laws shaped t legal restricted g place d b x before) frames.ends;
           below = reserved_below laws shaped t legal restricted g place d b x before;
         }
 
@@ -221,7 +221,7 @@ module _ (laws : LawsOfNames) (quiet : QuietStays) (shaped : InitialValuesHaveSh
             let l = adds.locals in
             omega (arith, r, l, locals_are)
 
-    pub procedure_emitted : IsProcedure i program g numbers (procedure_by program.scope (subprogram_body None d b)) number
+    pub procedure_emitted : IsProcedureCode i program g numbers (procedure_by program.scope (subprogram_body None d b)) number
     procedure_emitted =
         procedure_coded laws t legal restricted i well_formed g of_program numbers place d b at v before number s there refl last xs passed frames
         (parameters_are ∙ adds.passed ∙ sym ending) does

@@ -39,7 +39,7 @@ use Rattle.stmt_code.specs.declared.formals.PlacedFormals.{PlacedFormals}
 use Rattle.stmt_code.specs.declared.draft.FrameWords.{FrameWords}
 use Rattle.sound_steps.specs.Holding.{inside}
 use Rattle.stmt_code.proofs.Initials.{form_there, initial_word}
-use Rattle.ada_link.specs.Package.{Finds, IsInFront}
+use Rattle.ada_link.specs.Package.{FindsNames, IsInFront}
 use Rattle.ada_link.proofs.Building.{add_each}
 use Rattle.ada_link.proofs.EmittedFormals.{AreTold, addresses_of, addresses_placed, end_placed, outs_placed, placed_in, same_subtype, texts_placed, turn_placed}
 use Rattle.ada_link.proofs.EmittedParts.{AreShown, addresses_below, each_slots, each_subprograms, numbers_placed, outs_up, slots_placed}
@@ -199,7 +199,7 @@ module _ (laws : LawsOfNames) (shaped : InitialValuesHaveShape) (t : ProgramTree
             (laws.fronts t (first_store program) legal restricted (memory laws t legal restricted) (suc place) (static_place program.scope)).agrees;
       })
 
-  pub finds_behind : Finds program middle
+  pub finds_behind : FindsNames program middle
   finds_behind = text_serves laws t legal restricted g place d b x.at v middle before parameters texts behind.1
 
   -- the words of addresses are among those that are passed

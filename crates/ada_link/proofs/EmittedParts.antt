@@ -27,7 +27,7 @@ use Rattle.sound_programs.proofs.Listing.{Has}
 use Rattle.expr_code.specs.Seeing.{Package, slot_of}
 use Rattle.expr_code.specs.Views.{At}
 use Rattle.stmt_code.specs.Emitting.{first_word}
-use Rattle.stmt_code.specs.Formals.{AddsEach, AreInitial, AreReturned, InitialThen, IsLoaded, Placed, ReturnedThen, StandInTurn, StandsAt, StoresFirstWord, StoresFirstWords, no_subprogram, parameter_at, returned_more, slot_for, words_returned}
+use Rattle.stmt_code.specs.Formals.{AddsEach, AreInitial, AreReturned, InitialThen, IsLoadingCode, Placed, ReturnedThen, StandInTurn, StandsAt, StoresFirstWord, StoresFirstWords, no_subprogram, parameter_at, returned_more, slot_for, words_returned}
 use Rattle.stmt_code.specs.Layout.{NamesObject}
 use Rattle.stmt_code.specs.Resting.{Framed}
 use Rattle.stmt_code.specs.Statements.{AreParametersDeclared, IsParameterDeclared, Numbers}
@@ -171,7 +171,7 @@ module _ (base program : Scope) where
   given_placed i v (f ∷ fs) (x ∷ xs) from out last top a b h are code =
       by_mode f.mode (words_of base x.subtype) h.4 x.address refl code (λ to rest. given_placed i v fs xs h.0 h.1 last top a to h.5 are.1 rest)
     where
-      one : (mid z : ℕ) → At i mid (op.LoadLocal z) → IsLoaded i (suc mid) b x.offset (words_of v.names.scope x.subtype) → IsGiven i v f.name.name z x.subtype mid b
+      one : (mid z : ℕ) → At i mid (op.LoadLocal z) → IsLoadingCode i (suc mid) b x.offset (words_of v.names.scope x.subtype) → IsGiven i v f.name.name z x.subtype mid b
       one mid z address value = record {
         slot = record { region = regions.Locals; offset = x.offset };
         there = are.0.there;

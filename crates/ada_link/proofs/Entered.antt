@@ -43,7 +43,7 @@ use Rattle.stmt_code.specs.Statements.{parameter_subtype}
 use Rattle.stmt_code.proofs.Beginning.{Enters, EntersOne}
 use Rattle.stmt_code.proofs.Bodies.{body_rests}
 use Rattle.stmt_code.proofs.Functions.{EntersFormals, function_sees}
-use Rattle.ada_link.specs.Package.{Finds, HoldsAll, IsInFront, IsPackageOf}
+use Rattle.ada_link.specs.Package.{FindsNames, HoldsAll, IsInFront, IsPackageOf}
 use Rattle.ada_link.proofs.HeldParameters.{Reached, all_enter, all_long, end_reached, holds_serves, reserved_same}
 use Rattle.ada_link.proofs.InFront.{LawsOfNames, front_ends, front_laid, front_of_package, front_serves, front_sound, front_suits, known, names, whole}
 use Rattle.ada_link.proofs.NewParameters.{AreCopiedIn, distinct_names, formals_in, parameters_new}
@@ -187,7 +187,7 @@ module _ (laws : LawsOfNames) (t : ProgramTree) (legal : IsLegal t) (restricted 
         omega (arith, k)
 
     -- what is visible in the body names what the program has
-    pub body_serves : Finds program last
+    pub body_serves : FindsNames program last
     body_serves = holds_serves program ps v last 0 top v.reserved holds (front_serves laws t legal restricted v (suc place) before.scope)
 
     -- ---- a procedure

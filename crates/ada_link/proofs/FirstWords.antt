@@ -31,7 +31,7 @@ use Rattle.expr_code.specs.Naming.{Lies}
 use Rattle.expr_code.specs.Seeing.{Package, SeesPackage, outside}
 use Rattle.expr_code.specs.Views.{View}
 use Rattle.expr_code.specs.declared.visible.Slot.{Slot}
-use Rattle.stmt_code.specs.Resting.{IsAt, IsSmall, StandsFor}
+use Rattle.stmt_code.specs.Resting.{IsAt, IsAddressable, StandsFor}
 use Rattle.ada_link.specs.Package.{IsPackageOf}
 use Rattle.ada_link.proofs.InFront.{LawsOfNames, last_is, memory, whole}
 
@@ -94,7 +94,7 @@ module _ (laws : LawsOfNames) (t : ProgramTree) (legal : IsLegal t) (restricted 
         (subst (λ l. Lies l slot.offset value) (sym plain)
         (subst (λ x. Lies i.plain_words slot.offset x) is (subst (λ z. Lies i.plain_words z.offset v.object.value) same b.lies)))
 
-    seen : FunctionsAreSound p → p.now ≡ view.now → p.schedule ≡ view.schedule → IsSmall view → SeesPackage g p view
+    seen : FunctionsAreSound p → p.now ≡ view.now → p.schedule ≡ view.schedule → IsAddressable view → SeesPackage g p view
     seen sound now schedule small = record {
       scope = at.scope ∙ sym of_program.scope;
       functions = at.functions ∙ sym of_program.functions;

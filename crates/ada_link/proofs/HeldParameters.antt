@@ -25,12 +25,12 @@ use Rattle.sound_programs.proofs.Formals.{AreNew, formal_object, named_formal, n
 use Rattle.sound_programs.proofs.Same.{IsPlainRole, SameTypes, known_same, sound_with, types_then, types_turned, types_with_all, values_same}
 use Rattle.expr_code.specs.Seeing.{Package}
 use Rattle.stmt_code.specs.Copying.{first_address, first_words, passed_words}
-use Rattle.stmt_code.specs.Layout.{AreApart, EndsBy, IsFree, IsLaidOut, Spares, Widens}
+use Rattle.stmt_code.specs.Layout.{AreApart, EndsBelow, IsFree, IsLaidOut, Spares, Widens}
 use Rattle.stmt_code.specs.Resting.{Framed}
 use Rattle.stmt_code.proofs.Beginning.{Begins, Enters, EntersOne}
 use Rattle.stmt_code.proofs.Laying.{AddsObject, ends_wider, free_wider, laid_wider, widens_behind}
 use Rattle.stmt_code.specs.Formals.{AddsParameter}
-use Rattle.ada_link.specs.Package.{Finds, HoldsAll, HoldsOne}
+use Rattle.ada_link.specs.Package.{FindsNames, HoldsAll, HoldsOne}
 use Rattle.ada_link.proofs.InFront.{serves_more}
 
 -- ---- places of addresses
@@ -105,13 +105,13 @@ reserved_same (f ∷ fs) v last from top places h = by_mode f.mode h (λ w start
 
 -- what is visible behind parameters names what the program has, where it does in front of them
 pub holds_serves : (program : Program) (fs : List Parameter) (v last : Framed) (from top : ℕ) (places : List ℕ) → HoldsAll v from places fs last top
-    → Finds program v → Finds program last
-holds_serves program [] v last from top places h serves = subst (Finds program) (sym h.0) serves
+    → FindsNames program v → FindsNames program last
+holds_serves program [] v last from top places h serves = subst (FindsNames program) (sym h.0) serves
 holds_serves program (f ∷ fs) v last from top places h serves = by_mode f.mode h (λ w start others. holds_serves program fs w last start top others)
   where
     by_mode : (m : Mode) → HoldsOne m f v from places (λ next after others. HoldsAll next after others fs last top)
-        → ((w : Framed) (start : ℕ) (others : List ℕ) → HoldsAll w start others fs last top → Finds program w → Finds program last)
-        → Finds program last
+        → ((w : Framed) (start : ℕ) (others : List ℕ) → HoldsAll w start others fs last top → FindsNames program w → FindsNames program last)
+        → FindsNames program last
     by_mode mode.In h later =
         later h.0 (from + words_of v.names.scope f.subtype) places h.2 (serves_more program v h.0 f.name (formal_role f.mode) f.subtype serves h.1.scope)
     by_mode mode.Out h later = later v (from + 1) h.0 h.2 serves
@@ -132,7 +132,7 @@ module _ (stay : ShapesStay) (sized : ValuesHaveWords) (scopes : ScopesAreSound)
     pub sound : SoundScope v.names.scope
     pub types : SameTypes base v.names.scope
     pub new : AreNew v.names.scope fs
-    pub ends : EndsBy v from
+    pub ends : EndsBelow v from
     pub earlier : List ℕ
     pub reserved : v.reserved ≡ earlier ++ places
     pub below : (n : ℕ) → is_among earlier n ≡ true → n < from

@@ -40,7 +40,7 @@ use Rattle.sound_steps.specs.Fitting.{IsFound}
 use Rattle.sound_steps.specs.Laws.{Premises}
 use Rattle.sound_steps.specs.Objects.{IsOf, first_store}
 use Rattle.sound_programs.specs.Fronts.{declared_in, front, start_in}
-use Rattle.sound_programs.specs.BodyLaws.{FrontsFit, IsSoundMemory, Names, NamesAreKnown, PremisesHold}
+use Rattle.sound_programs.specs.BodyLaws.{FrontsFit, IsSoundMemory, BodyNamesAreSound, NamesAreKnown, PremisesHold}
 use Rattle.sound_programs.proofs.Assembled as assembled
 use Rattle.sound_programs.proofs.WiderScopes.{number_stands, one_named, stands, stands_number, stands_with}
 use Rattle.sound_programs.proofs.Listing.{or_else_some}
@@ -50,11 +50,11 @@ use Rattle.sound_programs.proofs.Whole.{IsPackage, kept}
 use Rattle.sound_programs.specs.ProgramLaws.{StartsAreSound}
 use Rattle.expr_code.specs.Seeing.{Package, slot_of}
 use Rattle.expr_code.specs.declared.visible.Slot.{Slot}
-use Rattle.stmt_code.specs.Layout.{AreApart, AreFree, EndsBy, IsLaid, IsLaidOut, NamesObject}
+use Rattle.stmt_code.specs.Layout.{AreApart, AreFree, EndsBelow, IsLaid, IsLaidOut, NamesObject}
 use Rattle.stmt_code.specs.Resting.{Framed, RestsWith}
 use Rattle.stmt_code.proofs.Entering.{IsOfPackage, rests_package}
 use Rattle.stmt_code.proofs.Names.{is_told}
-use Rattle.ada_link.specs.Package.{Finds, IsInFront, IsPackageOf}
+use Rattle.ada_link.specs.Package.{FindsNames, IsInFront, IsPackageOf}
 
 pub record LawsOfNames : Type 0 where
   pub sized : ValuesHaveWords
@@ -70,9 +70,9 @@ pub record LawsOfNames : Type 0 where
 abbrev object_named : List ℕ → Role → Subtype → Named
 object_named name r u = record { name = name; entity = entity.Object r u }
 
-pub serves_more : (program : Program) (v next : Framed) (name : List ℕ) (r : Role) (u : Subtype) → Finds program v
+pub serves_more : (program : Program) (v next : Framed) (name : List ℕ) (r : Role) (u : Subtype) → FindsNames program v
     → next.names.scope ≡ with_name v.names.scope name (entity.Object r u)
-    → Finds program next
+    → FindsNames program next
 serves_more program v next name r u serves scope = record { finds = finds }
   where
     by_name : (other : List ℕ) (e : Entity) (b : Bool) → cond b (Some (entity.Object r u)) None ≡ Some e → IsFound program None other e
@@ -118,7 +118,7 @@ module _ (laws : LawsOfNames) (t : ProgramTree) (legal : IsLegal t) (restricted 
   pub known : Premises program
   known = laws.premises t legal
 
-  pub names : Names t
+  pub names : BodyNamesAreSound t
   names = laws.names t legal restricted
 
   pub memory : IsSoundMemory program (first_store program)
@@ -140,7 +140,7 @@ module _ (laws : LawsOfNames) (t : ProgramTree) (legal : IsLegal t) (restricted 
   kept_behind place name e h = kept program start all whole place name e h
 
   -- what is visible in front names what the program has
-  pub front_serves : (v : Framed) (place : ℕ) → v.names.scope ≡ front t place → Finds program v
+  pub front_serves : (v : Framed) (place : ℕ) → v.names.scope ≡ front t place → FindsNames program v
   front_serves v place scope =
       record {
         finds = λ name e h.
@@ -238,7 +238,7 @@ module _ (laws : LawsOfNames) (t : ProgramTree) (legal : IsLegal t) (restricted 
     }
 
     -- no word of the frame is an object's
-    pub front_ends : EndsBy v 0
+    pub front_ends : EndsBelow v 0
     front_ends name x r u told local named = absurd (no_local name x told local)
 
     -- a frame with no names of its own, as main's

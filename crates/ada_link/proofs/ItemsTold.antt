@@ -10,7 +10,7 @@ use Rattle.sound_programs.specs.Fronts.{front}
 use Rattle.sound_programs.proofs.Listing.{same_some, taken_at, taken_next}
 use Rattle.stmt_code.specs.Bounds.{procedure_bound}
 use Rattle.stmt_code.specs.Labels.{alternatives_labels, elsifs_labels, handlers_labels, is_label, stmt_labels, stmts_labels, with_label, with_line}
-use Rattle.stmt_code.specs.Lines.{Line, line_of}
+use Rattle.stmt_code.specs.Lines.{LabelledValue, line_of}
 use Rattle.stmt_code.specs.WholeRefusals.{body_labels}
 use Rattle.stmt_code.proofs.Refused.{Within, in_left, of_right}
 use Rattle.ada_link.specs.Counts.{bounds_from}
@@ -102,7 +102,7 @@ label_grows before text = by_test (is_label before text)
     by_test true = omega arith
     by_test false = (let e = length-append before (text ∷ []) in omega (arith, e))
 
-line_grows : (before : List (List ℕ)) (o : Option Line) → length before ≤ length (with_line before o)
+line_grows : (before : List (List ℕ)) (o : Option LabelledValue) → length before ≤ length (with_line before o)
 line_grows before None = omega arith
 line_grows before (Some line) = label_grows before line.label
 

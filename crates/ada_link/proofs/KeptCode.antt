@@ -13,7 +13,7 @@ use Rattle.ravenscar.specs.ProgramRules.{IsRestricted}
 use Rattle.sound_programs.proofs.Listing.{same_some}
 use Rattle.expr_code.specs.Code.{here}
 use Rattle.stmt_code.specs.Emitting.{HasLabels}
-use Rattle.stmt_code.specs.Whole.{AreAllKept, IsKept, KeptCodePasses, PassesOnCode}
+use Rattle.stmt_code.specs.Whole.{AreAllKept, KeepsSubprogramRules, KeptCodePasses, PassesOnCode}
 use Rattle.ada_link.specs.Program.{HasProgram, main_row}
 use Rattle.ada_link.specs.Walking.{row_of}
 use Rattle.ada_link.proofs.InFront.{LawsOfNames}
@@ -24,12 +24,12 @@ use Rattle.ada_link.proofs.Walked.{last_or_before}
 
 -- each is, where each by its number is
 all_kept : (i : Sections) (all : List Subprogram) (first : ℕ)
-    → ((n : ℕ) (s : Subprogram) → slice_get all n ≡ Some s → IsKept i (begin_of first all n) s)
+    → ((n : ℕ) (s : Subprogram) → slice_get all n ≡ Some s → KeepsSubprogramRules i (begin_of first all n) s)
     → AreAllKept i first all
 all_kept i [] first h = tt
 all_kept i (s ∷ rest) first h = (
   h 0 s refl,
-  all_kept i rest s.end_ (λ n x at. subst (λ p. IsKept i p x) (begin_of-next first n s rest) (h (suc n) x at)),
+  all_kept i rest s.end_ (λ n x at. subst (λ p. KeepsSubprogramRules i p x) (begin_of-next first n s rest) (h (suc n) x at)),
 )
 
 begins : (i : Sections) (n : ℕ) → first_place i n ≡ begin_of 0 i.subprograms n
@@ -45,7 +45,7 @@ module _ (laws : LawsOfNames) (passes : KeptCodePasses) (t : ProgramTree) (legal
     record IsKeptThere (n : ℕ) : Type 0 where
       s : Subprogram
       there : called i n ≡ Some s
-      kept : IsKept i (first_place i n) s
+      kept : KeepsSubprogramRules i (first_place i n) s
 
     body_kept : (n : ℕ) → IsOfBody t h.directory n h.walk → IsKeptThere n
     body_kept n x =
@@ -55,7 +55,7 @@ module _ (laws : LawsOfNames) (passes : KeptCodePasses) (t : ProgramTree) (legal
         (record {
           s = row;
           there = called_front t i h body.number row body.there;
-          kept = subst (λ p. IsKept i p row) (sym (begins_there t i h x.place x.d x.b body))
+          kept = subst (λ p. KeepsSubprogramRules i p row) (sym (begins_there t i h x.place x.d x.b body))
               (passes.added body.seen body.old body.new body.words body.keeps i row (holds_there t i h x.place x.d x.b body) (labels_there t i h x.place x.d x.b body)
               (record { parameters = refl; results = refl; locals = refl; stack = refl })
               (front_suited laws t legal restricted i h body.seen (suc x.place) body.scope body.told row) refl
@@ -68,7 +68,7 @@ module _ (laws : LawsOfNames) (passes : KeptCodePasses) (t : ProgramTree) (legal
         record {
           s = row;
           there = called_main t i h;
-          kept = subst (λ p. IsKept i p row) (sym (first_main t i h))
+          kept = subst (λ p. KeepsSubprogramRules i p row) (sym (first_main t i h))
               (passes.added h.walk.visible h.walk.draft h.draft h.words h.keeps i row (holds_main t i h)
               (let labels : HasLabels i h.draft.labels = record { labels = λ k y le e. ap (λ l. slice_get l k) h.labels ∙ e } in labels)
               (record { parameters = refl; results = refl; locals = refl; stack = refl })
@@ -82,15 +82,15 @@ module _ (laws : LawsOfNames) (passes : KeptCodePasses) (t : ProgramTree) (legal
         let both = length-append rows (main_row h.words (here h.draft.code) ∷ []) in
         omega (arith, e, both)
 
-    one_kept : (n : ℕ) (s : Subprogram) → slice_get i.subprograms n ≡ Some s → IsKept i (begin_of 0 i.subprograms n) s
+    one_kept : (n : ℕ) (s : Subprogram) → slice_get i.subprograms n ≡ Some s → KeepsSubprogramRules i (begin_of 0 i.subprograms n) s
     one_kept n s at =
         let up = slice_get_within i.subprograms n s at in
         by_number (last_or_before t h.directory n (length rows) (omega (arith, up, long)))
       where
-        of_there : IsKeptThere n → IsKept i (begin_of 0 i.subprograms n) s
-        of_there x = subst (λ p. IsKept i p s) (begins i n) (subst (IsKept i (first_place i n)) (same_some x.s s (sym x.there ∙ at)) x.kept)
+        of_there : IsKeptThere n → KeepsSubprogramRules i (begin_of 0 i.subprograms n) s
+        of_there x = subst (λ p. KeepsSubprogramRules i p s) (begins i n) (subst (KeepsSubprogramRules i (first_place i n)) (same_some x.s s (sym x.there ∙ at)) x.kept)
 
-        by_number : (n ≡ length rows) ⊎ (n < length rows) → IsKept i (begin_of 0 i.subprograms n) s
+        by_number : (n ≡ length rows) ⊎ (n < length rows) → KeepsSubprogramRules i (begin_of 0 i.subprograms n) s
         by_number (inl same) = of_there (subst IsKeptThere (sym same) main_kept)
         by_number (inr less) = of_there (body_kept n (owner_of t i h n less))
 

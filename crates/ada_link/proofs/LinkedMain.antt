@@ -17,7 +17,7 @@ use Rattle.stmt_code.specs.Handling.{GoesBy, unhandled}
 use Rattle.stmt_code.specs.Laws.{HasCode}
 use Rattle.stmt_code.specs.Resting.{Framed}
 use Rattle.stmt_code.specs.Statements.{Numbers}
-use Rattle.ada_link.specs.Linked.{AreMain, IsLinked, IsSequential}
+use Rattle.ada_link.specs.Linked.{AreMain, IsLinkedProgram, IsSequential}
 use Rattle.ada_link.specs.Package.{IsInFront, IsPackageOf}
 use Rattle.ada_link.proofs.FirstWords.{first_words}
 use Rattle.ada_link.proofs.InFront.{LawsOfNames, bare_rests, few_locals}
@@ -44,7 +44,7 @@ pub record DoesMain (t : ProgramTree) (i : Sections) (g : Package) (numbers : Nu
 module _ (laws : LawsOfNames) (sizes : ImagesHaveSize) (t : ProgramTree) (legal : IsLegal t) (restricted : IsRestricted t) (i : Sections)
     (well_formed : IsWellFormed i) (g : Package) (of_program : IsPackageOf t i g) (numbers : Numbers) (v : Framed)
     (behind : IsInFront t g v (length (declared_in t.package_))) (reserved : v.reserved ≡ []) where
-  pub main_linked : (does : DoesMain t i g numbers) → v.room ≤ does.s.locals → IsLinked t i g numbers
+  pub main_linked : (does : DoesMain t i g numbers) → v.room ≤ does.s.locals → IsLinkedProgram t i g numbers
   main_linked does room = record {
     priority = does.priority;
     sequential = does.sequential;

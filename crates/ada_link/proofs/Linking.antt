@@ -45,12 +45,12 @@ use Rattle.stmt_code.specs.Handling.{GoesBy, unhandled}
 use Rattle.stmt_code.specs.Raising.{AreNamed}
 use Rattle.stmt_code.specs.Laws.{HasCode}
 use Rattle.stmt_code.specs.Resting.{Framed}
-use Rattle.stmt_code.specs.Statements.{IsProcedure, Numbers}
+use Rattle.stmt_code.specs.Statements.{IsProcedureCode, Numbers}
 use Rattle.stmt_code.specs.Subprograms.{AddsProcedure, fresh}
 use Rattle.stmt_code.specs.declared.draft.Draft.{Draft}
 use Rattle.stmt_code.specs.declared.subprogram.SubprogramWords.{SubprogramWords}
 use Rattle.ada_link.specs.LinkLaws.{LinkedKeepsCount, LinkedMeansTheSame}
-use Rattle.ada_link.specs.Linked.{IsLinked, IsSequential}
+use Rattle.ada_link.specs.Linked.{IsLinkedProgram, IsSequential}
 use Rattle.ada_link.specs.Package.{IsInFront, IsInOrder, IsPackageOf}
 use Rattle.ada_link.proofs.NamedExceptions.{exceptions_are_named}
 use Rattle.ada_link.proofs.CodedPackage.{HasBodies, ada_linkd}
@@ -63,7 +63,7 @@ use Rattle.ada_link.proofs.LinkedMain.{DoesMain, main_linked}
 use Rattle.ada_link.specs.Directory.{AreTold}
 use Rattle.ada_link.specs.Laws.{SectionsMeanTheSame}
 use Rattle.ada_link.specs.Program.{HasProgram, main_row}
-use Rattle.ada_link.specs.Walking.{AddsSubprogram, AddsValue, HasBody, LieInFront, begins_at, row_of}
+use Rattle.ada_link.specs.Walking.{AddsSubprogram, AddsValueFunction, HasBody, LieInFront, begins_at, row_of}
 use Rattle.ada_link.specs.declared.directory.Directory.{Directory}
 use Rattle.ada_link.proofs.BodyRows.{goes_by_own, goes_past}
 use Rattle.ada_link.proofs.Walked.{begins_kept, rows_in_front}
@@ -131,10 +131,10 @@ with_one P V (Some q) a r e = subst V (same_some q r e) a
 module _ (t : ProgramTree) (d : SubprogramTree) (b : BodyTree) (v : Visible) (old : Draft) (words : SubprogramWords) (new : Draft)
     (a : AddsSubprogram t d b v old words new) where
   as_procedure : d.result ≡ None → AddsProcedure v old d.formals b words new
-  as_procedure e = without (AddsProcedure v old d.formals b words new) (λ r. AddsValue t d b r v old words new) d.result a e
+  as_procedure e = without (AddsProcedure v old d.formals b words new) (λ r. AddsValueFunction t d b r v old words new) d.result a e
 
-  as_function : (r : Identifier) → d.result ≡ Some r → AddsValue t d b r v old words new
-  as_function r e = with_one (AddsProcedure v old d.formals b words new) (λ z. AddsValue t d b z v old words new) d.result a r e
+  as_function : (r : Identifier) → d.result ≡ Some r → AddsValueFunction t d b r v old words new
+  as_function r e = with_one (AddsProcedure v old d.formals b words new) (λ z. AddsValueFunction t d b z v old words new) d.result a r e
 
 -- ---- no protected object has a ceiling where there is none
 
@@ -302,7 +302,7 @@ module _ (t : ProgramTree) (i : Sections) (h : HasProgram t i) where
       labels : HasLabels i body.new.labels
       labels = labels_there place d b body
 
-      procedure_there : d.result ≡ None → IsProcedure i program g numbers (procedure_by program.scope (subprogram_body None d b)) body.number
+      procedure_there : d.result ≡ None → IsProcedureCode i program g numbers (procedure_by program.scope (subprogram_body None d b)) body.number
       procedure_there none =
           let adds = as_procedure t d b body.seen body.old body.words body.new body.adds none in
           procedure_emitted laws quiet shaped t legal restricted i well_formed g of_program numbers place d b at body.seen body.old body.new body.words
@@ -328,7 +328,7 @@ module _ (t : ProgramTree) (i : Sections) (h : HasProgram t i) where
     bodies = record {
       procedures =
           λ place d b at none number e. subst
-          (IsProcedure i program g numbers (procedure_by program.scope (subprogram_body None d b))) (numbered place d b at number e)
+          (IsProcedureCode i program g numbers (procedure_by program.scope (subprogram_body None d b))) (numbered place d b at number e)
           (procedure_there place d b at none);
       functions = λ place d b at r some value returns number e. subst
           (IsFunctionCode i (library_of g) (function_by program.scope (subprogram_body None d b) r value)) (numbered place d b at number e)
@@ -387,7 +387,7 @@ module _ (t : ProgramTree) (i : Sections) (h : HasProgram t i) where
     abbrev seen : Framed
     seen = record { names = h.walk.visible; room = 0; reserved = [] }
 
-    pub sections_linked : ImagesHaveSize → IsLinked t i g numbers
+    pub sections_linked : ImagesHaveSize → IsLinkedProgram t i g numbers
     sections_linked sizes =
         main_linked laws sizes t legal restricted i well_formed g of_program numbers seen
         (in_front seen (length (declared_in t.package_)) (h.walked.scope ∙ ap (front t) h.whole) h.walked.told) refl does (omega arith)

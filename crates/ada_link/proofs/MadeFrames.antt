@@ -28,10 +28,10 @@ use Rattle.expr_code.specs.Seeing.{Package, slot_of}
 use Rattle.expr_code.specs.declared.visible.Slot.{Slot}
 use Rattle.stmt_code.specs.Copying.{left_out}
 use Rattle.declaring.specs.BodyNames.{formals_scope}
-use Rattle.stmt_code.specs.Layout.{AreApart, AreFree, EndsBy, IsFree, IsLaidOut, NamesObject}
-use Rattle.stmt_code.specs.Resting.{Framed, Narrows}
+use Rattle.stmt_code.specs.Layout.{AreApart, AreFree, EndsBelow, IsFree, IsLaidOut, NamesObject}
+use Rattle.stmt_code.specs.Resting.{Framed, NarrowsFrame}
 use Rattle.stmt_code.specs.Formals.{AddsEach, AreInTurn, Placed, addresses_from, outs_end, parameter_at, passed_end}
-use Rattle.ada_link.specs.Package.{Finds, HoldsAll, IsInFront, IsPackageOf}
+use Rattle.ada_link.specs.Package.{FindsNames, HoldsAll, IsInFront, IsPackageOf}
 use Rattle.ada_link.proofs.BodyFrames.{HasWidths, OutsBegin, behind_up, holds_in_turn, next_widths, outs_begin, outs_behind, outs_end_is, words_behind}
 use Rattle.ada_link.proofs.Building.{add_each, each_joined, has_turn, in_turn, outs_of, taken_of, turn_has, turn_new}
 use Rattle.ada_link.proofs.HeldParameters.{Reached, end_reached}
@@ -91,7 +91,7 @@ module _ (g : Package) (w u : Framed) (laid : IsLaidOut g w) (names_same : (name
     subprograms = entries.subprograms;
   }
 
-  ends_reordered : (top : ℕ) → EndsBy w top → EndsBy u top
+  ends_reordered : (top : ℕ) → EndsBelow w top → EndsBelow u top
   ends_reordered top ends name x r t told local n =
       let e = ends name x r t (told_before name x told) local (named_back name r t n) in
       let k = object_words name r t n in
@@ -166,7 +166,7 @@ module _ (laws : LawsOfNames) (t : ProgramTree) (legal : IsLegal t) (restricted 
       (names laws t legal restricted).fronts place d b at)
 
   -- and names what the program has
-  pub text_serves : Finds (program_of t) last
+  pub text_serves : FindsNames (program_of t) last
   text_serves = each_serves (program_of t) xs v last added (front_serves laws t legal restricted v (suc place) before.scope)
 
 -- The frames of a procedure, by what is visible in front of its body and in front of its declarations: where it is entered, and behind its `out` parameters.
@@ -176,11 +176,11 @@ pub record HasFrames (g : Package) (v middle : Framed) (ps : List Parameter) (xs
   pub holds : HoldsAll v 0 v.reserved ps begins (passed_end v.names.scope 0 xs)
   pub left : left_out ps ≡ map parameter_at (outs_of xs)
   pub outs : OutsBegin g v.names.scope begins (outs_of xs) begun
-  pub orders : Narrows g begun middle
+  pub orders : NarrowsFrame g begun middle
   -- the places of all parameters are laid out, and end there
   pub laid : IsLaidOut g middle
   pub sound : SoundScope middle.names.scope
-  pub ends : EndsBy middle (outs_end v.names.scope out xs)
+  pub ends : EndsBelow middle (outs_end v.names.scope out xs)
 
 module _ (laws : LawsOfNames) (t : ProgramTree) (legal : IsLegal t) (restricted : IsRestricted t) (i : Sections) (g : Package) (of_program : IsPackageOf t i g)
     (place : ℕ) (d : SubprogramTree) (b : BodyTree) (at : slice_get (declared_in t.package_) place ≡ Some (SubprogramBody d b))
@@ -341,7 +341,7 @@ module _ (laws : LawsOfNames) (t : ProgramTree) (legal : IsLegal t) (restricted 
     ends =
         ends_reordered g begun middle outs.1.laid names_middle slots_middle same_words sound_middle entries_middle reserved_middle
         (outs_end base out xs)
-        (subst (EndsBy begun) (sym (outs_end_is laws.stay base xs out)) outs.1.ends);
+        (subst (EndsBelow begun) (sym (outs_end_is laws.stay base xs out)) outs.1.ends);
   }
 
 -- ---- a function's parameters are those of the text

@@ -24,7 +24,7 @@ use Rattle.checking.specs.ProgramRules.{IsLegal}
 use Rattle.ravenscar.specs.ProgramRules.{IsRestricted}
 use Rattle.meaning.specs.Laws.{CountGivesMeaning}
 use Rattle.meaning.specs.Meeting.{Met, Meets, Moves, Owed, Relation, Runner, Still, Walks}
-use Rattle.meaning.specs.Works.{DoesMain, Given, Goes, Store, TaskWork, ends_of_calls}
+use Rattle.meaning.specs.Works.{DoesMain, GivenToCaller, Goes, Store, TaskWork, ends_of_calls}
 use Rattle.meaning.specs.Source.{initial_work, partition_of, source_behaviour, source_start, task_items}
 use Rattle.meaning.specs.Programs.{OfMain, Program, Task, priority_or_zero, program_of, task_name}
 use Rattle.meaning.specs.SameMeaning.{KeepsCount, frames_of}
@@ -44,7 +44,7 @@ use Rattle.stmt_code.specs.Jumping.{Here}
 use Rattle.stmt_code.specs.Standing.{Around, CodeStands, Follows, Going, Inside, Left, Shares, WorkStands, relation, work_size}
 use Rattle.stmt_code.proofs.Handling.{goes_within}
 use Rattle.ada_link.specs.LinkLaws.{LinkedKeepsCount, LinkedMeansTheSame}
-use Rattle.ada_link.specs.Linked.{AreMain, IsLinked}
+use Rattle.ada_link.specs.Linked.{AreMain, IsLinkedProgram}
 use Rattle.ada_link.proofs.Single.{Single, begins_single, single_after}
 
 pub record LawsBelow : Type 0 where
@@ -59,7 +59,7 @@ pub record LawsBelow : Type 0 where
   pub met : StepsAreMet
 
 module _ (laws : LawsBelow) (p : ProgramTree) (i : Sections) (g : Package) (numbers : Numbers) (well_formed : IsWellFormed i) (legal : IsLegal p)
-    (restricted : IsRestricted p) (linked : IsLinked p i g numbers) where
+    (restricted : IsRestricted p) (linked : IsLinkedProgram p i g numbers) where
   abbrev program : Program
   program = program_of p
 
@@ -80,7 +80,7 @@ module _ (laws : LawsBelow) (p : ProgramTree) (i : Sections) (g : Package) (numb
     single : Single k
     left : Left i program g numbers (after t e k) e w s
 
-  abbrev alone : Relation Store TaskWork Given Words TaskState steps.Given
+  abbrev alone : Relation Store TaskWork GivenToCaller Words TaskState steps.Given
   alone = record {
     shares = Shares i program g numbers;
     stands = Stands;
@@ -113,7 +113,7 @@ module _ (laws : LawsBelow) (p : ProgramTree) (i : Sections) (g : Package) (numb
     others_stand k l s ones others zero ne = absurd (ne refl)
     others_stand k l s ones others (suc v) ne = record { single = s; task = tt }
 
-    owed : (k : Kernel) (t : ℕ) (e : Effect) (ones : ℕ → TaskWork) (others : ℕ → TaskState) (a : TaskWork) (b : TaskState) (x : Option Given)
+    owed : (k : Kernel) (t : ℕ) (e : Effect) (ones : ℕ → TaskWork) (others : ℕ → TaskState) (a : TaskWork) (b : TaskState) (x : Option GivenToCaller)
         (y : Option steps.Given)
         → Runner k t
         → ((u : ℕ) → Stands k u (ones u) (others u))

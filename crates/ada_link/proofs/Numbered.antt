@@ -24,7 +24,7 @@ use Rattle.expr_code.specs.declared.refusal.Refusal.{Refusal}
 use Rattle.expr_code.specs.declared.refusal.Refusal.TheVariants as refusal
 use Rattle.stmt_code.proofs.Adding.{mapped_next}
 use Rattle.ada_link.specs.Counts.{bodies_among}
-use Rattle.ada_link.specs.Directory.{AreNumbered, HasManyBodies, numbered_item, numbered_once, numbered_with}
+use Rattle.ada_link.specs.Directory.{HaveBodyNumbers, HasManyBodies, numbered_item, numbered_once, numbered_with}
 use Rattle.ada_link.specs.Laws.{BodiesAreNumbered}
 use Rattle.ada_link.specs.Refusing.{number_among}
 use Rattle.ada_link.proofs.GlobalsRefused.{split_at}
@@ -116,17 +116,17 @@ long_with : (numbers : List (Option ℕ)) (o : Option ℕ) (one : ℕ) → lengt
 long_with numbers None one = refl
 long_with numbers (Some k) one = long_once numbers k one (slice_get numbers k)
 
-pub none_numbered : (s : Scope) (n : ℕ) (numbers : List (Option ℕ)) → n ≡ length s → numbers ≡ replicate n None → AreNumbered s [] numbers
+pub none_numbered : (s : Scope) (n : ℕ) (numbers : List (Option ℕ)) → n ≡ length s → numbers ≡ replicate n None → HaveBodyNumbers s [] numbers
 none_numbered s n numbers long is = record {
   many = ap length is ∙ length-replicate n None ∙ long;
   told = λ name k seen. ap (λ l. told_of s l name) is ∙ none_told s n name;
 }
 
 pub one_numbered : (s : Scope) (items : List BodyItemTree) (x : BodyItemTree) (old new : List (Option ℕ)) (one : ℕ) → one ≡ bodies_among items
-    → AreNumbered s items old → new ≡ numbered_item s old one x → AreNumbered s (items ++ x ∷ []) new
+    → HaveBodyNumbers s items old → new ≡ numbered_item s old one x → HaveBodyNumbers s (items ++ x ∷ []) new
 one_numbered s items x old new one counted h is = by_item x is
   where
-    kept : (y : BodyItemTree) → number_among (bodies_among items) (y ∷ []) ≡ (λ name. None) → new ≡ old → AreNumbered s (items ++ y ∷ []) new
+    kept : (y : BodyItemTree) → number_among (bodies_among items) (y ∷ []) ≡ (λ name. None) → new ≡ old → HaveBodyNumbers s (items ++ y ∷ []) new
     kept y none same = record {
       many = ap length same ∙ h.many;
       told = λ name k seen.
@@ -136,7 +136,7 @@ one_numbered s items x old new one counted h is = by_item x is
           ∙ ap (λ f. or_else (number_among 0 items name) (f name)) none));
     }
 
-    by_item : (y : BodyItemTree) → new ≡ numbered_item s old one y → AreNumbered s (items ++ y ∷ []) new
+    by_item : (y : BodyItemTree) → new ≡ numbered_item s old one y → HaveBodyNumbers s (items ++ y ∷ []) new
     by_item (SubprogramBody d b) same = record {
       many = ap length same ∙ long_with old (number_of s d.name.name) one ∙ h.many;
       told = λ name k seen.
@@ -155,14 +155,14 @@ bodies_joined (x ∷ xs) ys = bodies_joined xs ys
 
 -- one item of them more
 pub items_numbered : (s : Scope) (all : List BodyItem) (n : ℕ) (x : BodyItem) (old new : List (Option ℕ)) (next later : ℕ) → n < length all → x ≡ get_or all n x
-    → AreNumbered s (map body_item_tree (take n all)) old → next ≡ bodies_among (map body_item_tree (take n all))
+    → HaveBodyNumbers s (map body_item_tree (take n all)) old → next ≡ bodies_among (map body_item_tree (take n all))
     → new ≡ numbered_item s old next (body_item_tree x) → later ≡ next + bodies_among (body_item_tree x ∷ [])
-    → AreNumbered s (map body_item_tree (take (n + 1) all)) new × (later ≡ bodies_among (map body_item_tree (take (n + 1) all)))
+    → HaveBodyNumbers s (map body_item_tree (take (n + 1) all)) new × (later ≡ bodies_among (map body_item_tree (take (n + 1) all)))
 items_numbered s all n x old new next later less is h counted more goes =
     let front : List BodyItemTree = map body_item_tree (take n all) in
     let same = sym (mapped_next body_item_tree all n x less is) in
     let joined = bodies_joined front (body_item_tree x ∷ []) in (
-      subst (λ l. AreNumbered s l new) same (one_numbered s front (body_item_tree x) old new next counted h more),
+      subst (λ l. HaveBodyNumbers s l new) same (one_numbered s front (body_item_tree x) old new next counted h more),
       subst (λ l. later ≡ bodies_among l) same (omega (arith, goes, counted, joined)),
     )
 

@@ -10,7 +10,7 @@ use Rattle.well_typed.proofs.Goods.{object_known}
 use Rattle.sound_programs.proofs.WiderScopes.{number_stands, stands, stands_number}
 use Rattle.sound_programs.proofs.Same.{SameTypes, one_same}
 use Rattle.expr_code.specs.Seeing.{Package, slot_of, subprogram_of}
-use Rattle.stmt_code.specs.Resting.{Framed, Narrows, Shows}
+use Rattle.stmt_code.specs.Resting.{Framed, NarrowsFrame, Shows}
 
 module _ (s u : Scope) (sound : SoundScope u) (types : SameTypes s u) (names : (name : List ℕ) → stands u name ≡ stands s name) where
   means_same : (p : Place) → Agrees s p → (name : List ℕ) (n : ℕ) (e : Entity) → entity_at s n ≡ Some e → Means s p name e → Means u p name e
@@ -48,7 +48,7 @@ pub narrows_same : (g : Package) (now later : Framed) → SoundScope later.names
     → ((name : List ℕ) → subprogram_of later.names name ≡ subprogram_of now.names name)
     → later.room ≡ now.room
     → now.reserved ≡ later.reserved
-    → Narrows g now later
+    → NarrowsFrame g now later
 narrows_same g now later sound types names slots subprograms room reserved = record { shows = shows; reserved = reserved }
   where
     shows : Shows g now later

@@ -22,11 +22,11 @@ use Rattle.stmt_code.specs.Bounds.{main_bound}
 use Rattle.stmt_code.specs.Refusing.{RefusesMain, are_unknown, beyond_if}
 use Rattle.stmt_code.proofs.Refused.{needing_refused}
 use Rattle.ada_link.specs.Counts.{bodies_among, bodies_before, bounds_from}
-use Rattle.ada_link.specs.Directory.{AreNumbered, HasManyBodies, IsDirectory}
+use Rattle.ada_link.specs.Directory.{HaveBodyNumbers, HasManyBodies, IsDirectory}
 use Rattle.ada_link.specs.Globals.{AreGlobals, RefusesGlobals, refuses_items}
 use Rattle.ada_link.specs.Laws.{HasFew}
 use Rattle.ada_link.specs.Program.{HasProgram, has_texts, is_within_limits}
-use Rattle.ada_link.specs.Refusing.{RefusesCode, RefusesParts, RefusesProgram, is_spelled, items_labels, items_needs, items_rows, number_among, program_bound, program_labels, program_needs, program_rows, seen_at}
+use Rattle.ada_link.specs.Refusing.{RefusesCode, RefusesSections, RefusesLinking, is_spelled, items_labels, items_needs, items_rows, number_among, program_bound, program_labels, program_needs, program_rows, seen_at}
 use Rattle.ada_link.specs.Walking.{IsAsTold}
 use Rattle.ada_link.specs.declared.directory.Directory.{Directory}
 use Rattle.ada_link.specs.declared.globals.Globals.{Globals}
@@ -72,7 +72,7 @@ module _ (t : ProgramTree) where
 
   -- what the tables of a program tell
   pub directory_told : (g : Globals) (numbers : List (Option ℕ)) (directory : Directory) → AreGlobals whole (package_items t.package_) g
-      → AreNumbered whole (package_bodies t.package_) numbers → directory.slots.items ≡ g.slots.items → directory.numbers.items ≡ numbers
+      → HaveBodyNumbers whole (package_bodies t.package_) numbers → directory.slots.items ≡ g.slots.items → directory.numbers.items ≡ numbers
       → IsDirectory t directory
   directory_told g numbers directory are numbered slots same = record {
     slots = λ name. ap (λ l. told_of whole l name) slots ∙ are.slots name;
@@ -81,31 +81,31 @@ module _ (t : ProgramTree) where
 
   -- ---- memory
 
-  pub plain_refused : (why : Refusal) → IsRefused 0 0 false why → RefusesParts t why
+  pub plain_refused : (why : Refusal) → IsRefused 0 0 false why → RefusesSections t why
   plain_refused refusal.Memory r = inl (inl tt)
   plain_refused refusal.Limit r = absurd (no_more 0 r)
   plain_refused refusal.Outside r = absurd (let never : false ≡ true = r in cc)
 
   -- ---- protected objects
 
-  pub protected_refused : (protected_count whole ≡ 0 → ⊥) → RefusesParts t refusal.Outside
+  pub protected_refused : (protected_count whole ≡ 0 → ⊥) → RefusesSections t refusal.Outside
   protected_refused h =
       inl (inl (or_left (not (nat_eq (protected_count whole) 0)) (items_needs t 0 all).outside (nat_differ (protected_count whole) h)))
 
   -- ---- variables and bodies
 
   pub globals_refused : (refuses_items whole [] (package_items t.package_) ≡ true → (program_needs t).outside ≡ true) → (why : Refusal)
-      → RefusesGlobals whole [] (package_items t.package_) why → RefusesParts t why
+      → RefusesGlobals whole [] (package_items t.package_) why → RefusesSections t why
   globals_refused placed refusal.Memory r = inl (inl tt)
   globals_refused placed refusal.Limit r = inr (inl r)
   globals_refused placed refusal.Outside r = inl (inl (placed r))
 
-  pub bodies_refused : (why : Refusal) → HasManyBodies (package_bodies t.package_) why → RefusesParts t why
+  pub bodies_refused : (why : Refusal) → HasManyBodies (package_bodies t.package_) why → RefusesSections t why
   bodies_refused refusal.Memory r = inl (inl tt)
   bodies_refused refusal.Limit r = inr (inr (inl (inl (let e = bodies_are t.package_ in omega (arith, r, e)))))
   bodies_refused refusal.Outside r = absurd r
 
-  pub code_refused : (why : Refusal) → RefusesCode t why → RefusesParts t why
+  pub code_refused : (why : Refusal) → RefusesCode t why → RefusesSections t why
   code_refused why r = inl r
 
   -- ---- main
@@ -125,7 +125,7 @@ module _ (t : ProgramTree) where
     seen = told.seen ∙ ap (seen_at t) last
 
     pub main_refused : are_unknown (seen_at t (length all)) t.main.statements ≡ false → (why : Refusal)
-        → RefusesMain walk.visible walk.draft.code t.main.statements (main_bound t.main.statements) why → RefusesParts t why
+        → RefusesMain walk.visible walk.draft.code t.main.statements (main_bound t.main.statements) why → RefusesSections t why
     main_refused known why r =
         inl (inl (needing_refused (here walk.draft.code + main_bound t.main.statements) (program_bound t)
         (beyond_if (are_unknown walk.visible t.main.statements)) (program_needs t)
@@ -141,7 +141,7 @@ module _ (t : ProgramTree) where
         up a s m h = omega (arith, h)
 
     -- as many subprograms as bodies
-    pub task_refused : (many : ℕ) → many ≡ bodies_before t walk.place → (why : Refusal) → IsRefused many 0 false why → RefusesParts t why
+    pub task_refused : (many : ℕ) → many ≡ bodies_before t walk.place → (why : Refusal) → IsRefused many 0 false why → RefusesSections t why
     task_refused many is refusal.Memory r = inl (inl tt)
     task_refused many is refusal.Outside r = absurd (let never : false ≡ true = r in cc)
     task_refused many is refusal.Limit (inl h) =
@@ -150,7 +150,7 @@ module _ (t : ProgramTree) where
     task_refused many is refusal.Limit (inr (inr h)) = absurd h
 
   -- code that keeps the rules ends within the limit
-  pub row_refused : (end : ℕ) → end ≤ INSTRUCTIONS → (why : Refusal) → IsRefused end 0 false why → RefusesParts t why
+  pub row_refused : (end : ℕ) → end ≤ INSTRUCTIONS → (why : Refusal) → IsRefused end 0 false why → RefusesSections t why
   row_refused end up refusal.Memory r = inl (inl tt)
   row_refused end up refusal.Outside r = absurd (let never : false ≡ true = r in cc)
   row_refused end up refusal.Limit (inl h) = absurd (omega (arith, h, up))
@@ -177,7 +177,7 @@ module _ (t : ProgramTree) where
         main_is : list_all main_named i.tasks ≡ is_name t.main.name.name
         main_is = ap (list_all main_named) h.tasks ∙ and_true (is_name t.main.name.name)
 
-    pub texts_refused : has_texts i ≡ false → RefusesParts t refusal.Outside
+    pub texts_refused : has_texts i ≡ false → RefusesSections t refusal.Outside
     texts_refused missed = inr (inr (inr (inr (sym texts_are ∙ missed))))
 
     either : (a b : Bool) (C : Type 0) → (a && b) ≡ false → (a ≡ false → C) → (b ≡ false → C) → C
@@ -193,21 +193,21 @@ module _ (t : ProgramTree) where
         let b = h.walked.many ∙ ap bodies_among (ap (λ n. take n all) h.whole ∙ take_all (length all) all (omega arith)) in
         omega (arith, a, b)
 
-    pub limits_refused : is_within_limits i ≡ false → RefusesParts t refusal.Limit
+    pub limits_refused : is_within_limits i ≡ false → RefusesSections t refusal.Limit
     limits_refused missed =
-        either (nat_le (length i.subprograms) SUBPROGRAMS) _ (RefusesParts t refusal.Limit) missed
+        either (nat_le (length i.subprograms) SUBPROGRAMS) _ (RefusesSections t refusal.Limit) missed
         (λ e. inr (inr (inl (inl (let up = beyond_ (length i.subprograms) SUBPROGRAMS e in omega (arith, up, many))))))
-        (λ rest. either (nat_le (length i.exceptions) EXCEPTIONS) _ (RefusesParts t refusal.Limit) rest
+        (λ rest. either (nat_le (length i.exceptions) EXCEPTIONS) _ (RefusesSections t refusal.Limit) rest
         (λ e. inr (inr (inl (inr (subst (λ l. EXCEPTIONS < length l) (h.exceptions ∙ h.are.exceptions) (beyond_ (length i.exceptions) EXCEPTIONS e))))))
-        (λ rest. either (nat_le (length i.labels) LABELS) _ (RefusesParts t refusal.Limit) rest
+        (λ rest. either (nat_le (length i.labels) LABELS) _ (RefusesSections t refusal.Limit) rest
         (λ e. inl (inr (subst (λ l. LABELS < length l) labels (beyond_ (length i.labels) LABELS e))))
-        (λ rest. either (nat_le (length i.plain_words) WORDS) (nat_le (length i.rows) ROWS) (RefusesParts t refusal.Limit) rest
+        (λ rest. either (nat_le (length i.plain_words) WORDS) (nat_le (length i.rows) ROWS) (RefusesSections t refusal.Limit) rest
         (λ e. inr (inl (subst (λ l. WORDS < length l) (h.plain_words ∙ h.are.words) (beyond_ (length i.plain_words) WORDS e))))
         (λ e. inr (inr (inr (inl (subst (λ n. ROWS < n) rows (beyond_ (length i.rows) ROWS e)))))))))
 
   -- ---- no legal program has too many
 
-  pub few_refused : HasFew t → (why : Refusal) → RefusesParts t why → RefusesProgram t why
+  pub few_refused : HasFew t → (why : Refusal) → RefusesSections t why → RefusesLinking t why
   few_refused few why (inl (inl r)) = inl r
   few_refused few why (inr (inr (inr r))) = inr r
   few_refused few refusal.Limit (inl (inr h)) = absurd (let up = few.labels in omega (arith, h, up))

@@ -16,10 +16,10 @@ use Rattle.sound_programs.proofs.Listing.{Has, first_some, or_else_some}
 use Rattle.sound_programs.proofs.Same.{SameTypes, types_then, types_turned, types_with_all}
 use Rattle.expr_code.specs.Seeing.{Package, slot_of, subprogram_of, told_of}
 use Rattle.expr_code.specs.declared.visible.Slot.{Slot}
-use Rattle.stmt_code.specs.Resting.{Framed, Narrows}
+use Rattle.stmt_code.specs.Resting.{Framed, NarrowsFrame}
 use Rattle.stmt_code.proofs.Names.{same_name, told_again, told_more, told_of_more}
 use Rattle.stmt_code.specs.Formals.{AddsEach, AddsParameter, Placed, parameter_at}
-use Rattle.ada_link.specs.Package.{Finds}
+use Rattle.ada_link.specs.Package.{FindsNames}
 use Rattle.ada_link.proofs.InFront.{serves_more}
 use Rattle.ada_link.proofs.Ordered.{narrows_same}
 
@@ -249,8 +249,8 @@ reserved_stays [] v w h = ap (λ z. z.reserved) h
 reserved_stays (x ∷ xs) v w h = reserved_stays xs h.0 w h.2 ∙ h.1.reserved
 
 -- and what is visible behind them names what the program has, where it does in front of them
-pub each_serves : (program : Program) (xs : List Placed) (v w : Framed) → AddsEach v xs w → Finds program v → Finds program w
-each_serves program [] v w h serves = subst (Finds program) (sym h) serves
+pub each_serves : (program : Program) (xs : List Placed) (v w : Framed) → AddsEach v xs w → FindsNames program v → FindsNames program w
+each_serves program [] v w h serves = subst (FindsNames program) (sym h) serves
 each_serves program (x ∷ xs) v w h serves =
     each_serves program xs h.0 w h.2 (serves_more program v h.0 x.0.name (formal_role x.0.mode) x.0.subtype serves h.1.scope)
 
@@ -301,7 +301,7 @@ module _ (scopes : ScopesAreSound) (g : Package) (v w u : Framed) (xs ys : List 
   pub reserved_reordered : w.reserved ≡ u.reserved
   reserved_reordered = reserved_stays xs v w first ∙ sym (reserved_stays ys v u second)
 
-  pub narrows_reordered : Narrows g w u
+  pub narrows_reordered : NarrowsFrame g w u
   narrows_reordered =
       narrows_same g w u sound_reordered types_between names_reordered slots_reordered subprograms_reordered
       (room_stays ys v u second ∙ sym (room_stays xs v w first)) reserved_reordered

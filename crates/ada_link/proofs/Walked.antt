@@ -29,7 +29,7 @@ use Rattle.stmt_code.proofs.RowsAdded.{rows_kept, rows_then}
 use Rattle.ada_link.specs.Counts.{bodies_among, bodies_before}
 use Rattle.ada_link.specs.Directory.{AreTold, TellsNext}
 use Rattle.ada_link.specs.Laws.{MayBeAdded}
-use Rattle.ada_link.specs.Walking.{AddsBody, AddsSubprogram, BeginsWalk, HasBody, HasRows, IsKept, IsWalked, LieInFront, LiesInOne, begins_at, row_of}
+use Rattle.ada_link.specs.Walking.{AddsBody, AddsSubprogram, BeginsWalk, HasBody, HasRows, IsDraftKept, IsWalked, LieInFront, LiesInOne, begins_at, row_of}
 use Rattle.ada_link.specs.declared.directory.Directory.{Directory}
 use Rattle.ada_link.specs.declared.walk.Walk.{Walk}
 use Rattle.ada_link.proofs.Seen.{first_front}
@@ -40,7 +40,7 @@ use Rattle.ada_link.proofs.Told.{Grows, item_grows, subprogram_grows, told_next,
 stands_then : {X : Type 0} (a b c : List X) → StandsFrom 0 a b → StandsFrom 0 b c → StandsFrom 0 a c
 stands_then a b c h k n x up there = k n x up (h n x up there)
 
-pub kept_self : (a : Draft) → IsKept a a
+pub kept_self : (a : Draft) → IsDraftKept a a
 kept_self a = record {
   instructions = λ n x up there. there;
   longer = omega arith;
@@ -51,7 +51,7 @@ kept_self a = record {
   behind = All-nil (λ q. here a.code ≤ q.start);
 }
 
-pub kept_then : (a b c : Draft) → IsKept a b → IsKept b c → IsKept a c
+pub kept_then : (a b c : Draft) → IsDraftKept a b → IsDraftKept b c → IsDraftKept a c
 kept_then a b c h k = record {
   instructions = stands_then a.code.instructions.items b.code.instructions.items c.code.instructions.items h.instructions k.instructions;
   longer = (let one = h.longer in let two = k.longer in omega (arith, one, two));
@@ -64,7 +64,7 @@ kept_then a b c h k = record {
 }
 
 -- code that extends what is there, with these labels and rows
-kept_by : (old new : Draft) → Extends (fresh old.code) new.code → StandsFrom 0 old.labels new.labels → AddsRows old new → IsKept old new
+kept_by : (old new : Draft) → Extends (fresh old.code) new.code → StandsFrom 0 old.labels new.labels → AddsRows old new → IsDraftKept old new
 kept_by old new extends labels rows = record {
   instructions = extends.instructions;
   longer = extends.longer;
@@ -199,7 +199,7 @@ module _ (t : ProgramTree) (directory : Directory) where
   }
 
   -- what bodies have stays while more are added
-  moved : (old new : Walk) (place : ℕ) (d : SubprogramTree) (b : BodyTree) (more : List Subprogram) → IsKept old.draft new.draft
+  moved : (old new : Walk) (place : ℕ) (d : SubprogramTree) (b : BodyTree) (more : List Subprogram) → IsDraftKept old.draft new.draft
       → new.subprograms.items ≡ old.subprograms.items ++ more
       → HasBody t directory place d b old → HasBody t directory place d b new
   moved old new place d b more kept subprograms has =
@@ -252,7 +252,7 @@ module _ (t : ProgramTree) (directory : Directory) where
           → HasBody t directory n d b new
       by_place n d b there (inl same) = absurd (let both = sym at ∙ ap (slice_get all) (sym same) ∙ there in cc)
       by_place n d b there (inr less) =
-          moved old new n d b [] (subst (IsKept old.draft) (sym draft) (kept_self old.draft)) (ap (λ l. l.items) subprograms ∙ sym (append-nil old.subprograms.items))
+          moved old new n d b [] (subst (IsDraftKept old.draft) (sym draft) (kept_self old.draft)) (ap (λ l. l.items) subprograms ∙ sym (append-nil old.subprograms.items))
           (walked.bodies n d b less there)
 
   -- behind a body, whose code was added where its name is visible
@@ -296,7 +296,7 @@ module _ (t : ProgramTree) (directory : Directory) where
           subst (KeepsRules mid.visible old.draft adds.words) (sym new_draft)
           (subst (λ z. KeepsRules mid.visible z adds.words after.draft) draft adds.keeps)
 
-      kept : IsKept old.draft new.draft
+      kept : IsDraftKept old.draft new.draft
       kept = kept_by old.draft new.draft keeps.extends keeps.labels keeps.rows
 
       this : HasBody t directory old.place d b new

@@ -8,7 +8,7 @@ use Rattle.image.specs.Sections.{Sections}
 use Rattle.expr_code.specs.Coming.{size_of}
 use Rattle.expr_code.specs.declared.refusal.Refusal.TheVariants as refusal
 use Rattle.ada_link.specs.Counts.{instructions_bound}
-use Rattle.ada_link.specs.Refusing.{RefusesProgram}
+use Rattle.ada_link.specs.Refusing.{RefusesLinking}
 
 -- Each subprogram has at most as many instructions as its text tells: 20 for each part of it, and two for each word of an object that is declared in it.
 abbrev pub IsBounded : ProgramTree → Sections → Type 0
@@ -27,4 +27,4 @@ too_large tree = record { number = LIMIT_PASSED; place = tree.main.place }
 abbrev pub RefusesTree : ProgramTree → Fault → Type 0
 RefusesTree tree fault =
     (fault ≡ memory_fault)
-    ⊎ (((fault ≡ outside) × RefusesProgram tree refusal.Outside) ⊎ ((fault ≡ too_large tree) × RefusesProgram tree refusal.Limit))
+    ⊎ (((fault ≡ outside) × RefusesLinking tree refusal.Outside) ⊎ ((fault ≡ too_large tree) × RefusesLinking tree refusal.Limit))

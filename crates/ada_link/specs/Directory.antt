@@ -37,8 +37,8 @@ pub record TellsNext (whole : Scope) (d : Directory) (old : Visible) (name : Lis
   pub entries : HasEntries new
 
 -- There are entries for all names, or for all but the last one.
-abbrev pub IsNext : Visible → Type 0
-IsNext v =
+abbrev pub HasEntriesSoFar : Visible → Type 0
+HasEntriesSoFar v =
     ((length v.slots ≡ length v.scope) × (length v.subprograms ≡ length v.scope))
     ⊎ ((suc (length v.slots) ≡ length v.scope) × (suc (length v.subprograms) ≡ length v.scope))
 
@@ -64,7 +64,7 @@ numbered_item s all one (SubprogramBody d b) = numbered_with all (number_of s d.
 numbered_item s all one item = all
 
 -- of each visible name is told which of these bodies has it
-pub record AreNumbered (s : Scope) (items : List BodyItemTree) (numbers : List (Option ℕ)) : Type 0 where
+pub record HaveBodyNumbers (s : Scope) (items : List BodyItemTree) (numbers : List (Option ℕ)) : Type 0 where
   pub many : length numbers ≡ length s
   pub told : (name : List ℕ) (n : ℕ) → number_of s name ≡ Some n → told_of s numbers name ≡ number_among 0 items name
 

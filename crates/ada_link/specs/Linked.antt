@@ -15,7 +15,7 @@ use Rattle.expr_code.specs.Views.{At}
 use Rattle.stmt_code.specs.Handling.{GoesBy, unhandled}
 use Rattle.stmt_code.specs.Laws.{HasCode}
 use Rattle.stmt_code.specs.Resting.{Framed, RestsWith, StandsFor}
-use Rattle.stmt_code.specs.Statements.{IsMainStatement, Numbers}
+use Rattle.stmt_code.specs.Statements.{IsMainStatementCode, Numbers}
 
 -- main alone is a task, and there are no protected objects
 pub record IsSequential (p : ProgramTree) (priority : ℕ) : Type 0 where
@@ -27,9 +27,9 @@ pub record IsSequential (p : ProgramTree) (priority : ℕ) : Type 0 where
 abbrev pub AreMain : (i : Sections) (program : Program) (g : Package) (numbers : Numbers) (from to : ℕ) → List MainStatement → Type 0
 AreMain i program g numbers from to [] = from ≡ to
 AreMain i program g numbers from to (s ∷ rest) =
-    (mid : ℕ) × (from ≤ mid) × (mid ≤ to) × IsMainStatement i program g numbers from mid s × AreMain i program g numbers mid to rest
+    (mid : ℕ) × (from ≤ mid) × (mid ≤ to) × IsMainStatementCode i program g numbers from mid s × AreMain i program g numbers mid to rest
 
-pub record IsLinked (p : ProgramTree) (i : Sections) (g : Package) (numbers : Numbers) : Type 0 where
+pub record IsLinkedProgram (p : ProgramTree) (i : Sections) (g : Package) (numbers : Numbers) : Type 0 where
   pub priority : ℕ
   pub sequential : IsSequential p priority
   pub exceptions : i.exceptions ≡ (program_of p).exceptions

@@ -59,7 +59,7 @@ pub record IsInOrder (t : ProgramTree) (i : Sections) (g : Package) : Type 0 whe
 -- ---- bodies
 
 -- what is visible in the frame names what the program has
-pub record Finds (program : Program) (v : Framed) : Type 0 where
+pub record FindsNames (program : Program) (v : Framed) : Type 0 where
   pub finds : (name : List ℕ) (e : Entity) → entity_named v.names.scope name ≡ Some e → IsFound program None name e
 
 -- In front of the declaration or body at this place of the package these names are visible, with places and subprograms that are the package's.

@@ -170,12 +170,12 @@ IsMisspelt t refusal.Outside = is_spelled t ≡ false
 IsMisspelt t why = ⊥
 
 -- Why no sections are put together: for want of memory, because of its code, because an image has fewer of something, or because of a text.
-abbrev pub RefusesParts : ProgramTree → Refusal → Type 0
-RefusesParts t why = RefusesCode t why ⊎ (HasManyWords t why ⊎ (HasMany t why ⊎ (HasManyRows t why ⊎ IsMisspelt t why)))
+abbrev pub RefusesSections : ProgramTree → Refusal → Type 0
+RefusesSections t why = RefusesCode t why ⊎ (HasManyWords t why ⊎ (HasMany t why ⊎ (HasManyRows t why ⊎ IsMisspelt t why)))
 
 -- Why an accepted program is refused. Memory may always be refused. It is outside where it has what code isn't made of, or a text is misspelt. It passes a limit
 -- where all its code may have more instructions than an image, where a frame and its operand stack need more words together than a frame has, where an object
 -- takes no words, or more than an image has, or where it has more rows of handlers than an image. No legal program has too many labels, words of variables,
 -- subprograms or exceptions.
-abbrev pub RefusesProgram : ProgramTree → Refusal → Type 0
-RefusesProgram t why = IsNeeding (program_bound t) (program_needs t) why ⊎ (HasManyRows t why ⊎ IsMisspelt t why)
+abbrev pub RefusesLinking : ProgramTree → Refusal → Type 0
+RefusesLinking t why = IsNeeding (program_bound t) (program_needs t) why ⊎ (HasManyRows t why ⊎ IsMisspelt t why)

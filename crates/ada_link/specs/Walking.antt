@@ -38,7 +38,7 @@ StandFrom whole from part = (n : ℕ) (item : BodyItemTree) → slice_get part n
 -- ---- one body
 
 -- the code of a function was added, which returns the value of one expression
-pub record AddsValue (t : ProgramTree) (d : SubprogramTree) (b : BodyTree) (r : Identifier) (v : Visible) (old : Draft) (words : SubprogramWords) (new : Draft)
+pub record AddsValueFunction (t : ProgramTree) (d : SubprogramTree) (b : BodyTree) (r : Identifier) (v : Visible) (old : Draft) (words : SubprogramWords) (new : Draft)
     : Type 0 where
   pub value : ExprTree
   pub returns : returned b.statements ≡ Some value
@@ -49,7 +49,7 @@ pub record AddsValue (t : ProgramTree) (d : SubprogramTree) (b : BodyTree) (r : 
 -- the code of the procedure, or of the function, was added
 abbrev pub AddsSubprogram : ProgramTree → SubprogramTree → BodyTree → Visible → (old : Draft) → SubprogramWords → (new : Draft) → Type 0
 AddsSubprogram t d b v old words new =
-    elim d.result [ None ↦ AddsProcedure v old d.formals b words new | Some r ↦ AddsValue t d b r v old words new ]
+    elim d.result [ None ↦ AddsProcedure v old d.formals b words new | Some r ↦ AddsValueFunction t d b r v old words new ]
 
 -- the words that are passed to its code and come back are those of its calls
 abbrev pub IsCalledSubprogram : ProgramTree → SubprogramTree → Scope → SubprogramWords → Type 0
@@ -97,7 +97,7 @@ begins_at all zero = 0
 begins_at all (suc n) = end_of (slice_get all n)
 
 -- what one draft has, the other has too; its other rows of handlers are those of code behind
-pub record IsKept (old new : Draft) : Type 0 where
+pub record IsDraftKept (old new : Draft) : Type 0 where
   pub instructions : StandsFrom 0 old.code.instructions.items new.code.instructions.items
   pub longer : here old.code ≤ here new.code
   pub labels : StandsFrom 0 old.labels new.labels
@@ -127,7 +127,7 @@ pub record HasBody (t : ProgramTree) (directory : Directory) (place : ℕ) (d : 
   pub counted : number ≡ bodies_before t place
   pub there : slice_get w.subprograms.items number ≡ Some (row_of words (here new.code))
   pub begins : begins_at w.subprograms.items number ≡ here old.code
-  pub kept : IsKept new w.draft
+  pub kept : IsDraftKept new w.draft
 
 -- ---- rows of handlers
 

@@ -6,7 +6,7 @@ ghost use Rattle.checking.specs.ProgramRules.{IsLegal};
 ghost use Rattle.ravenscar.specs.ProgramRules.{IsRestricted};
 ghost use Rattle.expr_code.specs.Coming.{most_steps};
 ghost use Rattle.meaning.specs.SameMeaning.{KeepsCount, SameMeaning};
-ghost use Rattle.ada_link.specs.Refusing.{RefusesProgram};
+ghost use Rattle.ada_link.specs.Refusing.{RefusesLinking};
 ghost use Rattle.ada_link.specs.Compiled.{IsBounded, RefusesTree};
 
 use crate::laws::{sections_are_bounded, sections_are_well_formed, sections_mean_the_same};
@@ -21,7 +21,7 @@ use std::alloc::Global;
 
 // The fault of a program of which no image is made for this reason.
 fn fault_of(program: &Program, why: Refusal) -> Fault
-    requires { RefusesProgram (program_tree program.now) why }
+    requires { RefusesLinking (program_tree program.now) why }
     ensures { RefusesTree (program_tree program.now) result }
 {
     match why {

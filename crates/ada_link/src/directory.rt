@@ -6,7 +6,7 @@ ghost use Rattle.meaning.specs.Programs.{package_bodies};
 ghost use Rattle.expr_code.specs.Refusing.{IsRefused};
 ghost use Rattle.expr_code.specs.Seeing.{told_of};
 ghost use Rattle.ada_link.specs.Counts.{bodies_among};
-ghost use Rattle.ada_link.specs.Directory.{AreNumbered, HasManyBodies, IsNext, IsUnseen, TellsNext, first_told, numbered_item, numbered_with};
+ghost use Rattle.ada_link.specs.Directory.{HaveBodyNumbers, HasManyBodies, HasEntriesSoFar, IsUnseen, TellsNext, first_told, numbered_item, numbered_with};
 
 use ada_tree::{BodyItem, Package};
 use expr_code::{Entries, Refusal, Slot, Visible};
@@ -93,7 +93,7 @@ fn number_items(
     scope: &Scope,
     items: &[BodyItem],
 ) -> Result<Vec<Option<u16>>, Refusal>
-    ensures numbered { IfOk result (λ numbers. AreNumbered scope.now (map body_item_tree items.now) numbers.items) }
+    ensures numbered { IfOk result (λ numbers. HaveBodyNumbers scope.now (map body_item_tree items.now) numbers.items) }
     ensures refused { IfErr result (λ why. HasManyBodies (map body_item_tree items.now) why) }
 {
     let mut numbers = no_numbers(alloc, scope.len())?;
@@ -110,7 +110,7 @@ pub(crate) fn number_bodies(
     scope: &Scope,
     package_: &Option<Package>,
 ) -> Result<Vec<Option<u16>>, Refusal>
-    ensures numbered { IfOk result (λ numbers. AreNumbered scope.now (package_bodies (optional_tree package_tree package_.now)) numbers.items) }
+    ensures numbered { IfOk result (λ numbers. HaveBodyNumbers scope.now (package_bodies (optional_tree package_tree package_.now)) numbers.items) }
     ensures refused { IfErr result (λ why. HasManyBodies (package_bodies (optional_tree package_tree package_.now)) why) }
 {
     match package_ {
@@ -145,7 +145,7 @@ impl Directory {
         visible: &mut Visible,
         name: &Text,
     ) -> Result<(), Refusal>
-        requires next { IsNext visible.old }
+        requires next { HasEntriesSoFar visible.old }
         ensures tells { OnOk result (TellsNext whole.now self.now visible.old name.now visible.new) }
         ensures refused { IfErr result (λ why. IsRefused 0 0 false why) }
     {

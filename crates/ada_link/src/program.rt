@@ -6,7 +6,7 @@ ghost use Rattle.ada_tree.specs.ProgramTree.{program_tree};
 ghost use Rattle.meaning.specs.Programs.{base_priority, program_of};
 ghost use Rattle.expr_code.specs.Refusing.{IsRefused};
 ghost use Rattle.ada_link.specs.Program.{HasProgram, KeepsTables, has_texts, is_within_limits};
-ghost use Rattle.ada_link.specs.Refusing.{RefusesParts, RefusesProgram, program_labels, program_rows};
+ghost use Rattle.ada_link.specs.Refusing.{RefusesSections, RefusesLinking, program_labels, program_rows};
 
 use crate::directory::{Directory, number_bodies};
 use crate::globals::{Globals, globals_of};
@@ -44,7 +44,7 @@ fn put_together(alloc: Global, accepted: &Accepted) -> Result<Parts, Refusal>
     ensures program { IfOk result (λ parts. HasProgram (program_tree accepted.now) parts) }
     ensures labels { IfOk result (λ parts. parts.labels ≡ program_labels (program_tree accepted.now)) }
     ensures rows { IfOk result (λ parts. length parts.rows ≡ program_rows (program_tree accepted.now)) }
-    ensures refused { IfErr result (λ why. RefusesParts (program_tree accepted.now) why) }
+    ensures refused { IfErr result (λ why. RefusesSections (program_tree accepted.now) why) }
 {
     names_are_sound();
     main_is_known();
@@ -125,7 +125,7 @@ fn is_within_limits(parts: &Parts) -> bool
 fn within_tables(alloc: Global, accepted: &Accepted) -> Result<Parts, Refusal>
     ensures program { IfOk result (λ parts. HasProgram (program_tree accepted.now) parts) }
     ensures tables { IfOk result (λ parts. KeepsTables parts) }
-    ensures refused { IfErr result (λ why. RefusesParts (program_tree accepted.now) why) }
+    ensures refused { IfErr result (λ why. RefusesSections (program_tree accepted.now) why) }
 {
     let parts = put_together(alloc, accepted)?;
     if !has_texts(&parts) {
@@ -147,7 +147,7 @@ fn within_tables(alloc: Global, accepted: &Accepted) -> Result<Parts, Refusal>
 pub(crate) fn sections(alloc: Global, accepted: &Accepted) -> Result<Parts, Refusal>
     ensures program { IfOk result (λ parts. HasProgram (program_tree accepted.now) parts) }
     ensures tables { IfOk result (λ parts. KeepsTables parts) }
-    ensures refused { IfErr result (λ why. RefusesProgram (program_tree accepted.now) why) }
+    ensures refused { IfErr result (λ why. RefusesLinking (program_tree accepted.now) why) }
 {
     tables_are_small();
     let _program = accepted.program();

@@ -16,7 +16,7 @@ ghost use Rattle.stmt_code.specs.Subprograms.{IsCalledFunction, KeepsRules};
 ghost use Rattle.ada_link.specs.Directory.{IsDirectory};
 ghost use Rattle.ada_link.specs.Laws.{MayBeAdded};
 ghost use Rattle.ada_link.specs.Refusing.{RefusesCode};
-ghost use Rattle.ada_link.specs.Walking.{AddsAsTold, AddsBody, AddsSubprogram, AddsValue, BeginsWalk, IsAsTold, IsCalledSubprogram, IsWalked, RefusesBody, StandFrom, row_of};
+ghost use Rattle.ada_link.specs.Walking.{AddsAsTold, AddsBody, AddsSubprogram, AddsValueFunction, BeginsWalk, IsAsTold, IsCalledSubprogram, IsWalked, RefusesBody, StandFrom, row_of};
 
 use crate::directory::{Directory, unseen};
 use crate::laws::{bodies_are_numbered, bodies_may_be_added};
@@ -125,7 +125,7 @@ impl Walk {
         requires added { MayBeAdded (program_tree accepted.now) self.old.visible.scope (subprogram_tree subprogram.now) (body_tree body.now) }
         requires entries { HasEntries self.old.visible }
         requires subtype { (subprogram_tree subprogram.now).result ≡ Some subtype.now }
-        ensures adds { IfOk result (λ words. AddsValue (program_tree accepted.now) (subprogram_tree subprogram.now) (body_tree body.now) subtype.now self.old.visible self.old.draft words self.new.draft) }
+        ensures adds { IfOk result (λ words. AddsValueFunction (program_tree accepted.now) (subprogram_tree subprogram.now) (body_tree body.now) subtype.now self.old.visible self.old.draft words self.new.draft) }
         ensures called { IfOk result (λ words. IsCalledFunction self.old.visible.scope (subprogram_tree subprogram.now).formals (subtype_named (program_of (program_tree accepted.now)).scope subtype.now) words) }
         ensures keeps { IfOk result (λ words. KeepsRules self.old.visible self.old.draft words self.new.draft) }
         ensures visible { OnOk result (self.new.visible ≡ self.old.visible) }

@@ -9,8 +9,8 @@ use Rattle.clock.specs.Schedules as schedules
 use Rattle.clock.specs.declared.schedule.ScheduleFault.{ScheduleFault}
 use Rattle.compile_and_go.specs.Accepted.{RefusesText}
 use Rattle.compile_and_go.specs.Headline.{Runs}
-use Rattle.compile_and_go.specs.Stopping.{Refuses}
-use Rattle.adarun.specs.Driving.{Contents, HasRun, HasRunImage, IsRead, KeepsSink, LeavesGo, LeavesRun, status_of}
+use Rattle.compile_and_go.specs.Stopping.{RefusesRunning}
+use Rattle.adarun.specs.Driving.{Contents, HasRun, HasRunImage, IsContentRead, KeepsSink, LeavesGo, LeavesRun, status_of}
 use Rattle.compile_and_go.specs.declared.going.GoFault.{GoFault}
 use Rattle.compile_and_go.specs.declared.going.GoFault.TheVariants as faults
 use Rattle.adarun.specs.declared.program.Status.{Status}
@@ -25,27 +25,27 @@ module _ (contents : Contents) (source schedule : List ℕ) (limit : ℕ) (old n
   has_run (outcomes.ImageFault time) h = h
 
   pub run_leaves : (status : Status) (outcome : Outcome) (text lent given input : List ℕ)
-      → status ≡ status_of outcome → IsRead (contents source) text → lent ≡ text → IsRead (contents schedule) given → input ≡ given → Runs lent input limit outcome old new
+      → status ≡ status_of outcome → IsContentRead (contents source) text → lent ≡ text → IsContentRead (contents schedule) given → input ≡ given → Runs lent input limit outcome old new
       → LeavesGo contents source schedule limit status old new
   run_leaves status outcome text lent given input e read same read_too same_too runs =
       subst (λ s. LeavesGo contents source schedule limit s old new) (sym e)
       (has_run outcome (record {
         text = lent;
-        source_read = subst (IsRead (contents source)) (sym same) read;
+        source_read = subst (IsContentRead (contents source)) (sym same) read;
         input = input;
-        input_read = subst (IsRead (contents schedule)) (sym same_too) read_too;
+        input_read = subst (IsContentRead (contents schedule)) (sym same_too) read_too;
         outcome = outcome;
         status_is = refl;
         runs = runs;
       }))
 
   refusal_leaves : (b : Bool) (fault : Fault) (text lent : List ℕ)
-      → nat_eq fault.number MEMORY_REFUSED ≡ b → IsRead (contents source) text → lent ≡ text → RefusesText lent fault → new ≡ old
+      → nat_eq fault.number MEMORY_REFUSED ≡ b → IsContentRead (contents source) text → lent ≡ text → RefusesText lent fault → new ≡ old
       → LeavesGo contents source schedule limit (cond b NoMemory SourceRefused) old new
   refusal_leaves true fault text lent e read same refused unwritten = unwritten
   refusal_leaves false fault text lent e read same refused unwritten = record {
     text = lent;
-    source_read = subst (IsRead (contents source)) (sym same) read;
+    source_read = subst (IsContentRead (contents source)) (sym same) read;
     fault = fault;
     refused = refused;
     not_memory = λ h. let is = ap (λ n. nat_eq n MEMORY_REFUSED) h in absurd cc;
@@ -53,29 +53,29 @@ module _ (contents : Contents) (source schedule : List ℕ) (limit : ℕ) (old n
   }
 
   pub refused_leaves : (status : Status) (fault : Fault) (text lent : List ℕ)
-      → status ≡ cond (nat_eq fault.number MEMORY_REFUSED) NoMemory SourceRefused → IsRead (contents source) text → lent ≡ text → RefusesText lent fault → new ≡ old
+      → status ≡ cond (nat_eq fault.number MEMORY_REFUSED) NoMemory SourceRefused → IsContentRead (contents source) text → lent ≡ text → RefusesText lent fault → new ≡ old
       → LeavesGo contents source schedule limit status old new
   refused_leaves status fault text lent e read same refused unwritten =
       subst (λ s. LeavesGo contents source schedule limit s old new) (sym e) (refusal_leaves (nat_eq fault.number MEMORY_REFUSED) fault text lent refl read same refused unwritten)
 
   unscheduled : (b : Bool) (x : GoFault) (fault : ScheduleFault) (text lent given input : List ℕ)
-      → nat_eq fault.number MEMORY_REFUSED ≡ b → IsRead (contents source) text → lent ≡ text → IsRead (contents schedule) given → input ≡ given → x ≡ faults.Schedule fault → Refuses lent input x → new ≡ old
+      → nat_eq fault.number MEMORY_REFUSED ≡ b → IsContentRead (contents source) text → lent ≡ text → IsContentRead (contents schedule) given → input ≡ given → x ≡ faults.Schedule fault → RefusesRunning lent input x → new ≡ old
       → LeavesGo contents source schedule limit (cond b NoMemory ScheduleRefused) old new
   unscheduled true x fault text lent given input e read same read_too same_too is refused unwritten = unwritten
   unscheduled false x fault text lent given input e read same read_too same_too is refused unwritten = record {
     text = lent;
-    source_read = subst (IsRead (contents source)) (sym same) read;
+    source_read = subst (IsContentRead (contents source)) (sym same) read;
     input = input;
-    input_read = subst (IsRead (contents schedule)) (sym same_too) read_too;
-    compiles = (subst (Refuses lent input) is refused).0;
+    input_read = subst (IsContentRead (contents schedule)) (sym same_too) read_too;
+    compiles = (subst (RefusesRunning lent input) is refused).0;
     fault = fault;
-    refused = (subst (Refuses lent input) is refused).1;
+    refused = (subst (RefusesRunning lent input) is refused).1;
     not_memory = λ h. let is = ap (λ n. nat_eq n MEMORY_REFUSED) h in absurd cc;
     unwritten = unwritten;
   }
 
   pub schedule_leaves : (status : Status) (x : GoFault) (fault : ScheduleFault) (text lent given input : List ℕ)
-      → status ≡ cond (nat_eq fault.number MEMORY_REFUSED) NoMemory ScheduleRefused → IsRead (contents source) text → lent ≡ text → IsRead (contents schedule) given → input ≡ given → x ≡ faults.Schedule fault → Refuses lent input x → new ≡ old
+      → status ≡ cond (nat_eq fault.number MEMORY_REFUSED) NoMemory ScheduleRefused → IsContentRead (contents source) text → lent ≡ text → IsContentRead (contents schedule) given → input ≡ given → x ≡ faults.Schedule fault → RefusesRunning lent input x → new ≡ old
       → LeavesGo contents source schedule limit status old new
   schedule_leaves status x fault text lent given input e read same read_too same_too is refused unwritten =
       subst (λ s. LeavesGo contents source schedule limit s old new) (sym e)

@@ -30,9 +30,9 @@ abbrev pub Contents : Type 0
 Contents = List ℕ → Option (List ℕ)
 
 -- what was read is the content, where that is known
-abbrev pub IsRead : Option (List ℕ) → List ℕ → Type 0
-IsRead None text = ⊤
-IsRead (Some content) text = text ≡ content
+abbrev pub IsContentRead : Option (List ℕ) → List ℕ → Type 0
+IsContentRead None text = ⊤
+IsContentRead (Some content) text = text ≡ content
 
 -- the exit status of a run's outcome (docs/FORMATS.md, "Exit statuses")
 abbrev pub status_of : Outcome → Status
@@ -58,9 +58,9 @@ KeepsSink status Same before after =
 -- both files were read, and the run of the source under the schedule had an outcome of this status
 pub record HasRun (contents : Contents) (source schedule : List ℕ) (limit : ℕ) (status : Status) (old new : Option (List ℕ)) : Type 0 where
   pub text : List ℕ
-  pub source_read : IsRead (contents source) text
+  pub source_read : IsContentRead (contents source) text
   pub input : List ℕ
-  pub input_read : IsRead (contents schedule) input
+  pub input_read : IsContentRead (contents schedule) input
   pub outcome : Outcome
   pub status_is : status ≡ status_of outcome
   pub runs : Runs text input limit outcome old new
@@ -68,7 +68,7 @@ pub record HasRun (contents : Contents) (source schedule : List ℕ) (limit : �
 -- the source was read, and refused for its own sake
 pub record HasRefusedSource (contents : Contents) (source : List ℕ) (old new : Option (List ℕ)) : Type 0 where
   pub text : List ℕ
-  pub source_read : IsRead (contents source) text
+  pub source_read : IsContentRead (contents source) text
   pub fault : Fault
   pub refused : RefusesText text fault
   pub not_memory : fault.number ≢ MEMORY_REFUSED
@@ -77,21 +77,21 @@ pub record HasRefusedSource (contents : Contents) (source : List ℕ) (old new :
 -- both files were read, the source compiles, and the schedule was refused for its own sake
 pub record HasRefusedSchedule (contents : Contents) (source schedule : List ℕ) (old new : Option (List ℕ)) : Type 0 where
   pub text : List ℕ
-  pub source_read : IsRead (contents source) text
+  pub source_read : IsContentRead (contents source) text
   pub input : List ℕ
-  pub input_read : IsRead (contents schedule) input
+  pub input_read : IsContentRead (contents schedule) input
   pub compiles : HasImage text
   pub fault : ScheduleFault
-  pub refused : schedules.RefusesText input fault
+  pub refused : schedules.RefusesSchedule input fault
   pub not_memory : fault.number ≢ MEMORY_REFUSED
   pub unwritten : new ≡ old
 
 -- both files were read, and the source's run was begun, of which a beginning was written
 pub record HasBegun (contents : Contents) (source schedule : List ℕ) (limit : ℕ) (old new : Option (List ℕ)) : Type 0 where
   pub text : List ℕ
-  pub source_read : IsRead (contents source) text
+  pub source_read : IsContentRead (contents source) text
   pub input : List ℕ
-  pub input_read : IsRead (contents schedule) input
+  pub input_read : IsContentRead (contents schedule) input
   pub begins : WritesBeginning text input limit old new
 
 -- what `go` wrote to standard output, by the exit status
@@ -107,13 +107,13 @@ LeavesGo contents source schedule limit status old new = HasRun contents source 
 -- the file was read, and its bytes are those of this image
 pub record HasLoaded (contents : Contents) (name : List ℕ) (i : Sections) : Type 0 where
   pub bytes : List ℕ
-  pub read : IsRead (contents name) bytes
+  pub read : IsContentRead (contents name) bytes
   pub loaded : IsLoaded bytes i
 
 -- the file was read, and its bytes break a rule
 pub record HasRefusedImage (contents : Contents) (name : List ℕ) (old new : Option (List ℕ)) : Type 0 where
   pub bytes : List ℕ
-  pub read : IsRead (contents name) bytes
+  pub read : IsContentRead (contents name) bytes
   pub fault : refused.ImageFault
   pub refused : image_fault bytes ≡ Some fault
   pub unwritten : new ≡ old
@@ -121,7 +121,7 @@ pub record HasRefusedImage (contents : Contents) (name : List ℕ) (old new : Op
 -- the file was read, and its lines are a schedule
 pub record HasSchedule (contents : Contents) (name : List ℕ) : Type 0 where
   pub input : List ℕ
-  pub read : IsRead (contents name) input
+  pub read : IsContentRead (contents name) input
   pub lines : List ScheduleLine
   pub is_schedule : schedules.IsScheduleText input lines
 
@@ -162,9 +162,9 @@ pub record HasRefusedScheduleOfImage (contents : Contents) (name schedule : List
   pub image : Sections
   pub loaded : HasLoaded contents name image
   pub input : List ℕ
-  pub read : IsRead (contents schedule) input
+  pub read : IsContentRead (contents schedule) input
   pub fault : ScheduleFault
-  pub refused : schedules.RefusesText input fault
+  pub refused : schedules.RefusesSchedule input fault
   pub not_memory : fault.number ≢ MEMORY_REFUSED
   pub unwritten : new ≡ old
 
@@ -187,8 +187,8 @@ LeavesRun contents name schedule limit status old new = HasRunImage contents nam
 -- ---- `compile`
 
 -- each file has the content that it had
-abbrev pub AreKept : Contents → Contents → Type 0
-AreKept before after = (name : List ℕ) → after name ≡ before name
+abbrev pub AreFilesKept : Contents → Contents → Type 0
+AreFilesKept before after = (name : List ℕ) → after name ≡ before name
 
 -- each file but this one has the content that it had
 abbrev pub OthersAreKept : List ℕ → Contents → Contents → Type 0
@@ -197,14 +197,14 @@ OthersAreKept name before after = (other : List ℕ) → other ≢ name → afte
 -- the source was read, and the other file has the bytes of an image that it compiles to
 pub record HasCompiled (before after : Contents) (source name : List ℕ) : Type 0 where
   pub text : List ℕ
-  pub source_read : IsRead (before source) text
+  pub source_read : IsContentRead (before source) text
   pub image : Sections
   pub compiles : Compiles text image
-  pub written : IsRead (after name) (bytes_of image)
+  pub written : IsContentRead (after name) (bytes_of image)
 
 abbrev pub LeavesCompile : Contents → Contents → List ℕ → List ℕ → Status → Option (List ℕ) → Option (List ℕ) → Type 0
 LeavesCompile before after source name Done old new = (new ≡ old) × (OthersAreKept name before after × HasCompiled before after source name)
-LeavesCompile before after source name SourceRefused old new = AreKept before after × HasRefusedSource before source old new
+LeavesCompile before after source name SourceRefused old new = AreFilesKept before after × HasRefusedSource before source old new
 LeavesCompile before after source name NoMemory old new = (new ≡ old) × OthersAreKept name before after
 LeavesCompile before after source name Failed old new = (new ≡ old) × OthersAreKept name before after
 LeavesCompile before after source name status old new = ⊥
@@ -212,20 +212,20 @@ LeavesCompile before after source name status old new = ⊥
 -- ---- all
 
 -- what is asked for; that these are the words is tested
-pub data Work : Type 0 where
-  CompileText : (source image : List ℕ) → Work
-  ListImage : (image : List ℕ) → Work
-  RunImage : (image schedule : List ℕ) (limit : ℕ) → Work
-  GoText : (source schedule : List ℕ) (limit : ℕ) → Work
-  Nothing : Work
+pub data Command : Type 0 where
+  CompileText : (source image : List ℕ) → Command
+  ListImage : (image : List ℕ) → Command
+  RunImage : (image schedule : List ℕ) (limit : ℕ) → Command
+  GoText : (source schedule : List ℕ) (limit : ℕ) → Command
+  Nothing : Command
 
 -- what was written to standard output and to files
-abbrev pub Leaves : Work → Contents → Contents → Status → Option (List ℕ) → Option (List ℕ) → Type 0
-Leaves (CompileText source image) before after status old new = LeavesCompile before after source image status old new
-Leaves (ListImage image) before after status old new = AreKept before after × LeavesList before image status old new
-Leaves (RunImage image schedule limit) before after status old new = AreKept before after × LeavesRun before image schedule limit status old new
-Leaves (GoText source schedule limit) before after status old new = AreKept before after × LeavesGo before source schedule limit status old new
-Leaves Nothing before after status old new = AreKept before after × ((new ≡ old) × ((status ≡ Failed) ⊎ (status ≡ NoMemory)))
+abbrev pub LeavesWritten : Command → Contents → Contents → Status → Option (List ℕ) → Option (List ℕ) → Type 0
+LeavesWritten (CompileText source image) before after status old new = LeavesCompile before after source image status old new
+LeavesWritten (ListImage image) before after status old new = AreFilesKept before after × LeavesList before image status old new
+LeavesWritten (RunImage image schedule limit) before after status old new = AreFilesKept before after × LeavesRun before image schedule limit status old new
+LeavesWritten (GoText source schedule limit) before after status old new = AreFilesKept before after × LeavesGo before source schedule limit status old new
+LeavesWritten Nothing before after status old new = AreFilesKept before after × ((new ≡ old) × ((status ≡ Failed) ⊎ (status ≡ NoMemory)))
 
 -- the number of an exit status
 abbrev pub number_of : Status → ℕ
@@ -240,8 +240,8 @@ number_of ScheduleRefused = 7
 number_of NoMemory = 8
 
 -- the answer is the number of a status, with what it leaves for what was asked for
-pub record Answers (before after : Contents) (answer : ℕ) (old new : Option (List ℕ)) : Type 0 where
-  pub work : Work
+pub record AnswersStatus (before after : Contents) (answer : ℕ) (old new : Option (List ℕ)) : Type 0 where
+  pub work : Command
   pub status : Status
   pub answer_is : answer ≡ number_of status
-  pub leaves : Leaves work before after status old new
+  pub leaves : LeavesWritten work before after status old new

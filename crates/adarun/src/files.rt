@@ -1,6 +1,6 @@
 //! Files by their names.
 ghost use Rattle.std.specs.Prelude.{◌≡◌, ◌≢◌, ℕ, List, Option, IfOk, OnOk};
-ghost use Rattle.adarun.specs.Driving.{IsRead};
+ghost use Rattle.adarun.specs.Driving.{IsContentRead};
 
 use std::alloc::Global;
 
@@ -31,13 +31,13 @@ pub trait FileStore {
     /// # Errors
     /// Memory where memory was refused, and Unreadable for any other cause.
     fn read(&self, alloc: Global, name: &str) -> Result<Vec<u8>, ReadError>
-        ensures { IfOk result (λ bytes. IsRead (contents self.now name.now) bytes.items) };
+        ensures { IfOk result (λ bytes. IsContentRead (contents self.now name.now) bytes.items) };
 
     /// Replaces the content of the file of this name, which is made where there is none.
     ///
     /// # Errors
     /// Memory where memory was refused, and Unwritable for any other cause; of the content nothing is promised then.
     fn write(&mut self, name: &str, bytes: &[u8]) -> Result<(), WriteError>
-        ensures written { OnOk result (IsRead (contents self.new name.now) bytes.now) }
+        ensures written { OnOk result (IsContentRead (contents self.new name.now) bytes.now) }
         ensures others { (other : List ℕ) → other ≢ name.now → contents self.new other ≡ contents self.old other };
 }

@@ -2,7 +2,7 @@
 ghost use Rattle.std.specs.Prelude.{◌≡◌, ◌<◌, ◌⊎◌, ℕ, List, Option, nat_eq, if◌then◌else◌};
 ghost use Rattle.base.specs.declared.faults.TheConstants.{MEMORY_REFUSED};
 ghost use Rattle.adarun.specs.Driving as driving;
-ghost use Rattle.adarun.specs.Driving.{Answers, KeepsSink, LeavesCompile, LeavesGo, LeavesList, LeavesRun};
+ghost use Rattle.adarun.specs.Driving.{AnswersStatus, KeepsSink, LeavesCompile, LeavesGo, LeavesList, LeavesRun};
 
 use crate::files::{FileStore, ReadError, WriteError};
 use base::faults::MEMORY_REFUSED;
@@ -43,7 +43,7 @@ pub fn drive<F: FileStore, O: Sink, E: Sink>(
     out: &mut O,
     err: &mut E,
 ) -> u8
-    ensures answers { Answers (F.contents files.old) (F.contents files.new) result (O.bytes out.old) (O.bytes out.new) }
+    ensures answers { AnswersStatus (F.contents files.old) (F.contents files.new) result (O.bytes out.old) (O.bytes out.new) }
     ensures source { result ≡ 2 → out.new ≡ out.old }
     ensures schedule { result ≡ 7 → out.new ≡ out.old }
     ensures memory { result ≡ 8 → out.new ≡ out.old }

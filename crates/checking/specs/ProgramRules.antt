@@ -21,8 +21,8 @@ abbrev pub program_faults : ProgramTree → Faults
 program_faults t = package_part_faults standard t.package_ ++ main_faults t.package_ t.main ++ size_faults t
 
 -- the rule with this number is broken at this place
-abbrev pub IsBroken : (number place : ℕ) → ProgramTree → Type 0
-IsBroken number place t = Contains (program_faults t) (record { number = number; place = place })
+abbrev pub IsRuleBroken : (number place : ℕ) → ProgramTree → Type 0
+IsRuleBroken number place t = Contains (program_faults t) (record { number = number; place = place })
 
 -- no rule is broken
 abbrev pub IsLegal : ProgramTree → Type 0

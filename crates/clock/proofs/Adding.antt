@@ -9,7 +9,7 @@ use Rattle.std.proofs.lemmas.List.Sorted.{Contains-permutation, IsPermutation-ap
 use Rattle.std.proofs.lemmas.Map.Keys.{IsDistinct-IsPermutation, IsDistinct-tail}
 use Rattle.clock.specs.declared.delays.Sleeper.{Sleeper}
 use Rattle.clock.specs.declared.heap.Entry.{Entry}
-use Rattle.clock.specs.Heaps.{AreDistinct, AreNumbered, Has, IsWithin, by_number, insert, sleeper_of, sleepers_of}
+use Rattle.clock.specs.Heaps.{AreDistinct, AreNumbered, IsAmong, IsWithin, by_number, insert, sleeper_of, sleepers_of}
 use Rattle.clock.proofs.Heaps.{placed}
 
 true_false : true ≡ false → ⊥
@@ -23,7 +23,7 @@ by_test P false yes' no' = no' refl
 -- each number is below those behind it
 abbrev pub Rising : List Entry → Type 0
 Rising [] = ⊤
-Rising (x ∷ xs) = ((z : Entry) → Has z xs → x.number < z.number) × Rising xs
+Rising (x ∷ xs) = ((z : Entry) → IsAmong z xs → x.number < z.number) × Rising xs
 
 pub either : {P A B : Type 0} → A ⊎ B → (A → P) → (B → P) → P
 either (inl a) f g = f a
@@ -49,19 +49,19 @@ rising_same (x ∷ xs) (y ∷ ys) rx ry to from =
     rw (heads, tails) refl
 
 -- what an insertion has
-pub has_inserted : (x : Entry) (l : List Entry) (z : Entry) → Has z (insert x l) → (z ≡ x) ⊎ Has z l
+pub has_inserted : (x : Entry) (l : List Entry) (z : Entry) → IsAmong z (insert x l) → (z ≡ x) ⊎ IsAmong z l
 has_inserted x [] z h = h
-has_inserted x (y ∷ l) z h = by_test (λ b. Has z (cond b (x ∷ y ∷ l) (y ∷ insert x l)) → (z ≡ x) ⊎ ((z ≡ y) ⊎ Has z l)) (nat_lt x.number y.number)
+has_inserted x (y ∷ l) z h = by_test (λ b. IsAmong z (cond b (x ∷ y ∷ l) (y ∷ insert x l)) → (z ≡ x) ⊎ ((z ≡ y) ⊎ IsAmong z l)) (nat_lt x.number y.number)
     (λ e h. h)
     (λ e h. either h (λ a. inr (inl a)) (λ behind. either (has_inserted x l z behind) (λ a. inl a) (λ b. inr (inr b)))) h
 
-pub inserted_has : (x : Entry) (l : List Entry) (z : Entry) → (z ≡ x) ⊎ Has z l → Has z (insert x l)
+pub inserted_has : (x : Entry) (l : List Entry) (z : Entry) → (z ≡ x) ⊎ IsAmong z l → IsAmong z (insert x l)
 inserted_has x [] z h = h
-inserted_has x (y ∷ l) z h = by_test (λ b. Has z (cond b (x ∷ y ∷ l) (y ∷ insert x l))) (nat_lt x.number y.number)
+inserted_has x (y ∷ l) z h = by_test (λ b. IsAmong z (cond b (x ∷ y ∷ l) (y ∷ insert x l))) (nat_lt x.number y.number)
     (λ e. h)
     (λ e. either h (λ a. inr (inserted_has x l z (inl a))) (λ later. either later (λ a. inl a) (λ b. inr (inserted_has x l z (inr b)))))
 
-rising_insert : (x : Entry) (l : List Entry) → Rising l → ((z : Entry) → Has z l → x.number ≡ z.number → ⊥) → Rising (insert x l)
+rising_insert : (x : Entry) (l : List Entry) → Rising l → ((z : Entry) → IsAmong z l → x.number ≡ z.number → ⊥) → Rising (insert x l)
 rising_insert x [] r apart = (λ z h. absurd h, tt)
 rising_insert x (y ∷ l) r apart = by_test (λ b. Rising (cond b (x ∷ y ∷ l) (y ∷ insert x l))) (nat_lt x.number y.number)
     (λ e.
@@ -83,12 +83,12 @@ pub has_by_number : (xs : List Entry) → IsWithin (by_number xs) xs
 has_by_number [] z h = h
 has_by_number (x ∷ xs) z h = either (has_inserted x (by_number xs) z h) (λ a. inl a) (λ b. inr (has_by_number xs z b))
 
-all_apart : (n : ℕ) (xs : List Entry) → AllByRecursion (λ m. nat_eq n m ≡ false) (map (λ e. e.number) xs) → (z : Entry) → Has z xs → n ≡ z.number → ⊥
+all_apart : (n : ℕ) (xs : List Entry) → AllByRecursion (λ m. nat_eq n m ≡ false) (map (λ e. e.number) xs) → (z : Entry) → IsAmong z xs → n ≡ z.number → ⊥
 all_apart n [] a z has same = absurd has
 all_apart n (y ∷ ys) a z (inl e) same = absurd (true_false (sym (eq-eqb n y.number (same ∙ ap (λ w. w.number) e)) ∙ a.0))
 all_apart n (y ∷ ys) a z (inr has) same = all_apart n ys a.1 z has same
 
-pub head_apart : (x : Entry) (xs : List Entry) → AreDistinct (x ∷ xs) → (z : Entry) → Has z xs → x.number ≡ z.number → ⊥
+pub head_apart : (x : Entry) (xs : List Entry) → AreDistinct (x ∷ xs) → (z : Entry) → IsAmong z xs → x.number ≡ z.number → ⊥
 unfolding IsDistinct
 head_apart x xs d z has same = all_apart x.number xs d.0 z has same
 
@@ -98,7 +98,7 @@ rising_by_number (x ∷ xs) d =
     rising_insert x (by_number xs) (rising_by_number xs (IsDistinct-tail nat_eq x.number _ d)) (λ z h. head_apart x xs d z (has_by_number xs z h))
 
 -- what changes of place keep
-has_contained : (xs : List Entry) (z : Entry) → Contains xs z → Has z xs
+has_contained : (xs : List Entry) (z : Entry) → Contains xs z → IsAmong z xs
 has_contained [] z c = absurd (omega (arith, c.1))
 has_contained (x ∷ xs) z (zero, h, e) = inl (sym e)
 has_contained (x ∷ xs) z (suc k, h, e) = inr (has_contained xs z (k, search (rules, h), e))
@@ -143,15 +143,15 @@ sorted_is xs ys d moved up = rising_same ys (by_number xs) (rising_sorted ys up 
     (λ z h. moved_within xs ys moved z (has_by_number xs z h))
 
 -- a filter leaves what passes in its order
-pub has_filtered : (p : Entry → Bool) (xs : List Entry) (z : Entry) → Has z (filter p xs) → Has z xs × (p z ≡ true)
+pub has_filtered : (p : Entry → Bool) (xs : List Entry) (z : Entry) → IsAmong z (filter p xs) → IsAmong z xs × (p z ≡ true)
 has_filtered p [] z h = absurd h
-has_filtered p (x ∷ xs) z h = by_test (λ b. Has z (cond b (x ∷ filter p xs) (filter p xs)) → Has z (x ∷ xs) × (p z ≡ true)) (p x)
+has_filtered p (x ∷ xs) z h = by_test (λ b. IsAmong z (cond b (x ∷ filter p xs) (filter p xs)) → IsAmong z (x ∷ xs) × (p z ≡ true)) (p x)
     (λ e h. either h (λ a. (inl a, ap p a ∙ e)) (λ b. let r = has_filtered p xs z b in (inr r.0, r.1)))
     (λ e h. let r = has_filtered p xs z h in (inr r.0, r.1)) h
 
-pub filtered_has : (p : Entry → Bool) (xs : List Entry) (z : Entry) → Has z xs → p z ≡ true → Has z (filter p xs)
+pub filtered_has : (p : Entry → Bool) (xs : List Entry) (z : Entry) → IsAmong z xs → p z ≡ true → IsAmong z (filter p xs)
 filtered_has p [] z h passes = absurd h
-filtered_has p (x ∷ xs) z h passes = by_test (λ b. Has z (cond b (x ∷ filter p xs) (filter p xs))) (p x)
+filtered_has p (x ∷ xs) z h passes = by_test (λ b. IsAmong z (cond b (x ∷ filter p xs) (filter p xs))) (p x)
     (λ e. either h (λ a. inl a) (λ b. inr (filtered_has p xs z b passes)))
     (λ e. either h (λ a. absurd (true_false (sym passes ∙ ap p a ∙ e))) (λ b. filtered_has p xs z b passes))
 
@@ -161,16 +161,16 @@ rising_filter p (x ∷ xs) r = by_test (λ b. Rising (cond b (x ∷ filter p xs)
     (λ e. (λ z h. r.0 z (has_filtered p xs z h).0, rising_filter p xs r.1))
     (λ e. rising_filter p xs r.1)
 
-has_left : (xs ys : List Entry) (z : Entry) → Has z xs → Has z (xs ++ ys)
+has_left : (xs ys : List Entry) (z : Entry) → IsAmong z xs → IsAmong z (xs ++ ys)
 has_left [] ys z h = absurd h
 has_left (x ∷ xs) ys z (inl e) = inl e
 has_left (x ∷ xs) ys z (inr h) = inr (has_left xs ys z h)
 
-has_right : (xs ys : List Entry) (z : Entry) → Has z ys → Has z (xs ++ ys)
+has_right : (xs ys : List Entry) (z : Entry) → IsAmong z ys → IsAmong z (xs ++ ys)
 has_right [] ys z h = h
 has_right (x ∷ xs) ys z h = inr (has_right xs ys z h)
 
-has_either : (xs ys : List Entry) (z : Entry) → Has z (xs ++ ys) → Has z xs ⊎ Has z ys
+has_either : (xs ys : List Entry) (z : Entry) → IsAmong z (xs ++ ys) → IsAmong z xs ⊎ IsAmong z ys
 has_either [] ys z h = inr h
 has_either (x ∷ xs) ys z (inl e) = inl (inl e)
 has_either (x ∷ xs) ys z (inr h) = either (has_either xs ys z h) (λ a. inl (inr a)) (λ b. inr b)
@@ -193,7 +193,7 @@ module _ (all left right : List Entry) (moved : IsPermutation all (left ++ right
 
 -- those that pass a test and those that don't
 module _ (p : Entry → Bool) (all passing failing : List Entry) (moved : IsPermutation all (passing ++ failing)) (d : AreDistinct all)
-    (pass : (z : Entry) → Has z passing → p z ≡ true) (fail : (z : Entry) → Has z failing → p z ≡ false) where
+    (pass : (z : Entry) → IsAmong z passing → p z ≡ true) (fail : (z : Entry) → IsAmong z failing → p z ≡ false) where
   pub passing_are : by_number passing ≡ filter p (by_number all)
   passing_are = rising_same (by_number passing) (filter p (by_number all)) (rising_by_number passing (left_distinct all passing failing moved d)) (rising_filter p (by_number all) (rising_by_number all d))
       (λ z h. let q = has_by_number passing z h in
@@ -221,19 +221,19 @@ insert_behind x e (y ∷ l) less =
     by_test (λ b. cond b (x ∷ y ∷ l ++ e ∷ []) (y ∷ insert x (l ++ e ∷ [])) ≡ cond b (x ∷ y ∷ l) (y ∷ insert x l) ++ e ∷ []) (nat_lt x.number y.number)
     (λ same. refl) (λ same. ap (λ r. y ∷ r) (insert_behind x e l less))
 
-pub newest : (xs : List Entry) (e : Entry) → ((z : Entry) → Has z xs → z.number < e.number) → by_number (xs ++ e ∷ []) ≡ by_number xs ++ e ∷ []
+pub newest : (xs : List Entry) (e : Entry) → ((z : Entry) → IsAmong z xs → z.number < e.number) → by_number (xs ++ e ∷ []) ≡ by_number xs ++ e ∷ []
 newest [] e least = refl
 newest (x ∷ xs) e least =
     ap (insert x) (newest xs e (λ z h. least z (inr h))) ∙ insert_behind x e (by_number xs) (least x (inl refl))
 
-all_passed : (n : ℕ) (xs : List Entry) → ((z : Entry) → Has z xs → z.number < n) → AllByRecursion (λ m. nat_eq n m ≡ false) (map (λ e. e.number) xs)
+all_passed : (n : ℕ) (xs : List Entry) → ((z : Entry) → IsAmong z xs → z.number < n) → AllByRecursion (λ m. nat_eq n m ≡ false) (map (λ e. e.number) xs)
 all_passed n [] least = tt
 all_passed n (x ∷ xs) least = (go (nat_eq n x.number) refl, all_passed n xs (λ z h. least z (inr h))) where
   go : (b : Bool) → nat_eq n x.number ≡ b → nat_eq n x.number ≡ false
   go true e = absurd (omega (arith, least x (inl refl), eqb-true n x.number e))
   go false e = e
 
-distinct_front : (e : Entry) (xs : List Entry) → ((z : Entry) → Has z xs → z.number < e.number) → AreDistinct xs → AreDistinct (e ∷ xs)
+distinct_front : (e : Entry) (xs : List Entry) → ((z : Entry) → IsAmong z xs → z.number < e.number) → AreDistinct xs → AreDistinct (e ∷ xs)
 unfolding IsDistinct
 distinct_front e xs least d = (all_passed e.number xs least, d)
 
@@ -255,10 +255,10 @@ pub one_taken : (all done done' left rest : List Entry) (x : Entry) → IsPermut
     → IsPermutation all (done' ++ rest)
 one_taken all done done' left rest x moved out grown = rw grown (IsPermutation-pop_more all done left rest x moved out)
 
-pub all_grown : (p : Entry → Bool) (done done' : List Entry) (x : Entry) → ((z : Entry) → Has z done → p z ≡ true) → p x ≡ true → done' ≡ done ++ x ∷ []
-    → (z : Entry) → Has z done' → p z ≡ true
+pub all_grown : (p : Entry → Bool) (done done' : List Entry) (x : Entry) → ((z : Entry) → IsAmong z done → p z ≡ true) → p x ≡ true → done' ≡ done ++ x ∷ []
+    → (z : Entry) → IsAmong z done' → p z ≡ true
 all_grown p done done' x pass passes grown z h =
-    either (has_either done (x ∷ []) z (subst (Has z) grown h)) (λ a. pass z a) (λ b. either b (λ e. ap p e ∙ passes) (λ f. absurd f))
+    either (has_either done (x ∷ []) z (subst (IsAmong z) grown h)) (λ a. pass z a) (λ b. either b (λ e. ap p e ∙ passes) (λ f. absurd f))
 
 pub emptied : (all done left : List Entry) → IsPermutation all (done ++ left) → left ≡ [] → IsPermutation all done
 emptied all done left moved none = subst (IsPermutation all) (append-nil done) (subst (λ l. IsPermutation all (done ++ l)) none moved)

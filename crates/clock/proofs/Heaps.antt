@@ -14,7 +14,7 @@ use Rattle.std.specs.List.{refill, swap_remove}
 use Rattle.std.specs.List.Sorted.{IsPermutation}
 use Rattle.std.proofs.lemmas.List.Sorted.{IsPermutation-cons, IsPermutation-swap_remove, IsPermutation-trans, length_permutation, ranks_by}
 use Rattle.clock.specs.declared.heap.Entry.{Entry}
-use Rattle.clock.specs.Heaps.{Has, IsFirst, IsHeap, IsNobodyDue, is_before, is_due_entry, parent}
+use Rattle.clock.specs.Heaps.{IsAmong, IsSoonest, IsHeap, IsNobodyDue, is_before, is_due_entry, parent}
 
 true_false : true ≡ false → ⊥
 true_false e = absurd cc
@@ -168,17 +168,17 @@ module _ {X : Type 0} (lt : X → X → Bool) (o : IsStrictWeakOrder lt) where
         (λ n. let s : k ≡ 2 * at + 1 + 1 = omega (arith, a, e, n) in by _ _ _ _ (ap (λ m. get_or xs m d) s) refl (not d (omega (arith, b, s)))),
   )
 
-pub placed : (xs : List Entry) (x : Entry) → Has x xs → (k : ℕ) × (k < length xs) × ((d : Entry) → get_or xs k d ≡ x)
+pub placed : (xs : List Entry) (x : Entry) → IsAmong x xs → (k : ℕ) × (k < length xs) × ((d : Entry) → get_or xs k d ≡ x)
 placed [] x has = absurd has
 placed (y ∷ xs) x (inl e) = (0, search rules, λ d. sym e)
 placed (y ∷ xs) x (inr has) = let p = placed xs x has in (suc p.0, search (rules, p.1), p.2)
 
-pub front_first : (x : Entry) (xs : List Entry) → IsHeap (x ∷ xs) → IsFirst x (x ∷ xs)
+pub front_first : (x : Entry) (xs : List Entry) → IsHeap (x ∷ xs) → IsSoonest x (x ∷ xs)
 front_first x xs h y has =
     let p = placed (x ∷ xs) y has in
     ap (λ z. is_before z x) (sym (p.2 x)) ∙ top is_before order (x ∷ xs) h p.0 p.0 x (omega arith) p.1
 
-pub first_told : (xs : List Entry) (r : Option Entry) → r ≡ slice_get xs 0 → IsHeap xs → MatchOption r (xs ≡ []) (λ e. Has e xs × IsFirst e xs)
+pub first_told : (xs : List Entry) (r : Option Entry) → r ≡ slice_get xs 0 → IsHeap xs → MatchOption r (xs ≡ []) (λ e. IsAmong e xs × IsSoonest e xs)
 first_told [] r e h = rw e refl
 first_told (x ∷ xs) r e h = rw e (inl refl, front_first x xs h)
 
@@ -201,11 +201,11 @@ later_yet : (now a b : ℤ) → int_lt now a ≡ true → int_lt b a ≡ false �
 later_yet now a b p q = grind (arith, ints)
 
 -- where the front's time hasn't come, nobody's has
-pub nobody_due : (now : ℤ) (x : Entry) (xs : List Entry) → IsFirst x xs → int_lt now x.wake ≡ true → IsNobodyDue now xs
+pub nobody_due : (now : ℤ) (x : Entry) (xs : List Entry) → IsSoonest x xs → int_lt now x.wake ≡ true → IsNobodyDue now xs
 nobody_due now x xs first later z has = later_yet now x.wake z.wake later (not_sooner z x (first z has))
 
 pub nobody_in : (now : ℤ) (xs : List Entry) → xs ≡ [] → IsNobodyDue now xs
-nobody_in now xs e z has = absurd (subst (Has z) e has)
+nobody_in now xs e z has = absurd (subst (IsAmong z) e has)
 
 pub take_front : (ws zs : List Entry) (n : ℕ) → length ws ≡ n → take n (ws ++ zs) ≡ ws
 take_front [] zs zero e = refl

@@ -3,10 +3,10 @@ use Rattle.std.proofs.Common.{◌≡◌, ◌<◌, ◌≤◌, ℕ, ℤ, pos, List
 use Rattle.base.specs.Schedule.{is_line, are_lines, are_ordered_from, is_schedule}
 use Rattle.base.specs.declared.schedule.ScheduleLine.{ScheduleLine}
 use Rattle.clock.specs.Texts.{line_at}
-use Rattle.clock.specs.Schedules.{Begins, text_of, time_after, last_time}
+use Rattle.clock.specs.Schedules.{BeginsWithLines, text_of, time_after, last_time}
 
-pub begins_more : (text : List ℕ) (lines : List ScheduleLine) (rest : List ℕ) (line : ScheduleLine) (behind : List ℕ) → Begins text lines rest
-    → line_at rest ≡ Some (text_of line, behind) → Begins text (lines ++ line ∷ []) behind
+pub begins_more : (text : List ℕ) (lines : List ScheduleLine) (rest : List ℕ) (line : ScheduleLine) (behind : List ℕ) → BeginsWithLines text lines rest
+    → line_at rest ≡ Some (text_of line, behind) → BeginsWithLines text (lines ++ line ∷ []) behind
 begins_more text [] rest line behind h is = (behind, ap line_at h ∙ is, refl)
 begins_more text (l ∷ lines) rest line behind h is = (h.0, h.1, begins_more h.0 lines rest line behind h.2 is)
 

@@ -4,7 +4,7 @@ use Rattle.std.specs.Prelude.{int_lt}
 use Rattle.std.proofs.lemmas.Int.{ints}
 use Rattle.std.proofs.lemmas.List.{drop_all}
 use Rattle.clock.specs.declared.heap.Entry.{Entry}
-use Rattle.clock.specs.Heaps.{Has, IsFirst, by_number, is_due_entry, sleeper_of, sleepers_of}
+use Rattle.clock.specs.Heaps.{IsAmong, IsSoonest, by_number, is_due_entry, sleeper_of, sleepers_of}
 use Rattle.clock.specs.Sleepers.{due, is_due, least, least_wake, number_of, waiting}
 use Rattle.clock.proofs.Adding.{by_number_has, by_test, either, has_by_number}
 use Rattle.clock.proofs.Heaps.{not_sooner}
@@ -15,8 +15,8 @@ same_time a b p q = grind (arith, ints)
 true_false : true ≡ false → ⊥
 true_false e = absurd cc
 
-least_is : (ys : List Entry) (x : Entry) (time : ℤ) → int_lt time x.wake ≡ false → ((z : Entry) → Has z ys → int_lt z.wake x.wake ≡ false)
-    → (time ≡ x.wake) ⊎ Has x ys → least time (map sleeper_of ys) ≡ x.wake
+least_is : (ys : List Entry) (x : Entry) (time : ℤ) → int_lt time x.wake ≡ false → ((z : Entry) → IsAmong z ys → int_lt z.wake x.wake ≡ false)
+    → (time ≡ x.wake) ⊎ IsAmong x ys → least time (map sleeper_of ys) ≡ x.wake
 least_is [] x time not all here = either here (λ e. e) (λ f. absurd f)
 least_is (y ∷ ys) x time not all here =
     by_test (λ b. cond b (least y.wake (map sleeper_of ys)) (least time (map sleeper_of ys)) ≡ x.wake) (int_lt y.wake time)
@@ -25,13 +25,13 @@ least_is (y ∷ ys) x time not all here =
     (λ least'. least_is ys x time not (λ z h. all z (inr h))
     (either here (λ e. inl e) (λ has. either has (λ e. inl (same_time time x.wake not (ap (λ w. int_lt w.wake time) e ∙ least'))) (λ behind. inr behind))))
 
-least_of : (ys : List Entry) (x : Entry) → Has x ys → ((z : Entry) → Has z ys → int_lt z.wake x.wake ≡ false) → Some x.wake ≡ least_wake (map sleeper_of ys)
+least_of : (ys : List Entry) (x : Entry) → IsAmong x ys → ((z : Entry) → IsAmong z ys → int_lt z.wake x.wake ≡ false) → Some x.wake ≡ least_wake (map sleeper_of ys)
 least_of [] x has all = absurd has
 least_of (y ∷ ys) x has all =
     ap Some (sym (least_is ys x y.wake (all y (inl refl)) (λ z h. all z (inr h)) (either has (λ e. inl (ap (λ w. w.wake) (sym e))) (λ behind. inr behind))))
 
 -- the front wakes first
-pub least_taken : (x : Entry) (xs : List Entry) → Has x xs → IsFirst x xs → Some x.wake ≡ least_wake (sleepers_of xs)
+pub least_taken : (x : Entry) (xs : List Entry) → IsAmong x xs → IsSoonest x xs → Some x.wake ≡ least_wake (sleepers_of xs)
 least_taken x xs has first = least_of (by_number xs) x (by_number_has xs x has) (λ z h. not_sooner z x (first z (has_by_number xs z h)))
 
 pub due_tasks : (now : ℤ) (ys : List Entry) → map (λ e. e.task) (filter (is_due_entry now) ys) ≡ due now (map sleeper_of ys)

@@ -35,22 +35,22 @@ abbrev pub HasNoChild : ℕ → List Entry → Type 0
 HasNoChild at entries = (k : ℕ) → 0 < k → parent k ≡ at → k < length entries → ⊥
 
 -- an element of a list
-abbrev pub Has : Entry → List Entry → Type 0
-Has e [] = ⊥
-Has e (x ∷ xs) = (e ≡ x) ⊎ Has e xs
+abbrev pub IsAmong : Entry → List Entry → Type 0
+IsAmong e [] = ⊥
+IsAmong e (x ∷ xs) = (e ≡ x) ⊎ IsAmong e xs
 
 abbrev pub IsWithin : List Entry → List Entry → Type 0
-IsWithin xs ys = (e : Entry) → Has e xs → Has e ys
+IsWithin xs ys = (e : Entry) → IsAmong e xs → IsAmong e ys
 
 -- all are taken after this one, or with it
-abbrev pub IsFirst : Entry → List Entry → Type 0
-IsFirst e entries = (x : Entry) → Has x entries → is_before x e ≡ false
+abbrev pub IsSoonest : Entry → List Entry → Type 0
+IsSoonest e entries = (x : Entry) → IsAmong x entries → is_before x e ≡ false
 
 abbrev pub is_due_entry : ℤ → Entry → Bool
 is_due_entry now e = int_le e.wake now
 
 abbrev pub IsNobodyDue : ℤ → List Entry → Type 0
-IsNobodyDue now entries = (x : Entry) → Has x entries → is_due_entry now x ≡ false
+IsNobodyDue now entries = (x : Entry) → IsAmong x entries → is_due_entry now x ≡ false
 
 -- one entry is taken out, any or one that is due, and the others change places
 abbrev pub TakesOut : List Entry → List Entry → Entry → Type 0
@@ -82,4 +82,4 @@ AreDistinct entries = IsDistinct nat_eq (map (λ e. e.number) entries)
 
 -- and each number is below the next one
 abbrev pub AreNumbered : ℕ → List Entry → Type 0
-AreNumbered next entries = AreDistinct entries × ((e : Entry) → Has e entries → e.number < next)
+AreNumbered next entries = AreDistinct entries × ((e : Entry) → IsAmong e entries → e.number < next)

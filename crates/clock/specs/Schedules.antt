@@ -12,13 +12,13 @@ abbrev pub text_of : ScheduleLine → LineText
 text_of line = record { time = line.time; channel = line.channel; value = line.value }
 
 -- a text begins with these lines, and this stands behind them
-abbrev pub Begins : List ℕ → List ScheduleLine → List ℕ → Type 0
-Begins text [] rest = text ≡ rest
-Begins text (line ∷ lines) rest = (behind : List ℕ) × (line_at text ≡ Some (text_of line, behind)) × Begins behind lines rest
+abbrev pub BeginsWithLines : List ℕ → List ScheduleLine → List ℕ → Type 0
+BeginsWithLines text [] rest = text ≡ rest
+BeginsWithLines text (line ∷ lines) rest = (behind : List ℕ) × (line_at text ≡ Some (text_of line, behind)) × BeginsWithLines behind lines rest
 
 -- the text has these lines and no more, and they are a schedule
 abbrev pub IsScheduleText : List ℕ → List ScheduleLine → Type 0
-IsScheduleText text lines = Begins text lines [] × IsTrue (is_schedule lines)
+IsScheduleText text lines = BeginsWithLines text lines [] × IsTrue (is_schedule lines)
 
 -- the time of the last line, or the start where there is none
 abbrev pub time_after : ℤ → List ScheduleLine → ℤ
@@ -45,7 +45,7 @@ next_fault count last rest = if nat_eq count SCHEDULE_LINES then Some TOO_MANY_L
 pub record IsFirstFault (text : List ℕ) (fault : ScheduleFault) : Type 0 where
   pub lines : List ScheduleLine
   pub rest : List ℕ
-  pub begins : Begins text lines rest
+  pub begins : BeginsWithLines text lines rest
   pub are_schedule : IsTrue (is_schedule lines)
   pub more : rest ≢ []
   pub breaks : next_fault (length lines) (last_time lines) rest ≡ Some fault.number
@@ -55,5 +55,5 @@ abbrev pub memory_fault : ScheduleFault
 memory_fault = record { number = MEMORY_REFUSED; line = 0 }
 
 -- memory was refused, or a line is faulty
-abbrev pub RefusesText : List ℕ → ScheduleFault → Type 0
-RefusesText text fault = (fault ≡ memory_fault) ⊎ IsFirstFault text fault
+abbrev pub RefusesSchedule : List ℕ → ScheduleFault → Type 0
+RefusesSchedule text fault = (fault ≡ memory_fault) ⊎ IsFirstFault text fault

@@ -2,7 +2,7 @@
 ghost use Rattle.std.specs.Prelude.{◌≡◌, ◌<◌, ◌≤◌, ◌+◌, ◌-◌, ◌++◌, ◌∷◌, [], length, slice_get};
 ghost use Rattle.std.specs.Option.{MatchOption};
 ghost use Rattle.std.specs.List.Sorted.{IsPermutation};
-ghost use Rattle.clock.specs.Heaps.{Has, HasNoChild, IsNobodyDue, IsFirst, IsFirstChild, IsHeap, IsHeapBelowFront, IsHeapUpTo, TakesDue, TakesOut, is_before};
+ghost use Rattle.clock.specs.Heaps.{IsAmong, HasNoChild, IsNobodyDue, IsSoonest, IsFirstChild, IsHeap, IsHeapBelowFront, IsHeapUpTo, TakesDue, TakesOut, is_before};
 ghost use Rattle.base.specs.declared.limits.TheConstants.{TASKS};
 
 use arrayvec::ArrayVec;
@@ -61,7 +61,7 @@ impl Heap {
     /// The entry that is to be taken first, if there is one.
     pub fn first(&self) -> Option<Entry>
         ensures front { result ≡ slice_get self.now 0 }
-        ensures least { MatchOption result (self.now ≡ []) (λ e. Has e self.now × IsFirst e self.now) }
+        ensures least { MatchOption result (self.now ≡ []) (λ e. IsAmong e self.now × IsSoonest e self.now) }
     {
         self.entries.as_slice().first().copied()
     }

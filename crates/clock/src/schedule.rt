@@ -2,7 +2,7 @@
 ghost use Rattle.std.specs.Prelude.{◌≡◌, ◌+◌, ◌≤◌, Some, IfErr, IfOk};
 ghost use Rattle.base.specs.Schedule.{input};
 ghost use Rattle.clock.specs.Capped.{IsNext};
-ghost use Rattle.clock.specs.Schedules.{IsScheduleText, RefusesText, next_fault};
+ghost use Rattle.clock.specs.Schedules.{IsScheduleText, RefusesSchedule, next_fault};
 
 use crate::faults::{TIME_GOES_BACK, TOO_MANY_LINES, UNKNOWN_CHANNEL};
 use crate::reading::front_line;
@@ -62,7 +62,7 @@ impl Schedule {
     /// none of 1 to 8, 51 where the time is before that of the line before. 60, at line 0, where memory was refused.
     pub fn read(alloc: Global, text: &[u8]) -> Result<Schedule, ScheduleFault>
         ensures read { IfOk result (λ schedule. IsScheduleText text.now schedule) }
-        ensures refused { IfErr result (RefusesText text.now) }
+        ensures refused { IfErr result (RefusesSchedule text.now) }
     {
         let mut lines = Vec::new(alloc);
         let mut last = 0;

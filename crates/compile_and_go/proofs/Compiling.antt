@@ -15,14 +15,14 @@ use Rattle.ada_tree.specs.ProgramTree.{ProgramTree, program_tree}
 use Rattle.expr_rules.specs.Faults.{Faults, IsLeast}
 use Rattle.checking.specs.ProgramRules.{IsLegal, RefusesProgram, program_faults}
 use Rattle.ravenscar.specs.ProgramRules.{IsRestricted, RefusesUnrestricted, restriction_faults}
-use Rattle.fault_numbers.specs.Numbers.{AreNumbered, GrammarNumbers, IsNumbered, LegalityNumbers, RestrictionNumbers, SpellingNumbers}
+use Rattle.fault_numbers.specs.Numbers.{AreNumberedWithin, GrammarNumbers, IsNumbered, LegalityNumbers, RestrictionNumbers, SpellingNumbers}
 use Rattle.meaning.specs.SameMeaning.{KeepsCount, SameMeaning}
 use Rattle.expr_code.specs.Coming.{most_steps}
 use Rattle.ada_link.specs.Compiled.{IsBounded, RefusesTree}
 use Rattle.ada_link.specs.Refusing.{program_needs}
 use Rattle.source_laws.specs.Limits.{SmallIsUnlimited}
 use Rattle.source_laws.specs.Spelled.{OutsideIsTold}
-use Rattle.compile_and_go.specs.Accepted.{Compiles, IsAccepted, IsGiven, IsJudged, IsLeftOut, IsTreeOf, RefusesAccepted, RefusesText}
+use Rattle.compile_and_go.specs.Accepted.{Compiles, IsAccepted, CompilesAccepted, IsJudged, IsLeftOut, IsTreeOf, RefusesAccepted, RefusesText}
 
 -- the program that was read is the one that was checked
 pub compiles : {E : Type 0} (r : Result Sections E) (text : List ℕ) (tokens list : List Token) (read : Program)
@@ -69,7 +69,7 @@ tells outside unlimited text tree is_tree legal restricted fault (inr (inr large
 
 pub given : (r : Result Sections Fault) (text : List ℕ) (tree made : ProgramTree) → Tells text tree → made ≡ tree → IfOk r (λ i. SameMeaning made i)
     → IfErr r (λ f. RefusesTree made f)
-    → IsGiven text tree r
+    → CompilesAccepted text tree r
 given (Ok i) text tree made told same means refused = subst (λ t. SameMeaning t i) same means
 given (Err f) text tree made told same means refused = told f (subst (λ t. RefusesTree t f) same refused)
 
@@ -84,12 +84,12 @@ nothing_least faults fault none least =
 -- what is legal is not refused by the check but for want of memory, and what is restricted not by the restrictions
 
 pub legal_given : (text : List ℕ) (tree made : ProgramTree) (fault : Fault) → made ≡ tree → IsLegal tree → RefusesProgram made fault
-    → IsGiven text tree (Err fault)
+    → CompilesAccepted text tree (Err fault)
 legal_given text tree made fault same legal (inl memory) = inl memory
 legal_given text tree made fault same legal (inr least) = absurd (nothing_least (program_faults tree) fault legal (subst (λ t. IsLeast (program_faults t) fault) same least))
 
 pub restricted_given : (text : List ℕ) (tree made : ProgramTree) (fault : Fault) → made ≡ tree → IsRestricted tree → RefusesUnrestricted made fault
-    → IsGiven text tree (Err fault)
+    → CompilesAccepted text tree (Err fault)
 restricted_given text tree made fault same restricted (inl memory) = inl memory
 restricted_given text tree made fault same restricted (inr least) =
     absurd (nothing_least (restriction_faults tree) fault restricted (subst (λ t. IsLeast (restriction_faults t) fault) same least))
@@ -159,7 +159,7 @@ refused_text outside unlimited (Err fault) text tokens list read checked spells 
 -- ---- what is refused as outside the language of today
 
 module _ (spelling : SpellingNumbers) (grammar : GrammarNumbers) (legality : LegalityNumbers) (restrictions : RestrictionNumbers) where
-  among : (first last : ℕ) (faults : Faults) (fault : Fault) → AreNumbered first last faults → IsLeast faults fault → IsNumbered first last fault
+  among : (first last : ℕ) (faults : Faults) (fault : Fault) → AreNumberedWithin first last faults → IsLeast faults fault → IsNumbered first last fault
   among first last faults fault all least = All-contains (IsNumbered first last) faults fault all least.listed
 
   of_tree : (text : List ℕ) (tree : ProgramTree) (fault : Fault) → IsAccepted tree text → RefusesAccepted text tree fault → IsLeftOut text fault

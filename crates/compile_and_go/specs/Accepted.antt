@@ -49,7 +49,7 @@ abbrev pub RefusesAccepted : List ℕ → ProgramTree → Fault → Type 0
 RefusesAccepted text tree fault =
     (fault ≡ memory_fault)
     ⊎ (((fault ≡ outside) × IsBeyond tree)
-    ⊎ ((fault ≡ too_large tree) × (sections.RefusesProgram tree refusal.Limit × (IsSmallText tree text → IsBeyond tree))))
+    ⊎ ((fault ≡ too_large tree) × (sections.RefusesLinking tree refusal.Limit × (IsSmallText tree text → IsBeyond tree))))
 
 -- a well-formed image that means the same as the text's tree, keeps the count of steps, and has no more instructions than the text tells
 pub record Compiles (text : List ℕ) (image : Sections) : Type 0 where
@@ -108,6 +108,6 @@ IsJudged text tree (Err fault) =
     ⊎ (IsLegal tree × (IsRestricted tree × RefusesAccepted text tree fault))))
 
 -- an accepted text is compiled, and refused for these reasons alone
-abbrev pub IsGiven : List ℕ → ProgramTree → Result Image Fault → Type 0
-IsGiven text tree (Ok image) = SameMeaning tree image
-IsGiven text tree (Err fault) = RefusesAccepted text tree fault
+abbrev pub CompilesAccepted : List ℕ → ProgramTree → Result Image Fault → Type 0
+CompilesAccepted text tree (Ok image) = SameMeaning tree image
+CompilesAccepted text tree (Err fault) = RefusesAccepted text tree fault

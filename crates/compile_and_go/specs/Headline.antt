@@ -28,13 +28,13 @@ pub record IsCut (tree : ProgramTree) (schedule : List ScheduleLine) (outcome : 
   pub written_is : written ≡ lines ++ last_line (source_names tree) None (time_of outcome)
 
 -- the source comes to this outcome, and the text is the source's up to there
-pub record IsWhole (tree : ProgramTree) (schedule : List ScheduleLine) (o : Outcome) (written : List ℕ) : Type 0 where
+pub record IsWholeRun (tree : ProgramTree) (schedule : List ScheduleLine) (o : Outcome) (written : List ℕ) : Type 0 where
   pub steps : ℕ
   pub outcome : (source tree schedule steps).kernel.outcome ≡ Some o
   pub written_is : written ≡ source_text tree schedule steps
 
 abbrev pub IsWrittenBy : ProgramTree → List ScheduleLine → machine.Outcome → Option Outcome → List ℕ → Type 0
-IsWrittenBy tree schedule outcome (Some o) written = IsWhole tree schedule o written
+IsWrittenBy tree schedule outcome (Some o) written = IsWholeRun tree schedule o written
 IsWrittenBy tree schedule outcome None written = IsCut tree schedule outcome written
 
 -- wherever the source comes to an outcome, the code comes to it with the same text, and stays there under every greater limit

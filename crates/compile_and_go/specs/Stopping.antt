@@ -18,7 +18,7 @@ pub record HasLines (input : List ℕ) : Type 0 where
   pub is_schedule : schedules.IsScheduleText input lines
 
 -- the fault is that of the first call that refused: the source is refused; it compiles, and the schedule is refused; or both were read, and the run stopped
-abbrev pub Refuses : List ℕ → List ℕ → GoFault → Type 0
-Refuses source input (faults.Source fault) = RefusesText source fault
-Refuses source input (faults.Schedule fault) = HasImage source × schedules.RefusesText input fault
-Refuses source input (faults.Run fault) = HasImage source × HasLines input
+abbrev pub RefusesRunning : List ℕ → List ℕ → GoFault → Type 0
+RefusesRunning source input (faults.Source fault) = RefusesText source fault
+RefusesRunning source input (faults.Schedule fault) = HasImage source × schedules.RefusesSchedule input fault
+RefusesRunning source input (faults.Run fault) = HasImage source × HasLines input

@@ -1,7 +1,7 @@
 //! From a source text to an image.
 ghost use Rattle.std.specs.Prelude.{IfErr, IfOk};
 ghost use Rattle.ada_tree.specs.ProgramTree.{ProgramTree};
-ghost use Rattle.compile_and_go.specs.Accepted.{Compiles, IsAccepted, IsGiven, IsJudged, IsLeftOut, IsTreeOf, RefusesText};
+ghost use Rattle.compile_and_go.specs.Accepted.{Compiles, IsAccepted, CompilesAccepted, IsJudged, IsLeftOut, IsTreeOf, RefusesText};
 
 use ada_link::compile_tree;
 use checking::check;
@@ -21,7 +21,7 @@ use std::alloc::Global;
 /// the language that is compiled today; 23, at main, where the code may pass a limit of images, which that of no small text does; 60, at byte 0, where memory was refused.
 pub fn compile(alloc: Global, source: &[u8]) -> Result<Image, Fault>
     ensures means { IfOk result (λ image. Compiles source.now image) }
-    ensures accepted { (tree : ProgramTree) → IsAccepted tree source.now → IsGiven source.now tree result }
+    ensures accepted { (tree : ProgramTree) → IsAccepted tree source.now → CompilesAccepted source.now tree result }
     ensures judged { (tree : ProgramTree) → IsTreeOf tree source.now → IsJudged source.now tree result }
     ensures refused { IfErr result (λ fault. RefusesText source.now fault) }
     ensures left_out { IfErr result (λ fault. IsLeftOut source.now fault) }

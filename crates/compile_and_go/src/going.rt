@@ -3,7 +3,7 @@ ghost use Rattle.std.specs.Prelude.{◌≡◌, ◌<◌, Err, IfErr, IfOk, OnOk};
 ghost use Rattle.ada_tree.specs.ProgramTree.{ProgramTree};
 ghost use Rattle.compile_and_go.specs.Accepted.{IsAccepted, RefusesAccepted};
 ghost use Rattle.compile_and_go.specs.Headline.{Runs, WritesBeginning};
-ghost use Rattle.compile_and_go.specs.Stopping.{Refuses};
+ghost use Rattle.compile_and_go.specs.Stopping.{RefusesRunning};
 
 use crate::compilation::compile;
 use clock::{Schedule, ScheduleFault};
@@ -44,7 +44,7 @@ pub fn go<S: Sink>(
     ensures runs { IfOk result (λ outcome. Runs source.now schedule.now limit outcome (S.bytes sink.old) (S.bytes sink.new)) }
     ensures kept { OnOk result (S.failures sink.new ≡ S.failures sink.old) }
     // A refusal is that of the call it comes from, where the calls before it gave their answers.
-    ensures refused { IfErr result (Refuses source.now schedule.now) }
+    ensures refused { IfErr result (RefusesRunning source.now schedule.now) }
     // An accepted text is refused only for want of memory, as one outside what is compiled today, or because its code may be too large, which that of no small text
     // is: its text tells which.
     ensures accepted { (tree : ProgramTree) (fault : Fault) → IsAccepted tree source.now → result ≡ Err (GoFault.Source fault) → RefusesAccepted source.now tree fault }

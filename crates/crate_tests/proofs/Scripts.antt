@@ -8,7 +8,7 @@ use Rattle.base.specs.declared.limits.TheConstants.{PRIORITIES}
 use Rattle.protected.specs.declared.refusal.Refusal.{Refusal as Refused}
 use Rattle.kernel.specs.State.{Kernel, Action, Reads, Writes, Serves, put}
 use Rattle.kernel.specs.Effects.{Effect, Ends, Refusal, SameObject, AboveCeiling, after}
-use Rattle.kernel.specs.Invariant.{CanWrite, Fits, Has, Held, Kept, Passed, Sound, Tells}
+use Rattle.kernel.specs.Invariant.{CanWrite, Fits, HasAction, IsBarrierHeld, Kept, Passed, Sound, Tells}
 use Rattle.kernel.specs.Laws.{KeptByEvery}
 use Rattle.kernel.specs.PutLaws.{put_other, put_same, same_or_not}
 use Rattle.tasking.specs.Held.{partition_of, refused_as}
@@ -56,7 +56,7 @@ they_tell is_open (Reads o ∷ outer) = tt
 they_tell is_open (Writes o ∷ outer) = sym (put_same o o is_open shut refl)
 they_tell is_open (Serves o u ∷ outer) = tt
 
-they_hold : (is_open : Bool) (l : List Action) (o : ℕ) → (barriers is_open l o ≡ false) ⊎ Has (CanWrite o) l
+they_hold : (is_open : Bool) (l : List Action) (o : ℕ) → (barriers is_open l o ≡ false) ⊎ HasAction (CanWrite o) l
 unfolding barriers
 they_hold is_open [] o = inl refl
 they_hold is_open (Reads p ∷ outer) o = inl refl

@@ -11,13 +11,13 @@ use Rattle.image.specs.Sections.{Sections}
 use Rattle.kernel.specs.Invariant.{Passed}
 use Rattle.image.specs.Steps.{act, behaviour, is_open}
 use Rattle.image_laws.specs.Whole.{EffectsNamed, IsNamed, IsWhole, LinesUnread, RunnerPasses, StepsWhole, UnseenWhole}
-use Rattle.task_steps.specs.Acting.{WentOn, effect_of, solo_in}
+use Rattle.task_steps.specs.Acting.{ComesToAct, effect_of, solo_in}
 use Rattle.task_steps.specs.declared.acts.Act.{Act}
 use Rattle.task_steps.specs.declared.acts.Effect.{Effect}
 use Rattle.task_steps.specs.declared.acts.Effect.TheVariants as acts
 use Rattle.tasking.specs.Held.{kernel_of}
 use Rattle.tasking.specs.Laws.{KeptWithLines, LinesApart}
-use Rattle.execution.specs.Held.{Held, Leads, task_at, world_of, world_with}
+use Rattle.execution.specs.Held.{HeldWorld, Leads, task_at, world_of, world_with}
 use Rattle.execution.specs.Settling.{HasPassed, Owes, Settles}
 use Rattle.execution.proofs.Going.{Others, Quiet, all_quiet, then_acts}
 use Rattle.execution.proofs.Leading.{leads_behind}
@@ -25,7 +25,7 @@ use Rattle.execution.proofs.Settled.{settled}
 use Rattle.execution.proofs.Tasks.{task_elsewhere}
 
 -- a world is whole whatever lines there are
-pub whole_without_lines : KeptWithLines → (i : Sections) (h : Held) (lines : List Line) → IsWhole i (world_with lines h) → IsWhole i (world_of h)
+pub whole_without_lines : KeptWithLines → (i : Sections) (h : HeldWorld) (lines : List Line) → IsWhole i (world_with lines h) → IsWhole i (world_of h)
 whole_without_lines kept i h lines w =
     record {
       kept = kept (is_open i (world_of h).rest.memory) (world_with lines h).kernel [] w.kept;
@@ -35,7 +35,7 @@ whole_without_lines kept i h lines w =
     }
 
 -- what the running task asks for is of the image, and was not refused
-pub has_passed : EffectsNamed → RunnerPasses → (h : Held) → IsWellFormed h.image → (t : ℕ) (a : Act) → Owes h t a → HasPassed (length h.image.objects) (kernel_of h.tasking) t a.effect
+pub has_passed : EffectsNamed → RunnerPasses → (h : HeldWorld) → IsWellFormed h.image → (t : ℕ) (a : Act) → Owes h t a → HasPassed (length h.image.objects) (kernel_of h.tasking) t a.effect
 has_passed names passes h w t a o = by a.effect named passed
   where
     is_effect : (act h.image h.schedule (kernel_of h.tasking) t (solo_of t o.before)).effect ≡ effect_of h.image a.effect
@@ -57,10 +57,10 @@ has_passed names passes h w t a o = by a.effect named passed
     by _ named passed = tt
 
 -- what the running task's steps have made of what was held
-abbrev pub Moved : Held → Held → ℕ → Type 0
+abbrev pub Moved : HeldWorld → HeldWorld → ℕ → Type 0
 Moved a b t = b ≡ record a { memory = b.memory; tasks = slice_set a.tasks t (task_at b.image b.tasks t) }
 
-module _ (steps : StepsWhole) (unseen : UnseenWhole) (a b : Held) (w : IsWellFormed a.image) (t limit left : ℕ) (whole : IsWhole a.image (world_of a)) (runs : IsRunner (kernel_of a.tasking) t) (moved : Moved a b t) where
+module _ (steps : StepsWhole) (unseen : UnseenWhole) (a b : HeldWorld) (w : IsWellFormed a.image) (t limit left : ℕ) (whole : IsWhole a.image (world_of a)) (runs : IsRunner (kernel_of a.tasking) t) (moved : Moved a b t) where
   pub others : Others a b t
   others u ne = ap (λ h. task_at h.image h.tasks u) moved ∙ task_elsewhere a.image a.tasks t (task_at b.image b.tasks t) u ne
 
@@ -74,7 +74,7 @@ module _ (steps : StepsWhole) (unseen : UnseenWhole) (a b : Held) (w : IsWellFor
   tasking = ap (λ h. h.tasking) moved
 
   abbrev pub HasGone : Option Act → Type 0
-  HasGone o = WentOn a.image a.schedule (kernel_of a.tasking) t limit left (solo_in a.image a.memory (task_at a.image a.tasks t)) o b.memory (task_at b.image b.tasks t)
+  HasGone o = ComesToAct a.image a.schedule (kernel_of a.tasking) t limit left (solo_in a.image a.memory (task_at a.image a.tasks t)) o b.memory (task_at b.image b.tasks t)
 
   -- quiet steps up to the limit
   pub gone_whole : HasGone None → IsWhole b.image (world_of b)
@@ -96,7 +96,7 @@ module _ (steps : StepsWhole) (unseen : UnseenWhole) (a b : Held) (w : IsWellFor
   pub acted_fewer : (did : Act) → Acted did → left < limit
   acted_fewer did q = let e = q.count in omega (arith, e)
 
-  module _ (did : Act) (q : Acted did) (later : Held) (told : List Line) (s : Settles b later t did told) where
+  module _ (did : Act) (q : Acted did) (later : HeldWorld) (told : List Line) (s : Settles b later t did told) where
     abbrev owed : CodeWorld
     owed = record { kernel = kernel_of b.tasking; rest = q.owes.before }
 

@@ -5,7 +5,7 @@ use Rattle.base.specs.declared.limits.TheConstants.{FRAME_WORDS}
 use Rattle.base.specs.declared.schedule.ScheduleLine.{ScheduleLine}
 use Rattle.kernel.specs.Effects as effects
 use Rattle.kernel.specs.Effects.{Ending, Closes, TakesOver, HandsBack, ending_of, service}
-use Rattle.kernel.specs.Invariant.{Has, ServesCall}
+use Rattle.kernel.specs.Invariant.{HasAction, ServesCall}
 use Rattle.kernel.specs.Laws.{ReachesCallers}
 use Rattle.kernel.specs.PutLaws.{put_other}
 use Rattle.kernel.specs.State.{Action, Reads, Writes, Serves, Kernel}
@@ -18,14 +18,14 @@ use Rattle.image.specs.Steps as steps
 use Rattle.image.specs.Steps.{behaviour, is_open}
 use Rattle.image_laws.specs.Laws.{CodeLeadsOn, ImagesHaveSize}
 use Rattle.image_laws.specs.Linked.{Fitting, FitsEntry, IsAwaiting, IsCalling, OwesFor}
-use Rattle.image_laws.specs.Whole.{IsTask, RunnerOwes}
+use Rattle.image_laws.specs.Whole.{IsImageTask, RunnerOwes}
 use Rattle.image_laws.specs.Within.{Anytime, Callers}
 use Rattle.task_steps.specs.Acting.{effect_of, given_of, stepped_of}
 use Rattle.task_steps.specs.declared.acts.Act.{Act}
 use Rattle.task_steps.specs.declared.acts.Effect.TheVariants as acts
 use Rattle.task_steps.specs.declared.acts.Given.{Given}
 use Rattle.tasking.specs.Held.{kernel_of}
-use Rattle.execution.specs.Held.{Held, task_at}
+use Rattle.execution.specs.Held.{HeldWorld, task_at}
 use Rattle.execution.specs.Settling.{CanReceive, CanServe, Owes, given_tasks, words_given}
 use Rattle.execution.proofs.Entries.{entry_is, room_for}
 use Rattle.execution.proofs.Tasks.{task_put}
@@ -58,7 +58,7 @@ fewer : (i : Sections) (o : ℕ) (x : steps.Given) (room : ℕ) → FitsEntry i 
 fewer i o (steps.Results words) room f le = omega (arith, f, le)
 fewer i o (steps.Raised e) room f le = omega (arith, le)
 
-module _ (reaches : ReachesCallers) (owe : RunnerOwes) (leads : CodeLeadsOn) (size : ImagesHaveSize) (h : Held) (w : IsWellFormed h.image) (count : length h.tasks ≡ length h.image.tasks) (t : ℕ) (b : Bool) (given : Option Given) where
+module _ (reaches : ReachesCallers) (owe : RunnerOwes) (leads : CodeLeadsOn) (size : ImagesHaveSize) (h : HeldWorld) (w : IsWellFormed h.image) (count : length h.tasks ≡ length h.image.tasks) (t : ℕ) (b : Bool) (given : Option Given) where
   abbrev the_act : Act
   the_act = record { effect = acts.Ends b; given = given }
 
@@ -101,11 +101,11 @@ module _ (reaches : ReachesCallers) (owe : RunnerOwes) (leads : CodeLeadsOn) (si
     can_receive u is =
         let r = (reaches (is_open h.image o.before.memory) k t (effects.Ends b) o.runs.running o.whole.kept).served u is in
         let s = hands b (k.actions t) k.queued u is in
-        let has = subst (Has (ServesCall s.o u)) (sym s.is) (inl (refl, refl)) in
+        let has = subst (HasAction (ServesCall s.o u)) (sym s.is) (inl (refl, refl)) in
         let awaiting = subst (IsAwaiting h.image s.o) (as_before u r.2) (o.whole.linked.awaiting t s.o u has) in
         let place = room_for h.image w leads size s.o (task_at h.image h.tasks u) awaiting in
         let g = given_fits h.image s.o u s.outer (given_of h.memory.passed given) (subst (λ x. Fitting h.image x (given_of h.memory.passed given)) s.is owed.1) in
-        let inside = (subst (Callers (IsTask h.image) Anytime) s.is (o.whole.bounded.callers t)).0 in
+        let inside = (subst (Callers (IsImageTask h.image) Anytime) s.is (o.whole.bounded.callers t)).0 in
         record { given = g.0; is = g.1; caller = subst (λ n. u < n) (sym count) inside; next = place.next; room = fewer h.image s.o g.0 _ g.2 place.room }
 
 module _ (i : Sections) (tasks : List TaskState) (schedule : List ScheduleLine) (u : ℕ) where

@@ -16,26 +16,26 @@ use Rattle.image.specs.Steps as code
 use Rattle.image.specs.Steps.{Stepped, behaviour}
 use Rattle.image_laws.specs.Whole.{IsWhole, StepsWhole, UnseenWhole}
 use Rattle.processor.specs.Decoding.{words_in}
-use Rattle.task_steps.specs.Acting.{MemoryRows, WentOn, effect_of, given_of, solo_in, stepped_of}
+use Rattle.task_steps.specs.Acting.{MemoryRows, ComesToAct, effect_of, given_of, solo_in, stepped_of}
 use Rattle.task_steps.specs.declared.acts.Act.{Act}
 use Rattle.tasking.specs.Held.{kernel_of}
-use Rattle.execution.specs.Held.{Held, rest_of, task_at, world_of, world_with}
+use Rattle.execution.specs.Held.{HeldWorld, rest_of, task_at, world_of, world_with}
 use Rattle.execution.specs.Settling.{Owes, Settles}
 
 -- the tasks of one are those of the other but for t
-abbrev pub Others : Held → Held → ℕ → Type 0
+abbrev pub Others : HeldWorld → HeldWorld → ℕ → Type 0
 Others a b t = (u : ℕ) → (u ≡ t → ⊥) → task_at b.image b.tasks u ≡ task_at a.image a.tasks u
 
-module _ (a b : Held) (t : ℕ) (others : Others a b t) where
+module _ (a b : HeldWorld) (t : ℕ) (others : Others a b t) where
   own_put : (u : ℕ) → put t (task_at b.image b.tasks t) (task_at a.image a.tasks) u ≡ task_at b.image b.tasks u
   own_put u = by_put (λ s. s ≡ task_at b.image b.tasks u) t u (task_at b.image b.tasks t) (task_at a.image a.tasks) (λ e. ap (task_at b.image b.tasks) (sym e)) (λ ne. sym (others u ne))
 
   pub same_rest : b.image ≡ a.image → put_back t (rest_of a) (solo_in a.image b.memory (task_at b.image b.tasks t)) ≡ rest_of b
   same_rest image = λ j. record { memory = words_in (sym image j) b.memory.shared; tasks = λ u. own_put u j }
 
-module _ (steps : StepsWhole) (unseen : UnseenWhole) (a b : Held) (w : IsWellFormed a.image) (t limit left : ℕ) (whole : IsWhole a.image (world_of a)) (runs : IsRunner (kernel_of a.tasking) t) (others : Others a b t) (image : b.image ≡ a.image) (schedule : b.schedule ≡ a.schedule) (tasking : b.tasking ≡ a.tasking) where
+module _ (steps : StepsWhole) (unseen : UnseenWhole) (a b : HeldWorld) (w : IsWellFormed a.image) (t limit left : ℕ) (whole : IsWhole a.image (world_of a)) (runs : IsRunner (kernel_of a.tasking) t) (others : Others a b t) (image : b.image ≡ a.image) (schedule : b.schedule ≡ a.schedule) (tasking : b.tasking ≡ a.tasking) where
   abbrev Went : Option Act → Type 0
-  Went o = WentOn a.image a.schedule (kernel_of a.tasking) t limit left (solo_in a.image a.memory (task_at a.image a.tasks t)) o b.memory (task_at b.image b.tasks t)
+  Went o = ComesToAct a.image a.schedule (kernel_of a.tasking) t limit left (solo_in a.image a.memory (task_at a.image a.tasks t)) o b.memory (task_at b.image b.tasks t)
 
   abbrev reached_world : CodeWorld
   reached_world = record { kernel = kernel_of a.tasking; rest = put_back t (rest_of a) (solo_in a.image b.memory (task_at b.image b.tasks t)) }

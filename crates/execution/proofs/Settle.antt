@@ -18,13 +18,13 @@ use Rattle.task_steps.specs.Acting.{effect_of, given_of}
 use Rattle.task_steps.specs.declared.acts.Act.{Act}
 use Rattle.tasking.specs.Held as tasking
 use Rattle.tasking.specs.Held.{kernel_of}
-use Rattle.execution.specs.Held.{Held, line_of, task_at}
+use Rattle.execution.specs.Held.{HeldWorld, line_of, task_at}
 use Rattle.execution.specs.Settling.{CanServe, Owes, Settles, given_tasks, served_tasks}
 use Rattle.execution.specs.declared.line.Line.{Line}
 use Rattle.execution.proofs.Ending.{given_put}
 use Rattle.execution.proofs.Tasks.{task_elsewhere, task_put, task_there}
 
-module _ (h : Held) (t : ℕ) (a : Act) where
+module _ (h : HeldWorld) (t : ℕ) (a : Act) where
   -- an effect that reaches no other task
   pub settles_alone : (x : tasking.Held) → kernel_of x ≡ after t (effect_of h.image a.effect) (kernel_of h.tasking) → ending (kernel_of h.tasking) t (effect_of h.image a.effect) ≡ Closes → Settles h (record h { tasking = x }) t a []
   settles_alone x is closes =
@@ -97,7 +97,7 @@ module _ (i : Sections) (tasks : List TaskState) (t o u : ℕ) where
       (same_or_not v u)
 
 -- the end of an action by which a queued call is served, and one by which the caller goes on
-module _ (h next : Held) (t : ℕ) (a : Act) (x : tasking.Held) (is : kernel_of x ≡ after t (effect_of h.image a.effect) (kernel_of h.tasking)) where
+module _ (h next : HeldWorld) (t : ℕ) (a : Act) (x : tasking.Held) (is : kernel_of x ≡ after t (effect_of h.image a.effect) (kernel_of h.tasking)) where
   pub settles_served : (o u : ℕ) → ending (kernel_of h.tasking) t (effect_of h.image a.effect) ≡ TakesOver o u → CanServe h.image h.tasks t o u → next ≡ record h { tasking = x; tasks = served_tasks h.image h.tasks t o u } → Settles h next t a []
   settles_served o u ends can moved =
       subst (λ n. Settles h n t a []) (sym moved)

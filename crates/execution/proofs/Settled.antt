@@ -12,10 +12,10 @@ use Rattle.processor.specs.Decoding.{words_in}
 use Rattle.task_steps.specs.Acting.{effect_of, given_of, stepped_of}
 use Rattle.task_steps.specs.declared.acts.Act.{Act}
 use Rattle.tasking.specs.Held.{kernel_of}
-use Rattle.execution.specs.Held.{Held, rest_of, task_at, world_with}
+use Rattle.execution.specs.Held.{HeldWorld, rest_of, task_at, world_with}
 use Rattle.execution.specs.Settling.{Owes, Settles}
 
-module _ (h : Held) (t : ℕ) where
+module _ (h : HeldWorld) (t : ℕ) where
   -- what a step comes to among all tasks
   abbrev among_by : Tasks Words TaskState → Stepped → Did (Tasks Words TaskState)
   among_by d a =
@@ -30,7 +30,7 @@ module _ (h : Held) (t : ℕ) where
   abbrev world_by : Did (Tasks Words TaskState) → CodeWorld
   world_by d = record { kernel = after t d.effect (kernel_of h.tasking); rest = d.rest }
 
-  pub settled : (a : Act) (later : Held) (told : List Line) (o : Owes h t a) → Settles h later t a told → step (among (behaviour h.image h.schedule)) (owed_world o.before) ≡ world_with told later
+  pub settled : (a : Act) (later : HeldWorld) (told : List Line) (o : Owes h t a) → Settles h later t a told → step (among (behaviour h.image h.schedule)) (owed_world o.before) ≡ world_with told later
   settled a later told o s =
       let e = effect_of h.image a.effect in
       let given = given_of h.memory.passed a.given in

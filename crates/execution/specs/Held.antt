@@ -16,7 +16,7 @@ use Rattle.tasking.specs.Held.{kernel_of}
 use Rattle.execution.specs.declared.line.Line.{Line}
 
 -- an image, the lines of the schedule, the row of shared words, the tasks' frames, and what the kernel's code holds
-pub record Held : Type 0 where
+pub record HeldWorld : Type 0 where
   pub image : Sections
   pub schedule : List ScheduleLine
   pub memory : MemoryRows
@@ -31,14 +31,14 @@ body_state i n = record { frame = body_frame i n (called i n); callers = []; rai
 abbrev pub task_at : Sections → List TaskState → ℕ → TaskState
 task_at i tasks t = get_or tasks t (initial_state i t)
 
-abbrev pub rest_of : Held → Tasks Words TaskState
+abbrev pub rest_of : HeldWorld → Tasks Words TaskState
 rest_of h = record { memory = words_in h.image h.memory.shared; tasks = task_at h.image h.tasks }
 
 -- the world of code, beside the lines that were written
-abbrev pub world_with : List kernel.Line → Held → CodeWorld
+abbrev pub world_with : List kernel.Line → HeldWorld → CodeWorld
 world_with lines h = record { kernel = record (kernel_of h.tasking) { lines = lines }; rest = rest_of h }
 
-abbrev pub world_of : Held → CodeWorld
+abbrev pub world_of : HeldWorld → CodeWorld
 world_of h = record { kernel = kernel_of h.tasking; rest = rest_of h }
 
 -- the line with its label's bytes in place of the number
@@ -50,7 +50,7 @@ lines_of i None = []
 lines_of i (Some l) = line_of i l ∷ []
 
 -- n steps of code lead from what was held to what is held, whatever was written before, and write these lines
-pub record Leads (n : ℕ) (before after : Held) (told : List kernel.Line) : Type 0 where
+pub record Leads (n : ℕ) (before after : HeldWorld) (told : List kernel.Line) : Type 0 where
   pub image : after.image ≡ before.image
   pub schedule : after.schedule ≡ before.schedule
   pub world : (lines : List kernel.Line) → run (among (behaviour before.image before.schedule)) n (world_with lines before) ≡ world_with (lines ++ told) after

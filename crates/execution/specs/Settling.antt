@@ -18,10 +18,10 @@ use Rattle.task_steps.specs.declared.acts.Act.{Act}
 use Rattle.task_steps.specs.declared.acts.Effect.{Effect}
 use Rattle.task_steps.specs.declared.acts.Effect.TheVariants as acts
 use Rattle.tasking.specs.Held.{kernel_of}
-use Rattle.execution.specs.Held.{Held, rest_of, task_at}
+use Rattle.execution.specs.Held.{HeldWorld, rest_of, task_at}
 
 -- the running task t has taken a step from a whole world, and this is what it asks of the kernel
-pub record Owes (h : Held) (t : ℕ) (a : Act) : Type 0 where
+pub record Owes (h : HeldWorld) (t : ℕ) (a : Act) : Type 0 where
   pub before : Tasks Words TaskState
   pub whole : IsWhole h.image (record { kernel = kernel_of h.tasking; rest = before })
   pub runs : IsRunner (kernel_of h.tasking) t
@@ -29,7 +29,7 @@ pub record Owes (h : Held) (t : ℕ) (a : Act) : Type 0 where
   pub others : task_at h.image h.tasks ≡ put t (task_at h.image h.tasks t) before.tasks
 
 -- the kernel, and the tasks that the end of an action reaches, are as the step has them
-pub record Settles (before after_it : Held) (t : ℕ) (a : Act) (told : List kernel.Line) : Type 0 where
+pub record Settles (before after_it : HeldWorld) (t : ℕ) (a : Act) (told : List kernel.Line) : Type 0 where
   pub image : after_it.image ≡ before.image
   pub schedule : after_it.schedule ≡ before.schedule
   pub shared : after_it.memory.shared ≡ before.memory.shared

@@ -28,9 +28,9 @@ pub struct Execution<'a, R: Ready, D: Delays> {
 
 impl<'a, R: Ready, D: Delays> Model for Execution<'a, R, D> {
     ghost use Rattle.image_laws.specs.Whole.{IsWhole};
-    ghost use Rattle.execution.specs.Held.{Held, world_of};
+    ghost use Rattle.execution.specs.Held.{HeldWorld, world_of};
 
-    ghost Value = { Held };
+    ghost Value = { HeldWorld };
 
     ghost view = { λ e. e.state };
 

@@ -6,7 +6,7 @@ ghost use Rattle.image.specs.Rules.{IsWellFormed};
 ghost use Rattle.image_laws.specs.Whole.{IsWhole};
 ghost use Rattle.kernel.specs.Calm.{IsRunner};
 ghost use Rattle.kernel.specs.Invariant.{Fits};
-ghost use Rattle.task_steps.specs.Acting.{WentOn, solo_in};
+ghost use Rattle.task_steps.specs.Acting.{ComesToAct, solo_in};
 ghost use Rattle.tasking.specs.Held.{kernel_of, partition_of};
 ghost use Rattle.execution.specs.Held.{body_state, task_at, world_of};
 
@@ -34,9 +34,9 @@ pub(crate) struct State<'a, R: Ready, D: Delays> {
 impl<'a, R: Ready, D: Delays> Model for State<'a, R, D> {
     ghost use Rattle.std.specs.Prelude.{◌≡◌, length};
     ghost use Rattle.image.specs.Rules.{IsWellFormed};
-    ghost use Rattle.execution.specs.Held.{Held};
+    ghost use Rattle.execution.specs.Held.{HeldWorld};
 
-    ghost Value = { Held };
+    ghost Value = { HeldWorld };
 
     ghost view = { λ s. record { image = s.program; schedule = s.schedule.now; memory = s.memory; tasks = s.tasks.items; tasking = s.tasking } };
 
@@ -73,7 +73,7 @@ impl<'a, R: Ready, D: Delays> State<'a, R, D> {
     pub(crate) fn go(&mut self, task: u8, limit: u64) -> Went
         requires whole { IsWhole self.old.image (world_of self.old) }
         requires runs { IsRunner (kernel_of self.old.tasking) task }
-        ensures went { WentOn self.old.image self.old.schedule (kernel_of self.old.tasking) task limit result.left (solo_in self.old.image self.old.memory (task_at self.old.image self.old.tasks task)) result.act self.new.memory (task_at self.new.image self.new.tasks task) }
+        ensures went { ComesToAct self.old.image self.old.schedule (kernel_of self.old.tasking) task limit result.left (solo_in self.old.image self.old.memory (task_at self.old.image self.old.tasks task)) result.act self.new.memory (task_at self.new.image self.new.tasks task) }
         ensures well_formed { IsWellFormed self.old.image }
         ensures moved { self.new ≡ record self.old { memory = self.new.memory; tasks = slice_set self.old.tasks task (task_at self.new.image self.new.tasks task) } }
     {

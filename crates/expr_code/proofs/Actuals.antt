@@ -40,7 +40,7 @@ use Rattle.well_typed.proofs.Parts.{same_values}
 use Rattle.expr_code.specs.Actuals.{AddsCall, ArePassedLegally, arguments_in_front, EmitsActual, EmitsActuals, IsPassedLegally, TakeShapes}
 use Rattle.expr_code.specs.Code.{here}
 use Rattle.expr_code.specs.Computing.{AlwaysNames, ArePassed, ArePassedWell, Computes, ComputesAll}
-use Rattle.expr_code.specs.Emitting.{EmitsChecked, EmitsExpression, IsLegal}
+use Rattle.expr_code.specs.Emitting.{EmitsChecked, EmitsExpression, IsLegalExpression}
 use Rattle.expr_code.specs.Flows.{Flows}
 use Rattle.expr_code.specs.Seeing.{library_of, NamesProfile, Package, Sees, Suits}
 use Rattle.expr_code.specs.declared.code.Code.{Code}
@@ -212,7 +212,7 @@ module _ (v : Visible) (first : Identifier) (profile : Profile) (names : NamesPr
   profiled = ap profile_of names.stands
 
   -- the rules of what stands behind the name
-  parts : (selectors : SelectorTrees) → IsLegal v.scope (tree.Named first selectors) → selectors_faults v.scope first.place callee_of selectors ≡ []
+  parts : (selectors : SelectorTrees) → IsLegalExpression v.scope (tree.Named first selectors) → selectors_faults v.scope first.place callee_of selectors ≡ []
   parts selectors legal =
       let hidden = rule NAME_NOT_VISIBLE first.place (not (is_visible v.scope first.name)) in
       let all = selectors_faults v.scope first.place (stands_first v.scope (number_of v.scope first.name)) selectors in
@@ -234,7 +234,7 @@ module _ (v : Visible) (first : Identifier) (profile : Profile) (names : NamesPr
       actual_legal (suc k) all (back_empty (argument_faults v.scope (slot_at v.scope callee_of k) (argument_tree x)) (arguments_faults v.scope callee_of (suc k) (argument_trees all)) h) n f a
       (ap (slice_get profile.formals) (sym more) ∙ at_formal) at_argument
 
-  module _ (arguments : List Argument) (legal : IsLegal v.scope (tree.Named first (MoreSelectors (Arguments (argument_trees arguments)) NoSelectors))) where
+  module _ (arguments : List Argument) (legal : IsLegalExpression v.scope (tree.Named first (MoreSelectors (Arguments (argument_trees arguments)) NoSelectors))) where
     abbrev given : ArgumentTrees
     given = argument_trees arguments
 
@@ -252,7 +252,7 @@ module _ (v : Visible) (first : Identifier) (profile : Profile) (names : NamesPr
 
   module _ (old new : Code) (height : ℕ) (added : AddsCall v first.name profile old height new) where
     -- what the name means
-    named : (g : Package) (selectors : SelectorTrees) → IsLegal v.scope (tree.Named first selectors) → fixed_value (select_all v.scope callee_of selectors) ≡ None
+    named : (g : Package) (selectors : SelectorTrees) → IsLegalExpression v.scope (tree.Named first selectors) → fixed_value (select_all v.scope callee_of selectors) ≡ None
         → (i : Sections) → AlwaysNames i (library_of g) (Sees g v) first selectors added.number (map parameter_subtype profile.formals)
     named g selectors legal valueless i p view sees =
         let means = sees.names.agrees.names first.name names.number (Subprogram profile) names.numbered names.stands in
@@ -288,7 +288,7 @@ module _ (v : Visible) (first : Identifier) (profile : Profile) (names : NamesPr
       is_none = refl;
     }
 
-  module _ (quiet : QuietStays) (arguments : List Argument) (legal : IsLegal v.scope (tree.Named first (MoreSelectors (Arguments (argument_trees arguments)) NoSelectors))) (old mid new : Code)
+  module _ (quiet : QuietStays) (arguments : List Argument) (legal : IsLegalExpression v.scope (tree.Named first (MoreSelectors (Arguments (argument_trees arguments)) NoSelectors))) (old mid new : Code)
       (depth height : ℕ) (p : EmitsActuals v old depth (map parameter_subtype (take (length arguments) profile.formals)) (map argument_tree arguments) height mid)
       (added : AddsCall v first.name profile mid height new) where
     abbrev ts : List Subtype
@@ -332,7 +332,7 @@ module _ (v : Visible) (first : Identifier) (profile : Profile) (names : NamesPr
               (instruction_flows (Suits v) mid new height (depth + 1) call added.adds (changes mid new height added depth all.high));
         }
 
-  module _ (quiet : QuietStays) (legal : IsLegal v.scope (tree.Named first NoSelectors)) (old new : Code) (depth : ℕ) (added : AddsCall v first.name profile old depth new) where
+  module _ (quiet : QuietStays) (legal : IsLegalExpression v.scope (tree.Named first NoSelectors)) (old new : Code) (depth : ℕ) (added : AddsCall v first.name profile old depth new) where
     no_formals : profile.formals ≡ []
     no_formals = empty profile.formals (one_count first.place 0 (length profile.formals) (ap (λ o. count_rule first.place 0 (length (profile_formals o))) (sym profiled) ∙ parts NoSelectors legal))
       where

@@ -17,8 +17,8 @@ use Rattle.expr_code.specs.Views.{At}
 use Rattle.expr_code.specs.Code.{Adds, Extends, here, Holds, Patches}
 use Rattle.expr_code.specs.Computing.{Computes, ComputesElse}
 use Rattle.expr_code.specs.Branches.{AddsBranches, Branch, branch_of, Closes, branches_size, EmitsBranches, in_front, Joins, Rejoins}
-use Rattle.expr_code.specs.Emitting.{EmitsExpression, IsLegal}
-use Rattle.expr_code.specs.Flows.{AreKept}
+use Rattle.expr_code.specs.Emitting.{EmitsExpression, IsLegalExpression}
+use Rattle.expr_code.specs.Flows.{AreKeptBetween}
 use Rattle.expr_code.specs.Seeing.{library_of, Sees}
 use Rattle.expr_code.specs.declared.code.Code.{Code}
 use Rattle.expr_code.specs.declared.visible.Visible.{Visible}
@@ -235,9 +235,9 @@ module _ (v : Visible) (depth width : ℕ) (start tested jumped valued closed ne
         (λ a e. let same : a ≡ here new = test_same a n e ∙ to in (omega (arith, same, end_is, four, second.extends.longer, two, first.extends.longer), omega (arith, same, up), ap (λ m. has_depth i m depth) same ∙ next)) in
         let in_test = first.flows.flows i s (in_tested i end up j) suits (omega (arith, tested_extends.deeper, deep)) low testing.begins in
         let test_kept = widened i s (here start) (here tested) (here start) end (here start) (here tested) depth (omega arith) (omega (arith, two, second.extends.longer, four, end_is, up)) in_test in
-        let last = subst (λ m. AreKept i s (here start) end (here valued) m (depth + width)) (sym (end_is ∙ four)) closing in
+        let last = subst (λ m. AreKeptBetween i s (here start) end (here valued) m (depth + width)) (sym (end_is ∙ four)) closing in
         let tail = kept_then i s (here start) end (here jumped) (here valued) (here new) depth (depth + width) value_kept last in
-        let middle = subst (λ m. AreKept i s (here start) end (here tested) m (depth + 1)) (sym two) testing in
+        let middle = subst (λ m. AreKeptBetween i s (here start) end (here tested) m (depth + 1)) (sym two) testing in
         kept_then i s (here start) end (here start) (here tested) (here new) depth (depth + 1) test_kept (kept_then i s (here start) end (here tested) (here jumped) (here new) (depth + 1) depth middle tail);
   }
     where
@@ -299,7 +299,7 @@ module _ (quiet : QuietStays) (v : Visible) (depth width place n : ℕ) (start b
           let in_last = q.flows.flows i s (later i h) suits deepest high (ap (λ m. has_depth i m (depth + width)) (sym r.long) ∙ ends) in
           let last_kept = widened i s (here branched) (here valued) (here start) (here new) (here branched) (here valued) depth p.extends.longer (omega (arith, r.long)) in_last in
           let front = p.flows i s (here new) (omega (arith, q.extends.longer, r.long)) (joins i h) suits (omega (arith, q.extends.deeper, deepest)) high ends in_last.begins in
-          kept_then i s (here start) (here new) (here start) (here branched) (here new) depth depth front (subst (λ m. AreKept i s (here start) (here new) (here branched) m depth) (sym r.long) last_kept);
+          kept_then i s (here start) (here new) (here start) (here branched) (here new) depth depth front (subst (λ m. AreKeptBetween i s (here start) (here new) (here branched) m depth) (sym r.long) last_kept);
     };
   }
     where
@@ -475,8 +475,8 @@ module _ (v : Visible) (depth width n : ℕ) (start one branched valued new : Co
   pub whole_at : QuietStays → n ≡ here valued → Rejoins valued places n new → (place : ℕ) → EmitsExpression v start depth width (tree.Conditional place condition value (elsif_value_trees elsifs) last) new
   whole_at quiet n_is r place = whole_emits v depth width n start one branched valued new condition value elsifs last first all begun q e quiet n_is (subst (λ l. Rejoins valued l n new) same r) place
 
-pub conditional_legal : (s : Scope) (e : ExprTree) (place : ℕ) (condition value : ExprTree) (elsifs : List ElsifValue) (last : ExprTree) → e ≡ tree.Conditional place condition value (elsif_value_trees elsifs) last → IsLegal s e
+pub conditional_legal : (s : Scope) (e : ExprTree) (place : ℕ) (condition value : ExprTree) (elsifs : List ElsifValue) (last : ExprTree) → e ≡ tree.Conditional place condition value (elsif_value_trees elsifs) last → IsLegalExpression s e
     → PartsAreLegal s condition value (map branch_of elsifs) last
 conditional_legal s e place condition value elsifs last is h =
     legal_parts s place condition value (map branch_of elsifs) last
-    (subst (λ t. IsLegal s (tree.Conditional place condition value t last)) (sym (branches_are elsifs)) (subst (IsLegal s) is h))
+    (subst (λ t. IsLegalExpression s (tree.Conditional place condition value t last)) (sym (branches_are elsifs)) (subst (IsLegalExpression s) is h))

@@ -16,7 +16,7 @@ use Rattle.expr_rules.specs.NameRules.{value_rule}
 use Rattle.well_typed.specs.SoundScopes.{AreIn, SoundScope}
 use Rattle.well_typed.proofs.Positions.{same_some}
 use Rattle.expr_code.specs.Code.{here}
-use Rattle.expr_code.specs.Emitting.{IsLegal}
+use Rattle.expr_code.specs.Emitting.{IsLegalExpression}
 use Rattle.expr_code.specs.Refusing.{are_passable, argument_outside, argument_peak, arguments_outside, arguments_peak, is_callable, is_called, is_made, is_passable, IsRefused, RefusesActual, RefusesActuals, RefusesAddress, RefusesExpression, RefusesPath, words_below}
 use Rattle.expr_code.specs.Seeing.{NamesProfile, profile_named, subprogram_of, subprogram_profile}
 use Rattle.expr_code.specs.declared.code.Code.{Code}
@@ -166,7 +166,7 @@ module _ (v : Visible) where
         alone None = refl
 
     -- a legal call gives a result, so that all formals are of mode `in`
-    pub call_ins : (a : ArgumentTrees) → SoundScope v.scope → IsLegal v.scope (tree.Named first (MoreSelectors (Arguments a) NoSelectors)) → AreIn profile.formals
+    pub call_ins : (a : ArgumentTrees) → SoundScope v.scope → IsLegalExpression v.scope (tree.Named first (MoreSelectors (Arguments a) NoSelectors)) → AreIn profile.formals
     call_ins a sound legal =
         by_result profile.result refl
         (ap (λ o. value_rule first.place (select_all v.scope (call_stands o) NoSelectors)) (sym (profiled v first profile names))

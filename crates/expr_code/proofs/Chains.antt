@@ -13,7 +13,7 @@ use Rattle.ada_tree.specs.ExpressionTree.{ExprTree, chain_tree, expr_tree}
 use Rattle.types.specs.Scopes.{Scope}
 use Rattle.well_typed.specs.Laws.{ExpressionsAreTyped}
 use Rattle.expr_code.specs.Code.{Adds, here, Patches}
-use Rattle.expr_code.specs.Emitting.{AreLegal, EmitsExpression, EmitsOperands, IsLegal}
+use Rattle.expr_code.specs.Emitting.{AreLegalOperands, EmitsExpression, EmitsOperands, IsLegalExpression}
 use Rattle.expr_code.specs.OperatorCode.{binary_operation}
 use Rattle.expr_code.specs.declared.code.Code.{Code}
 use Rattle.expr_code.specs.declared.visible.Visible.{Visible}
@@ -42,9 +42,9 @@ take_all (o ∷ all) zero up = absurd (omega (arith, up))
 take_all (o ∷ all) (suc n) up = ap (λ l. o ∷ l) (take_all all n (omega (arith, up)))
 
 -- the operand at a place is legal
-pub legal_at : (s : Scope) (all : List Operand) (n : ℕ) (x : Operand) → n < length all → x ≡ get_or all n x → AreLegal s all → IsLegal s (expr_tree x.value)
+pub legal_at : (s : Scope) (all : List Operand) (n : ℕ) (x : Operand) → n < length all → x ≡ get_or all n x → AreLegalOperands s all → IsLegalExpression s (expr_tree x.value)
 legal_at s [] n x less is h = absurd (omega (arith, less))
-legal_at s (o ∷ all) zero x less is h = subst (λ y. IsLegal s (expr_tree y.value)) (sym is) h.0
+legal_at s (o ∷ all) zero x less is h = subst (λ y. IsLegalExpression s (expr_tree y.value)) (sym is) h.0
 legal_at s (o ∷ all) (suc n) x less is h = legal_at s all n x (omega (arith, less)) is h.1
 
 -- ---- one operand
@@ -65,7 +65,7 @@ module _ (quiet : QuietStays) (laws : ExpressionsAreTyped) (v : Visible) (old co
     emits = λ start left first legal.
         subst (λ y. EmitsExpression v start depth 1 (tree.Binary y left (expr_tree o.value)) new) (sym is)
         (or_else_emits quiet laws v start old copied jumped dropped done new depth n x left (expr_tree o.value) first copy jump drop right end
-        (subst (λ y. IsLegal v.scope (tree.Binary y left (expr_tree o.value))) is legal) patch);
+        (subst (λ y. IsLegalExpression v.scope (tree.Binary y left (expr_tree o.value))) is legal) patch);
   }
 
   and_then_is : (y : BinaryOperator) → binary_operation y ≡ None → (y ≡ binary.OrElse → ⊥) → y ≡ binary.AndThen
@@ -80,7 +80,7 @@ module _ (quiet : QuietStays) (laws : ExpressionsAreTyped) (v : Visible) (old co
         emits = λ start left first legal.
             subst (λ y. EmitsExpression v start depth 1 (tree.Binary y left (expr_tree o.value)) new) (sym is)
             (and_then_emits quiet laws v start old copied jumped dropped done new depth n x left (expr_tree o.value) first copy jump drop right end
-            (subst (λ y. IsLegal v.scope (tree.Binary y left (expr_tree o.value))) is legal) patch);
+            (subst (λ y. IsLegalExpression v.scope (tree.Binary y left (expr_tree o.value))) is legal) patch);
       }
 
 -- ---- operands, one behind another
@@ -93,7 +93,7 @@ pub one_emitted : (v : Visible) (start c d : Code) (depth : ℕ) (all : List Ope
 one_emitted v start c d depth all n x less is h g = record {
   emits = λ first left e legal.
       let next = chain_next left all n x less is in
-      let whole = subst (IsLegal v.scope) next legal in
+      let whole = subst (IsLegalExpression v.scope) next legal in
       subst (λ t. EmitsExpression v first depth 1 t d) (sym next)
       (g.emits first (chain_tree left (take n all)) (h.emits first left e (legal_left v.scope x.operator (chain_tree left (take n all)) (expr_tree x.value) whole)) whole);
 }
@@ -103,22 +103,22 @@ all_emitted v start c depth all n up h = subst (λ l. EmitsOperands v start dept
 
 -- ---- a chain
 
-module _ (v : Visible) (e left : ExprTree) (second : Operand) (more : List Operand) (same : e ≡ chain_tree (tree.Binary second.operator left (expr_tree second.value)) more) (legal : IsLegal v.scope e) where
-  parts : IsLegal v.scope left × AreLegal v.scope (second ∷ more)
-  parts = legal_chain v.scope left (second ∷ more) (subst (IsLegal v.scope) same legal)
+module _ (v : Visible) (e left : ExprTree) (second : Operand) (more : List Operand) (same : e ≡ chain_tree (tree.Binary second.operator left (expr_tree second.value)) more) (legal : IsLegalExpression v.scope e) where
+  parts : IsLegalExpression v.scope left × AreLegalOperands v.scope (second ∷ more)
+  parts = legal_chain v.scope left (second ∷ more) (subst (IsLegalExpression v.scope) same legal)
 
-  pub first_legal : IsLegal v.scope left
+  pub first_legal : IsLegalExpression v.scope left
   first_legal = parts.0
 
-  pub second_legal : IsLegal v.scope (expr_tree second.value)
+  pub second_legal : IsLegalExpression v.scope (expr_tree second.value)
   second_legal = parts.1.0
 
-  pub more_legal : AreLegal v.scope more
+  pub more_legal : AreLegalOperands v.scope more
   more_legal = parts.1.1
 
   pub chain_emits : (old one two new : Code) (depth : ℕ) → EmitsExpression v old depth 1 left one → EmitsOperands v one depth (second ∷ []) two → EmitsOperands v two depth more new → EmitsExpression v old depth 1 e new
   chain_emits old one two new depth first next last =
-      let whole = subst (IsLegal v.scope) same legal in
+      let whole = subst (IsLegalExpression v.scope) same legal in
       let pair = (legal_chain v.scope (tree.Binary second.operator left (expr_tree second.value)) more whole).0 in
       subst (λ x. EmitsExpression v old depth 1 x new) (sym same) (last.emits old (tree.Binary second.operator left (expr_tree second.value)) (next.emits old left first pair) whole)
 

@@ -34,8 +34,8 @@ use Rattle.well_typed.proofs.Arguments.{slot_suits}
 use Rattle.well_typed.proofs.Parts.{subtype_values}
 use Rattle.expr_code.specs.Views.{At}
 use Rattle.expr_code.specs.Code.{Adds, here}
-use Rattle.expr_code.specs.Computing.{AlwaysPasses, ComputesChecked, IsNumber}
-use Rattle.expr_code.specs.Emitting.{EmitsChecked, EmitsExpression, IsFit, IsLegal, WantedFits}
+use Rattle.expr_code.specs.Computing.{AlwaysPasses, ComputesChecked, ComesToNumber}
+use Rattle.expr_code.specs.Emitting.{EmitsChecked, EmitsExpression, IsFit, IsLegalExpression, WantedFits}
 use Rattle.expr_code.specs.Seeing.{library_of, Package, Sees, Suits}
 use Rattle.expr_code.specs.declared.code.Code.{Code}
 use Rattle.expr_code.specs.declared.visible.Visible.{Visible}
@@ -44,7 +44,7 @@ use Rattle.expr_code.proofs.Growing.{added_at, added_extends, added_here, extend
 use Rattle.expr_code.proofs.Passing.{computes_checked, computes_unchecked}
 
 module _ (s : Scope) (t : Subtype) (e : ExprTree) (h : IsFit s t e) where
-  pub fit_legal : IsLegal s e
+  pub fit_legal : IsLegalExpression s e
   fit_legal = record { wanted = h.wanted; unbroken = front_empty (faults_in s h.wanted e) (mismatch s h.wanted (own_of s e) (start_of e)) h.unbroken }
 
 -- the value, where there is one, is of the subtype's type
@@ -81,7 +81,7 @@ single_truth words s t form =
     sym (words (shape_of s t) (Truth false) has).sized
 
 module _ (laws : ExpressionsAreTyped) (i : Sections) (v : Visible) (unit : Package) (t : Subtype) (e : ExprTree) (h : IsFit v.scope t e) where
-  pub is_a_number : form_at v.scope t.type_number ≡ Some Integers → IsNumber i (library_of unit) (Sees unit v) e
+  pub is_a_number : form_at v.scope t.type_number ≡ Some Integers → ComesToNumber i (library_of unit) (Sees unit v) e
   is_a_number form calls p view x sound sees is =
       as_number v.scope (Typed t.type_number) x (integral_numeric v.scope (Typed t.type_number) (ap is_integers form)) (ap (suits v.scope (Typed t.type_number)) (sym is) ∙ of_type laws v unit t e h calls p view sound sees)
 

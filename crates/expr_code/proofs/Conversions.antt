@@ -21,7 +21,7 @@ use Rattle.expr_rules.proofs.TypedLaw.{back_empty, front_empty, unbroken}
 use Rattle.well_typed.proofs.FixedNames.{same_form}
 use Rattle.well_typed.proofs.Expressions.{IsHere}
 use Rattle.expr_code.specs.Code.{here}
-use Rattle.expr_code.specs.Emitting.{EmitsChecked, EmitsExpression, IsFit, IsLegal}
+use Rattle.expr_code.specs.Emitting.{EmitsChecked, EmitsExpression, IsFit, IsLegalExpression}
 use Rattle.expr_code.specs.Seeing.{library_of, Sees}
 use Rattle.expr_code.specs.declared.code.Code.{Code}
 use Rattle.expr_code.specs.declared.visible.Visible.{Visible}
@@ -36,7 +36,7 @@ converts : (t : Subtype) (o : Option TypeForm) → is_doubtful (conversion_stand
 converts t (Some Integers) h = refl
 converts t o h = absurd cc
 
-module _ (s : Scope) (first : Identifier) (e : ExprTree) (t : Subtype) (stands : stands_first s (number_of s first.name) ≡ standing.Named t) (legal : IsLegal s (tree.Named first (with_argument e))) where
+module _ (s : Scope) (first : Identifier) (e : ExprTree) (t : Subtype) (stands : stands_first s (number_of s first.name) ≡ standing.Named t) (legal : IsLegalExpression s (tree.Named first (with_argument e))) where
   parts : selectors_faults s first.place (standing.Named t) (with_argument e) ≡ []
   parts =
       let hidden = rule NAME_NOT_VISIBLE first.place (not (is_visible s first.name)) in
@@ -60,7 +60,7 @@ module _ (s : Scope) (first : Identifier) (e : ExprTree) (t : Subtype) (stands :
         unbroken = ap (λ o. argument_faults s (conversion_slot o) (tree.Value e)) (sym integers) ∙ its;
       }
 
-module _ (quiet : QuietStays) (v : Visible) (old new : Code) (depth : ℕ) (first : Identifier) (e : ExprTree) (t : Subtype) (stands : stands_first v.scope (number_of v.scope first.name) ≡ standing.Named t) (legal : IsLegal v.scope (tree.Named first (with_argument e))) where
+module _ (quiet : QuietStays) (v : Visible) (old new : Code) (depth : ℕ) (first : Identifier) (e : ExprTree) (t : Subtype) (stands : stands_first v.scope (number_of v.scope first.name) ≡ standing.Named t) (legal : IsLegalExpression v.scope (tree.Named first (with_argument e))) where
   pub conversion_emits : EmitsChecked v old depth t e new → EmitsExpression v old depth 1 (tree.Named first (with_argument e)) new
   conversion_emits h = record {
     extends = h.extends;

@@ -8,7 +8,7 @@ use Rattle.image.specs.declared.instruction.Instr.{Instr}
 use Rattle.image.specs.declared.instruction.Operation.{Operation}
 use Rattle.image.specs.declared.subprograms.Subprogram.{Subprogram}
 use Rattle.expr_code.specs.Code.{Extends, Adds, here}
-use Rattle.expr_code.specs.Flows.{AreKept, Flows, Keeps}
+use Rattle.expr_code.specs.Flows.{AreKeptBetween, Flows, KeepsInstructionRules}
 use Rattle.expr_code.specs.declared.code.Code.{Code}
 use Rattle.expr_code.proofs.Growing.{added_here, added_there, holds_before, holds_later}
 
@@ -41,7 +41,7 @@ absent true b p = cc
 -- ---- one behind the other
 
 module _ (i : Sections) (s : Subprogram) where
-  pub widened : (from to low high one two depth : ℕ) → low ≤ from → to ≤ high → AreKept i s from to one two depth → AreKept i s low high one two depth
+  pub widened : (from to low high one two depth : ℕ) → low ≤ from → to ≤ high → AreKeptBetween i s from to one two depth → AreKeptBetween i s low high one two depth
   widened from to low high one two depth down up kept = record {
     begins = kept.begins;
     shallow = kept.shallow;
@@ -50,7 +50,7 @@ module _ (i : Sections) (s : Subprogram) where
         record { operands = it.operands; names = it.names; depth = it.depth; jumps = λ a target. let inside = it.jumps a target in (omega (arith, down, inside.0), omega (arith, up, inside.1)) };
   }
 
-  pub kept_then : (low high from mid to one two : ℕ) → AreKept i s low high from mid one → AreKept i s low high mid to two → AreKept i s low high from to one
+  pub kept_then : (low high from mid to one two : ℕ) → AreKeptBetween i s low high from mid one → AreKeptBetween i s low high mid to two → AreKeptBetween i s low high from to one
   kept_then low high from mid to one two first second = record {
     begins = first.begins;
     shallow = first.shallow;
@@ -64,7 +64,7 @@ module _ (i : Sections) (s : Subprogram) where
           by_test true e = inl (lt_of k n e)
           by_test false e = inr (le_of k n e)
 
-      by : (k : ℕ) (x : Instr) → from ≤ k → k < to → slice_get i.instructions k ≡ Some x → (k < mid) ⊎ (mid ≤ k) → Keeps i s low high k x
+      by : (k : ℕ) (x : Instr) → from ≤ k → k < to → slice_get i.instructions k ≡ Some x → (k < mid) ⊎ (mid ≤ k) → KeepsInstructionRules i s low high k x
       by k x le less is (inl small) = first.each k x le small is
       by k x le less is (inr large) = second.each k x large less is
 
@@ -102,14 +102,14 @@ module _ (i : Sections) (s : Subprogram) where
     target None e = refl
     target (Some a) e = ap (has_depth i a) leaves ∙ (jumps a e).2
 
-    pub kept_one : AreKept i s low high place (suc place) depth
+    pub kept_one : AreKeptBetween i s low high place (suc place) depth
     kept_one = record {
       begins = begins;
       shallow = shallow;
       each = λ k x le less is.
           let same = only k x le less is in
-          subst (λ n. Keeps i s low high n x) (sym same.0)
-          (subst (λ y. Keeps i s low high place y) (sym same.1)
+          subst (λ n. KeepsInstructionRules i s low high n x) (sym same.0)
+          (subst (λ y. KeepsInstructionRules i s low high place y) (sym same.1)
           (record {
             operands = operands;
             names = names;
@@ -160,7 +160,7 @@ module _ (Suits : Sections → Subprogram → Type 0) where
         (omega (arith, a.within, deep)) high c.operands (c.names i s suits) (c.takes i s suits) (c.leaves i s suits) c.is_none
         (λ e. ap (λ n. has_depth i n out) (sym end) ∙ ends)
         (λ n target. absurd (none_some n (sym c.stays ∙ target))) in
-        subst (λ n. AreKept i s (here old) (here new) (here old) n depth) (sym end) one;
+        subst (λ n. AreKeptBetween i s (here old) (here new) (here old) n depth) (sym end) one;
   }
     where
       none_some : (n : ℕ) → None ≡ Some n → ⊥

@@ -46,7 +46,7 @@ use Rattle.well_typed.proofs.Positions.{same_some}
 use Rattle.expr_code.specs.Views.{At}
 use Rattle.expr_code.specs.Code.{Adds, Extends, here, Holds}
 use Rattle.expr_code.specs.Computing.{Computes}
-use Rattle.expr_code.specs.Emitting.{EmitsChecked, EmitsExpression, IsFit, IsLegal}
+use Rattle.expr_code.specs.Emitting.{EmitsChecked, EmitsExpression, IsFit, IsLegalExpression}
 use Rattle.expr_code.specs.Flows.{Flows}
 use Rattle.expr_code.specs.Going.{AddsOffset, EmitsPath, IsLegalPart, IsLegalPath, path_size, selected, Selects}
 use Rattle.expr_code.specs.Locating.{IsPath, shape_in}
@@ -351,7 +351,7 @@ module _ (quiet : QuietStays) (laws : ExpressionsAreTyped) (v : Visible) (old mi
 
 -- ---- the whole
 
-pub whole_path : (s : Scope) (first : Identifier) (all : SelectorTrees) (r : Role) (t : Subtype) → IsLegal s (tree.Named first all) → stands_first s (number_of s first.name) ≡ standing.Part r t → IsLegalPath s t all
+pub whole_path : (s : Scope) (first : Identifier) (all : SelectorTrees) (r : Role) (t : Subtype) → IsLegalExpression s (tree.Named first all) → stands_first s (number_of s first.name) ≡ standing.Part r t → IsLegalPath s t all
 whole_path s first all r t legal stands =
     let hidden = rule NAME_NOT_VISIBLE first.place (not (is_visible s first.name)) in
     let parts = selectors_faults s first.place (stands_first s (number_of s first.name)) all in
@@ -375,7 +375,7 @@ path_counts [] = refl
 path_counts (x ∷ all) = let more = path_counts all in omega (arith, more)
 
 module _ (quiet : QuietStays) (sized : ValuesHaveWords) (places : PartsHavePlaces) (v : Visible) (old low mid new : Code) (depth one size : ℕ) (first : Identifier) (selectors : List Selector) (r : Role) (t last : Subtype)
-    (slot : Slot) (w : ℤ) (p : one ≡ depth + 1) (z : w ≡ pos slot.offset) (legal : IsLegal v.scope (tree.Named first (selector_trees selectors)))
+    (slot : Slot) (w : ℤ) (p : one ≡ depth + 1) (z : w ≡ pos slot.offset) (legal : IsLegalExpression v.scope (tree.Named first (selector_trees selectors)))
     (stands : stands_first v.scope (number_of v.scope first.name) ≡ standing.Part r t) (valueless : fixed_value (standing_of v.scope first (selector_trees selectors)) ≡ None)
     (there : slot_of v first.name ≡ Some slot) (parts : bare_name (tree.Named first (selector_trees selectors)) ≡ None) (many : words_of v.scope last ≡ size) (block : is_block size ≡ true) (ax : Adds old depth (op.Push w) low) (path : EmitsPath v low depth t (map selector_tree selectors) last mid)
     (ay : Adds mid one (op.LoadBlock slot.region size) new) where

@@ -21,15 +21,15 @@ use Rattle.base.specs.declared.faults.TheConstants.{NO_MEANING}
 use Rattle.well_typed.specs.Laws.{ExpressionsAreTyped}
 use Rattle.expr_code.specs.Computing.{IsTruth}
 use Rattle.expr_code.specs.Branches.{AreLegalBranches, Branch, branch_of, in_front}
-use Rattle.expr_code.specs.Emitting.{AreLegal, IsLegal}
+use Rattle.expr_code.specs.Emitting.{AreLegalOperands, IsLegalExpression}
 use Rattle.expr_code.specs.Seeing.{library_of, Package, Sees}
 use Rattle.expr_code.specs.declared.visible.Visible.{Visible}
 
 module _ (s : Scope) where
-  pub legal_operand : (o : UnaryOperator) (place : _) (e : ExprTree) → IsLegal s (tree.Unary o place e) → IsLegal s e
+  pub legal_operand : (o : UnaryOperator) (place : _) (e : ExprTree) → IsLegalExpression s (tree.Unary o place e) → IsLegalExpression s e
   legal_operand o place e h = record { wanted = below o h.wanted; unbroken = front_empty (faults_in s (below o h.wanted) e) (unary_rule s o place (own_of s e)) h.unbroken }
 
-  module _ (o : BinaryOperator) (a b : ExprTree) (h : IsLegal s (tree.Binary o a b)) where
+  module _ (o : BinaryOperator) (a b : ExprTree) (h : IsLegalExpression s (tree.Binary o a b)) where
     abbrev in_left : Faults
     in_left = faults_in s (beside s o (own_of s b)) a
 
@@ -39,16 +39,16 @@ module _ (s : Scope) where
     abbrev of_both : Faults
     of_both = binary_rule s o (start_of a) (own_of s a) (own_of s b)
 
-    pub legal_left : IsLegal s a
+    pub legal_left : IsLegalExpression s a
     legal_left = record { wanted = beside s o (own_of s b); unbroken = front_empty in_left in_right (front_empty (in_left ++ in_right) of_both h.unbroken) }
 
-    pub legal_right : IsLegal s b
+    pub legal_right : IsLegalExpression s b
     legal_right = record { wanted = beside s o (own_of s a); unbroken = back_empty in_left in_right (front_empty (in_left ++ in_right) of_both h.unbroken) }
 
     legal_rule : of_both ≡ []
     legal_rule = back_empty (in_left ++ in_right) of_both h.unbroken
 
-  pub legal_chain : (left : ExprTree) (all : List Operand) → IsLegal s (chain_tree left all) → IsLegal s left × AreLegal s all
+  pub legal_chain : (left : ExprTree) (all : List Operand) → IsLegalExpression s (chain_tree left all) → IsLegalExpression s left × AreLegalOperands s all
   legal_chain left [] h = (h, tt)
   legal_chain left (o ∷ all) h =
       let whole = tree.Binary o.operator left (expr_tree o.value) in
@@ -71,12 +71,12 @@ module _ (s : Scope) where
 
   -- the parts of an if expression
   pub record PartsAreLegal (c v : ExprTree) (all : List Branch) (l : ExprTree) : Type 0 where
-    pub condition : IsLegal s c
-    pub value : IsLegal s v
+    pub condition : IsLegalExpression s c
+    pub value : IsLegalExpression s v
     pub elsifs : AreLegalBranches s all
-    pub last : IsLegal s l
+    pub last : IsLegalExpression s l
 
-  pub legal_parts : (place : ℕ) (condition value : ExprTree) (all : List Branch) (last : ExprTree) → IsLegal s (tree.Conditional place condition value (in_front all NoElsifValues) last) → PartsAreLegal condition value all last
+  pub legal_parts : (place : ℕ) (condition value : ExprTree) (all : List Branch) (last : ExprTree) → IsLegalExpression s (tree.Conditional place condition value (in_front all NoElsifValues) last) → PartsAreLegal condition value all last
   legal_parts place condition value all last h =
       let w = conditional_wanted s h.wanted value (in_front all NoElsifValues) last in
       let c = faults_of s boolean_wanted condition in
@@ -93,9 +93,9 @@ module _ (s : Scope) where
       }
 
   -- a branch at a place
-  pub legal_branch : (all : List ElsifValue) (n : ℕ) (x : ElsifValue) → n < length all → x ≡ get_or all n x → AreLegalBranches s (map branch_of all) → IsLegal s (expr_tree x.condition) × IsLegal s (expr_tree x.value)
+  pub legal_branch : (all : List ElsifValue) (n : ℕ) (x : ElsifValue) → n < length all → x ≡ get_or all n x → AreLegalBranches s (map branch_of all) → IsLegalExpression s (expr_tree x.condition) × IsLegalExpression s (expr_tree x.value)
   legal_branch [] n x less is h = absurd (omega (arith, less))
-  legal_branch (e ∷ all) zero x less is h = (subst (λ y. IsLegal s (expr_tree y.condition)) (sym is) h.0, subst (λ y. IsLegal s (expr_tree y.value)) (sym is) h.1)
+  legal_branch (e ∷ all) zero x less is h = (subst (λ y. IsLegalExpression s (expr_tree y.condition)) (sym is) h.0, subst (λ y. IsLegalExpression s (expr_tree y.value)) (sym is) h.1)
   legal_branch (e ∷ all) (suc n) x less is h = legal_branch all n x (omega (arith, less)) is h.2
 
 -- the trees of all branches
@@ -108,7 +108,7 @@ chosen true x y e h = h
 chosen false x y e h = absurd cc
 
 -- the left operand of a logical operator is a truth value wherever it has a value
-pub left_truth : ExpressionsAreTyped → (i : Sections) (v : Visible) (unit : Package) (o : BinaryOperator) (a b : ExprTree) → is_logical o ≡ true → IsLegal v.scope (tree.Binary o a b) → IsTruth i (library_of unit) (Sees unit v) a
+pub left_truth : ExpressionsAreTyped → (i : Sections) (v : Visible) (unit : Package) (o : BinaryOperator) (a b : ExprTree) → is_logical o ≡ true → IsLegalExpression v.scope (tree.Binary o a b) → IsTruth i (library_of unit) (Sees unit v) a
 left_truth laws i v unit o a b logical h calls p view x sound sees e =
     let s = v.scope in
     let left = legal_left s o a b h in

@@ -28,7 +28,7 @@ use Rattle.well_typed.proofs.Denoting.{empty_ends, is_empty}
 use Rattle.well_typed.proofs.Expressions.{not_false}
 use Rattle.well_typed.proofs.Goods.{Good, GoodCallee, good_first, good_select, part_unbroken}
 use Rattle.well_typed.proofs.Positions.{named, same_some}
-use Rattle.expr_code.specs.Emitting.{IsLegal}
+use Rattle.expr_code.specs.Emitting.{IsLegalExpression}
 use Rattle.expr_code.specs.Going.{IsLegalPart}
 use Rattle.expr_code.specs.Refusing.{is_made, selectors_outside}
 use Rattle.expr_code.specs.Seeing.{NamesProfile}
@@ -52,7 +52,7 @@ counts_one all h = sym (counted all) ∙ same_number (count (argument_trees all)
 
 -- ---- legal names
 
-module _ (s : Scope) (first : Identifier) (selectors : SelectorTrees) (legal : IsLegal s (tree.Named first selectors)) where
+module _ (s : Scope) (first : Identifier) (selectors : SelectorTrees) (legal : IsLegalExpression s (tree.Named first selectors)) where
   abbrev begins : Standing
   begins = stands_first s (number_of s first.name)
 
@@ -130,7 +130,7 @@ module _ (s : Scope) (first : Identifier) (selectors : SelectorTrees) (legal : I
       begins_otherwise v standing.Doubtful is part type callee = absurd (nothing_else standing.Doubtful is refl)
 
 -- a type is no value
-pub no_type_alone : (s : Scope) (first : Identifier) (t : Subtype) → IsLegal s (tree.Named first NoSelectors)
+pub no_type_alone : (s : Scope) (first : Identifier) (t : Subtype) → IsLegalExpression s (tree.Named first NoSelectors)
     → stands_first s (number_of s first.name) ≡ standing.Named t → ⊥
 no_type_alone s first t legal is = let h = end_unbroken s first NoSelectors legal (standing.Named t) is in cc
 
@@ -214,7 +214,7 @@ module _ (s : Scope) (sound : SoundScope s) where
 
 module _ (s : Scope) (sound : SoundScope s) (first : Identifier) where
   pub called_once : (all : List Selector) (f : Callee) → stands_first s (number_of s first.name) ≡ standing.Callee f
-      → IsLegal s (tree.Named first (selector_trees all)) → 2 ≤ length all → ⊥
+      → IsLegalExpression s (tree.Named first (selector_trees all)) → 2 ≤ length all → ⊥
   called_once all f stands legal long =
       elim (call_shape s sound first.place f (good_begin s first (selector_trees all) legal sound (standing.Callee f) stands) (selector_trees all)
       (parts_unbroken s first (selector_trees all) legal (standing.Callee f) stands)) [
@@ -223,7 +223,7 @@ module _ (s : Scope) (sound : SoundScope s) (first : Identifier) where
       ]
 
   pub converted_once : (v : Visible) (all : List Selector) (t : Subtype) → stands_first s (number_of s first.name) ≡ standing.Named t
-      → IsLegal s (tree.Named first (selector_trees all)) → 2 ≤ length all → selectors_outside v (selector_trees all) ≡ true
+      → IsLegalExpression s (tree.Named first (selector_trees all)) → 2 ≤ length all → selectors_outside v (selector_trees all) ≡ true
   converted_once v all t stands legal long =
       elim (conversion_shape s sound first.place t v (selector_trees all) (parts_unbroken s first (selector_trees all) legal (standing.Named t) stands)
       (end_unbroken s first (selector_trees all) legal (standing.Named t) stands)) [
@@ -232,7 +232,7 @@ module _ (s : Scope) (sound : SoundScope s) (first : Identifier) where
       ]
 
   pub one_converted : (all : List Argument) (t : Subtype) → stands_first s (number_of s first.name) ≡ standing.Named t
-      → IsLegal s (tree.Named first (MoreSelectors (Arguments (argument_trees all)) NoSelectors)) → 2 ≤ length all → ⊥
+      → IsLegalExpression s (tree.Named first (MoreSelectors (Arguments (argument_trees all)) NoSelectors)) → 2 ≤ length all → ⊥
   one_converted all t stands legal long =
       let one = converts_one s sound first.place t all
       (parts_unbroken s first (MoreSelectors (Arguments (argument_trees all)) NoSelectors) legal (standing.Named t) stands) in

@@ -37,7 +37,7 @@ use Rattle.meaning.specs.MeetingLaws.{takes_more}
 use Rattle.meaning.specs.SameMeaning.{frames_of}
 use Rattle.expr_code.specs.Views.{At, frames_above, in_frame, placed, Sight, view_of}
 use Rattle.expr_code.specs.Coming.{Comes, most_steps, on}
-use Rattle.expr_code.specs.Computing.{Answers, ComputesChecked, IsNumber, Library}
+use Rattle.expr_code.specs.Computing.{Answers, ComputesChecked, ComesToNumber, Library}
 use Rattle.expr_code.specs.Locating.{Finds, shape_in}
 use Rattle.expr_code.specs.Naming.{Lies}
 use Rattle.expr_code.proofs.Coming.{acts, after_first, steps, pushes}
@@ -285,7 +285,7 @@ module _ (quiet : QuietStays) (sized : ValuesHaveWords) (places : PartsHavePlace
   pub finds_element : (from mid : ℕ) (e : ExprTree) (s index element : Subtype) (many : ℕ) (x : Shape)
       → from ≤ mid
       → ComputesChecked i library sight from mid index e
-      → IsNumber i library sight e
+      → ComesToNumber i library sight e
       → At i mid (op.Push index.first) → At i (mid + 1) op.Subtract → At i (mid + 2) (op.Push (pos (words x))) → At i (mid + 3) op.Multiply → At i (mid + 4) op.Add
       → (calls : Calls) (left : ℕ)
       → Answers i library calls left

@@ -37,7 +37,7 @@ use Rattle.well_typed.proofs.Expressions.{first_here, IsHere, IsNone, not_false}
 use Rattle.expr_code.specs.Views.{At}
 use Rattle.expr_code.specs.Code.{Adds, here}
 use Rattle.expr_code.specs.Computing.{Computes}
-use Rattle.expr_code.specs.Emitting.{EmitsExpression, IsLegal}
+use Rattle.expr_code.specs.Emitting.{EmitsExpression, IsLegalExpression}
 use Rattle.expr_code.specs.Naming.{IsFixed, IsStored, Lies, load_operation, scalar_word}
 use Rattle.expr_code.specs.Seeing.{library_of, Package, Sees, slot_of, Suits}
 use Rattle.expr_code.specs.declared.code.Code.{Code}
@@ -57,7 +57,7 @@ pub one_word : (n : ℕ) → capped n ≡ 1 → n ≡ 1
 one_word n e = omega (arith, e)
 
 -- a legal name has the same value by types and constants at each place that agrees, and means there what it stands for
-pub legal_here : (s : Scope) (p : Place) → Agrees s p → (first : Identifier) (selectors : SelectorTrees) → IsLegal s (tree.Named first selectors) → IsHere s p first.name selectors (stands_first s (number_of s first.name))
+pub legal_here : (s : Scope) (p : Place) → Agrees s p → (first : Identifier) (selectors : SelectorTrees) → IsLegalExpression s (tree.Named first selectors) → IsHere s p first.name selectors (stands_first s (number_of s first.name))
 legal_here s p agrees first selectors h =
     let hidden = rule NAME_NOT_VISIBLE first.place (not (is_visible s first.name)) in
     let parts = selectors_faults s first.place (stands_first s (number_of s first.name)) selectors in
@@ -79,7 +79,7 @@ legal_here s p agrees first selectors h =
 
 module _ (quiet : QuietStays) (v : Visible) (old new : Code) (depth : ℕ) (first : Identifier) where
   -- ---- a value that is known
-  pub fixed_emits : (selectors : SelectorTrees) (w : ℤ) (value : Scalar) → w ≡ scalar_word value → IsLegal v.scope (tree.Named first selectors) → fixed_value (standing_of v.scope first selectors) ≡ Some value
+  pub fixed_emits : (selectors : SelectorTrees) (w : ℤ) (value : Scalar) → w ≡ scalar_word value → IsLegalExpression v.scope (tree.Named first selectors) → fixed_value (standing_of v.scope first selectors) ≡ Some value
       → Adds old depth (op.Push w) new → EmitsExpression v old depth 1 (tree.Named first selectors) new
   fixed_emits selectors w value same legal is given =
       let a = subst (λ y. Adds old depth (op.Push y) new) same given in
@@ -96,7 +96,7 @@ module _ (quiet : QuietStays) (v : Visible) (old new : Code) (depth : ℕ) (firs
       }
 
   -- ---- an object
-  module _ (laws : ValuesHaveWords) (r : Role) (t : Subtype) (slot : Slot) (legal : IsLegal v.scope (tree.Named first NoSelectors)) (stands : stands_first v.scope (number_of v.scope first.name) ≡ standing.Part r t)
+  module _ (laws : ValuesHaveWords) (r : Role) (t : Subtype) (slot : Slot) (legal : IsLegalExpression v.scope (tree.Named first NoSelectors)) (stands : stands_first v.scope (number_of v.scope first.name) ≡ standing.Part r t)
       (there : slot_of v first.name ≡ Some slot) where
     stored : (size : ℕ) → words_of v.scope t ≡ size → (unit : Package) → IsStored (library_of unit) (Sees unit v) (tree.Named first NoSelectors) slot.region slot.offset size
     stored size many unit calls p view sound sees = by_part known.denotes

@@ -35,7 +35,7 @@ use Rattle.types.specs.Evaluating.{Calls, actuals_with, applied, channels, ended
 use Rattle.meaning.specs.SameMeaning.{frames_of}
 use Rattle.expr_code.specs.Views.{At, in_frame, placed, Sight, View, view_of}
 use Rattle.expr_code.specs.Coming.{Comes, most_steps, on}
-use Rattle.expr_code.specs.Computing.{Computes, ComputesChecked, IsNumber, Library}
+use Rattle.expr_code.specs.Computing.{Computes, ComputesChecked, ComesToNumber, Library}
 use Rattle.expr_code.specs.Naming.{IsFixed, IsStored, Lies, NamesMeaning, SeesTime, load_operation, scalar_word}
 use Rattle.expr_code.proofs.Coming.{acts, steps, more, after_first, then_comes, by_result, pushes}
 use Rattle.expr_code.proofs.Expressions.{and_then_again, unchanged}
@@ -256,7 +256,7 @@ module _ (quiet : QuietStays) (i : Sections) where
         times schedule k t m calm f fs place here p base a = tt
 
     -- `Read (N)`: the number, which the instruction checks
-    pub computes_read : (from mid : ℕ) (first : Identifier) (e : ExprTree) → NamesMeaning sight first (with_argument e) (IsPredefined predefined.Read) → SeesTime sight → IsNumber i library sight e → from ≤ mid
+    pub computes_read : (from mid : ℕ) (first : Identifier) (e : ExprTree) → NamesMeaning sight first (with_argument e) (IsPredefined predefined.Read) → SeesTime sight → ComesToNumber i library sight e → from ≤ mid
         → Computes i library sight from mid e → At i mid op.ReadInput
         → Computes i library sight from (suc mid) (tree.Named first (with_argument e))
     computes_read from mid first e names time number le inner here calls left answers schedule k t m f fs p base calm sees is =

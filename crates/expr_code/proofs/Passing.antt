@@ -24,7 +24,7 @@ use Rattle.types.specs.Evaluating.{Calls, actuals_with, fixed_name, formal_subty
 use Rattle.expr_code.specs.Views.{At, placed, Sight, view_of}
 use Rattle.expr_code.specs.Coming.{all_on, all_words, Comes, on}
 use Rattle.expr_code.specs.OperatorCode.{IsWordOf}
-use Rattle.expr_code.specs.Computing.{AlwaysPasses, ArePassedWell, Checks, Computes, ComputesAll, ComputesChecked, IsNumber, Library, AlwaysNames}
+use Rattle.expr_code.specs.Computing.{AlwaysPasses, ArePassedWell, Checks, Computes, ComputesAll, ComputesChecked, ComesToNumber, Library, AlwaysNames}
 use Rattle.expr_code.proofs.Coming.{acts, more, after_first, then_comes, by_result, pushes}
 
 -- a check's word, whichever way it goes
@@ -92,7 +92,7 @@ module _ (quiet : QuietStays) (i : Sections) where
     onto from n to base v Meaningless h = tt
 
   module _ (library : Library) (sight : Sight) where
-    pub computes_checked : (from mid : ℕ) (s : Subtype) (e : ExprTree) → from ≤ mid → Computes i library sight from mid e → IsNumber i library sight e → Checks i library mid s → ComputesChecked i library sight from (mid + 3) s e
+    pub computes_checked : (from mid : ℕ) (s : Subtype) (e : ExprTree) → from ≤ mid → Computes i library sight from mid e → ComesToNumber i library sight e → Checks i library mid s → ComputesChecked i library sight from (mid + 3) s e
     computes_checked from mid s e le inner number check calls left answers schedule k t m f fs p base calm sees is =
         more quiet i schedule k t m calm (placed f from base) fs ((mid - from) + 3) ((mid + 3) - from) (mid + 3) (on base) (and_then (value_with calls p e) (passed s)) (omega (arith, le))
         (then_comes quiet i schedule k t m calm (placed f from base) fs (mid - from) 3 mid (mid + 3) (on base) (on base) (value_with calls p e) (passed s) le (omega arith)

@@ -34,7 +34,7 @@ use Rattle.meaning.specs.SameMeaning.{frames_of}
 use Rattle.image.specs.Frames.{words_at}
 use Rattle.expr_code.specs.Views.{At, frames_above, in_frame, placed, Sight, View, view_of}
 use Rattle.expr_code.specs.Coming.{Comes, most_steps, on}
-use Rattle.expr_code.specs.Computing.{Answers, Computes, ComputesChecked, IsNumber, Library}
+use Rattle.expr_code.specs.Computing.{Answers, Computes, ComputesChecked, ComesToNumber, Library}
 use Rattle.expr_code.specs.Locating.{Finds, shape_in}
 use Rattle.expr_code.specs.Naming.{Lies}
 use Rattle.expr_code.proofs.Coming.{acts, after_first, steps, pushes}
@@ -105,7 +105,7 @@ module _ (quiet : QuietStays) (sized : ValuesHaveWords) (places : PartsHavePlace
 
     along_index : (e : ExprTree) (rest : SelectorTrees) (from mid to : ℕ) (s last index element : Subtype) (many : ℕ) (x inner end : Shape)
         → form_at p.scope s.type_number ≡ Some (Arrays index many element) → x ≡ Repeated many inner → many ≤ 65536 → from ≤ mid
-        → ComputesChecked i library sight from mid index e → IsNumber i library sight e
+        → ComputesChecked i library sight from mid index e → ComesToNumber i library sight e
         → At i mid (op.Push index.first) → At i (mid + 1) op.Subtract → At i (mid + 2) (op.Push (pos (words inner))) → At i (mid + 3) op.Multiply → At i (mid + 4) op.Add → mid + 5 ≤ to
         → ((v : Value) (address : ℕ) → Lies (region_words i region m f) address v → has_shape inner v ≡ true → At_part (mid + 5) to last end address (located calls p (IsObject element v) rest))
         → (v : Value) (address : ℕ) → Lies (region_words i region m f) address v → has_shape x v ≡ true

@@ -16,8 +16,8 @@ use Rattle.expr_code.specs.Views.{At}
 use Rattle.expr_code.specs.Code.{Adds, Extends, here, Holds, Patches}
 use Rattle.expr_code.specs.Computing.{Computes}
 use Rattle.well_typed.specs.Laws.{ExpressionsAreTyped}
-use Rattle.expr_code.specs.Emitting.{EmitsExpression, IsLegal}
-use Rattle.expr_code.specs.Flows.{AreKept, Flows}
+use Rattle.expr_code.specs.Emitting.{EmitsExpression, IsLegalExpression}
+use Rattle.expr_code.specs.Flows.{AreKeptBetween, Flows}
 use Rattle.expr_code.specs.Seeing.{library_of, Package, Sees, Suits}
 use Rattle.expr_code.specs.declared.code.Code.{Code}
 use Rattle.expr_code.specs.declared.visible.Visible.{Visible}
@@ -115,12 +115,12 @@ module _ (v : Visible) (old copied jumped dropped done new : Code) (depth : ℕ)
           (λ a e. let to = j.target a e in (omega (arith, to, one, two, three, right.extends.longer, end), omega (arith, to), ap (λ n. has_depth i n (depth + 1)) to ∙ ends)) in
           let copying = kept_one i s (here old) (here new) (here old) (depth + 1) (depth + 1 + 1) op.Duplicate (copy_there i (here old) (omega arith) h)
           high stack refl refl (omega arith) (omega arith) refl (λ e. ap (λ n. has_depth i n (depth + 1 + 1)) (sym one) ∙ jumping.begins) (λ a e. absurd (none_some a e)) in
-          let last = subst (λ n. AreKept i s (here old) (here new) (here jumped) n (depth + 1)) (sym three) dropping in
+          let last = subst (λ n. AreKeptBetween i s (here old) (here new) (here jumped) n (depth + 1)) (sym three) dropping in
           let tail = kept_then i s (here old) (here new) (here jumped) (here dropped) (here done) (depth + 1) depth last wide in
-          let middle = subst (λ n. AreKept i s (here old) (here new) (here copied) n (depth + 1 + 1)) (sym two) jumping in
+          let middle = subst (λ n. AreKeptBetween i s (here old) (here new) (here copied) n (depth + 1 + 1)) (sym two) jumping in
           let more = kept_then i s (here old) (here new) (here copied) (here jumped) (here done) (depth + 1 + 1) (depth + 1) middle tail in
-          let first = subst (λ n. AreKept i s (here old) (here new) (here old) n (depth + 1)) (sym one) copying in
-          subst (λ n. AreKept i s (here old) (here new) (here old) n (depth + 1)) (sym end)
+          let first = subst (λ n. AreKeptBetween i s (here old) (here new) (here old) n (depth + 1)) (sym one) copying in
+          subst (λ n. AreKeptBetween i s (here old) (here new) (here old) n (depth + 1)) (sym end)
           (kept_then i s (here old) (here new) (here old) (here copied) (here done) (depth + 1) (depth + 1 + 1) first more);
     }
       where
@@ -167,7 +167,7 @@ module _ (quiet : QuietStays) (laws : ExpressionsAreTyped) (v : Visible) (start 
       let three = added_here jumped dropped (depth + 1) op.Drop drop in
       omega (arith, one, two, three, right.extends.longer, patched_here done new (here copied) y patch)
 
-  pub and_then_emits : IsLegal v.scope (tree.Binary binary.AndThen a b) → Patches done (here copied) (op.JumpIfZero n) new → EmitsExpression v start depth 1 (tree.Binary binary.AndThen a b) new
+  pub and_then_emits : IsLegalExpression v.scope (tree.Binary binary.AndThen a b) → Patches done (here copied) (op.JumpIfZero n) new → EmitsExpression v start depth 1 (tree.Binary binary.AndThen a b) new
   and_then_emits legal patch =
       let to = ends (op.JumpIfZero n) patch in
       short_emits v old copied jumped dropped done new depth x (op.JumpIfZero n) b copy jump drop right patch
@@ -176,7 +176,7 @@ module _ (quiet : QuietStays) (laws : ExpressionsAreTyped) (v : Visible) (start 
       computes_and_then quiet i (library_of unit) (Sees unit v) (here start) (here old) (here new) a b left.extends.longer (long (op.JumpIfZero n) patch) first
       (left_truth laws i v unit binary.AndThen a b refl legal) at_copy (subst (λ m. At i (here old + 1) (op.JumpIfZero m)) to at_jump) at_drop second)
 
-  pub or_else_emits : IsLegal v.scope (tree.Binary binary.OrElse a b) → Patches done (here copied) (op.JumpIfNotZero n) new → EmitsExpression v start depth 1 (tree.Binary binary.OrElse a b) new
+  pub or_else_emits : IsLegalExpression v.scope (tree.Binary binary.OrElse a b) → Patches done (here copied) (op.JumpIfNotZero n) new → EmitsExpression v start depth 1 (tree.Binary binary.OrElse a b) new
   or_else_emits legal patch =
       let to = ends (op.JumpIfNotZero n) patch in
       short_emits v old copied jumped dropped done new depth x (op.JumpIfNotZero n) b copy jump drop right patch

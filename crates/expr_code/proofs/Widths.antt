@@ -41,7 +41,7 @@ use Rattle.well_typed.proofs.Goods.{Good, fixed_suits, good_all, good_first, kno
 use Rattle.well_typed.proofs.Positions.{named}
 use Rattle.expr_rules.specs.Laws.{is_value_of}
 use Rattle.expr_code.specs.Branches.{Branch, branch_of, in_front}
-use Rattle.expr_code.specs.Emitting.{IsFit, IsLegal, WantedFits}
+use Rattle.expr_code.specs.Emitting.{IsFit, IsLegalExpression, WantedFits}
 use Rattle.expr_code.specs.Seeing.{NamesProfile}
 use Rattle.expr_code.specs.Widths.{AreSingle, AreWide, own_words, width_of}
 use Rattle.expr_code.proofs.Conversions.{integers, with_argument}
@@ -447,7 +447,7 @@ module _ (s : Scope) where
 
     -- ---- operators and their operands
 
-    pub binary_width : (o : BinaryOperator) (a b : ExprTree) → IsLegal s (tree.Binary o a b) → AllOne (own_of s a) (own_of s b) (own_of s (tree.Binary o a b))
+    pub binary_width : (o : BinaryOperator) (a b : ExprTree) → IsLegalExpression s (tree.Binary o a b) → AllOne (own_of s a) (own_of s b) (own_of s (tree.Binary o a b))
     binary_width o a b h =
         let wa = beside s o (own_of s b) in
         let wb = beside s o (own_of s a) in
@@ -457,7 +457,7 @@ module _ (s : Scope) where
         let right = known b wb (back_empty (faults_in s wa a) (faults_in s wb b) two) in
         binary_one o (own_of s a) (own_of s b) (has_of o a b left right (back_empty (faults_in s wa a ++ faults_in s wb b) broken h.unbroken))
 
-    pub unary_width : (o : UnaryOperator) (place : ℕ) (e : ExprTree) → IsLegal s (tree.Unary o place e) → OneEach (own_of s e) (own_of s (tree.Unary o place e))
+    pub unary_width : (o : UnaryOperator) (place : ℕ) (e : ExprTree) → IsLegalExpression s (tree.Unary o place e) → OneEach (own_of s e) (own_of s (tree.Unary o place e))
     unary_width o place e h =
         let inside = faults_in s (below o h.wanted) e in
         let broken = unary_rule s o place (own_of s e) in
@@ -469,7 +469,7 @@ module _ (s : Scope) where
       pub others : AreSingle s all
       pub whole : width_of s (chain_tree left all) ≡ 1
 
-    pub chain_single : (left : ExprTree) (o : Operand) (all : List Operand) → IsLegal s (chain_tree left (o ∷ all)) → ChainIsSingle left (o ∷ all)
+    pub chain_single : (left : ExprTree) (o : Operand) (all : List Operand) → IsLegalExpression s (chain_tree left (o ∷ all)) → ChainIsSingle left (o ∷ all)
     chain_single left o [] h = let it = binary_width o.operator left (expr_tree o.value) h in record
         { first = it.left; others = (it.right, tt); whole = it.both }
     chain_single left o (p ∷ all) h =
@@ -479,8 +479,8 @@ module _ (s : Scope) where
         record { first = it.left; others = (it.right, more.others); whole = more.whole }
 
     pub chain_words : (e left : ExprTree) (o : Operand) (all : List Operand) → e ≡ chain_tree (tree.Binary o.operator left (expr_tree o.value)) all
-        → IsLegal s e → ChainIsSingle left (o ∷ all)
-    chain_words e left o all same h = chain_single left o all (subst (IsLegal s) same h)
+        → IsLegalExpression s e → ChainIsSingle left (o ∷ all)
+    chain_words e left o all same h = chain_single left o all (subst (IsLegalExpression s) same h)
 
     -- ---- the parts of if expressions
 
@@ -507,7 +507,7 @@ module _ (s : Scope) where
       pub whole : width_of s v ≡ width_of s e
 
     pub conditional_wide : (place : ℕ) (condition value : ExprTree) (all : List Branch) (last : ExprTree)
-        → IsLegal s (tree.Conditional place condition value (in_front all NoElsifValues) last)
+        → IsLegalExpression s (tree.Conditional place condition value (in_front all NoElsifValues) last)
         → PartsAreWide condition value all last (tree.Conditional place condition value (in_front all NoElsifValues) last)
     conditional_wide place condition value all last h =
         let elsifs = in_front all NoElsifValues in
@@ -534,12 +534,12 @@ module _ (s : Scope) where
 
     pub conditional_words : (e : ExprTree) (place : ℕ) (condition value : ExprTree) (elsifs : List ElsifValue) (last : ExprTree)
         → e ≡ tree.Conditional place condition value (elsif_value_trees elsifs) last
-        → IsLegal s e → PartsAreWide condition value (map branch_of elsifs) last e
+        → IsLegalExpression s e → PartsAreWide condition value (map branch_of elsifs) last e
     conditional_words e place condition value elsifs last is h =
         let same : e ≡ tree.Conditional place condition value (in_front (map branch_of elsifs) NoElsifValues) last = is ∙ ap
         (λ t. tree.Conditional place condition value t last) (sym (branches_are elsifs)) in
         subst (λ x. PartsAreWide condition value (map branch_of elsifs) last x) (sym same)
-        (conditional_wide place condition value (map branch_of elsifs) last (subst (IsLegal s) same h))
+        (conditional_wide place condition value (map branch_of elsifs) last (subst (IsLegalExpression s) same h))
 
     -- a condition, wherever one is wanted
     pub condition_width : (e : ExprTree) → faults_of s boolean_wanted e ≡ [] → width_of s e ≡ 1
@@ -589,7 +589,7 @@ module _ (s : Scope) where
     value_one (Typed n) (scalar.Number z) h = number_words (shape_of s (base_range_of n)) z h
     value_one (Typed n) (scalar.Truth b) h = truth_words (shape_of s (base_range_of n)) b h
 
-    pub fixed_width : (first : Identifier) (selectors : SelectorTrees) (v : Scalar) → IsLegal s (tree.Named first selectors)
+    pub fixed_width : (first : Identifier) (selectors : SelectorTrees) (v : Scalar) → IsLegalExpression s (tree.Named first selectors)
         → fixed_value (standing_of s first selectors) ≡ Some v
         → width_of s (tree.Named first selectors) ≡ 1
     fixed_width first selectors v h fixed =
@@ -621,7 +621,7 @@ module _ (s : Scope) where
         (λ u. own_words s (own_of_standing u)) ends ∙ words_by_type s last
 
     pub conversion_width : (e : ExprTree) (t : Subtype) → stands_first s (number_of s first.name) ≡ standing.Named t
-        → IsLegal s (tree.Named first (with_argument e)) → width_of s (tree.Named first (with_argument e)) ≡ 1
+        → IsLegalExpression s (tree.Named first (with_argument e)) → width_of s (tree.Named first (with_argument e)) ≡ 1
     conversion_width e t stands legal =
         let form = integers s first e t stands legal in
         ap (λ u. own_words s (own_of_standing (select_all s u (with_argument e)))) stands

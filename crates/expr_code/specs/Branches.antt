@@ -12,8 +12,8 @@ use Rattle.types.specs.Scopes.{Scope}
 use Rattle.types.specs.Places.{is_among}
 use Rattle.expr_code.specs.Code.{Adds, here, Extends, Patches}
 use Rattle.expr_code.specs.Computing.{ComputesElse}
-use Rattle.expr_code.specs.Emitting.{IsLegal}
-use Rattle.expr_code.specs.Flows.{AreKept}
+use Rattle.expr_code.specs.Emitting.{IsLegalExpression}
+use Rattle.expr_code.specs.Flows.{AreKeptBetween}
 use Rattle.expr_code.specs.Seeing.{library_of, Package, Sees, Suits}
 use Rattle.expr_code.specs.declared.code.Code.{Code}
 use Rattle.expr_code.specs.declared.visible.Visible.{Visible}
@@ -28,7 +28,7 @@ branch_of e = record { condition = expr_tree e.condition; value = expr_tree e.va
 
 abbrev pub AreLegalBranches : Scope → List Branch → Type 0
 AreLegalBranches s [] = ⊤
-AreLegalBranches s (b ∷ all) = IsLegal s b.condition × IsLegal s b.value × AreLegalBranches s all
+AreLegalBranches s (b ∷ all) = IsLegalExpression s b.condition × IsLegalExpression s b.value × AreLegalBranches s all
 
 -- these branches in front of others
 abbrev pub in_front : List Branch → ElsifValueTrees → ElsifValueTrees
@@ -56,7 +56,7 @@ pub record EmitsBranches (v : Visible) (old : Code) (depth width : ℕ) (all : L
       → ComputesElse i (library_of g) (Sees g v) (here new) end rest e
       → ComputesElse i (library_of g) (Sees g v) (here old) end (in_front all rest) e
   pub flows : (i : Sections) (s : Subprogram) (end : ℕ) → here new ≤ end → Joins i (here old) waiting end (depth + width) new → Suits v i s → new.deepest ≤ s.stack → depth + width ≤ s.stack
-      → has_depth i end (depth + width) ≡ true → has_depth i (here new) depth ≡ true → AreKept i s (here old) end (here old) (here new) depth
+      → has_depth i end (depth + width) ≡ true → has_depth i (here new) depth ≡ true → AreKeptBetween i s (here old) end (here old) (here new) depth
 
 -- the jumps at these places lead to `end`, and nothing else changes
 pub record Rejoins (old : Code) (places : List ℕ) (end : ℕ) (new : Code) : Type 0 where

@@ -101,8 +101,8 @@ module _ (i : Sections) (library : Library) where
   ComputesChecked sight from to t e = Everywhere sight from to on (λ calls p. and_then (value_with calls p e) (passed t))
 
   -- wherever the expression has a value, it is a number; or it lies in the subtype, and no check is needed
-  abbrev pub IsNumber : Sight → ExprTree → Type 0
-  IsNumber sight e = (calls : Calls) (p : Place) (view : View) (v : Value) → library.sound calls → sight p view → value_with calls p e ≡ Gives v → (z : ℤ) × (v ≡ Number z)
+  abbrev pub ComesToNumber : Sight → ExprTree → Type 0
+  ComesToNumber sight e = (calls : Calls) (p : Place) (view : View) (v : Value) → library.sound calls → sight p view → value_with calls p e ≡ Gives v → (z : ℤ) × (v ≡ Number z)
 
   abbrev pub AlwaysPasses : Sight → Subtype → ExprTree → Type 0
   AlwaysPasses sight t e = (calls : Calls) (p : Place) (view : View) (v : Value) → library.sound calls → sight p view → value_with calls p e ≡ Gives v → passed t v ≡ Gives v

@@ -33,7 +33,7 @@ is_composite (Some (Records components)) = true
 is_composite form = false
 
 -- no rule is broken in the expression, where something fit is expected of it
-pub record IsLegal (s : Scope) (e : ExprTree) : Type 0 where
+pub record IsLegalExpression (s : Scope) (e : ExprTree) : Type 0 where
   pub wanted : Wanted
   pub unbroken : faults_in s wanted e ≡ []
 
@@ -50,9 +50,9 @@ pub record IsFit (s : Scope) (t : Subtype) (e : ExprTree) : Type 0 where
   pub unbroken : faults_of s wanted e ≡ []
 
 -- ... in the operands behind operators
-abbrev pub AreLegal : Scope → List Operand → Type 0
-AreLegal s [] = ⊤
-AreLegal s (o ∷ rest) = IsLegal s (expr_tree o.value) × AreLegal s rest
+abbrev pub AreLegalOperands : Scope → List Operand → Type 0
+AreLegalOperands s [] = ⊤
+AreLegalOperands s (o ∷ rest) = IsLegalExpression s (expr_tree o.value) × AreLegalOperands s rest
 
 -- The code that was added computes the expression, in every image that holds it and wherever a frame stands for the place of evaluation; it keeps the rules
 -- of images; and it has at most 20 instructions for each part of the expression. It finds so many words on the operand stack, and leaves those of the value, so
@@ -85,4 +85,4 @@ pub record EmitsFitting (v : Visible) (old : Code) (depth : ℕ) (t : Subtype) (
 
 -- The code that was added makes of an expression's value of one word, computed by the code before it, that of the operators and operands behind it.
 pub record EmitsOperands (v : Visible) (old : Code) (depth : ℕ) (all : List Operand) (new : Code) : Type 0 where
-  pub emits : (start : Code) (left : ExprTree) → EmitsExpression v start depth 1 left old → IsLegal v.scope (chain_tree left all) → EmitsExpression v start depth 1 (chain_tree left all) new
+  pub emits : (start : Code) (left : ExprTree) → EmitsExpression v start depth 1 left old → IsLegalExpression v.scope (chain_tree left all) → EmitsExpression v start depth 1 (chain_tree left all) new

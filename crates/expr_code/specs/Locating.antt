@@ -22,7 +22,7 @@ use Rattle.types.specs.Evaluating.{Calls, part_with}
 use Rattle.meaning.specs.SameMeaning.{frames_of}
 use Rattle.expr_code.specs.Views.{At, in_frame, placed, Sight, View}
 use Rattle.expr_code.specs.Coming.{Comes, most_steps}
-use Rattle.expr_code.specs.Computing.{ComputesChecked, IsNumber, Library}
+use Rattle.expr_code.specs.Computing.{ComputesChecked, ComesToNumber, Library}
 use Rattle.expr_code.specs.Naming.{Lies}
 
 -- what a name means before it ends: that of its parts, from left to right
@@ -79,7 +79,7 @@ module _ (i : Sections) (library : Library) (sight : Sight) where
       × (many ≤ 65536)
       × (from ≤ mid)
       × ComputesChecked i library sight from mid index e
-      × IsNumber i library sight e
+      × ComesToNumber i library sight e
       × At i mid (op.Push index.first)
       × At i (mid + 1) op.Subtract
       × At i (mid + 2) (op.Push (pos (words inner)))

@@ -63,7 +63,7 @@ pub record Package : Type 0 where
 -- ---- what is seen at a place of evaluation
 
 -- names mean there what they stand for, and the words of each object are those of its value
-pub record SeesNames (s : Scope) (slots : List ℕ → Option Slot) (p : Place) (view : View) : Type 0 where
+pub record SeesScope (s : Scope) (slots : List ℕ → Option Slot) (p : Place) (view : View) : Type 0 where
   pub agrees : Agrees s p
   pub objects : (name : List ℕ) (slot : Slot) (t : Subtype) (value : Value) → slots name ≡ Some slot → meaning_of p name ≡ IsObject t value → Lies (view.words slot.region) slot.offset value
 
@@ -76,7 +76,7 @@ pub record SeesPackage (g : Package) (p : Place) (view : View) : Type 0 where
   pub scope : p.scope ≡ g.scope
   pub functions : p.functions ≡ g.functions
   pub sound : FunctionsAreSound p
-  pub names : SeesNames g.scope g.slots (outside p) view
+  pub names : SeesScope g.scope g.slots (outside p) view
   pub now : p.now ≡ view.now
   pub schedule : p.schedule ≡ view.schedule
   -- no region has more words than addresses tell
@@ -90,7 +90,7 @@ pub record IsCoded (g : Package) (f : Function) (number : ℕ) : Type 0 where
 -- The frame stands for the place of evaluation in a part of the program.
 pub record Sees (g : Package) (v : Visible) (p : Place) (view : View) : Type 0 where
   pub unit : SeesPackage g p view
-  pub names : SeesNames v.scope (slot_of v) p view
+  pub names : SeesScope v.scope (slot_of v) p view
   pub functions : (name : List ℕ) (number : ℕ) (f : Function) → subprogram_of v name ≡ Some number → meaning_of p name ≡ IsFunction f None → IsCoded g f number
 
 -- ---- what images have

@@ -4,7 +4,7 @@ ghost use Rattle.ada_tree.specs.ExpressionTree.{argument_tree, argument_trees, A
 ghost use Rattle.ada_tree.specs.declared.declaration.Mode.TheVariants.{In};
 ghost use Rattle.types.specs.Entities.{profile_value};
 ghost use Rattle.well_typed.specs.Agreeing.{parameter_subtype};
-ghost use Rattle.expr_code.specs.Emitting.{EmitsExpression, IsLegal};
+ghost use Rattle.expr_code.specs.Emitting.{EmitsExpression, IsLegalExpression};
 ghost use Rattle.expr_code.specs.Actuals.{AddsCall, ArePassedLegally, EmitsActual, EmitsActuals, IsPassedLegally};
 ghost use Rattle.expr_code.specs.Code.{Extends, here, IsShallow};
 ghost use Rattle.expr_code.specs.Refusing.{is_called, IsRefused, RefusesActual, RefusesActuals, RefusesExpression, argument_peak, arguments_peak, peak};
@@ -35,7 +35,7 @@ impl Code {
     ) -> Result<(), Refusal>
         requires sound { SoundScope visible.now.scope }
         requires names { NamesProfile visible.now.scope first.now.name (profile_value profile.now) }
-        requires legal { IsLegal visible.now.scope (Named first.now (MoreSelectors (Arguments (argument_trees arguments.now)) NoSelectors)) }
+        requires legal { IsLegalExpression visible.now.scope (Named first.now (MoreSelectors (Arguments (argument_trees arguments.now)) NoSelectors)) }
         ensures width { OnOk result (width_of visible.now.scope (Named first.now (MoreSelectors (Arguments (argument_trees arguments.now)) NoSelectors)) ≡ 1) }
         ensures refused { IfErr result (λ why. RefusesExpression visible.now self.old depth (Named first.now (MoreSelectors (Arguments (argument_trees arguments.now)) NoSelectors)) why) }
         ensures kept { IfErr result (λ why. Extends self.old self.new) }
@@ -56,7 +56,7 @@ impl Code {
         profile: &Profile,
     ) -> Result<(), Refusal>
         requires names { NamesProfile visible.now.scope first.now.name (profile_value profile.now) }
-        requires legal { IsLegal visible.now.scope (Named first.now NoSelectors) }
+        requires legal { IsLegalExpression visible.now.scope (Named first.now NoSelectors) }
         ensures width { OnOk result (width_of visible.now.scope (Named first.now NoSelectors) ≡ 1) }
         ensures refused { IfErr result (λ why. RefusesExpression visible.now self.old depth (Named first.now NoSelectors) why) }
         ensures kept { IfErr result (λ why. Extends self.old self.new) }

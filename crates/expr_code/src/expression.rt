@@ -1,7 +1,7 @@
 //! The code of expressions (RM 4.4).
 ghost use Rattle.std.specs.Prelude.{◌≡◌, ◌+◌, ◌*◌, ◌≤◌, ◌∷◌, [], None, IfErr, IfOk, OnOk};
 ghost use Rattle.ada_tree.specs.ExpressionTree.{chain_tree, expr_tree};
-ghost use Rattle.expr_code.specs.Emitting.{AreLegal, EmitsExpression, EmitsOperands, IsLegal};
+ghost use Rattle.expr_code.specs.Emitting.{AreLegalOperands, EmitsExpression, EmitsOperands, IsLegalExpression};
 ghost use Rattle.expr_code.specs.OperatorCode.{binary_operation};
 ghost use Rattle.expr_code.specs.Code.{Extends, here, IsAsBefore, IsShallow};
 ghost use Rattle.expr_code.specs.Refusing.{operands_size, RefusesExpression, RefusesOperands, operands_peak, peak};
@@ -28,7 +28,7 @@ impl Code {
         e: &Expr,
     ) -> Result<u16, Refusal>
         requires sound { SoundScope visible.now.scope }
-        requires legal { IsLegal visible.now.scope (expr_tree e.now) }
+        requires legal { IsLegalExpression visible.now.scope (expr_tree e.now) }
         ensures width { IfOk result (λ width. width ≡ width_of visible.now.scope (expr_tree e.now)) }
         ensures refused { IfErr result (λ why. RefusesExpression visible.now self.old depth (expr_tree e.now) why) }
         ensures kept { IfErr result (λ why. Extends self.old self.new) }
@@ -90,7 +90,7 @@ impl Code {
         e: &Expr,
     ) -> Result<(), Refusal>
         requires sound { SoundScope visible.now.scope }
-        requires legal { IsLegal visible.now.scope (expr_tree e.now) }
+        requires legal { IsLegalExpression visible.now.scope (expr_tree e.now) }
         requires wide { width_of visible.now.scope (expr_tree e.now) ≡ width }
         ensures refused { IfErr result (λ why. RefusesExpression visible.now self.old depth (expr_tree e.now) why) }
         ensures restored { IfErr result (λ why. IsAsBefore self.old self.new) }
@@ -113,7 +113,7 @@ impl Code {
     #[cycle(expression)]
     fn operand(&mut self, visible: &Visible, depth: u16, operand: &Operand) -> Result<(), Refusal>
         requires sound { SoundScope visible.now.scope }
-        requires legal { IsLegal visible.now.scope (expr_tree operand.now.value) }
+        requires legal { IsLegalExpression visible.now.scope (expr_tree operand.now.value) }
         requires single { width_of visible.now.scope (expr_tree operand.now.value) ≡ 1 }
         ensures refused { IfErr result (λ why. RefusesOperands visible.now self.old depth (operand.now ∷ []) why) }
         ensures extends { Extends self.old self.new }
@@ -141,7 +141,7 @@ impl Code {
         operand: &Operand,
     ) -> Result<(), Refusal>
         requires sound { SoundScope visible.now.scope }
-        requires legal { IsLegal visible.now.scope (expr_tree operand.now.value) }
+        requires legal { IsLegalExpression visible.now.scope (expr_tree operand.now.value) }
         requires single { width_of visible.now.scope (expr_tree operand.now.value) ≡ 1 }
         requires short { binary_operation operand.now.operator ≡ None }
         ensures refused { IfErr result (λ why. RefusesOperands visible.now self.old depth (operand.now ∷ []) why) }
@@ -170,7 +170,7 @@ impl Code {
     #[cycle(expression)]
     fn operands(&mut self, visible: &Visible, depth: u16, all: &[Operand]) -> Result<(), Refusal>
         requires sound { SoundScope visible.now.scope }
-        requires legal { AreLegal visible.now.scope all.now }
+        requires legal { AreLegalOperands visible.now.scope all.now }
         requires single { AreSingle visible.now.scope all.now }
         ensures refused { IfErr result (λ why. RefusesOperands visible.now self.old depth all.now why) }
         ensures extends { Extends self.old self.new }

@@ -10,7 +10,7 @@ ghost use Rattle.types.specs.Scopes.{number_of};
 ghost use Rattle.types.specs.Standings.{standing_of, stands_first};
 ghost use Rattle.types.specs.declared.standing.Standing.TheVariants as standing;
 ghost use Rattle.expr_code.specs.Code.{Adds, Extends, here, IsShallow};
-ghost use Rattle.expr_code.specs.Emitting.{EmitsExpression, IsLegal};
+ghost use Rattle.expr_code.specs.Emitting.{EmitsExpression, IsLegalExpression};
 ghost use Rattle.expr_code.specs.Naming.{load_operation, scalar_word};
 ghost use Rattle.expr_code.specs.Seeing.{slot_of};
 ghost use Rattle.expr_code.specs.Refusing.{IsRefusedBeside, RefusesExpression, peak};
@@ -71,7 +71,7 @@ impl Code {
         name: &NameExpr,
     ) -> Result<u16, Refusal>
         requires sound { SoundScope visible.now.scope }
-        requires legal { IsLegal visible.now.scope (Named (name_tree name.now).first (name_tree name.now).selectors) }
+        requires legal { IsLegalExpression visible.now.scope (Named (name_tree name.now).first (name_tree name.now).selectors) }
         ensures width { IfOk result (λ width. width ≡ width_of visible.now.scope (Named (name_tree name.now).first (name_tree name.now).selectors)) }
         ensures refused { IfErr result (λ why. RefusesExpression visible.now self.old depth (Named (name_tree name.now).first (name_tree name.now).selectors) why) }
         ensures kept { IfErr result (λ why. Extends self.old self.new) }
@@ -101,7 +101,7 @@ impl Code {
         selectors: &[Selector],
     ) -> Result<u16, Refusal>
         requires sound { SoundScope visible.now.scope }
-        requires legal { IsLegal visible.now.scope (Named first.now (selector_trees selectors.now)) }
+        requires legal { IsLegalExpression visible.now.scope (Named first.now (selector_trees selectors.now)) }
         requires valueless { fixed_value (standing_of visible.now.scope first.now (selector_trees selectors.now)) ≡ None }
         requires parts { bare_name (Named first.now (selector_trees selectors.now)) ≡ None }
         ensures width { IfOk result (λ width. width ≡ width_of visible.now.scope (Named first.now (selector_trees selectors.now))) }
@@ -133,7 +133,7 @@ impl Code {
     ) -> Result<u16, Refusal>
         requires sound { SoundScope visible.now.scope }
         requires stands { stands_first visible.now.scope (number_of visible.now.scope first.now.name) ≡ standing.Named subtype }
-        requires legal { IsLegal visible.now.scope (Named first.now (selector_trees selectors.now)) }
+        requires legal { IsLegalExpression visible.now.scope (Named first.now (selector_trees selectors.now)) }
         requires valueless { fixed_value (standing_of visible.now.scope first.now (selector_trees selectors.now)) ≡ None }
         ensures width { IfOk result (λ width. width ≡ width_of visible.now.scope (Named first.now (selector_trees selectors.now))) }
         ensures refused { IfErr result (λ why. RefusesExpression visible.now self.old depth (Named first.now (selector_trees selectors.now)) why) }
@@ -164,7 +164,7 @@ impl Code {
         selectors: &[Selector],
     ) -> Result<u16, Refusal>
         requires sound { SoundScope visible.now.scope }
-        requires legal { IsLegal visible.now.scope (Named first.now (selector_trees selectors.now)) }
+        requires legal { IsLegalExpression visible.now.scope (Named first.now (selector_trees selectors.now)) }
         requires stands { (f : Callee) × (stands_first visible.now.scope (number_of visible.now.scope first.now.name) ≡ standing.Callee f) }
         requires valueless { fixed_value (standing_of visible.now.scope first.now (selector_trees selectors.now)) ≡ None }
         requires parts { bare_name (Named first.now (selector_trees selectors.now)) ≡ None }
@@ -202,7 +202,7 @@ impl Code {
     ) -> Result<(), Refusal>
         requires sound { SoundScope visible.now.scope }
         requires stands { stands_first visible.now.scope (number_of visible.now.scope first.now.name) ≡ standing.Named subtype }
-        requires legal { IsLegal visible.now.scope (Named first.now (MoreSelectors (Arguments (argument_trees arguments.now)) NoSelectors)) }
+        requires legal { IsLegalExpression visible.now.scope (Named first.now (MoreSelectors (Arguments (argument_trees arguments.now)) NoSelectors)) }
         ensures width { OnOk result (width_of visible.now.scope (Named first.now (MoreSelectors (Arguments (argument_trees arguments.now)) NoSelectors)) ≡ 1) }
         ensures refused { IfErr result (λ why. RefusesExpression visible.now self.old depth (Named first.now (MoreSelectors (Arguments (argument_trees arguments.now)) NoSelectors)) why) }
         ensures kept { IfErr result (λ why. Extends self.old self.new) }
@@ -222,7 +222,7 @@ impl Code {
     // Adds that of an object as a whole, or of a call without parameters.
     fn bare(&mut self, visible: &Visible, depth: u16, name: &Identifier) -> Result<u16, Refusal>
         requires sound { SoundScope visible.now.scope }
-        requires legal { IsLegal visible.now.scope (Named name.now NoSelectors) }
+        requires legal { IsLegalExpression visible.now.scope (Named name.now NoSelectors) }
         requires valueless { fixed_value (standing_of visible.now.scope name.now NoSelectors) ≡ None }
         ensures width { IfOk result (λ width. width ≡ width_of visible.now.scope (Named name.now NoSelectors)) }
         ensures refused { IfErr result (λ why. RefusesExpression visible.now self.old depth (Named name.now NoSelectors) why) }
@@ -255,7 +255,7 @@ impl Code {
         subtype: Subtype,
         name: &Identifier,
     ) -> Result<u16, Refusal>
-        requires legal { IsLegal visible.now.scope (Named name.now NoSelectors) }
+        requires legal { IsLegalExpression visible.now.scope (Named name.now NoSelectors) }
         requires stands { (r : Role) × (stands_first visible.now.scope (number_of visible.now.scope name.now.name) ≡ standing.Part r subtype) }
         requires valueless { fixed_value (standing_of visible.now.scope name.now NoSelectors) ≡ None }
         requires there { slot_of visible.now name.now.name ≡ Some slot }

@@ -7,7 +7,7 @@ ghost use Rattle.types.specs.Entities.{Arrays};
 ghost use Rattle.types.specs.Evaluating.{fixed_value};
 ghost use Rattle.types.specs.Scopes.{form_at, number_of};
 ghost use Rattle.types.specs.Standings.{standing_of, stands_first};
-ghost use Rattle.expr_code.specs.Emitting.{EmitsExpression, IsLegal};
+ghost use Rattle.expr_code.specs.Emitting.{EmitsExpression, IsLegalExpression};
 ghost use Rattle.expr_code.specs.Going.{AddsOffset, EmitsAddress, EmitsPath, EndsAt, IsLegalPart, IsLegalPath, Selects, SelectsAll};
 ghost use Rattle.expr_code.specs.Code.{Extends, here, IsShallow};
 ghost use Rattle.expr_code.specs.Refusing.{IsRefused, KeepsFit, RefusesAddress, RefusesExpression, RefusesPath, peak, selectors_peak};
@@ -61,7 +61,7 @@ impl Code {
         selectors: &[Selector],
     ) -> Result<u16, Refusal>
         requires sound { SoundScope visible.now.scope }
-        requires legal { IsLegal visible.now.scope (Named first.now (selector_trees selectors.now)) }
+        requires legal { IsLegalExpression visible.now.scope (Named first.now (selector_trees selectors.now)) }
         requires stands { (r : Role) × (stands_first visible.now.scope (number_of visible.now.scope first.now.name) ≡ standing.Part r subtype) }
         requires valueless { fixed_value (standing_of visible.now.scope first.now (selector_trees selectors.now)) ≡ None }
         requires there { slot_of visible.now first.now.name ≡ Some slot }

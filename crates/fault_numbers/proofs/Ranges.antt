@@ -7,11 +7,11 @@ use Rattle.std.specs.Prelude.{nat_le, ◌&&◌}
 use Rattle.base.specs.declared.faults.TheConstants.{LIMIT_PASSED, LOCAL_TASKING, NAME_NOT_VISIBLE, WRONG_PRAGMAS}
 use Rattle.lexer.specs.declared.fault.Fault.{Fault}
 use Rattle.expr_rules.specs.Faults.{Faults, rule}
-use Rattle.fault_numbers.specs.Numbers.{AreNumbered, IsNumbered}
+use Rattle.fault_numbers.specs.Numbers.{AreNumberedWithin, IsNumbered}
 
 -- each fault has a number in the range
 pub record Within (first last : ℕ) (faults : Faults) : Type 0 where
-  pub each : AreNumbered first last faults
+  pub each : AreNumberedWithin first last faults
 
 -- the rules from 10 to 23, and those from 30 to 39
 abbrev pub Legality : Faults → Type 0

@@ -16,8 +16,8 @@ abbrev pub IsNumbered : (first last : ℕ) → Fault → Type 0
 IsNumbered first last fault = (first ≤ fault.number) × (fault.number ≤ last)
 
 -- so is that of each fault
-abbrev pub AreNumbered : (first last : ℕ) → Faults → Type 0
-AreNumbered first last faults = All (IsNumbered first last) faults
+abbrev pub AreNumberedWithin : (first last : ℕ) → Faults → Type 0
+AreNumberedWithin first last faults = All (IsNumbered first last) faults
 
 -- a text that no tokens spell: 1 to 5
 abbrev pub SpellingNumbers : Type 0
@@ -29,8 +29,8 @@ GrammarNumbers = (tokens : List Token) (fault : Fault) → IsFaulty tokens fault
 
 -- what a program breaks: 10 to 23
 abbrev pub LegalityNumbers : Type 0
-LegalityNumbers = (tree : ProgramTree) → AreNumbered NAME_NOT_VISIBLE LIMIT_PASSED (program_faults tree)
+LegalityNumbers = (tree : ProgramTree) → AreNumberedWithin NAME_NOT_VISIBLE LIMIT_PASSED (program_faults tree)
 
 -- the restrictions of the profile: 30 to 39
 abbrev pub RestrictionNumbers : Type 0
-RestrictionNumbers = (tree : ProgramTree) → AreNumbered LOCAL_TASKING WRONG_PRAGMAS (restriction_faults tree)
+RestrictionNumbers = (tree : ProgramTree) → AreNumberedWithin LOCAL_TASKING WRONG_PRAGMAS (restriction_faults tree)

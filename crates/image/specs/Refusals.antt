@@ -7,13 +7,13 @@ use Rattle.image.specs.Sections.{Sections}
 use Rattle.image.specs.declared.fault.ImageFault.{ImageFault}
 
 -- the rule of this number is broken
-abbrev pub Breaks : Sections → ℕ → Type 0
-Breaks i number =
+abbrev pub BreaksRule : Sections → ℕ → Type 0
+BreaksRule i number =
     ((number ≡ OPERAND_OUT_OF_RANGE) × (operands_in_range i ≡ false))
     ⊎ (((number ≡ JUMP_OUTSIDE) × (jumps_stay_inside i ≡ false))
     ⊎ (((number ≡ NAMED_THING_MISSING) × (named_things_exist i ≡ false))
     ⊎ (((number ≡ DEPTHS_DISAGREE) × (depths_agree i ≡ false)) ⊎ ((number ≡ TABLES_DISAGREE) × (tables_agree i ≡ false)))))
 
 -- memory was refused, or the rule of the fault's number is broken
-abbrev pub Refuses : Sections → ImageFault → Type 0
-Refuses i fault = (fault ≡ memory_fault) ⊎ ((fault.byte ≡ 0) × Breaks i fault.number)
+abbrev pub RefusesImage : Sections → ImageFault → Type 0
+RefusesImage i fault = (fault ≡ memory_fault) ⊎ ((fault.byte ≡ 0) × BreaksRule i fault.number)

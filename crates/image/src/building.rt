@@ -1,7 +1,7 @@
 //! Images, well-formed by construction.
 ghost use Rattle.std.specs.Prelude.{◌≡◌, IfErr, IfOk, OnOk};
 ghost use Rattle.image.specs.Faults.{memory_fault};
-ghost use Rattle.image.specs.Refusals.{Refuses};
+ghost use Rattle.image.specs.Refusals.{RefusesImage};
 ghost use Rattle.image.specs.Rules.{IsWellFormed};
 ghost use Rattle.image.specs.Sections.{ends_of};
 ghost use Rattle.image.specs.WordRanges.{ImageFits};
@@ -38,7 +38,7 @@ impl Image {
     pub fn build(alloc: Global, parts: Parts) -> Result<Image, ImageFault>
         ensures same { IfOk result (λ image. image ≡ parts) }
         ensures well_formed { OnOk result (IsWellFormed parts) }
-        ensures refused { IfErr result (Refuses parts) }
+        ensures refused { IfErr result (RefusesImage parts) }
     {
         Draft::new(alloc, parts)?.build(alloc)
     }

@@ -1,7 +1,7 @@
 //! The sections of an image that is yet to be judged, with the subprogram of each place.
 ghost use Rattle.std.specs.Prelude.{◌≡◌, slice_get, IfErr, IfOk, OnOk};
 ghost use Rattle.image.specs.Faults.{memory_fault};
-ghost use Rattle.image.specs.Refusals.{Refuses};
+ghost use Rattle.image.specs.Refusals.{RefusesImage};
 ghost use Rattle.image.specs.Rules.{IsWellFormed};
 ghost use Rattle.image.specs.Sections.{holder, holder_number};
 
@@ -86,7 +86,7 @@ impl Draft {
     pub fn build(self, alloc: Global) -> Result<Image, ImageFault>
         ensures same { IfOk result (λ image. image ≡ self) }
         ensures well_formed { OnOk result (IsWellFormed self) }
-        ensures refused { IfErr result (Refuses self) }
+        ensures refused { IfErr result (RefusesImage self) }
     {
         self.check(alloc)?;
         let Draft { parts, holders } = self;
@@ -100,7 +100,7 @@ impl Draft {
     // Whether the rules 43 to 47 are kept; else the first that is broken, in their order.
     fn check(&self, alloc: Global) -> Result<(), ImageFault>
         ensures well_formed { OnOk result (IsWellFormed self.now) }
-        ensures refused { IfErr result (Refuses self.now) }
+        ensures refused { IfErr result (RefusesImage self.now) }
     {
         if !self.parts.operands_in_range() {
             return Err(ImageFault::broken(OPERAND_OUT_OF_RANGE));

@@ -7,7 +7,7 @@ use Rattle.base.specs.declared.schedule.ScheduleLine.{ScheduleLine}
 use Rattle.kernel.specs.State.{Kernel}
 use Rattle.kernel.specs.Calm.{IsRunner}
 use Rattle.kernel.specs.Effects.{activated, begin, blank}
-use Rattle.kernel.specs.Invariant.{Fits, Has, Kept, ServesCall}
+use Rattle.kernel.specs.Invariant.{Fits, HasAction, Kept, ServesCall}
 use Rattle.kernel.specs.Laws.{BeginsKept, EntryOpens, FourHold, KeptByEvery, LeftUnmoved, ReachesCallers}
 use Rattle.kernel.specs.RunLaws.{Behaves, run_kept}
 use Rattle.kernel.specs.Worlds.{Tasks, among}
@@ -76,7 +76,7 @@ module _ (i : Sections) (w : IsWellFormed i) where
         may = λ t lt. let x = slice_get_inside i.tasks t lt in body_may_at t x.0 x.1;
         sound = λ t free_of. start_sound i w t;
         calling = λ o t h. absurd (none-some t (sym (ap (λ f. f o) queued) ∙ h));
-        awaiting = λ v o t h. absurd (subst (Has (ServesCall o t)) (ap (λ f. f v) actions) h);
+        awaiting = λ v o t h. absurd (subst (HasAction (ServesCall o t)) (ap (λ f. f v) actions) h);
       }
 
   -- Runs

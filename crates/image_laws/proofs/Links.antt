@@ -6,11 +6,11 @@ use Rattle.std.proofs.lemmas.Option.{none-some, same_Some}
 use Rattle.std.specs.Prelude.{int_lt, slice_get}
 use Rattle.base.specs.declared.limits.TheConstants.{FRAMES}
 use Rattle.base.specs.declared.schedule.ScheduleLine.{ScheduleLine}
-use Rattle.kernel.specs.State.{Kernel, Place, IsRunning, IsQueued, IsServed, Action, Reads, Writes, Serves, is_object_open, object_of, put}
+use Rattle.kernel.specs.State.{Kernel, TaskPlace, IsRunning, IsQueued, IsServed, Action, Reads, Writes, Serves, is_object_open, object_of, put}
 use Rattle.kernel.specs.Dispatching.{becomes_ready, leaves}
 use Rattle.kernel.specs.Clock.{falls_asleep}
 use Rattle.kernel.specs.Effects.{ends, Effect, Quiet, Finishes, Breaks, Says, Delays, Opens, Views, Queues, Ends, Dies, Ending, Closes, TakesOver, HandsBack, after, effect, ending_of, outer_of, service}
-use Rattle.kernel.specs.Invariant.{At, Has, Kept, Once, ServesCall}
+use Rattle.kernel.specs.Invariant.{IsInsideObject, HasAction, Kept, Once, ServesCall}
 use Rattle.kernel.specs.Laws.{EntryOpens, FourHold, LeftUnmoved, ReachesCallers}
 use Rattle.kernel.specs.PutLaws.{by_put, eqb_same, put_other, put_same, put_self, same_or_not}
 use Rattle.kernel.specs.Worlds.{Tasks, among, ending, reached}
@@ -32,42 +32,42 @@ use Rattle.image_laws.proofs.WellFormed.{depths, entry_kind, names}
 
 -- Places
 
-abbrev is_running : Place → Bool
+abbrev is_running : TaskPlace → Bool
 is_running IsRunning = true
 is_running _ = false
 
-abbrev is_waiting : Place → Bool
+abbrev is_waiting : TaskPlace → Bool
 is_waiting (IsQueued o) = true
 is_waiting _ = false
 
-abbrev object_or : Place → ℕ
+abbrev object_or : TaskPlace → ℕ
 object_or (IsQueued o) = o
 object_or (IsServed o) = o
 object_or _ = 0
 
-running_waits_not : (p : Place) (o : ℕ) → p ≡ IsRunning → p ≡ IsQueued o → ⊥
+running_waits_not : (p : TaskPlace) (o : ℕ) → p ≡ IsRunning → p ≡ IsQueued o → ⊥
 running_waits_not p o a b = true≢false (sym (ap is_running a) ∙ ap is_running b)
 
-running_served_not : (p : Place) (o : ℕ) → p ≡ IsRunning → p ≡ IsServed o → ⊥
+running_served_not : (p : TaskPlace) (o : ℕ) → p ≡ IsRunning → p ≡ IsServed o → ⊥
 running_served_not p o a b = true≢false (sym (ap is_running a) ∙ ap is_running b)
 
-queued_served_not : (p : Place) (o q : ℕ) → p ≡ IsQueued o → p ≡ IsServed q → ⊥
+queued_served_not : (p : TaskPlace) (o q : ℕ) → p ≡ IsQueued o → p ≡ IsServed q → ⊥
 queued_served_not p o q a b = true≢false (sym (ap is_waiting a) ∙ ap is_waiting b)
 
 -- Actions
 
-has_more : (P : Action → Type 0) (actions : List Action) → Has P (outer_of actions) → Has P actions
+has_more : (P : Action → Type 0) (actions : List Action) → HasAction P (outer_of actions) → HasAction P actions
 has_more P [] h = h
 has_more P (a ∷ outer) h = inr h
 
-serves_at : (o u : ℕ) (actions : List Action) → Has (ServesCall o u) actions → At o actions
+serves_at : (o u : ℕ) (actions : List Action) → HasAction (ServesCall o u) actions → IsInsideObject o actions
 serves_at o u [] h = h
 serves_at o u (Reads p ∷ outer) h = inr (⊎_elim (λ e. absurd e) (λ h. serves_at o u outer h) h)
 serves_at o u (Writes p ∷ outer) h = inr (⊎_elim (λ e. absurd e) (λ h. serves_at o u outer h) h)
 serves_at o u (Serves p v ∷ outer) h = ⊎_elim (λ e. inl e.0) (λ h. inr (serves_at o u outer h)) h
 
 -- whoever serves is inside
-at_open : (o : ℕ) (actions : List Action) → At o actions → is_object_open o actions ≡ true
+at_open : (o : ℕ) (actions : List Action) → IsInsideObject o actions → is_object_open o actions ≡ true
 at_open o [] h = absurd h
 at_open o (a ∷ outer) h = ⊎_elim (λ e. here e) (λ h. later (eqb (object_of a) o) (at_open o outer h)) h
   where
@@ -78,10 +78,10 @@ at_open o (a ∷ outer) h = ⊎_elim (λ e. here e) (λ h. later (eqb (object_of
     later true e = refl
     later false e = e
 
-queued_same : (p : Place) (o q : ℕ) → p ≡ IsQueued o → p ≡ IsQueued q → o ≡ q
+queued_same : (p : TaskPlace) (o q : ℕ) → p ≡ IsQueued o → p ≡ IsQueued q → o ≡ q
 queued_same p o q a b = sym (ap object_or a) ∙ ap object_or b
 
-served_same : (p : Place) (o q : ℕ) → p ≡ IsServed o → p ≡ IsServed q → o ≡ q
+served_same : (p : TaskPlace) (o q : ℕ) → p ≡ IsServed o → p ≡ IsServed q → o ≡ q
 served_same p o q a b = sym (ap object_or a) ∙ ap object_or b
 
 -- what an ending says of the actions
@@ -106,7 +106,7 @@ caller_in (HandsBack u) = u
 caller_in Closes = 0
 caller_in (TakesOver o u) = u
 
-closes_serving : (o u : ℕ) (b : Bool) (actions : List Action) (queued : ℕ → Option ℕ) → ending_of b actions queued ≡ Closes → Has (ServesCall o u) actions → Has (ServesCall o u) (outer_of actions)
+closes_serving : (o u : ℕ) (b : Bool) (actions : List Action) (queued : ℕ → Option ℕ) → ending_of b actions queued ≡ Closes → HasAction (ServesCall o u) actions → HasAction (ServesCall o u) (outer_of actions)
 closes_serving o u b [] queued e h = h
 closes_serving o u b (Reads p ∷ outer) queued e h = ⊎_elim (λ e. absurd e) (λ h. h) h
 closes_serving o u b (Writes p ∷ outer) queued e h = ⊎_elim (λ e. absurd e) (λ h. h) h
@@ -191,7 +191,7 @@ module _ (k : Kernel) (t : ℕ) (unmoved : LeftUnmoved) where
   closes_queued Breaks is = refl
 
   -- an effect that ends no action keeps who is served, and serves nobody new
-  pub keeps_serving : (e : Effect) → ending k t e ≡ Closes → (o u : ℕ) → Has (ServesCall o u) (k.actions t) → Has (ServesCall o u) (next_actions e (k.actions t))
+  pub keeps_serving : (e : Effect) → ending k t e ≡ Closes → (o u : ℕ) → HasAction (ServesCall o u) (k.actions t) → HasAction (ServesCall o u) (next_actions e (k.actions t))
   keeps_serving Quiet is o u h = h
   keeps_serving (Says label v) is o u h = h
   keeps_serving (Delays z) is o u h = h
@@ -203,7 +203,7 @@ module _ (k : Kernel) (t : ℕ) (unmoved : LeftUnmoved) where
   keeps_serving (Dies x) is o u h = h
   keeps_serving Breaks is o u h = h
 
-  pub serves_no_more : (e : Effect) (o u : ℕ) → Has (ServesCall o u) (next_actions e (k.actions t)) → Has (ServesCall o u) (k.actions t)
+  pub serves_no_more : (e : Effect) (o u : ℕ) → HasAction (ServesCall o u) (next_actions e (k.actions t)) → HasAction (ServesCall o u) (k.actions t)
   serves_no_more Quiet o u h = h
   serves_no_more (Says label v) o u h = h
   serves_no_more (Delays z) o u h = h
@@ -402,13 +402,13 @@ module _ (i : Sections) (w : IsWellFormed i) (unmoved : LeftUnmoved) (free : Ent
   running_is : k.place t ≡ IsRunning
   running_is = kept.sound.runs t running
 
-  served_is : (v o u : ℕ) → Has (ServesCall o u) (k.actions v) → k.place u ≡ IsServed o
+  served_is : (v o u : ℕ) → HasAction (ServesCall o u) (k.actions v) → k.place u ≡ IsServed o
   served_is v o u h = (kept.sound.serving v o u h).0
 
   queued_is : (o u : ℕ) → k.queued o ≡ Some u → k.place u ≡ IsQueued o
   queued_is o u h = kept.sound.queue o u h
 
-  served_other : (v o u : ℕ) → Has (ServesCall o u) (k.actions v) → u ≢ t
+  served_other : (v o u : ℕ) → HasAction (ServesCall o u) (k.actions v) → u ≢ t
   served_other v o u h e = running_served_not (k.place t) o running_is (subst (λ x. k.place x ≡ IsServed o) e (served_is v o u h))
 
   queued_other : (o u : ℕ) → k.queued o ≡ Some u → u ≢ t
@@ -451,8 +451,8 @@ module _ (i : Sections) (w : IsWellFormed i) (unmoved : LeftUnmoved) (free : Ent
               h.0,
               h.1,
               ⊎_elim
-                  (λ e. subst (Has (ServesCall h.1 u)) (sym (own h.0 e)) (keeps_serving k t unmoved r.effect is h.1 u (subst (λ v. Has (ServesCall h.1 u) (k.actions v)) e h.2)))
-                  (λ ne. subst (Has (ServesCall h.1 u)) (sym (other h.0 ne)) h.2)
+                  (λ e. subst (HasAction (ServesCall h.1 u)) (sym (own h.0 e)) (keeps_serving k t unmoved r.effect is h.1 u (subst (λ v. HasAction (ServesCall h.1 u) (k.actions v)) e h.2)))
+                  (λ ne. subst (HasAction (ServesCall h.1 u)) (sym (other h.0 ne)) h.2)
                   (same_or_not h.0 t),
             )));
         calling = λ o u h.
@@ -461,16 +461,16 @@ module _ (i : Sections) (w : IsWellFormed i) (unmoved : LeftUnmoved) (free : Ent
             (λ q. subst (IsCalling i o) (sym (put_same t u r.solo.task d.tasks q.0)) (subst (λ e. OwesFor i (k.actions t) e r.given r.solo.task) q.1 own_links.owes))
             (queued_from t r.effect k.queued o u (sym (ap (λ f. f o) (closes_queued k t unmoved r.effect is)) ∙ h));
         awaiting = λ v o u h.
-            let before : (x : ℕ) × Has (ServesCall o u) (k.actions x) =
+            let before : (x : ℕ) × HasAction (ServesCall o u) (k.actions x) =
             ⊎_elim
-            (λ e. (t, serves_no_more k t unmoved r.effect o u (subst (Has (ServesCall o u)) (own v e) h)))
-            (λ ne. (v, subst (Has (ServesCall o u)) (other v ne) h))
+            (λ e. (t, serves_no_more k t unmoved r.effect o u (subst (HasAction (ServesCall o u)) (own v e) h)))
+            (λ ne. (v, subst (HasAction (ServesCall o u)) (other v ne) h))
             (same_or_not v t) in
             subst (IsAwaiting i o) (sym (stepped_other u (served_other before.0 o u before.1))) (linked.awaiting before.0 o u before.1);
       }
 
-  outer_has : (v o u : ℕ) (a : Action) (P : Action → Type 0) → (k.actions t ≡ a ∷ outer_of (k.actions t)) → Has P (k.actions t) → P a ⊎ Has P (outer_of (k.actions t))
-  outer_has v o u a P is h = subst (Has P) is h
+  outer_has : (v o u : ℕ) (a : Action) (P : Action → Type 0) → (k.actions t ≡ a ∷ outer_of (k.actions t)) → HasAction P (k.actions t) → P a ⊎ HasAction P (outer_of (k.actions t))
+  outer_has v o u a P is h = subst (HasAction P) is h
 
   over_linked : (o u : ℕ) → ending k t r.effect ≡ TakesOver o u → IsLinked i (effect t r.effect k).actions (effect t r.effect k).queued (reached (behaviour i schedule) t (TakesOver o u) r.given stepped)
   over_linked o u is =
@@ -515,7 +515,7 @@ module _ (i : Sections) (w : IsWellFormed i) (unmoved : LeftUnmoved) (free : Ent
             (λ nt. subst (λ s. MayWrite i (frames_of s)) (sym (stepped_other v nt)) (linked.may v lt)));
         sound = λ v free_of.
             ⊎_elim
-            (λ e. absurd (free_of (t, o, subst (Has (ServesCall o v)) (sym (own t refl)) (inl (refl, sym e)))))
+            (λ e. absurd (free_of (t, o, subst (HasAction (ServesCall o v)) (sym (own t refl)) (inl (refl, sym e)))))
             (λ nu.
             ⊎_elim
             (λ e. subst (IsSound i) (sym (put_other u v client (put t server stepped) nu ∙ put_same t v server stepped e)) in_server)
@@ -524,9 +524,9 @@ module _ (i : Sections) (w : IsWellFormed i) (unmoved : LeftUnmoved) (free : Ent
               h.1,
               ⊎_elim
                   (λ e.
-                  subst (Has (ServesCall h.1 v)) (sym (own h.0 e))
-                  (inr (⊎_elim (λ f. absurd f) (λ g. g) (outer_has v h.1 v (Writes o) (ServesCall h.1 v) x.writes (subst (λ y. Has (ServesCall h.1 v) (k.actions y)) e h.2)))))
-                  (λ ne. subst (Has (ServesCall h.1 v)) (sym (other h.0 ne)) h.2)
+                  subst (HasAction (ServesCall h.1 v)) (sym (own h.0 e))
+                  (inr (⊎_elim (λ f. absurd f) (λ g. g) (outer_has v h.1 v (Writes o) (ServesCall h.1 v) x.writes (subst (λ y. HasAction (ServesCall h.1 v) (k.actions y)) e h.2)))))
+                  (λ ne. subst (HasAction (ServesCall h.1 v)) (sym (other h.0 ne)) h.2)
                   (same_or_not h.0 t),
             ))))
             (same_or_not v t))
@@ -548,9 +548,9 @@ module _ (i : Sections) (w : IsWellFormed i) (unmoved : LeftUnmoved) (free : Ent
             let h' = has_more (ServesCall p v) (k.actions t) old in
             let nu : v ≢ u = λ e. queued_served_not (k.place u) o p met.1 (subst (λ y. k.place y ≡ IsServed p) e (served_is t p v h')) in
             subst (IsAwaiting i p) (sym (still v nu (served_other t p v h'))) (linked.awaiting t p v h'))
-            (subst (Has (ServesCall p v)) (own x' e) h))
+            (subst (HasAction (ServesCall p v)) (own x' e) h))
             (λ ne.
-            let h' = subst (Has (ServesCall p v)) (other x' ne) h in
+            let h' = subst (HasAction (ServesCall p v)) (other x' ne) h in
             let nu : v ≢ u = λ e. queued_served_not (k.place u) o p met.1 (subst (λ y. k.place y ≡ IsServed p) e (served_is x' p v h')) in
             subst (IsAwaiting i p) (sym (still v nu (served_other x' p v h'))) (linked.awaiting x' p v h'))
             (same_or_not x' t);
@@ -564,7 +564,7 @@ module _ (i : Sections) (w : IsWellFormed i) (unmoved : LeftUnmoved) (free : Ent
       let x = back_from i k t r.effect u is in
       let o = x.o in
       let outer = outer_of (k.actions t) in
-      let serves : Has (ServesCall o u) (k.actions t) = subst (Has (ServesCall o u)) (sym x.serves) (inl (refl, refl)) in
+      let serves : HasAction (ServesCall o u) (k.actions t) = subst (HasAction (ServesCall o u)) (sym x.serves) (inl (refl, refl)) in
       let not_t : u ≢ t = served_other t o u serves in
       let place_u : k.place u ≡ IsServed o = served_is t o u serves in
       let fits : FitsEntry i o g = subst (λ h. Fitting i (Serves o u ∷ outer) h) given (subst (λ l. Fitting i l r.given) x.serves (x.owed r.given r.solo.task own_links.owes).1) in
@@ -578,18 +578,18 @@ module _ (i : Sections) (w : IsWellFormed i) (unmoved : LeftUnmoved) (free : Ent
       let tasks = put u client stepped in
       let still = λ (v : ℕ) (nu : v ≢ u) (nt : v ≢ t). put_other u v client stepped nu ∙ stepped_other v nt in
       -- nobody else serves the caller
-      let alone : (v p : ℕ) → Has (ServesCall p u) (put t outer k.actions v) → ⊥ =
+      let alone : (v p : ℕ) → HasAction (ServesCall p u) (put t outer k.actions v) → ⊥ =
       (λ v p h.
       ⊎_elim
       (λ e.
-      let h' : Has (ServesCall p u) outer = subst (Has (ServesCall p u)) (put_same t v outer k.actions e) h in
+      let h' : HasAction (ServesCall p u) outer = subst (HasAction (ServesCall p u)) (put_same t v outer k.actions e) h in
       let same : p ≡ o = served_same (k.place u) p o (served_is t p u (has_more (ServesCall p u) (k.actions t) h')) place_u in
-      (subst Once x.serves (kept.sound.once t)).0 (serves_at o u outer (subst (λ q. Has (ServesCall q u) outer) same h')))
+      (subst Once x.serves (kept.sound.once t)).0 (serves_at o u outer (subst (λ q. HasAction (ServesCall q u) outer) same h')))
       (λ ne.
-      let h' : Has (ServesCall p u) (k.actions v) = subst (Has (ServesCall p u)) (put_other t v outer k.actions ne) h in
+      let h' : HasAction (ServesCall p u) (k.actions v) = subst (HasAction (ServesCall p u)) (put_other t v outer k.actions ne) h in
       let same : p ≡ o = served_same (k.place u) p o (served_is v p u h') place_u in
       let here = at_open o (k.actions t) (serves_at o u (k.actions t) serves) in
-      let there = at_open o (k.actions v) (serves_at o u (k.actions v) (subst (λ q. Has (ServesCall q u) (k.actions v)) same h')) in
+      let there = at_open o (k.actions v) (serves_at o u (k.actions v) (subst (λ q. HasAction (ServesCall q u) (k.actions v)) same h')) in
       ne ((four barrier k kept).one_inside o v t there here))
       (same_or_not v t)) in
       record {
@@ -621,9 +621,9 @@ module _ (i : Sections) (w : IsWellFormed i) (unmoved : LeftUnmoved) (free : Ent
               h.1,
               ⊎_elim
                   (λ e.
-                  subst (Has (ServesCall h.1 v)) (sym (own h.0 e))
-                  (⊎_elim (λ f. absurd (nu (sym f.1))) (λ g. g) (outer_has v h.1 v (Serves o u) (ServesCall h.1 v) x.serves (subst (λ y. Has (ServesCall h.1 v) (k.actions y)) e h.2))))
-                  (λ ne. subst (Has (ServesCall h.1 v)) (sym (other h.0 ne)) h.2)
+                  subst (HasAction (ServesCall h.1 v)) (sym (own h.0 e))
+                  (⊎_elim (λ f. absurd (nu (sym f.1))) (λ g. g) (outer_has v h.1 v (Serves o u) (ServesCall h.1 v) x.serves (subst (λ y. HasAction (ServesCall h.1 v) (k.actions y)) e h.2))))
+                  (λ ne. subst (HasAction (ServesCall h.1 v)) (sym (other h.0 ne)) h.2)
                   (same_or_not h.0 t),
             ))));
         calling = λ p v h.
@@ -631,12 +631,12 @@ module _ (i : Sections) (w : IsWellFormed i) (unmoved : LeftUnmoved) (free : Ent
             let nu : v ≢ u = λ e. queued_served_not (k.place u) p o (subst (λ y. k.place y ≡ IsQueued p) e (queued_is p v before)) place_u in
             subst (IsCalling i p) (sym (still v nu (queued_other p v before))) (linked.calling p v before);
         awaiting = λ y p v h.
-            let h' : Has (ServesCall p v) (put t outer k.actions y) = subst (Has (ServesCall p v)) (actions y) h in
-            let nu : v ≢ u = λ e. alone y p (subst (λ z. Has (ServesCall p z) (put t outer k.actions y)) e h') in
-            let before : (z : ℕ) × Has (ServesCall p v) (k.actions z) =
+            let h' : HasAction (ServesCall p v) (put t outer k.actions y) = subst (HasAction (ServesCall p v)) (actions y) h in
+            let nu : v ≢ u = λ e. alone y p (subst (λ z. HasAction (ServesCall p z) (put t outer k.actions y)) e h') in
+            let before : (z : ℕ) × HasAction (ServesCall p v) (k.actions z) =
             ⊎_elim
-            (λ e. (t, has_more (ServesCall p v) (k.actions t) (subst (Has (ServesCall p v)) (put_same t y outer k.actions e) h')))
-            (λ ne. (y, subst (Has (ServesCall p v)) (put_other t y outer k.actions ne) h'))
+            (λ e. (t, has_more (ServesCall p v) (k.actions t) (subst (HasAction (ServesCall p v)) (put_same t y outer k.actions e) h')))
+            (λ ne. (y, subst (HasAction (ServesCall p v)) (put_other t y outer k.actions ne) h'))
             (same_or_not y t) in
             subst (IsAwaiting i p) (sym (still v nu (served_other before.0 p v before.1))) (linked.awaiting before.0 p v before.1);
       }

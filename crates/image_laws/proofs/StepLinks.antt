@@ -11,7 +11,7 @@ use Rattle.base.specs.declared.limits.TheConstants.{FRAMES}
 use Rattle.base.specs.declared.schedule.ScheduleLine.{ScheduleLine}
 use Rattle.kernel.specs.State.{Kernel, Action, Reads, Writes, Serves}
 use Rattle.kernel.specs.Effects.{Effect, Quiet, Opens, Views, Queues, Ends, Refusal, call_refusal, is_above_ceiling, is_full, is_inside_any, outer_of}
-use Rattle.kernel.specs.Invariant.{CanWrite, Has, Passed, Tells}
+use Rattle.kernel.specs.Invariant.{CanWrite, HasAction, Passed, Tells}
 use Rattle.kernel.specs.Laws.{EntryOpens}
 use Rattle.kernel.specs.PutLaws.{put_other, same_or_not}
 use Rattle.handlers.specs.Innermost.{handler_of}
@@ -42,11 +42,11 @@ pub record Links (i : Sections) (k : Kernel) (t : ℕ) (m : Words) (r : Stepped)
   pub actions : actions_of i (frames_of r.solo.task) ≡ next_actions r.effect (k.actions t)
   pub may : MayWrite i (frames_of r.solo.task)
   pub passed : Passed (is_open i r.solo.memory) k t r.effect
-  pub held : (o : ℕ) → (r.solo.memory.objects o ≡ m.objects o) ⊎ Has (CanWrite o) (k.actions t)
+  pub held : (o : ℕ) → (r.solo.memory.objects o ≡ m.objects o) ⊎ HasAction (CanWrite o) (k.actions t)
   pub owes : OwesFor i (k.actions t) r.effect r.given r.solo.task
 
 module _ (i : Sections) (k : Kernel) (t : ℕ) (m : Words) where
-  unchanged : (o : ℕ) → (m.objects o ≡ m.objects o) ⊎ Has (CanWrite o) (k.actions t)
+  unchanged : (o : ℕ) → (m.objects o ≡ m.objects o) ⊎ HasAction (CanWrite o) (k.actions t)
   unchanged o = inl refl
 
   tells_opened : (kind : Kind) (o : ℕ) (outer : List Action) → Tells (is_open i m) (is_open i m o) (opened_by kind o ∷ outer)
@@ -123,7 +123,7 @@ calls_inside_writes (ProtectedFunction q) (EntryBody p) o e is writes = absurd (
 calls_inside_writes (EntryBody q) (EntryBody p) o e is writes = absurd (true≢false (sym e))
 
 -- who opens an action to write may write
-opener_writes : (kind : Kind) (o : ℕ) (outer : List Action) → object_of kind ≡ Some o → writes_object kind ≡ true → Has (CanWrite o) (opened_by kind o ∷ outer)
+opener_writes : (kind : Kind) (o : ℕ) (outer : List Action) → object_of kind ≡ Some o → writes_object kind ≡ true → HasAction (CanWrite o) (opened_by kind o ∷ outer)
 opener_writes Plain o outer is writes = absurd (none-some o is)
 opener_writes TaskBody o outer is writes = absurd (none-some o is)
 opener_writes (ProtectedProcedure p) o outer is writes = inl refl
@@ -188,15 +188,15 @@ module _ (i : Sections) (w : IsWellFormed i) (schedule : List ScheduleLine) (k :
 
   -- only words of the object change whose action the frame is in
 
-  own_held : (o : Option ℕ) (words : List ℤ) → ((p : ℕ) → o ≡ Some p → Has (CanWrite p) (k.actions t)) → (p : ℕ) → ((with_object_words o words m).objects p ≡ m.objects p) ⊎ Has (CanWrite p) (k.actions t)
+  own_held : (o : Option ℕ) (words : List ℤ) → ((p : ℕ) → o ≡ Some p → HasAction (CanWrite p) (k.actions t)) → (p : ℕ) → ((with_object_words o words m).objects p ≡ m.objects p) ⊎ HasAction (CanWrite p) (k.actions t)
   own_held None words can p = inl refl
   own_held (Some o) words can p = ⊎_elim (λ e. inr (can p (ap Some (sym e)))) (λ ne. inl (put_other o p words m.objects ne)) (same_or_not p o)
 
-  shared_held : (r : Region) (words : List ℤ) → kind_at i f ≡ s.kind → writes_region s r ≡ true → (p : ℕ) → ((shared_with i r words m f).objects p ≡ m.objects p) ⊎ Has (CanWrite p) (k.actions t)
+  shared_held : (r : Region) (words : List ℤ) → kind_at i f ≡ s.kind → writes_region s r ≡ true → (p : ℕ) → ((shared_with i r words m f).objects p ≡ m.objects p) ⊎ HasAction (CanWrite p) (k.actions t)
   shared_held regions.Locals words kind writes p = inl refl
   shared_held regions.Plain words kind writes p = inl refl
   shared_held regions.Object words kind writes p =
-      own_held (own_object i f) words (λ q e. subst (Has (CanWrite q)) (sym acts) (may.0 q e (ap writes_object kind ∙ writes))) p
+      own_held (own_object i f) words (λ q e. subst (HasAction (CanWrite q)) (sym acts) (may.0 q e (ap writes_object kind ∙ writes))) p
 
   stored_links : (o : Operation) → At o → (r : Region) (words : Option (List ℤ)) (stack : List ℤ) → writes_region s r ≡ true → Links i k t m (steps.stored i schedule k t m f fs r words stack)
   stored_links o st r None stack writes = breaks_links

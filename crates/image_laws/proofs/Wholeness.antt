@@ -15,7 +15,7 @@ use Rattle.image.specs.Rules.{IsWellFormed}
 use Rattle.image.specs.Sections.{Sections}
 use Rattle.image.specs.Steps.{behaviour, is_open}
 use Rattle.image_laws.specs.Linked.{IsLinked}
-use Rattle.image_laws.specs.Whole.{IsTask, IsWhole, RunnerOwes, RunnerPasses, RunnerSound, StartsWhole, StepsWhole, UnseenWhole}
+use Rattle.image_laws.specs.Whole.{IsImageTask, IsWhole, RunnerOwes, RunnerPasses, RunnerSound, StartsWhole, StepsWhole, UnseenWhole}
 use Rattle.image_laws.specs.Within.{Anytime}
 use Rattle.image_laws.proofs.Bounds.{bounded_begin}
 use Rattle.image_laws.proofs.Exclusion.{behaves, fits, start_linked}
@@ -69,7 +69,7 @@ module _ (begins : BeginsKept) (every : KeptByEvery) (unmoved : LeftUnmoved) (fr
       record {
         kept = begins (is_open i (start i).rest.memory) p (fits i w);
         linked = start_linked i w unmoved;
-        bounded = bounded_begin (IsTask i) Anytime p (λ t lt. lt) tt;
+        bounded = bounded_begin (IsImageTask i) Anytime p (λ t lt. lt) tt;
         partition = (unmoved (activated p.tasks (blank p))).partition ∙ activated_partition p.tasks (blank p);
       }
 

@@ -3,7 +3,7 @@ use Rattle.std.specs.Prelude.{◌≡◌, ℕ, ◌+◌, ◌<◌, ◌≤◌, List,
 use Rattle.base.specs.declared.limits.TheConstants.{FRAMES}
 use Rattle.kernel.specs.State.{Action, Reads, Writes, Serves}
 use Rattle.kernel.specs.Effects.{Effect, Opens, Views, Queues, Ends, outer_of}
-use Rattle.kernel.specs.Invariant.{CanWrite, Has, ServesCall}
+use Rattle.kernel.specs.Invariant.{CanWrite, HasAction, ServesCall}
 use Rattle.image.specs.Sections.{Sections, object_of, writes_object}
 use Rattle.image.specs.Operations.{called, entry_called, entry_of, results_of}
 use Rattle.image.specs.Frames.{Role, Inner, Opened, Serving, Frame, TaskState, kind_of}
@@ -41,7 +41,7 @@ frames_of s = s.frame ∷ s.callers
 abbrev pub MayWrite : Sections → List Frame → Type 0
 MayWrite i [] = Unit {0}
 MayWrite i (f ∷ fs) =
-    ((o : ℕ) → object_of (kind_at i f) ≡ Some o → writes_object (kind_at i f) ≡ true → Has (CanWrite o) (actions_of i (f ∷ fs))) × MayWrite i fs
+    ((o : ℕ) → object_of (kind_at i f) ≡ Some o → writes_object (kind_at i f) ≡ true → HasAction (CanWrite o) (actions_of i (f ∷ fs))) × MayWrite i fs
 
 -- the actions of the running task after its step, by the effect, unless it takes a queued call over
 abbrev pub next_actions : Effect → List Action → List Action
@@ -88,7 +88,7 @@ OwesFor i actions _ g s = Unit {0}
 
 -- who is served by somebody, by the actions of all
 abbrev pub IsServedIn : (ℕ → List Action) → ℕ → Type 0
-IsServedIn actions u = (t : ℕ) × (o : ℕ) × Has (ServesCall o u) (actions t)
+IsServedIn actions u = (t : ℕ) × (o : ℕ) × HasAction (ServesCall o u) (actions t)
 
 -- open actions, queued calls and the states of tasks fit together
 pub record IsLinked (i : Sections) (actions : ℕ → List Action) (queued : ℕ → Option ℕ) (tasks : ℕ → TaskState) : Type 0 where
@@ -96,4 +96,4 @@ pub record IsLinked (i : Sections) (actions : ℕ → List Action) (queued : ℕ
   pub may : (t : ℕ) → t < length i.tasks → MayWrite i (frames_of (tasks t))
   pub sound : (u : ℕ) → (IsServedIn actions u → ⊥) → IsSound i (tasks u)
   pub calling : (o u : ℕ) → queued o ≡ Some u → IsCalling i o (tasks u)
-  pub awaiting : (t o u : ℕ) → Has (ServesCall o u) (actions t) → IsAwaiting i o (tasks u)
+  pub awaiting : (t o u : ℕ) → HasAction (ServesCall o u) (actions t) → IsAwaiting i o (tasks u)

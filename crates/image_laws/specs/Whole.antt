@@ -15,14 +15,14 @@ use Rattle.image_laws.specs.Linked.{IsLinked, OwesFor}
 use Rattle.image_laws.specs.Shape.{IsSound}
 use Rattle.image_laws.specs.Within.{Anytime, Bounded}
 
-abbrev pub IsTask : Sections → ℕ → Type 0
-IsTask i t = t < length i.tasks
+abbrev pub IsImageTask : Sections → ℕ → Type 0
+IsImageTask i t = t < length i.tasks
 
 -- the kernel's invariant, the link of frames and open actions, and that whoever the kernel speaks of is a task of the image
 pub record IsWhole (i : Sections) (w : CodeWorld) : Type 0 where
   pub kept : Kept (is_open i w.rest.memory) w.kernel
   pub linked : IsLinked i w.kernel.actions w.kernel.queued w.rest.tasks
-  pub bounded : Bounded (IsTask i) Anytime w.kernel
+  pub bounded : Bounded (IsImageTask i) Anytime w.kernel
   pub partition : w.kernel.partition ≡ partition_of i
 
 abbrev pub StartsWhole : Type 0

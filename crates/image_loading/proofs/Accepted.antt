@@ -7,7 +7,7 @@ use Rattle.std.proofs.lemmas.Bool.Decides.{leb_tells}
 use Rattle.std.proofs.lemmas.Option.{none-some, same_Some}
 use Rattle.handlers.specs.declared.rows.Row.{Row}
 use Rattle.image.specs.declared.subprograms.Subprogram.{Subprogram}
-use Rattle.image_loading.specs.FaultOrder.{Faults, rule}
+use Rattle.image_loading.specs.FaultOrder.{ImageFaults, rule}
 use Rattle.image_loading.specs.Loading.{each}
 use Rattle.image.specs.Rules.{all_begun, all_nested, all_placed, are_nested, begins_with, none_or}
 use Rattle.image.specs.Sections.{Sections, end_of, first_place, holder}
@@ -19,7 +19,7 @@ join true b p q = q
 join false b p q = p
 
 -- of lists that are empty together each is
-pub append_none : (a b : Faults) → a ++ b ≡ [] → (a ≡ []) × (b ≡ [])
+pub append_none : (a b : ImageFaults) → a ++ b ≡ [] → (a ≡ []) × (b ≡ [])
 append_none [] b e = (refl, e)
 append_none (f ∷ fs) b e = absurd cc
 
@@ -32,7 +32,7 @@ pub kept_where : (n p : ℕ) (a b : Bool) → rule n p (a && not b) ≡ [] → a
 kept_where n p true b e is = kept n p b e
 kept_where n p false b e is = absurd (true≢false (sym is))
 
-pub each_at : {X : Type 0} (behind : ℕ → X → ℕ) (faults : ℕ → ℕ → X → Faults) (xs : List X) (n b k : ℕ) (x : X) → each behind faults n b xs ≡ [] → slice_get xs k ≡ Some x → (c : ℕ) × (faults (n + k) c x ≡ [])
+pub each_at : {X : Type 0} (behind : ℕ → X → ℕ) (faults : ℕ → ℕ → X → ImageFaults) (xs : List X) (n b k : ℕ) (x : X) → each behind faults n b xs ≡ [] → slice_get xs k ≡ Some x → (c : ℕ) × (faults (n + k) c x ≡ [])
 each_at behind faults [] n b k x e is = absurd (none-some x is)
 each_at behind faults (y ∷ ys) n b zero x e is =
     let s : n + 0 ≡ n = omega arith in

@@ -10,7 +10,7 @@ use Rattle.image_loading.specs.declared.raw_sections.RawInstruction.{RawInstruct
 use Rattle.image.specs.declared.subprograms.Subprogram.{Subprogram}
 use Rattle.image_format.specs.Bytes.{address_of, constant_of}
 use Rattle.image_loading.specs.Decoding.{instruction_of, operation_of, sections_of}
-use Rattle.image_loading.specs.FaultOrder.{Faults, after, rule}
+use Rattle.image_loading.specs.FaultOrder.{ImageFaults, after, rule}
 use Rattle.image_loading.specs.Loading.{behind_row, code_faults, code_start, each, effect_faults, held_faults, instruction_faults, jump_faults, may_use_object, operand_faults, operation_faults, place_faults, sections_faults}
 use Rattle.image.specs.Operations.{goes_on, jump_target, taken_by}
 use Rattle.image_loading.specs.Reading.{Raw}
@@ -45,11 +45,11 @@ operands_kept r c k x is =
 
 -- Instructions in their subprograms
 
-taken_or : (b : Bool) (fs gs : Faults) → (if b then fs else gs) ≡ [] → (gs ≡ [] → ⊥) → (b ≡ true) × (fs ≡ [])
+taken_or : (b : Bool) (fs gs : ImageFaults) → (if b then fs else gs) ≡ [] → (gs ≡ [] → ⊥) → (b ≡ true) × (fs ≡ [])
 taken_or true fs gs e never = (refl, e)
 taken_or false fs gs e never = absurd (never e)
 
-where_known : (b : Bool) (fs : Faults) (t : Bool) → (if b then fs else []) ≡ [] → (fs ≡ [] → t ≡ true) → (not b || t) ≡ true
+where_known : (b : Bool) (fs : ImageFaults) (t : Bool) → (if b then fs else []) ≡ [] → (fs ≡ [] → t ≡ true) → (not b || t) ≡ true
 where_known true fs t e then_ = then_ e
 where_known false fs t e then_ = refl
 

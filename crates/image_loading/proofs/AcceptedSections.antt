@@ -7,7 +7,7 @@ use Rattle.base.specs.Names.{is_identifier, is_label, is_name, predefined}
 use Rattle.base.specs.declared.limits.TheConstants.{EXCEPTIONS, INSTRUCTIONS, LABELS, LABEL_LIMIT, NAME_LIMIT, OBJECTS, ROWS, SUBPROGRAMS, TASKS}
 use Rattle.base.specs.declared.faults.TheConstants.{TABLES_DISAGREE}
 use Rattle.image_loading.specs.Decoding.{sections_of, text_from}
-use Rattle.image_loading.specs.FaultOrder.{Faults}
+use Rattle.image_loading.specs.FaultOrder.{ImageFaults}
 use Rattle.image_loading.specs.Loading.{all_crossing_faults, behind_object, behind_row, behind_task, behind_text, code_part_faults, code_start, count_faults, count_rule, crossing_faults, each, exception_faults, faults_as, few_words, head_faults, instruction_faults, is_exception, label_faults, labels_start, last_size_byte, object_faults, objects_start, place_faults, row_faults, rows_start, sections_faults, subprogram_faults, subprograms_start, table_faults, task_faults, tasks_start, text_byte, text_count_faults, text_faults, word_faults}
 use Rattle.image_loading.specs.Reading.{Raw}
 use Rattle.image.specs.Rules.{begins_with, has_counts, has_ends, is_within}
@@ -30,7 +30,7 @@ pub record Clear (r : Raw) : Type 0 where
   pub places : (if has_ends (sections_of r) then each (behind_row 13) (place_faults (sections_of r) (code_start r)) 0 (code_start r) r.instructions else []) ≡ []
 
 -- three lists
-pub apart : (a b c : Faults) → a ++ b ++ c ≡ [] → (a ≡ []) × (b ≡ []) × (c ≡ [])
+pub apart : (a b c : ImageFaults) → a ++ b ++ c ≡ [] → (a ≡ []) × (b ≡ []) × (c ≡ [])
 apart a b c e = let p = append_none (a ++ b) c e in let q = append_none a b p.0 in (q.0, q.1, p.1)
 
 pub clear : (r : Raw) → sections_faults r ≡ [] → Clear r
@@ -59,7 +59,7 @@ clear r e =
     }
 
 -- the faults of the element of a number
-pub none_at : {X : Type 0} (behind : ℕ → X → ℕ) (faults : ℕ → ℕ → X → Faults) (xs : List X) (b k : ℕ) (x : X) → each behind faults 0 b xs ≡ [] → slice_get xs k ≡ Some x → (c : ℕ) × (faults k c x ≡ [])
+pub none_at : {X : Type 0} (behind : ℕ → X → ℕ) (faults : ℕ → ℕ → X → ImageFaults) (xs : List X) (b k : ℕ) (x : X) → each behind faults 0 b xs ≡ [] → slice_get xs k ≡ Some x → (c : ℕ) × (faults k c x ≡ [])
 none_at behind faults xs b k x e is =
     let w = each_at behind faults xs 0 b k x e is in
     let s : 0 + k ≡ k = omega arith in

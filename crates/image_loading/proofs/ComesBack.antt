@@ -17,9 +17,9 @@ use Rattle.image_loading.specs.Decoding.{instruction_of, object_from, sections_o
 use Rattle.image_loading.specs.FaultOrder.{first_of, rule}
 use Rattle.image_loading.specs.Loaded.{ComesFrom}
 use Rattle.image_loading.specs.Loading.{agrees, all_crossing_faults, behind_object, behind_row, behind_task, behind_text, code_part_faults, code_start, count_faults, crossing_faults, each, exception_faults, faults_as, few_words, head_faults, header_faults, image_faults, instruction_faults, label_faults, labels_start, last_size_byte, magic, magic_and_version, object_faults, objects_start, place_faults, read_faults, row_faults, rows_start, sections_faults, subprogram_faults, subprograms_start, table_faults, task_faults, tasks_start, text_count_faults, text_faults, unless_faulty, word_faults}
-use Rattle.image_loading.specs.NumberRanges.{Each, IsHalf, IsWord, InstructionFits, ObjectFits, RowFits, SectionsFit, SubprogramFits, TaskFits}
+use Rattle.image_loading.specs.NumberRanges.{EachOf, IsHalf, IsWord, InstructionFits, ObjectFits, RowFits, SectionsFit, SubprogramFits, TaskNumbersFit}
 use Rattle.image_loading.specs.RawRows.{RawObjectRow, RawTaskRow}
-use Rattle.image_loading.specs.Reading.{Raw, Reading, and_then, counts_row, made, read_counts, read_image, read_instruction, read_many, read_object, read_raw, read_row, read_subprogram, read_task, read_text, read_word}
+use Rattle.image_loading.specs.Reading.{Raw, ByteReading, and_then, counts_row, made, read_counts, read_image, read_instruction, read_many, read_object, read_raw, read_row, read_subprogram, read_task, read_text, read_word}
 use Rattle.image_loading.specs.declared.raw_sections.RawInstruction.{RawInstruction}
 use Rattle.image_loading.specs.declared.raw_sections.RawSubprogram.{RawSubprogram}
 use Rattle.image_loading.specs.declared.reading.Counts.{Counts}
@@ -118,11 +118,11 @@ counts_back : (i : Sections) → CountsFit i → (rest : List ℕ) → read_coun
 unfolding read_counts header_bytes half
 counts_back i f rest = ap (made counts_row) (bytes_back 22 (header_bytes i) rest refl) ∙ ap (λ v. Some (v, rest)) (same_counts i f)
 
-each_any : {X : Type 0} (xs : List X) → Each (λ x. Unit {0}) xs
+each_any : {X : Type 0} (xs : List X) → EachOf (λ x. Unit {0}) xs
 each_any [] = tt
 each_any (x ∷ xs) = (tt, each_any xs)
 
-each_whole : (os : List ObjectRow) → Each ObjectFits os → sum_by (λ o. length o.words) os ≤ 8192 → Each ObjectFitsWhole os
+each_whole : (os : List ObjectRow) → EachOf ObjectFits os → sum_by (λ o. length o.words) os ≤ 8192 → EachOf ObjectFitsWhole os
 each_whole [] fit le = tt
 each_whole (o ∷ os) fit le =
     let split : sum_by (λ o. length o.words) (o ∷ os) ≡ length o.words + sum_by (λ o. length o.words) os = sum_by-cons (λ o. length o.words) o os in
@@ -132,26 +132,26 @@ texts_back : (ts : List (List ℕ)) (rest : List ℕ) → read_many read_text (l
 texts_back ts rest = many_back read_text text (λ t. t) (λ t. Unit {0}) text_back ts (each_any ts) rest ∙ ap (λ v. Some (v, rest)) (map_itself ts)
 
 -- what is read behind each section
-abbrev from7 : List (List ℕ) → List (List ℕ) → List ℤ → List RawObjectRow → List RawSubprogram → List RawTaskRow → Counts → List Row → Reading Raw
+abbrev from7 : List (List ℕ) → List (List ℕ) → List ℤ → List RawObjectRow → List RawSubprogram → List RawTaskRow → Counts → List Row → ByteReading Raw
 from7 e l w o s t c r b =
     made (λ instructions. record { exceptions = e; labels = l; plain_words = w; objects = o; subprograms = s; tasks = t; rows = r; instructions = instructions }) (read_many read_instruction c.instructions b)
 
-abbrev from6 : List (List ℕ) → List (List ℕ) → List ℤ → List RawObjectRow → List RawSubprogram → Counts → List RawTaskRow → Reading Raw
+abbrev from6 : List (List ℕ) → List (List ℕ) → List ℤ → List RawObjectRow → List RawSubprogram → Counts → List RawTaskRow → ByteReading Raw
 from6 e l w o s c t b = and_then (read_many read_row c.rows b) (from7 e l w o s t c)
 
-abbrev from5 : List (List ℕ) → List (List ℕ) → List ℤ → List RawObjectRow → Counts → List RawSubprogram → Reading Raw
+abbrev from5 : List (List ℕ) → List (List ℕ) → List ℤ → List RawObjectRow → Counts → List RawSubprogram → ByteReading Raw
 from5 e l w o c s b = and_then (read_many read_task c.tasks b) (from6 e l w o s c)
 
-abbrev from4 : List (List ℕ) → List (List ℕ) → List ℤ → Counts → List RawObjectRow → Reading Raw
+abbrev from4 : List (List ℕ) → List (List ℕ) → List ℤ → Counts → List RawObjectRow → ByteReading Raw
 from4 e l w c o b = and_then (read_many read_subprogram c.subprograms b) (from5 e l w o c)
 
-abbrev from3 : List (List ℕ) → List (List ℕ) → Counts → List ℤ → Reading Raw
+abbrev from3 : List (List ℕ) → List (List ℕ) → Counts → List ℤ → ByteReading Raw
 from3 e l c w b = and_then (read_many read_object c.objects b) (from4 e l w c)
 
-abbrev from2 : List (List ℕ) → Counts → List (List ℕ) → Reading Raw
+abbrev from2 : List (List ℕ) → Counts → List (List ℕ) → ByteReading Raw
 from2 e c l b = and_then (read_many read_word c.plain_words b) (from3 e l c)
 
-abbrev from1 : Counts → List (List ℕ) → Reading Raw
+abbrev from1 : Counts → List (List ℕ) → ByteReading Raw
 from1 c e b = and_then (read_many read_text c.labels b) (from2 e c)
 
 module _ (i : Sections) (w : IsWellFormed i) (n : SectionsFit i) where
@@ -197,7 +197,7 @@ module _ (i : Sections) (w : IsWellFormed i) (n : SectionsFit i) where
 
   back5 : from5 i.exceptions i.labels i.plain_words raw.objects (counts_of i) raw.subprograms tasks ≡ Some (raw_of i, [])
   back5 =
-      ap (λ r. and_then r (from6 i.exceptions i.labels i.plain_words raw.objects raw.subprograms (counts_of i))) (many_back read_task task_bytes raw_task TaskFits task_back i.tasks n.tasks rows)
+      ap (λ r. and_then r (from6 i.exceptions i.labels i.plain_words raw.objects raw.subprograms (counts_of i))) (many_back read_task task_bytes raw_task TaskNumbersFit task_back i.tasks n.tasks rows)
       ∙ back6
 
   back4 : from4 i.exceptions i.labels i.plain_words (counts_of i) raw.objects subprograms ≡ Some (raw_of i, [])

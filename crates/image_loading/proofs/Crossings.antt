@@ -7,7 +7,7 @@ use Rattle.base.specs.declared.faults.TheConstants.{TABLES_DISAGREE}
 use Rattle.handlers.specs.Nesting.{IsFirst, crosses_at, crosses_one, some_and}
 use Rattle.handlers.specs.declared.rows.Row.{Row}
 use Rattle.image.specs.declared.fault.ImageFault.{ImageFault}
-use Rattle.image_loading.specs.FaultOrder.{Faults, after, fault_at, first_of, is_no_later, order_of, rule, sooner}
+use Rattle.image_loading.specs.FaultOrder.{ImageFaults, after, fault_at, first_of, is_no_later, order_of, rule, sooner}
 use Rattle.image_loading.specs.Loading.{behind_row, crossing_faults, each}
 use Rattle.image_loading.proofs.FirstFault.{first_append, sooner_assoc}
 
@@ -20,7 +20,7 @@ stays f g le = by (nat_lt (order_of g) (order_of f)) refl
     by false is = refl
 
 module _ (flag : ℕ → Row → Bool) where
-  abbrev of_row : ℕ → ℕ → Row → Faults
+  abbrev of_row : ℕ → ℕ → Row → ImageFaults
   of_row n b row = rule TABLES_DISAGREE (after b 2) (flag n row)
 
   ruled : (n b : ℕ) (row : Row) (v : Bool) → flag n row ≡ v → of_row n b row ≡ (if v then fault_at TABLES_DISAGREE (after b 2) ∷ [] else [])
@@ -34,7 +34,7 @@ module _ (flag : ℕ → Row → Bool) where
       ap (λ fs. fs ++ each (behind_row 8) of_row (n + 1) (after b 8) rows) (ruled n b row false (subst (λ m. flag m row ≡ false) here (none 0 row refl)))
       ∙ none_told rows (n + 1) (after b 8) (λ k q is. let e : (n + 1) + k ≡ n + suc k = omega arith in rw e (none (suc k) q is))
 
-  next_later : (rest : Faults) (n b : ℕ) (row : Row) (f : ImageFault) → order_of f ≤ order_of (fault_at TABLES_DISAGREE (after b 2)) → sooner (Some f) (first_of rest) ≡ Some f → (v : Bool) → flag n row ≡ v → sooner (Some f) (first_of (of_row n b row ++ rest)) ≡ Some f
+  next_later : (rest : ImageFaults) (n b : ℕ) (row : Row) (f : ImageFault) → order_of f ≤ order_of (fault_at TABLES_DISAGREE (after b 2)) → sooner (Some f) (first_of rest) ≡ Some f → (v : Bool) → flag n row ≡ v → sooner (Some f) (first_of (of_row n b row ++ rest)) ≡ Some f
   next_later rest n b row f le on true is =
       let g = fault_at TABLES_DISAGREE (after b 2) in
       ap (λ fs. sooner (Some f) (first_of (fs ++ rest))) (ruled n b row true is)
@@ -88,7 +88,7 @@ first_crossing rows start (Some m) first =
     (λ k q lt is. crosses_there rows k q false is (first.2 k lt))
 
 -- they change nothing behind a fault that comes no later
-pub before_crossings : (rows : List Row) (start : ℕ) (fault : Option ImageFault) (fs : Faults) → fault ≡ first_of fs → is_no_later fault (fault_at TABLES_DISAGREE (after start 2)) ≡ true → fault ≡ first_of (fs ++ each (behind_row 8) (crossing_faults rows) 0 start rows)
+pub before_crossings : (rows : List Row) (start : ℕ) (fault : Option ImageFault) (fs : ImageFaults) → fault ≡ first_of fs → is_no_later fault (fault_at TABLES_DISAGREE (after start 2)) ≡ true → fault ≡ first_of (fs ++ each (behind_row 8) (crossing_faults rows) 0 start rows)
 before_crossings rows start None fs is sooner_ = absurd (true≢false (sym sooner_))
 before_crossings rows start (Some f) fs is sooner_ =
     let crossings = each (behind_row 8) (crossing_faults rows) 0 start rows in

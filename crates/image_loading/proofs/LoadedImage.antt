@@ -6,11 +6,11 @@ use Rattle.std.proofs.lemmas.Bool.{cases_lt, true≢false}
 use Rattle.std.proofs.lemmas.List.{get_or_past}
 use Rattle.std.proofs.lemmas.List.Elements.{All-get_or}
 use Rattle.image_loading.specs.Decoding.{sections_of}
-use Rattle.image_loading.specs.FaultOrder.{Faults, first_of, order_of}
-use Rattle.image_loading.specs.Loaded.{BytesComeBack, IsLoaded, IsRead, IsRefused}
+use Rattle.image_loading.specs.FaultOrder.{ImageFaults, first_of, order_of}
+use Rattle.image_loading.specs.Loaded.{BytesComeBack, IsLoaded, IsRead, RefusesBytes}
 use Rattle.image_loading.specs.Loading.{all_crossing_faults, faults_as, header_faults, read_faults, sections_faults, unless_faulty}
 use Rattle.image_loading.specs.Reading.{Raw, read_image}
-use Rattle.image.specs.Refusals.{Breaks, Refuses}
+use Rattle.image.specs.Refusals.{BreaksRule, RefusesImage}
 use Rattle.image.specs.Rules.{IsWellFormed}
 use Rattle.image.specs.Sections.{Sections}
 use Rattle.image.specs.declared.fault.ImageFault.{ImageFault}
@@ -37,7 +37,7 @@ pub same_bytes : {E : Type 0} (bytes : List ℕ) (raw : Raw) (parts : Sections) 
 same_bytes bytes raw parts (Err e) fits is same none h = tt
 same_bytes bytes raw parts (Ok image) fits is same none h = ap bytes_of (h ∙ same) ∙ spelled bytes raw fits is.header is.read none
 
-never : {X : Type 0} (i : Sections) → IsWellFormed i → (n : ℕ) → Breaks i n → X
+never : {X : Type 0} (i : Sections) → IsWellFormed i → (n : ℕ) → BreaksRule i n → X
 never i w n b =
     absurd
     (⊎_elim
@@ -48,18 +48,18 @@ never i w n b =
     b)
     b)
 
-pub refused : {X : Type 0} (bytes : List ℕ) (raw : Raw) (parts : Sections) (r : Result X ImageFault) → parts ≡ sections_of raw → sections_faults raw ≡ [] → IfErr r (Refuses parts) → IfErr r (λ fault. IsRefused bytes fault)
+pub refused : {X : Type 0} (bytes : List ℕ) (raw : Raw) (parts : Sections) (r : Result X ImageFault) → parts ≡ sections_of raw → sections_faults raw ≡ [] → IfErr r (RefusesImage parts) → IfErr r (λ fault. RefusesBytes bytes fault)
 refused bytes raw parts (Ok x) same none h = tt
 refused bytes raw parts (Err fault) same none h =
     ⊎_elim (λ m. inl m) (λ b. never parts (subst IsWellFormed (sym same) (accepted raw none)) fault.number b.1) h
 
 -- bytes without a fault have none in their parts
 
-no_first : (fs others : Faults) → unless_faulty fs others ≡ [] → fs ≡ []
+no_first : (fs others : ImageFaults) → unless_faulty fs others ≡ [] → fs ≡ []
 no_first [] others e = refl
 no_first (f ∷ fs) others e = cc
 
-no_other : (fs others : Faults) → unless_faulty fs others ≡ [] → others ≡ []
+no_other : (fs others : ImageFaults) → unless_faulty fs others ≡ [] → others ≡ []
 no_other [] others e = e
 no_other (f ∷ fs) others e = cc
 

@@ -22,7 +22,7 @@ use Rattle.image.specs.declared.subprograms.Subprogram.{Subprogram}
 use Rattle.image.specs.declared.tasks.Task.{Task}
 use Rattle.image_format.specs.Bytes.{address_of, constant_of, kind_number}
 use Rattle.image_loading.specs.Decoding.{instruction_of}
-use Rattle.image_loading.specs.FaultOrder.{Faults, after, rule}
+use Rattle.image_loading.specs.FaultOrder.{ImageFaults, after, rule}
 use Rattle.image_loading.specs.Loading.{barrier_faults, barrier_number, body_faults, code_faults, count_faults, count_rule, crossing_faults, decoded_faults, each, effect_faults, entry_body_faults, entry_called_faults, entry_faults, exception_faults, few_words, has_barrier, instruction_faults, is_end, is_exception, jump_faults, kind_faults, label_faults, may_use_object, names_object, object_faults, object_of_kind, operand_faults, operation_faults, place_faults, row_faults, size_faults, subprogram_faults, task_faults, text_byte, text_count_faults, word_of_barrier}
 use Rattle.image_loading.proofs.Accepted.{first_begin, join, nested_either_way}
 use Rattle.image_loading.proofs.DecodedBack.{instruction_back, object_back, operation_back, subprogram_back}
@@ -45,16 +45,16 @@ unbroken_if n p true b e = unbroken n p b e
 unbroken_if n p false b e = refl
 
 -- no fault in two lists, in three
-pub none_two : (a b : Faults) → a ≡ [] → b ≡ [] → a ++ b ≡ []
+pub none_two : (a b : ImageFaults) → a ≡ [] → b ≡ [] → a ++ b ≡ []
 none_two a b p q = λ j. p j ++ q j
 
-pub none_three : (a b c : Faults) → a ≡ [] → b ≡ [] → c ≡ [] → a ++ b ++ c ≡ []
+pub none_three : (a b c : ImageFaults) → a ≡ [] → b ≡ [] → c ≡ [] → a ++ b ++ c ≡ []
 none_three a b c p q r = λ j. p j ++ q j ++ r j
 
-pub none_four : (a b c d : Faults) → a ≡ [] → b ≡ [] → c ≡ [] → d ≡ [] → a ++ b ++ c ++ d ≡ []
+pub none_four : (a b c d : ImageFaults) → a ≡ [] → b ≡ [] → c ≡ [] → d ≡ [] → a ++ b ++ c ++ d ≡ []
 none_four a b c d p q r s = λ j. p j ++ q j ++ r j ++ s j
 
-none_from : {X Y : Type 0} (of : X → Y) (behind : ℕ → Y → ℕ) (faults : ℕ → ℕ → Y → Faults) (xs : List X) (n b : ℕ) → ((k : ℕ) (x : X) → slice_get xs k ≡ Some x → (c : ℕ) → faults (n + k) c (of x) ≡ []) → each behind faults n b (map of xs) ≡ []
+none_from : {X Y : Type 0} (of : X → Y) (behind : ℕ → Y → ℕ) (faults : ℕ → ℕ → Y → ImageFaults) (xs : List X) (n b : ℕ) → ((k : ℕ) (x : X) → slice_get xs k ≡ Some x → (c : ℕ) → faults (n + k) c (of x) ≡ []) → each behind faults n b (map of xs) ≡ []
 none_from of behind faults [] n b h = refl
 none_from of behind faults (x ∷ xs) n b h =
     let here : n + 0 ≡ n = omega arith in
@@ -62,14 +62,14 @@ none_from of behind faults (x ∷ xs) n b h =
     (none_from of behind faults xs (n + 1) (behind b (of x)) (λ k y is c. let e : (n + 1) + k ≡ n + suc k = omega arith in rw e (h (suc k) y is c)))
 
 -- no element has a fault
-pub none_of : {X Y : Type 0} (of : X → Y) (behind : ℕ → Y → ℕ) (faults : ℕ → ℕ → Y → Faults) (xs : List X) (b : ℕ) → ((k : ℕ) (x : X) → slice_get xs k ≡ Some x → (c : ℕ) → faults k c (of x) ≡ []) → each behind faults 0 b (map of xs) ≡ []
+pub none_of : {X Y : Type 0} (of : X → Y) (behind : ℕ → Y → ℕ) (faults : ℕ → ℕ → Y → ImageFaults) (xs : List X) (b : ℕ) → ((k : ℕ) (x : X) → slice_get xs k ≡ Some x → (c : ℕ) → faults k c (of x) ≡ []) → each behind faults 0 b (map of xs) ≡ []
 none_of of behind faults xs b h = none_from of behind faults xs 0 b (λ k x is c. let e : 0 + k ≡ k = omega arith in rw e (h k x is c))
 
 same_list : {X : Type 0} (xs : List X) → map (λ x. x) xs ≡ xs
 same_list [] = refl
 same_list (x ∷ xs) = ap (λ ys. x ∷ ys) (same_list xs)
 
-pub none_in : {X : Type 0} (behind : ℕ → X → ℕ) (faults : ℕ → ℕ → X → Faults) (xs : List X) (b : ℕ) → ((k : ℕ) (x : X) → slice_get xs k ≡ Some x → (c : ℕ) → faults k c x ≡ []) → each behind faults 0 b xs ≡ []
+pub none_in : {X : Type 0} (behind : ℕ → X → ℕ) (faults : ℕ → ℕ → X → ImageFaults) (xs : List X) (b : ℕ) → ((k : ℕ) (x : X) → slice_get xs k ≡ Some x → (c : ℕ) → faults k c x ≡ []) → each behind faults 0 b xs ≡ []
 none_in behind faults xs b h = sym (ap (each behind faults 0 b) (same_list xs)) ∙ none_of (λ x. x) behind faults xs b h
 
 equal : (n : ℕ) → nat_eq n n ≡ true
@@ -305,7 +305,7 @@ effect_none i code place byte x s e =
     ap (λ v. if v then (fits ++ next ++ jump) else rule DEPTHS_DISAGREE (after byte 1) true) a.0
     ∙ none_three fits next jump (unbroken DEPTHS_DISAGREE (after byte 1) (nat_le left s.stack) b.0) (unbroken_if DEPTHS_DISAGREE (after byte 14) (goes_on x.operation) (has_depth i (place + 1) left) d.0) (jump_none i code place byte left (jump_target x.operation) d.1)
 
-where_known : (b : Bool) (fs : Faults) (t : Bool) → (not b || t) ≡ true → (t ≡ true → fs ≡ []) → (if b then fs else []) ≡ []
+where_known : (b : Bool) (fs : ImageFaults) (t : Bool) → (not b || t) ≡ true → (t ≡ true → fs ≡ []) → (if b then fs else []) ≡ []
 where_known true fs t e none = none e
 where_known false fs t e none = refl
 

@@ -3,7 +3,7 @@ use Rattle.std.proofs.Common.{◌≡◌, ℕ, List, [], ◌∷◌, ◌++◌, Som
 use Rattle.std.specs.List.{list_any}
 use Rattle.image_format.specs.Bytes.{address_of, code_bytes, constant_of, data_bytes, half, header_bytes, name_bytes, opcode_of, table_bytes, word}
 use Rattle.image_loading.specs.Decoding.{operation_from}
-use Rattle.image_loading.specs.FaultOrder.{Faults, fault_at}
+use Rattle.image_loading.specs.FaultOrder.{ImageFaults, fault_at}
 use Rattle.image_loading.specs.Loading.{image_fault, image_faults}
 use Rattle.image_loading.specs.Reading.{byte_at, half_at, read_bytes, read_counts, read_image, read_instruction, read_many, read_object, read_raw, read_row, read_subprogram, read_task, read_text, read_word, word_at}
 use Rattle.image.specs.declared.fault.ImageFault.{ImageFault}
@@ -171,10 +171,10 @@ wrongs =
     ∷ breaks (both ceiling_too_high returns_too_much) (fault_at 47 103) (fault_at 46 591)
     ∷ []
 
-abbrev has : Faults → ImageFault → Bool
+abbrev has : ImageFaults → ImageFault → Bool
 has faults f = list_any (λ g. nat_eq g.number f.number && nat_eq g.byte f.byte) faults
 
-abbrev are_both : Faults → ImageFault → ImageFault → Bool
+abbrev are_both : ImageFaults → ImageFault → ImageFault → Bool
 are_both faults a b = nat_eq (length faults) 2 && (has faults a && has faults b)
 
 two_broken : map (λ w. are_both (image_faults (w.change kept_bytes)) w.first w.second) wrongs ≡ map (λ w. true) wrongs

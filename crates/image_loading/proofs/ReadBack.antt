@@ -18,14 +18,14 @@ use Rattle.image.specs.declared.subprograms.Subprogram.{Subprogram}
 use Rattle.image.specs.declared.tasks.Task.{Task}
 use Rattle.image_format.specs.Bytes.{address_of, barrier_bytes, constant_of, half, instruction_bytes, kind_number, object_bytes, opcode_of, row_bytes, subprogram_bytes, task_bytes, text, word}
 use Rattle.image_loading.specs.Loading.{barrier_number, object_of_kind, word_of_barrier}
-use Rattle.image_loading.specs.NumberRanges.{Each, InstructionFits, IsHalf, IsWord, ObjectFits, RowFits, SubprogramFits, TaskFits}
+use Rattle.image_loading.specs.NumberRanges.{EachOf, InstructionFits, IsHalf, IsWord, ObjectFits, RowFits, SubprogramFits, TaskNumbersFit}
 use Rattle.image_loading.specs.RawRows.{RawObjectRow, RawTaskRow}
-use Rattle.image_loading.specs.Reading.{Reading, and_then, byte_at, half_at, handler_row, instruction_row, made, object_row, read_bytes, read_instruction, read_many, read_object, read_row, read_subprogram, read_task, read_text, read_word, subprogram_row, word_at}
+use Rattle.image_loading.specs.Reading.{ByteReading, and_then, byte_at, half_at, handler_row, instruction_row, made, object_row, read_bytes, read_instruction, read_many, read_object, read_row, read_subprogram, read_task, read_text, read_word, subprogram_row, word_at}
 use Rattle.image_loading.specs.declared.raw_sections.RawInstruction.{RawInstruction}
 use Rattle.image_loading.specs.declared.raw_sections.RawSubprogram.{RawSubprogram}
 
 -- what is spelled so is read as the value that stands for it
-abbrev pub Back : {X Y : Type 0} → Reading Y → (X → List ℕ) → (X → Y) → (X → Type 0) → Type 0
+abbrev pub Back : {X Y : Type 0} → ByteReading Y → (X → List ℕ) → (X → Y) → (X → Type 0) → Type 0
 Back {X = X} read spell of fits = (x : X) → fits x → (rest : List ℕ) → read (spell x ++ rest) ≡ Some (of x, rest)
 
 pub bytes_back : (n : ℕ) (front rest : List ℕ) → length front ≡ n → read_bytes n (front ++ rest) ≡ Some (front, rest)
@@ -44,13 +44,13 @@ bytes_back n front rest long = subst (λ m. read_bytes m (front ++ rest) ≡ Som
     whole : cond (nat_lt (length (front ++ rest)) (length front)) none cut ≡ Some (front, rest)
     whole = ap (λ b. cond b none cut) enough ∙ (λ j. Some (take-append_seam front rest j, drop-append_seam front rest j))
 
-pub many_back : {X Y : Type 0} (read : Reading Y) (spell : X → List ℕ) (of : X → Y) (fits : X → Type 0) → Back read spell of fits → (xs : List X) → Each fits xs → (rest : List ℕ) → read_many read (length xs) (flat_map spell xs ++ rest) ≡ Some (map of xs, rest)
+pub many_back : {X Y : Type 0} (read : ByteReading Y) (spell : X → List ℕ) (of : X → Y) (fits : X → Type 0) → Back read spell of fits → (xs : List X) → EachOf fits xs → (rest : List ℕ) → read_many read (length xs) (flat_map spell xs ++ rest) ≡ Some (map of xs, rest)
 unfolding read_many
 many_back {Y = Y} read spell of fits back [] each rest = refl
 many_back {Y = Y} read spell of fits back (x ∷ xs) each rest =
     let more = flat_map spell xs ++ rest in
     let split : flat_map spell (x ∷ xs) ++ rest ≡ spell x ++ more = ap (λ l. l ++ rest) (flat_map-cons spell x xs) ∙ append_assoc (spell x) (flat_map spell xs) rest in
-    let next : Y → Reading (List Y) = λ y left. made (λ ys. y ∷ ys) (read_many read (length xs) left) in
+    let next : Y → ByteReading (List Y) = λ y left. made (λ ys. y ∷ ys) (read_many read (length xs) left) in
     ap (λ b. and_then (read b) next) split
     ∙ (ap (λ r. and_then r next) (back x each.0 more) ∙ ap (made (λ ys. of x ∷ ys)) (many_back read spell of fits back xs each.1 rest))
 
@@ -128,11 +128,11 @@ instruction_back x fits rest = ap (made instruction_row) (bytes_back 13 (instruc
 abbrev pub raw_task : Task → RawTaskRow
 raw_task t = record { name = t.name; priority = t.priority; subprogram = t.subprogram }
 
-pub task_back : Back read_task task_bytes raw_task TaskFits
+pub task_back : Back read_task task_bytes raw_task TaskNumbersFit
 unfolding read_task half byte_at
 task_back t fits rest =
     let row = t.priority ∷ half t.subprogram in
-    let next : List ℕ → Reading RawTaskRow = λ name left. made (λ row. record { name = name; priority = byte_at row 0; subprogram = half_at row 1 }) (read_bytes 3 left) in
+    let next : List ℕ → ByteReading RawTaskRow = λ name left. made (λ row. record { name = name; priority = byte_at row 0; subprogram = half_at row 1 }) (read_bytes 3 left) in
     ap (λ b. and_then (read_text b) next) (append_assoc (text t.name) row rest)
     ∙ (ap (λ r. and_then r next) (text_back t.name tt (row ++ rest))
     ∙ (ap (made (λ row. record { name = t.name; priority = byte_at row 0; subprogram = half_at row 1 })) (bytes_back 3 row rest refl)
@@ -177,7 +177,7 @@ unfolding read_object half
 object_back o f rest =
     let front = object_front o in
     let words = flat_map word o.words in
-    let next : List ℕ → Reading RawObjectRow = λ row left. made (object_row row) (read_many read_word (half_at row 6) left) in
+    let next : List ℕ → ByteReading RawObjectRow = λ row left. made (object_row row) (read_many read_word (half_at row 6) left) in
     let size : half_at front 6 ≡ length o.words = half_is front 6 (length o.words) [] refl f.size in
     let read_words : read_many read_word (half_at front 6) (words ++ rest) ≡ Some (o.words, rest) =
     ap (λ n. read_many read_word n (words ++ rest)) size ∙ (many_back read_word word (λ z. z) IsWord word_back o.words f.numbers.words rest ∙ ap (λ v. Some (v, rest)) (map_itself o.words)) in

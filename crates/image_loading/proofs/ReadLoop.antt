@@ -3,14 +3,14 @@ use Rattle.std.proofs.Common.{◌≡◌, ℕ, suc, ◌-◌, ◌+◌, ◌≤◌, 
 use Rattle.std.proofs.lemmas.List.{append-nil}
 use Rattle.image_loading.specs.declared.reading.Unread.{Unread}
 use Rattle.image_loading.specs.declared.reading.Unread.TheVariants.{Memory, Short}
-use Rattle.image_loading.specs.Reading.{Reading, made, read_many}
-use Rattle.image_loading.specs.ReadResults.{Fails}
+use Rattle.image_loading.specs.Reading.{ByteReading, made, read_many}
+use Rattle.image_loading.specs.ReadResults.{FailsToRead}
 
 -- what was read before, and what is still read
 abbrev pub with_front : {X : Type 0} → List X → Option (List X × List ℕ) → Option (List X × List ℕ)
 with_front front read = made (λ xs. front ++ xs) read
 
-module _ {X : Type 0} (read : Reading X) where
+module _ {X : Type 0} (read : ByteReading X) where
   regroup : (front : List X) (x : X) (left : Option (List X × List ℕ)) → with_front front (made (λ xs. x ∷ xs) left) ≡ with_front (front ++ x ∷ []) left
   regroup front x (Some y) = ap (λ xs. Some (xs, y.1)) (sym (append_assoc front (x ∷ []) y.0))
   regroup front x None = refl
@@ -23,7 +23,7 @@ module _ {X : Type 0} (read : Reading X) where
       let one : with_front front (read_many read (count - i) bytes) ≡ with_front (front ++ x ∷ []) (read_many read (count - (i + 1)) after) = rw (k, h) (regroup front x (read_many read (count - (i + 1)) after)) in
       sym one ∙ so_far
 
-  pub ends : (e : Unread) (front : List X) (count i : ℕ) (bytes : List ℕ) (total : Option (List X × List ℕ)) → i < count → Fails e (read bytes) → with_front front (read_many read (count - i) bytes) ≡ total → Fails e total
+  pub ends : (e : Unread) (front : List X) (count i : ℕ) (bytes : List ℕ) (total : Option (List X × List ℕ)) → i < count → FailsToRead e (read bytes) → with_front front (read_many read (count - i) bytes) ≡ total → FailsToRead e total
   unfolding read_many
   ends Memory front count i bytes total lt h so_far = tt
   ends Short front count i bytes total lt h so_far =

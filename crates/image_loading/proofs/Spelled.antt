@@ -8,7 +8,7 @@ use Rattle.std.proofs.lemmas.List.{take-append-drop, get_or-drop, get_or-take, g
 use Rattle.std.proofs.lemmas.List.Concat.{flat_map-cons}
 use Rattle.std.proofs.lemmas.Nat.{be_bytes_2, be_bytes_8}
 use Rattle.image_format.specs.Bytes.{half, word}
-use Rattle.image_loading.specs.Reading.{Reading, and_then, byte_at, half_at, made, read_bytes, read_many, word_at}
+use Rattle.image_loading.specs.Reading.{ByteReading, and_then, byte_at, half_at, made, read_bytes, read_many, word_at}
 use Rattle.image.specs.RuleLaws.{drop-next}
 
 abbrev pub IsBytes : List ℕ → Type 0
@@ -81,7 +81,7 @@ byte_step row k lt = sym (drop-next row k 0 lt)
 pub some_pair : {X : Type 0} (a b : X × List ℕ) → Some a ≡ Some b → a ≡ b
 some_pair a b e = cc
 
-pub bound : {X Y : Type 0} (r : Option (X × List ℕ)) (f : X → Reading Y) (y : Y × List ℕ) → and_then r f ≡ Some y → (x : X × List ℕ) × (r ≡ Some x) × (f x.0 x.1 ≡ Some y)
+pub bound : {X Y : Type 0} (r : Option (X × List ℕ)) (f : X → ByteReading Y) (y : Y × List ℕ) → and_then r f ≡ Some y → (x : X × List ℕ) × (r ≡ Some x) × (f x.0 x.1 ≡ Some y)
 bound None f y e = absurd cc
 bound (Some x) f y e = (x, refl, e)
 
@@ -117,10 +117,10 @@ pub spells_as : (a x y b : List ℕ) → x ≡ y → Spells a x b → Spells a y
 spells_as a x y b e s = subst (λ v. Spells a v b) e s
 
 -- a reader reads what is spelled so
-abbrev pub Reads : {X : Type 0} → Reading X → (X → List ℕ) → Type 0
+abbrev pub Reads : {X : Type 0} → ByteReading X → (X → List ℕ) → Type 0
 Reads {X = X} read spell = (bytes : List ℕ) (x : X × List ℕ) → IsBytes bytes → read bytes ≡ Some x → Spells bytes (spell x.0) x.1
 
-pub many_read : {X : Type 0} (read : Reading X) (spell : X → List ℕ) → Reads read spell → (n : ℕ) (bytes : List ℕ) (x : List X × List ℕ) → IsBytes bytes → read_many read n bytes ≡ Some x → Spells bytes (flat_map spell x.0) x.1 × (length x.0 ≡ n)
+pub many_read : {X : Type 0} (read : ByteReading X) (spell : X → List ℕ) → Reads read spell → (n : ℕ) (bytes : List ℕ) (x : List X × List ℕ) → IsBytes bytes → read_many read n bytes ≡ Some x → Spells bytes (flat_map spell x.0) x.1 × (length x.0 ≡ n)
 unfolding read_many
 many_read {X = X} read spell reads zero bytes x fits e =
     subst (λ p. Spells bytes (flat_map spell p.0) p.1 × (length p.0 ≡ 0)) (some_pair ([], bytes) x e) (record { parts = refl; fits = fits }, refl)

@@ -4,8 +4,8 @@ use Rattle.base.specs.First.{first_by, sooner_by}
 use Rattle.image.specs.declared.fault.ImageFault.{ImageFault}
 
 -- each entry: this rule is broken at this byte
-abbrev pub Faults : Type 0
-Faults = List ImageFault
+abbrev pub ImageFaults : Type 0
+ImageFaults = List ImageFault
 
 -- the last byte that a fault can name; it stands for those behind it too
 abbrev pub last_byte : ℕ
@@ -19,7 +19,7 @@ abbrev pub fault_at : ℕ → ℕ → ImageFault
 fault_at number byte = record { number = number; byte = byte }
 
 -- the rule of this number is broken at this byte, if the test says so
-abbrev pub rule : ℕ → ℕ → Bool → Faults
+abbrev pub rule : ℕ → ℕ → Bool → ImageFaults
 rule number byte broken = if broken then fault_at number byte ∷ [] else []
 
 -- the order in which faults are named
@@ -30,7 +30,7 @@ order_of f = f.byte * 256 + f.number
 abbrev pub sooner : Option ImageFault → Option ImageFault → Option ImageFault
 sooner a b = sooner_by order_of a b
 
-abbrev pub first_of : Faults → Option ImageFault
+abbrev pub first_of : ImageFaults → Option ImageFault
 first_of faults = first_by order_of faults
 
 -- there is a fault, and it comes no later than the other

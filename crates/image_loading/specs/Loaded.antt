@@ -5,7 +5,7 @@ use Rattle.image_format.specs.Bytes.{bytes_of}
 use Rattle.image_loading.specs.Decoding.{sections_of}
 use Rattle.image.specs.Faults.{memory_fault}
 use Rattle.image_loading.specs.FaultOrder.{order_of}
-use Rattle.image_loading.specs.Loading.{IsBroken, header_faults, image_fault, image_faults}
+use Rattle.image_loading.specs.Loading.{IsImageRuleBroken, header_faults, image_fault, image_faults}
 use Rattle.image_loading.specs.Reading.{Raw, read_image}
 use Rattle.image.specs.Sections.{Sections}
 use Rattle.image.specs.declared.fault.ImageFault.{ImageFault}
@@ -23,12 +23,12 @@ pub record IsLoaded (bytes : List ℕ) (i : Sections) : Type 0 where
   pub same : i ≡ sections_of raw
 
 -- memory was refused, or this is the first of the faults of these bytes
-abbrev pub IsRefused : List ℕ → ImageFault → Type 0
-IsRefused bytes fault = (fault ≡ memory_fault) ⊎ (image_fault bytes ≡ Some fault)
+abbrev pub RefusesBytes : List ℕ → ImageFault → Type 0
+RefusesBytes bytes fault = (fault ≡ memory_fault) ⊎ (image_fault bytes ≡ Some fault)
 
 -- the fault that is named is a broken rule, and none that is broken comes before it
 pub record IsFirstBroken (bytes : List ℕ) (f : ImageFault) : Type 0 where
-  pub broken : IsBroken f.number f.byte bytes
+  pub broken : IsImageRuleBroken f.number f.byte bytes
   pub least : (g : ImageFault) → Contains (image_faults bytes) g → order_of f ≤ order_of g
 
 abbrev pub NamesFirst : Type 0
@@ -38,7 +38,7 @@ NamesFirst = (bytes : List ℕ) (f : ImageFault) → image_fault bytes ≡ Some 
 pub record ComesFrom (bytes : List ℕ) (i : Sections) : Type 0 where
   pub loaded : IsLoaded bytes i
   pub only : (other : Sections) → IsLoaded bytes other → other ≡ i
-  pub refused : (fault : ImageFault) → IsRefused bytes fault → fault ≡ memory_fault
+  pub refused : (fault : ImageFault) → RefusesBytes bytes fault → fault ≡ memory_fault
 
 -- an image that bytes give has these bytes
 abbrev pub BytesComeBack : Type 0

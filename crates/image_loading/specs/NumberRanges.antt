@@ -16,14 +16,14 @@ IsHalf n = n < 65536
 abbrev pub IsWord : ℤ → Type 0
 IsWord z = FitsSigned w64 z
 
-abbrev pub Each : {X : Type 0} → (X → Type 0) → List X → Type 0
-Each P [] = Unit {0}
-Each P (x ∷ xs) = P x × Each P xs
+abbrev pub EachOf : {X : Type 0} → (X → Type 0) → List X → Type 0
+EachOf P [] = Unit {0}
+EachOf P (x ∷ xs) = P x × EachOf P xs
 
 pub record ObjectFits (o : ObjectRow) : Type 0 where
   pub entry : IsHalf (unwrap_or o.entry 65535)
   pub word : IsHalf (word_of_barrier o.barrier)
-  pub words : Each IsWord o.words
+  pub words : EachOf IsWord o.words
 
 pub record SubprogramFits (s : Subprogram) : Type 0 where
   pub object : IsHalf (object_of_kind s.kind)
@@ -33,8 +33,8 @@ pub record SubprogramFits (s : Subprogram) : Type 0 where
   pub locals : IsHalf s.locals
   pub stack : IsHalf s.stack
 
-abbrev pub TaskFits : Task → Type 0
-TaskFits t = IsHalf t.subprogram
+abbrev pub TaskNumbersFit : Task → Type 0
+TaskNumbersFit t = IsHalf t.subprogram
 
 pub record RowFits (r : Row) : Type 0 where
   pub start : IsHalf r.start
@@ -48,9 +48,9 @@ pub record InstructionFits (x : Instr) : Type 0 where
   pub constant : IsWord (constant_of x.operation)
 
 pub record SectionsFit (i : Sections) : Type 0 where
-  pub plain_words : Each IsWord i.plain_words
-  pub objects : Each ObjectFits i.objects
-  pub subprograms : Each SubprogramFits i.subprograms
-  pub tasks : Each TaskFits i.tasks
-  pub rows : Each RowFits i.rows
-  pub instructions : Each InstructionFits i.instructions
+  pub plain_words : EachOf IsWord i.plain_words
+  pub objects : EachOf ObjectFits i.objects
+  pub subprograms : EachOf SubprogramFits i.subprograms
+  pub tasks : EachOf TaskNumbersFit i.tasks
+  pub rows : EachOf RowFits i.rows
+  pub instructions : EachOf InstructionFits i.instructions

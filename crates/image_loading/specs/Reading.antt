@@ -19,11 +19,11 @@ pub record Raw : Type 0 where
   pub instructions : List RawInstruction
 
 -- what stands at the front of bytes, and the bytes behind it, unless they end early
-abbrev pub Reading : Type 0 → Type 0
-Reading X = List ℕ → Option (X × List ℕ)
+abbrev pub ByteReading : Type 0 → Type 0
+ByteReading X = List ℕ → Option (X × List ℕ)
 
 -- then what stands behind it
-abbrev pub and_then : {X Y : Type 0} → Option (X × List ℕ) → (X → Reading Y) → Option (Y × List ℕ)
+abbrev pub and_then : {X Y : Type 0} → Option (X × List ℕ) → (X → ByteReading Y) → Option (Y × List ℕ)
 and_then None next = None
 and_then (Some read) next = next read.0 read.1
 
@@ -32,11 +32,11 @@ abbrev pub made : {X Y : Type 0} → (X → Y) → Option (X × List ℕ) → Op
 made of read = and_then read (λ x behind. Some (of x, behind))
 
 -- so many bytes
-unfoldable pub read_bytes : ℕ → Reading (List ℕ)
+unfoldable pub read_bytes : ℕ → ByteReading (List ℕ)
 read_bytes n bytes = if nat_lt (length bytes) n then None else Some (take n bytes, drop n bytes)
 
 -- so many of them
-unfoldable pub read_many : {X : Type 0} → Reading X → ℕ → Reading (List X)
+unfoldable pub read_many : {X : Type 0} → ByteReading X → ℕ → ByteReading (List X)
 read_many read zero bytes = Some ([], bytes)
 read_many read (suc n) bytes = and_then (read bytes) (λ x left. made (λ xs. x ∷ xs) (read_many read n left))
 
@@ -51,41 +51,41 @@ unfoldable pub word_at : List ℕ → ℕ → ℤ
 word_at bytes n = cast_signed w64 (from_be_bytes w64 (drop n bytes))
 
 -- a length and so many characters
-unfoldable pub read_text : Reading (List ℕ)
+unfoldable pub read_text : ByteReading (List ℕ)
 read_text bytes = and_then (read_bytes 1 bytes) (λ row. read_bytes (byte_at row 0))
 
-unfoldable pub read_word : Reading ℤ
+unfoldable pub read_word : ByteReading ℤ
 read_word bytes = made (λ row. word_at row 0) (read_bytes 8 bytes)
 
 -- ceiling, entry, barrier, its word and the number of words
 abbrev pub object_row : List ℕ → List ℤ → RawObjectRow
 object_row row words = record { ceiling = byte_at row 0; entry = half_at row 1; barrier = byte_at row 3; barrier_word = half_at row 4; words = words }
 
-unfoldable pub read_object : Reading RawObjectRow
+unfoldable pub read_object : ByteReading RawObjectRow
 read_object bytes = and_then (read_bytes 8 bytes) (λ row left. made (object_row row) (read_many read_word (half_at row 6) left))
 
 abbrev pub subprogram_row : List ℕ → RawSubprogram
 subprogram_row row =
     record { kind = byte_at row 0; object = half_at row 1; end_ = half_at row 3; parameters = half_at row 5; results = half_at row 7; locals = half_at row 9; stack = half_at row 11 }
 
-unfoldable pub read_subprogram : Reading RawSubprogram
+unfoldable pub read_subprogram : ByteReading RawSubprogram
 read_subprogram bytes = made subprogram_row (read_bytes 13 bytes)
 
 -- name, priority and subprogram
-unfoldable pub read_task : Reading RawTaskRow
+unfoldable pub read_task : ByteReading RawTaskRow
 read_task bytes =
     and_then (read_text bytes) (λ name left. made (λ row. record { name = name; priority = byte_at row 0; subprogram = half_at row 1 }) (read_bytes 3 left))
 
 abbrev pub handler_row : List ℕ → Row
 handler_row row = record { start = half_at row 0; end_ = half_at row 2; exception = half_at row 4; target = half_at row 6 }
 
-unfoldable pub read_row : Reading Row
+unfoldable pub read_row : ByteReading Row
 read_row bytes = made handler_row (read_bytes 8 bytes)
 
 abbrev pub instruction_row : List ℕ → RawInstruction
 instruction_row row = record { opcode = byte_at row 0; depth = half_at row 1; address = half_at row 3; constant = word_at row 5 }
 
-unfoldable pub read_instruction : Reading RawInstruction
+unfoldable pub read_instruction : ByteReading RawInstruction
 read_instruction bytes = made instruction_row (read_bytes 13 bytes)
 
 -- how many there are of each, behind magic and version
@@ -93,11 +93,11 @@ abbrev pub counts_row : List ℕ → Counts
 counts_row row =
     record { instructions = half_at row 6; subprograms = half_at row 8; objects = half_at row 10; tasks = half_at row 12; exceptions = half_at row 14; rows = half_at row 16; labels = half_at row 18; plain_words = half_at row 20 }
 
-unfoldable pub read_counts : Reading Counts
+unfoldable pub read_counts : ByteReading Counts
 read_counts bytes = made counts_row (read_bytes 22 bytes)
 
 -- the sections, as many of each as the counts say
-unfoldable pub read_raw : Counts → Reading Raw
+unfoldable pub read_raw : Counts → ByteReading Raw
 read_raw c bytes =
     and_then (read_many read_text c.exceptions bytes)
     (λ exceptions b1. and_then (read_many read_text c.labels b1)
@@ -110,5 +110,5 @@ read_raw c bytes =
     (λ instructions. record { exceptions = exceptions; labels = labels; plain_words = plain_words; objects = objects; subprograms = subprograms; tasks = tasks; rows = rows; instructions = instructions })
     (read_many read_instruction c.instructions b7))))))))
 
-unfoldable pub read_image : Reading Raw
+unfoldable pub read_image : ByteReading Raw
 read_image bytes = and_then (read_counts bytes) read_raw

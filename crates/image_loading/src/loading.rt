@@ -1,6 +1,6 @@
 //! Loads images from bytes with full checks (docs/FORMATS.md, "Well-formed images").
 ghost use Rattle.std.specs.Prelude.{◌≡◌, ◌++◌, [], if◌then◌else◌, IfErr, IfOk};
-ghost use Rattle.image_loading.specs.Loaded.{IsLoaded, IsRead, IsRefused};
+ghost use Rattle.image_loading.specs.Loaded.{IsLoaded, IsRead, RefusesBytes};
 ghost use Rattle.image_format.specs.Bytes.{bytes_of};
 ghost use Rattle.image_loading.specs.FaultOrder.{first_of};
 ghost use Rattle.image_loading.specs.Loading.{agrees, all_crossing_faults, behind_object, behind_row, behind_task, code_part_faults, code_start, each, faults_as, head_faults, header_faults, instruction_faults, labels_start, object_faults, objects_start, place_faults, row_faults, rows_start, subprogram_faults, subprograms_start, table_faults, task_faults, tasks_start, text_faults, word_faults, words_start};
@@ -236,7 +236,7 @@ fn header_fault(bytes: &[u8]) -> Option<ImageFault>
 // The sections of these bytes, all of them.
 fn read_whole(alloc: Global, bytes: &[u8]) -> Result<RawSections, ImageFault>
     ensures read { IfOk result (λ raw. IsRead bytes.now raw) }
-    ensures refused { IfErr result (λ fault. IsRefused bytes.now fault) }
+    ensures refused { IfErr result (λ fault. RefusesBytes bytes.now fault) }
 {
     if let Some(fault) = header_fault(bytes) {
         return Err(fault);
@@ -267,7 +267,7 @@ fn read_whole(alloc: Global, bytes: &[u8]) -> Result<RawSections, ImageFault>
 pub fn load(alloc: Global, bytes: &[u8]) -> Result<Image, ImageFault>
     ensures bytes { IfOk result (λ image. bytes_of image ≡ bytes.now) }
     ensures loaded { IfOk result (λ image. IsLoaded bytes.now image) }
-    ensures refused { IfErr result (λ fault. IsRefused bytes.now fault) }
+    ensures refused { IfErr result (λ fault. RefusesBytes bytes.now fault) }
 {
     let raw = read_whole(alloc, bytes)?;
     let Ok(parts) = raw.parts(alloc) else {

@@ -1,13 +1,13 @@
 //! The numbers of an image fit where they stand in its bytes: each is read, and has 16 or 64 bits.
 ghost use Rattle.image.specs.Rules.{IsWellFormed};
-ghost use Rattle.image_loading.specs.NumberRanges.{Each, InstructionFits, IsWord, ObjectFits, RowFits, SectionsFit, SubprogramFits, TaskFits};
+ghost use Rattle.image_loading.specs.NumberRanges.{EachOf, InstructionFits, IsWord, ObjectFits, RowFits, SectionsFit, SubprogramFits, TaskNumbersFit};
 
 use handlers::Row;
 use image::{Barrier, Image, Instr, Object, Subprogram, Task};
 use image_format::{address_of, constant_of};
 
 fn words_fit(words: &[i64])
-    ensures { Each IsWord words.now }
+    ensures { EachOf IsWord words.now }
 {
     for word in words {
         let _word = *word;
@@ -26,7 +26,7 @@ fn object_fits(object: &Object)
 }
 
 fn objects_fit(objects: &[Object])
-    ensures { Each ObjectFits objects.now }
+    ensures { EachOf ObjectFits objects.now }
 {
     for object in objects {
         object_fits(object);
@@ -45,7 +45,7 @@ fn subprogram_fits(s: &Subprogram)
 }
 
 fn subprograms_fit(subprograms: &[Subprogram])
-    ensures { Each SubprogramFits subprograms.now }
+    ensures { EachOf SubprogramFits subprograms.now }
 {
     for s in subprograms {
         subprogram_fits(s);
@@ -53,13 +53,13 @@ fn subprograms_fit(subprograms: &[Subprogram])
 }
 
 fn task_fits(task: &Task)
-    ensures { TaskFits task.now }
+    ensures { TaskNumbersFit task.now }
 {
     let _subprogram = task.subprogram;
 }
 
 fn tasks_fit(tasks: &[Task])
-    ensures { Each TaskFits tasks.now }
+    ensures { EachOf TaskNumbersFit tasks.now }
 {
     for task in tasks {
         task_fits(task);
@@ -76,7 +76,7 @@ fn row_fits(row: &Row)
 }
 
 fn rows_fit(rows: &[Row])
-    ensures { Each RowFits rows.now }
+    ensures { EachOf RowFits rows.now }
 {
     for row in rows {
         row_fits(row);
@@ -92,7 +92,7 @@ fn instruction_fits(x: &Instr)
 }
 
 fn instructions_fit(instructions: &[Instr])
-    ensures { Each InstructionFits instructions.now }
+    ensures { EachOf InstructionFits instructions.now }
 {
     for x in instructions {
         instruction_fits(x);

@@ -1,6 +1,6 @@
 //! Reads the sections of an image off its bytes, nothing judged (docs/FORMATS.md, "Sections").
 ghost use Rattle.std.specs.Prelude.{◌≡◌, ◌+◌, ◌≤◌, IfOk, length};
-ghost use Rattle.image_loading.specs.ReadResults.{Gives};
+ghost use Rattle.image_loading.specs.ReadResults.{ReadsAs};
 ghost use Rattle.image_loading.specs.Reading.{byte_at, counts_row, half_at, handler_row, instruction_row, read_bytes, read_counts, read_image, read_instruction, read_many, read_object, read_raw, read_row, read_subprogram, read_task, read_text, read_word, subprogram_row, word_at};
 
 use crate::raw_sections::{
@@ -43,7 +43,7 @@ impl<T: Drop> From<AllocFailed<T>> for Unread {
 // So many bytes, and those behind them.
 #[tactic(auto, unfolding(crate::specs::Reading::read_bytes))]
 fn bytes_of(bytes: &[u8], count: usize) -> Result<(&[u8], &[u8]), Unread>
-    ensures gives { Gives (λ x. (x.0.now, x.1.now)) result (read_bytes count bytes.now) }
+    ensures gives { ReadsAs (λ x. (x.0.now, x.1.now)) result (read_bytes count bytes.now) }
     ensures length { IfOk result (λ x. length x.0.now ≡ count) }
 {
     if bytes.len() < count {
@@ -82,7 +82,7 @@ fn word_at(row: &[u8], place: usize) -> i64
 
 #[tactic(auto, unfolding(crate::specs::Reading::read_text))]
 fn text_of(alloc: Global, bytes: &[u8]) -> Result<(RawText, &[u8]), Unread>
-    ensures { Gives (λ x. (x.0, x.1.now)) result (read_text bytes.now) }
+    ensures { ReadsAs (λ x. (x.0, x.1.now)) result (read_text bytes.now) }
 {
     let (length, rest) = bytes_of(bytes, 1)?;
     let (text, rest) = bytes_of(rest, usize::from(byte_at(length, 0)))?;
@@ -92,7 +92,7 @@ fn text_of(alloc: Global, bytes: &[u8]) -> Result<(RawText, &[u8]), Unread>
 
 #[tactic(auto, unfolding(crate::specs::Reading::read_word))]
 fn word_of(bytes: &[u8]) -> Result<(i64, &[u8]), Unread>
-    ensures { Gives (λ x. (x.0, x.1.now)) result (read_word bytes.now) }
+    ensures { ReadsAs (λ x. (x.0, x.1.now)) result (read_word bytes.now) }
 {
     let (row, rest) = bytes_of(bytes, 8)?;
     Ok((word_at(row, 0), rest))
@@ -100,7 +100,7 @@ fn word_of(bytes: &[u8]) -> Result<(i64, &[u8]), Unread>
 
 #[tactic(auto, unfolding(crate::specs::Reading::read_object))]
 fn object_of(alloc: Global, bytes: &[u8]) -> Result<(RawObject, &[u8]), Unread>
-    ensures { Gives (λ x. (x.0, x.1.now)) result (read_object bytes.now) }
+    ensures { ReadsAs (λ x. (x.0, x.1.now)) result (read_object bytes.now) }
 {
     let (row, rest) = bytes_of(bytes, 8)?;
     let (words, rest) = words_of(alloc, half_at(row, 6), rest)?;
@@ -116,7 +116,7 @@ fn object_of(alloc: Global, bytes: &[u8]) -> Result<(RawObject, &[u8]), Unread>
 
 #[tactic(auto, unfolding(crate::specs::Reading::read_subprogram))]
 fn subprogram_of(bytes: &[u8]) -> Result<(RawSubprogram, &[u8]), Unread>
-    ensures { Gives (λ x. (x.0, x.1.now)) result (read_subprogram bytes.now) }
+    ensures { ReadsAs (λ x. (x.0, x.1.now)) result (read_subprogram bytes.now) }
 {
     let (row, rest) = bytes_of(bytes, 13)?;
     let subprogram = RawSubprogram {
@@ -133,7 +133,7 @@ fn subprogram_of(bytes: &[u8]) -> Result<(RawSubprogram, &[u8]), Unread>
 
 #[tactic(auto, unfolding(crate::specs::Reading::read_task))]
 fn task_of(alloc: Global, bytes: &[u8]) -> Result<(RawTask, &[u8]), Unread>
-    ensures { Gives (λ x. (x.0, x.1.now)) result (read_task bytes.now) }
+    ensures { ReadsAs (λ x. (x.0, x.1.now)) result (read_task bytes.now) }
 {
     let (name, rest) = text_of(alloc, bytes)?;
     let (row, rest) = bytes_of(rest, 3)?;
@@ -147,7 +147,7 @@ fn task_of(alloc: Global, bytes: &[u8]) -> Result<(RawTask, &[u8]), Unread>
 
 #[tactic(auto, unfolding(crate::specs::Reading::read_row))]
 fn row_of(bytes: &[u8]) -> Result<(Row, &[u8]), Unread>
-    ensures { Gives (λ x. (x.0, x.1.now)) result (read_row bytes.now) }
+    ensures { ReadsAs (λ x. (x.0, x.1.now)) result (read_row bytes.now) }
 {
     let (row, rest) = bytes_of(bytes, 8)?;
     let handler = Row {
@@ -161,7 +161,7 @@ fn row_of(bytes: &[u8]) -> Result<(Row, &[u8]), Unread>
 
 #[tactic(auto, unfolding(crate::specs::Reading::read_instruction))]
 fn instruction_of(bytes: &[u8]) -> Result<(RawInstruction, &[u8]), Unread>
-    ensures { Gives (λ x. (x.0, x.1.now)) result (read_instruction bytes.now) }
+    ensures { ReadsAs (λ x. (x.0, x.1.now)) result (read_instruction bytes.now) }
 {
     let (row, rest) = bytes_of(bytes, 13)?;
     let instruction = RawInstruction {
@@ -174,7 +174,7 @@ fn instruction_of(bytes: &[u8]) -> Result<(RawInstruction, &[u8]), Unread>
 }
 
 fn texts_of(alloc: Global, count: u16, bytes: &[u8]) -> Result<(Vec<RawText>, &[u8]), Unread>
-    ensures { Gives (λ x. (x.0.items, x.1.now)) result (read_many read_text count bytes.now) }
+    ensures { ReadsAs (λ x. (x.0.items, x.1.now)) result (read_many read_text count bytes.now) }
 {
     let mut texts = Vec::new(alloc);
     let mut rest = bytes;
@@ -187,7 +187,7 @@ fn texts_of(alloc: Global, count: u16, bytes: &[u8]) -> Result<(Vec<RawText>, &[
 }
 
 fn words_of(alloc: Global, count: u16, bytes: &[u8]) -> Result<(Vec<i64>, &[u8]), Unread>
-    ensures { Gives (λ x. (x.0.items, x.1.now)) result (read_many read_word count bytes.now) }
+    ensures { ReadsAs (λ x. (x.0.items, x.1.now)) result (read_many read_word count bytes.now) }
 {
     let mut words = Vec::new(alloc);
     let mut rest = bytes;
@@ -200,7 +200,7 @@ fn words_of(alloc: Global, count: u16, bytes: &[u8]) -> Result<(Vec<i64>, &[u8])
 }
 
 fn objects_of(alloc: Global, count: u16, bytes: &[u8]) -> Result<(Vec<RawObject>, &[u8]), Unread>
-    ensures { Gives (λ x. (x.0.items, x.1.now)) result (read_many read_object count bytes.now) }
+    ensures { ReadsAs (λ x. (x.0.items, x.1.now)) result (read_many read_object count bytes.now) }
 {
     let mut objects = Vec::new(alloc);
     let mut rest = bytes;
@@ -217,7 +217,7 @@ fn subprograms_of(
     count: u16,
     bytes: &[u8],
 ) -> Result<(Vec<RawSubprogram>, &[u8]), Unread>
-    ensures { Gives (λ x. (x.0.items, x.1.now)) result (read_many read_subprogram count bytes.now) }
+    ensures { ReadsAs (λ x. (x.0.items, x.1.now)) result (read_many read_subprogram count bytes.now) }
 {
     let mut subprograms = Vec::new(alloc);
     let mut rest = bytes;
@@ -230,7 +230,7 @@ fn subprograms_of(
 }
 
 fn tasks_of(alloc: Global, count: u16, bytes: &[u8]) -> Result<(Vec<RawTask>, &[u8]), Unread>
-    ensures { Gives (λ x. (x.0.items, x.1.now)) result (read_many read_task count bytes.now) }
+    ensures { ReadsAs (λ x. (x.0.items, x.1.now)) result (read_many read_task count bytes.now) }
 {
     let mut tasks = Vec::new(alloc);
     let mut rest = bytes;
@@ -243,7 +243,7 @@ fn tasks_of(alloc: Global, count: u16, bytes: &[u8]) -> Result<(Vec<RawTask>, &[
 }
 
 fn rows_of(alloc: Global, count: u16, bytes: &[u8]) -> Result<(Vec<Row>, &[u8]), Unread>
-    ensures { Gives (λ x. (x.0.items, x.1.now)) result (read_many read_row count bytes.now) }
+    ensures { ReadsAs (λ x. (x.0.items, x.1.now)) result (read_many read_row count bytes.now) }
 {
     let mut rows = Vec::new(alloc);
     let mut rest = bytes;
@@ -260,7 +260,7 @@ fn instructions_of(
     count: u16,
     bytes: &[u8],
 ) -> Result<(Vec<RawInstruction>, &[u8]), Unread>
-    ensures { Gives (λ x. (x.0.items, x.1.now)) result (read_many read_instruction count bytes.now) }
+    ensures { ReadsAs (λ x. (x.0.items, x.1.now)) result (read_many read_instruction count bytes.now) }
 {
     let mut instructions = Vec::new(alloc);
     let mut rest = bytes;
@@ -287,7 +287,7 @@ pub(crate) struct Counts {
 
 #[tactic(auto, unfolding(crate::specs::Reading::read_counts))]
 fn counts_of(bytes: &[u8]) -> Result<(Counts, &[u8]), Unread>
-    ensures { Gives (λ x. (x.0, x.1.now)) result (read_counts bytes.now) }
+    ensures { ReadsAs (λ x. (x.0, x.1.now)) result (read_counts bytes.now) }
 {
     let (header, rest) = bytes_of(bytes, 22)?;
     let counts = Counts {
@@ -305,7 +305,7 @@ fn counts_of(bytes: &[u8]) -> Result<(Counts, &[u8]), Unread>
 
 #[tactic(auto, unfolding(crate::specs::Reading::read_raw))]
 fn sections_of(alloc: Global, counts: Counts, bytes: &[u8]) -> Result<(RawSections, &[u8]), Unread>
-    ensures { Gives (λ x. (x.0, x.1.now)) result (read_raw counts bytes.now) }
+    ensures { ReadsAs (λ x. (x.0, x.1.now)) result (read_raw counts bytes.now) }
 {
     let (exceptions, rest) = texts_of(alloc, counts.exceptions, bytes)?;
     let (labels, rest) = texts_of(alloc, counts.labels, rest)?;
@@ -331,7 +331,7 @@ fn sections_of(alloc: Global, counts: Counts, bytes: &[u8]) -> Result<(RawSectio
 /// The sections at the front of bytes, as many of each as the header says, and the bytes behind them.
 #[tactic(auto, unfolding(crate::specs::Reading::read_image))]
 pub(crate) fn read(alloc: Global, bytes: &[u8]) -> Result<(RawSections, &[u8]), Unread>
-    ensures { Gives (λ x. (x.0, x.1.now)) result (read_image bytes.now) }
+    ensures { ReadsAs (λ x. (x.0, x.1.now)) result (read_image bytes.now) }
 {
     let (counts, rest) = counts_of(bytes)?;
     sections_of(alloc, counts, rest)

@@ -7,7 +7,7 @@ use Rattle.kernel.specs.Dispatching.{highest, runs_from, preempted, preempts, di
 use Rattle.kernel.specs.Clock.{time_moves, clock_from, clock}
 use Rattle.kernel.specs.Effects.{SameObject, AboveCeiling, Ends, is_above_ceiling, ending_of, outer_of, with_actions, ends, after}
 use Rattle.kernel.specs.Calm.{IsRunner, Calm}
-use Rattle.kernel.specs.Invariant.{count, Has, ServesCall, Sound, Settled, Kept}
+use Rattle.kernel.specs.Invariant.{count, HasAction, ServesCall, Sound, Settled, Kept}
 use Rattle.kernel.specs.Laws.{DispatchedOnce, ClockedOnce, StandsStill, SomebodyRuns, RunnerIsCalm, QuietStays, SaysOn, OpensOn, ViewsOn, ViewsBack, EntryOpens, OneService}
 use Rattle.kernel.specs.PutLaws.{eqb_same, put_same, put_put, put_self}
 use Rattle.kernel.proofs.Places.{ready_if, at_level}
@@ -121,4 +121,4 @@ entry_opens k t o none low =
     ∙ ap (λ y. cond y (Some AboveCeiling) None) low
 
 pub one_service : OneService
-one_service b k t o u outer e kept = kept.sound.serving t o u (subst (Has (ServesCall o u)) (sym e) (inl (refl, refl)))
+one_service b k t o u outer e kept = kept.sound.serving t o u (subst (HasAction (ServesCall o u)) (sym e) (inl (refl, refl)))

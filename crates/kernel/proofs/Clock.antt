@@ -3,7 +3,7 @@ use Rattle.std.proofs.Common.{◌≡◌, ◌≢◌, ◌⊎◌, inl, inr, ℕ, �
 use Rattle.std.specs.Prelude.{int_lt}
 use Rattle.std.proofs.lemmas.Int.{ints}
 use Rattle.base.specs.declared.limits.TheConstants.{PRIORITIES}
-use Rattle.kernel.specs.State.{Kernel, Place, IsRunning, IsReady, IsAsleep, IsQueued, IsServed, IsFinished, Sleeper, put}
+use Rattle.kernel.specs.State.{Kernel, TaskPlace, IsRunning, IsReady, IsAsleep, IsQueued, IsServed, IsFinished, Sleeper, put}
 use Rattle.kernel.specs.Dispatching.{becomes_ready, highest, runs_head, runs_from, dispatch_from, dispatch}
 use Rattle.kernel.specs.Clock.{released, least, wakes_if_due, wakes_due, last_outcome, time_moves, clock_from, clock}
 use Rattle.kernel.specs.Invariant.{naps, asleep, Sound, Settled, Kept}
@@ -13,7 +13,7 @@ use Rattle.kernel.proofs.Moves.{beside, ready_sound, released_sound}
 use Rattle.kernel.proofs.Dispatch.{no_ready, highest_is, dispatch_sound}
 use Rattle.kernel.proofs.Served.{Serv, dispatch_serv, time_serv}
 
-asleep_is : (w : Place) → 0 < asleep w → w ≡ IsAsleep
+asleep_is : (w : TaskPlace) → 0 < asleep w → w ≡ IsAsleep
 asleep_is IsAsleep lt = refl
 asleep_is IsRunning lt = absurd (omega arith)
 asleep_is IsReady lt = absurd (omega arith)
@@ -21,7 +21,7 @@ asleep_is (IsQueued o) lt = absurd (omega arith)
 asleep_is (IsServed o) lt = absurd (omega arith)
 asleep_is IsFinished lt = absurd (omega arith)
 
-asleep_one : (w : Place) → asleep w ≤ 1
+asleep_one : (w : TaskPlace) → asleep w ≤ 1
 asleep_one IsAsleep = omega arith
 asleep_one IsRunning = omega arith
 asleep_one IsReady = omega arith

@@ -4,7 +4,7 @@ use Rattle.std.proofs.lemmas.Bool.{cases_lt}
 use Rattle.std.proofs.lemmas.Bool.Decides.{eqb_tells}
 use Rattle.kernel.specs.State.{Kernel, IsQueued, IsServed, Action, Reads, Writes, Serves, object_of, active, is_object_open, inside_among}
 use Rattle.kernel.specs.Effects.{Quiet, Ends, TakesOver, HandsBack, service, ending_of}
-use Rattle.kernel.specs.Invariant.{Has, At, Busy, CanWrite, ServesCall, count, Kept}
+use Rattle.kernel.specs.Invariant.{HasAction, IsInsideObject, Busy, CanWrite, ServesCall, count, Kept}
 use Rattle.kernel.specs.Exclusion.{StandsIn, IsInside, IsInAction}
 use Rattle.kernel.specs.Laws.{FourHold, InsideLists, NobodyReady, Reaches, ReachesCallers}
 use Rattle.kernel.specs.PutLaws.{same_or_not, eqb_same, eqb_other}
@@ -14,22 +14,22 @@ use Rattle.kernel.proofs.Places.{one_inside, different, in_list, ready_if}
 
 -- tests and what they tell
 
-open_at : (o : ℕ) (l : List Action) (b : Bool) → is_object_open o l ≡ b → b ≡ true → At o l
+open_at : (o : ℕ) (l : List Action) (b : Bool) → is_object_open o l ≡ b → b ≡ true → IsInsideObject o l
 open_at o [] b e t = absurd (cc)
 open_at o (a ∷ outer) b e t = go (eqb (object_of a) o) refl (open_at o outer (is_object_open o outer) refl)
   where
-    go : (c : Bool) → eqb (object_of a) o ≡ c → (is_object_open o outer ≡ true → At o outer) → At o (a ∷ outer)
+    go : (c : Bool) → eqb (object_of a) o ≡ c → (is_object_open o outer ≡ true → IsInsideObject o outer) → IsInsideObject o (a ∷ outer)
     go true i rest = ⊎_elim (λ h. inl h.1) (λ h. let j = h.0 in absurd (cc)) (eqb_tells (object_of a) o)
     go false i rest = inr (rest (sym (ap (λ c. c || is_object_open o outer) i) ∙ (e ∙ t)))
 
-inside_at : (k : Kernel) (o t : ℕ) → IsInside k o t → At o (k.actions t)
+inside_at : (k : Kernel) (o t : ℕ) → IsInside k o t → IsInsideObject o (k.actions t)
 inside_at k o t e = open_at o (k.actions t) true e refl
 
 open_either : (b : Bool) → (b ≡ true) ⊎ (b ≡ false)
 open_either true = inl refl
 open_either false = inr refl
 
-at_inside : (k : Kernel) (o t : ℕ) → At o (k.actions t) → IsInside k o t
+at_inside : (k : Kernel) (o t : ℕ) → IsInsideObject o (k.actions t) → IsInside k o t
 at_inside k o t h = ⊎_elim (λ e. e) (λ e. absurd (not_open o (k.actions t) e h)) (open_either (is_object_open o (k.actions t)))
 
 busy_if : (l : List Action) → elim l as (λ x. Bool) [ [] ↦ false | a ∷ outer ↦ true ] ≡ true → Busy l
@@ -153,7 +153,7 @@ module _ (b : ℕ → Bool) (k : Kernel) (t : ℕ) (run : k.running ≡ Some t) 
       go true (Some v) m = absurd (cc)
   ends_serve is_open (Serves p v ∷ outer) e u i =
       let who : v ≡ u = cc in
-      let place : k.place u ≡ IsServed p = sym (ap k.place who) ∙ (kept.sound.serving t p v (subst (Has (ServesCall p v)) (sym e) (inl (refl, refl)))).0 in
+      let place : k.place u ≡ IsServed p = sym (ap k.place who) ∙ (kept.sound.serving t p v (subst (HasAction (ServesCall p v)) (sym e) (inl (refl, refl)))).0 in
       (p, place, not_running p u (inr place))
 
 pub reaches_callers : ReachesCallers

@@ -1,7 +1,7 @@
 -- Counts in lists; lists of actions and the priority that they give.
 use Rattle.std.proofs.Common.{◌≡◌, ◌⊎◌, inl, inr, ℕ, ◌+◌, ◌<◌, ◌≤◌, List, [], ◌∷◌, ◌++◌, Bool, true, false, cond, refl, ap, subst, ⊎_elim, arith}
 use Rattle.kernel.specs.State.{raised, Action, Reads, Writes, Serves, object_of, Sleeper}
-use Rattle.kernel.specs.Invariant.{Has, At, Busy, CanWrite, ServesCall, Stacked, count, naps}
+use Rattle.kernel.specs.Invariant.{HasAction, IsInsideObject, Busy, CanWrite, ServesCall, Stacked, count, naps}
 
 -- one of two kernels
 pub either : {T : Type 0} (P : T → Type 0) (c : Bool) (x y : T) → P x → P y → P (cond c x y)
@@ -19,7 +19,7 @@ pub base_raised : (c : ℕ → ℕ) (b : ℕ) (l : List Action) → b ≤ raised
 base_raised c b [] = omega arith
 base_raised c b (a ∷ l) = let i = base_raised c b l in omega arith
 
-pub ceiling_raised : (c : ℕ → ℕ) (b o : ℕ) (l : List Action) → At o l → c o ≤ raised c b l
+pub ceiling_raised : (c : ℕ → ℕ) (b o : ℕ) (l : List Action) → IsInsideObject o l → c o ≤ raised c b l
 ceiling_raised c b o [] h = absurd h
 ceiling_raised c b o (a ∷ l) h =
     ⊎_elim
@@ -31,7 +31,7 @@ pub raised_below : (c : ℕ → ℕ) (b k : ℕ) (l : List Action) → b < k →
 raised_below c b k [] h i = h
 raised_below c b k (a ∷ l) h i = let j = raised_below c b k l h i in let m = i (object_of a) in omega arith
 
-pub at_busy : (o : ℕ) (l : List Action) → At o l → Busy l
+pub at_busy : (o : ℕ) (l : List Action) → IsInsideObject o l → Busy l
 at_busy o [] h = h
 at_busy o (a ∷ l) h = tt
 
@@ -42,7 +42,7 @@ pub busy_or_idle : (l : List Action) → Busy l ⊎ (l ≡ [])
 busy_or_idle [] = inr refl
 busy_or_idle (a ∷ l) = inl tt
 
-pub has_map : (P Q : Action → Type 0) → ((a : Action) → P a → Q a) → (l : List Action) → Has P l → Has Q l
+pub has_map : (P Q : Action → Type 0) → ((a : Action) → P a → Q a) → (l : List Action) → HasAction P l → HasAction Q l
 has_map P Q f [] h = h
 has_map P Q f (a ∷ l) h = ⊎_elim (λ x. inl (f a x)) (λ x. inr (has_map P Q f l x)) h
 
@@ -56,10 +56,10 @@ served_object o u (Reads p) h = absurd h
 served_object o u (Writes p) h = absurd h
 served_object o u (Serves p v) h = h.0
 
-pub served_at : (o u : ℕ) (l : List Action) → Has (ServesCall o u) l → At o l
+pub served_at : (o u : ℕ) (l : List Action) → HasAction (ServesCall o u) l → IsInsideObject o l
 served_at o u l h = has_map (ServesCall o u) (λ a. object_of a ≡ o) (served_object o u) l h
 
-pub over_of : (c : ℕ → ℕ) (b o : ℕ) (l : List Action) → Stacked c b l → At o l → b ≤ c o
+pub over_of : (c : ℕ → ℕ) (b o : ℕ) (l : List Action) → Stacked c b l → IsInsideObject o l → b ≤ c o
 over_of c b o [] st h = absurd h
 over_of c b o (a ∷ l) st h =
     ⊎_elim

@@ -1,16 +1,16 @@
 -- The moves of which effects, dispatching and the clock are made keep a kernel sound.
 use Rattle.std.proofs.Common.{◌≡◌, ◌≢◌, ◌⊎◌, inl, inr, ℕ, ◌+◌, ◌<◌, ℤ, List, [], ◌∷◌, ◌++◌, Option, Some, None, Bool, false, cond, refl, sym, ap, ◌∙◌, subst, ⊎_elim, arith}
-use Rattle.kernel.specs.State.{Kernel, Place, IsRunning, IsReady, IsAsleep, IsQueued, IsServed, IsFinished, Action, Sleeper, Line, Outcome, active, raised, put}
+use Rattle.kernel.specs.State.{Kernel, TaskPlace, IsRunning, IsReady, IsAsleep, IsQueued, IsServed, IsFinished, Action, Sleeper, Line, Outcome, active, raised, put}
 use Rattle.kernel.specs.Dispatching.{leaves, becomes_ready, preempted}
 use Rattle.kernel.specs.Clock.{falls_asleep, released}
 use Rattle.kernel.specs.Effects.{with_actions, queues}
-use Rattle.kernel.specs.Invariant.{Has, At, Busy, CanWrite, ServesCall, Once, Stacked, count, naps, listed, asleep, Sound}
+use Rattle.kernel.specs.Invariant.{HasAction, IsInsideObject, Busy, CanWrite, ServesCall, Once, Stacked, count, naps, listed, asleep, Sound}
 use Rattle.kernel.specs.PutLaws.{same_or_not, eqb_same, eqb_other, put_same, put_other, by_put, of_put}
 use Rattle.kernel.proofs.Lists.{base_raised, count_append, naps_append, idle, served_at}
 use Rattle.kernel.proofs.Places.{unlisted, ready_listed, ready_unlisted, listed_at, napping, idle_if}
 
 -- other barriers
-pub held : (b c : ℕ → Bool) (k : Kernel) (p : List Sleeper) (t : ℕ) → ((o : ℕ) → (c o ≡ b o) ⊎ Has (CanWrite o) (k.actions t)) → Sound b k p → Sound c k p
+pub held : (b c : ℕ → Bool) (k : Kernel) (p : List Sleeper) (t : ℕ) → ((o : ℕ) → (c o ≡ b o) ⊎ HasAction (CanWrite o) (k.actions t)) → Sound b k p → Sound c k p
 held b c k p t h s = record {
   base_low = s.base_low;
   ceiling_low = s.ceiling_low;
@@ -145,7 +145,7 @@ asleep_sound b k p t w here s =
       heads = λ u busy h. of_put (λ x. x ≡ IsReady) ((ts : List ℕ) × (k.ready (active k u) ≡ u ∷ ts)) t u IsAsleep k.place h (λ e i. absurd (cc)) (λ ne i. s.heads u busy i);
     }
 
-pub queues_sound : (b : ℕ → Bool) (k : Kernel) (p : List Sleeper) (t o : ℕ) → k.place t ≡ IsFinished → b o ≡ false → k.queued o ≡ None → ((u : ℕ) → At o (k.actions u) → ⊥) → Sound b k p → Sound b (queues t o k) p
+pub queues_sound : (b : ℕ → Bool) (k : Kernel) (p : List Sleeper) (t o : ℕ) → k.place t ≡ IsFinished → b o ≡ false → k.queued o ≡ None → ((u : ℕ) → IsInsideObject o (k.actions u) → ⊥) → Sound b k p → Sound b (queues t o k) p
 queues_sound b k p t o here shut free nobody s =
     let at : (u : ℕ) → u ≡ t → k.place u ≡ IsFinished = λ u e. ap k.place e ∙ here in
     record {
@@ -168,16 +168,16 @@ queues_sound b k p t o here shut free nobody s =
       once = s.once;
       serving = λ v r u h. (
         by_put (λ x. x ≡ IsServed r) t u (IsQueued o) k.place (λ e. let i = at u e in let j = (s.serving v r u h).0 in absurd (cc)) (λ ne. (s.serving v r u h).0),
-        by_put (λ x. x ≡ None) o r (Some t) k.queued (λ e. absurd (nobody v (subst (λ x. At x (k.actions v)) e (served_at r u (k.actions v) h)))) (λ ne. (s.serving v r u h).1),
+        by_put (λ x. x ≡ None) o r (Some t) k.queued (λ e. absurd (nobody v (subst (λ x. IsInsideObject x (k.actions v)) e (served_at r u (k.actions v) h)))) (λ ne. (s.serving v r u h).1),
       );
-      closed = λ r u q. of_put (λ x. x ≡ Some u) ((b r ≡ false) ⊎ ((v : ℕ) × Has (CanWrite r) (k.actions v))) o r (Some t) k.queued q (λ e i. inl (ap b e ∙ shut)) (λ ne i. s.closed r u i);
+      closed = λ r u q. of_put (λ x. x ≡ Some u) ((b r ≡ false) ⊎ ((v : ℕ) × HasAction (CanWrite r) (k.actions v))) o r (Some t) k.queued q (λ e i. inl (ap b e ∙ shut)) (λ ne i. s.closed r u i);
       below = s.below;
       apart = s.apart;
       heads = λ u busy h. of_put (λ x. x ≡ IsReady) ((ts : List ℕ) × (k.ready (active k u) ≡ u ∷ ts)) t u (IsQueued o) k.place h (λ e i. absurd (cc)) (λ ne i. s.heads u busy i);
     }
 
 -- a waiting task is nowhere any more
-pub released_sound : (b : ℕ → Bool) (k : Kernel) (p q : List Sleeper) (t : ℕ) (w : Place) → k.place t ≡ w → w ≢ IsRunning → w ≢ IsReady → ((o : ℕ) → w ≢ IsQueued o) → ((v o : ℕ) → Has (ServesCall o t) (k.actions v) → ⊥) → ((u : ℕ) → naps u k.sleepers + naps u q ≡ asleep (put t IsFinished k.place u)) → Sound b k p → Sound b (released t k) q
+pub released_sound : (b : ℕ → Bool) (k : Kernel) (p q : List Sleeper) (t : ℕ) (w : TaskPlace) → k.place t ≡ w → w ≢ IsRunning → w ≢ IsReady → ((o : ℕ) → w ≢ IsQueued o) → ((v o : ℕ) → HasAction (ServesCall o t) (k.actions v) → ⊥) → ((u : ℕ) → naps u k.sleepers + naps u q ≡ asleep (put t IsFinished k.place u)) → Sound b k p → Sound b (released t k) q
 released_sound b k p q t w here no_run no_ready no_queue no_serve nap s =
     let at : (u : ℕ) → u ≡ t → k.place u ≡ w = λ u e. ap k.place e ∙ here in
     record {
@@ -192,7 +192,7 @@ released_sound b k p q t w here no_run no_ready no_queue no_serve nap s =
       awake = λ u busy. by_put (λ x. (x ≡ IsRunning) ⊎ (x ≡ IsReady)) t u IsFinished k.place (λ e. absurd (idle (k.actions u) (idle_if b k p s u w (at u e) no_run no_ready) busy)) (λ ne. s.awake u busy);
       stacked = s.stacked;
       once = s.once;
-      serving = λ v o u h. (by_put (λ x. x ≡ IsServed o) t u IsFinished k.place (λ e. absurd (no_serve v o (subst (λ x. Has (ServesCall o x) (k.actions v)) e h))) (λ ne. (s.serving v o u h).0), (s.serving v o u h).1);
+      serving = λ v o u h. (by_put (λ x. x ≡ IsServed o) t u IsFinished k.place (λ e. absurd (no_serve v o (subst (λ x. HasAction (ServesCall o x) (k.actions v)) e h))) (λ ne. (s.serving v o u h).0), (s.serving v o u h).1);
       closed = s.closed;
       below = s.below;
       apart = s.apart;
@@ -224,7 +224,7 @@ unqueues_sound b k p u o was s =
         by_put (λ y. y ≡ IsServed r) u x (IsServed o) k.place (λ e. let i = at x e in let j = (s.serving v r x h).0 in absurd (cc)) (λ ne. (s.serving v r x h).0),
         by_put (λ y. y ≡ None) o r None k.queued (λ e. refl) (λ ne. (s.serving v r x h).1),
       );
-      closed = λ r v q. of_put (λ x. x ≡ Some v) ((b r ≡ false) ⊎ ((w : ℕ) × Has (CanWrite r) (k.actions w))) o r None k.queued q (λ e i. absurd (cc)) (λ ne i. s.closed r v i);
+      closed = λ r v q. of_put (λ x. x ≡ Some v) ((b r ≡ false) ⊎ ((w : ℕ) × HasAction (CanWrite r) (k.actions w))) o r None k.queued q (λ e i. absurd (cc)) (λ ne i. s.closed r v i);
       below = s.below;
       apart = s.apart;
       heads = λ v busy h. of_put (λ x. x ≡ IsReady) ((ts : List ℕ) × (k.ready (active k v) ≡ v ∷ ts)) u v (IsServed o) k.place h (λ e i. absurd (cc)) (λ ne i. s.heads v busy i);
@@ -232,8 +232,8 @@ unqueues_sound b k p u o was s =
 
 -- the running task with_actions other actions
 pub actions_sound : (b : ℕ → Bool) (k : Kernel) (p : List Sleeper) (t : ℕ) (new : List Action) → k.running ≡ Some t →
-    Stacked k.partition.ceiling (k.partition.base t) new → Once new → ((o u : ℕ) → Has (ServesCall o u) new → (k.place u ≡ IsServed o) × (k.queued o ≡ None)) →
-    ((o u : ℕ) → k.queued o ≡ Some u → (b o ≡ false) ⊎ ((v : ℕ) × Has (CanWrite o) (put t new k.actions v))) → Sound b k p → Sound b (with_actions t new k) p
+    Stacked k.partition.ceiling (k.partition.base t) new → Once new → ((o u : ℕ) → HasAction (ServesCall o u) new → (k.place u ≡ IsServed o) × (k.queued o ≡ None)) →
+    ((o u : ℕ) → k.queued o ≡ Some u → (b o ≡ false) ⊎ ((v : ℕ) × HasAction (CanWrite o) (put t new k.actions v))) → Sound b k p → Sound b (with_actions t new k) p
 actions_sound b k p t new run stacked_new once_new serving_new closed_new s =
     let here : k.place t ≡ IsRunning = s.runs t run in
     let at : (u : ℕ) → u ≡ t → k.place u ≡ IsRunning = λ u e. ap k.place e ∙ here in
@@ -253,7 +253,7 @@ actions_sound b k p t new run stacked_new once_new serving_new closed_new s =
       awake = λ u busy. ⊎_elim (λ e. inl (at u e)) (λ ne. s.awake u (subst Busy (other u ne) busy)) (same_or_not u t);
       stacked = λ u. by_put (Stacked k.partition.ceiling (k.partition.base u)) t u new k.actions (λ e. subst (λ x. Stacked k.partition.ceiling (k.partition.base x) new) (sym e) stacked_new) (λ ne. s.stacked u);
       once = λ u. by_put Once t u new k.actions (λ e. once_new) (λ ne. s.once u);
-      serving = λ v o u h. of_put (Has (ServesCall o u)) ((k.place u ≡ IsServed o) × (k.queued o ≡ None)) t v new k.actions h (λ e i. serving_new o u i) (λ ne i. s.serving v o u i);
+      serving = λ v o u h. of_put (HasAction (ServesCall o u)) ((k.place u ≡ IsServed o) × (k.queued o ≡ None)) t v new k.actions h (λ e i. serving_new o u i) (λ ne i. s.serving v o u i);
       closed = closed_new;
       below = λ r u e ne busy. let i : t ≡ r = cc in subst (λ x. level u < k.partition.base x) i (under u (λ j. ne (j ∙ i)) busy);
       apart = λ u v ne bu bv.

@@ -1,19 +1,19 @@
 -- Who is being served is served by somebody: kept by dispatching, by the clock and by every effect.
 use Rattle.std.proofs.Common.{◌≡◌, ◌≢◌, inl, inr, ℕ, List, [], ◌∷◌, ◌++◌, Option, Some, None, Bool, true, false, ltb, refl, sym, ap, ◌∙◌, subst, ⊎_elim}
 use Rattle.std.specs.Prelude.{int_lt}
-use Rattle.kernel.specs.State.{Kernel, Place, IsRunning, IsReady, IsAsleep, IsQueued, IsServed, IsFinished, Action, Reads, Writes, Serves, Sleeper, active, put}
+use Rattle.kernel.specs.State.{Kernel, TaskPlace, IsRunning, IsReady, IsAsleep, IsQueued, IsServed, IsFinished, Action, Reads, Writes, Serves, Sleeper, active, put}
 use Rattle.kernel.specs.Dispatching.{leaves, becomes_ready, runs_head, runs_from, preempted, preempts, dispatch_from, dispatch}
 use Rattle.kernel.specs.Clock.{falls_asleep, released, least, wakes_if_due, wakes_due, time_moves}
 use Rattle.kernel.specs.Effects.{Effect, Quiet, Says, Delays, Opens, Views, Queues, Ends, Finishes, Dies, Breaks, HandsBack, service, ending_of, outer_of, with_actions, takes_over, ends, effect}
-use Rattle.kernel.specs.Invariant.{Has, ServesCall, Served}
+use Rattle.kernel.specs.Invariant.{HasAction, ServesCall, Served}
 use Rattle.kernel.specs.PutLaws.{put_same, by_put, of_put}
 use Rattle.kernel.proofs.Lists.{either}
 
 abbrev pub Serv : Kernel → Type 0
 Serv k = Served k.place k.actions
 
-pub moved : (t : ℕ) (w : Place) (place : ℕ → Place) (actions : ℕ → List Action) → ((o : ℕ) → w ≢ IsServed o) → Served place actions → Served (put t w place) actions
-moved t w place actions not s u o e = of_put (λ x. x ≡ IsServed o) ((v : ℕ) × Has (ServesCall o u) (actions v)) t u w place e (λ i j. absurd (not o j)) (λ ne i. s u o i)
+pub moved : (t : ℕ) (w : TaskPlace) (place : ℕ → TaskPlace) (actions : ℕ → List Action) → ((o : ℕ) → w ≢ IsServed o) → Served place actions → Served (put t w place) actions
+moved t w place actions not s u o e = of_put (λ x. x ≡ IsServed o) ((v : ℕ) × HasAction (ServesCall o u) (actions v)) t u w place e (λ i j. absurd (not o j)) (λ ne i. s u o i)
 
 taken : (l : List ℕ) (h : ℕ) (k : Kernel) → Serv k → Serv (runs_head l h k)
 taken [] h k s = s
@@ -49,30 +49,30 @@ time_serv [] k s = s
 time_serv (x ∷ ss) k s = let k' : Kernel = record k { now = least x.wake ss; sleepers = [] } in dispatch_serv (wakes_due (x ∷ ss) k') (wakes_all_serv (x ∷ ss) k' s)
 
 -- an action opens that was not there
-grown : (t : ℕ) (new : List Action) (k : Kernel) → ((o u : ℕ) → Has (ServesCall o u) (k.actions t) → Has (ServesCall o u) new) → Serv k → Serv (with_actions t new k)
+grown : (t : ℕ) (new : List Action) (k : Kernel) → ((o u : ℕ) → HasAction (ServesCall o u) (k.actions t) → HasAction (ServesCall o u) new) → Serv k → Serv (with_actions t new k)
 grown t new k more s u o e =
     let w = s u o e in
-    (w.0, by_put (Has (ServesCall o u)) t w.0 new k.actions (λ i. more o u (subst (λ x. Has (ServesCall o u) (k.actions x)) i w.1)) (λ ne. w.1))
+    (w.0, by_put (HasAction (ServesCall o u)) t w.0 new k.actions (λ i. more o u (subst (λ x. HasAction (ServesCall o u) (k.actions x)) i w.1)) (λ ne. w.1))
 
 -- an action that serves nobody closes
 closed : (t : ℕ) (a : Action) (outer : List Action) (k : Kernel) → k.actions t ≡ a ∷ outer → ((o u : ℕ) → ServesCall o u a → ⊥) → Serv k → Serv (with_actions t outer k)
-closed t a outer k e plain s = grown t outer k (λ o u h. ⊎_elim (λ i. absurd (plain o u i)) (λ i. i) (subst (Has (ServesCall o u)) e h)) s
+closed t a outer k e plain s = grown t outer k (λ o u h. ⊎_elim (λ i. absurd (plain o u i)) (λ i. i) (subst (HasAction (ServesCall o u)) e h)) s
 
 takes_serv : (t o u : ℕ) (outer : List Action) (k : Kernel) → k.actions t ≡ Writes o ∷ outer → Serv k → Serv (takes_over t o u outer k)
 takes_serv t o u outer k e s v p i =
     let new = Serves o u ∷ outer in
-    of_put (λ x. x ≡ IsServed p) ((w : ℕ) × Has (ServesCall p v) (put t new k.actions w)) u v (IsServed o) k.place i
-    (λ same j. let m : o ≡ p = cc in (t, subst (Has (ServesCall p v)) (sym (put_same t t new k.actions refl)) (inl (m, sym same))))
-    (λ ne j. grown t new k (λ q x h. ⊎_elim (λ y. absurd y) (λ y. inr y) (subst (Has (ServesCall q x)) e h)) s v p j)
+    of_put (λ x. x ≡ IsServed p) ((w : ℕ) × HasAction (ServesCall p v) (put t new k.actions w)) u v (IsServed o) k.place i
+    (λ same j. let m : o ≡ p = cc in (t, subst (HasAction (ServesCall p v)) (sym (put_same t t new k.actions refl)) (inl (m, sym same))))
+    (λ ne j. grown t new k (λ q x h. ⊎_elim (λ y. absurd y) (λ y. inr y) (subst (HasAction (ServesCall q x)) e h)) s v p j)
 
 hands_serv : (t o u : ℕ) (outer : List Action) (k : Kernel) → k.actions t ≡ Serves o u ∷ outer → Serv k → Serv (ends t (HandsBack u) outer k)
 hands_serv t o u outer k e s v p i =
-    of_put (λ x. x ≡ IsServed p) ((w : ℕ) × Has (ServesCall p v) (put t outer k.actions w)) u v IsReady (put u IsFinished k.place) i (λ same j. absurd (cc))
+    of_put (λ x. x ≡ IsServed p) ((w : ℕ) × HasAction (ServesCall p v) (put t outer k.actions w)) u v IsReady (put u IsFinished k.place) i (λ same j. absurd (cc))
     (λ ne j.
-    of_put (λ x. x ≡ IsServed p) ((w : ℕ) × Has (ServesCall p v) (put t outer k.actions w)) u v IsFinished k.place j (λ same m. absurd (cc))
+    of_put (λ x. x ≡ IsServed p) ((w : ℕ) × HasAction (ServesCall p v) (put t outer k.actions w)) u v IsFinished k.place j (λ same m. absurd (cc))
     (λ ne' m.
     let w = s v p m in
-    (w.0, by_put (Has (ServesCall p v)) t w.0 outer k.actions (λ x. ⊎_elim (λ y. absurd (ne (sym y.1))) (λ y. y) (subst (Has (ServesCall p v)) (ap k.actions x ∙ e) w.1)) (λ nx. w.1))))
+    (w.0, by_put (HasAction (ServesCall p v)) t w.0 outer k.actions (λ x. ⊎_elim (λ y. absurd (ne (sym y.1))) (λ y. y) (subst (HasAction (ServesCall p v)) (ap k.actions x ∙ e) w.1)) (λ nx. w.1))))
 
 service_serv : (is_open : Bool) (t o : ℕ) (outer : List Action) (q : Option ℕ) (k : Kernel) → k.actions t ≡ Writes o ∷ outer → Serv k → Serv (ends t (service is_open o q) outer k)
 service_serv false t o outer q k e s = closed t (Writes o) outer k e (λ p u h. h) s
@@ -80,7 +80,7 @@ service_serv true t o outer None k e s = closed t (Writes o) outer k e (λ p u h
 service_serv true t o outer (Some u) k e s = takes_serv t o u outer k e s
 
 ends_serv : (is_open : Bool) (t : ℕ) (l : List Action) (k : Kernel) → k.actions t ≡ l → Serv k → Serv (ends t (ending_of is_open l k.queued) (outer_of l) k)
-ends_serv is_open t [] k e s = grown t [] k (λ p u h. subst (Has (ServesCall p u)) e h) s
+ends_serv is_open t [] k e s = grown t [] k (λ p u h. subst (HasAction (ServesCall p u)) e h) s
 ends_serv is_open t (Reads o ∷ outer) k e s = closed t (Reads o) outer k e (λ p u h. h) s
 ends_serv is_open t (Writes o ∷ outer) k e s = service_serv is_open t o outer (k.queued o) k e s
 ends_serv is_open t (Serves o u ∷ outer) k e s = hands_serv t o u outer k e s

@@ -5,7 +5,7 @@ use Rattle.kernel.specs.State.{Kernel, IsServed, IsFinished, Action, Reads, Writ
 use Rattle.kernel.specs.Dispatching.{leaves, becomes_ready}
 use Rattle.kernel.specs.Clock.{falls_asleep, released}
 use Rattle.kernel.specs.Effects.{Effect, Quiet, Says, Delays, Opens, Views, Queues, Ends, Finishes, Dies, Breaks, service, ending_of, outer_of, with_actions, takes_over, ends, effect, after}
-use Rattle.kernel.specs.Invariant.{Has, At, CanWrite, ServesCall, Once, Stacked, naps, asleep, Sound, Settled, Kept, Tells, Passed, Held}
+use Rattle.kernel.specs.Invariant.{HasAction, IsInsideObject, CanWrite, ServesCall, Once, Stacked, naps, asleep, Sound, Settled, Kept, Tells, Passed, IsBarrierHeld}
 use Rattle.kernel.specs.PutLaws.{same_or_not, put_same, put_other, by_put, of_put}
 use Rattle.kernel.proofs.Lists.{base_raised, ceiling_raised, at_busy, idle, served_at, either}
 use Rattle.kernel.proofs.Passed.{outside, not_above, may_call, not_full}
@@ -19,13 +19,13 @@ left : (t : ℕ) (k : Kernel) → (leaves t k).place t ≡ IsFinished
 left t k = put_same t t IsFinished k.place refl
 
 module _ (b : ℕ → Bool) (k : Kernel) (t : ℕ) (run : k.running ≡ Some t) (s : Sound b k []) where
-  opens_sound : (a : Action) → (At (object_of a) (k.actions t) → ⊥) → active k t ≤ k.partition.ceiling (object_of a) → ((o u : ℕ) → ServesCall o u a → ⊥) → Sound b (with_actions t (a ∷ k.actions t) k) []
+  opens_sound : (a : Action) → (IsInsideObject (object_of a) (k.actions t) → ⊥) → active k t ≤ k.partition.ceiling (object_of a) → ((o u : ℕ) → ServesCall o u a → ⊥) → Sound b (with_actions t (a ∷ k.actions t) k) []
   opens_sound a other low plain =
       actions_sound b k [] t (a ∷ k.actions t) run
       (low, s.stacked t)
       (other, s.once t)
       (λ o u h. ⊎_elim (λ i. absurd (plain o u i)) (λ i. s.serving t o u i) h)
-      (λ o u q. ⊎_elim (λ e. inl e) (λ w. inr (w.0, by_put (Has (CanWrite o)) t w.0 (a ∷ k.actions t) k.actions (λ e. inr (subst (λ x. Has (CanWrite o) (k.actions x)) e w.1)) (λ ne. w.1))) (s.closed o u q))
+      (λ o u q. ⊎_elim (λ e. inl e) (λ w. inr (w.0, by_put (HasAction (CanWrite o)) t w.0 (a ∷ k.actions t) k.actions (λ e. inr (subst (λ x. HasAction (CanWrite o) (k.actions x)) e w.1)) (λ ne. w.1))) (s.closed o u q))
       s
 
   closes_sound : (a : Action) (outer : List Action) → k.actions t ≡ a ∷ outer → ((o u : ℕ) → k.queued o ≡ Some u → CanWrite o a → b o ≡ false) → Sound b (with_actions t outer k) []
@@ -33,7 +33,7 @@ module _ (b : ℕ → Bool) (k : Kernel) (t : ℕ) (run : k.running ≡ Some t) 
       actions_sound b k [] t outer run
       (subst (Stacked k.partition.ceiling (k.partition.base t)) e (s.stacked t)).1
       (subst Once e (s.once t)).1
-      (λ o u h. s.serving t o u (subst (Has (ServesCall o u)) (sym e) (inr h)))
+      (λ o u h. s.serving t o u (subst (HasAction (ServesCall o u)) (sym e) (inr h)))
       (λ o u q.
       ⊎_elim (λ f. inl f)
       (λ w.
@@ -41,9 +41,9 @@ module _ (b : ℕ → Bool) (k : Kernel) (t : ℕ) (run : k.running ≡ Some t) 
       (λ i.
       ⊎_elim
       (λ c. inl (shut o u q c))
-      (λ r. inr (t, subst (Has (CanWrite o)) (sym (put_same t t outer k.actions refl)) r))
-      (subst (Has (CanWrite o)) (ap k.actions i ∙ e) w.1))
-      (λ ne. inr (w.0, subst (Has (CanWrite o)) (sym (put_other t w.0 outer k.actions ne)) w.1))
+      (λ r. inr (t, subst (HasAction (CanWrite o)) (sym (put_same t t outer k.actions refl)) r))
+      (subst (HasAction (CanWrite o)) (ap k.actions i ∙ e) w.1))
+      (λ ne. inr (w.0, subst (HasAction (CanWrite o)) (sym (put_other t w.0 outer k.actions ne)) w.1))
       (same_or_not w.0 t))
       (s.closed o u q))
       s
@@ -59,18 +59,18 @@ module _ (b : ℕ → Bool) (k : Kernel) (t : ℕ) (run : k.running ≡ Some t) 
       (λ p v h.
       ⊎_elim
       (λ i. (subst (λ x. put u (IsServed o) k.place x ≡ IsServed p) i.1 (put_same u u (IsServed o) k.place refl ∙ ap IsServed i.0), put_same o p None k.queued (sym i.0)))
-      (λ i. s'.serving t p v (subst (Has (ServesCall p v)) (sym e) (inr i)))
+      (λ i. s'.serving t p v (subst (HasAction (ServesCall p v)) (sym e) (inr i)))
       h)
       (λ p v i.
       ⊎_elim (λ f. inl f)
-      (λ w. inr (w.0, by_put (Has (CanWrite p)) t w.0 (Serves o u ∷ outer) k.actions (λ j. ⊎_elim (λ c. inl c) (λ c. inr c) (subst (Has (CanWrite p)) (ap k.actions j ∙ e) w.1)) (λ ne. w.1)))
+      (λ w. inr (w.0, by_put (HasAction (CanWrite p)) t w.0 (Serves o u ∷ outer) k.actions (λ j. ⊎_elim (λ c. inl c) (λ c. inr c) (subst (HasAction (CanWrite p)) (ap k.actions j ∙ e) w.1)) (λ ne. w.1)))
       (s'.closed p v i))
       s'
 
   ends_served : (u o : ℕ) (outer : List Action) → k.actions t ≡ Serves o u ∷ outer → Sound b (becomes_ready u (released u (with_actions t outer k))) []
   ends_served u o outer e =
-      let mine : Has (ServesCall o u) (k.actions t) = subst (Has (ServesCall o u)) (sym e) (inl (refl, refl)) in
-      let in_o : At o (k.actions t) = served_at o u (k.actions t) mine in
+      let mine : HasAction (ServesCall o u) (k.actions t) = subst (HasAction (ServesCall o u)) (sym e) (inl (refl, refl)) in
+      let in_o : IsInsideObject o (k.actions t) = served_at o u (k.actions t) mine in
       let is = s.serving t o u mine in
       let once : Once (Serves o u ∷ outer) = subst Once e (s.once t) in
       let l = with_actions t outer k in
@@ -80,8 +80,8 @@ module _ (b : ℕ → Bool) (k : Kernel) (t : ℕ) (run : k.running ≡ Some t) 
       (λ v p h.
       let there : k.place u ≡ IsServed p = (s1.serving v p u h).0 in
       let same : p ≡ o = let x = is.0 in cc in
-      let h' : Has (ServesCall o u) (put t outer k.actions v) = subst (λ x. Has (ServesCall x u) (put t outer k.actions v)) same h in
-      of_put (Has (ServesCall o u)) ⊥ t v outer k.actions h'
+      let h' : HasAction (ServesCall o u) (put t outer k.actions v) = subst (λ x. HasAction (ServesCall x u) (put t outer k.actions v)) same h in
+      of_put (HasAction (ServesCall o u)) ⊥ t v outer k.actions h'
       (λ i w. once.0 (served_at o u outer w))
       (λ ne w. ne (one_inside b k [] s o v t (served_at o u (k.actions v) w) in_o)))
       (λ v. by_put (λ x. naps v k.sleepers + 0 ≡ asleep x) u v IsFinished k.place (λ i. napping b k [] s v (IsServed o) (ap k.place i ∙ is.0)) (λ ne. s.naps_once v))
@@ -144,5 +144,5 @@ module _ (b : ℕ → Bool) (k : Kernel) (t : ℕ) (run : k.running ≡ Some t) 
   kept_after st sv (Dies x) c = record { sound = effect_sound (Dies x) c; settled = record { first = st.first; nobody = st.nobody }; served = sv; over = λ none. absurd (cc) }
   kept_after st sv Breaks c = record { sound = effect_sound Breaks c; settled = record { first = st.first; nobody = st.nobody }; served = sv; over = λ none. absurd (cc) }
 
-pub kept_by_every : (before later : ℕ → Bool) (k : Kernel) (t : ℕ) (e : Effect) → k.running ≡ Some t → Held before later k t → Passed later k t e → Kept before k → Kept later (after t e k)
+pub kept_by_every : (before later : ℕ → Bool) (k : Kernel) (t : ℕ) (e : Effect) → k.running ≡ Some t → IsBarrierHeld before later k t → Passed later k t e → Kept before k → Kept later (after t e k)
 kept_by_every before later k t e run h c kept = kept_after later k t run (held before later k [] t h kept.sound) kept.settled kept.served e c

@@ -1,17 +1,17 @@
 -- What holds of every kernel between steps, and what a step owes for it; nobody has to believe this.
 use Rattle.std.specs.Prelude.{◌≡◌, ◌≢◌, ◌⊎◌, ℕ, ◌+◌, ◌<◌, ◌≤◌, List, [], ◌∷◌, Some, None, Bool, false, nat_eq, if◌then◌else◌}
 use Rattle.base.specs.declared.limits.TheConstants.{PRIORITIES}
-use Rattle.kernel.specs.State.{Partition, Kernel, Place, IsRunning, IsReady, IsAsleep, IsQueued, IsServed, IsFinished, Action, Reads, Writes, Serves, object_of, Sleeper, active, raised}
+use Rattle.kernel.specs.State.{Partition, Kernel, TaskPlace, IsRunning, IsReady, IsAsleep, IsQueued, IsServed, IsFinished, Action, Reads, Writes, Serves, object_of, Sleeper, active, raised}
 use Rattle.kernel.specs.Clock.{last_outcome}
 use Rattle.kernel.specs.Effects.{Effect, Quiet, Says, Delays, Opens, Views, Queues, Ends, Finishes, Dies, Breaks, is_inside_any, is_above_ceiling, call_refusal, is_full}
 
-abbrev pub Has : (Action → Type 0) → List Action → Type 0
-Has P [] = ⊥
-Has P (a ∷ outer) = P a ⊎ Has P outer
+abbrev pub HasAction : (Action → Type 0) → List Action → Type 0
+HasAction P [] = ⊥
+HasAction P (a ∷ outer) = P a ⊎ HasAction P outer
 
 -- inside object o
-abbrev pub At : ℕ → List Action → Type 0
-At o actions = Has (λ a. object_of a ≡ o) actions
+abbrev pub IsInsideObject : ℕ → List Action → Type 0
+IsInsideObject o actions = HasAction (λ a. object_of a ≡ o) actions
 
 -- inside any action
 abbrev pub Busy : List Action → Type 0
@@ -31,7 +31,7 @@ ServesCall o u (Serves p v) = (p ≡ o) × (v ≡ u)
 -- no object twice
 abbrev pub Once : List Action → Type 0
 Once [] = Unit {0}
-Once (a ∷ outer) = (At (object_of a) outer → ⊥) × Once outer
+Once (a ∷ outer) = (IsInsideObject (object_of a) outer → ⊥) × Once outer
 
 -- each ceiling is at least the active priority under it, so ceilings do not fall from outer to inner
 abbrev pub Stacked : (ℕ → ℕ) → ℕ → List Action → Type 0
@@ -39,8 +39,8 @@ Stacked ceiling base [] = Unit {0}
 Stacked ceiling base (a ∷ outer) = (raised ceiling base outer ≤ ceiling (object_of a)) × Stacked ceiling base outer
 
 -- who is being served is served by somebody
-abbrev pub Served : (ℕ → Place) → (ℕ → List Action) → Type 0
-Served place actions = (u o : ℕ) → place u ≡ IsServed o → (t : ℕ) × Has (ServesCall o u) (actions t)
+abbrev pub Served : (ℕ → TaskPlace) → (ℕ → List Action) → Type 0
+Served place actions = (u o : ℕ) → place u ≡ IsServed o → (t : ℕ) × HasAction (ServesCall o u) (actions t)
 
 abbrev pub count : ℕ → List ℕ → ℕ
 count t [] = 0
@@ -52,7 +52,7 @@ naps t [] = 0
 naps t (s ∷ ss) = (if nat_eq t s.task then 1 else 0) + naps t ss
 
 -- how often a task of this place and active priority stands in list h
-abbrev pub listed : Place → ℕ → ℕ → ℕ
+abbrev pub listed : TaskPlace → ℕ → ℕ → ℕ
 listed IsReady a h = if nat_eq h a then 1 else 0
 listed IsRunning a h = 0
 listed IsAsleep a h = 0
@@ -60,7 +60,7 @@ listed (IsQueued o) a h = 0
 listed (IsServed o) a h = 0
 listed IsFinished a h = 0
 
-abbrev pub asleep : Place → ℕ
+abbrev pub asleep : TaskPlace → ℕ
 asleep IsAsleep = 1
 asleep IsRunning = 0
 asleep IsReady = 0
@@ -84,8 +84,8 @@ pub record Sound (barrier : ℕ → Bool) (k : Kernel) (pending : List Sleeper) 
   pub awake : (t : ℕ) → Busy (k.actions t) → (k.place t ≡ IsRunning) ⊎ (k.place t ≡ IsReady)
   pub stacked : (t : ℕ) → Stacked k.partition.ceiling (k.partition.base t) (k.actions t)
   pub once : (t : ℕ) → Once (k.actions t)
-  pub serving : (t o u : ℕ) → Has (ServesCall o u) (k.actions t) → (k.place u ≡ IsServed o) × (k.queued o ≡ None)
-  pub closed : (o u : ℕ) → k.queued o ≡ Some u → (barrier o ≡ false) ⊎ ((t : ℕ) × Has (CanWrite o) (k.actions t))
+  pub serving : (t o u : ℕ) → HasAction (ServesCall o u) (k.actions t) → (k.place u ≡ IsServed o) × (k.queued o ≡ None)
+  pub closed : (o u : ℕ) → k.queued o ≡ Some u → (barrier o ≡ false) ⊎ ((t : ℕ) × HasAction (CanWrite o) (k.actions t))
   -- who was preempted inside an action stands below the base priority of whoever came after
   pub below : (r t : ℕ) → k.running ≡ Some r → t ≢ r → Busy (k.actions t) → active k t < k.partition.base r
   pub apart : (t u : ℕ) → t ≢ u → Busy (k.actions t) → Busy (k.actions u) → (active k t < k.partition.base u) ⊎ (active k u < k.partition.base t)
@@ -129,5 +129,5 @@ Passed barrier k t (Dies x) = Unit {0}
 Passed barrier k t Breaks = Unit {0}
 
 -- a barrier changes only where the running task has an action open that may write its object
-abbrev pub Held : (ℕ → Bool) → (ℕ → Bool) → Kernel → ℕ → Type 0
-Held before later k t = (o : ℕ) → (later o ≡ before o) ⊎ Has (CanWrite o) (k.actions t)
+abbrev pub IsBarrierHeld : (ℕ → Bool) → (ℕ → Bool) → Kernel → ℕ → Type 0
+IsBarrierHeld before later k t = (o : ℕ) → (later o ≡ before o) ⊎ HasAction (CanWrite o) (k.actions t)

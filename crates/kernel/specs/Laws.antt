@@ -6,7 +6,7 @@ use Rattle.kernel.specs.Clock.{clock}
 use Rattle.kernel.specs.Effects.{Effect, Quiet, Says, Opens, Views, Ends, TakesOver, HandsBack, is_inside_any, is_above_ceiling, call_refusal, effect, after, begin}
 use Rattle.kernel.specs.Worlds.{ending}
 use Rattle.kernel.specs.Calm.{IsRunner, Calm}
-use Rattle.kernel.specs.Invariant.{Sound, Served, Kept, Fits, Passed, Held}
+use Rattle.kernel.specs.Invariant.{Sound, Served, Kept, Fits, Passed, IsBarrierHeld}
 use Rattle.kernel.specs.Exclusion.{StandsIn, IsInside, FourStatements}
 
 -- The invariant
@@ -15,7 +15,7 @@ abbrev pub BeginsKept : Type 0
 BeginsKept = (barrier : ℕ → Bool) (p : Partition) → Fits p → Kept barrier (begin p)
 
 abbrev pub KeptByEvery : Type 0
-KeptByEvery = (before later : ℕ → Bool) (k : Kernel) (t : ℕ) (e : Effect) → k.running ≡ Some t → Held before later k t → Passed later k t e → Kept before k → Kept later (after t e k)
+KeptByEvery = (before later : ℕ → Bool) (k : Kernel) (t : ℕ) (e : Effect) → k.running ≡ Some t → IsBarrierHeld before later k t → Passed later k t e → Kept before k → Kept later (after t e k)
 
 abbrev pub FourHold : Type 0
 FourHold = (barrier : ℕ → Bool) (k : Kernel) → Kept barrier k → FourStatements barrier k
@@ -23,7 +23,7 @@ FourHold = (barrier : ℕ → Bool) (k : Kernel) → Kept barrier k → FourStat
 -- the kernels, with the barriers, that steps whose refusals were passed can lead to, whatever code takes them
 pub data Course (p : Partition) : (ℕ → Bool) → Kernel → Type 0 where
   Starts : (barrier : ℕ → Bool) → Course p barrier (begin p)
-  Goes : (before later : ℕ → Bool) (k : Kernel) (t : ℕ) (e : Effect) → Course p before k → k.running ≡ Some t → Held before later k t → Passed later k t e → Course p later (after t e k)
+  Goes : (before later : ℕ → Bool) (k : Kernel) (t : ℕ) (e : Effect) → Course p before k → k.running ≡ Some t → IsBarrierHeld before later k t → Passed later k t e → Course p later (after t e k)
 
 abbrev pub FourAlways : Type 0
 FourAlways = (p : Partition) (barrier : ℕ → Bool) (k : Kernel) → Fits p → Course p barrier k → FourStatements barrier k

@@ -7,7 +7,7 @@ use Rattle.kernel.specs.Effects.{Closes, after}
 use Rattle.kernel.specs.Worlds.{World, Local, step_of, step, run, Tasks, Solo, Behaviour, ending, reached, solo_of, put_back, among}
 use Rattle.kernel.specs.Calm.{IsRunner}
 use Rattle.kernel.specs.Counting.{Unseen, Spends, Done, Own, Calls, next_kernel, next_solo}
-use Rattle.kernel.specs.Invariant.{Kept, Passed, Held}
+use Rattle.kernel.specs.Invariant.{Kept, Passed, IsBarrierHeld}
 use Rattle.kernel.specs.Laws.{KeptByEvery, LinesGrow}
 
 -- Runs
@@ -45,7 +45,7 @@ run_lines f grow (suc n) w =
 
 -- what the steps of a world owe, by an invariant of its own
 pub record Behaves {D : Type 0} (f : Local D) (barrier : D → ℕ → Bool) (Own : World D → Type 0) (k : Kernel) (t : ℕ) (d : D) : Type 0 where
-  pub held : Held (barrier d) (barrier (f k t d).rest) k t
+  pub held : IsBarrierHeld (barrier d) (barrier (f k t d).rest) k t
   pub passed : Passed (barrier (f k t d).rest) k t (f k t d).effect
   pub own : Own (record { kernel = after t (f k t d).effect k; rest = (f k t d).rest })
 

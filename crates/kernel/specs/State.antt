@@ -13,9 +13,9 @@ pub record Partition : Type 0 where
   pub ceiling : ℕ → ℕ
 
 -- where a task is (RM 9, D.2.1): being served is a queued caller whose entry body another task runs (RM 9.5.3)
-pub data Place : Type 0 where
-  IsRunning IsReady IsAsleep IsFinished : Place
-  IsQueued IsServed : (object : ℕ) → Place
+pub data TaskPlace : Type 0 where
+  IsRunning IsReady IsAsleep IsFinished : TaskPlace
+  IsQueued IsServed : (object : ℕ) → TaskPlace
 
 -- an open protected action (RM 9.5.1): of a function, of a procedure or an entry, or of one that runs the entry body for a queued caller
 pub data Action : Type 0 where
@@ -55,7 +55,7 @@ pub record Kernel : Type 0 where
   pub queued : ℕ → Option ℕ
   -- the open actions of each task, the innermost first
   pub actions : ℕ → List Action
-  pub place : ℕ → Place
+  pub place : ℕ → TaskPlace
   pub now : ℤ
   pub lines : List Line
   pub outcome : Option Outcome

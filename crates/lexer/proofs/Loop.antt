@@ -12,7 +12,7 @@ use Rattle.lexer.specs.declared.element.Element.{Element}
 use Rattle.lexer.specs.declared.element.Broken.{Broken}
 use Rattle.lexer.specs.Fault.{memory_fault}
 use Rattle.base.specs.declared.limits.TheConstants.{TEXT_LIMIT}
-use Rattle.lexer.specs.Spelling.{Row, Here, Spells, Breaks, IsBroken, TooLong, At, IsRefused}
+use Rattle.lexer.specs.Spelling.{Row, Here, Spells, Breaks, IsBroken, TooLong, At, IsRefusedForMemory}
 use Rattle.lexer.specs.Reading.{Reading, element_at, token_list, tokens_of, fault_at}
 use Rattle.lexer.proofs.Sound.{IsRight}
 use Rattle.lexer.proofs.Broken.{breaks_read}
@@ -150,7 +150,7 @@ more_blank text at found e so_far inside read short is =
 
 -- where memory is refused for a token
 pub refused : (text : List ℕ) (at : ℕ) (found : List Token) (e : Element) (kind : TokenKind) (fault : Fault) → fault ≡ memory_fault → Reads text at found → at < length text → element_at (drop at text) ≡ Ok e → at + e.length ≤ TEXT_LIMIT → e.kind ≡ Some kind
-    → IsRefused text fault
+    → IsRefusedForMemory text fault
 refused text at found e kind fault is so_far inside read short token_is = record {
   memory = is;
   place = at + e.length;

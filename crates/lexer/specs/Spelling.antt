@@ -50,7 +50,7 @@ pub data IsBroken (text : List ℕ) : Fault → Type 0 where
   At : {place offset number : ℕ} {left : List ℕ} {tokens : List Token} → Row place left 0 text tokens → Breaks number offset left → place + offset < TEXT_LIMIT → IsBroken text (record { number = number; place = place + offset })
 
 -- Memory was refused for a token: the text begins with a row of white space, comments and tokens, of which there is one at least.
-pub record IsRefused (text : List ℕ) (fault : Fault) : Type 0 where
+pub record IsRefusedForMemory (text : List ℕ) (fault : Fault) : Type 0 where
   pub memory : fault ≡ memory_fault
   pub place : ℕ
   pub left : List ℕ

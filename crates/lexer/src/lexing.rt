@@ -3,7 +3,7 @@ ghost use Rattle.std.specs.Prelude.{◌≡◌, ◌⊎◌, List, IfOk, IfErr};
 ghost use Rattle.lexer.specs.declared.fault.Fault.{Fault};
 ghost use Rattle.lexer.specs.declared.token.Token.{Token};
 ghost use Rattle.lexer.specs.Reading.{fault_at};
-ghost use Rattle.lexer.specs.Spelling.{Spells, IsBroken, IsRefused, Gave, NamesAtLatest, SpelledOnce, SpellsInOrder};
+ghost use Rattle.lexer.specs.Spelling.{Spells, IsBroken, IsRefusedForMemory, Gave, NamesAtLatest, SpelledOnce, SpellsInOrder};
 
 use crate::element::read_element;
 use crate::{Fault, Token};
@@ -41,7 +41,7 @@ pub fn tokens(alloc: Global, text: &[u8]) -> Result<Vec<Token>, Fault>
     // A text that breaks a rule is refused, and the least place is named.
     ensures least { (f : Fault) → IsBroken text.now f → NamesAtLatest result f }
     // The rule that a fault names is broken at its place, or memory was refused.
-    ensures fault { IfErr result (λ f. IsBroken text.now f ⊎ IsRefused text.now f) }
+    ensures fault { IfErr result (λ f. IsBroken text.now f ⊎ IsRefusedForMemory text.now f) }
 {
     let mut tokens = Vec::new(alloc);
     let mut at = 0;

@@ -15,9 +15,9 @@ use Rattle.kernel.specs.Laws.{LeftUnmoved}
 use Rattle.kernel.specs.RunLaws.{run_plus}
 use Rattle.kernel.specs.Worlds.{among, run}
 use Rattle.image.specs.Steps.{behaviour}
-use Rattle.execution.specs.Held.{Held, Leads, line_of, world_of, world_with}
+use Rattle.execution.specs.Held.{HeldWorld, Leads, line_of, world_of, world_with}
 use Rattle.machine.specs.Outcomes.{ending_of, time_of}
-use Rattle.machine.specs.Stands.{EndsBy, StandsFor}
+use Rattle.machine.specs.Stands.{EndsBy, HoldsWorld}
 use Rattle.machine.specs.Written.{AppendsBeginning}
 use Rattle.execution.specs.declared.line.Line.{Line}
 use Rattle.machine.specs.declared.reports.Outcome.{Outcome}
@@ -65,28 +65,28 @@ starts_without_lines unmoved i =
     let p = partition_of i in
     (unmoved (activated p.tasks (blank p))).lines ∙ activated_lines p.tasks (blank p)
 
-pub stands_start : LeftUnmoved → (i : Sections) (schedule : List ScheduleLine) (h : Held) → world_of h ≡ start i → StandsFor h (code i schedule 0)
+pub stands_start : LeftUnmoved → (i : Sections) (schedule : List ScheduleLine) (h : HeldWorld) → world_of h ≡ start i → HoldsWorld h (code i schedule 0)
 stands_start unmoved i schedule h is = sym is ∙ ap (λ l. world_with l h) (sym (starts_without_lines unmoved i))
 
 -- steps that lead on from a world that the machine stands for
-pub led_on : (h next : Held) (n k : ℕ) (told : List kernel.Line) → StandsFor h (code h.image h.schedule n) → Leads k h next told → code h.image h.schedule (n + k) ≡ world_with ((code h.image h.schedule n).kernel.lines ++ told) next
+pub led_on : (h next : HeldWorld) (n k : ℕ) (told : List kernel.Line) → HoldsWorld h (code h.image h.schedule n) → Leads k h next told → code h.image h.schedule (n + k) ≡ world_with ((code h.image h.schedule n).kernel.lines ++ told) next
 led_on h next n k told stands l =
     let f = among (behaviour h.image h.schedule) in
     run_plus f n k (start h.image) ∙ (ap (run f k) stands ∙ l.world (code h.image h.schedule n).kernel.lines)
 
 -- a world that is so, and the lines of it
-pub stands_by : (h : Held) (w : CodeWorld) (lines : List kernel.Line) → w ≡ world_with lines h → StandsFor h w
+pub stands_by : (h : HeldWorld) (w : CodeWorld) (lines : List kernel.Line) → w ≡ world_with lines h → HoldsWorld h w
 stands_by h w lines is = is ∙ ap (λ l. world_with l h) (sym (ap (λ v. v.kernel.lines) is))
 
 -- after n steps: the machine stands for the world, and its lines are written
-pub record Ran (i : Sections) (schedule : List ScheduleLine) (n : ℕ) (h : Held) (old new : Option (List ℕ)) (before after : ℕ) : Type 0 where
+pub record Ran (i : Sections) (schedule : List ScheduleLine) (n : ℕ) (h : HeldWorld) (old new : Option (List ℕ)) (before after : ℕ) : Type 0 where
   pub image : h.image ≡ i
   pub schedule_is : h.schedule ≡ schedule
-  pub stands : StandsFor h (code i schedule n)
+  pub stands : HoldsWorld h (code i schedule n)
   pub written : Appends old new (lines_text (names_of i) (code i schedule n).kernel.lines)
   pub kept : after ≡ before
 
-pub ran_nothing : LeftUnmoved → (h : Held) (old : Option (List ℕ)) (before : ℕ) → StandsFor h (code h.image h.schedule 0) → Ran h.image h.schedule 0 h old old before before
+pub ran_nothing : LeftUnmoved → (h : HeldWorld) (old : Option (List ℕ)) (before : ℕ) → HoldsWorld h (code h.image h.schedule 0) → Ran h.image h.schedule 0 h old old before before
 ran_nothing unmoved h old before stands =
     record {
       image = refl;
@@ -96,12 +96,12 @@ ran_nothing unmoved h old before stands =
       kept = refl;
     }
 
-module _ (i : Sections) (schedule : List ScheduleLine) (n : ℕ) (h next : Held) (old new : Option (List ℕ)) (before after : ℕ) (r : Ran i schedule n h old new before after) where
+module _ (i : Sections) (schedule : List ScheduleLine) (n : ℕ) (h next : HeldWorld) (old new : Option (List ℕ)) (before after : ℕ) (r : Ran i schedule n h old new before after) where
   leads_to : (k : ℕ) (told : List kernel.Line) → Leads k h next told → code i schedule (n + k) ≡ world_with ((code i schedule n).kernel.lines ++ told) next
   leads_to k told l =
       subst (λ s. code i s (n + k) ≡ world_with ((code i s n).kernel.lines ++ told) next) r.schedule_is
       (subst (λ j. code j h.schedule (n + k) ≡ world_with ((code j h.schedule n).kernel.lines ++ told) next) r.image
-      (led_on h next n k told (subst (λ j. StandsFor h (code j h.schedule n)) (sym r.image) (subst (λ s. StandsFor h (code i s n)) (sym r.schedule_is) r.stands)) l))
+      (led_on h next n k told (subst (λ j. HoldsWorld h (code j h.schedule n)) (sym r.image) (subst (λ s. HoldsWorld h (code i s n)) (sym r.schedule_is) r.stands)) l))
 
   pub ran_none : (k : ℕ) → Leads k h next [] → Ran i schedule (n + k) next old new before after
   ran_none k l =
@@ -151,7 +151,7 @@ pub record Over (i : Sections) (schedule : List ScheduleLine) (limit : ℕ) (o :
   pub ends : EndsBy o (code i schedule limit)
   pub kept : after ≡ before
 
-pub ran_over : OutcomeStays → (i : Sections) (schedule : List ScheduleLine) (n limit : ℕ) (h : Held) (old new : Option (List ℕ)) (before after : ℕ) → Ran i schedule n h old new before after → n ≤ limit →
+pub ran_over : OutcomeStays → (i : Sections) (schedule : List ScheduleLine) (n limit : ℕ) (h : HeldWorld) (old new : Option (List ℕ)) (before after : ℕ) → Ran i schedule n h old new before after → n ≤ limit →
     (n ≡ limit) ⊎ ((e : kernel.Outcome) × ((world_of h).kernel.outcome ≡ Some e)) → (o : Outcome) → EndsBy o (world_of h) → Over i schedule limit o old new before after
 ran_over stays i schedule n limit h old new before after r le why o ends =
     let here : EndsBy o (code i schedule n) = record { outcome = ap (λ w. w.kernel.outcome) r.stands ∙ ends.outcome; time = ap (λ w. w.kernel.now) r.stands ∙ ends.time } in

@@ -6,20 +6,20 @@ use Rattle.image.specs.Code.{code}
 use Rattle.image.specs.Texts.{names_of}
 use Rattle.image_laws.specs.Laws.{OutcomeStays}
 use Rattle.tasking.specs.Held.{kernel_of}
-use Rattle.execution.specs.Held.{Held, Leads, line_of, world_of, world_with}
+use Rattle.execution.specs.Held.{HeldWorld, Leads, line_of, world_of, world_with}
 use Rattle.machine.specs.Outcomes.{ending_of, time_of}
-use Rattle.machine.specs.Stands.{IsLast, ShowsText, StandsFor, kernel_outcome}
+use Rattle.machine.specs.Stands.{IsLast, ShowsText, HoldsWorld, kernel_outcome}
 use Rattle.machine.specs.declared.reports.Event.{Event}
 use Rattle.machine.specs.declared.reports.Event.TheVariants as events
 use Rattle.machine.specs.declared.reports.Outcome.{Outcome}
 use Rattle.machine.proofs.Runs.{led_on, stands_by}
 
 -- the world after one more step, and what the event shows of it
-abbrev pub Stepped : Held → Held → ℕ → Event → Type 0
-Stepped h next m event = StandsFor next (code h.image h.schedule (m + 1)) × ShowsText h.image (code h.image h.schedule m).kernel (code h.image h.schedule (m + 1)).kernel event
+abbrev pub Stepped : HeldWorld → HeldWorld → ℕ → Event → Type 0
+Stepped h next m event = HoldsWorld next (code h.image h.schedule (m + 1)) × ShowsText h.image (code h.image h.schedule m).kernel (code h.image h.schedule (m + 1)).kernel event
 
 -- the outcome that was there already
-pub step_over : OutcomeStays → (h : Held) (m : ℕ) → StandsFor h (code h.image h.schedule m) → (o : Outcome) → ending_of o ≡ (kernel_of h.tasking).outcome → IsLast (kernel_of h.tasking).now (Some o) → Stepped h h m (events.Done o)
+pub step_over : OutcomeStays → (h : HeldWorld) (m : ℕ) → HoldsWorld h (code h.image h.schedule m) → (o : Outcome) → ending_of o ≡ (kernel_of h.tasking).outcome → IsLast (kernel_of h.tasking).now (Some o) → Stepped h h m (events.Done o)
 step_over stays h m stands o is last =
     let outcome = ap (λ w. w.kernel.outcome) stands in
     let same = stays h.image h.schedule m 1 last.0 (outcome ∙ (sym is ∙ last.1)) in (
@@ -32,10 +32,10 @@ step_over stays h m stands o is last =
       ),
     )
 
-module _ (h next : Held) (m : ℕ) (stands : StandsFor h (code h.image h.schedule m)) where
+module _ (h next : HeldWorld) (m : ℕ) (stands : HoldsWorld h (code h.image h.schedule m)) where
   -- a line
   pub step_line : (line : kernel.Line) (text : List ℕ) → Leads 1 h next (line ∷ []) → text ≡ line_text (names_of h.image) line → (kernel_of next.tasking).outcome ≡ None →
-      StandsFor next (code h.image h.schedule (m + 1))
+      HoldsWorld next (code h.image h.schedule (m + 1))
       × ((l : kernel.Line) × ((code h.image h.schedule (m + 1)).kernel.lines ≡ (code h.image h.schedule m).kernel.lines ++ l ∷ []) × (text ≡ line_text (names_of h.image) l) × ((code h.image h.schedule (m + 1)).kernel.outcome ≡ None))
   step_line line text l is going =
       let e = led_on h next m 1 (line ∷ []) stands l in

@@ -6,15 +6,15 @@ use Rattle.kernel.specs.Text.{line_text}
 use Rattle.image.specs.Sections.{Sections}
 use Rattle.image.specs.Code.{CodeWorld}
 use Rattle.image.specs.Texts.{names_of}
-use Rattle.execution.specs.Held.{Held, world_with}
+use Rattle.execution.specs.Held.{HeldWorld, world_with}
 use Rattle.machine.specs.Outcomes.{ending_of, time_of}
 use Rattle.machine.specs.declared.reports.Event.{Event}
 use Rattle.machine.specs.declared.reports.Event.TheVariants as events
 use Rattle.machine.specs.declared.reports.Outcome.{Outcome}
 
 -- what the machine holds is what the world has, beside the lines that were written
-abbrev pub StandsFor : Held → CodeWorld → Type 0
-StandsFor h w = w ≡ world_with w.kernel.lines h
+abbrev pub HoldsWorld : HeldWorld → CodeWorld → Type 0
+HoldsWorld h w = w ≡ world_with w.kernel.lines h
 
 abbrev pub kernel_outcome : Option Outcome → Option kernel.Outcome
 kernel_outcome None = None

@@ -9,7 +9,7 @@ ghost use Rattle.image.specs.Code.{code, code_text};
 ghost use Rattle.image.specs.Steps.{is_open};
 ghost use Rattle.image.specs.Texts.{names_of};
 ghost use Rattle.execution.specs.Held.{line_of, world_of};
-ghost use Rattle.machine.specs.Stands.{EndsBy, IsLast, ShowsText, StandsFor, kernel_outcome};
+ghost use Rattle.machine.specs.Stands.{EndsBy, IsLast, ShowsText, HoldsWorld, kernel_outcome};
 ghost use Rattle.machine.specs.Written.{AppendsBeginning};
 ghost use Rattle.tasking.specs.Held.{kernel_of, place_of};
 
@@ -36,9 +36,9 @@ pub struct Machine<'a, R: Ready, D: Delays> {
 }
 
 impl<'a, R: Ready, D: Delays> Model for Machine<'a, R, D> {
-    ghost use Rattle.execution.specs.Held.{Held};
+    ghost use Rattle.execution.specs.Held.{HeldWorld};
 
-    ghost Value = { Held };
+    ghost Value = { HeldWorld };
 
     ghost view = { λ m. m.execution };
 
@@ -51,7 +51,7 @@ impl<'a, R: Ready, D: Delays> Machine<'a, R, D> {
     /// # Errors
     /// `Memory` where memory was refused.
     pub fn start(alloc: Global, image: &'a Image, schedule: &'a Schedule) -> Result<Self, RunFault>
-        ensures stands { IfOk result (λ machine. StandsFor machine (code image.now schedule.now 0)) }
+        ensures stands { IfOk result (λ machine. HoldsWorld machine (code image.now schedule.now 0)) }
         ensures image { IfOk result (λ machine. machine.image ≡ image.now) }
         ensures schedule { IfOk result (λ machine. machine.schedule ≡ schedule.now) }
         ensures fault { IfErr result (λ fault. fault ≡ RunFault.Memory) }
@@ -64,7 +64,7 @@ impl<'a, R: Ready, D: Delays> Machine<'a, R, D> {
     /// Does one step and tells what it has shown. It leads from the world of code after m steps to the one after m + 1. After the last
     /// step it tells the outcome again and changes nothing.
     pub fn step(&mut self) -> Event
-        ensures world { (m : ℕ) → StandsFor self.old (code self.old.image self.old.schedule m) → StandsFor self.new (code self.old.image self.old.schedule (m + 1)) × ShowsText self.old.image (code self.old.image self.old.schedule m).kernel (code self.old.image self.old.schedule (m + 1)).kernel result }
+        ensures world { (m : ℕ) → HoldsWorld self.old (code self.old.image self.old.schedule m) → HoldsWorld self.new (code self.old.image self.old.schedule (m + 1)) × ShowsText self.old.image (code self.old.image self.old.schedule m).kernel (code self.old.image self.old.schedule (m + 1)).kernel result }
         ensures image { self.new.image ≡ self.old.image }
         ensures schedule { self.new.schedule ≡ self.old.schedule }
         ensures done { (o : KernelOutcome) → (kernel_of self.old.tasking).outcome ≡ Some o → self.new ≡ self.old }
@@ -177,7 +177,7 @@ impl<'a, R: Ready, D: Delays> Machine<'a, R, D> {
 
     // Does steps up to an outcome, `limit` of them at most, and writes their lines.
     fn run_on<S: Sink>(&mut self, limit: u64, sink: &mut S) -> Result<Outcome, RunFault>
-        requires stands { StandsFor self.old (code self.old.image self.old.schedule 0) }
+        requires stands { HoldsWorld self.old (code self.old.image self.old.schedule 0) }
         ensures lines { OnOk result (Appends (S.bytes sink.old) (S.bytes sink.new) (lines_text (names_of self.old.image) (code self.old.image self.old.schedule limit).kernel.lines)) }
         ensures ends { IfOk result (λ outcome. EndsBy outcome (code self.old.image self.old.schedule limit)) }
         ensures kept { OnOk result (S.failures sink.new ≡ S.failures sink.old) }

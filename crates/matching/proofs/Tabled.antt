@@ -20,7 +20,7 @@ use Rattle.matching.specs.declared.keys.Key.{Key}
 use Rattle.matching.specs.declared.keys.Kind.{Kind}
 use Rattle.matching.specs.declared.keys.Kind.TheVariants as kind
 use Rattle.matching.specs.contracts.keys.Kind.{the_type}
-use Rattle.matching.specs.Tables.{AreLastPlaces, IsKeyOf, Puts, Sees, has_body_key, has_inner_key, has_key, has_operation_key, is_from, is_key, is_same_key, is_seen, kind_of, last_or, last_place, operation_kind, place_at}
+use Rattle.matching.specs.Tables.{AreLastPlaces, IsKeyOf, PutsPlace, SeesKeys, has_body_key, has_inner_key, has_key, has_operation_key, is_from, is_key, is_same_key, is_seen, kind_of, last_or, last_place, operation_kind, place_at}
 
 -- ---- tests of lists
 
@@ -123,11 +123,11 @@ twice_placed true false place o = refl
 twice_placed false true place o = refl
 twice_placed false false place o = refl
 
-pub placed_as : (old new : List (Key × ℕ)) (p q : Key → Bool) (place : ℕ) → ((k : Key) → p k ≡ q k) → Puts old new p place → Puts old new q place
+pub placed_as : (old new : List (Key × ℕ)) (p q : Key → Bool) (place : ℕ) → ((k : Key) → p k ≡ q k) → PutsPlace old new p place → PutsPlace old new q place
 placed_as old new p q place same puts k = puts k ∙ ap (λ b. cond b (Some place) (place_at old k)) (same k)
 
 pub placed_both : (old between new : List (Key × ℕ)) (p q : Key → Bool) (place : ℕ)
-    → Puts old between p place → Puts between new q place → Puts old new (λ k. p k || q k) place
+    → PutsPlace old between p place → PutsPlace between new q place → PutsPlace old new (λ k. p k || q k) place
 placed_both old between new p q place first second k =
     second k ∙ ap (cond (q k) (Some place)) (first k) ∙ twice_placed (p k) (q k) place (place_at old k)
 
@@ -135,9 +135,9 @@ placed_both old between new p q place first second k =
 pub puts_next : {A X : Type 0} (tree : A → X) (test : Key → X → Bool) (all : List A) (n : ℕ) (x : A) (old between new : List (Key × ℕ)) (place : ℕ)
     → n < length all
     → x ≡ get_or all n x
-    → Puts old between (λ k. list_any (test k) (map tree (take n all))) place
-    → Puts between new (λ k. test k (tree x)) place
-    → Puts old new (λ k. list_any (test k) (map tree (take (n + 1) all))) place
+    → PutsPlace old between (λ k. list_any (test k) (map tree (take n all))) place
+    → PutsPlace between new (λ k. test k (tree x)) place
+    → PutsPlace old new (λ k. list_any (test k) (map tree (take (n + 1) all))) place
 puts_next tree test all n x old between new place less at first second =
     placed_as old new (λ k. list_any (test k) (map tree (take n all)) || test k (tree x)) (λ k. list_any (test k) (map tree (take (n + 1) all))) place
     (λ k. sym (any_next tree all n x less at (test k)))
@@ -148,7 +148,7 @@ pub places_next : {A : Type 0} (tree : A → BodyItemTree) (all : List A) (n : �
     → n < length all
     → x ≡ get_or all n x
     → AreLastPlaces (map tree (take n all)) old
-    → Puts old new (λ k. has_key k (tree x)) n
+    → PutsPlace old new (λ k. has_key k (tree x)) n
     → AreLastPlaces (map tree (take (n + 1) all)) new
 places_next tree all n x old new less at are puts k =
     let size : length (map tree (take n all)) ≡ n = length-map (take n all) tree ∙ length-take-le n all (omega (arith, less)) in
@@ -166,14 +166,14 @@ seen_after true false = refl
 seen_after false true = refl
 seen_after false false = refl
 
-pub sees_as : (old new : List Key) (p q : Key → Bool) → ((k : Key) → p k ≡ q k) → Sees old new p → Sees old new q
+pub sees_as : (old new : List Key) (p q : Key → Bool) → ((k : Key) → p k ≡ q k) → SeesKeys old new p → SeesKeys old new q
 sees_as old new p q same sees k = sees k ∙ ap (λ b. is_seen old k || b) (same k)
 
 pub seen_next : {A X : Type 0} (tree : A → X) (test : Key → X → Bool) (all : List A) (n : ℕ) (x : A) (old new : List Key)
     → n < length all
     → x ≡ get_or all n x
     → ((k : Key) → is_seen old k ≡ list_any (test k) (map tree (take n all)))
-    → Sees old new (λ k. test k (tree x))
+    → SeesKeys old new (λ k. test k (tree x))
     → (k : Key) → is_seen new k ≡ list_any (test k) (map tree (take (n + 1) all))
 seen_next tree test all n x old new less at are sees k =
     sees k ∙ ap (λ b. b || test k (tree x)) (are k) ∙ sym (any_next tree all n x less at (test k))

@@ -76,8 +76,8 @@ optional_has k (Some own) = is_same_key own k
 abbrev pub place_at : List (Key × ℕ) → Key → Option ℕ
 place_at places k = lookup (is_same_key k) places
 
-abbrev pub Puts : List (Key × ℕ) → List (Key × ℕ) → (Key → Bool) → ℕ → Type 0
-Puts old new test place = (k : Key) → place_at new k ≡ cond (test k) (Some place) (place_at old k)
+abbrev pub PutsPlace : List (Key × ℕ) → List (Key × ℕ) → (Key → Bool) → ℕ → Type 0
+PutsPlace old new test place = (k : Key) → place_at new k ≡ cond (test k) (Some place) (place_at old k)
 
 abbrev pub is_from : ℕ → Option ℕ → Bool
 is_from start (Some place) = nat_le start place
@@ -100,8 +100,8 @@ AreLastPlaces items places = (k : Key) → place_at places k ≡ last_place (has
 abbrev pub is_seen : List Key → Key → Bool
 is_seen keys k = list_any (is_same_key k) keys
 
-abbrev pub Sees : List Key → List Key → (Key → Bool) → Type 0
-Sees old new test = (k : Key) → is_seen new k ≡ (is_seen old k || test k)
+abbrev pub SeesKeys : List Key → List Key → (Key → Bool) → Type 0
+SeesKeys old new test = (k : Key) → is_seen new k ≡ (is_seen old k || test k)
 
 -- ---- profiles
 

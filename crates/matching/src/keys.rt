@@ -2,7 +2,7 @@
 ghost use Rattle.std.specs.Prelude.{◌≡◌, [], OnOk, IfOk};
 ghost use Rattle.ada_tree.specs.ProgramTree.{body_item_tree, protected_item_tree};
 ghost use Rattle.matching.specs.MatchingRules.{operation_is_entry, operation_name};
-ghost use Rattle.matching.specs.Tables.{IsKeyOf, Sees, has_body_key, is_same_key, is_seen, kind_of, operation_kind, optional_has};
+ghost use Rattle.matching.specs.Tables.{IsKeyOf, SeesKeys, has_body_key, is_same_key, is_seen, kind_of, operation_kind, optional_has};
 
 use crate::bodies::BodyOf;
 use ada_tree::{BodyItem, Identifier, ProtectedBodyItem};
@@ -130,7 +130,7 @@ impl<'a> Keys<'a> {
     /// Sees a key, and says whether it was seen before. Memory is the only refusal.
     pub(crate) fn see(&mut self, key: Key<'a>) -> Result<bool, AllocError>
         ensures before { IfOk result (λ b. b ≡ is_seen self.old.set.keys key.entry) }
-        ensures seen { OnOk result (Sees self.old.set.keys self.new.set.keys (is_same_key key.entry)) }
+        ensures seen { OnOk result (SeesKeys self.old.set.keys self.new.set.keys (is_same_key key.entry)) }
     {
         let is_new = self.set.insert(key)?;
         Ok(!is_new)
@@ -138,7 +138,7 @@ impl<'a> Keys<'a> {
 
     /// Sees the key of what this item is the body of. Memory is the only refusal.
     pub(crate) fn see_item(&mut self, item: &'a BodyItem) -> Result<(), AllocError>
-        ensures { OnOk result (Sees self.old.set.keys self.new.set.keys (λ k. has_body_key k (body_item_tree item.now))) }
+        ensures { OnOk result (SeesKeys self.old.set.keys self.new.set.keys (λ k. has_body_key k (body_item_tree item.now))) }
     {
         match Key::of_item(item) {
             Some(key) => {

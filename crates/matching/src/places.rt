@@ -3,7 +3,7 @@ ghost use Rattle.std.specs.Prelude.{◌≡◌, [], drop, map, nat_le, OnOk, IfOk
 ghost use Rattle.std.specs.List.{list_any};
 ghost use Rattle.ada_tree.specs.ProgramTree.{body_item_tree, protected_item_tree};
 ghost use Rattle.matching.specs.MatchingRules.{has_operation, is_body_of};
-ghost use Rattle.matching.specs.Tables.{AreLastPlaces, Puts, has_body_key, has_inner_key, has_key, has_operation_key, is_from, is_same_key, place_at};
+ghost use Rattle.matching.specs.Tables.{AreLastPlaces, PutsPlace, has_body_key, has_inner_key, has_key, has_operation_key, is_from, is_same_key, place_at};
 
 use crate::bodies::BodyOf;
 use crate::keys::Key;
@@ -43,14 +43,14 @@ impl<'a> Places<'a> {
     }
 
     fn put(&mut self, key: Key<'a>, place: usize) -> Result<(), AllocError>
-        ensures { OnOk result (Puts self.old.table.entries self.new.table.entries (is_same_key key.entry) place) }
+        ensures { OnOk result (PutsPlace self.old.table.entries self.new.table.entries (is_same_key key.entry) place) }
     {
         self.table.insert(key, place)?;
         Ok(())
     }
 
     fn put_body(&mut self, item: &'a BodyItem, place: usize) -> Result<(), AllocError>
-        ensures { OnOk result (Puts self.old.table.entries self.new.table.entries (λ k. has_body_key k (body_item_tree item.now)) place) }
+        ensures { OnOk result (PutsPlace self.old.table.entries self.new.table.entries (λ k. has_body_key k (body_item_tree item.now)) place) }
     {
         match Key::of_item(item) {
             Some(key) => self.put(key, place),
@@ -64,7 +64,7 @@ impl<'a> Places<'a> {
         bodies: &'a [ProtectedBodyItem],
         place: usize,
     ) -> Result<(), AllocError>
-        ensures { OnOk result (Puts self.old.table.entries self.new.table.entries (λ k. list_any (has_operation_key k object.now) (map protected_item_tree bodies.now)) place) }
+        ensures { OnOk result (PutsPlace self.old.table.entries self.new.table.entries (λ k. list_any (has_operation_key k object.now) (map protected_item_tree bodies.now)) place) }
     {
         for body in bodies {
             self.put(Key::of_operation_body(object, body), place)?;
@@ -73,7 +73,7 @@ impl<'a> Places<'a> {
     }
 
     fn put_inner(&mut self, item: &'a BodyItem, place: usize) -> Result<(), AllocError>
-        ensures { OnOk result (Puts self.old.table.entries self.new.table.entries (λ k. has_inner_key k (body_item_tree item.now)) place) }
+        ensures { OnOk result (PutsPlace self.old.table.entries self.new.table.entries (λ k. has_inner_key k (body_item_tree item.now)) place) }
     {
         match item {
             BodyItem::Protected(name, bodies, _) => self.put_operations(name, bodies, place),
@@ -82,7 +82,7 @@ impl<'a> Places<'a> {
     }
 
     fn put_item(&mut self, item: &'a BodyItem, place: usize) -> Result<(), AllocError>
-        ensures { OnOk result (Puts self.old.table.entries self.new.table.entries (λ k. has_key k (body_item_tree item.now)) place) }
+        ensures { OnOk result (PutsPlace self.old.table.entries self.new.table.entries (λ k. has_key k (body_item_tree item.now)) place) }
     {
         self.put_body(item, place)?;
         self.put_inner(item, place)?;

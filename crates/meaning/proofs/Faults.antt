@@ -23,10 +23,10 @@ use Rattle.types.specs.Evaluations.{Val, Gives, Raises, Meaningless, and_then}
 use Rattle.types.specs.Evaluating.{passed}
 use Rattle.type_rules.specs.SubtypeNames.{named_entity}
 use Rattle.meaning.specs.Programs.{Procedure, subtype_named}
-use Rattle.meaning.specs.Works.{Target, Item, Declares, DeclaresParameter, Sequence, Does, DoesMain, Repeats, RepeatsWhile, RepeatsFor, Handles, EndsHandler, EndsCall, EndsAction, EndsServed, Queued, Work, Goes, Copies, Raising, Activation, TaskWork, Store, Given, frames_left}
+use Rattle.meaning.specs.Works.{Target, Item, Declares, DeclaresParameter, Sequence, Does, DoesMain, Repeats, RepeatsWhile, RepeatsFor, Handles, EndsHandler, EndsCall, EndsAction, EndsServed, Queued, Work, Goes, Copies, Raising, Activation, TaskWork, Store, GivenToCaller, frames_left}
 use Rattle.meaning.specs.Targets.{target}
 use Rattle.meaning.specs.Calls.{Callee, Actuals, actuals, is_open, procedure_here, callee_by}
-use Rattle.meaning.specs.SourceSteps.{Here, Stepped, here_of, before, behind_loop, otherwise, alternative_for, handler_for, place_of, evaluate, goes, with_object, stores, leaves as gone, with_value, declared_value, declare, condition, for_turn, for_range, begin_loop, next_number, if_frame_left, run_body, plain_call, unless_refused, external_call, queue_call, entry_call, with_actuals_of, procedure_call, entry_call_of, call_of, put_line, put_call, call_or_put, raise_number, raise_named, delay_until, alternative, statement_step, main_call, main_step, item_step, copying, copy_step, handled, raise_step, work_step}
+use Rattle.meaning.specs.SourceSteps.{Here, SourceStepped, here_of, before, behind_loop, otherwise, alternative_for, handler_for, place_of, evaluate, goes, with_object, stores, leaves as gone, with_value, declared_value, declare, condition, for_turn, for_range, begin_loop, next_number, if_frame_left, run_body, plain_call, unless_refused, external_call, queue_call, entry_call, with_actuals_of, procedure_call, entry_call_of, call_of, put_line, put_call, call_or_put, raise_number, raise_named, delay_until, alternative, statement_step, main_call, main_step, item_step, copying, copy_step, handled, raise_step, work_step}
 use Rattle.meaning.specs.Source.{partition_of, source_behaviour, source_start}
 use Rattle.meaning.specs.Programs.{program_of}
 use Rattle.meaning.specs.Laws.{SourceNeverFaults, MeaningNeverFaults}
@@ -113,18 +113,18 @@ plain_sane t k IsDeath h = λ e. cc
 
 -- The source: no step breaks
 
-abbrev Fine : Stepped → Type 0
+abbrev Fine : SourceStepped → Type 0
 Fine x = Plain x.effect
 
-chosen : (b : Bool) (x y : Stepped) → Fine x → Fine y → Fine (cond b x y)
+chosen : (b : Bool) (x y : SourceStepped) → Fine x → Fine y → Fine (cond b x y)
 chosen b x y f g = either Fine b x y f g
 
 module _ (h : Here) where
-  gone_fine : (e : Effect) (cs : List Activation) (w : Work) (g : Option Given) → Plain e → Fine (gone h e cs w g)
+  gone_fine : (e : Effect) (cs : List Activation) (w : Work) (g : Option GivenToCaller) → Plain e → Fine (gone h e cs w g)
   gone_fine e [] w g f = f
   gone_fine e (c ∷ cs) w g f = f
 
-  value_fine : {A : Type 0} (v : Val A) (items : List Item) (go : A → Stepped) → ((a : A) → Fine (go a)) → Fine (with_value h v items go)
+  value_fine : {A : Type 0} (v : Val A) (items : List Item) (go : A → SourceStepped) → ((a : A) → Fine (go a)) → Fine (with_value h v items go)
   value_fine (Gives v) items go f = f v
   value_fine (Raises x) items go f = IsQuiet
   value_fine Meaningless items go f = IsDeath
@@ -149,14 +149,14 @@ module _ (h : Here) where
       value_fine (evaluate h items range.first) items (λ v. with_value h (evaluate h items range.last) items (λ w. for_range h parameter reversed body items v w))
       (λ v. value_fine (evaluate h items range.last) items (λ w. for_range h parameter reversed body items v w) (λ w. range_fine parameter reversed body items v w))
 
-  frame_fine : (n : ℕ) (items : List Item) (go : Stepped) → Fine go → Fine (if_frame_left h n items go)
+  frame_fine : (n : ℕ) (items : List Item) (go : SourceStepped) → Fine go → Fine (if_frame_left h n items go)
   frame_fine zero items go f = IsQuiet
   frame_fine (suc n) items go f = f
 
   plain_call_fine : (q : Procedure) (a : Actuals) (items : List Item) → Fine (plain_call h q a items)
   plain_call_fine q a items = frame_fine (frames_left items) items (run_body h Quiet None q a items) IsQuiet
 
-  refused_fine : (r : Option Refusal) (items : List Item) (go : Stepped) → Fine go → Fine (unless_refused h r items go)
+  refused_fine : (r : Option Refusal) (items : List Item) (go : SourceStepped) → Fine go → Fine (unless_refused h r items go)
   refused_fine None items go f = f
   refused_fine (Some r) items go f = IsQuiet
 
@@ -175,7 +175,7 @@ module _ (h : Here) where
       chosen (is_above_ceiling h.kernel h.task o) _ (if_frame_left h (frames_left items) items go) IsQuiet
       (frame_fine (frames_left items) items go (chosen (is_open h.program h.memory o) runs (queue_call h o q a items) IsOpening (queue_fine o q a items)))
 
-  actuals_fine : (c : Callee) (items : List Item) (go : Actuals → Stepped) → ((a : Actuals) → Fine (go a)) → Fine (with_actuals_of h c items go)
+  actuals_fine : (c : Callee) (items : List Item) (go : Actuals → SourceStepped) → ((a : Actuals) → Fine (go a)) → Fine (with_actuals_of h c items go)
   actuals_fine c items go f = value_fine (actuals (place_of h items) h.memory h.own c.procedure.parameters c.arguments) items go f
 
   procedure_fine : (c : Callee) (o : Option ℕ) (items : List Item) → Fine (procedure_call h c o items)

@@ -19,7 +19,7 @@ use Rattle.image.specs.Code as image
 use Rattle.ada_tree.specs.declared.expression.Identifier.{Identifier}
 use Rattle.ada_tree.specs.ProgramTree.{ProgramTree}
 use Rattle.meaning.specs.Meeting.{Relation, Last, Met, Still, Moves, Owed, Meets, Related}
-use Rattle.meaning.specs.Works.{DoesMain, Goes, TaskWork, Store, Given}
+use Rattle.meaning.specs.Works.{DoesMain, Goes, TaskWork, Store, GivenToCaller}
 use Rattle.meaning.specs.Programs.{program_of}
 use Rattle.meaning.specs.SourceSteps.{here_of, items_of, work_step}
 use Rattle.meaning.specs.Source.{partition_of, source_names, source_behaviour, source_start, initial_work}
@@ -85,7 +85,7 @@ module _ (name : Identifier) where
   abbrev limit : TaskState → ℕ
   limit s = 1
 
-  abbrev rel : Relation Store TaskWork Given Words TaskState steps.Given
+  abbrev rel : Relation Store TaskWork GivenToCaller Words TaskState steps.Given
   rel = record { shares = Shared; stands = Stands; leaves = λ k t e a b p q. (e ≡ Finishes) × Stands k t a b; size = size }
 
   module _ (n : ℕ) (schedule : List ScheduleLine) where

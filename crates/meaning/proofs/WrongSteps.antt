@@ -11,10 +11,10 @@ use Rattle.ada_tree.specs.ExpressionTree.{ExprTree}
 use Rattle.ada_tree.specs.StatementTree.{Block, Call, Exit, Return}
 use Rattle.types.specs.Values.{Value}
 use Rattle.meaning.specs.Programs.{Program, program_names, program_of}
-use Rattle.meaning.specs.Works.{Item, Declares, Does, Repeats, RepeatsWhile, RepeatsFor, Handles, EndsCall, EndsServed, Queued, Target, Work, Goes, Raising, Activation, TaskWork, Store, Given, Results}
+use Rattle.meaning.specs.Works.{Item, Declares, Does, Repeats, RepeatsWhile, RepeatsFor, Handles, EndsCall, EndsServed, Queued, Target, Work, Goes, Raising, Activation, TaskWork, Store, GivenToCaller, Results}
 use Rattle.meaning.specs.Targets.{activation_with, store_with}
 use Rattle.meaning.specs.Calls.{Callee, activation_of, body_items, callee_by, is_open, results, results_in}
-use Rattle.meaning.specs.SourceSteps.{Here, Stepped, here_of, before, completion_of, condition, goes, items_of, raises_predefined, leaves, with_actuals_of, with_value, entry_call, work_step, program_behaviour}
+use Rattle.meaning.specs.SourceSteps.{Here, SourceStepped, here_of, before, completion_of, condition, goes, items_of, raises_predefined, leaves, with_actuals_of, with_value, entry_call, work_step, program_behaviour}
 use Rattle.meaning.specs.Source.{start_of, text_of}
 use Rattle.meaning.proofs.Sequential.{handler_does_not_cover_declarations_tree, handler_does_not_cover_declarations, nothing_is_copied_back_after_a_raise_tree, nothing_is_copied_back_after_a_raise}
 use Rattle.meaning.proofs.Protection.{exception_of_an_entry_body_tree, exception_of_an_entry_body, return_out_of_an_entry_body_tree, return_out_of_an_entry_body}
@@ -24,13 +24,13 @@ use Rattle.meaning.proofs.TaskPoints.{nothing_of_an_entry_call_in_an_action_is_e
 -- ---- a meaning that differs in some steps
 
 abbrev Change : Type 0
-Change = Here → Work → Option Stepped
+Change = Here → Work → Option SourceStepped
 
-abbrev step_or : Option Stepped → Stepped → Stepped
+abbrev step_or : Option SourceStepped → SourceStepped → SourceStepped
 step_or (Some x) y = x
 step_or None y = y
 
-abbrev changed_behaviour : Change → Program → List ScheduleLine → Behaviour Store TaskWork Given
+abbrev changed_behaviour : Change → Program → List ScheduleLine → Behaviour Store TaskWork GivenToCaller
 changed_behaviour change p schedule =
     record (program_behaviour p schedule) { act = λ k t s. step_or (change (here_of p schedule k t s) s.task.work) (work_step (here_of p schedule k t s) s.task.work) }
 
@@ -72,7 +72,7 @@ abbrev stored_own : List Value → List Target → Activation → Activation
 stored_own (v ∷ vs) (x ∷ xs) a = stored_own vs xs (activation_with x v a)
 stored_own vs xs a = a
 
-abbrev kept_by : Here → ℕ → List Value → List Target → List Item → List Activation → Option Stepped
+abbrev kept_by : Here → ℕ → List Value → List Target → List Item → List Activation → Option SourceStepped
 kept_by h x vs xs items [] = None
 kept_by h x vs xs items (c ∷ cs) =
     Some (record { effect = Quiet; solo = record { memory = stored_all vs xs h.memory; task = record { work = Raising x items; own = stored_own vs xs c; callers = cs } }; given = None })
@@ -124,16 +124,16 @@ in_server_refuted e = apart 117 48 refl (ap (λ l. slice_get l 0) (sym in_server
 
 -- ---- an entry call inside an action that evaluates its actual parameters first
 
-abbrev evaluated_by : Here → List Item → Callee → Option ℕ → Option Stepped
+abbrev evaluated_by : Here → List Item → Callee → Option ℕ → Option SourceStepped
 evaluated_by h items c None = None
 evaluated_by h items c (Some o) =
     Some (with_actuals_of h c items (λ a. if is_inside_any h.kernel h.task then raises_predefined h ProgramError items else entry_call h o c.procedure a items))
 
-abbrev evaluated_for : Here → List Item → Callee → Option ExprTree → Option Stepped
+abbrev evaluated_for : Here → List Item → Callee → Option ExprTree → Option SourceStepped
 evaluated_for h items c None = None
 evaluated_for h items c (Some barrier) = evaluated_by h items c c.procedure.object
 
-abbrev evaluated : Here → List Item → Option Callee → Option Stepped
+abbrev evaluated : Here → List Item → Option Callee → Option SourceStepped
 evaluated h items None = None
 evaluated h items (Some c) = evaluated_for h items c c.procedure.barrier
 

@@ -12,12 +12,12 @@ use Rattle.image.specs.Code.{CodeWorld, start}
 use Rattle.ada_tree.specs.ProgramTree.{ProgramTree}
 use Rattle.meaning.specs.Meeting.{Relation, Meets, Related}
 use Rattle.meaning.specs.Lifting.{steps_of_other, met_paced}
-use Rattle.meaning.specs.Works.{TaskWork, Store, Given}
+use Rattle.meaning.specs.Works.{TaskWork, Store, GivenToCaller}
 use Rattle.meaning.specs.Source.{source_start, source_behaviour}
 use Rattle.meaning.specs.SameMeaning.{frames_of, KeepsCount}
 
 -- `rel` says which words stand for which variables and which frames for which work; `Keeps` is an invariant of the code's worlds
-module _ (p : ProgramTree) (i : Sections) (rel : Relation Store TaskWork Given Words TaskState steps.Given) (limit : TaskState → ℕ) (Keeps : List ScheduleLine → CodeWorld → Type 0) where
+module _ (p : ProgramTree) (i : Sections) (rel : Relation Store TaskWork GivenToCaller Words TaskState steps.Given) (limit : TaskState → ℕ) (Keeps : List ScheduleLine → CodeWorld → Type 0) where
   -- under one schedule: each step is met, and the starts are related
   pub record MeetsUnder (schedule : List ScheduleLine) : Type 0 where
     pub meets : Meets (source_behaviour p schedule) (behaviour i schedule) rel frames_of limit (Keeps schedule)

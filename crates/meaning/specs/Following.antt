@@ -49,26 +49,26 @@ paced_same f g Counted v w at grow p = record {
 
 module _ {D E : Type 0} (f : Local D) (g : Local E) (Related : World D → World E → Type 0) (weight : World D → ℕ) (Counted : World E → ℕ → Type 0) where
   -- the next step of f is met by no step of g, and then the weight falls, or by some that are counted
-  pub data Follows (v : World D) (w : World E) : Type 0 where
-    Waits : Related (step f v) w → weight (step f v) < weight v → Follows v w
-    Steps : (j : ℕ) → Counted w (suc j) → Related (step f v) (run g (suc j) w) → Follows v w
+  pub data IsFollowed (v : World D) (w : World E) : Type 0 where
+    Waits : Related (step f v) w → weight (step f v) < weight v → IsFollowed v w
+    Steps : (j : ℕ) → Counted w (suc j) → Related (step f v) (run g (suc j) w) → IsFollowed v w
 
-  abbrev pub jump : (v : World D) (w : World E) → Follows v w → ℕ
+  abbrev pub jump : (v : World D) (w : World E) → IsFollowed v w → ℕ
   jump v w (Waits r less) = 0
   jump v w (Steps j c r) = suc j
 
-  pub jumped : (v : World D) (w : World E) (x : Follows v w) → Related (step f v) (run g (jump v w x) w)
+  pub jumped : (v : World D) (w : World E) (x : IsFollowed v w) → Related (step f v) (run g (jump v w x) w)
   jumped v w (Waits r less) = r
   jumped v w (Steps j c r) = r
 
-  paces_by : (a : ℕ) (v : World D) (w : World E) (x : Follows v w) → Paces Counted w a (a + jump v w x)
+  paces_by : (a : ℕ) (v : World D) (w : World E) (x : IsFollowed v w) → Paces Counted w a (a + jump v w x)
   paces_by a v w (Waits r less) = Rests (omega arith)
   paces_by a v w (Steps j c r) = Goes j refl c
 
   pub last_step : (n : ℕ) (v : World D) → run f (suc n) v ≡ step f (run f n v)
   last_step n v = let e : suc n ≡ n + 1 = omega arith in ap (λ i. run f i v) e ∙ run_plus f n 1 v
 
-  module _ (same : (v : World D) (w : World E) → Related v w → v.kernel ≡ w.kernel) (follows : (v : World D) (w : World E) → Related v w → Follows v w) (v : World D) (w : World E) (start : Related v w) where
+  module _ (same : (v : World D) (w : World E) → Related v w → v.kernel ≡ w.kernel) (follows : (v : World D) (w : World E) → Related v w → IsFollowed v w) (v : World D) (w : World E) (start : Related v w) where
     abbrev pub chase : (n : ℕ) → (m : ℕ) × Related (run f n v) (run g m w)
     chase zero = (0, start)
     chase (suc n) =
@@ -81,13 +81,13 @@ module _ {D E : Type 0} (f : Local D) (g : Local E) (Related : World D → World
     abbrev pub steps_for : ℕ → ℕ
     steps_for n = (chase n).0
 
-    abbrev next : (n : ℕ) → Follows (run f n v) (run g (steps_for n) w)
+    abbrev next : (n : ℕ) → IsFollowed (run f n v) (run g (steps_for n) w)
     next n = follows (run f n v) (run g (steps_for n) w) (chase n).1
 
     catch_by :
         (s n : ℕ)
         → weight (run f n v) < suc s
-        → (x : Follows (run f n v) (run g (steps_for n) w))
+        → (x : IsFollowed (run f n v) (run g (steps_for n) w))
         → steps_for (suc n) ≡ steps_for n + jump (run f n v) (run g (steps_for n) w) x
         → ((i : ℕ) → weight (run f i v) < s → (m : ℕ) × (steps_for i < steps_for m))
         → (m : ℕ) × (steps_for n < steps_for m)

@@ -9,7 +9,7 @@ use Rattle.kernel.specs.Laws.{LinesGrow, QuietStays}
 use Rattle.kernel.specs.PutLaws.{same_or_not, put_same, put_other, put_self}
 use Rattle.kernel.specs.RunLaws.{run_plus, step_running, solo_back, back_back, among_alone, unseen_trans, unseen_run}
 use Rattle.meaning.specs.Same.{ShowSame}
-use Rattle.meaning.specs.Following.{Follows, Waits, Steps, Paced, steps_for, follows_paced, paced_same}
+use Rattle.meaning.specs.Following.{IsFollowed, Waits, Steps, Paced, steps_for, follows_paced, paced_same}
 use Rattle.meaning.specs.Meeting.{Relation, Takes, Last, OwnStep, Over, Within, spent, taken, Counted, Idle, Busy, Begun, received, Met, Still, Moves, Walks, Owed, Meets, Related}
 
 -- Counted steps are steps
@@ -125,7 +125,7 @@ module _ {M S G N T H : Type 0} (f : Behaviour M S G) (g : Behaviour N T H) (rel
     Rel = Related f g rel frames limit Keeps
 
     abbrev Next : World (Tasks M S) → World (Tasks N T) → Type 0
-    Next = Follows (among f) (among g) Rel weight (Counted g frames limit)
+    Next = IsFollowed (among f) (among g) Rel weight (Counted g frames limit)
 
     kept_run : (n : ℕ) (w : World (Tasks N T)) → Keeps w → Keeps (run (among g) n w)
     kept_run zero w h = h

@@ -6,7 +6,7 @@ use Rattle.kernel.specs.Effects.{begin}
 use Rattle.kernel.specs.Worlds.{World, Tasks, Behaviour, among, run}
 use Rattle.kernel.specs.Text.{Names, text}
 use Rattle.ada_tree.specs.ProgramTree.{ProgramTree}
-use Rattle.meaning.specs.Works.{Item, Declares, DoesMain, Sequence, Goes, TaskWork, Store, Given}
+use Rattle.meaning.specs.Works.{Item, Declares, DoesMain, Sequence, Goes, TaskWork, Store, GivenToCaller}
 use Rattle.meaning.specs.Programs.{Duty, OfBody, OfMain, Task, Program, program_names, program_of, program_partition}
 use Rattle.meaning.specs.SourceSteps.{program_behaviour}
 
@@ -44,7 +44,7 @@ partition_of p = program_partition (program_of p)
 abbrev pub source_names : ProgramTree → Names
 source_names p = program_names (program_of p)
 
-abbrev pub source_behaviour : ProgramTree → List ScheduleLine → Behaviour Store TaskWork Given
+abbrev pub source_behaviour : ProgramTree → List ScheduleLine → Behaviour Store TaskWork GivenToCaller
 source_behaviour p schedule = program_behaviour (program_of p) schedule
 
 abbrev pub source_start : ProgramTree → SourceWorld

@@ -28,13 +28,13 @@ use Rattle.types.specs.Places.{Object, Place}
 use Rattle.types.specs.Evaluating.{passed, truth_of, val}
 use Rattle.type_rules.specs.SubtypeNames.{named_entity}
 use Rattle.meaning.specs.Programs.{Parameter, Procedure, Program, exception_name, exception_number, subtype_named}
-use Rattle.meaning.specs.Works.{Target, Completion, Completed, Pending, Item, Declares, DeclaresParameter, Sequence, Does, DoesMain, Repeats, RepeatsWhile, RepeatsFor, Handles, EndsHandler, EndsCall, EndsAction, EndsServed, Queued, Work, Goes, Copies, Raising, Activation, TaskWork, Store, Given, Results, Raised, frames_left}
+use Rattle.meaning.specs.Works.{Target, Completion, Completed, Pending, Item, Declares, DeclaresParameter, Sequence, Does, DoesMain, Repeats, RepeatsWhile, RepeatsFor, Handles, EndsHandler, EndsCall, EndsAction, EndsServed, Queued, Work, Goes, Copies, Raising, Activation, TaskWork, Store, GivenToCaller, Results, Raised, frames_left}
 use Rattle.meaning.specs.Targets.{target, store_with, activation_with}
 use Rattle.meaning.specs.Calls.{Callee, callee_by, Actuals, actuals, activation_of, body_items, is_open, procedure_here, results, results_in}
 
 -- what a step does: its effect, the store and the task's work after it, and what a served caller is given
-abbrev pub Stepped : Type 0
-Stepped = Act Store TaskWork Given
+abbrev pub SourceStepped : Type 0
+SourceStepped = Act Store TaskWork GivenToCaller
 
 -- the statements of a sequence, and then the items
 abbrev pub before : StmtTrees → List Item → List Item
@@ -163,41 +163,41 @@ module _ (h : Here) where
   evaluate items e = val (place_of items) e
 
   -- everything else stays as it is
-  abbrev pub works : Effect → Work → Stepped
+  abbrev pub works : Effect → Work → SourceStepped
   works e w = record { effect = e; solo = record { memory = h.memory; task = record { work = w; own = h.own; callers = h.callers } }; given = None }
 
-  abbrev pub goes : List Item → Stepped
+  abbrev pub goes : List Item → SourceStepped
   goes items = works Quiet (Goes items)
 
-  abbrev pub raises : ℕ → List Item → Stepped
+  abbrev pub raises : ℕ → List Item → SourceStepped
   raises x items = works Quiet (Raising x items)
 
-  abbrev pub raises_predefined : PredefinedException → List Item → Stepped
+  abbrev pub raises_predefined : PredefinedException → List Item → SourceStepped
   raises_predefined x items = raises (number_of x) items
 
   -- what no rule gives a meaning to; an accepted program never comes to that (docs/PROOF.md). The run ends by exception 0, which is none
-  abbrev pub means_nothing : List Item → Stepped
+  abbrev pub means_nothing : List Item → SourceStepped
   means_nothing items = works (Dies 0) (Goes items)
 
   -- the running activation with this object in front
-  abbrev pub with_object : Object → List Item → Stepped
+  abbrev pub with_object : Object → List Item → SourceStepped
   with_object x items =
       record { effect = Quiet; solo = record { memory = h.memory; task = record { work = Goes items; own = record h.own { locals = x ∷ h.own.locals }; callers = h.callers } }; given = None }
 
   -- a value is stored, and the task goes on with this work
-  abbrev pub stores : Target → Value → Work → Stepped
+  abbrev pub stores : Target → Value → Work → SourceStepped
   stores x v w = record { effect = Quiet; solo = record { memory = store_with x v h.memory; task = record { work = w; own = activation_with x v h.own; callers = h.callers } }; given = None }
 
   -- a body begins
-  abbrev pub enters : Effect → Activation → List Item → Stepped
+  abbrev pub enters : Effect → Activation → List Item → SourceStepped
   enters e a items = record { effect = e; solo = record { memory = h.memory; task = record { work = Goes items; own = a; callers = h.own ∷ h.callers } }; given = None }
 
   -- the running activation is gone, and the task goes on with this work
-  abbrev pub leaves : Effect → List Activation → Work → Option Given → Stepped
+  abbrev pub leaves : Effect → List Activation → Work → Option GivenToCaller → SourceStepped
   leaves e [] w given = record { effect = e; solo = record { memory = h.memory; task = record { work = w; own = h.own; callers = [] } }; given = given }
   leaves e (c ∷ cs) w given = record { effect = e; solo = record { memory = h.memory; task = record { work = w; own = c; callers = cs } }; given = given }
 
-  abbrev pub with_value : {A : Type 0} → Val A → List Item → (A → Stepped) → Stepped
+  abbrev pub with_value : {A : Type 0} → Val A → List Item → (A → SourceStepped) → SourceStepped
   with_value (Gives v) items go = go v
   with_value (Raises x) items go = raises x items
   with_value Meaningless items go = means_nothing items
@@ -208,17 +208,17 @@ module _ (h : Here) where
   declared_value items d (Some e) = and_then (evaluate items e) (passed (subtype_named h.program.scope d.subtype))
   declared_value items d None = Gives (initial h.program.scope (subtype_named h.program.scope d.subtype))
 
-  abbrev pub declare : DeclarationTree → List Item → Stepped
+  abbrev pub declare : DeclarationTree → List Item → SourceStepped
   declare (LocalObject d) items =
       with_value (declared_value items d d.value) items (λ v. with_object (record { name = d.name.name; subtype = subtype_named h.program.scope d.subtype; value = v }) items)
   declare d items = means_nothing items
 
-  abbrev pub declare_parameter : Parameter → List Item → Stepped
+  abbrev pub declare_parameter : Parameter → List Item → SourceStepped
   declare_parameter f items = with_object (record { name = f.name; subtype = f.subtype; value = initial h.program.scope f.subtype }) items
 
   -- ---- assignment (RM 5.2): the name of the target, then the value, its check, and storing
 
-  abbrev pub assign : NameTree → ExprTree → List Item → Stepped
+  abbrev pub assign : NameTree → ExprTree → List Item → SourceStepped
   assign name e items =
       with_value (target (place_of items) name.first.name name.selectors) items (λ x.
       with_value (and_then (evaluate items e) (passed x.subtype)) items (λ v. stores x v (Goes items)))
@@ -230,21 +230,21 @@ module _ (h : Here) where
 
   -- ---- loops (RM 5.5)
 
-  abbrev pub while_turn : ExprTree → StmtTrees → List Item → Stepped
+  abbrev pub while_turn : ExprTree → StmtTrees → List Item → SourceStepped
   while_turn e body items = with_value (condition items e) items (λ holds. goes (if holds then before body (RepeatsWhile e body ∷ items) else items))
 
   -- a turn of a loop over a range; the parameter is a constant, of which only the value matters in a run
-  abbrev pub for_turn : List ℕ → Bool → (now last : ℤ) → StmtTrees → List Item → Stepped
+  abbrev pub for_turn : List ℕ → Bool → (now last : ℤ) → StmtTrees → List Item → SourceStepped
   for_turn parameter reversed now last body items =
       with_object (record { name = parameter; subtype = integer; value = values.Number now }) (before body (RepeatsFor parameter reversed now last body ∷ items))
 
-  abbrev pub for_range : Identifier → Bool → StmtTrees → List Item → Value → Value → Stepped
+  abbrev pub for_range : Identifier → Bool → StmtTrees → List Item → Value → Value → SourceStepped
   for_range parameter reversed body items (values.Number a) (values.Number b) =
       if int_lt b a then goes items
       else (if reversed then for_turn parameter.name true b a body items else for_turn parameter.name false a b body items)
   for_range parameter reversed body items v w = means_nothing items
 
-  abbrev pub begin_loop : IterationTree → StmtTrees → List Item → Stepped
+  abbrev pub begin_loop : IterationTree → StmtTrees → List Item → SourceStepped
   begin_loop Forever body items = goes (before body (Repeats body ∷ items))
   begin_loop (While e) body items = while_turn e body items
   begin_loop (For parameter reversed range) body items =
@@ -255,7 +255,7 @@ module _ (h : Here) where
   next_number reversed now = number_computed (if reversed then difference_of now (pos 1) else sum_of now (pos 1))
 
   -- the next turn, unless this was the last one
-  abbrev pub next_turn : List ℕ → Bool → (now last : ℤ) → StmtTrees → List Item → Stepped
+  abbrev pub next_turn : List ℕ → Bool → (now last : ℤ) → StmtTrees → List Item → SourceStepped
   next_turn parameter reversed now last body items =
       if are_same now last then goes items
       else with_value (next_number reversed now) items (λ next. for_turn parameter reversed next last body items)
@@ -263,85 +263,85 @@ module _ (h : Here) where
   -- ---- calls (RM 6.4, 9.5.1, 9.5.3): the refusals in their order
 
   -- a body takes a frame
-  abbrev pub if_frame_left : ℕ → List Item → Stepped → Stepped
+  abbrev pub if_frame_left : ℕ → List Item → SourceStepped → SourceStepped
   if_frame_left zero items go = raises_predefined StorageError items
   if_frame_left (suc n) items go = go
 
-  abbrev pub run_body : Effect → Option ℕ → Procedure → Actuals → List Item → Stepped
+  abbrev pub run_body : Effect → Option ℕ → Procedure → Actuals → List Item → SourceStepped
   run_body e opened q a items = enters e (activation_of q a.values) (body_items q (EndsCall (results q.parameters) opened a.targets) items)
 
-  abbrev pub plain_call : Procedure → Actuals → List Item → Stepped
+  abbrev pub plain_call : Procedure → Actuals → List Item → SourceStepped
   plain_call q a items = if_frame_left (frames_left items) items (run_body Quiet None q a items)
 
-  abbrev pub unless_refused : Option Refusal → List Item → Stepped → Stepped
+  abbrev pub unless_refused : Option Refusal → List Item → SourceStepped → SourceStepped
   unless_refused None items go = go
   unless_refused (Some r) items go = raises_predefined ProgramError items
 
-  abbrev pub external_call : ℕ → Procedure → Actuals → List Item → Stepped
+  abbrev pub external_call : ℕ → Procedure → Actuals → List Item → SourceStepped
   external_call o q a items = unless_refused (call_refusal h.kernel h.task o) items (if_frame_left (frames_left items) items (run_body (Opens o) (Some o) q a items))
 
   -- with a closed barrier the call waits, where none does
-  abbrev pub queue_call : ℕ → Procedure → Actuals → List Item → Stepped
+  abbrev pub queue_call : ℕ → Procedure → Actuals → List Item → SourceStepped
   queue_call o q a items = if is_full h.kernel o then raises_predefined ProgramError items else works (Queues o) (Goes (Queued q a.values a.targets ∷ items))
 
-  abbrev pub entry_call : ℕ → Procedure → Actuals → List Item → Stepped
+  abbrev pub entry_call : ℕ → Procedure → Actuals → List Item → SourceStepped
   entry_call o q a items =
       if is_above_ceiling h.kernel h.task o then raises_predefined ProgramError items
       else if_frame_left (frames_left items) items (if is_open h.program h.memory o then run_body (Opens o) (Some o) q a items else queue_call o q a items)
 
-  abbrev pub with_actuals_of : Callee → List Item → (Actuals → Stepped) → Stepped
+  abbrev pub with_actuals_of : Callee → List Item → (Actuals → SourceStepped) → SourceStepped
   with_actuals_of c items go = with_value (actuals (place_of items) h.memory h.own c.procedure.parameters c.arguments) items go
 
-  abbrev pub procedure_call : Callee → Option ℕ → List Item → Stepped
+  abbrev pub procedure_call : Callee → Option ℕ → List Item → SourceStepped
   procedure_call c None items = with_actuals_of c items (λ a. plain_call c.procedure a items)
   procedure_call c (Some o) items = with_actuals_of c items (λ a. external_call o c.procedure a items)
 
   -- inside an action nothing of an entry call is evaluated (H.5)
-  abbrev pub entry_call_of : Callee → Option ℕ → List Item → Stepped
+  abbrev pub entry_call_of : Callee → Option ℕ → List Item → SourceStepped
   entry_call_of c None items = means_nothing items
   entry_call_of c (Some o) items = if is_inside_any h.kernel h.task then raises_predefined ProgramError items else with_actuals_of c items (λ a. entry_call o c.procedure a items)
 
-  abbrev pub call_of : Callee → Option ExprTree → List Item → Stepped
+  abbrev pub call_of : Callee → Option ExprTree → List Item → SourceStepped
   call_of c (Some barrier) items = entry_call_of c c.procedure.object items
   call_of c None items = procedure_call c c.through items
 
   -- `Put (label, value)` of Control_IO writes a line
-  abbrev pub put_line : List ℕ → List Item → Value → Stepped
+  abbrev pub put_line : List ℕ → List Item → Value → SourceStepped
   put_line label items (values.Number z) = works (Says label z) (Goes items)
   put_line label items v = means_nothing items
 
-  abbrev pub put_call : Option Entity → SelectorTrees → List Item → Stepped
+  abbrev pub put_call : Option Entity → SelectorTrees → List Item → SourceStepped
   put_call (Some Put) (MoreSelectors (Arguments (MoreArguments (Text label place) (MoreArguments (tree.Value e) NoArguments))) NoSelectors) items =
       with_value (evaluate items e) items (put_line label items)
   put_call entity s items = means_nothing items
 
-  abbrev pub call_or_put : NameTree → Option Callee → List Item → Stepped
+  abbrev pub call_or_put : NameTree → Option Callee → List Item → SourceStepped
   call_or_put name (Some c) items = call_of c c.procedure.barrier items
   call_or_put name None items = put_call (named_entity h.program.scope name.first) name.selectors items
 
   -- ---- raising (RM 11.3)
 
-  abbrev pub raise_number : Option ℕ → List Item → Stepped
+  abbrev pub raise_number : Option ℕ → List Item → SourceStepped
   raise_number (Some x) items = raises x items
   raise_number None items = means_nothing items
 
-  abbrev pub raise_named : Option Identifier → List Item → Stepped
+  abbrev pub raise_named : Option Identifier → List Item → SourceStepped
   raise_named (Some name) items = raise_number (exception_number h.program name.name) items
   raise_named None items = raise_number (handled_exception items) items
 
   -- ---- `delay until` (RM 9.6), which raises inside an action before anything is evaluated (H.5)
 
-  abbrev pub delay_until : List Item → Value → Stepped
+  abbrev pub delay_until : List Item → Value → SourceStepped
   delay_until items (values.Number z) = works (Delays z) (Goes items)
   delay_until items v = means_nothing items
 
   -- ---- statements (RM 5.1)
 
-  abbrev pub alternative : Option StmtTrees → List Item → Stepped
+  abbrev pub alternative : Option StmtTrees → List Item → SourceStepped
   alternative (Some body) items = goes (before body items)
   alternative None items = means_nothing items
 
-  abbrev pub statement_step : StmtTree → List Item → Stepped
+  abbrev pub statement_step : StmtTree → List Item → SourceStepped
   statement_step (Null place) items = goes items
   statement_step (Assignment name e) items = assign name e items
   statement_step (Call name) items = call_or_put name (callee_by h.program h.own.within name.first name.selectors) items
@@ -359,17 +359,17 @@ module _ (h : Here) where
   statement_step s items = means_nothing items
 
   -- main calls procedures of the package without parameters (RM 10.2)
-  abbrev pub main_call : Option Procedure → List Item → Stepped
+  abbrev pub main_call : Option Procedure → List Item → SourceStepped
   main_call (Some q) items = plain_call q (record { values = []; targets = [] }) items
   main_call None items = means_nothing items
 
-  abbrev pub main_step : MainStatement → List Item → Stepped
+  abbrev pub main_step : MainStatement → List Item → SourceStepped
   main_step (main.Null place) items = goes items
   main_step (main.Call package_ procedure) items = main_call (procedure_here h.program None procedure.name) items
 
   -- ---- ends (RM 6.4, 9.5.1, 9.5.3)
 
-  abbrev pub item_step : Item → List Item → Stepped
+  abbrev pub item_step : Item → List Item → SourceStepped
   item_step (Declares d) items = declare d items
   item_step (DeclaresParameter f) items = declare_parameter f items
   item_step (Sequence body hs) items = goes (before body (Handles hs ∷ items))
@@ -387,25 +387,25 @@ module _ (h : Here) where
   item_step (Queued q vs xs) items = means_nothing items
 
   -- results are copied back from left to right, each checked just before it is stored (RM 6.4.1)
-  abbrev pub copy_step : List Value → List Target → List Item → Stepped
+  abbrev pub copy_step : List Value → List Target → List Item → SourceStepped
   copy_step (v ∷ vs) (x ∷ xs) items = with_value (passed x.subtype v) items (λ w. stores x w (copying vs xs items))
   copy_step vs xs items = goes items
 
   -- ---- an exception on its way (RM 11.4)
 
-  abbrev pub handled : ℕ → Option StmtTrees → List Item → Stepped
+  abbrev pub handled : ℕ → Option StmtTrees → List Item → SourceStepped
   handled x (Some statements) items = goes (before statements (EndsHandler x ∷ items))
   handled x None items = raises x items
 
   -- the first item is dropped; a queued caller's exception is handed to the caller
-  abbrev pub raise_step : ℕ → Item → List Item → Stepped
+  abbrev pub raise_step : ℕ → Item → List Item → SourceStepped
   raise_step x (Handles hs) items = handled x (handler_for h.program x hs) items
   raise_step x (EndsCall names opened xs) items = leaves Quiet h.callers (call_raised x opened items) None
   raise_step x (EndsServed o names completion) items = leaves (Ends (is_open h.program h.memory o)) h.callers (completed completion items) (Some (Raised x))
   raise_step x i items = raises x items
 
   -- with no item left a task has come to its end (RM 9.3), or an exception is unhandled (RM 11.4.1)
-  abbrev pub work_step : Work → Stepped
+  abbrev pub work_step : Work → SourceStepped
   work_step (Goes []) = works Finishes (Goes [])
   work_step (Goes (i ∷ items)) = item_step i items
   work_step (Copies vs xs items) = copy_step vs xs items
@@ -435,7 +435,7 @@ abbrev pub serving : ℕ → TaskWork → TaskWork → TaskWork
 serving o u t = serves o u.work t
 
 -- the caller goes on behind its entry call with the results, or raises the exception there
-abbrev pub received : Given → Work → Work
+abbrev pub received : GivenToCaller → Work → Work
 received (Results vs) (Goes (Queued q parameters xs ∷ items)) = copying vs xs items
 received (Raised x) (Goes (Queued q parameters xs ∷ items)) = Raising x items
 received g w = w
@@ -444,7 +444,7 @@ abbrev pub here_of : Program → List ScheduleLine → Kernel → ℕ → Solo S
 here_of p schedule k t s = record { program = p; schedule = schedule; kernel = k; task = t; memory = s.memory; own = s.task.own; callers = s.task.callers }
 
 -- how tasks behave
-abbrev pub program_behaviour : Program → List ScheduleLine → Behaviour Store TaskWork Given
+abbrev pub program_behaviour : Program → List ScheduleLine → Behaviour Store TaskWork GivenToCaller
 program_behaviour p schedule =
     record {
       act = λ k t s. work_step (here_of p schedule k t s) s.task.work;

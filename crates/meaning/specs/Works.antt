@@ -85,9 +85,9 @@ pub record Store : Type 0 where
   pub components : ℕ → List Object
 
 -- what a served caller is given: the values of its results, or an exception
-pub data Given : Type 0 where
-  Results : List values.Value → Given
-  Raised : (exception : ℕ) → Given
+pub data GivenToCaller : Type 0 where
+  Results : List values.Value → GivenToCaller
+  Raised : (exception : ℕ) → GivenToCaller
 
 -- ---- frames: the task's body takes one, each open call, and each body that is run for a caller
 

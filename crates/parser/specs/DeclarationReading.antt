@@ -18,7 +18,7 @@ use Rattle.parser.specs.declared.declaration.TaskRest.{TaskRest}
 use Rattle.parser.specs.declared.declaration.ProtectedRest.{ProtectedRest}
 use Rattle.parser.specs.Reading.{Reader, is_word, is_mark, word_of, identifier_of, seq, mapped, choose, many, separated_by, nothing, opened, skip_mark}
 use Rattle.parser.specs.MoreReading.{past_word, past_mark, ended, perhaps, flag, Either, Left, Right, either, is_identifier}
-use Rattle.parser.specs.ExpressionReading.{Values, values, expression_at, simple_at}
+use Rattle.parser.specs.ExpressionReading.{ExpressionReaders, values, expression_at, simple_at}
 
 abbrev pub range_at : ℕ → Reader RangeTree
 range_at k = mapped (λ x. record { first = x.0; last = x.1 }) (seq (simple_at k) (past_mark marks.DoubleDot (simple_at k)))
@@ -67,7 +67,7 @@ abbrev pub formal_list_at : Reader (List Formal)
 formal_list_at = separated_by (kinds.Delimiter marks.Semicolon) formal_at
 
 -- in their parentheses, which open a level; nothing in them opens another
-abbrev pub formals_in : Values → Reader (List Formal)
+abbrev pub formals_in : ExpressionReaders → Reader (List Formal)
 formals_in r = past_mark marks.LeftParenthesis (ended formal_list_at (skip_mark marks.RightParenthesis))
 
 abbrev pub formals_at : ℕ → Reader (List Formal)

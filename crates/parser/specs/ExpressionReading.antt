@@ -88,19 +88,19 @@ unary_of f = entry_of (λ k place. placed (f k) place)
 -- ---- one level down
 
 -- an expression; and an if expression, for the parenthesis at a place
-pub record Values : Type 0 where
+pub record ExpressionReaders : Type 0 where
   pub expression : Reader ExprTree
   pub conditional : ℕ → Reader ExprTree
 
 -- ---- names
 
-abbrev pub argument_in : Values → Reader ArgumentTree
+abbrev pub argument_in : ExpressionReaders → Reader ArgumentTree
 argument_in r = choose (is_next is_label) (entry_of label) (mapped Value r.expression)
 
-abbrev pub arguments_list : Values → Reader (List ArgumentTree)
+abbrev pub arguments_list : ExpressionReaders → Reader (List ArgumentTree)
 arguments_list r = separated_by (kinds.Delimiter marks.Comma) (argument_in r)
 
-abbrev pub arguments_in : Values → Reader SelectorTree
+abbrev pub arguments_in : ExpressionReaders → Reader SelectorTree
 arguments_in r =
     mapped (λ x. Arguments (arguments_of x.1.0)) (seq (skip_mark marks.LeftParenthesis) (seq (arguments_list r) (skip_mark marks.RightParenthesis)))
 
@@ -110,7 +110,7 @@ component_of = mapped (λ x. Component x.1) (seq (skip_mark marks.Dot) identifie
 abbrev pub attribute_of : Reader SelectorTree
 attribute_of = mapped (λ x. Attribute x.1) (seq (skip_mark marks.Apostrophe) identifier_of)
 
-abbrev pub selector_in : Option Values → Reader SelectorTree
+abbrev pub selector_in : Option ExpressionReaders → Reader SelectorTree
 selector_in d = choose (is_mark marks.LeftParenthesis) (opened d arguments_in) (choose (is_mark marks.Dot) component_of attribute_of)
 
 abbrev pub starts_selector : TokenKind → Bool
@@ -122,41 +122,41 @@ starts_selector other = false
 abbrev pub begins_selector : Option Token → Bool
 begins_selector = is_next starts_selector
 
-abbrev pub selectors_in : Option Values → Reader (List SelectorTree)
+abbrev pub selectors_in : Option ExpressionReaders → Reader (List SelectorTree)
 selectors_in d = many begins_selector (selector_in d)
 
-unfoldable pub name_in : Option Values → Reader NameTree
+unfoldable pub name_in : Option ExpressionReaders → Reader NameTree
 name_in d = mapped (λ x. record { first = x.0; selectors = selectors_of x.1 }) (seq identifier_of (selectors_in d))
 
 -- ---- primaries
 
-abbrev pub elsif_value_in : Values → Reader (ExprTree × ExprTree)
+abbrev pub elsif_value_in : ExpressionReaders → Reader (ExprTree × ExprTree)
 elsif_value_in r = mapped (λ x. (x.1.0, x.1.1.1)) (seq (skip_word words.Elsif) (seq r.expression (seq (skip_word words.Then) r.expression)))
 
-abbrev pub elsif_values_in : Values → Reader (List (ExprTree × ExprTree))
+abbrev pub elsif_values_in : ExpressionReaders → Reader (List (ExprTree × ExprTree))
 elsif_values_in r = many (is_word words.Elsif) (elsif_value_in r)
 
 -- an if expression, for the parenthesis at the place
-abbrev pub conditional_in : ℕ → Values → Reader ExprTree
+abbrev pub conditional_in : ℕ → ExpressionReaders → Reader ExprTree
 conditional_in place r =
     mapped (λ x. Conditional place x.1.0 x.1.1.1.0 (elsif_values_of x.1.1.1.1.0) x.1.1.1.1.1.1)
     (seq (skip_word words.If)
     (seq r.expression (seq (skip_word words.Then) (seq r.expression (seq (elsif_values_in r) (seq (skip_word words.Else) r.expression))))))
 
-abbrev pub enclosed_in : Values → ℕ → Reader ExprTree
+abbrev pub enclosed_in : ExpressionReaders → ℕ → Reader ExprTree
 enclosed_in r place = choose (is_word words.If) (r.conditional place) (mapped (Parenthesized place) r.expression)
 
-abbrev pub parenthesis_in : Values → Reader ExprTree
+abbrev pub parenthesis_in : ExpressionReaders → Reader ExprTree
 parenthesis_in r = after (mark_of marks.LeftParenthesis) (λ place. mapped (λ x. x.0) (seq (enclosed_in r place) (skip_mark marks.RightParenthesis)))
 
-abbrev pub named_in : Option Values → Reader ExprTree
+abbrev pub named_in : Option ExpressionReaders → Reader ExprTree
 named_in d = mapped (λ n. Named n.first n.selectors) (name_in d)
 
-abbrev pub open_primary_in : Option Values → Reader ExprTree
+abbrev pub open_primary_in : Option ExpressionReaders → Reader ExprTree
 open_primary_in d = choose (is_mark marks.LeftParenthesis) (opened d parenthesis_in) (choose (is_next is_number) (entry_of number) (named_in d))
 
 -- no selector may come behind a primary
-unfoldable pub primary_in : Option Values → Reader ExprTree
+unfoldable pub primary_in : Option ExpressionReaders → Reader ExprTree
 primary_in d = closed begins_selector (open_primary_in d)
 
 -- ---- operations
@@ -164,7 +164,7 @@ primary_in d = closed begins_selector (open_primary_in d)
 abbrev pub prefixed : (TokenKind → Option UnaryOperator) → Reader ExprTree → Reader ExprTree
 prefixed f a = choose (begins f) (mapped (λ x. Unary x.0.0 x.0.1 x.1) (seq (unary_of f) a)) a
 
-unfoldable pub factor_in : Option Values → Reader ExprTree
+unfoldable pub factor_in : Option ExpressionReaders → Reader ExprTree
 factor_in d = prefixed prefix (primary_in d)
 
 -- from the left: one more for each of the list
@@ -179,17 +179,17 @@ joined e x = Binary x.0 e x.1
 abbrev pub chain_of : Reader ExprTree → (TokenKind → Option BinaryOperator) → Reader ExprTree → Reader ExprTree
 chain_of a f b = mapped (λ x. folded joined x.0 x.1) (seq a (many (begins f) (seq (operator_of f) b)))
 
-unfoldable pub term_in : Option Values → Reader ExprTree
+unfoldable pub term_in : Option ExpressionReaders → Reader ExprTree
 term_in d = chain_of (factor_in d) multiplying (factor_in d)
 
-unfoldable pub simple_in : Option Values → Reader ExprTree
+unfoldable pub simple_in : Option ExpressionReaders → Reader ExprTree
 simple_in d = chain_of (prefixed sign (term_in d)) adding (term_in d)
 
-abbrev pub compared_in : Option Values → ExprTree → Reader ExprTree
+abbrev pub compared_in : Option ExpressionReaders → ExprTree → Reader ExprTree
 compared_in d left = choose (begins relational) (mapped (λ x. Binary x.0 left x.1) (seq (operator_of relational) (simple_in d))) (nothing left)
 
 -- no relation is an operand of another
-unfoldable pub relation_in : Option Values → Reader ExprTree
+unfoldable pub relation_in : Option ExpressionReaders → Reader ExprTree
 relation_in d = closed (begins relational) (after (simple_in d) (compared_in d))
 
 abbrev pub starts_logical : TokenKind → Bool
@@ -236,26 +236,26 @@ abbrev pub operated : BinaryOperator → ExprTree → ExprTree → ExprTree
 operated o e t = Binary o e t
 
 -- what follows a relation and this operator: a chain of it alone
-abbrev pub logical_chain : Option Values → ExprTree → BinaryOperator → Reader ExprTree
+abbrev pub logical_chain : Option ExpressionReaders → ExprTree → BinaryOperator → Reader ExprTree
 logical_chain d left o =
     mapped (λ x. folded (operated o) (Binary o left x.0) x.1)
     (seq (relation_in d) (many (is_word (first_word o)) (mapped (λ x. x.1) (seq (repeated o) (relation_in d)))))
 
-abbrev pub logical_in : Option Values → ExprTree → Reader ExprTree
+abbrev pub logical_in : Option ExpressionReaders → ExprTree → Reader ExprTree
 logical_in d left = choose begins_logical (after logical_of (logical_chain d left)) (nothing left)
 
 -- no second logical operator
-unfoldable pub expression_in : Option Values → Reader ExprTree
+unfoldable pub expression_in : Option ExpressionReaders → Reader ExprTree
 expression_in d = closed begins_logical (after (relation_in d) (logical_in d))
 
 -- ---- with so many levels
 
-abbrev pub values : ℕ → Option Values
+abbrev pub values : ℕ → Option ExpressionReaders
 values zero = None
 values (suc k) = Some (record { expression = expression_in (values k); conditional = λ place. opened (values k) (conditional_in place) })
 
 -- one level down from one more than k
-abbrev pub values_at : ℕ → Values
+abbrev pub values_at : ℕ → ExpressionReaders
 values_at k = record { expression = expression_in (values k); conditional = λ place. opened (values k) (conditional_in place) }
 
 abbrev pub name_at : ℕ → Reader NameTree

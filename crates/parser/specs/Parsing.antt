@@ -21,9 +21,9 @@ pub record Derives (t : ProgramTree) (ts : Tokens) : Type 0 where
   pub levels : depth t ≤ LEVELS
 
 -- this tree, unless memory was refused
-abbrev pub Gave : Result Program Fault → ProgramTree → Type 0
-Gave (Ok p) t = program_tree p ≡ t
-Gave (Err f) t = f ≡ memory_fault
+abbrev pub GaveTree : Result Program Fault → ProgramTree → Type 0
+GaveTree (Ok p) t = program_tree p ≡ t
+GaveTree (Err f) t = f ≡ memory_fault
 
 -- where the last token ends: 0 where there is none
 abbrev pub end_of : Tokens → ℕ

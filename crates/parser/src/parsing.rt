@@ -3,7 +3,7 @@ ghost use Rattle.std.specs.Prelude.{◌≡◌, IfOk, IfErr, []};
 ghost use Rattle.ada_tree.specs.ProgramTree.{ProgramTree, program_tree};
 ghost use Rattle.parser.specs.Reading.{Gives};
 ghost use Rattle.parser.specs.ProgramReading.{whole_at};
-ghost use Rattle.parser.specs.Parsing.{Derives, Gave, IsRefusal, HasOneTree, end_of, place_at, fault_of, answer_of};
+ghost use Rattle.parser.specs.Parsing.{Derives, GaveTree, IsRefusal, HasOneTree, end_of, place_at, fault_of, answer_of};
 
 use crate::parser::Parser;
 use crate::refusal::{Broken, Refusal};
@@ -78,7 +78,7 @@ pub fn parse(alloc: Global, tokens: &[Token]) -> Result<Program, Fault>
     // The tree derives the tokens.
     ensures found { IfOk result (λ p. Derives (program_tree p) tokens.now) }
     // What derives the tokens is found, unless memory is refused.
-    ensures only { (t : ProgramTree) → Derives t tokens.now → Gave result t }
+    ensures only { (t : ProgramTree) → Derives t tokens.now → GaveTree result t }
     // A fault stands at the first token that no derivation allows behind those before it, or at the end; 7 at a token that may open a
     // level, behind 40 such tokens or more; or memory was refused.
     ensures fault { IfErr result (λ f. IsRefusal tokens.now f) }

@@ -11,7 +11,7 @@ use Rattle.std.proofs.lemmas.Map.Keys.{IsDistinct-IsPermutation}
 use Rattle.protected.specs.declared.refusal.Refusal.{Refusal}
 use Rattle.protected.specs.declared.refusal.Refusal.TheVariants.{AboveCeiling, SameObject}
 use Rattle.protected.specs.Actions.{Actions, active_of, ceiling_of, is_among, opened_by, opening, raised, with_opened}
-use Rattle.protected.specs.Kept.{AreKnown, AreObjects, IsKept}
+use Rattle.protected.specs.Kept.{AllAreBelow, AreObjects, KeepsActions}
 
 true_false : true ≡ false → ⊥
 true_false e = absurd cc
@@ -43,11 +43,11 @@ among_at [] i d h = absurd (omega (arith, h))
 among_at (o ∷ objects) zero d h = ap (λ b. b || is_among o objects) (eq-eqb o o refl)
 among_at (o ∷ objects) (suc i) d h = ap (λ b. nat_eq o (get_or objects i d) || b) (among_at objects i d (search (rules, h))) ∙ or_true (nat_eq o (get_or objects i d))
 
-pub all_known : (count : ℕ) (objects : List ℕ) → AreObjects count objects → AreKnown count objects
+pub all_known : (count : ℕ) (objects : List ℕ) → AreObjects count objects → AllAreBelow count objects
 all_known count objects are i d h = are.1 (get_or objects i d) (among_at objects i d h)
 
-pub known_here : (count count' : ℕ) (objects now : List ℕ) → AreObjects count objects → now ≡ objects → count ≡ count' → AreKnown count' now
-known_here count count' objects now are same counted = subst (λ n. AreKnown n now) counted (subst (AreKnown count) (sym same) (all_known count objects are))
+pub known_here : (count count' : ℕ) (objects now : List ℕ) → AreObjects count objects → now ≡ objects → count ≡ count' → AllAreBelow count' now
+known_here count count' objects now are same counted = subst (λ n. AllAreBelow n now) counted (subst (AllAreBelow count) (sym same) (all_known count objects are))
 
 pub raised_turn : (ceilings : List ℕ) (base m i : ℕ) (objects : List ℕ) (d : ℕ) → i < length objects → m ≡ max base (ceiling_of ceilings (get_or objects i d))
     → raised ceilings m (drop (i + 1) objects) ≡ raised ceilings base (drop i objects)
@@ -140,8 +140,8 @@ one_less count objects left right are split = (
 
 -- the open actions of one task change
 pub kept_put : {A : Type 0} (f : A → List ℕ) (bases ceilings : List ℕ) (lists : List A) (queued : List (Option ℕ)) (k task : ℕ) (l : A)
-    → IsKept bases ceilings (map f lists) queued → k ≡ task → task < length bases → AreObjects (length ceilings) (f l)
-    → IsKept bases ceilings (map f (set lists k l)) queued
+    → KeepsActions bases ceilings (map f lists) queued → k ≡ task → task < length bases → AreObjects (length ceilings) (f l)
+    → KeepsActions bases ceilings (map f (set lists k l)) queued
 kept_put f bases ceilings lists queued k task l kept is h are =
     let within : k < length (map f lists) = omega (arith, kept.tasks, kept.rows, is, h) in record {
       tasks = kept.tasks;
@@ -175,10 +175,10 @@ carried count count' xs ys are counted same = subst (λ n. AreObjects n ys) (sym
 
 -- what holds of the fields holds of the value, and so the open actions of a task are those of the value
 pub opened_kept : {A : Type 0} (f : A → List ℕ) (bases ceilings : List ℕ) (lists : List A) (queued : List (Option ℕ)) (a : Actions) (k task : ℕ) (d : A)
-    → record { bases = bases; ceilings = ceilings; opened = map f lists; queued = queued } ≡ a → IsKept bases ceilings (map f lists) queued → k ≡ task
-    → task < length a.bases → (f (get_or lists k d) ≡ opened_by a task) × IsKept a.bases a.ceilings a.opened a.queued
+    → record { bases = bases; ceilings = ceilings; opened = map f lists; queued = queued } ≡ a → KeepsActions bases ceilings (map f lists) queued → k ≡ task
+    → task < length a.bases → (f (get_or lists k d) ≡ opened_by a task) × KeepsActions a.bases a.ceilings a.opened a.queued
 opened_kept f bases ceilings lists queued a k task d same kept is h =
-    let whole = subst (λ v. IsKept v.bases v.ceilings v.opened v.queued) same kept in
+    let whole = subst (λ v. KeepsActions v.bases v.ceilings v.opened v.queued) same kept in
     (opened_at f lists a.opened k task d (ap (λ v. v.opened) same) is (omega (arith, h, whole.tasks, whole.rows)), whole)
 
 -- at the start nothing is open
@@ -201,7 +201,7 @@ unfolding IsDistinct
 nothing_open count = (tt, λ o h. absurd (true_false (sym h)))
 
 pub kept_at_start : (bases ceilings given given' : List ℕ) (opened : List (List ℕ)) (queued : List (Option ℕ)) → bases ≡ given → ceilings ≡ given' → length given ≤ 17
-    → length given' ≤ 16 → opened ≡ replicate 17 [] → length queued ≡ 16 → IsKept bases ceilings opened queued
+    → length given' ≤ 16 → opened ≡ replicate 17 [] → length queued ≡ 16 → KeepsActions bases ceilings opened queued
 kept_at_start bases ceilings given given' opened queued same same' tasks objects none queues = record {
   tasks = subst (λ l. length l ≤ 17) (sym same) tasks;
   objects = subst (λ l. length l ≤ 16) (sym same') objects;

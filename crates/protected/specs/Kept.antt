@@ -8,10 +8,10 @@ abbrev pub AreObjects : ℕ → List ℕ → Type 0
 AreObjects count objects = IsDistinct nat_eq objects × ((o : ℕ) → is_among o objects ≡ true → o < count)
 
 -- each is a number below this one
-abbrev pub AreKnown : ℕ → List ℕ → Type 0
-AreKnown count objects = (i : ℕ) (d : ℕ) → i < length objects → get_or objects i d < count
+abbrev pub AllAreBelow : ℕ → List ℕ → Type 0
+AllAreBelow count objects = (i : ℕ) (d : ℕ) → i < length objects → get_or objects i d < count
 
-pub record IsKept (bases ceilings : List ℕ) (opened : List (List ℕ)) (queued : List (Option ℕ)) : Type 0 where
+pub record KeepsActions (bases ceilings : List ℕ) (opened : List (List ℕ)) (queued : List (Option ℕ)) : Type 0 where
   pub tasks : length bases ≤ TASKS
   pub objects : length ceilings ≤ OBJECTS
   pub rows : length opened ≡ TASKS

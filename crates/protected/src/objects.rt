@@ -1,7 +1,7 @@
 //! The protected actions that tasks have open, and the calls that wait.
 ghost use Rattle.std.specs.Prelude.{◌≡◌, ◌<◌, ◌≤◌, ◌++◌, ◌∷◌, [], IfSome, length, replicate, None, Some, Ok, OnOk, OnErr, if◌then◌else◌};
 ghost use Rattle.protected.specs.Actions.{Actions, IsInnermost, active_of, calling, ceiling_of, has_any, innermost_of, is_among, opened_by, opening, queued_at, served, with_opened, with_queued, without_last};
-ghost use Rattle.protected.specs.Kept.{AreKnown};
+ghost use Rattle.protected.specs.Kept.{AllAreBelow};
 ghost use Rattle.base.specs.declared.limits.TheConstants.{OBJECTS, TASKS};
 
 use crate::refusal::Refusal;
@@ -22,13 +22,13 @@ pub struct Objects {
 impl Model for Objects {
     ghost use Rattle.std.specs.Prelude.{map};
     ghost use Rattle.protected.specs.Actions.{Actions};
-    ghost use Rattle.protected.specs.Kept.{IsKept};
+    ghost use Rattle.protected.specs.Kept.{KeepsActions};
 
     ghost Value = { Actions };
 
     ghost view = { λ o. record { bases = o.bases.items; ceilings = o.ceilings.items; opened = map (λ l. l.items) o.opened; queued = o.queued } };
 
-    ghost invariant = { λ o. IsKept o.bases.items o.ceilings.items (map (λ l. l.items) o.opened) o.queued };
+    ghost invariant = { λ o. KeepsActions o.bases.items o.ceilings.items (map (λ l. l.items) o.opened) o.queued };
 }
 
 impl Objects {
@@ -182,7 +182,7 @@ impl Objects {
     fn open_actions(&self, task: u8) -> &[u8]
         requires { task < length self.now.bases }
         ensures objects { result.now ≡ opened_by self.now task }
-        ensures known { AreKnown (length self.now.ceilings) result.now }
+        ensures known { AllAreBelow (length self.now.ceilings) result.now }
     {
         self.opened[usize::from(task)].as_slice()
     }

@@ -62,8 +62,8 @@ abbrev pub restriction_faults : ProgramTree → Faults
 restriction_faults t = pragma_faults t ++ package_part_faults t.package_ ++ aspect_faults (main_scope t.package_) t.main.aspect
 
 -- the rule with this number is broken at this place
-abbrev pub IsBroken : (number place : ℕ) → ProgramTree → Type 0
-IsBroken number place t = Contains (restriction_faults t) (record { number = number; place = place })
+abbrev pub IsRestrictionBroken : (number place : ℕ) → ProgramTree → Type 0
+IsRestrictionBroken number place t = Contains (restriction_faults t) (record { number = number; place = place })
 
 -- no rule is broken
 abbrev pub IsRestricted : ProgramTree → Type 0

@@ -20,7 +20,7 @@ use Rattle.meaning.specs.Programs.{Procedure, Program, exception_number, excepti
 use Rattle.meaning.specs.Works.{Store}
 use Rattle.meaning.specs.Calls.{procedure_among, procedure_here}
 use Rattle.sound_steps.specs.Objects.{AreSoundObjects, IsOf, object_subtype}
-use Rattle.sound_steps.specs.Fitting.{Fits, IsCalled, IsFound, IsOperation, IsProcedure, entity_named, is_result}
+use Rattle.sound_steps.specs.Fitting.{FitsScope, IsCalled, IsFound, IsOperation, IsProcedure, entity_named, is_result}
 use Rattle.sound_steps.specs.Holding.{inside}
 use Rattle.sound_programs.specs.Fronts.{scope_at}
 pub use Rattle.sound_programs.specs.BodyLaws.{IsSoundMemory}
@@ -283,7 +283,7 @@ module _ (program : Program) (s : Scope) (all : List BodyItemTree) (w : IsPackag
         package_finds name entity.LibraryUnit h = tt
         package_finds name entity.Doubtful h = tt
 
-        pub package_fits : Fits program program.scope in_package
+        pub package_fits : FitsScope program program.scope in_package
         package_fits =
             record {
               agrees = package_agrees;

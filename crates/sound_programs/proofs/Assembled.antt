@@ -23,7 +23,7 @@ use Rattle.meaning.specs.Works.{Store}
 use Rattle.sound_steps.specs.Laws.{Premises}
 use Rattle.sound_steps.specs.Holding.{IsSoundProcedure}
 use Rattle.sound_programs.specs.Fronts.{declared_in, scope_at, start_in}
-use Rattle.sound_programs.specs.BodyLaws.{FrontsFit, HasSoundBodies, IsKnownObject, IsSoundMemory, Names, NamesAreKnown, PremisesHold, ProceduresAreSound, WorksAreSound}
+use Rattle.sound_programs.specs.BodyLaws.{FrontsFit, HasSoundBodies, IsKnownObject, IsSoundMemory, BodyNamesAreSound, NamesAreKnown, PremisesHold, ProceduresAreSound, WorksAreSound}
 use Rattle.sound_programs.proofs.Listing.{front_at}
 use Rattle.sound_programs.proofs.WiderScopes.{stands}
 use Rattle.sound_programs.proofs.Callables.{at_map, operation_body, procedure_by}
@@ -36,7 +36,7 @@ use Rattle.sound_programs.proofs.PackageBodies.{front_fits, statements_legal, wo
 use Rattle.sound_programs.proofs.Procedures.{entries_sound, item_sound, procedures_sound}
 use Rattle.sound_programs.proofs.Trees.{main_legal, tasks_are, tree_package}
 
-module _ (scopes : ScopesAreSound) (t : ProgramTree) (m : Store) (legal : IsLegal t) (restricted : IsRestricted t) (names : Names t)
+module _ (scopes : ScopesAreSound) (t : ProgramTree) (m : Store) (legal : IsLegal t) (restricted : IsRestricted t) (names : BodyNamesAreSound t)
     (laws : Premises (program_of t))
     (memory : IsSoundMemory (program_of t) m) where
   abbrev program : Program

@@ -1,14 +1,14 @@
 -- In whose entry call a task waits is told by the queues and the open actions alone, which dispatching and the clock leave as they are (RM 9.5.3).
 use Rattle.std.proofs.Common.{◌≡◌, ◌≢◌, ◌⊎◌, inl, inr, ℕ, List, [], ◌∷◌, Option, Some, None, Bool, true, false, ◌||◌, eqb, refl, sym, ap, subst, ⊎_elim}
-use Rattle.kernel.specs.State.{Kernel, Place, IsRunning, IsReady, IsAsleep, IsFinished, IsQueued, IsServed, Action, Reads, Serves, Writes, is_object_open, object_of, put}
-use Rattle.kernel.specs.Invariant.{At, Has, Kept, Once, ServesCall}
+use Rattle.kernel.specs.State.{Kernel, TaskPlace, IsRunning, IsReady, IsAsleep, IsFinished, IsQueued, IsServed, Action, Reads, Serves, Writes, is_object_open, object_of, put}
+use Rattle.kernel.specs.Invariant.{IsInsideObject, HasAction, Kept, Once, ServesCall}
 use Rattle.kernel.specs.Laws.{FourHold}
 use Rattle.kernel.specs.PutLaws.{eqb_same, of_put, put_other, put_same, same_or_not}
 use Rattle.sound_programs.specs.SoundWorlds.{awaited}
 
 -- the call of task u waits in the queue of object o, or a task runs the entry body for it
 abbrev pub Awaits : (queued : ℕ → Option ℕ) (actions : ℕ → List Action) (u o : ℕ) → Type 0
-Awaits queued actions u o = (queued o ≡ Some u) ⊎ ((t : ℕ) × Has (ServesCall o u) (actions t))
+Awaits queued actions u o = (queued o ≡ Some u) ⊎ ((t : ℕ) × HasAction (ServesCall o u) (actions t))
 
 -- ---- options
 
@@ -23,9 +23,9 @@ none_if (Some a) never = absurd (never a refl)
 
 -- ---- places
 
-by_place : (queued : ℕ → Option ℕ) (actions : ℕ → List Action) (u o : ℕ) (p : Place)
+by_place : (queued : ℕ → Option ℕ) (actions : ℕ → List Action) (u o : ℕ) (p : TaskPlace)
     → ((a : ℕ) → p ≡ IsQueued a → queued a ≡ Some u)
-    → ((a : ℕ) → p ≡ IsServed a → (t : ℕ) × Has (ServesCall a u) (actions t))
+    → ((a : ℕ) → p ≡ IsServed a → (t : ℕ) × HasAction (ServesCall a u) (actions t))
     → awaited p ≡ Some o
     → Awaits queued actions u o
 by_place queued actions u o IsRunning in_queue in_service e = absurd (cc)
@@ -67,18 +67,18 @@ awaits_as queued next_queued actions next_actions u o same_queue same_actions aw
     subst (λ f. Awaits f next_actions u o) (sym same_queue) (subst (λ f. Awaits queued f u o) (sym same_actions) awaits)
 
 module _ (t : ℕ) (new : List Action) (actions : ℕ → List Action) (u o : ℕ) where
-  pub served_then : (Has (ServesCall o u) (actions t) → Has (ServesCall o u) new) → (v : ℕ) × Has (ServesCall o u) (actions v)
-      → (v : ℕ) × Has (ServesCall o u) (put t new actions v)
+  pub served_then : (HasAction (ServesCall o u) (actions t) → HasAction (ServesCall o u) new) → (v : ℕ) × HasAction (ServesCall o u) (actions v)
+      → (v : ℕ) × HasAction (ServesCall o u) (put t new actions v)
   served_then forth has =
       ⊎_elim
-      (λ e. (t, subst (Has (ServesCall o u)) (sym (put_same t t new actions refl)) (forth (subst (λ v. Has (ServesCall o u) (actions v)) e has.1))))
-      (λ ne. (has.0, subst (Has (ServesCall o u)) (sym (put_other t has.0 new actions ne)) has.1))
+      (λ e. (t, subst (HasAction (ServesCall o u)) (sym (put_same t t new actions refl)) (forth (subst (λ v. HasAction (ServesCall o u) (actions v)) e has.1))))
+      (λ ne. (has.0, subst (HasAction (ServesCall o u)) (sym (put_other t has.0 new actions ne)) has.1))
       (same_or_not has.0 t)
 
-  pub served_before : (Has (ServesCall o u) new → Has (ServesCall o u) (actions t)) → (v : ℕ) × Has (ServesCall o u) (put t new actions v)
-      → (v : ℕ) × Has (ServesCall o u) (actions v)
+  pub served_before : (HasAction (ServesCall o u) new → HasAction (ServesCall o u) (actions t)) → (v : ℕ) × HasAction (ServesCall o u) (put t new actions v)
+      → (v : ℕ) × HasAction (ServesCall o u) (actions v)
   served_before back has =
-      of_put (Has (ServesCall o u)) ((v : ℕ) × Has (ServesCall o u) (actions v)) t has.0 new actions has.1 (λ e i. (t, back i)) (λ ne i. (has.0, i))
+      of_put (HasAction (ServesCall o u)) ((v : ℕ) × HasAction (ServesCall o u) (actions v)) t has.0 new actions has.1 (λ e i. (t, back i)) (λ ne i. (has.0, i))
 
 -- ---- who is served is served by one task, in one action
 
@@ -87,12 +87,12 @@ served_object o u (Reads p) h = absurd h
 served_object o u (Writes p) h = absurd h
 served_object o u (Serves p v) h = h.0
 
-pub served_at : (o u : ℕ) (actions : List Action) → Has (ServesCall o u) actions → At o actions
+pub served_at : (o u : ℕ) (actions : List Action) → HasAction (ServesCall o u) actions → IsInsideObject o actions
 served_at o u [] h = absurd h
 served_at o u (a ∷ outer) (inl h) = inl (served_object o u a h)
 served_at o u (a ∷ outer) (inr h) = inr (served_at o u outer h)
 
-open_at : (o : ℕ) (actions : List Action) → At o actions → is_object_open o actions ≡ true
+open_at : (o : ℕ) (actions : List Action) → IsInsideObject o actions → is_object_open o actions ≡ true
 open_at o [] h = absurd h
 open_at o (a ∷ outer) (inl e) = ap (λ b. b || is_object_open o outer) (eqb_same (object_of a) o e)
 open_at o (a ∷ outer) (inr h) = by_test (eqb (object_of a) o) (open_at o outer h)
@@ -109,8 +109,8 @@ pub service_over : FourHold → (barrier : ℕ → Bool) (k : Kernel) (t o u : �
     → ⊥
 service_over four barrier k t o u outer kept is p awaits = by_case awaits
   where
-    mine : Has (ServesCall o u) (k.actions t)
-    mine = subst (Has (ServesCall o u)) (sym is) (inl (refl, refl))
+    mine : HasAction (ServesCall o u) (k.actions t)
+    mine = subst (HasAction (ServesCall o u)) (sym is) (inl (refl, refl))
 
     place : k.place u ≡ IsServed o
     place = (kept.sound.serving t o u mine).0
@@ -118,21 +118,21 @@ service_over four barrier k t o u outer kept is p awaits = by_case awaits
     once : Once (Serves o u ∷ outer)
     once = subst Once is (kept.sound.once t)
 
-    inner : Has (ServesCall p u) outer → ⊥
+    inner : HasAction (ServesCall p u) outer → ⊥
     inner h =
-        let there : k.place u ≡ IsServed p = (kept.sound.serving t p u (subst (Has (ServesCall p u)) (sym is) (inr h))).0 in
+        let there : k.place u ≡ IsServed p = (kept.sound.serving t p u (subst (HasAction (ServesCall p u)) (sym is) (inr h))).0 in
         let here : k.place u ≡ IsServed o = place in
         let same : p ≡ o = cc in
-        once.0 (served_at o u outer (subst (λ x. Has (ServesCall x u) outer) same h))
+        once.0 (served_at o u outer (subst (λ x. HasAction (ServesCall x u) outer) same h))
 
-    elsewhere : (v : ℕ) → v ≢ t → Has (ServesCall p u) (k.actions v) → ⊥
+    elsewhere : (v : ℕ) → v ≢ t → HasAction (ServesCall p u) (k.actions v) → ⊥
     elsewhere v other h =
         let there : k.place u ≡ IsServed p = (kept.sound.serving v p u h).0 in
         let here : k.place u ≡ IsServed o = place in
         let same : p ≡ o = cc in
-        let open_there = open_at o (k.actions v) (served_at o u (k.actions v) (subst (λ x. Has (ServesCall x u) (k.actions v)) same h)) in
+        let open_there = open_at o (k.actions v) (served_at o u (k.actions v) (subst (λ x. HasAction (ServesCall x u) (k.actions v)) same h)) in
         other ((four barrier k kept).one_inside o v t open_there (open_at o (k.actions t) (served_at o u (k.actions t) mine)))
 
     by_case : Awaits k.queued (put t outer k.actions) u p → ⊥
     by_case (inl q) = let there : k.place u ≡ IsQueued p = kept.sound.queue p u q in let here : k.place u ≡ IsServed o = place in cc
-    by_case (inr has) = of_put (Has (ServesCall p u)) ⊥ t has.0 outer k.actions has.1 (λ e i. inner i) (λ ne i. elsewhere has.0 ne i)
+    by_case (inr has) = of_put (HasAction (ServesCall p u)) ⊥ t has.0 outer k.actions has.1 (λ e i. inner i) (λ ne i. elsewhere has.0 ne i)

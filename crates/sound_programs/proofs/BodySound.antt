@@ -16,7 +16,7 @@ use Rattle.well_typed.specs.Laws.{ScopesAreSound}
 use Rattle.meaning.specs.Programs.{Parameter, Program, parameter}
 use Rattle.meaning.specs.Works.{Item, Store}
 use Rattle.meaning.specs.Calls.{body_items, bound, results}
-use Rattle.sound_steps.specs.Fitting.{Fits, result_types}
+use Rattle.sound_steps.specs.Fitting.{FitsScope, result_types}
 use Rattle.sound_steps.specs.Judged.{Begins, IsPlain, Waiting}
 use Rattle.sound_steps.specs.Holding.{EndsBody, IsSoundProcedure, inside}
 use Rattle.sound_steps.specs.Laws.{Premises}
@@ -29,7 +29,7 @@ use Rattle.sound_programs.proofs.Callables.{Bodied, procedure_by}
 pub record IsLegalBody (program : Program) (m : Store) (u : Bodied) : Type 0 where
   pub scope : Scope
   pub kind : BodyKind
-  pub fits : (p : Place) → Fits program scope (inside program m (record { within = u.owner; locals = [] }) p)
+  pub fits : (p : Place) → FitsScope program scope (inside program m (record { within = u.owner; locals = [] }) p)
   pub sound : SoundScope scope
   pub new : AreNew scope (map (parameter program.scope) u.formals)
   pub text : formals_scope scope u.formals ≡ with_all scope (all_named (map (parameter program.scope) u.formals))
@@ -56,7 +56,7 @@ module _ (program : Program) (laws : Premises program) (scopes : ScopesAreSound)
       legal : body_faults inner b.kind body ≡ []
       legal = ap (λ s. body_faults s b.kind body) (sym b.text) ∙ b.legal
 
-      fits : (p : Place) → Fits program (with_all b.scope (taken_named ps)) (inside program m (record { within = u.owner; locals = bound ps vs }) p)
+      fits : (p : Place) → FitsScope program (with_all b.scope (taken_named ps)) (inside program m (record { within = u.owner; locals = bound ps vs }) p)
       fits p = formals_fit program laws m u.owner p b.scope scopes ps vs b.sound b.new are (b.fits p)
 
       items : (outer : List Waiting) (end : Item) (rest : List Item) → EndsBody program (procedure_by program.scope u) outer end rest

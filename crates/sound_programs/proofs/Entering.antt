@@ -21,7 +21,7 @@ use Rattle.stmt_rules.specs.declared.around.BodyKind.TheVariants as kind
 use Rattle.legality.specs.BodyRules.{body_faults, function_body_faults, head_faults, kind_of, own_name_faults, subprogram_body_faults, type_number}
 use Rattle.well_typed.specs.SoundScopes.{IsKnown}
 use Rattle.well_typed.specs.Agreeing.{Agrees}
-use Rattle.well_typed.specs.Answers.{IsSoundBody, are_actuals}
+use Rattle.well_typed.specs.Answers.{ReturnsSoundly, are_actuals}
 use Rattle.well_typed.specs.Laws.{ScopesAreSound}
 use Rattle.well_typed.proofs.Goods.{not_empty}
 use Rattle.well_typed.proofs.Parts.{same_values}
@@ -147,7 +147,7 @@ module _ (program : Program) (laws : Premises program) (scopes : ScopesAreSound)
       abbrev called : Function
       called = function_by program.scope (subprogram_body owner d b) r value
 
-      pub body_sound : (vs : List Value) → are_actuals program.scope called.formals vs ≡ true → IsSoundBody (place_of vs) called
+      pub body_sound : (vs : List Value) → are_actuals program.scope called.formals vs ≡ true → ReturnsSoundly (place_of vs) called
       body_sound vs are =
           record {
             scope = formals_scope behind d.formals;
@@ -163,7 +163,7 @@ abbrev pub IsSoundFunction : Program → Store → Bodied → Type 0
 IsSoundFunction program m u = (r : Identifier) → u.result ≡ Some r → (value : ExprTree) → returned u.body.statements ≡ Some value
     → (p : Place) (vs : List Value) (left : ℕ)
     → are_actuals program.scope (function_by program.scope u r value).formals vs ≡ true
-    → IsSoundBody (entered (seen program m p) (function_by program.scope u r value) vs left) (function_by program.scope u r value)
+    → ReturnsSoundly (entered (seen program m p) (function_by program.scope u r value) vs left) (function_by program.scope u r value)
 
 pub function_sound : (program : Program) → Premises program → ScopesAreSound → (m : Store) (owner : Option ℕ) (front : Scope)
     → ((name : List ℕ) → stands front name ≡ Some Doubtful → ⊥)

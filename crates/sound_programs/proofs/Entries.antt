@@ -5,7 +5,7 @@ use Rattle.types.specs.Scopes.{Scope}
 use Rattle.types.specs.Values.{Value}
 use Rattle.stmt_rules.specs.declared.around.Around.{Around}
 use Rattle.meaning.specs.Programs.{Parameter, Procedure, Program}
-use Rattle.meaning.specs.Works.{Activation, Declares, DeclaresParameter, EndsServed, Given, Goes, Item, Queued, Raised, Results, Sequence, Target, TaskWork, Work}
+use Rattle.meaning.specs.Works.{Activation, Declares, DeclaresParameter, EndsServed, GivenToCaller, Goes, Item, Queued, Raised, Results, Sequence, Target, TaskWork, Work}
 use Rattle.meaning.specs.Calls.{body_items, declares_parameters, is_out, results}
 use Rattle.meaning.specs.SourceSteps.{completion_of, copying, items_of, received, serves}
 use Rattle.sound_steps.specs.Opened.{ForCaller, Opened, opened_in}
@@ -42,7 +42,7 @@ module _ (program : Program) (o : ℕ) (own : Activation) (s : Scope) (outer : L
   opened_served (Goes (Queued q vs xs ∷ items)) t is = opened_body q (EndsServed o (results q.parameters) (completion_of t.work)) (items_of t.work)
   opened_served w t is = absurd is
 
-  pub opened_received : (g : Given) (w : Work) → IsQueuedWork program o own s outer a w → opened_in (items_of (received g w)) ≡ opened_in (items_of w)
+  pub opened_received : (g : GivenToCaller) (w : Work) → IsQueuedWork program o own s outer a w → opened_in (items_of (received g w)) ≡ opened_in (items_of w)
   opened_received (Results vs) (Goes (Queued q given xs ∷ items)) is = opened_copying vs xs items
   opened_received (Raised x) (Goes (Queued q given xs ∷ items)) is = refl
   opened_received g w is = absurd is

@@ -18,7 +18,7 @@ use Rattle.meaning.specs.Programs.{Parameter, Program}
 use Rattle.meaning.specs.Works.{DeclaresParameter, Item, Store}
 use Rattle.meaning.specs.Calls.{bound, declares_parameters, is_in, is_out, results, with_first}
 use Rattle.sound_steps.specs.Objects.{AreOf}
-use Rattle.sound_steps.specs.Fitting.{Fits, Narrows, is_result, result_types, taken_types}
+use Rattle.sound_steps.specs.Fitting.{FitsScope, Narrows, is_result, result_types, taken_types}
 use Rattle.sound_steps.specs.Judged.{AreResults, Begins, IsNewParameter, Waiting, parameter_scope}
 use Rattle.sound_steps.specs.Holding.{inside}
 use Rattle.sound_steps.specs.Laws.{Premises}
@@ -173,8 +173,8 @@ module _ (program : Program) (laws : Premises program) (m : Store) (within : Opt
   place_with locals = inside program m (record { within = within; locals = locals }) p
 
   one_fits : (f : Parameter) (fs : List Parameter) (vs : List Value) → AreNew s (f ∷ fs) → AreOf program.scope (f.subtype.type_number ∷ taken_types fs) vs
-      → ((ws : List Value) → AreOf program.scope (taken_types fs) ws → Fits program (taken_scope s fs) (place_with (bound fs ws)))
-      → Fits program (with_name (taken_scope s fs) f.name (named_formal f).entity) (place_with (with_first f vs (bound fs (drop 1 vs))))
+      → ((ws : List Value) → AreOf program.scope (taken_types fs) ws → FitsScope program (taken_scope s fs) (place_with (bound fs ws)))
+      → FitsScope program (with_name (taken_scope s fs) f.name (named_formal f).entity) (place_with (with_first f vs (bound fs (drop 1 vs))))
   one_fits f fs [] new are later = absurd are
   one_fits f fs (v ∷ vs) new are later =
       let unseen = none_unseen (taken_scope s fs) f.name
@@ -184,22 +184,22 @@ module _ (program : Program) (laws : Premises program) (m : Store) (within : Opt
       (formal_object (taken_scope s fs) f.mode f.subtype known)
       are.0
 
-  taken_fits : (fs : List Parameter) (vs : List Value) → AreNew s fs → AreOf program.scope (taken_types fs) vs → Fits program s (place_with [])
-      → Fits program (taken_scope s fs) (place_with (bound fs vs))
+  taken_fits : (fs : List Parameter) (vs : List Value) → AreNew s fs → AreOf program.scope (taken_types fs) vs → FitsScope program s (place_with [])
+      → FitsScope program (taken_scope s fs) (place_with (bound fs vs))
   taken_fits [] vs new are fits = fits
   taken_fits (f ∷ fs) vs new are fits = by_test (is_out f.mode) are (λ ws k. taken_fits fs ws new.3 k fits)
     where
       by_test : (b : Bool) → AreOf program.scope (cond b (taken_types fs) (f.subtype.type_number ∷ taken_types fs)) vs
-          → ((ws : List Value) → AreOf program.scope (taken_types fs) ws → Fits program (taken_scope s fs) (place_with (bound fs ws)))
-          → Fits program (cond b (taken_scope s fs) (with_name (taken_scope s fs) f.name (named_formal f).entity))
+          → ((ws : List Value) → AreOf program.scope (taken_types fs) ws → FitsScope program (taken_scope s fs) (place_with (bound fs ws)))
+          → FitsScope program (cond b (taken_scope s fs) (with_name (taken_scope s fs) f.name (named_formal f).entity))
           (place_with (cond b (bound fs vs) (with_first f vs (bound fs (drop 1 vs)))))
       by_test true k later = later vs k
       by_test false k later = one_fits f fs vs new k later
 
   -- the same names in the order of the text
   pub formals_fit : ScopesAreSound → (fs : List Parameter) (vs : List Value) → SoundScope s → AreNew s fs → AreOf program.scope (taken_types fs) vs
-      → Fits program s (place_with [])
-      → Fits program (with_all s (taken_named fs)) (place_with (bound fs vs))
+      → FitsScope program s (place_with [])
+      → FitsScope program (with_all s (taken_named fs)) (place_with (bound fs vs))
   formals_fit scopes fs vs sound new are fits =
       fits_same program (taken_scope s fs) (with_all s (taken_named fs)) (sound_taken scopes s fs sound new)
       (types_then (taken_scope s fs) s (with_all s (taken_named fs)) (types_turned s (taken_scope s fs) (taken_types_same s fs)) (types_with_all s (taken_named fs) (taken_no_types fs)))

@@ -12,14 +12,14 @@ use Rattle.type_rules.specs.ProfileRules.{subprogram_scope}
 use Rattle.checking.specs.ProgramRules.{IsLegal}
 use Rattle.ravenscar.specs.ProgramRules.{IsRestricted}
 use Rattle.well_typed.specs.Agreeing.{Agrees}
-use Rattle.well_typed.specs.Answers.{FunctionsAreSound, IsSoundBody, are_actuals}
+use Rattle.well_typed.specs.Answers.{FunctionsAreSound, ReturnsSoundly, are_actuals}
 use Rattle.well_typed.specs.Laws.{ScopesAreSound}
 use Rattle.meaning.specs.Programs.{Program, program_of}
 use Rattle.meaning.specs.Works.{Store}
 use Rattle.sound_steps.specs.Holding.{inside, seen}
 use Rattle.sound_steps.specs.Laws.{Premises}
 use Rattle.sound_programs.specs.Fronts.{declared_in, scope_at, start_in}
-use Rattle.sound_programs.specs.BodyLaws.{IsSoundMemory, Names, NamesAreKnown, PremisesHold}
+use Rattle.sound_programs.specs.BodyLaws.{IsSoundMemory, BodyNamesAreSound, NamesAreKnown, PremisesHold}
 use Rattle.sound_programs.proofs.WiderScopes.{stands}
 use Rattle.sound_programs.proofs.BodyProfiles.{subtype_kept}
 use Rattle.sound_programs.proofs.Walked.{scope_next}
@@ -37,7 +37,7 @@ use Rattle.sound_programs.proofs.OfObjects.{operation_sound}
 no_result : (r : Identifier) → ◌≡◌ {A = Option Identifier} None (Some r) → ⊥
 no_result r h = cc
 
-module _ (scopes : ScopesAreSound) (t : ProgramTree) (m : Store) (legal : IsLegal t) (restricted : IsRestricted t) (names : Names t)
+module _ (scopes : ScopesAreSound) (t : ProgramTree) (m : Store) (legal : IsLegal t) (restricted : IsRestricted t) (names : BodyNamesAreSound t)
     (laws : Premises (program_of t)) (memory : IsSoundMemory (program_of t) m) where
   abbrev program : Program
   program = program_of t
@@ -89,7 +89,7 @@ module _ (scopes : ScopesAreSound) (t : ProgramTree) (m : Store) (legal : IsLega
       let x = found_function program.scope (bodies_among program.scope all) owner name f
       (ap (λ l. function_of l owner name) (sym (w.functions ∙ functions_are program.scope all)) ∙ h) in
       let sound = unit_function x.unit_ (body_place program.scope all x.unit_ x.has) x.result x.some x.value x.returns p vs left in
-      subst (λ y. IsSoundBody (entered (seen program m p) y vs left) y) (sym x.is) (sound (ap (λ y. are_actuals program.scope y.formals vs) (sym x.is) ∙ are))
+      subst (λ y. ReturnsSoundly (entered (seen program m p) y vs left) y) (sym x.is) (sound (ap (λ y. are_actuals program.scope y.formals vs) (sym x.is) ∙ are))
 
 module _ (scopes : ScopesAreSound) (known : NamesAreKnown) (premises : PremisesHold) where
   pub functions_sound : ProgramFunctionsAreSound

@@ -24,7 +24,7 @@ use Rattle.ravenscar.specs.ProgramRules as profile
 use Rattle.well_typed.specs.SoundScopes.{SoundScope}
 use Rattle.well_typed.specs.Laws.{AgreementIsKept, CallsAreTyped}
 use Rattle.well_typed.specs.Variables.{TargetsAreVariables}
-use Rattle.sound_programs.specs.ScopeLaws.{DeclarationsAreSound, ScopesAreSound}
+use Rattle.sound_programs.specs.ScopeLaws.{DeclarationsAreSound, ProgramScopesAreSound}
 use Rattle.sound_programs.specs.Points.{IsJudgedOperation, IsObjectBody}
 use Rattle.sound_programs.specs.Fronts.{declared_in, front, scope_at, start_in}
 use Rattle.sound_programs.specs.BodyLaws.{IsKnownObject, NamesAreKnown, PremisesHold}
@@ -52,7 +52,7 @@ fronts_sound laws s (i ∷ is) zero sound h = sound
 fronts_sound laws s (i ∷ is) (suc n) sound h =
     fronts_sound laws (body_item_scope s i) is n (item_sound laws s i sound (front_empty (body_item_faults s i) _ h)) (back_empty (body_item_faults s i) _ h)
 
-start_sound : ScopesAreSound → (t : ProgramTree) → IsLegal t → (o : Option PackageTree) → t.package_ ≡ o → SoundScope (start_in o)
+start_sound : ProgramScopesAreSound → (t : ProgramTree) → IsLegal t → (o : Option PackageTree) → t.package_ ≡ o → SoundScope (start_in o)
 start_sound laws t legal (Some p) is = laws.inside t p legal is
 start_sound laws t legal None is = subst (λ o. SoundScope (optional_scope standard o)) is (laws.whole t legal)
 
@@ -96,7 +96,7 @@ module _ (laws : DeclarationsAreSound) (s : Scope) (name : Identifier) (items : 
 
 -- ---- the laws
 
-module _ (declared : DeclarationsAreSound) (scopes : ScopesAreSound) (t : ProgramTree) (legal : IsLegal t) (restricted : IsRestricted t) where
+module _ (declared : DeclarationsAreSound) (scopes : ProgramScopesAreSound) (t : ProgramTree) (legal : IsLegal t) (restricted : IsRestricted t) where
   abbrev start : Scope
   start = start_in t.package_
 
@@ -120,10 +120,10 @@ module _ (declared : DeclarationsAreSound) (scopes : ScopesAreSound) (t : Progra
       known_object declared (front t place) name items end_name number o (fronts place)
       (legal_at start all place (ProtectedBody name items end_name) at whole.legal) numbered stands
 
-pub names_known : DeclarationsAreSound → ScopesAreSound → NamesAreKnown
+pub names_known : DeclarationsAreSound → ProgramScopesAreSound → NamesAreKnown
 names_known declared scopes t legal restricted =
     record { fronts = fronts declared scopes t legal restricted; objects = objects declared scopes t legal restricted }
 
-pub premises_hold : CallsAreTyped → AgreementIsKept → NamesAreAdded → TargetsAreVariables → InitialValuesHaveShape → ScopesAreSound → PremisesHold
+pub premises_hold : CallsAreTyped → AgreementIsKept → NamesAreAdded → TargetsAreVariables → InitialValuesHaveShape → ProgramScopesAreSound → PremisesHold
 premises_hold typed kept added targets initial scopes t legal =
     record { typed = typed; kept = kept; added = added; targets = targets; initial = initial; sound = scopes.whole t legal }

@@ -5,11 +5,11 @@ use Rattle.kernel.specs.State.{Action, Kernel, Reads, Serves, Writes, put}
 use Rattle.kernel.specs.Dispatching.{becomes_ready, dispatch, leaves}
 use Rattle.kernel.specs.Clock.{clock, falls_asleep, released}
 use Rattle.kernel.specs.Effects.{Breaks, Delays, Dies, Effect, Ending, Ends, Finishes, HandsBack, Opens, Queues, Quiet, Says, Views, after, effect, ending_of, ends, outer_of, service, takes_over, with_actions}
-use Rattle.kernel.specs.Invariant.{Has, Kept, ServesCall}
+use Rattle.kernel.specs.Invariant.{HasAction, Kept, ServesCall}
 use Rattle.kernel.specs.Laws.{Unmoved}
 use Rattle.kernel.specs.PutLaws.{by_put, put_other, put_put, put_same}
 use Rattle.kernel.specs.Worlds.{ending, reached}
-use Rattle.meaning.specs.Works.{Given, Store, TaskWork}
+use Rattle.meaning.specs.Works.{GivenToCaller, Store, TaskWork}
 use Rattle.meaning.specs.Calls.{is_open}
 use Rattle.meaning.specs.SourceSteps.{Here, program_behaviour, serves}
 use Rattle.sound_steps.specs.Opened.{ForCall, ForCaller, Opened}
@@ -45,7 +45,7 @@ module _ (laws : NextLaws) (h : Here) (tasks : ℕ → TaskWork) (m : Store) (is
   abbrev t : ℕ
   t = h.task
 
-  abbrev all_after : Ending → Option Given → TaskWork → ℕ → TaskWork
+  abbrev all_after : Ending → Option GivenToCaller → TaskWork → ℕ → TaskWork
   all_after e g own = reached (program_behaviour h.program h.schedule) t e g (put t own tasks)
 
   module _ (own : TaskWork) where
@@ -56,7 +56,7 @@ module _ (laws : NextLaws) (h : Here) (tasks : ℕ → TaskWork) (m : Store) (is
     other_put u ne = put_other t u own tasks ne
 
     -- an action that serves nobody closes
-    closed : (g : Option Given) (o : ℕ) (outer : List Action) → k.actions t ≡ Writes o ∷ outer → Kept later (settled (with_actions t outer k))
+    closed : (g : Option GivenToCaller) (o : ℕ) (outer : List Action) → k.actions t ≡ Writes o ∷ outer → Kept later (settled (with_actions t outer k))
         → IsSoundTask h.program m None own
         → Matches outer (opened_of own)
         → SoundAt h.program (settled (with_actions t outer k)) m (put t own tasks)
@@ -64,12 +64,12 @@ module _ (laws : NextLaws) (h : Here) (tasks : ℕ → TaskWork) (m : Store) (is
         let over = with_actions t outer k in
         let moved = laws.unmoved (with_actions t outer k) in
         keeps_calls laws h tasks m is (settled over) kept (settled_meant over is.world.outcome) own outer moved.queued moved.actions
-        (λ a u x. ⊎_elim (λ i. absurd i) (λ i. i) (subst (Has (ServesCall a u)) acts x))
-        (λ a u x. subst (Has (ServesCall a u)) (sym acts) (inr x))
+        (λ a u x. ⊎_elim (λ i. absurd i) (λ i. i) (subst (HasAction (ServesCall a u)) acts x))
+        (λ a u x. subst (HasAction (ServesCall a u)) (sym acts) (inr x))
         sound match
 
     -- the end of a procedure or an entry: with a service, or without
-    serviced : (b : Bool) (q : Option ℕ) (g : Option Given) (o : ℕ) (outer : List Action) → k.queued o ≡ q → k.actions t ≡ Writes o ∷ outer
+    serviced : (b : Bool) (q : Option ℕ) (g : Option GivenToCaller) (o : ℕ) (outer : List Action) → k.queued o ≡ q → k.actions t ≡ Writes o ∷ outer
         → Kept later (settled (ends t (service b o q) outer k))
         → IsSoundTask h.program m None own
         → IsSoundServer h.program m own
@@ -103,7 +103,7 @@ module _ (laws : NextLaws) (h : Here) (tasks : ℕ → TaskWork) (m : Store) (is
             (λ ne. ap (λ x. put t x now v) server_is ∙ put_put t (serves o (tasks u).work own) own tasks v)
 
     -- the body that was run for a caller has ended
-    handed : (g : Option Given) (o p u : ℕ) (outer : List Action) → k.actions t ≡ Serves o u ∷ outer → o ≡ p → IsGivenAt h.program (ForCaller p) g
+    handed : (g : Option GivenToCaller) (o p u : ℕ) (outer : List Action) → k.actions t ≡ Serves o u ∷ outer → o ≡ p → IsGivenAt h.program (ForCaller p) g
         → Kept later (settled (ends t (HandsBack u) outer k))
         → IsSoundTask h.program m None own
         → Matches outer (opened_of own)
@@ -124,7 +124,7 @@ module _ (laws : NextLaws) (h : Here) (tasks : ℕ → TaskWork) (m : Store) (is
         moved = laws.unmoved (becomes_ready u (released u (with_actions t outer k)))
 
     -- an action ends
-    ended : (b : Bool) (actions : List Action) (a : Opened) (g : Option Given) → k.actions t ≡ actions → Matches actions (a ∷ opened_of own)
+    ended : (b : Bool) (actions : List Action) (a : Opened) (g : Option GivenToCaller) → k.actions t ≡ actions → Matches actions (a ∷ opened_of own)
         → IsGivenAt h.program a g
         → Kept later (settled (ends t (ending_of b actions k.queued) (outer_of actions) k))
         → IsSoundTask h.program m None own
@@ -146,7 +146,7 @@ module _ (laws : NextLaws) (h : Here) (tasks : ℕ → TaskWork) (m : Store) (is
         let moved = laws.unmoved x in
         goes_on laws h tasks m is (settled x) kept (settled_meant x meant) own (moved.queued ∙ queue) (moved.actions ∙ acts) sound same
 
-    pub next_sound : (e : Effect) (g : Option Given) → Accounts h e m (opened_of (tasks t)) (opened_of own) g → IsSoundTask h.program m (waits_after e) own
+    pub next_sound : (e : Effect) (g : Option GivenToCaller) → Accounts h e m (opened_of (tasks t)) (opened_of own) g → IsSoundTask h.program m (waits_after e) own
         → WhenEnds e (IsSoundServer h.program m own)
         → Kept later (after t e k)
         → SoundAt h.program (after t e k) m (all_after (ending k t e) g own)

@@ -27,7 +27,7 @@ use Rattle.meaning.specs.Programs.{Procedure, Program, component, objects_or_non
 use Rattle.meaning.specs.Works.{Store}
 use Rattle.meaning.specs.Calls.{procedure_among, procedure_here}
 use Rattle.sound_steps.specs.Objects.{object_subtype, subtype_in}
-use Rattle.sound_steps.specs.Fitting.{Fits, IsCalled, IsEntry, IsFound, IsProcedure, is_result}
+use Rattle.sound_steps.specs.Fitting.{FitsScope, IsCalled, IsEntry, IsFound, IsProcedure, is_result}
 use Rattle.sound_steps.specs.Holding.{inside}
 use Rattle.sound_steps.specs.Laws.{Premises}
 use Rattle.sound_programs.specs.Fronts.{scope_at}
@@ -284,7 +284,7 @@ module _ (program : Program) (s : Scope) (all : List BodyItemTree) (w : IsPackag
       means_moved name entity.LibraryUnit h i = tt
       means_moved name Doubtful h i = tt
 
-      front : Fits program here outer
+      front : FitsScope program here outer
       front = front_fits program s all w laws scopes m memory offers fronts k p
 
       agrees_here : Agrees here (within_object p)
@@ -534,7 +534,7 @@ module _ (program : Program) (s : Scope) (all : List BodyItemTree) (w : IsPackag
           let role_of : Entity → Role = λ e. elim e [ entity.Object q v ↦ q | z ↦ r ] in
           absurd (plain_component f (ap is_result (sym (ap role_of y.2)) ∙ is))
 
-      pub object_fits : Fits program u (within_object p)
+      pub object_fits : FitsScope program u (within_object p)
       object_fits =
           record {
             agrees = record {

@@ -1,11 +1,11 @@
 -- All tasks behind a step: the one that ran, those that it reaches and those that only wait or stand ready (RM 9.5.3).
 use Rattle.std.proofs.Common.{◌≡◌, ◌≢◌, inl, inr, ℕ, List, ◌∷◌, Bool, Option, Some, None, refl, sym, ap, ◌∙◌, subst, ⊎_elim}
 use Rattle.kernel.specs.State.{Action, Kernel, Serves, Writes, put}
-use Rattle.kernel.specs.Invariant.{Has, Kept, ServesCall}
+use Rattle.kernel.specs.Invariant.{HasAction, Kept, ServesCall}
 use Rattle.kernel.specs.Laws.{FourHold, LeftUnmoved}
 use Rattle.kernel.specs.PutLaws.{by_put, of_put, put_other, put_same, put_self, same_or_not}
 use Rattle.meaning.specs.Programs.{Program}
-use Rattle.meaning.specs.Works.{Given, Store, TaskWork}
+use Rattle.meaning.specs.Works.{GivenToCaller, Store, TaskWork}
 use Rattle.meaning.specs.Calls.{is_open}
 use Rattle.meaning.specs.SourceSteps.{Here, received, serves}
 use Rattle.sound_steps.specs.Holding.{IsGiven, IsSoundServer, IsSoundTask, KeepsStore}
@@ -26,7 +26,7 @@ by_put_both P t u x f y g same other =
 
 -- ---- a step
 
-abbrev pub given_to : Given → TaskWork → TaskWork
+abbrev pub given_to : GivenToCaller → TaskWork → TaskWork
 given_to g x = record x { work = received g x.work }
 
 -- what the step stands on, of the kernel and of the tasks
@@ -105,8 +105,8 @@ module _ (laws : NextLaws) (h : Here) (tasks : ℕ → TaskWork) (m : Store) (is
 
     -- an action opens or closes, and serves nobody
     pub keeps_calls : (new : List Action) → l.queued ≡ k.queued → l.actions ≡ put t new k.actions
-        → ((o u : ℕ) → Has (ServesCall o u) (k.actions t) → Has (ServesCall o u) new)
-        → ((o u : ℕ) → Has (ServesCall o u) new → Has (ServesCall o u) (k.actions t))
+        → ((o u : ℕ) → HasAction (ServesCall o u) (k.actions t) → HasAction (ServesCall o u) new)
+        → ((o u : ℕ) → HasAction (ServesCall o u) new → HasAction (ServesCall o u) (k.actions t))
         → IsSoundTask h.program m None own
         → Matches new (opened_of own)
         → SoundAt h.program l m (put t own tasks)
@@ -169,7 +169,7 @@ module _ (laws : NextLaws) (h : Here) (tasks : ℕ → TaskWork) (m : Store) (is
       cc
 
   pub served_here : (o u : ℕ) (outer : List Action) → k.actions t ≡ Serves o u ∷ outer → awaited (k.place u) ≡ Some o
-  served_here o u outer acts = awaited_if before k is.world.kernel u o (inr (t, subst (Has (ServesCall o u)) (sym acts) (inl (refl, refl))))
+  served_here o u outer acts = awaited_if before k is.world.kernel u o (inr (t, subst (HasAction (ServesCall o u)) (sym acts) (inl (refl, refl))))
 
   -- the task runs the entry body for the queued caller
   pub takes : (l : Kernel) → Kept later l → HasMeaning l.outcome → (own : TaskWork) (o u : ℕ) (outer : List Action)
@@ -198,20 +198,20 @@ module _ (laws : NextLaws) (h : Here) (tasks : ℕ → TaskWork) (m : Store) (is
           let i : k.queued o ≡ Some v = ap k.queued (sym e) ∙ q in
           let n : k.queued o ≡ Some u = queued in
           let j : u ≡ v = cc in
-          inr (t, subst (Has (ServesCall a v)) (sym (put_same t t new k.actions refl)) (inl (sym e, j))))
+          inr (t, subst (HasAction (ServesCall a v)) (sym (put_same t t new k.actions refl)) (inl (sym e, j))))
           (λ ne. inl (put_other o a None k.queued ne ∙ q))
           (same_or_not a o)
-      forth v a (inr s) = inr (served_then t new k.actions v a (λ x. ⊎_elim (λ i. absurd i) (λ i. inr i) (subst (Has (ServesCall a v)) acts x)) s)
+      forth v a (inr s) = inr (served_then t new k.actions v a (λ x. ⊎_elim (λ i. absurd i) (λ i. inr i) (subst (HasAction (ServesCall a v)) acts x)) s)
 
       back : (v a : ℕ) → Awaits (put o None k.queued) (put t new k.actions) v a → Awaits k.queued k.actions v a
       back v a (inl q) = of_put (λ x. x ≡ Some v) (Awaits k.queued k.actions v a) o a None k.queued q (λ e i. absurd (cc)) (λ ne i. inl i)
       back v a (inr s) =
-          of_put (Has (ServesCall a v)) (Awaits k.queued k.actions v a) t s.0 new k.actions s.1
-          (λ e. ⊎_elim (λ i. inl (ap k.queued (sym i.0) ∙ (queued ∙ ap Some i.1))) (λ i. inr (t, subst (Has (ServesCall a v)) (sym acts) (inr i))))
+          of_put (HasAction (ServesCall a v)) (Awaits k.queued k.actions v a) t s.0 new k.actions s.1
+          (λ e. ⊎_elim (λ i. inl (ap k.queued (sym i.0) ∙ (queued ∙ ap Some i.1))) (λ i. inr (t, subst (HasAction (ServesCall a v)) (sym acts) (inr i))))
           (λ ne i. inr (s.0, i))
 
   -- the caller goes on with what it is given
-  pub hands : (l : Kernel) → Kept later l → HasMeaning l.outcome → (own : TaskWork) (o u : ℕ) (outer : List Action) (g : Given)
+  pub hands : (l : Kernel) → Kept later l → HasMeaning l.outcome → (own : TaskWork) (o u : ℕ) (outer : List Action) (g : GivenToCaller)
       → k.actions t ≡ Serves o u ∷ outer
       → l.queued ≡ k.queued
       → l.actions ≡ put t outer k.actions
@@ -273,11 +273,11 @@ module _ (laws : NextLaws) (h : Here) (tasks : ℕ → TaskWork) (m : Store) (is
       forth : (v : ℕ) → v ≢ u → (a : ℕ) → Awaits k.queued k.actions v a → Awaits k.queued (put t outer k.actions) v a
       forth v ne a (inl q) = inl q
       forth v ne a (inr s) =
-          inr (served_then t outer k.actions v a (λ x. ⊎_elim (λ i. absurd (ne (sym i.1))) (λ i. i) (subst (Has (ServesCall a v)) acts x)) s)
+          inr (served_then t outer k.actions v a (λ x. ⊎_elim (λ i. absurd (ne (sym i.1))) (λ i. i) (subst (HasAction (ServesCall a v)) acts x)) s)
 
       back : (v a : ℕ) → Awaits k.queued (put t outer k.actions) v a → Awaits k.queued k.actions v a
       back v a (inl q) = inl q
-      back v a (inr s) = inr (served_before t outer k.actions v a (λ x. subst (Has (ServesCall a v)) (sym acts) (inr x)) s)
+      back v a (inr s) = inr (served_before t outer k.actions v a (λ x. subst (HasAction (ServesCall a v)) (sym acts) (inr x)) s)
 
       same : (v : ℕ) → v ≢ u → awaited (l.place v) ≡ awaited (k.place v)
       same v ne =

@@ -33,7 +33,7 @@ use Rattle.meaning.specs.Programs.{Duty, OfBody, OfMain, Parameter, Procedure, P
 use Rattle.meaning.specs.Works.{Activation, Declares, DoesMain, Goes, Item, Sequence, Store, TaskWork}
 use Rattle.meaning.specs.Calls.{procedure_among, procedure_here}
 use Rattle.meaning.specs.Source.{duty_items, initial_work, task_items}
-use Rattle.sound_steps.specs.Fitting.{Fits, formal_of}
+use Rattle.sound_steps.specs.Fitting.{FitsScope, formal_of}
 use Rattle.sound_steps.specs.Judged.{Begins, IsMainStatement, IsPlain, IsReady, Judged}
 use Rattle.sound_steps.specs.Holding.{IsSoundProcedure, IsSoundTask}
 use Rattle.sound_steps.specs.Laws.{Premises}
@@ -173,7 +173,7 @@ module _ (program : Program) (s : Scope) (all : List BodyItemTree) (w : IsPackag
   pub front_first : (k : ℕ) → StandsFirst (scope_at s all k) program.scope
   front_first k = subst (StandsFirst (scope_at s all k)) (scope_behind s all k ∙ w.scope) (all_first laws.added (scope_at s all k) (drop k all))
 
-  pub front_fits : (k : ℕ) (p : Place) → Fits program (scope_at s all k) (in_package program s all w m memory p)
+  pub front_fits : (k : ℕ) (p : Place) → FitsScope program (scope_at s all k) (in_package program s all w m memory p)
   front_fits k p =
       fits_fewer program laws (scope_at s all k) program.scope (in_package program s all w m memory p) (front_first k) (fronts k)
       (package_fits program s all w m memory p offers)
@@ -210,7 +210,7 @@ module _ (program : Program) (s : Scope) (all : List BodyItemTree) (w : IsPackag
         record {
           scope = subprogram_scope (scope_at s all k) d;
           kind = kind_of (scope_at s all k) d.result;
-          fits = λ p. subst (λ u. Fits program u (in_package program s all w m memory p)) next_is (front_fits (suc k) p);
+          fits = λ p. subst (λ u. FitsScope program u (in_package program s all w m memory p)) next_is (front_fits (suc k) p);
           sound = inner_sound;
           new =
               new_formals scopes program.scope (scope_at s all k) (subprogram_scope (scope_at s all k) d) inner_sound
@@ -238,7 +238,7 @@ module _ (program : Program) (s : Scope) (all : List BodyItemTree) (w : IsPackag
   nothing : Activation
   nothing = record { within = None; locals = [] }
 
-  task_with_items : (u : Scope) → ((p : Place) → Fits program u (in_package program s all w m memory p)) → (a : Around) (items : List Item)
+  task_with_items : (u : Scope) → ((p : Place) → FitsScope program u (in_package program s all w m memory p)) → (a : Around) (items : List Item)
       → IsReady program (record { within = None; locals = [] }) u [] a items
       → IsSoundTask program m None (record { work = Goes items; own = record { within = None; locals = [] }; callers = [] })
   task_with_items u fits a items ready =

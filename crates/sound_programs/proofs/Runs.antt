@@ -4,7 +4,7 @@ use Rattle.std.specs.Prelude.{slice_get}
 use Rattle.base.specs.declared.schedule.ScheduleLine.{ScheduleLine}
 use Rattle.kernel.specs.State.{Kernel, Outcome, Partition, Unhandled}
 use Rattle.kernel.specs.Effects.{activated, begin, blank}
-use Rattle.kernel.specs.Invariant.{Has, Held, Kept, Passed, ServesCall}
+use Rattle.kernel.specs.Invariant.{HasAction, IsBarrierHeld, Kept, Passed, ServesCall}
 use Rattle.kernel.specs.Laws.{BeginsKept, KeptByEvery}
 use Rattle.kernel.specs.Worlds.{Tasks, among, run, solo_of, step, step_of}
 use Rattle.ada_tree.specs.declared.program.MainStatement.{MainStatement}
@@ -16,7 +16,7 @@ use Rattle.meaning.specs.Programs.{Duty, OfBody, OfMain, Program, Task, program_
 use Rattle.meaning.specs.Works.{DoesMain, Sequence, Store, TaskWork}
 use Rattle.meaning.specs.Calls.{is_open}
 use Rattle.meaning.specs.Source.{SourceWorld, duty_items, initial_work, run_of, start_of, task_items}
-use Rattle.meaning.specs.SourceSteps.{Here, Stepped, here_of, program_behaviour, work_step}
+use Rattle.meaning.specs.SourceSteps.{Here, SourceStepped, here_of, program_behaviour, work_step}
 use Rattle.sound_steps.specs.Objects.{first_store}
 use Rattle.sound_steps.specs.Opened.{opened_in}
 use Rattle.sound_steps.specs.Holding.{IsSoundStep, IsSoundTask}
@@ -96,7 +96,7 @@ module _ (laws : RunLaws) (program : Program) (schedule : List ScheduleLine) (st
 
       waits_nowhere : (u o : ℕ) → Awaits (begin partition).queued (begin partition).actions u o → ⊥
       waits_nowhere u o (inl q) = let i : (begin partition).queued o ≡ None = ap (λ f. f o) (laws.next.unmoved active).queued ∙ new.queued o in cc
-      waits_nowhere u o (inr s) = subst (Has (ServesCall o u)) (idle s.0) s.1
+      waits_nowhere u o (inr s) = subst (HasAction (ServesCall o u)) (idle s.0) s.1
 
       awake : (u : ℕ) → awaited ((begin partition).place u) ≡ None
       awake u =
@@ -121,7 +121,7 @@ module _ (laws : RunLaws) (program : Program) (schedule : List ScheduleLine) (st
       h : Here
       h = here_of program schedule k t (solo_of t d)
 
-      x : Stepped
+      x : SourceStepped
       x = work_step h (d.tasks t).work
 
       before : ℕ → Bool
@@ -136,7 +136,7 @@ module _ (laws : RunLaws) (program : Program) (schedule : List ScheduleLine) (st
       sound : IsSoundStep h (opened_of (d.tasks t)) x
       sound = laws.steps program schedule k t (solo_of t d) premises world.store task
 
-      owed : Held before later k t × Passed later k t x.effect
+      owed : IsBarrierHeld before later k t × Passed later k t x.effect
       owed = laws.passes h (opened_of (d.tasks t)) x start.barriers (world.actions t) task.held sound
 
   run_sound : (n : ℕ) (w : SourceWorld) → IsSoundWorld program w → IsSoundWorld program (run (among (program_behaviour program schedule)) n w)

@@ -18,7 +18,7 @@ use Rattle.well_typed.specs.Laws.{ScopesAreSound}
 use Rattle.well_typed.proofs.Goods.{not_empty, object_known}
 use Rattle.well_typed.proofs.Parts.{same_values, shape_found}
 use Rattle.meaning.specs.Programs.{Program}
-use Rattle.sound_steps.specs.Fitting.{Fits}
+use Rattle.sound_steps.specs.Fitting.{FitsScope}
 use Rattle.sound_programs.proofs.WiderScopes.{NoTypes, form_with, number_stands, stands, stands_number, with_all}
 
 -- ---- shapes of types
@@ -98,7 +98,7 @@ module _ (program : Program) (t u : Scope) (sound : SoundScope u) (types : SameT
   means_same p agrees name n entity.LibraryUnit at h = tt
   means_same p agrees name n entity.Doubtful at h = tt
 
-  pub fits_same : (p : Place) → Fits program t p → Fits program u p
+  pub fits_same : (p : Place) → FitsScope program t p → FitsScope program u p
   fits_same p fits =
       record {
         agrees = record {

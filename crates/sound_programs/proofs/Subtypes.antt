@@ -21,7 +21,7 @@ use Rattle.expr_rules.proofs.TypeShapes.{type_entity}
 use Rattle.expr_rules.proofs.TypedLaw.{back_empty, front_empty, unbroken}
 use Rattle.type_rules.specs.SubtypeNames.{entity_at_or_none, if_integer, is_other, subtype_faults, subtype_in, subtype_of, subtype_rule}
 use Rattle.type_rules.specs.TypeRules.{array_entity, array_faults, bounded, component_and, component_faults, components_faults, composite, definition_entity, definition_faults, index_faults, index_place, index_subtype, integer_entity, is_long, is_named_in, length_of, narrowed, narrowed_faults, null_rule, range_faults, range_subtype, record_components, record_entity, short_length, static_whole, subtype_entity, whole_of}
-use Rattle.well_typed.specs.SoundScopes.{AreEarlier, IsEarlier, IsKnown, IsSound, SoundScope}
+use Rattle.well_typed.specs.SoundScopes.{AreEarlier, IsEarlier, IsKnown, IsSoundEntity, SoundScope}
 use Rattle.well_typed.proofs.Expressions.{not_false}
 use Rattle.well_typed.proofs.Goods.{not_empty}
 use Rattle.well_typed.proofs.Growing.{entity_sound, grown}
@@ -32,7 +32,7 @@ use Rattle.sound_programs.proofs.Statics.{WantsInteger, must_be_static, static_n
 
 -- with what it needs of the names in front of it
 pub record IsFresh (s : Scope) (e : Entity) : Type 0 where
-  pub sound : IsSound s (length s) e
+  pub sound : IsSoundEntity s (length s) e
   pub untimed : is_times (form_of (Some e)) ≡ false
 
 -- a scope stays sound with it
@@ -44,7 +44,7 @@ added s name e sound fresh = by_test (is_visible s name) refl
     by_test false h =
         let x : Named = record { name = name; entity = e } in
         let is : with_name s name e ≡ s ++ x ∷ [] = ap (λ b. cond b s (s ++ x ∷ [])) h in
-        widened s name e sound h (subst (λ u. IsSound u (length s) e) (sym is) (entity_sound s (s ++ x ∷ []) (grown s (x ∷ [])) (length s) e fresh.sound)) fresh.untimed
+        widened s name e sound h (subst (λ u. IsSoundEntity u (length s) e) (sym is) (entity_sound s (s ++ x ∷ []) (grown s (x ∷ [])) (length s) e fresh.sound)) fresh.untimed
 
 -- ---- numbers of names
 

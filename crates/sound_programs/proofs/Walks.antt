@@ -24,7 +24,7 @@ use Rattle.well_typed.proofs.Expressions.{not_false}
 use Rattle.well_typed.proofs.Growing.{HasTypes, entity_sound}
 use Rattle.well_typed.proofs.Hiding as hiding
 use Rattle.well_typed.proofs.Standard.{standard_is_sound}
-use Rattle.sound_programs.specs.ScopeLaws.{DeclarationsAreSound, ScopesAreSound}
+use Rattle.sound_programs.specs.ScopeLaws.{DeclarationsAreSound, ProgramScopesAreSound}
 use Rattle.sound_programs.specs.Points.{IsJudgedItem, IsJudgedOperation, IsObjectBody, scope_behind}
 use Rattle.sound_programs.proofs.Declared.{fixed_locals_sound, formals_sound, item_sound, items_sound, locals_sound, object_fresh, subprogram_added, subprogram_sound}
 use Rattle.sound_programs.proofs.Extending.{body_items_extend, components_same, extends_first, has_types, name_extends, operations_extend, protected_items_extend, stands_first}
@@ -212,5 +212,5 @@ declarations_are_sound =
       object = λ s name items end_name sound h. object_body s sound name items end_name h;
     }
 
-pub scopes_are_sound : ScopesAreSound
+pub scopes_are_sound : ProgramScopesAreSound
 scopes_are_sound = record { whole = whole_sound; inside = λ t p legal is. inside_sound p; specified = specified_sound; judged = judged_item }

@@ -17,7 +17,7 @@ use Rattle.meaning.specs.Works.{Store}
 use Rattle.meaning.specs.Calls.{procedure_among}
 use Rattle.meaning.specs.Source.{initial_work}
 use Rattle.sound_steps.specs.Objects.{AreSoundObjects, first_store}
-use Rattle.sound_steps.specs.Fitting.{Fits, entry_of}
+use Rattle.sound_steps.specs.Fitting.{FitsScope, entry_of}
 use Rattle.sound_steps.specs.Holding.{IsSoundProcedure, IsSoundTask, SameObjects, inside}
 use Rattle.sound_steps.specs.Laws.{Premises}
 use Rattle.sound_programs.specs.Fronts.{declared_in, front}
@@ -33,7 +33,7 @@ pub record IsKnownObject (s : Scope) (number : ℕ) (o : ProtectedObject) (items
       → SoundScope (subprogram_scope (operation_sees (protected_items_scope (object_body_scope s number) (take place items)) o.components d) d)
 
 -- the scopes in front of each declaration and body are sound, and so are those in the bodies of protected objects
-pub record Names (t : ProgramTree) : Type 0 where
+pub record BodyNamesAreSound (t : ProgramTree) : Type 0 where
   pub fronts : (place : ℕ) → SoundScope (front t place)
   pub objects : (place : ℕ) (name : Identifier) (items : List ProtectedItemTree) (end_name : Identifier) (number : ℕ) (o : ProtectedObject)
       → slice_get (declared_in t.package_) place ≡ Some (ProtectedBody name items end_name)
@@ -42,7 +42,7 @@ pub record Names (t : ProgramTree) : Type 0 where
       → IsKnownObject (front t place) number o items
 
 abbrev pub NamesAreKnown : Type 0
-NamesAreKnown = (t : ProgramTree) → IsLegal t → IsRestricted t → Names t
+NamesAreKnown = (t : ProgramTree) → IsLegal t → IsRestricted t → BodyNamesAreSound t
 
 -- what the steps of a program stand on
 abbrev pub PremisesHold : Type 0
@@ -61,7 +61,7 @@ pub record IsSoundMemory (program : Program) (m : Store) : Type 0 where
 -- A place of the package's bodies, without objects of its own, fits the names in front of each declaration and body.
 abbrev pub FrontsFit : Type 0
 FrontsFit = (t : ProgramTree) (m : Store) → IsLegal t → IsRestricted t → IsSoundMemory (program_of t) m → (place : ℕ) (p : Place)
-    → Fits (program_of t) (front t place) (inside (program_of t) m (record { within = None; locals = [] }) p)
+    → FitsScope (program_of t) (front t place) (inside (program_of t) m (record { within = None; locals = [] }) p)
 
 -- bodies of procedures and entries can be begun with each values of their parameters
 pub record HasSoundBodies (program : Program) (m : Store) : Type 0 where

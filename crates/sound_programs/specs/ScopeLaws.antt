@@ -36,7 +36,7 @@ pub record DeclarationsAreSound : Type 0 where
       → body_item_faults s (ProtectedBody name items end_name) ≡ [] → IsObjectBody s name items
 
 -- the names of a legal program are known: all of them, those in front of the package's body, and those at each item of that body
-pub record ScopesAreSound : Type 0 where
+pub record ProgramScopesAreSound : Type 0 where
   pub whole : (t : ProgramTree) → IsLegal t → SoundScope (program_scope t)
   pub inside : (t : ProgramTree) (p : PackageTree) → IsLegal t → t.package_ ≡ Some p → SoundScope (inside_scope standard p)
   pub specified : (t : ProgramTree) (p : PackageTree) → IsLegal t → t.package_ ≡ Some p → SoundScope (specified_scope standard p)

@@ -1,6 +1,6 @@
 -- What holds between the steps of a run of an accepted program: of the kernel, of the store and of every task.
 use Rattle.std.specs.Prelude.{◌<◌, ℕ, Option, Some, None, ⊤}
-use Rattle.kernel.specs.State.{Outcome, Ended, WaitsForever, ImageFault, Unhandled, Place, IsRunning, IsReady, IsAsleep, IsFinished, IsQueued, IsServed}
+use Rattle.kernel.specs.State.{Outcome, Ended, WaitsForever, ImageFault, Unhandled, TaskPlace, IsRunning, IsReady, IsAsleep, IsFinished, IsQueued, IsServed}
 use Rattle.kernel.specs.Invariant.{Kept}
 use Rattle.meaning.specs.Programs.{Program}
 use Rattle.meaning.specs.Calls.{is_open}
@@ -11,7 +11,7 @@ use Rattle.sound_steps.specs.Holding.{IsSoundStore, IsSoundTask}
 use Rattle.sound_steps.specs.Laws.{Matches}
 
 -- the object in whose entry call the task waits, in the queue or while its body is run by another task (RM 9.5.3)
-abbrev pub awaited : Place → Option ℕ
+abbrev pub awaited : TaskPlace → Option ℕ
 awaited IsRunning = None
 awaited IsReady = None
 awaited IsAsleep = None

@@ -1,5 +1,5 @@
 //! The laws of the names, objects, functions and barriers of an accepted program, each what a function without work ensures.
-ghost use Rattle.sound_programs.specs.ScopeLaws.{BarriersAreTheirOwn, DeclarationsAreSound, ObjectsAreSound, PartitionsFit, ScopesAreSound};
+ghost use Rattle.sound_programs.specs.ScopeLaws.{BarriersAreTheirOwn, DeclarationsAreSound, ObjectsAreSound, PartitionsFit, ProgramScopesAreSound};
 
 use types::laws::{initial_values_have_shape, static_is_value};
 
@@ -10,7 +10,7 @@ pub fn declarations_are_sound()
 
 /// The names of a legal program are known: all of them, and those at each body of its package (RM 8.2, 8.3).
 pub fn scopes_are_sound()
-    ensures { ScopesAreSound }
+    ensures { ProgramScopesAreSound }
 {}
 
 /// Priorities and ceilings of every program are in their range (RM D.1, D.3).

@@ -26,8 +26,8 @@ use Rattle.meaning.specs.Programs.{Procedure, Program, object_numbered}
 use Rattle.meaning.specs.Works.{Item, Goes}
 use Rattle.meaning.specs.Calls.{Callee, actuals, callee_by, callee_through, callee_with, procedure_among, procedure_here}
 use Rattle.meaning.specs.SourceSteps.{Here, call_of, call_or_put, entry_call, entry_call_of, evaluate, external_call, place_of, plain_call, procedure_call, put_call, put_line, raises_predefined, statement_step, with_actuals_of}
-use Rattle.sound_steps.specs.Objects.{Comes}
-use Rattle.sound_steps.specs.Fitting.{Fits, IsCalled, IsEntry, IsOperation, IsProcedure, IsPut, entity_named, formal_of}
+use Rattle.sound_steps.specs.Objects.{GivesOrRaises}
+use Rattle.sound_steps.specs.Fitting.{FitsScope, IsCalled, IsEntry, IsOperation, IsProcedure, IsPut, entity_named, formal_of}
 use Rattle.sound_steps.specs.Opened.{opened_in}
 use Rattle.sound_steps.specs.Judged.{Waiting}
 use Rattle.sound_steps.specs.Holding.{IsSoundStep}
@@ -83,12 +83,12 @@ module _ (h : Here) (s : Scope) (outer : List Waiting) (a : Around) (items : Lis
   c : Current h s outer
   c = at.current
 
-  fits : Fits h.program s (place_of h items)
+  fits : FitsScope h.program s (place_of h items)
   fits = c.own.fits (place_of h items)
 
   call_actuals : (f : Called) (profile : Profile) (q : Procedure) (args : ArgumentTrees) → callee_profile s f ≡ Some profile → map formal_of q.parameters ≡ profile.formals → AreKnown s profile.formals
       → count args ≡ length profile.formals → arguments_faults s (standing.Callee f) 0 args ≡ []
-      → Comes (ActualsFit h.program h.own q.parameters) (actuals (place_of h items) h.memory h.own q.parameters args)
+      → GivesOrRaises (ActualsFit h.program h.own q.parameters) (actuals (place_of h items) h.memory h.own q.parameters args)
   call_actuals f profile q args is formals known counted legal =
       actuals_come h s outer a items laws at (standing.Callee f) profile.formals (λ k x there. ap (λ o. call_slot o k) is ∙ ap formal_slot_or there) 0 q.parameters args
       (subst (Indexed profile.formals 0) (sym formals) (indexed profile.formals)) (subst (AreKnown s) (sym formals) known) (counted ∙ ap length (sym formals) ∙ length_mapped formal_of q.parameters) legal
@@ -103,7 +103,7 @@ module _ (h : Here) (s : Scope) (outer : List Waiting) (a : Around) (items : Lis
   procedure_sound q through args free sound = subst (λ b. IsSoundStep h (opened_in items) (call_of h (call_to q through args) b items)) (sym free) sound
 
   direct_sound : (name : List ℕ) (q : Procedure) (args : ArgumentTrees) → procedure_here h.program h.own.within name ≡ Some q → q.barrier ≡ None
-      → Comes (ActualsFit h.program h.own q.parameters) (actuals (place_of h items) h.memory h.own q.parameters args) → CallSound q None args
+      → GivesOrRaises (ActualsFit h.program h.own q.parameters) (actuals (place_of h items) h.memory h.own q.parameters args) → CallSound q None args
   direct_sound name q args found free given =
       let here = found_here h.program h.own.within name q found in
       procedure_sound q None args free
@@ -111,14 +111,14 @@ module _ (h : Here) (s : Scope) (outer : List Waiting) (a : Around) (items : Lis
       (λ x fit. plain_sound h s outer a items laws at q x (c.store.procedures here.owner name q here.is) fit (held_here h.own.within q.object (opened_in items) here.place at.held)))
 
   through_sound : (n : ℕ) (name : List ℕ) (q : Procedure) (args : ArgumentTrees) → procedure_among h.program.procedures (Some n) name ≡ Some q → q.barrier ≡ None
-      → Comes (ActualsFit h.program h.own q.parameters) (actuals (place_of h items) h.memory h.own q.parameters args) → CallSound q (Some n) args
+      → GivesOrRaises (ActualsFit h.program h.own q.parameters) (actuals (place_of h items) h.memory h.own q.parameters args) → CallSound q (Some n) args
   through_sound n name q args found free given =
       procedure_sound q (Some n) args free
       (at_value h s outer a items (ActualsFit h.program h.own q.parameters) at (actuals (place_of h items) h.memory h.own q.parameters args) (λ x. external_call h n q x items) given
       (λ x fit. external_sound h s outer a items laws at n q x (c.store.procedures (Some n) name q found) fit (among_owner h.program.procedures (Some n) name q found)))
 
   waits_sound : (profile : Profile) (found : Option Procedure) (e : IsEntry h.program found profile) (through : Option ℕ) (args : ArgumentTrees)
-      → Comes (ActualsFit h.program h.own e.procedure.parameters) (actuals (place_of h items) h.memory h.own e.procedure.parameters args) → CallSound e.procedure through args
+      → GivesOrRaises (ActualsFit h.program h.own e.procedure.parameters) (actuals (place_of h items) h.memory h.own e.procedure.parameters args) → CallSound e.procedure through args
   waits_sound profile found e through args given =
       let q = e.procedure in
       subst (λ b. IsSoundStep h (opened_in items) (call_of h (call_to q through args) b items)) (sym e.barrier)

@@ -13,7 +13,7 @@ use Rattle.stmt_rules.specs.declared.around.Around.{Around}
 use Rattle.meaning.specs.Programs.{Parameter, Procedure, Program}
 use Rattle.meaning.specs.Works.{Item, Declares, DeclaresParameter, Sequence, EndsCall, Queued, Goes, TaskWork, frames_left}
 use Rattle.meaning.specs.Calls.{Actuals, activation_of, body_items, bound, declares_parameters, is_open, is_out, procedure_among, procedure_here, results, with_first}
-use Rattle.meaning.specs.SourceSteps.{Here, Stepped, entry_call, external_call, if_frame_left, plain_call, queue_call, raises_predefined, run_body, unless_refused}
+use Rattle.meaning.specs.SourceSteps.{Here, SourceStepped, entry_call, external_call, if_frame_left, plain_call, queue_call, raises_predefined, run_body, unless_refused}
 use Rattle.sound_steps.specs.Objects.{AreOf, AreSoundObjects}
 use Rattle.sound_steps.specs.Fitting.{entry_of, result_types, taken_types}
 use Rattle.sound_steps.specs.Opened.{ForCall, IsHeld, Opened, opened_by, opened_in}
@@ -139,7 +139,7 @@ module _ (h : Here) (s : Scope) (outer : List Waiting) (a : Around) (items : Lis
       same : opened_in (body_items q end items) ≡ opened_by opened (opened_in items)
       same = opened_body q end items
 
-  frame_sound : (n : ℕ) (go : Stepped) → IsSoundStep h (opened_in items) go → IsSoundStep h (opened_in items) (if_frame_left h n items go)
+  frame_sound : (n : ℕ) (go : SourceStepped) → IsSoundStep h (opened_in items) go → IsSoundStep h (opened_in items) (if_frame_left h n items go)
   frame_sound zero go f = at_refused h s outer a items at StorageError
   frame_sound (suc n) go f = f
 
@@ -156,7 +156,7 @@ module _ (h : Here) (s : Scope) (outer : List Waiting) (a : Around) (items : Lis
       → IsSoundStep h (opened_in items) (external_call h o q x items)
   external_sound o q x sound fit owner = by_refusal (call_refusal h.kernel h.task o) refl
     where
-      go : Stepped
+      go : SourceStepped
       go = if_frame_left h (frames_left items) items (run_body h (Opens o) (Some o) q x items)
 
       by_refusal : (r : Option Refusal) → call_refusal h.kernel h.task o ≡ r → IsSoundStep h (opened_in items) (unless_refused h r items go)

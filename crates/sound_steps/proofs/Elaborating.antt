@@ -25,8 +25,8 @@ use Rattle.well_typed.specs.Agreeing.{Agrees}
 use Rattle.meaning.specs.Programs.{Parameter, subtype_named, subtype_or_integer}
 use Rattle.meaning.specs.Works.{Item}
 use Rattle.meaning.specs.SourceSteps.{Here, declare, declare_parameter, declared_value, evaluate, place_of, with_object, with_value}
-use Rattle.sound_steps.specs.Objects.{Comes, IsOf}
-use Rattle.sound_steps.specs.Fitting.{Fits, Narrows}
+use Rattle.sound_steps.specs.Objects.{GivesOrRaises, IsOf}
+use Rattle.sound_steps.specs.Fitting.{FitsScope, Narrows}
 use Rattle.sound_steps.specs.Opened.{IsHeld, opened_in}
 use Rattle.sound_steps.specs.Judged.{Begins, IsLegalLocal, IsNewParameter, Leaves, Waiting, parameter_scope}
 use Rattle.sound_steps.specs.Holding.{IsSoundStep, inside}
@@ -151,7 +151,7 @@ module _ (h : Here) (s : Scope) (outer : List Waiting) (laws : Premises h.progra
 
       -- the value is of the subtype
       comes : (e : Option ExprTree) → local_initial_faults s (record d { value = e }) ≡ []
-          → Comes (IsOf h.program.scope t.type_number) (declared_value h items d e)
+          → GivesOrRaises (IsOf h.program.scope t.type_number) (declared_value h items d e)
       comes (Some y) l =
           comes_then (IsOf h.program.scope t.type_number) (IsOf h.program.scope t.type_number) (evaluate h items y) (passed (subtype_named h.program.scope d.subtype))
           (value_comes h s outer laws c items y t.type_number x.known (subst (λ o. faults_of s (wanted_by o) y ≡ []) x.named l))
@@ -165,14 +165,14 @@ module _ (h : Here) (s : Scope) (outer : List Waiting) (laws : Premises h.progra
       scope_is : with_name s d.name.name (entity.Object (role_of d.constant) t) ≡ local_object_scope s d
       scope_is = ap (λ o. with_name s d.name.name (object_entity (role_of d.constant) o)) (sym x.named)
 
-      by_value : (v : Val Value) → Comes (IsOf h.program.scope t.type_number) v
+      by_value : (v : Val Value) → GivesOrRaises (IsOf h.program.scope t.type_number) v
           → IsSoundStep h (opened_in items)
           (with_value h v items (λ w. with_object h (let y : Object = record { name = d.name.name; subtype = subtype_named h.program.scope d.subtype; value = w } in y) items))
       by_value (Gives v) suited =
           subst (λ u. IsSoundStep h (opened_in items) (with_object h (let y : Object = record { name = d.name.name; subtype = u; value = v } in y) items)) (sym x.here)
           (added h s outer laws c a items items (let y : Object = record { name = d.name.name; subtype = t; value = v } in y) (local_object_scope s d) held suited
           (λ p fits.
-          subst (λ u. Fits h.program u (inside h.program h.memory (record h.own { locals = (let y : Object = record { name = d.name.name; subtype = t; value = v } in y) ∷ h.own.locals }) p)) scope_is
+          subst (λ u. FitsScope h.program u (inside h.program h.memory (record h.own { locals = (let y : Object = record { name = d.name.name; subtype = t; value = v } in y) ∷ h.own.locals }) p)) scope_is
           (fits_declared h.program laws s (inside h.program h.memory h.own p) d.name.name (role_of d.constant) t v fits unseen x.known (object_known d.constant x.known) suited))
           (begins_ready h.program _ (local_object_scope s d) outer a items begins) refl)
       by_value (Raises y) known = raised_predefined h s outer c a items y held known leaves

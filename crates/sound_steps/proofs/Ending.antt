@@ -10,11 +10,11 @@ use Rattle.types.specs.Evaluating.{passed}
 use Rattle.stmt_rules.specs.declared.around.Around.{Around}
 use Rattle.stmt_rules.specs.StatementRules.{in_handler}
 use Rattle.meaning.specs.Programs.{Program}
-use Rattle.meaning.specs.Works.{Item, Declares, DeclaresParameter, Sequence, Does, DoesMain, Repeats, RepeatsWhile, RepeatsFor, Handles, EndsHandler, EndsCall, EndsAction, EndsServed, Queued, Completion, Completed, Pending, Target, Work, Goes, Raising, Activation, Given, Results, Raised}
+use Rattle.meaning.specs.Works.{Item, Declares, DeclaresParameter, Sequence, Does, DoesMain, Repeats, RepeatsWhile, RepeatsFor, Handles, EndsHandler, EndsCall, EndsAction, EndsServed, Queued, Completion, Completed, Pending, Target, Work, Goes, Raising, Activation, GivenToCaller, Results, Raised}
 use Rattle.meaning.specs.Targets.{activation_with}
 use Rattle.meaning.specs.Calls.{is_open, results_in, with_value_of}
 use Rattle.meaning.specs.SourceSteps.{Here, before, call_ended, call_raised, completed, completion_of, copy_step, copying, handled, handler_for, items_of, leaves, place_of, raise_step, raises, stores, with_value, works}
-use Rattle.sound_steps.specs.Objects.{AreOf, AreTargets, Comes, IsException, IsOf}
+use Rattle.sound_steps.specs.Objects.{AreOf, AreTargets, GivesOrRaises, IsException, IsOf}
 use Rattle.sound_steps.specs.Fitting.{Narrows, result_types}
 use Rattle.sound_steps.specs.Opened.{ForCall, ForCaller, IsHeld, Opened, opened_by, opened_in}
 use Rattle.sound_steps.specs.Judged.{AreResults, IsCompletion, IsWork, IsWorkOf, Judged, Leaves, Waiting}
@@ -99,7 +99,7 @@ module _ (h : Here) (s : Scope) (outer : List Waiting) (laws : Premises h.progra
   copy_sound a (n ∷ types) (v ∷ vs) (x ∷ xs) items held of targets j =
       by_value (passed x.subtype v) (passed_comes (IsOf h.program.scope x.subtype.type_number) x.subtype v (subst (λ k. IsOf h.program.scope k v) (sym targets.0) of.0))
     where
-      by_value : (r : Val Value) → Comes (IsOf h.program.scope x.subtype.type_number) r → IsSoundStep h (opened_in items) (with_value h r items (λ w. stores h x w (copying vs xs items)))
+      by_value : (r : Val Value) → GivesOrRaises (IsOf h.program.scope x.subtype.type_number) r → IsSoundStep h (opened_in items) (with_value h r items (λ w. stores h x w (copying vs xs items)))
       by_value (Gives w) suited =
           let after = after_stored h s outer laws c x w targets.1 suited in
           let own = activation_with x w h.own in
@@ -115,7 +115,7 @@ module _ (h : Here) (s : Scope) (outer : List Waiting) (laws : Premises h.progra
 
 -- ---- ends
 
-left_sound : (h : Here) (s : Scope) (w : Waiting) (outer : List Waiting) (c : Current h s (w ∷ outer)) (a : Around) (e : Effect) (opened : List Opened) (work : Work) (given : Option Given)
+left_sound : (h : Here) (s : Scope) (w : Waiting) (outer : List Waiting) (c : Current h s (w ∷ outer)) (a : Around) (e : Effect) (opened : List Opened) (work : Work) (given : Option GivenToCaller)
     → waits_after e ≡ None → IsWork h.program w.activation w.scope outer a work → IsHeld w.activation.within (opened_in (items_of work)) → Accounts h e h.memory opened (opened_in (items_of work)) given
     → WhenEnds e (IsSoundServer h.program h.memory (record { work = work; own = w.activation; callers = map waiting_activation outer })) → IsSoundStep h opened (leaves h e h.callers work given)
 left_sound h s w outer c a e opened work given running is held accounts server =
@@ -157,7 +157,7 @@ module _ (h : Here) (s : Scope) (w : Waiting) (outer : List Waiting) (c : Curren
       (held_more w.activation.within (ForCall o) (opened_in items) held) (refl, refl) tt
 
   -- the end of a served body, which gives its caller results or an exception
-  served_sound : (a : Around) (o : ℕ) (completion : Completion) (g : Given) (items : List Item) → IsCompletion h.program w.activation completion → IsHeld w.activation.within (opened_in items)
+  served_sound : (a : Around) (o : ℕ) (completion : Completion) (g : GivenToCaller) (items : List Item) → IsCompletion h.program w.activation completion → IsHeld w.activation.within (opened_in items)
       → Judged h.program w.scope outer a items → IsGiven h.program o g
       → IsSoundStep h (ForCaller o ∷ opened_in items) (leaves h (Ends (is_open h.program h.memory o)) h.callers (completed completion items) (Some g))
   served_sound a o completion g items is held j given =

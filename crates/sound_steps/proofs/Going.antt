@@ -15,23 +15,23 @@ use Rattle.well_typed.specs.Agreeing.{Agrees}
 use Rattle.well_typed.specs.Answers.{FunctionsAreSound}
 use Rattle.meaning.specs.Programs.{Program}
 use Rattle.meaning.specs.Works.{Item, Declares, DeclaresParameter, Sequence, Does, DoesMain, Repeats, RepeatsWhile, RepeatsFor, Handles, EndsHandler, EndsCall, EndsAction, EndsServed, Queued, Work, Goes, Raising, Activation, Store}
-use Rattle.meaning.specs.SourceSteps.{Here, Stepped, before, goes, items_of, place_of, raises, with_value, works}
-use Rattle.sound_steps.specs.Objects.{Comes, IsException, IsPredefinedException}
+use Rattle.meaning.specs.SourceSteps.{Here, SourceStepped, before, goes, items_of, place_of, raises, with_value, works}
+use Rattle.sound_steps.specs.Objects.{GivesOrRaises, IsException, IsPredefinedException}
 use Rattle.sound_steps.specs.Fitting.{Narrows}
 use Rattle.sound_steps.specs.Opened.{IsHeld, Opened, opened_in}
-use Rattle.sound_steps.specs.Judged.{AreLegal, IsReady, IsWorkOf, Judged, Leaves, Waiting}
-use Rattle.sound_steps.specs.Holding.{Accounts, AllFit, FitsActivation, IsSoundServer, IsSoundStep, IsSoundStore, KeepsStore, WhenEnds, waiting_activation, waits_after}
+use Rattle.sound_steps.specs.Judged.{AreFaultless, IsReady, IsWorkOf, Judged, Leaves, Waiting}
+use Rattle.sound_steps.specs.Holding.{Accounts, AllWaitingFit, FitsActivation, IsSoundServer, IsSoundStep, IsSoundStore, KeepsStore, WhenEnds, waiting_activation, waits_after}
 use Rattle.sound_steps.proofs.Raising.{exception_predefined}
 use Rattle.sound_steps.proofs.Sights.{narrows_same}
 
 -- ---- what comes
 
-pub comes_then : {A B : Type 0} (P : A → Type 0) (Q : B → Type 0) (v : Val A) (go : A → Val B) → Comes P v → ((a : A) → P a → Comes Q (go a)) → Comes Q (and_then v go)
+pub comes_then : {A B : Type 0} (P : A → Type 0) (Q : B → Type 0) (v : Val A) (go : A → Val B) → GivesOrRaises P v → ((a : A) → P a → GivesOrRaises Q (go a)) → GivesOrRaises Q (and_then v go)
 comes_then P Q (Gives a) go h f = f a h
 comes_then P Q (Raises x) go h f = h
 comes_then P Q Meaningless go h f = absurd h
 
-pub comes_weaker : {A : Type 0} (P Q : A → Type 0) (v : Val A) → Comes P v → ((a : A) → P a → Q a) → Comes Q v
+pub comes_weaker : {A : Type 0} (P Q : A → Type 0) (v : Val A) → GivesOrRaises P v → ((a : A) → P a → Q a) → GivesOrRaises Q v
 comes_weaker P Q (Gives a) h f = f a h
 comes_weaker P Q (Raises x) h f = h
 comes_weaker P Q Meaningless h f = absurd h
@@ -77,7 +77,7 @@ ready_of program own s outer a (EndsServed o names completion ∷ items) j = j
 ready_of program own s outer a (Queued q vs xs ∷ items) j = absurd j
 
 -- statements in front
-pub before_judged : (program : Program) (s : Scope) (outer : List Waiting) (a : Around) (body : StmtTrees) (items : List Item) → AreLegal s a body → Behind program s outer a items
+pub before_judged : (program : Program) (s : Scope) (outer : List Waiting) (a : Around) (body : StmtTrees) (items : List Item) → AreFaultless s a body → Behind program s outer a items
     → Behind program s outer a (before body items)
 before_judged program s outer a NoStmts items legal b = b
 before_judged program s outer a (MoreStmts x rest) items legal b =
@@ -110,7 +110,7 @@ pub record Current (h : Here) (s : Scope) (outer : List Waiting) : Type 0 where
   pub store : IsSoundStore h.program h.memory
   pub own : FitsActivation h.program h.memory s h.own
   pub callers : h.callers ≡ map waiting_activation outer
-  pub all : AllFit h.program h.memory outer
+  pub all : AllWaitingFit h.program h.memory outer
 
 -- and the items behind the first one
 pub record At (h : Here) (s : Scope) (outer : List Waiting) (a : Around) (items : List Item) : Type 0 where
@@ -189,15 +189,15 @@ module _ (h : Here) (s : Scope) (outer : List Waiting) where
     pub at_goes : At h s outer a items → IsSoundStep h (opened_in items) (goes h items)
     at_goes c = went c.current a items items c.held c.behind refl
 
-    pub at_before : At h s outer a items → (body : StmtTrees) → AreLegal s a body → IsSoundStep h (opened_in items) (goes h (before body items))
+    pub at_before : At h s outer a items → (body : StmtTrees) → AreFaultless s a body → IsSoundStep h (opened_in items) (goes h (before body items))
     at_before c body legal = went c.current a items (before body items) c.held (before_judged h.program s outer a body items legal c.behind) (opened_before body items)
 
-    pub at_value : {A : Type 0} (P : A → Type 0) → At h s outer a items → (v : Val A) (go : A → Stepped) → Comes P v → ((x : A) → P x → IsSoundStep h (opened_in items) (go x))
+    pub at_value : {A : Type 0} (P : A → Type 0) → At h s outer a items → (v : Val A) (go : A → SourceStepped) → GivesOrRaises P v → ((x : A) → P x → IsSoundStep h (opened_in items) (go x))
         → IsSoundStep h (opened_in items) (with_value h v items go)
     at_value P c (Gives x) go comes f = f x comes
     at_value P c (Raises x) go comes f = at_raised c x (comes.0, inl comes.1)
     at_value P c Meaningless go comes f = absurd comes
 
-    pub at_chosen : (b : Bool) (x y : Stepped) → (b ≡ true → IsSoundStep h (opened_in items) x) → (b ≡ false → IsSoundStep h (opened_in items) y) → IsSoundStep h (opened_in items) (cond b x y)
+    pub at_chosen : (b : Bool) (x y : SourceStepped) → (b ≡ true → IsSoundStep h (opened_in items) x) → (b ≡ false → IsSoundStep h (opened_in items) y) → IsSoundStep h (opened_in items) (cond b x y)
     at_chosen true x y f g = f refl
     at_chosen false x y f g = g refl

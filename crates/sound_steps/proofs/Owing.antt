@@ -2,16 +2,16 @@
 use Rattle.std.proofs.Common.{◌≡◌, ◌⊎◌, ℕ, List, [], ◌∷◌, Bool, true, false, inl, inr, Option, Some, refl, sym, ap, ◌∙◌, subst}
 use Rattle.kernel.specs.State.{Action, Reads, Serves, Writes}
 use Rattle.kernel.specs.Effects.{Effect, Quiet, Says, Delays, Opens, Views, Queues, Ends, Finishes, Dies, Breaks}
-use Rattle.kernel.specs.Invariant.{CanWrite, Has, Held, Passed, Tells}
-use Rattle.meaning.specs.Works.{Given, Store}
+use Rattle.kernel.specs.Invariant.{CanWrite, HasAction, IsBarrierHeld, Passed, Tells}
+use Rattle.meaning.specs.Works.{GivenToCaller, Store}
 use Rattle.meaning.specs.Calls.{is_open}
-use Rattle.meaning.specs.SourceSteps.{Here, Stepped}
+use Rattle.meaning.specs.SourceSteps.{Here, SourceStepped}
 use Rattle.sound_steps.specs.Opened.{ForCall, ForCaller, HasOpened, IsHeld, Opened, object_opened}
 use Rattle.sound_steps.specs.Holding.{Accounts, IsSoundStep}
 use Rattle.sound_steps.specs.Laws.{BarriersAreOwn, EffectsPass, Matches}
 
 -- an object that is held open is one whose action may write
-writes : (actions : List Action) (opened : List Opened) (o : ℕ) → Matches actions opened → HasOpened o opened → Has (CanWrite o) actions
+writes : (actions : List Action) (opened : List Opened) (o : ℕ) → Matches actions opened → HasOpened o opened → HasAction (CanWrite o) actions
 writes [] [] o m has = absurd has
 writes [] (x ∷ opened) o m has = absurd m
 writes (a ∷ actions) [] o m has = absurd has
@@ -38,7 +38,7 @@ tells barrier b (Writes o ∷ actions) (ForCaller p) after m is = absurd m
 tells barrier b (Serves o u ∷ actions) (ForCall p) after m is = absurd m
 tells barrier b (Reads o ∷ actions) x after m is = absurd m
 
-passes : (h : Here) (m : Store) (e : Effect) (opened after : List Opened) (given : Option Given) → Matches (h.kernel.actions h.task) opened → Accounts h e m opened after given
+passes : (h : Here) (m : Store) (e : Effect) (opened after : List Opened) (given : Option GivenToCaller) → Matches (h.kernel.actions h.task) opened → Accounts h e m opened after given
     → Passed (is_open h.program m) h.kernel h.task e
 passes h m Quiet opened after given match is = tt
 passes h m (Says label value) opened after given match is = tt
@@ -51,12 +51,12 @@ passes h m Finishes opened after given match is = outside (h.kernel.actions h.ta
 passes h m (Dies x) opened after given match is = tt
 passes h m Breaks opened after given match is = absurd is
 
-holds : (h : Here) (opened : List Opened) (x : Stepped) → BarriersAreOwn h.program → Matches (h.kernel.actions h.task) opened → IsHeld h.own.within opened → IsSoundStep h opened x
-    → Held (is_open h.program h.memory) (is_open h.program x.solo.memory) h.kernel h.task
+holds : (h : Here) (opened : List Opened) (x : SourceStepped) → BarriersAreOwn h.program → Matches (h.kernel.actions h.task) opened → IsHeld h.own.within opened → IsSoundStep h opened x
+    → IsBarrierHeld (is_open h.program h.memory) (is_open h.program x.solo.memory) h.kernel h.task
 holds h opened x own match held sound o = by_change (sound.store.own o)
   where
     by_change : (x.solo.memory.components o ≡ h.memory.components o) ⊎ (h.own.within ≡ Some o)
-        → (is_open h.program x.solo.memory o ≡ is_open h.program h.memory o) ⊎ Has (CanWrite o) (h.kernel.actions h.task)
+        → (is_open h.program x.solo.memory o ≡ is_open h.program h.memory o) ⊎ HasAction (CanWrite o) (h.kernel.actions h.task)
     by_change (inl same) = inl (own o h.memory x.solo.memory same)
     by_change (inr within) = inr (writes (h.kernel.actions h.task) opened o match (subst (λ w. IsHeld w opened) within held))
 

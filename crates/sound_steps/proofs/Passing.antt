@@ -30,7 +30,7 @@ use Rattle.meaning.specs.Works.{Activation, Home, InActivation, InPackage, InObj
 use Rattle.meaning.specs.Targets.{named_target, objects_of, part_value, target, target_value, value_in}
 use Rattle.meaning.specs.Calls.{Actuals, actual, actual_expression, actuals, copied_both, copied_in, copied_out, value_or_nothing, with_actuals}
 use Rattle.meaning.specs.SourceSteps.{Here, evaluate, place_of}
-use Rattle.sound_steps.specs.Objects.{AreOf, AreSoundObjects, AreTargets, Comes, IsOf, IsPartIn, IsReached, IsTarget, subtype_in}
+use Rattle.sound_steps.specs.Objects.{AreOf, AreSoundObjects, AreTargets, GivesOrRaises, IsOf, IsPartIn, IsReached, IsTarget, subtype_in}
 use Rattle.sound_steps.specs.Fitting.{formal_of, result_types, taken_types}
 use Rattle.sound_steps.specs.Judged.{Waiting}
 use Rattle.sound_steps.specs.Laws.{Premises}
@@ -140,7 +140,7 @@ module _ (h : Here) (s : Scope) (outer : List Waiting) (a : Around) (items : Lis
 
   -- an actual for `out` or `in out` names a target of the type of the formal
   variable_comes : (e : ExprTree) (n : ℕ) → faults_in s (OfType n) e ++ actual_rule s (OfType n) e ≡ []
-      → Comes (λ x. (x.subtype.type_number ≡ n) × IsPartIn h.program.scope (objects_at (place_of h items) x.home) x × IsTarget h.program h.own x) (named_target (place_of h items) e)
+      → GivesOrRaises (λ x. (x.subtype.type_number ≡ n) × IsPartIn h.program.scope (objects_at (place_of h items) x.home) x × IsTarget h.program h.own x) (named_target (place_of h items) e)
   variable_comes (Named first selectors) n legal =
       comes_weaker (λ x. IsNamedTarget s (place_of h items) w x × IsReached h.own.within x.home)
       (λ x. (x.subtype.type_number ≡ n) × IsPartIn h.program.scope (objects_at (place_of h items) x.home) x × IsTarget h.program h.own x) (target (place_of h items) first.name selectors)
@@ -172,7 +172,7 @@ module _ (h : Here) (s : Scope) (outer : List Waiting) (a : Around) (items : Lis
 
   -- one actual, by the mode of its formal
   in_comes : (name : List ℕ) (t : Subtype) (e : ExprTree) → IsKnown s t → faults_of s (OfType t.type_number) e ≡ []
-      → Comes (OneFits h.program h.own (record { name = name; mode = mode.In; subtype = t })) (actual_expression (place_of h items) h.memory h.own (record { name = name; mode = mode.In; subtype = t }) e)
+      → GivesOrRaises (OneFits h.program h.own (record { name = name; mode = mode.In; subtype = t })) (actual_expression (place_of h items) h.memory h.own (record { name = name; mode = mode.In; subtype = t }) e)
   in_comes name t e known legal =
       comes_then (IsOf h.program.scope t.type_number) (OneFits h.program h.own (record { name = name; mode = mode.In; subtype = t })) (and_then (evaluate h items e) (passed t)) copied_in
       (comes_then (IsOf h.program.scope t.type_number) (IsOf h.program.scope t.type_number) (evaluate h items e) (passed t) (value_comes h s outer laws c items e t.type_number known legal)
@@ -180,14 +180,14 @@ module _ (h : Here) (s : Scope) (outer : List Waiting) (a : Around) (items : Lis
       (λ v i fs rest others. ((i, others.0), others.1))
 
   out_comes : (name : List ℕ) (t : Subtype) (e : ExprTree) → faults_in s (OfType t.type_number) e ++ actual_rule s (OfType t.type_number) e ≡ []
-      → Comes (OneFits h.program h.own (record { name = name; mode = mode.Out; subtype = t })) (actual_expression (place_of h items) h.memory h.own (record { name = name; mode = mode.Out; subtype = t }) e)
+      → GivesOrRaises (OneFits h.program h.own (record { name = name; mode = mode.Out; subtype = t })) (actual_expression (place_of h items) h.memory h.own (record { name = name; mode = mode.Out; subtype = t }) e)
   out_comes name t e legal =
       comes_then (λ x. (x.subtype.type_number ≡ t.type_number) × IsPartIn h.program.scope (objects_at (place_of h items) x.home) x × IsTarget h.program h.own x)
       (OneFits h.program h.own (record { name = name; mode = mode.Out; subtype = t })) (named_target (place_of h items) e) copied_out (variable_comes e t.type_number legal)
       (λ x f fs rest others. (others.0, (f.0, f.2, others.1)))
 
   both_comes : (name : List ℕ) (t : Subtype) (e : ExprTree) → faults_in s (OfType t.type_number) e ++ actual_rule s (OfType t.type_number) e ≡ []
-      → Comes (OneFits h.program h.own (record { name = name; mode = mode.InOut; subtype = t })) (actual_expression (place_of h items) h.memory h.own (record { name = name; mode = mode.InOut; subtype = t }) e)
+      → GivesOrRaises (OneFits h.program h.own (record { name = name; mode = mode.InOut; subtype = t })) (actual_expression (place_of h items) h.memory h.own (record { name = name; mode = mode.InOut; subtype = t }) e)
   both_comes name t e legal =
       comes_then (λ x. (x.subtype.type_number ≡ t.type_number) × IsPartIn h.program.scope (objects_at (place_of h items) x.home) x × IsTarget h.program h.own x)
       (OneFits h.program h.own (record { name = name; mode = mode.InOut; subtype = t })) (named_target (place_of h items) e)
@@ -196,15 +196,15 @@ module _ (h : Here) (s : Scope) (outer : List Waiting) (a : Around) (items : Lis
     where
       with_value : (x : Target) → (f : (x.subtype.type_number ≡ t.type_number) × IsPartIn h.program.scope (objects_at (place_of h items) x.home) x × IsTarget h.program h.own x)
           → ((w : Value) × (target_value x h.memory h.own ≡ Some w) × (IsOf h.program.scope x.subtype.type_number w))
-          → Comes (OneFits h.program h.own (record { name = name; mode = mode.InOut; subtype = t })) (and_then (and_then (value_or_nothing (target_value x h.memory h.own)) (passed t)) (copied_both x))
+          → GivesOrRaises (OneFits h.program h.own (record { name = name; mode = mode.InOut; subtype = t })) (and_then (and_then (value_or_nothing (target_value x h.memory h.own)) (passed t)) (copied_both x))
       with_value x f w =
-          subst (λ o. Comes (OneFits h.program h.own (record { name = name; mode = mode.InOut; subtype = t })) (and_then (and_then (value_or_nothing o) (passed t)) (copied_both x))) (sym w.1)
+          subst (λ o. GivesOrRaises (OneFits h.program h.own (record { name = name; mode = mode.InOut; subtype = t })) (and_then (and_then (value_or_nothing o) (passed t)) (copied_both x))) (sym w.1)
           (comes_then (IsOf h.program.scope t.type_number) (OneFits h.program h.own (record { name = name; mode = mode.InOut; subtype = t })) (passed t w.0) (copied_both x)
           (passed_comes (IsOf h.program.scope t.type_number) t w.0 (subst (λ k. IsOf h.program.scope k w.0) f.0 w.2))
           (λ v i fs rest others. ((i, others.0), (f.0, f.2, others.1))))
 
   expression_comes : (name : List ℕ) (m : Mode) (t : Subtype) (e : ExprTree) → IsKnown s t → argument_faults s (formal_slot (record { mode = m; subtype = t })) (tree.Value e) ≡ []
-      → Comes (OneFits h.program h.own (record { name = name; mode = m; subtype = t })) (actual_expression (place_of h items) h.memory h.own (record { name = name; mode = m; subtype = t }) e)
+      → GivesOrRaises (OneFits h.program h.own (record { name = name; mode = m; subtype = t })) (actual_expression (place_of h items) h.memory h.own (record { name = name; mode = m; subtype = t }) e)
   expression_comes name mode.In t e known legal = in_comes name t e known legal
   expression_comes name mode.Out t e known legal = out_comes name t e legal
   expression_comes name mode.InOut t e known legal = both_comes name t e legal
@@ -214,14 +214,14 @@ module _ (h : Here) (s : Scope) (outer : List Waiting) (a : Around) (items : Lis
   no_label mode.Out t label place legal = cc
   no_label mode.InOut t label place legal = cc
 
-  actual_comes : (f : Parameter) (x : ArgumentTree) → IsKnown s f.subtype → argument_faults s (formal_slot (formal_of f)) x ≡ [] → Comes (OneFits h.program h.own f) (actual (place_of h items) h.memory h.own f x)
+  actual_comes : (f : Parameter) (x : ArgumentTree) → IsKnown s f.subtype → argument_faults s (formal_slot (formal_of f)) x ≡ [] → GivesOrRaises (OneFits h.program h.own f) (actual (place_of h items) h.memory h.own f x)
   actual_comes f (tree.Value e) known legal = expression_comes f.name f.mode f.subtype e known legal
   actual_comes f (Text label place) known legal = absurd (no_label f.mode f.subtype label place legal)
 
   -- all of them, from the one with this number on
   pub actuals_come : (w : Standing) (formals : List FormalParameter) → ((k : ℕ) (f : FormalParameter) → slice_get formals k ≡ Some f → slot_at s w k ≡ formal_slot f) → (k : ℕ) (fs : List Parameter)
       → (args : ArgumentTrees) → Indexed formals k (map formal_of fs) → AreKnown s (map formal_of fs) → count args ≡ length fs → arguments_faults s w k args ≡ []
-      → Comes (ActualsFit h.program h.own fs) (actuals (place_of h items) h.memory h.own fs args)
+      → GivesOrRaises (ActualsFit h.program h.own fs) (actuals (place_of h items) h.memory h.own fs args)
   actuals_come w formals slots k [] NoArguments at_k known counted legal = (tt, tt)
   actuals_come w formals slots k (f ∷ fs) (MoreArguments x rest) at_k known counted legal =
       let own = argument_faults s (slot_at s w k) x in

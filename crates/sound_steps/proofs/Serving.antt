@@ -3,7 +3,7 @@ use Rattle.std.proofs.Common.{◌≡◌, ℕ, List, ◌∷◌, None, inl, refl, 
 use Rattle.types.specs.Scopes.{Scope}
 use Rattle.stmt_rules.specs.declared.around.Around.{Around}
 use Rattle.meaning.specs.Programs.{Program}
-use Rattle.meaning.specs.Works.{Item, EndsServed, Queued, Work, Goes, Activation, Given, Results, Raised, Store, TaskWork}
+use Rattle.meaning.specs.Works.{Item, EndsServed, Queued, Work, Goes, Activation, GivenToCaller, Results, Raised, Store, TaskWork}
 use Rattle.meaning.specs.Calls.{activation_of, body_items, results}
 use Rattle.meaning.specs.SourceSteps.{completion_of, items_of, received, serves}
 use Rattle.sound_steps.specs.Objects.{AreOf}
@@ -65,7 +65,7 @@ servers_are_sound program m o caller t store task server = served program m o ca
 
 -- ---- a caller goes on
 
-received_work : (program : Program) (o : ℕ) (own : Activation) (s : Scope) (outer : List Waiting) (a : Around) (g : Given) (w : Work) → IsQueuedWork program o own s outer a w → IsGiven program o g
+received_work : (program : Program) (o : ℕ) (own : Activation) (s : Scope) (outer : List Waiting) (a : Around) (g : GivenToCaller) (w : Work) → IsQueuedWork program o own s outer a w → IsGiven program o g
     → IsWork program own s outer a (received g w)
 received_work program o own s outer a (Results vs) (Goes (Queued q given xs ∷ items)) is of =
     let same : of.0 ≡ q = same_some of.0 q (sym of.1 ∙ is.0.only) in
@@ -73,7 +73,7 @@ received_work program o own s outer a (Results vs) (Goes (Queued q given xs ∷ 
 received_work program o own s outer a (Raised x) (Goes (Queued q given xs ∷ items)) is known = (known, leaves_of program s outer a items (s, narrows_same program s, is.1))
 received_work program o own s outer a g w is of = absurd is
 
-received_held : (program : Program) (o : ℕ) (own : Activation) (s : Scope) (outer : List Waiting) (a : Around) (g : Given) (w : Work) → IsQueuedWork program o own s outer a w
+received_held : (program : Program) (o : ℕ) (own : Activation) (s : Scope) (outer : List Waiting) (a : Around) (g : GivenToCaller) (w : Work) → IsQueuedWork program o own s outer a w
     → opened_in (items_of (received g w)) ≡ opened_in (items_of w)
 received_held program o own s outer a (Results vs) (Goes (Queued q given xs ∷ items)) is = opened_copying vs xs items
 received_held program o own s outer a (Raised x) (Goes (Queued q given xs ∷ items)) is = refl

@@ -17,7 +17,7 @@ use Rattle.well_typed.specs.SoundScopes.{IsKnown, IsSoundObject, SoundScope}
 use Rattle.well_typed.specs.Agreeing.{Agrees}
 use Rattle.meaning.specs.Programs.{Program}
 use Rattle.sound_steps.specs.Objects.{IsOf, object_subtype, subtype_in}
-use Rattle.sound_steps.specs.Fitting.{Fits, IsFound, Narrows, entity_named, is_result}
+use Rattle.sound_steps.specs.Fitting.{FitsScope, IsFound, Narrows, entity_named, is_result}
 use Rattle.sound_steps.specs.Judged.{turn_scope}
 use Rattle.sound_steps.specs.Laws.{Premises}
 use Rattle.sound_steps.proofs.Lookups.{bytes_turned, named_added, named_behind, object_behind, object_in_front, same_bytes, unseen_nothing}
@@ -65,9 +65,9 @@ subtype_found : (x : Object) (o : Option Object) → o ≡ Some x → option_map
 subtype_found x o h = ap (option_map object_subtype) h
 
 module _ (program : Program) where
-  fits_with : (s : Scope) (p : Place) (x : Object) (r : Role) (t : Subtype) → Fits program s p → is_visible s x.name ≡ false
+  fits_with : (s : Scope) (p : Place) (x : Object) (r : Role) (t : Subtype) → FitsScope program s p → is_visible s x.name ≡ false
       → Agrees (with_name s x.name (entity.Object r t)) (record p { locals = x ∷ p.locals }) → (is_result r ≡ true → x.subtype ≡ t)
-      → Fits program (with_name s x.name (entity.Object r t)) (record p { locals = x ∷ p.locals })
+      → FitsScope program (with_name s x.name (entity.Object r t)) (record p { locals = x ∷ p.locals })
   fits_with s p x r t fits unseen agrees same = record { agrees = agrees; finds = finds; results = results }
     where
       finds : (other : List ℕ) (e : Entity) → entity_named (with_name s x.name (entity.Object r t)) other ≡ Some e → IsFound program p.within other e
@@ -88,22 +88,22 @@ module _ (program : Program) where
                 ∙ ap Some (same (ap is_result (ap (role_or r) k.1) ∙ result) ∙ ap (subtype_or t) k.1)
           ]
 
-  pub fits_declared : Premises program → (s : Scope) (p : Place) (name : List ℕ) (r : Role) (t : Subtype) (v : Value) → Fits program s p → is_visible s name ≡ false → IsKnown s t
+  pub fits_declared : Premises program → (s : Scope) (p : Place) (name : List ℕ) (r : Role) (t : Subtype) (v : Value) → FitsScope program s p → is_visible s name ≡ false → IsKnown s t
       → IsSoundObject s r t → IsOf p.scope t.type_number v
-      → Fits program (with_name s name (entity.Object r t)) (record p { locals = (let x : Object = record { name = name; subtype = t; value = v } in x) ∷ p.locals })
+      → FitsScope program (with_name s name (entity.Object r t)) (record p { locals = (let x : Object = record { name = name; subtype = t; value = v } in x) ∷ p.locals })
   fits_declared laws s p name r t v fits unseen known object suited =
       let x : Object = record { name = name; subtype = t; value = v } in
       fits_with s p x r t fits unseen (laws.kept.declared s p name r t v fits.agrees unseen object (subtype_values s t v ∙ value_there s p fits.agrees t.type_number known v suited)) (λ h. refl)
 
-  pub fits_turn : Premises program → (s : Scope) (p : Place) (name : List ℕ) (n : ℕ) (z : ℤ) → Fits program s p → is_visible s name ≡ false → is_integers (form_at s n) ≡ true
-      → Fits program (turn_scope s name n) (record p { locals = (let x : Object = record { name = name; subtype = integer; value = Number z } in x) ∷ p.locals })
+  pub fits_turn : Premises program → (s : Scope) (p : Place) (name : List ℕ) (n : ℕ) (z : ℤ) → FitsScope program s p → is_visible s name ≡ false → is_integers (form_at s n) ≡ true
+      → FitsScope program (turn_scope s name n) (record p { locals = (let x : Object = record { name = name; subtype = integer; value = Number z } in x) ∷ p.locals })
   fits_turn laws s p name n z fits unseen integers =
       let x : Object = record { name = name; subtype = integer; value = Number z } in
       fits_with s p x role.LoopParameter (base_range_of n) fits unseen (laws.kept.parameter s p name n z fits.agrees unseen integers) (λ h. cc)
 
   -- ---- fewer names
 
-  pub fits_fewer : Premises program → (s t : Scope) (p : Place) → StandsFirst s t → SoundScope s → Fits program t p → Fits program s p
+  pub fits_fewer : Premises program → (s t : Scope) (p : Place) → StandsFirst s t → SoundScope s → FitsScope program t p → FitsScope program s p
   fits_fewer laws s t p first sound fits =
       record {
         agrees = laws.kept.narrowed s t p first sound fits.agrees;
@@ -119,7 +119,7 @@ module _ (program : Program) where
 
   -- ---- another store or other objects of the activation
 
-  pub fits_changed : (s : Scope) (p q : Place) → Fits program s p → p.within ≡ q.within → ((name : List ℕ) → subtype_in q.locals name ≡ subtype_in p.locals name) → Agrees s q → Fits program s q
+  pub fits_changed : (s : Scope) (p q : Place) → FitsScope program s p → p.within ≡ q.within → ((name : List ℕ) → subtype_in q.locals name ≡ subtype_in p.locals name) → Agrees s q → FitsScope program s q
   fits_changed s p q fits same locals agrees =
       record {
         agrees = agrees;

@@ -45,9 +45,9 @@ use Rattle.meaning.specs.Programs.{Program, exception_number}
 use Rattle.meaning.specs.Works.{Item, Declares, Sequence, Does, Goes, Home, InActivation, InPackage, InObject, Part, Target}
 use Rattle.meaning.specs.Targets.{activation_with, objects_of, target}
 use Rattle.meaning.specs.SourceSteps.{Here, alternative, alternative_for, assign, before, behind_loop, condition, delay_until, end_of_body, evaluate, goes, otherwise, place_of, raise_named, raise_number, raises_predefined, some_chosen, statement_step, stores, with_value}
-use Rattle.sound_steps.specs.Objects.{Comes, IsException, IsOf, IsReached, IsTarget, first_store, subtype_in}
+use Rattle.sound_steps.specs.Objects.{GivesOrRaises, IsException, IsOf, IsReached, IsTarget, first_store, subtype_in}
 use Rattle.sound_steps.specs.Opened.{IsHeld, opened_in}
-use Rattle.sound_steps.specs.Judged.{AreLegal, AreLegalHandlers, Begins, IsLegal, Leaves, Waiting}
+use Rattle.sound_steps.specs.Judged.{AreFaultless, AreFaultlessHandlers, Begins, IsFaultless, Leaves, Waiting}
 use Rattle.sound_steps.specs.Holding.{IsSoundStep}
 use Rattle.sound_steps.specs.Laws.{Premises}
 use Rattle.sound_steps.proofs.Aiming.{IsNamedTarget, NamesTarget, objects_at, names_target}
@@ -75,10 +75,10 @@ opened_block (d ∷ ds) body all items = opened_block ds body all items
 -- ---- alternatives
 
 abbrev IsLegalBody : Scope → Around → Option StmtTrees → Type 0
-IsLegalBody s a (Some body) = AreLegal s a body
+IsLegalBody s a (Some body) = AreFaultless s a body
 IsLegalBody s a None = ⊥
 
-chosen_legal : (s : Scope) (a : Around) (b : Bool) (body : StmtTrees) (o : Option StmtTrees) → AreLegal s a body → IsLegalBody s a o → IsLegalBody s a (cond b (Some body) o)
+chosen_legal : (s : Scope) (a : Around) (b : Bool) (body : StmtTrees) (o : Option StmtTrees) → AreFaultless s a body → IsLegalBody s a o → IsLegalBody s a (cond b (Some body) o)
 chosen_legal s a true body o legal other = legal
 chosen_legal s a false body o legal other = other
 
@@ -136,7 +136,7 @@ number_known program name x h = by_place (position (bytes_eq name) program.excep
 
 -- ---- targets
 
-pub target_comes : (s : Scope) (p : Place) (w : Standing) (v : Val Target) → RaisesPredefined v → IsReachedBy p.within v → NamesTarget s p w v → Comes (λ x. IsNamedTarget s p w x × IsReached p.within x.home) v
+pub target_comes : (s : Scope) (p : Place) (w : Standing) (v : Val Target) → RaisesPredefined v → IsReachedBy p.within v → NamesTarget s p w v → GivesOrRaises (λ x. IsNamedTarget s p w x × IsReached p.within x.home) v
 target_comes s p w (Gives x) known reached h = (h, reached)
 target_comes s p w (Raises x) known reached h = known
 target_comes s p w Meaningless known reached h = h
@@ -204,7 +204,7 @@ module _ (h : Here) (s : Scope) (outer : List Waiting) (a : Around) (items : Lis
       subst (λ w. IsSoundStep h (opened_in items) (delay_until h items w)) (sym z.1)
       (worked h s outer c a (Delays z.0) (Goes items) (opened_in items) at.behind.0 at.behind.1 (ready_of h.program h.own at.behind.0 outer a items at.behind.2) (refl, refl, outside) at.held tt)))
 
-  if_sound : (place : ℕ) (e : ExprTree) (body : StmtTrees) (elsifs : ElsifTrees) (others : StmtTrees) → IsLegal s a (statements.If place e body elsifs others)
+  if_sound : (place : ℕ) (e : ExprTree) (body : StmtTrees) (elsifs : ElsifTrees) (others : StmtTrees) → IsFaultless s a (statements.If place e body elsifs others)
       → IsSoundStep h (opened_in items) (statement_step h (statements.If place e body elsifs others) items)
   if_sound place e body elsifs others legal =
       at_value h s outer a items (λ b. Unit {0}) at (condition h items e) (λ holds. goes h (cond holds (before body items) (otherwise place elsifs others items)))
@@ -231,7 +231,7 @@ module _ (h : Here) (s : Scope) (outer : List Waiting) (a : Around) (items : Lis
       further : (rest : ElsifTrees) → elsifs_faults s a rest ≡ [] → profile.elsifs_faults rest ≡ [] → IsSoundStep h (opened_in items) (goes h (otherwise place rest others items))
       further NoElsifs none plain = at_before h s outer a items at others (of_others, plain_others)
       further (MoreElsifs d then_part rest) none plain =
-          let again : IsLegal s a (statements.If place d then_part rest others) =
+          let again : IsFaultless s a (statements.If place d then_part rest others) =
           (ap (λ l. l ++ stmts_faults s a others) none ∙ of_others, ap (λ l. l ++ profile.stmts_faults others) plain ∙ plain_others)
           in
           went h s outer c a items (Does (statements.If place d then_part rest others) ∷ items) at.held (s, narrows_same h.program s, (again, at.behind.0, at.behind.1, at.behind.2)) refl
@@ -242,7 +242,7 @@ module _ (h : Here) (s : Scope) (outer : List Waiting) (a : Around) (items : Lis
       by_test false =
           further elsifs (back_empty (condition_faults s e ++ stmts_faults s a body) (elsifs_faults s a elsifs) three) (back_empty (profile.stmts_faults body) (profile.elsifs_faults elsifs) plain_two)
 
-  case_sound : (place : ℕ) (e : ExprTree) (all : AlternativeTrees) → IsLegal s a (statements.Case place e all)
+  case_sound : (place : ℕ) (e : ExprTree) (all : AlternativeTrees) → IsFaultless s a (statements.Case place e all)
       → IsSoundStep h (opened_in items) (statement_step h (statements.Case place e all) items)
   case_sound place e all legal =
       let listed = alternatives_faults s a (choices_wanted s (own_of s e)) [] all in
@@ -261,7 +261,7 @@ module _ (h : Here) (s : Scope) (outer : List Waiting) (a : Around) (items : Lis
   -- ---- blocks
 
   block_begins : (t : Scope) (ds : List DeclarationTree) (body : StmtTrees) (all : HandlerTrees) → StandsFirst s t → locals_faults t ds ≡ [] → profile.locals_faults ds ≡ []
-      → AreLegal (locals_scope t ds) a body → AreLegalHandlers (locals_scope t ds) a all → Begins h.program t outer a (map Declares ds ++ Sequence body all ∷ items)
+      → AreFaultless (locals_scope t ds) a body → AreFaultlessHandlers (locals_scope t ds) a all → Begins h.program t outer a (map Declares ds ++ Sequence body all ∷ items)
   block_begins t [] body all first legal plain l m =
       (l, m, at.behind.0, narrows_then h.program t s at.behind.0 (λ p fits. fits_fewer h.program laws s t p first (agrees_here h s outer c items).sound fits) at.behind.1, at.behind.2)
   block_begins t (d ∷ ds) body all first legal plain l m =
@@ -276,7 +276,7 @@ module _ (h : Here) (s : Scope) (outer : List Waiting) (a : Around) (items : Lis
             (leaves_of h.program t outer a items (at.behind.0, narrows_then h.program t s at.behind.0 (λ p fits. fits_fewer h.program laws s t p first (agrees_here h s outer c items).sound fits) at.behind.1, at.behind.2)),
       )
 
-  block_sound : (place : ℕ) (ds : List DeclarationTree) (body : StmtTrees) (all : HandlerTrees) → IsLegal s a (statements.Block place ds body all)
+  block_sound : (place : ℕ) (ds : List DeclarationTree) (body : StmtTrees) (all : HandlerTrees) → IsFaultless s a (statements.Block place ds body all)
       → IsSoundStep h (opened_in items) (goes h (map Declares ds ++ Sequence body all ∷ items))
   block_sound place ds body all legal =
       let inner = locals_scope s ds in
@@ -335,7 +335,7 @@ module _ (h : Here) (s : Scope) (outer : List Waiting) (a : Around) (items : Lis
 
   -- ---- all statements but calls
 
-  pub statement_sound : (x : StmtTree) → IsLegal s a x → ((name : NameTree) → x ≡ statements.Call name → IsSoundStep h (opened_in items) (statement_step h (statements.Call name) items))
+  pub statement_sound : (x : StmtTree) → IsFaultless s a x → ((name : NameTree) → x ≡ statements.Call name → IsSoundStep h (opened_in items) (statement_step h (statements.Call name) items))
       → IsSoundStep h (opened_in items) (statement_step h x items)
   statement_sound (statements.Null place) legal calls = at_goes h s outer a items at
   statement_sound (statements.Assignment name e) legal calls = assign_sound name e legal.0

@@ -11,7 +11,7 @@ use Rattle.meaning.specs.Works.{Item, Declares, DeclaresParameter, Sequence, Doe
 use Rattle.meaning.specs.Calls.{Actuals}
 use Rattle.meaning.specs.SourceSteps.{Here, before, goes, here_of, item_step, items_of, main_call, main_step, work_step}
 use Rattle.sound_steps.specs.Opened.{IsHeld, opened_in}
-use Rattle.sound_steps.specs.Judged.{AreLegal, AreLegalHandlers, IsMainStatement, IsReady, IsWork, Waiting}
+use Rattle.sound_steps.specs.Judged.{AreFaultless, AreFaultlessHandlers, IsMainStatement, IsReady, IsWork, Waiting}
 use Rattle.sound_steps.specs.Holding.{IsSoundStep}
 use Rattle.sound_steps.specs.Laws.{Premises, StepsAreSound}
 use Rattle.sound_steps.proofs.Sights.{narrows_same}
@@ -37,7 +37,7 @@ module _ (h : Here) (s : Scope) (outer : List Waiting) (laws : Premises h.progra
       (plain_sound h s outer a items laws at q x (c.store.procedures here.owner name.name q here.is) fit (held_here None q.object (opened_in items) here.place tt))
 
   -- a sequence of statements begins
-  sequence_sound : (body : StmtTrees) (all : HandlerTrees) (items : List Item) → IsHeld h.own.within (opened_in items) → AreLegal s a body → AreLegalHandlers s a all → Behind h.program s outer a items
+  sequence_sound : (body : StmtTrees) (all : HandlerTrees) (items : List Item) → IsHeld h.own.within (opened_in items) → AreFaultless s a body → AreFaultlessHandlers s a all → Behind h.program s outer a items
       → IsSoundStep h (opened_in items) (goes h (before body (Handles all ∷ items)))
   sequence_sound body all items held legal handlers b =
       let behind : Behind h.program s outer a (Handles all ∷ items) = (s, narrows_same h.program s, (handlers, b.0, b.1, b.2)) in

@@ -20,7 +20,7 @@ use Rattle.sound_steps.specs.Objects.{AreSoundObjects, AreTargets, IsOf, IsReach
 use Rattle.sound_steps.specs.Fitting.{Narrows}
 use Rattle.sound_steps.specs.Opened.{IsHeld, opened_in}
 use Rattle.sound_steps.specs.Judged.{IsWork, Waiting}
-use Rattle.sound_steps.specs.Holding.{AllFit, FitsActivation, FitsIn, IsSoundProcedure, IsSoundStep, IsSoundStore, KeepsStore, SameObjects, inside, seen}
+use Rattle.sound_steps.specs.Holding.{AllWaitingFit, FitsActivation, FitsIn, IsSoundProcedure, IsSoundStep, IsSoundStore, KeepsStore, SameObjects, inside, seen}
 use Rattle.sound_steps.specs.Laws.{Premises}
 use Rattle.sound_steps.proofs.Aiming.{part_changed}
 use Rattle.sound_steps.proofs.Lookups.{same_bytes, same_some}
@@ -38,7 +38,7 @@ module _ (program : Program) (before after : Store) (agreement : (s : Scope) (p 
   pub activation_after : (s : Scope) (a : Activation) → FitsActivation program before s a → FitsActivation program after s a
   activation_after s a f = record { fits = fits_after s a f.fits; locals = f.locals }
 
-  pub all_after : (outer : List Waiting) → AllFit program before outer → AllFit program after outer
+  pub all_after : (outer : List Waiting) → AllWaitingFit program before outer → AllWaitingFit program after outer
   all_after [] all = tt
   all_after (w ∷ outer) all = (activation_after w.scope w.activation all.0, all_after outer all.1)
 
@@ -161,7 +161,7 @@ targets_moved program a b within same (n ∷ types) [] h = absurd h
 pub record After (h : Here) (s : Scope) (outer : List Waiting) (m : Store) (a : Activation) : Type 0 where
   pub keeps : KeepsStore h.program h.own.within h.memory m
   pub own : FitsActivation h.program m s a
-  pub all : AllFit h.program m outer
+  pub all : AllWaitingFit h.program m outer
   pub within : h.own.within ≡ a.within
   pub locals : (n : List ℕ) → subtype_in a.locals n ≡ subtype_in h.own.locals n
 

@@ -27,10 +27,10 @@ use Rattle.ravenscar.specs.BodyRules as profile
 use Rattle.meaning.specs.Programs.{Program}
 use Rattle.meaning.specs.Works.{Item, EndsAction, Repeats, RepeatsWhile, RepeatsFor, Activation}
 use Rattle.meaning.specs.SourceSteps.{Here, before, begin_loop, condition, evaluate, for_range, for_turn, goes, next_number, next_turn, number_computed, while_turn, with_object, with_value}
-use Rattle.sound_steps.specs.Objects.{Comes, IsOf}
-use Rattle.sound_steps.specs.Fitting.{Fits, Narrows}
+use Rattle.sound_steps.specs.Objects.{GivesOrRaises, IsOf}
+use Rattle.sound_steps.specs.Fitting.{FitsScope, Narrows}
 use Rattle.sound_steps.specs.Opened.{IsHeld, opened_in}
-use Rattle.sound_steps.specs.Judged.{AreLegal, Begins, IsLoopParameter, IsReady, Judged, Waiting, turn_scope}
+use Rattle.sound_steps.specs.Judged.{AreFaultless, Begins, IsLoopParameter, IsReady, Judged, Waiting, turn_scope}
 use Rattle.sound_steps.specs.Holding.{IsSoundStep, inside}
 use Rattle.sound_steps.specs.Laws.{Premises}
 use Rattle.sound_steps.proofs.Sights.{fits_fewer, fits_turn, narrows_same, narrows_then}
@@ -49,7 +49,7 @@ begins_ready program own s outer a items b = b
 module _ (h : Here) (s : Scope) (outer : List Waiting) (laws : Premises h.program) (c : Current h s outer) where
   -- an object in front
   pub added : (a : Around) (items next : List Item) (x : Object) (later : Scope) → IsHeld h.own.within (opened_in items) → IsOf h.program.scope x.subtype.type_number x.value
-      → ((p : Place) → Fits h.program s (inside h.program h.memory h.own p) → Fits h.program later (inside h.program h.memory (record h.own { locals = x ∷ h.own.locals }) p))
+      → ((p : Place) → FitsScope h.program s (inside h.program h.memory h.own p) → FitsScope h.program later (inside h.program h.memory (record h.own { locals = x ∷ h.own.locals }) p))
       → IsReady h.program (record h.own { locals = x ∷ h.own.locals }) later outer a next → opened_in next ≡ opened_in items → IsSoundStep h (opened_in items) (with_object h x next)
   added a items next x later held suited fits ready same =
       record {
@@ -73,7 +73,7 @@ module _ (h : Here) (s : Scope) (outer : List Waiting) (laws : Premises h.progra
 
   -- a turn of a loop over a range
   pub turn_sound : (a : Around) (items : List Item) (parameter : List ℕ) (reversed : Bool) (now last : ℤ) (body : StmtTrees) (outside : Scope) (n : ℕ) (b : Bool)
-      → IsHeld h.own.within (opened_in items) → Narrows h.program s outside → IsLoopParameter outside parameter n → AreLegal (turn_scope outside parameter n) (in_loop a) body
+      → IsHeld h.own.within (opened_in items) → Narrows h.program s outside → IsLoopParameter outside parameter n → AreFaultless (turn_scope outside parameter n) (in_loop a) body
       → Narrows h.program (turn_scope outside parameter n) outside → Behind h.program outside outer (record a { in_loop = b }) items
       → IsSoundStep h (opened_in items) (for_turn h parameter reversed now last body items)
   turn_sound a items parameter reversed now last body outside n b held narrows new legal back rest =
@@ -89,14 +89,14 @@ module _ (h : Here) (s : Scope) (outer : List Waiting) (laws : Premises h.progra
 
   module _ (a : Around) (items : List Item) (held : IsHeld h.own.within (opened_in items)) where
     -- the next turn of a loop without end
-    pub forever_sound : (body : StmtTrees) (b : Bool) → AreLegal s (in_loop a) body → Behind h.program s outer (record a { in_loop = b }) items
+    pub forever_sound : (body : StmtTrees) (b : Bool) → AreFaultless s (in_loop a) body → Behind h.program s outer (record a { in_loop = b }) items
         → IsSoundStep h (opened_in items) (goes h (before body (Repeats body ∷ items)))
     forever_sound body b legal behind =
         let loop : Behind h.program s outer (in_loop a) (Repeats body ∷ items) = (s, narrows_same h.program s, (legal, behind.0, b, behind.1, behind.2)) in
         went h s outer c (in_loop a) items (before body (Repeats body ∷ items)) held (before_judged h.program s outer (in_loop a) body (Repeats body ∷ items) legal loop)
         (opened_before body (Repeats body ∷ items))
 
-    pub while_sound : (e : ExprTree) (body : StmtTrees) (b : Bool) → condition_faults s e ≡ [] → AreLegal s (in_loop a) body → Behind h.program s outer (record a { in_loop = b }) items
+    pub while_sound : (e : ExprTree) (body : StmtTrees) (b : Bool) → condition_faults s e ≡ [] → AreFaultless s (in_loop a) body → Behind h.program s outer (record a { in_loop = b }) items
         → IsSoundStep h (opened_in items) (while_turn h e body items)
     while_sound e body b tested legal behind =
         at_value h s outer (record a { in_loop = b }) items (λ holds. Unit {0}) (record { current = c; held = held; behind = behind }) (condition h items e)
@@ -125,7 +125,7 @@ module _ (h : Here) (s : Scope) (outer : List Waiting) (laws : Premises h.progra
         (next_comes (cond reversed (difference_of now (pos 1)) (sum_of now (pos 1))))
         (λ next u. turn_sound a items parameter reversed next last body j.0 j.1 j.7 held j.2 j.3 j.4 j.5 (j.6, j.8, j.9)))
       where
-        next_comes : (r : Checked) → Comes (λ (next : ℤ). Unit {0}) (number_computed r)
+        next_comes : (r : Checked) → GivesOrRaises (λ (next : ℤ). Unit {0}) (number_computed r)
         next_comes (Ok z) = tt
         next_comes (Err x) = exception_predefined x
 
@@ -144,7 +144,7 @@ module _ (h : Here) (s : Scope) (outer : List Waiting) (laws : Premises h.progra
   bounds_known (Typed n) y i j k = (n, ap (λ b. some_if b n) i, i)
 
   module _ (a : Around) (items : List Item) (at : At h s outer a items) where
-    range_sound : (parameter : Identifier) (reversed : Bool) (body : StmtTrees) (n : ℕ) → IsLoopParameter s parameter.name n → AreLegal (turn_scope s parameter.name n) (in_loop a) body
+    range_sound : (parameter : Identifier) (reversed : Bool) (body : StmtTrees) (n : ℕ) → IsLoopParameter s parameter.name n → AreFaultless (turn_scope s parameter.name n) (in_loop a) body
         → Narrows h.program (turn_scope s parameter.name n) s → (v w : Value) → IsNumber v → IsNumber w → IsSoundStep h (opened_in items) (for_range h parameter reversed body items v w)
     range_sound parameter reversed body n new legal back v w one two =
         let turn : (r : Bool) (now last : ℤ) → IsSoundStep h (opened_in items) (for_turn h parameter.name r now last body items) =
@@ -178,7 +178,7 @@ module _ (h : Here) (s : Scope) (outer : List Waiting) (laws : Premises h.progra
         let new : IsLoopParameter s parameter.name n =
         record { unseen = unbroken _ parameter.place (is_visible s parameter.name) (back_empty (first ++ last ++ rule) (declared_twice s parameter) legal); integers = found.2 }
         in
-        let body_legal : AreLegal (turn_scope s parameter.name n) (in_loop a) body = (subst (λ t. stmts_faults t (in_loop a) body ≡ []) same inner, plain) in
+        let body_legal : AreFaultless (turn_scope s parameter.name n) (in_loop a) body = (subst (λ t. stmts_faults t (in_loop a) body ≡ []) same inner, plain) in
         let back : Narrows h.program (turn_scope s parameter.name n) s =
         λ p fits. fits_fewer h.program laws s (turn_scope s parameter.name n) p (subst (λ t. StandsFirst s t) same (laws.added.parameter s parameter range)) sound fits
         in

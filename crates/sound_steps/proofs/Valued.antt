@@ -23,7 +23,7 @@ use Rattle.stmt_rules.specs.SimpleRules.{condition_faults}
 use Rattle.well_typed.specs.SoundScopes.{SoundScope}
 use Rattle.meaning.specs.Works.{Item}
 use Rattle.meaning.specs.SourceSteps.{Here, condition, evaluate, place_of}
-use Rattle.sound_steps.specs.Objects.{Comes, IsOf}
+use Rattle.sound_steps.specs.Objects.{GivesOrRaises, IsOf}
 use Rattle.sound_steps.specs.Judged.{Waiting}
 use Rattle.sound_steps.specs.Laws.{Premises}
 use Rattle.sound_steps.proofs.Raising.{RaisesPredefined, exception_predefined, val_predefined}
@@ -32,7 +32,7 @@ use Rattle.sound_steps.proofs.Going.{Current, agrees_here, comes_then, comes_wea
 
 -- ---- values by what they suit
 
-pub suited_comes : (s : Scope) (own : Own) (v : Val Value) → RaisesPredefined v → suits s own v ≡ true → Comes (λ w. is_value_of s own w ≡ true) v
+pub suited_comes : (s : Scope) (own : Own) (v : Val Value) → RaisesPredefined v → suits s own v ≡ true → GivesOrRaises (λ w. is_value_of s own w ≡ true) v
 suited_comes s own (Gives w) known h = h
 suited_comes s own (Raises x) known h = known
 suited_comes s own Meaningless known h = cc
@@ -46,18 +46,18 @@ number_is (Truth b) h = cc
 number_is (Array vs) h = cc
 number_is (Record fs) h = cc
 
-truth_comes : (v : Value) → is_truth v ≡ true → Comes (λ b. Unit {0}) (truth_of v)
+truth_comes : (v : Value) → is_truth v ≡ true → GivesOrRaises (λ b. Unit {0}) (truth_of v)
 truth_comes (Truth b) h = tt
 truth_comes (Number z) h = cc
 truth_comes (Array vs) h = cc
 truth_comes (Record fs) h = cc
 
-passed_comes_by : (P : Value → Type 0) (b : Bool) (v : Value) → P v → Comes P (cond b (Gives v) (raise ConstraintError))
+passed_comes_by : (P : Value → Type 0) (b : Bool) (v : Value) → P v → GivesOrRaises P (cond b (Gives v) (raise ConstraintError))
 passed_comes_by P true v h = h
 passed_comes_by P false v h = exception_predefined ConstraintError
 
 -- the check against a subtype keeps what is known of the value
-pub passed_comes : (P : Value → Type 0) (t : Subtype) (v : Value) → P v → Comes P (passed t v)
+pub passed_comes : (P : Value → Type 0) (t : Subtype) (v : Value) → P v → GivesOrRaises P (passed t v)
 passed_comes P t v h = passed_comes_by P (fits t v) v h
 
 module _ (h : Here) (s : Scope) (outer : List Waiting) (laws : Premises h.program) (c : Current h s outer) (items : List Item) where
@@ -79,7 +79,7 @@ module _ (h : Here) (s : Scope) (outer : List Waiting) (laws : Premises h.progra
       (known_own e w (front_empty (faults_in s w e) (mismatch s w own (start_of e)) legal))
 
   -- a value of the type that is expected
-  pub value_comes : (e : ExprTree) (n : ℕ) → is_some (form_at s n) ≡ true → faults_of s (OfType n) e ≡ [] → Comes (IsOf h.program.scope n) (evaluate h items e)
+  pub value_comes : (e : ExprTree) (n : ℕ) → is_some (form_at s n) ≡ true → faults_of s (OfType n) e ≡ [] → GivesOrRaises (IsOf h.program.scope n) (evaluate h items e)
   value_comes e n known legal =
       let v = evaluate h items e in
       let agrees = agrees_here h s outer c items in
@@ -87,20 +87,20 @@ module _ (h : Here) (s : Scope) (outer : List Waiting) (laws : Premises h.progra
       comes_weaker (IsOf s n) (IsOf h.program.scope n) v (suited_comes s (Typed n) v (val_predefined (place_of h items) e) suited) (λ w i. value_here s (place_of h items) agrees n known w i)
 
   -- any value
-  pub some_value : (e : ExprTree) (w : Wanted) → faults_in s w e ≡ [] → Comes (λ v. Unit {0}) (evaluate h items e)
+  pub some_value : (e : ExprTree) (w : Wanted) → faults_in s w e ≡ [] → GivesOrRaises (λ v. Unit {0}) (evaluate h items e)
   some_value e w legal =
       let v = evaluate h items e in
       comes_weaker (λ x. is_value_of s (own_of s e) x ≡ true) (λ x. Unit {0}) v (suited_comes s (own_of s e) v (val_predefined (place_of h items) e) (typed_here e w legal).suited) (λ x i. tt)
 
   -- a number, of a numeric type
-  pub number_comes : (e : ExprTree) (w : Wanted) → faults_in s w e ≡ [] → is_numeric s (own_of s e) ≡ true → Comes IsNumber (evaluate h items e)
+  pub number_comes : (e : ExprTree) (w : Wanted) → faults_in s w e ≡ [] → is_numeric s (own_of s e) ≡ true → GivesOrRaises IsNumber (evaluate h items e)
   number_comes e w legal numeric =
       let v = evaluate h items e in
       comes_weaker (λ x. is_value_of s (own_of s e) x ≡ true) IsNumber v (suited_comes s (own_of s e) v (val_predefined (place_of h items) e) (typed_here e w legal).suited)
       (λ x i. number_is x (sym (numeric_value s (own_of s e) numeric x) ∙ i))
 
   -- an Integer
-  pub integer_comes : (e : ExprTree) → faults_of s (OfType integer_type) e ≡ [] → Comes IsNumber (evaluate h items e)
+  pub integer_comes : (e : ExprTree) → faults_of s (OfType integer_type) e ≡ [] → GivesOrRaises IsNumber (evaluate h items e)
   integer_comes e legal =
       let v = evaluate h items e in
       let suited = laws.typed.wanted s (place_of h items) (agrees_here h s outer c items) (functions_here h s outer c items) e integer_type legal in
@@ -109,7 +109,7 @@ module _ (h : Here) (s : Scope) (outer : List Waiting) (laws : Premises h.progra
       (λ x i. number_is x (sym (numeric_value s (Typed integer_type) (integral_numeric s (Typed integer_type) integers) x) ∙ i))
 
   -- conditions are true or false
-  pub condition_comes : (e : ExprTree) → condition_faults s e ≡ [] → Comes (λ b. Unit {0}) (condition h items e)
+  pub condition_comes : (e : ExprTree) → condition_faults s e ≡ [] → GivesOrRaises (λ b. Unit {0}) (condition h items e)
   condition_comes e legal =
       let v = evaluate h items e in
       let suited = laws.typed.wanted s (place_of h items) (agrees_here h s outer c items) (functions_here h s outer c items) e boolean_type legal in

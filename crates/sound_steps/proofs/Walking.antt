@@ -14,7 +14,7 @@ use Rattle.meaning.specs.Works.{Item, Declares, DeclaresParameter, Sequence, Doe
 use Rattle.meaning.specs.SourceSteps.{behind_loop, end_of_body, handled_exception, handler_for, some_covers}
 use Rattle.stmt_rules.specs.SimpleRules.{is_function}
 use Rattle.sound_steps.specs.Opened.{opened_in}
-use Rattle.sound_steps.specs.Judged.{AreLegal, Judged, Waiting}
+use Rattle.sound_steps.specs.Judged.{AreFaultless, Judged, Waiting}
 use Rattle.sound_steps.specs.Fitting.{Narrows}
 use Rattle.sound_steps.proofs.Sights.{narrows_same, narrows_then}
 
@@ -115,7 +115,7 @@ module _ (program : Program) where
 
   -- the statements of the handler that is found break no rule
   abbrev pub IsLegalHandler : Scope → Around → Option StmtTrees → Type 0
-  IsLegalHandler s a (Some body) = AreLegal s (in_handler a) body
+  IsLegalHandler s a (Some body) = AreFaultless s (in_handler a) body
   IsLegalHandler s a None = Unit {0}
 
   handler_legal : (s : Scope) (a : Around) (before : List (List ℕ)) (x : ℕ) (all : HandlerTrees) → more_handlers_faults s a before all ≡ [] → profile.handlers_faults all ≡ []
@@ -129,7 +129,7 @@ module _ (program : Program) where
       by_test (some_covers program x choices) (back_empty named (stmts_faults s (in_handler a) body) front, front_empty (profile.stmts_faults body) (profile.handlers_faults rest) i)
       (handler_legal s a (named_after before choices) x rest back (back_empty (profile.stmts_faults body) (profile.handlers_faults rest) i))
     where
-      by_test : (b : Bool) → AreLegal s (in_handler a) body → IsLegalHandler s a (handler_for program x rest) → IsLegalHandler s a (cond b (Some body) (handler_for program x rest))
+      by_test : (b : Bool) → AreFaultless s (in_handler a) body → IsLegalHandler s a (handler_for program x rest) → IsLegalHandler s a (cond b (Some body) (handler_for program x rest))
       by_test true legal further = legal
       by_test false legal further = further
 

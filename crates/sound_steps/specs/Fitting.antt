@@ -97,7 +97,7 @@ is_result role.Out = true
 is_result role.InOut = true
 is_result r = false
 
-pub record Fits (program : Program) (s : Scope) (p : Place) : Type 0 where
+pub record FitsScope (program : Program) (s : Scope) (p : Place) : Type 0 where
   pub agrees : Agrees s p
   pub finds : (name : List ℕ) (e : Entity) → entity_named s name ≡ Some e → IsFound program p.within name e
   -- the parameters that are copied back are objects of the running activation
@@ -106,4 +106,4 @@ pub record Fits (program : Program) (s : Scope) (p : Place) : Type 0 where
 
 -- whatever fits the one scope fits the other: so where names go out of sight
 abbrev pub Narrows : Program → Scope → Scope → Type 0
-Narrows program s later = (p : Place) → Fits program s p → Fits program later p
+Narrows program s later = (p : Place) → FitsScope program s p → FitsScope program later p

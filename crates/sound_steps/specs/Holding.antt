@@ -8,11 +8,11 @@ use Rattle.stmt_rules.specs.declared.around.Around.{Around}
 use Rattle.well_typed.specs.Agreeing.{Agrees}
 use Rattle.well_typed.specs.Answers.{FunctionsAreSound}
 use Rattle.meaning.specs.Programs.{Procedure, Program}
-use Rattle.meaning.specs.Works.{Item, Activation, Given, Results, Raised, Store, TaskWork}
+use Rattle.meaning.specs.Works.{Item, Activation, GivenToCaller, Results, Raised, Store, TaskWork}
 use Rattle.meaning.specs.Calls.{activation_of, body_items, is_open, procedure_among, results}
-use Rattle.meaning.specs.SourceSteps.{Here, Stepped, completion_of, items_of}
+use Rattle.meaning.specs.SourceSteps.{Here, SourceStepped, completion_of, items_of}
 use Rattle.sound_steps.specs.Objects.{AreOf, AreSoundObjects, IsException, first_store, subtype_in}
-use Rattle.sound_steps.specs.Fitting.{Fits, entry_of, result_types, taken_types}
+use Rattle.sound_steps.specs.Fitting.{FitsScope, entry_of, result_types, taken_types}
 use Rattle.sound_steps.specs.Opened.{ForCall, ForCaller, IsHeld, Opened, object_opened, opened_in}
 use Rattle.sound_steps.specs.Judged.{AreResults, Begins, IsCompletion, IsPlain, IsWorkOf, Judged, Waiting}
 
@@ -28,7 +28,7 @@ inside program m a p =
     record p { scope = program.scope; functions = program.functions; variables = m.variables; components = m.components; locals = a.locals; within = a.within }
 
 abbrev pub FitsIn : Program → Store → Scope → Activation → Type 0
-FitsIn program m s a = (p : Place) → Fits program s (inside program m a p)
+FitsIn program m s a = (p : Place) → FitsScope program s (inside program m a p)
 
 -- ---- bodies of procedures and entries
 
@@ -71,9 +71,9 @@ pub record FitsActivation (program : Program) (m : Store) (s : Scope) (a : Activ
   pub fits : FitsIn program m s a
   pub locals : AreSoundObjects program.scope a.locals
 
-abbrev pub AllFit : Program → Store → List Waiting → Type 0
-AllFit program m [] = ⊤
-AllFit program m (w ∷ outer) = FitsActivation program m w.scope w.activation × AllFit program m outer
+abbrev pub AllWaitingFit : Program → Store → List Waiting → Type 0
+AllWaitingFit program m [] = ⊤
+AllWaitingFit program m (w ∷ outer) = FitsActivation program m w.scope w.activation × AllWaitingFit program m outer
 
 -- the task's work is judged, and all its activations fit what is visible where they go on
 pub record IsSoundTask (program : Program) (m : Store) (waits : Option ℕ) (t : TaskWork) : Type 0 where
@@ -83,7 +83,7 @@ pub record IsSoundTask (program : Program) (m : Store) (waits : Option ℕ) (t :
   pub work : IsWorkOf program waits t.own scope outer around t.work
   pub own : FitsActivation program m scope t.own
   pub callers : t.callers ≡ map waiting_activation outer
-  pub all : AllFit program m outer
+  pub all : AllWaitingFit program m outer
   pub held : IsHeld t.own.within (opened_in (items_of t.work))
 
 -- A task that has just ended an action, and may have to run an entry body for a caller before it goes on: what it has still to do fits (RM 9.5.3).
@@ -95,7 +95,7 @@ pub record IsSoundServer (program : Program) (m : Store) (t : TaskWork) : Type 0
   pub items : Judged program scope outer around (items_of t.work)
   pub own : FitsActivation program m scope t.own
   pub callers : t.callers ≡ map waiting_activation outer
-  pub all : AllFit program m outer
+  pub all : AllWaitingFit program m outer
   pub held : IsHeld t.own.within (opened_in (items_of t.work))
 
 -- ---- steps
@@ -108,17 +108,17 @@ pub record KeepsStore (program : Program) (within : Option ℕ) (before after : 
   pub own : (o : ℕ) → (after.components o ≡ before.components o) ⊎ (within ≡ Some o)
 
 -- what the caller is given: values of the results of the object's entry, or an exception
-abbrev pub IsGiven : Program → (object : ℕ) → Given → Type 0
+abbrev pub IsGiven : Program → (object : ℕ) → GivenToCaller → Type 0
 IsGiven program o (Results vs) = (q : Procedure) × (entry_of program.procedures o ≡ Some q) × AreOf program.scope (result_types q.parameters) vs
 IsGiven program o (Raised x) = IsException program x
 
 -- a caller is given something where its body ends, and only there
-abbrev pub IsGivenAt : Program → Opened → Option Given → Type 0
+abbrev pub IsGivenAt : Program → Opened → Option GivenToCaller → Type 0
 IsGivenAt program (ForCall o) given = given ≡ None
-IsGivenAt program (ForCaller o) given = (g : Given) × (given ≡ Some g) × IsGiven program o g
+IsGivenAt program (ForCaller o) given = (g : GivenToCaller) × (given ≡ Some g) × IsGiven program o g
 
 -- What an effect comes to in the open actions, and the refusals that were passed. No task dies of exception 0. Barriers are told by the store after the step.
-abbrev pub Accounts : Here → Effect → (later : Store) → (before after : List Opened) → Option Given → Type 0
+abbrev pub Accounts : Here → Effect → (later : Store) → (before after : List Opened) → Option GivenToCaller → Type 0
 Accounts h Quiet later before after given = (after ≡ before) × (given ≡ None)
 Accounts h (Says label value) later before after given = (after ≡ before) × (given ≡ None)
 Accounts h (Delays until) later before after given = (after ≡ before) × (given ≡ None) × (is_inside_any h.kernel h.task ≡ false)
@@ -144,7 +144,7 @@ WhenEnds (Ends is_open_now) P = P
 WhenEnds e P = ⊤
 
 -- a step that has a meaning, after which all holds again
-pub record IsSoundStep (h : Here) (before : List Opened) (x : Stepped) : Type 0 where
+pub record IsSoundStep (h : Here) (before : List Opened) (x : SourceStepped) : Type 0 where
   pub effect : Accounts h x.effect x.solo.memory before (opened_in (items_of x.solo.task.work)) x.given
   pub store : KeepsStore h.program h.own.within h.memory x.solo.memory
   pub task : IsSoundTask h.program x.solo.memory (waits_after x.effect) x.solo.task

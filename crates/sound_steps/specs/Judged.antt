@@ -30,14 +30,14 @@ pub record Waiting : Type 0 where
 
 -- ---- what breaks no rule, and no restriction of the profile
 
-abbrev pub IsLegal : Scope → Around → StmtTree → Type 0
-IsLegal s a x = (stmt_faults s a x ≡ []) × (profile.stmt_faults x ≡ [])
+abbrev pub IsFaultless : Scope → Around → StmtTree → Type 0
+IsFaultless s a x = (stmt_faults s a x ≡ []) × (profile.stmt_faults x ≡ [])
 
-abbrev pub AreLegal : Scope → Around → StmtTrees → Type 0
-AreLegal s a body = (stmts_faults s a body ≡ []) × (profile.stmts_faults body ≡ [])
+abbrev pub AreFaultless : Scope → Around → StmtTrees → Type 0
+AreFaultless s a body = (stmts_faults s a body ≡ []) × (profile.stmts_faults body ≡ [])
 
-abbrev pub AreLegalHandlers : Scope → Around → HandlerTrees → Type 0
-AreLegalHandlers s a all = (handlers_faults s a all ≡ []) × (profile.handlers_faults all ≡ [])
+abbrev pub AreFaultlessHandlers : Scope → Around → HandlerTrees → Type 0
+AreFaultlessHandlers s a all = (handlers_faults s a all ≡ []) × (profile.handlers_faults all ≡ [])
 
 abbrev pub IsLegalLocal : Scope → DeclarationTree → Type 0
 IsLegalLocal s d = (local_faults s d ≡ []) × (profile.local_faults d ≡ [])
@@ -94,18 +94,18 @@ module _ (program : Program) where
   abbrev pub Judged : Scope → (outer : List Waiting) → Around → List Item → Type 0
   Judged s [] a [] = IsPlain a
   Judged s (w ∷ outer) a [] = ⊥
-  Judged s outer a (Does x ∷ items) = IsLegal s a x × (later : Scope) × Narrows program s later × Judged later outer a items
+  Judged s outer a (Does x ∷ items) = IsFaultless s a x × (later : Scope) × Narrows program s later × Judged later outer a items
   Judged s outer a (DoesMain x ∷ items) = IsMainStatement x × Judged s outer a items
-  Judged s outer a (Repeats body ∷ items) = AreLegal s (in_loop a) body × (later : Scope) × (b : Bool) × Narrows program s later
+  Judged s outer a (Repeats body ∷ items) = AreFaultless s (in_loop a) body × (later : Scope) × (b : Bool) × Narrows program s later
       × Judged later outer (record a { in_loop = b }) items
   Judged s outer a (RepeatsWhile e body ∷ items) =
-      (condition_faults s e ≡ []) × AreLegal s (in_loop a) body × (later : Scope) × (b : Bool) × Narrows program s later
+      (condition_faults s e ≡ []) × AreFaultless s (in_loop a) body × (later : Scope) × (b : Bool) × Narrows program s later
       × Judged later outer (record a { in_loop = b }) items
   Judged s outer a (RepeatsFor parameter reversed now last body ∷ items) =
-      (outside : Scope) × (n : ℕ) × Narrows program s outside × IsLoopParameter outside parameter n × AreLegal (turn_scope outside parameter n) (in_loop a) body
+      (outside : Scope) × (n : ℕ) × Narrows program s outside × IsLoopParameter outside parameter n × AreFaultless (turn_scope outside parameter n) (in_loop a) body
       × Narrows program (turn_scope outside parameter n) outside × (later : Scope) × (b : Bool) × Narrows program outside later
       × Judged later outer (record a { in_loop = b }) items
-  Judged s outer a (Handles all ∷ items) = AreLegalHandlers s a all × (later : Scope) × Narrows program s later × Judged later outer a items
+  Judged s outer a (Handles all ∷ items) = AreFaultlessHandlers s a all × (later : Scope) × Narrows program s later × Judged later outer a items
   Judged s outer a (EndsHandler x ∷ items) = IsException program x × (later : Scope) × (b : Bool) × Narrows program s later
       × Judged later outer (record a { in_handler = b }) items
   Judged s [] a (EndsCall names opened xs ∷ items) = ⊥
@@ -134,7 +134,7 @@ module _ (program : Program) where
   Begins s outer a (Declares d ∷ items) = IsLegalLocal s d × Begins (local_scope s d) outer a items × Leaves s outer a items
   Begins s outer a (DeclaresParameter f ∷ items) =
       IsNewParameter s f × (later : Scope) × Narrows program (parameter_scope s f) later × Begins later outer a items
-  Begins s outer a (Sequence body all ∷ items) = AreLegal s a body × AreLegalHandlers s a all × (later : Scope) × Narrows program s later
+  Begins s outer a (Sequence body all ∷ items) = AreFaultless s a body × AreFaultlessHandlers s a all × (later : Scope) × Narrows program s later
       × Judged later outer a items
   Begins s outer a items = Judged s outer a items
 

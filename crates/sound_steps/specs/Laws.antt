@@ -2,7 +2,7 @@
 use Rattle.std.specs.Prelude.{◌≡◌, ℕ, List, [], ◌∷◌, Option, Some, None}
 use Rattle.base.specs.declared.schedule.ScheduleLine.{ScheduleLine}
 use Rattle.kernel.specs.State.{Action, Kernel, Serves, Writes}
-use Rattle.kernel.specs.Invariant.{Held, Passed}
+use Rattle.kernel.specs.Invariant.{IsBarrierHeld, Passed}
 use Rattle.kernel.specs.Worlds.{Solo}
 use Rattle.types.specs.Laws.{InitialValuesHaveShape}
 use Rattle.declaring.specs.Laws.{NamesAreAdded}
@@ -10,9 +10,9 @@ use Rattle.well_typed.specs.SoundScopes.{SoundScope}
 use Rattle.well_typed.specs.Laws.{AgreementIsKept, CallsAreTyped}
 use Rattle.well_typed.specs.Variables.{TargetsAreVariables}
 use Rattle.meaning.specs.Programs.{Program}
-use Rattle.meaning.specs.Works.{Given, Store, TaskWork}
+use Rattle.meaning.specs.Works.{GivenToCaller, Store, TaskWork}
 use Rattle.meaning.specs.Calls.{is_open}
-use Rattle.meaning.specs.SourceSteps.{Here, Stepped, here_of, items_of, received, serves, work_step}
+use Rattle.meaning.specs.SourceSteps.{Here, SourceStepped, here_of, items_of, received, serves, work_step}
 use Rattle.sound_steps.specs.Opened.{ForCall, ForCaller, IsHeld, Opened, opened_in}
 use Rattle.sound_steps.specs.Holding.{IsGiven, IsSoundServer, IsSoundStep, IsSoundStore, IsSoundTask, KeepsStore}
 
@@ -43,9 +43,9 @@ BarriersAreOwn program = (o : ℕ) (before after : Store) → after.components o
 -- The refusals before the effect were passed, and barriers change only under an action that may write their object: what the kernel's invariant asks of
 -- every step.
 abbrev pub EffectsPass : Type 0
-EffectsPass = (h : Here) (opened : List Opened) (x : Stepped) → BarriersAreOwn h.program → Matches (h.kernel.actions h.task) opened
+EffectsPass = (h : Here) (opened : List Opened) (x : SourceStepped) → BarriersAreOwn h.program → Matches (h.kernel.actions h.task) opened
     → IsHeld h.own.within opened → IsSoundStep h opened x
-    → Held (is_open h.program h.memory) (is_open h.program x.solo.memory) h.kernel h.task × Passed (is_open h.program x.solo.memory) h.kernel h.task x.effect
+    → IsBarrierHeld (is_open h.program h.memory) (is_open h.program x.solo.memory) h.kernel h.task × Passed (is_open h.program x.solo.memory) h.kernel h.task x.effect
 
 -- ---- tasks
 
@@ -69,7 +69,7 @@ ServersAreSound = (program : Program) (m : Store) (o : ℕ) (caller t : TaskWork
 
 -- A caller that was served goes on with its results, or raises the exception.
 abbrev pub CallersGoOn : Type 0
-CallersGoOn = (program : Program) (m : Store) (o : ℕ) (caller : TaskWork) (g : Given) → IsSoundTask program m (Some o) caller → IsGiven program o g
+CallersGoOn = (program : Program) (m : Store) (o : ℕ) (caller : TaskWork) (g : GivenToCaller) → IsSoundTask program m (Some o) caller → IsGiven program o g
     → IsSoundTask program m None (record caller { work = received g caller.work })
 
 -- A task that does not wait in an entry call takes a step that has a meaning, and all holds after it.

@@ -25,10 +25,10 @@ abbrev pub IsException : Program → ℕ → Type 0
 IsException program x = (0 < x) × ((x ≤ 4) ⊎ (x ≤ length program.exceptions))
 
 -- it gives what has this property, or raises a predefined exception; never what has no meaning
-abbrev pub Comes : {A : Type 0} → (A → Type 0) → Val A → Type 0
-Comes P (Gives a) = P a
-Comes P (Raises x) = IsPredefinedException x
-Comes P Meaningless = ⊥
+abbrev pub GivesOrRaises : {A : Type 0} → (A → Type 0) → Val A → Type 0
+GivesOrRaises P (Gives a) = P a
+GivesOrRaises P (Raises x) = IsPredefinedException x
+GivesOrRaises P Meaningless = ⊥
 
 -- ---- values
 

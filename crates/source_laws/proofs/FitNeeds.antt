@@ -21,7 +21,7 @@ use Rattle.expr_code.specs.Refusing.{is_fit}
 use Rattle.expr_code.specs.Seeing.{profile_named}
 use Rattle.expr_code.specs.declared.visible.Visible.{Visible}
 use Rattle.stmt_code.specs.Bounds.{local_words}
-use Rattle.stmt_code.specs.Lines.{Line, line_of}
+use Rattle.stmt_code.specs.Lines.{LabelledValue, line_of}
 use Rattle.stmt_code.specs.Moving.{moves}
 use Rattle.stmt_code.specs.Passing.{actuals_behind}
 use Rattle.stmt_code.specs.Refusing.{Around, Needs, actual_needs, actuals_needs, alternatives_needs, assignment_needs, behind_locals, both, call_needs, called_needs, choices_needs, copies_needs, destinations_of, elsifs_needs, handlers_needs, has_unfit, head_needs, in_loop, in_out_needs, initial_needs, inside_handler, line_needs, local_needs, local_visible, locals_needs, locals_visible, moded_needs, move_needs, moves_needs, needs_by, needs_if_any, object_needs, passed_needs, raise_needs, return_needs, stmt_needs, stmts_needs, target_needs}
@@ -123,7 +123,7 @@ module _ (v : Visible) (serves : Serves v.scope) where
       or_from (actuals_needs 0 v fs all).unfit (false || (copies_needs v (destinations_of v fs all)).unfit) (actuals_fit fs all 0 h)
       (copies_fit (destinations_of v fs all))
 
-  line_fit : (o : Option Line) → IsFit (line_needs v o)
+  line_fit : (o : Option LabelledValue) → IsFit (line_needs v o)
   line_fit None = refl
   line_fit (Some line) = seen_fit
 

@@ -18,13 +18,13 @@ use Rattle.expr_rules.specs.NameRules.{variable_rule}
 use Rattle.expr_rules.specs.Typing.{boolean_wanted, own_of_standing, typed_wanted}
 use Rattle.expr_rules.proofs.TypedLaw.{back_empty, front_empty}
 use Rattle.stmt_rules.specs.SimpleRules.{assigned_wanted, assignment_faults}
-use Rattle.expr_code.specs.Emitting.{IsLegal}
+use Rattle.expr_code.specs.Emitting.{IsLegalExpression}
 use Rattle.expr_code.specs.Refusing.{peak}
 use Rattle.expr_code.specs.Widths.{AreWide, width_of}
 use Rattle.expr_code.specs.declared.visible.Visible.{Visible}
 use Rattle.stmt_code.specs.Moving.{moves}
 use Rattle.stmt_code.specs.Refusing.{Needs, address_needs, assigned_needs, assignment_needs, beyond, both, has_unfit, move_needs, moves_needs, needs_above, needs_by, words_at}
-use Rattle.source_laws.specs.Depths.{AreHeld, IsSmallScope}
+use Rattle.source_laws.specs.Depths.{AreStored, IsSmallScope}
 use Rattle.source_laws.proofs.PeakSlots.{IsPath, begins, name_path, value_path}
 use Rattle.source_laws.proofs.Peaks.{conditional_parts, inside_legal, legal_of, listed, spelled_parts}
 use Rattle.source_laws.proofs.NeedsBounds.{Fits, IsLow, both_low, low_more, outside_right, value_bound}
@@ -50,7 +50,7 @@ module _ (v : Visible) (small : IsSmallScope v.scope) where
   beyond_moves d = record { stack_low = omega arith; frame_low = omega arith; fit = refl }
 
   named_fits : (first : Identifier) (selectors : SelectorTrees) (l : Limit) (ts : Tokens) → made (Named first selectors) l ts
-      → IsLegal s (Named first selectors)
+      → IsLegalExpression s (Named first selectors)
       → MoveFits (address_needs 1 v first selectors) (selectors_depth selectors)
   named_fits first selectors l ts d h =
       let low = address_low v small 1 first.place (begins s small.sound small.formals first selectors) first selectors l d.1 d.4
@@ -58,7 +58,7 @@ module _ (v : Visible) (small : IsSmallScope v.scope) where
       record { stack_low = omega (arith, low); frame_low = omega arith; fit = nothing_unfit v small }
 
   -- a condition stands above the address of the target
-  condition_fits : (e : ExprTree) (l : Limit) (ts : Tokens) → expression l e ts → IsLegal s e → width_of s e ≡ 1 → MoveFits (needs_above 1 v e) (expr_depth e)
+  condition_fits : (e : ExprTree) (l : Limit) (ts : Tokens) → expression l e ts → IsLegalExpression s e → width_of s e ≡ 1 → MoveFits (needs_above 1 v e) (expr_depth e)
   condition_fits e l ts d h one =
       let low = single_low s small Expression e l ts d (omega arith) h one in
       record { stack_low = omega (arith, low); frame_low = omega arith; fit = nothing_unfit v small }
@@ -79,7 +79,7 @@ module _ (v : Visible) (small : IsSmallScope v.scope) where
       both_low a (both b c) words 0 (deeper a k deep p (omega arith)) (both_low b c words 0 (deeper b m deep q (omega arith)) (deeper c n deep r (omega arith)))
 
   mutual
-    move_fits : (e : ExprTree) (l : Limit) (ts : Tokens) → made e l ts → IsLegal s e → MoveFits (move_needs v e) (expr_depth e)
+    move_fits : (e : ExprTree) (l : Limit) (ts : Tokens) → made e l ts → IsLegalExpression s e → MoveFits (move_needs v e) (expr_depth e)
     move_fits (Named first selectors) l ts d h = named_fits first selectors l ts d h
     move_fits (Parenthesized place e) None ts d h =
         deeper (move_needs v e) (expr_depth e) (suc (expr_depth e)) (move_fits e None d.4.0 d.4.3.1 (inside_legal s small.sound place e h)) (omega arith)
@@ -138,7 +138,7 @@ module _ (v : Visible) (small : IsSmallScope v.scope) where
       let low = value_bound (words_at s (standing.Part r t)) (peak s e) (expr_depth e) (typed_low s small t e l ts d h) few in omega (arith, low)
   assigned_low w e l ts d h few out = absurd cc
 
-  module _ (held : AreHeld v.slots) (target : NameTree) (e : ExprTree) (l : Limit) (ts us : Tokens) (named : spells_name l target ts)
+  module _ (held : AreStored v.slots) (target : NameTree) (e : ExprTree) (l : Limit) (ts us : Tokens) (named : spells_name l target ts)
       (spelled : expression l e us)
       (h : assignment_faults s target e ≡ []) (out : (assignment_needs v target e).outside ≡ false) where
     abbrev whole : ℕ

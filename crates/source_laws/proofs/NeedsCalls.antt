@@ -36,13 +36,13 @@ use Rattle.type_rules.specs.SubtypeNames.{entity_at_or_none}
 use Rattle.well_typed.specs.SoundScopes.{AreKnown}
 use Rattle.well_typed.proofs.Expressions.{not_false}
 use Rattle.sound_steps.specs.Fitting.{entity_named}
-use Rattle.expr_code.specs.Emitting.{IsLegal}
+use Rattle.expr_code.specs.Emitting.{IsLegalExpression}
 use Rattle.expr_code.specs.Refusing.{is_fit}
 use Rattle.expr_code.specs.Seeing.{NamesProfile, profile_named, slot_of, subprogram_of}
 use Rattle.expr_code.specs.declared.visible.Slot as visible
 use Rattle.expr_code.specs.declared.visible.Visible.{Visible}
 use Rattle.expr_code.proofs.Widths.{integral_one, words_by_type}
-use Rattle.stmt_code.specs.Lines.{Line, is_put, line_behind, line_in, line_of}
+use Rattle.stmt_code.specs.Lines.{LabelledValue, is_put, line_behind, line_in, line_of}
 use Rattle.stmt_code.specs.Passing.{actuals_behind, copied_width}
 use Rattle.stmt_code.specs.Refusing.{Needs, actual_needs, actuals_needs, address_needs, beyond_if, both, call_needs, called_needs, check_words, copies_needs, copy_needs, destination_at, destinations_for, destinations_named, destinations_of, has_unfit, in_needs, in_out_needs, line_needs, passed_needs, stacked, target_needs, words_at}
 use Rattle.stmt_code.specs.Suiting.{passed_width, returned_width}
@@ -149,7 +149,7 @@ module _ (v : Visible) (small : IsSmallScope v.scope) where
   address_low depth place w first path l ts d h =
       let low = selectors_low s small.sound small.formals place w path l ts 1 (omega arith) d h in omega (arith, low)
 
-  named_legal : (n : ℕ) (e : ExprTree) → argument_faults s (Takes n) (Value e) ≡ [] → IsLegal s e
+  named_legal : (n : ℕ) (e : ExprTree) → argument_faults s (Takes n) (Value e) ≡ [] → IsLegalExpression s e
   named_legal n e h = record { wanted = OfType n; unbroken = front_empty (faults_in s (OfType n) e) (actual_rule s (OfType n) e) h }
 
   target_rule : (n : ℕ) (first : Identifier) (path : SelectorTrees) → argument_faults s (Takes n) (Value (Named first path)) ≡ []
@@ -409,7 +409,7 @@ module _ (v : Visible) (small : IsSmallScope v.scope) where
       both_plain (actuals_needs 0 v fs all) (both words copies) (actuals_plain 0 fs all h)
       (both_plain words copies (record { frame = omega arith; fit = refl }) (copies_plain (destinations_of v fs all)))
 
-  line_plain : (o : Option Line) → IsPlain (line_needs v o)
+  line_plain : (o : Option LabelledValue) → IsPlain (line_needs v o)
   line_plain (Some line) = record { frame = omega arith; fit = visible_fit }
   line_plain None = record { frame = omega arith; fit = refl }
 

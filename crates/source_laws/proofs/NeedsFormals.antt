@@ -24,7 +24,7 @@ use Rattle.stmt_code.specs.Formals.{slot_for}
 use Rattle.stmt_code.specs.Refusing.{all_given, are_wordless, formals_frame, is_wordless, outs_needs}
 use Rattle.stmt_code.specs.WholeRefusals.{from_behind, out_behind, placed_formals, placed_if}
 use Rattle.stmt_code.specs.declared.formals.PlacedFormal.{PlacedFormal}
-use Rattle.source_laws.specs.Depths.{AreHeld, IsSmallScope}
+use Rattle.source_laws.specs.Depths.{AreStored, IsSmallScope}
 use Rattle.source_laws.proofs.NeedsScopes.{few_words, small_named, subtype_kept, words_kept}
 
 -- ---- what is visible behind formals
@@ -219,6 +219,6 @@ module _ (v : Visible) (s : Scope) where
       (given_few fs next later) in
       omega (arith, one)
 
-pub formals_held : (xs : List PlacedFormal) → AreHeld (map slot_for xs)
+pub formals_held : (xs : List PlacedFormal) → AreStored (map slot_for xs)
 formals_held [] = tt
 formals_held (x ∷ xs) = (refl, formals_held xs)

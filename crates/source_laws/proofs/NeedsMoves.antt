@@ -24,7 +24,7 @@ use Rattle.stmt_rules.specs.SimpleRules.{assigned_wanted, assignment_faults}
 use Rattle.well_typed.specs.SoundScopes.{SoundScope}
 use Rattle.well_typed.proofs.Expressions.{not_false}
 use Rattle.well_typed.proofs.Goods.{part_unbroken}
-use Rattle.expr_code.specs.Emitting.{IsLegal, is_composite}
+use Rattle.expr_code.specs.Emitting.{IsLegalExpression, is_composite}
 use Rattle.expr_code.specs.Refusing.{elsifs_outside, is_outside, selectors_outside}
 use Rattle.expr_code.specs.Seeing.{slot_of}
 use Rattle.expr_code.specs.Widths.{AreWide, width_of}
@@ -56,7 +56,7 @@ module _ (v : Visible) (small : IsSmallVisible v) where
 
   mutual
     -- each value that may be chosen is that of a variable, or of a part of one
-    wide_moved : (e : ExprTree) → IsLegal s e → is_outside v e ≡ false → 2 ≤ width_of s e → is_moved v e ≡ true
+    wide_moved : (e : ExprTree) → IsLegalExpression s e → is_outside v e ≡ false → 2 ≤ width_of s e → is_moved v e ≡ true
     wide_moved (tree.Number z place) legal code wide = absurd (omega (arith, wide))
     wide_moved (Named first selectors) legal code wide = named_source v small first selectors legal code wide
     wide_moved (tree.Parenthesized place e) legal code wide = wide_moved e (inside_legal s small.names.sound place e legal) code wide

@@ -28,7 +28,7 @@ use Rattle.well_typed.specs.SoundScopes.{IsSoundConstant, SoundScope}
 use Rattle.well_typed.proofs.Expressions.{not_false}
 use Rattle.well_typed.proofs.Goods.{no_constant_parts, no_integer_parts, part_unbroken}
 use Rattle.well_typed.proofs.Positions.{IsNamed, named}
-use Rattle.expr_code.specs.Emitting.{IsLegal}
+use Rattle.expr_code.specs.Emitting.{IsLegalExpression}
 use Rattle.expr_code.specs.Entries.{entry_at}
 use Rattle.expr_code.specs.Refusing.{are_passable, is_callable, is_called, is_made, is_outside, selectors_outside}
 use Rattle.expr_code.specs.Refusing as refusing
@@ -40,13 +40,13 @@ use Rattle.expr_code.proofs.Widths.{fixed_width, integral_one, words_by_type}
 use Rattle.stmt_code.specs.Moving.{source_at, source_by, variable_at}
 use Rattle.stmt_code.specs.Passing.{holds_variables}
 use Rattle.stmt_code.specs.declared.moving.Source.{Source}
-use Rattle.source_laws.specs.Depths.{AreHeld, IsSmallVisible}
+use Rattle.source_laws.specs.Depths.{AreStored, IsSmallVisible}
 use Rattle.source_laws.proofs.NeedsScopes.{profile_by}
 use Rattle.source_laws.proofs.PeakSlots.{IsPath, value_path}
 
 -- ---- slots
 
-slot_held : (all : List (Option Slot)) (n : ℕ) (x : Slot) → AreHeld all → entry_at all n ≡ Some x → holds_variables x.region ≡ true
+slot_held : (all : List (Option Slot)) (n : ℕ) (x : Slot) → AreStored all → entry_at all n ≡ Some x → holds_variables x.region ≡ true
 slot_held [] n x h is = absurd cc
 slot_held (None ∷ rest) zero x h is = absurd cc
 slot_held (Some y ∷ rest) zero x h is =
@@ -57,7 +57,7 @@ slot_held (Some y ∷ rest) (suc n) x h is = slot_held rest n x h.1 is
 abbrev slot_by : Visible → Option ℕ → Option Slot
 slot_by v o = elim o [ None ↦ None | Some n ↦ entry_at v.slots n ]
 
-held_there : (v : Visible) (name : List ℕ) (x : Slot) → AreHeld v.slots → slot_of v name ≡ Some x → holds_variables x.region ≡ true
+held_there : (v : Visible) (name : List ℕ) (x : Slot) → AreStored v.slots → slot_of v name ≡ Some x → holds_variables x.region ≡ true
 held_there v name x h is = by_number (number_of v.scope name) is
   where
     by_number : (o : Option ℕ) → slot_by v o ≡ Some x → holds_variables x.region ≡ true
@@ -194,7 +194,7 @@ module _ (s : Scope) where
 
 -- ---- names
 
-module _ (v : Visible) (small : IsSmallVisible v) (first : Identifier) (selectors : SelectorTrees) (legal : IsLegal v.scope (tree.Named first selectors))
+module _ (v : Visible) (small : IsSmallVisible v) (first : Identifier) (selectors : SelectorTrees) (legal : IsLegalExpression v.scope (tree.Named first selectors))
     (code : is_outside v (tree.Named first selectors) ≡ false) (wide : 2 ≤ width_of v.scope (tree.Named first selectors)) where
   abbrev s : Scope
   s = v.scope

@@ -35,7 +35,7 @@ use Rattle.well_typed.proofs.Widening.{subtype_known}
 use Rattle.expr_code.specs.Seeing.{NamesProfile, profile_named, subprogram_profile}
 use Rattle.expr_code.proofs.Widths.{fits, integral_one, known, words_by_type}
 use Rattle.expr_code.specs.declared.visible.Slot.{Slot}
-use Rattle.source_laws.specs.Depths.{AreHeld, AreScalar, IsSmallScope, ObjectsHaveRoom, formals_take, is_full, is_scalar_form}
+use Rattle.source_laws.specs.Depths.{AreStored, AreScalar, IsSmallScope, ObjectsHaveRoom, formals_take, is_full, is_scalar_form}
 
 no_profile : (p : Profile) → None ≡ Some p → ⊥
 no_profile p h = cc
@@ -227,11 +227,11 @@ small_loop s parameter r small h =
 
 -- ---- where words stand
 
-pub all_held : (xs ys : List (Option Slot)) → AreHeld xs → AreHeld ys → AreHeld (xs ++ ys)
+pub all_held : (xs ys : List (Option Slot)) → AreStored xs → AreStored ys → AreStored (xs ++ ys)
 all_held [] ys h k = k
 all_held (None ∷ xs) ys h k = all_held xs ys h k
 all_held (Some x ∷ xs) ys h k = (h.0, all_held xs ys h.1 k)
 
 -- with an object more in the frame
-pub one_held : (xs : List (Option Slot)) (taken : ℕ) → AreHeld xs → AreHeld (xs ++ Some (record { region = regions.Locals; offset = taken }) ∷ [])
+pub one_held : (xs : List (Option Slot)) (taken : ℕ) → AreStored xs → AreStored (xs ++ Some (record { region = regions.Locals; offset = taken }) ∷ [])
 one_held xs taken h = all_held xs (Some (record { region = regions.Locals; offset = taken }) ∷ []) h (refl, tt)

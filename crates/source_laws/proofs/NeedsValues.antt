@@ -19,7 +19,7 @@ use Rattle.expr_rules.proofs.TypedLaw.{back_empty, front_empty, same_number, unb
 use Rattle.stmt_rules.specs.CaseRules.{discrete_rule, is_discrete, selecting_faults}
 use Rattle.stmt_rules.specs.SimpleRules.{condition_faults}
 use Rattle.well_typed.proofs.Expressions.{not_false}
-use Rattle.expr_code.specs.Emitting.{IsLegal}
+use Rattle.expr_code.specs.Emitting.{IsLegalExpression}
 use Rattle.expr_code.specs.Refusing.{peak}
 use Rattle.expr_code.specs.Widths.{own_words, width_of}
 use Rattle.expr_code.proofs.Widths.{Fits, boolean_one, condition_width, fits, integral_one, known, words_by_type}
@@ -40,7 +40,7 @@ either false b h = inr h
 
 module _ (s : Scope) (small : IsSmallScope s) where
   -- what the production derives, in which at most four operators wait
-  pub single_low : (n : Production) (e : ExprTree) (l : Limit) (ts : Tokens) → derives n l e ts → waiting n ≤ 4 → IsLegal s e → width_of s e ≡ 1
+  pub single_low : (n : Production) (e : ExprTree) (l : Limit) (ts : Tokens) → derives n l e ts → waiting n ≤ 4 → IsLegalExpression s e → width_of s e ≡ 1
       → peak s e ≤ 6 + 12 * expr_depth e
   single_low n e l ts d few legal one =
       one_low (peak s e) (width_of s e) (waiting (made_by e)) (expr_depth e) (peak_low s small.sound small.formals e l ts d.1 legal) one

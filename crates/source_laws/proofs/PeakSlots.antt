@@ -32,7 +32,7 @@ use Rattle.well_typed.specs.SoundScopes.{AreIn, IsSoundResult, SoundScope}
 use Rattle.well_typed.proofs.Expressions.{not_false}
 use Rattle.well_typed.proofs.Goods.{Good, GoodCallee, good_first, good_select, no_constant_parts, part_unbroken, sound_form}
 use Rattle.well_typed.proofs.Positions.{named}
-use Rattle.expr_code.specs.Emitting.{IsLegal}
+use Rattle.expr_code.specs.Emitting.{IsLegalExpression}
 use Rattle.expr_code.specs.Refusing.{words_below}
 use Rattle.expr_code.specs.Widths.{own_words, width_of}
 use Rattle.expr_code.proofs.Widths.{Fits, boolean_one, fits, integral_one, known, numeric_one}
@@ -106,7 +106,7 @@ module _ (s : Scope) where
     fits_one Anything own narrow f = absurd narrow
 
     -- what stands in such a slot is a legal expression of one word
-    pub slot_width : (slot : Slot) (e : ExprTree) → IsNarrow s slot → argument_faults s slot (Value e) ≡ [] → IsLegal s e × (width_of s e ≡ 1)
+    pub slot_width : (slot : Slot) (e : ExprTree) → IsNarrow s slot → argument_faults s slot (Value e) ≡ [] → IsLegalExpression s e × (width_of s e ≡ 1)
     slot_width (Expects w) e narrow h =
         let inside = faults_in s w e in
         let ends = mismatch s w (own_of s e) (start_of e) in (
@@ -232,7 +232,7 @@ module _ (s : Scope) where
         no_value : value_rule first.place (standing_of s first selectors) ≡ [] → standing_of s first selectors ≡ standing.Statement → ⊥
         no_value h is = let k = subst (λ u. value_rule first.place u ≡ []) is h in cc
 
-        pub value_path : IsLegal s (tree.Named first selectors) → IsPath first.place begins selectors
+        pub value_path : IsLegalExpression s (tree.Named first selectors) → IsPath first.place begins selectors
         value_path h =
             let parts = name_faults s first selectors in
             let whole = value_rule first.place (standing_of s first selectors) in

@@ -23,7 +23,7 @@ use Rattle.expr_rules.specs.Typing.{boolean_wanted, own_of}
 use Rattle.expr_rules.proofs.TypedLaw.{back_empty, front_empty}
 use Rattle.well_typed.specs.SoundScopes.{SoundScope}
 use Rattle.expr_code.specs.Branches.{Branch, in_front}
-use Rattle.expr_code.specs.Emitting.{IsLegal}
+use Rattle.expr_code.specs.Emitting.{IsLegalExpression}
 use Rattle.expr_code.specs.OperatorCode.{binary_operation}
 use Rattle.expr_code.specs.Refusing.{argument_peak, arguments_peak, elsifs_peak, peak, selectors_peak, words_below}
 use Rattle.expr_code.specs.Widths.{AreWide, width_of}
@@ -153,23 +153,23 @@ spelled_parts condition value elsifs last l ts d =
     }
 
 module _ (s : Scope) (sound : SoundScope s) where
-  pub legal_of : (w : Wanted) (e : ExprTree) → faults_of s w e ≡ [] → IsLegal s e
+  pub legal_of : (w : Wanted) (e : ExprTree) → faults_of s w e ≡ [] → IsLegalExpression s e
   legal_of w e h = record { wanted = w; unbroken = front_empty (faults_in s w e) (mismatch s w (own_of s e) (start_of e)) h }
 
   -- all are legal, conditions take one word, and values as many as the whole
   pub record AreParts (condition value : ExprTree) (elsifs : ElsifValueTrees) (last whole : ExprTree) : Type 0 where
-    pub condition_legal : IsLegal s condition
+    pub condition_legal : IsLegalExpression s condition
     pub condition_one : width_of s condition ≡ 1
-    pub value_legal : IsLegal s value
+    pub value_legal : IsLegalExpression s value
     pub value_wide : width_of s value ≡ width_of s whole
     pub wanted : Wanted
     pub others : elsif_faults s wanted elsifs ≡ []
     pub others_wide : AreWide s (width_of s value) (listed elsifs)
-    pub last_legal : IsLegal s last
+    pub last_legal : IsLegalExpression s last
     pub last_wide : width_of s last ≡ width_of s whole
 
   pub conditional_parts : (place : ℕ) (condition value : ExprTree) (elsifs : ElsifValueTrees) (last : ExprTree)
-      → IsLegal s (tree.Conditional place condition value elsifs last)
+      → IsLegalExpression s (tree.Conditional place condition value elsifs last)
       → AreParts condition value elsifs last (tree.Conditional place condition value elsifs last)
   conditional_parts place condition value elsifs last h =
       let w = conditional_wanted s h.wanted value elsifs last in
@@ -181,7 +181,7 @@ module _ (s : Scope) (sound : SoundScope s) where
       let two = front_empty (c ++ v) m three in
       let same = listed_is elsifs in
       let wide = conditional_wide s sound place condition value (listed elsifs) last
-      (subst (λ x. IsLegal s (tree.Conditional place condition value x last)) (sym same) h) in
+      (subst (λ x. IsLegalExpression s (tree.Conditional place condition value x last)) (sym same) h) in
       let whole : width_of s value ≡ width_of s (tree.Conditional place condition value elsifs last) =
       wide.whole ∙ ap (λ x. width_of s (tree.Conditional place condition value x last)) same in
       record {
@@ -196,14 +196,14 @@ module _ (s : Scope) (sound : SoundScope s) where
         last_wide = wide.last ∙ whole;
       }
 
-  pub inside_legal : (place : ℕ) (e : ExprTree) → IsLegal s (tree.Parenthesized place e) → IsLegal s e
+  pub inside_legal : (place : ℕ) (e : ExprTree) → IsLegalExpression s (tree.Parenthesized place e) → IsLegalExpression s e
   inside_legal place e h = record { wanted = h.wanted; unbroken = h.unbroken }
 
   -- ---- all expressions
 
   module _ (few : FewFormals s) where
     mutual
-      pub peak_low : (e : ExprTree) (l : Limit) (ts : Tokens) → made e l ts → IsLegal s e
+      pub peak_low : (e : ExprTree) (l : Limit) (ts : Tokens) → made e l ts → IsLegalExpression s e
           → peak s e ≤ max (width_of s e) (2 + waiting (made_by e) + 12 * expr_depth e)
       peak_low (tree.Number z place) l ts d h = number_bound 1
       peak_low (tree.Named first selectors) l ts d h =
@@ -321,7 +321,7 @@ module _ (s : Scope) (sound : SoundScope s) where
       argument_low slot (Text label place) l ts d narrow h = omega arith
 
     -- where any expression may stand
-    pub expression_low : (e : ExprTree) (l : Limit) (ts : Tokens) → expression l e ts → IsLegal s e → peak s e ≤ max (width_of s e) (6 + 12 * expr_depth e)
+    pub expression_low : (e : ExprTree) (l : Limit) (ts : Tokens) → expression l e ts → IsLegalExpression s e → peak s e ≤ max (width_of s e) (6 + 12 * expr_depth e)
     expression_low e l ts d h =
         let low = peak_low e l ts d.1 h in
         let few = waits (made_by e) Expression d.0 in

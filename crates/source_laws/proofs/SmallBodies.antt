@@ -37,9 +37,9 @@ use Rattle.stmt_code.specs.Refusing.{Needs, beyond_if, both}
 use Rattle.stmt_code.specs.WholeRefusals.{procedure_needs}
 use Rattle.expr_code.specs.declared.visible.Slot.{Slot}
 use Rattle.ada_link.specs.Package.{place_among}
-use Rattle.ada_link.specs.Refusing.{RefusesProgram, slot_in, told_behind, function_if_any, item_needs, items_needs, program_needs, seen_at}
+use Rattle.ada_link.specs.Refusing.{RefusesLinking, slot_in, told_behind, function_if_any, item_needs, items_needs, program_needs, seen_at}
 use Rattle.ada_link.proofs.Adding.{body_legal, value_legal}
-use Rattle.source_laws.specs.Depths.{AreHeld, FunctionsHaveRoom, HasRoom, IsSmallVisible, IsSmallFunction, IsSmallProcedure, ProceduresHaveRoom}
+use Rattle.source_laws.specs.Depths.{AreStored, FunctionsHaveRoom, StaysWithinLimits, IsSmallVisible, IsSmallFunction, IsSmallProcedure, ProceduresHaveRoom}
 use Rattle.source_laws.specs.Limits.{SmallHasRoom, SmallIsUnlimited}
 use Rattle.source_laws.specs.Small.{IsSmall, SmallCodeFits, body_loops}
 use Rattle.source_laws.specs.Visible.{FrontsAreSmall, NothingIsUnfit}
@@ -130,7 +130,7 @@ value_there limit body ts e h is = cc
 abbrev IsMade : Needs → Type 0
 IsMade n = n.outside ≡ false
 
-room_of_both : (a b : Needs) → HasRoom a → HasRoom b → HasRoom (both a b)
+room_of_both : (a b : Needs) → StaysWithinLimits a → StaysWithinLimits b → StaysWithinLimits (both a b)
 room_of_both a b h k =
     record { stack = most a.stack b.stack h.stack k.stack; frame = most a.frame b.frame h.frame k.frame; fit = or_from a.unfit b.unfit h.fit k.fit }
   where
@@ -140,9 +140,9 @@ room_of_both a b h k =
 abbrev HaveRoom : ProgramTree → (place : ℕ) → List BodyItemTree → Type 0
 HaveRoom t place xs = (k : ℕ) (d : SubprogramTree) (b : BodyTree) → slice_get xs k ≡ Some (SubprogramBody d b)
     → IsMade (item_needs t (behind place k) (SubprogramBody d b))
-    → HasRoom (item_needs t (behind place k) (SubprogramBody d b))
+    → StaysWithinLimits (item_needs t (behind place k) (SubprogramBody d b))
 
-items_room : (t : ProgramTree) (place : ℕ) (xs : List BodyItemTree) → HaveRoom t place xs → IsMade (items_needs t place xs) → HasRoom (items_needs t place xs)
+items_room : (t : ProgramTree) (place : ℕ) (xs : List BodyItemTree) → HaveRoom t place xs → IsMade (items_needs t place xs) → StaysWithinLimits (items_needs t place xs)
 items_room t place [] room made = record { stack = omega arith; frame = omega arith; fit = refl }
 items_room t place (x ∷ rest) room made =
     let parts = or_parts (item_needs t place x).outside (items_needs t (suc place) rest).outside made in
@@ -151,9 +151,9 @@ items_room t place (x ∷ rest) room made =
   where
     one : (y : BodyItemTree)
         → ((d : SubprogramTree) (b : BodyTree) → Some y ≡ Some (SubprogramBody d b) → IsMade (item_needs t place (SubprogramBody d b))
-        → HasRoom (item_needs t place (SubprogramBody d b)))
+        → StaysWithinLimits (item_needs t place (SubprogramBody d b)))
         → IsMade (item_needs t place y)
-        → HasRoom (item_needs t place y)
+        → StaysWithinLimits (item_needs t place y)
     one (SubprogramBody d b) f own = f d b refl own
     one (OfItem d) f own = record { stack = omega arith; frame = omega arith; fit = refl }
     one (TaskBody name b) f own = record { stack = omega arith; frame = omega arith; fit = refl }
@@ -161,17 +161,17 @@ items_room t place (x ∷ rest) room made =
 
 -- ---- words of what is visible in front of a body stand among those of the package
 
-held_with : (from : ℕ) (xs : List Object) (name : List ℕ) (rest : List (Option Slot)) → AreHeld rest → AreHeld (place_among from xs name ∷ rest)
+held_with : (from : ℕ) (xs : List Object) (name : List ℕ) (rest : List (Option Slot)) → AreStored rest → AreStored (place_among from xs name ∷ rest)
 held_with from [] name rest h = h
 held_with from (x ∷ xs) name rest h =
     by_test (bytes_eq x.name name) (held_with (from + length (value_words x.value)) xs name rest h)
   where
-    by_test : (b : Bool) → AreHeld (place_among (from + length (value_words x.value)) xs name ∷ rest)
-        → AreHeld (cond b (Some (record { region = regions.Plain; offset = from })) (place_among (from + length (value_words x.value)) xs name) ∷ rest)
+    by_test : (b : Bool) → AreStored (place_among (from + length (value_words x.value)) xs name ∷ rest)
+        → AreStored (cond b (Some (record { region = regions.Plain; offset = from })) (place_among (from + length (value_words x.value)) xs name) ∷ rest)
     by_test true k = (refl, h)
     by_test false k = k
 
-all_held : (t : ProgramTree) (first : ℕ) (s : Scope) → AreHeld (told_behind first (slot_in t) s)
+all_held : (t : ProgramTree) (first : ℕ) (s : Scope) → AreStored (told_behind first (slot_in t) s)
 all_held t first [] = tt
 all_held t zero (n ∷ s) = held_with 0 (program_of t).variables n.name (told_behind zero (slot_in t) s) (all_held t zero s)
 all_held t (suc first) (n ∷ s) = all_held t first s
@@ -250,12 +250,12 @@ module _ (premises : PremisesHold) (names : NamesAreKnown) (scopes : ScopesAreSo
       under : (a c e f : ℕ) → a ≤ c → max e (max c f) ≤ 16 → a ≤ 16
       under a c e f h k = omega (arith, h, k)
 
-  body_room : IsMade (item_needs t place (SubprogramBody d b)) → HasRoom (item_needs t place (SubprogramBody d b))
+  body_room : IsMade (item_needs t place (SubprogramBody d b)) → StaysWithinLimits (item_needs t place (SubprogramBody d b))
   body_room made = by_result d.result refl made
     where
       by_value : (r : Identifier) → d.result ≡ Some r → (o : Option ExprTree) → returned b.statements ≡ o
           → IsMade (function_if_any (seen_at t (suc place)) d.formals (subtype_named (program_of t).scope r) o)
-          → HasRoom (function_if_any (seen_at t (suc place)) d.formals (subtype_named (program_of t).scope r) o)
+          → StaysWithinLimits (function_if_any (seen_at t (suc place)) d.formals (subtype_named (program_of t).scope r) o)
       by_value r some (Some e) is own =
           functions (seen_at t (suc place)) d.formals (subtype_named (program_of t).scope r) e
           (fronts limit t tokens spelled legal restricted small (suc place))
@@ -267,7 +267,7 @@ module _ (premises : PremisesHold) (names : NamesAreKnown) (scopes : ScopesAreSo
             | None ↦ procedure_needs (seen_at t (suc place)) (program_of t).exceptions d.formals b
             | Some x ↦ function_if_any (seen_at t (suc place)) d.formals (subtype_named (program_of t).scope x) (returned b.statements)
           ])
-          → HasRoom (elim r [
+          → StaysWithinLimits (elim r [
             | None ↦ procedure_needs (seen_at t (suc place)) (program_of t).exceptions d.formals b
             | Some x ↦ function_if_any (seen_at t (suc place)) d.formals (subtype_named (program_of t).scope x) (returned b.statements)
           ])
@@ -289,17 +289,17 @@ small_has_room premises names scopes fronts procedures functions limit t tokens 
   where
     at_place : (k : ℕ) (d : SubprogramTree) (b : BodyTree) → slice_get (declared_in t.package_) k ≡ Some (SubprogramBody d b)
         → IsMade (item_needs t (behind 0 k) (SubprogramBody d b))
-        → (IsMade (item_needs t k (SubprogramBody d b)) → HasRoom (item_needs t k (SubprogramBody d b)))
-        → HasRoom (item_needs t (behind 0 k) (SubprogramBody d b))
+        → (IsMade (item_needs t k (SubprogramBody d b)) → StaysWithinLimits (item_needs t k (SubprogramBody d b)))
+        → StaysWithinLimits (item_needs t (behind 0 k) (SubprogramBody d b))
     at_place k d b at own f =
         let same : k ≡ behind 0 k = (let e = behind_is 0 k in omega (arith, e)) in
-        subst (λ n. IsMade (item_needs t n (SubprogramBody d b)) → HasRoom (item_needs t n (SubprogramBody d b))) same f own
+        subst (λ n. IsMade (item_needs t n (SubprogramBody d b)) → StaysWithinLimits (item_needs t n (SubprogramBody d b))) same f own
 
 pub small_is_unlimited : SmallHasRoom → SmallCodeFits → NothingIsUnfit → SmallIsUnlimited
 small_is_unlimited has_room fits unfit limit t tokens spelled legal restricted small made refused =
     by_reason (has_room limit t tokens spelled legal restricted small made) refused
   where
-    by_reason : HasRoom (program_needs t) → RefusesProgram t refusal.Limit → ⊥
+    by_reason : StaysWithinLimits (program_needs t) → RefusesLinking t refusal.Limit → ⊥
     by_reason room (inl (inl many)) = let up = (fits limit t tokens spelled legal restricted small).instructions in omega (arith, many, up)
     by_reason room (inl (inr (inl deep))) = let one = room.stack in let two = room.frame in omega (arith, deep, one, two)
     by_reason room (inl (inr (inr bad))) = let none = unfit limit t tokens spelled legal restricted in let never = sym none ∙ bad in cc

@@ -25,7 +25,7 @@ use Rattle.declaring.specs.BodyNames.{formals_scope}
 use Rattle.stmt_rules.specs.declared.around.BodyKind.{BodyKind}
 use Rattle.legality.specs.BodyRules.{body_faults}
 use Rattle.well_typed.specs.SoundScopes.{SoundScope}
-use Rattle.expr_code.specs.Emitting.{IsLegal}
+use Rattle.expr_code.specs.Emitting.{IsLegalExpression}
 use Rattle.expr_code.specs.Refusing.{peak}
 use Rattle.expr_code.specs.Seeing.{profile_named}
 use Rattle.expr_code.specs.Widths.{width_of}
@@ -94,15 +94,15 @@ pub record IsSmallScope (s : Scope) : Type 0 where
   pub objects : ObjectsHaveRoom s
 
 -- the words of visible objects stand in a frame, or are those of the package
-abbrev pub AreHeld : List (Option Slot) → Type 0
-AreHeld [] = ⊤
-AreHeld (None ∷ rest) = AreHeld rest
-AreHeld (Some x ∷ rest) = (holds_variables x.region ≡ true) × AreHeld rest
+abbrev pub AreStored : List (Option Slot) → Type 0
+AreStored [] = ⊤
+AreStored (None ∷ rest) = AreStored rest
+AreStored (Some x ∷ rest) = (holds_variables x.region ≡ true) × AreStored rest
 
 -- ... and where their words stand
 pub record IsSmallVisible (v : Visible) : Type 0 where
   pub names : IsSmallScope v.scope
-  pub slots : AreHeld v.slots
+  pub slots : AreStored v.slots
 
 -- ---- expressions
 
@@ -111,7 +111,7 @@ pub record IsSmallVisible (v : Visible) : Type 0 where
 -- parameters wait for the eighth.
 abbrev pub PeaksAreLow : Type 0
 PeaksAreLow =
-    (s : Scope) → SoundScope s → FewFormals s → (e : ExprTree) (limit : Limit) (tokens : Tokens) → expression limit e tokens → IsLegal s e
+    (s : Scope) → SoundScope s → FewFormals s → (e : ExprTree) (limit : Limit) (tokens : Tokens) → expression limit e tokens → IsLegalExpression s e
     → peak s e ≤ max (width_of s e) (6 + 12 * expr_depth e)
 
 -- ---- whole subprograms
@@ -139,7 +139,7 @@ pub record IsSmallFunction (s : Scope) (fs : List Formal) (t : Subtype) (e : Exp
   pub words : formals_words s (formals_scope s fs) fs ≤ 64
 
 -- A frame and its operand stack are no larger than an image's, and no value that is handled has words that an image has not.
-pub record HasRoom (n : Needs) : Type 0 where
+pub record StaysWithinLimits (n : Needs) : Type 0 where
   pub stack : n.stack ≤ FRAME_WORDS
   pub frame : n.frame ≤ FRAME_WORDS
   pub fit : n.unfit ≡ false
@@ -149,10 +149,10 @@ abbrev pub ProceduresHaveRoom : Type 0
 ProceduresHaveRoom =
     (v : Visible) (exceptions : List (List ℕ)) (fs : List Formal) (b : BodyTree) → IsSmallVisible v → IsSmallProcedure v.scope fs b
     → (procedure_needs v exceptions fs b).outside ≡ false
-    → HasRoom (procedure_needs v exceptions fs b)
+    → StaysWithinLimits (procedure_needs v exceptions fs b)
 
 abbrev pub FunctionsHaveRoom : Type 0
 FunctionsHaveRoom =
     (v : Visible) (fs : List Formal) (t : Subtype) (e : ExprTree) → IsSmallScope v.scope → IsSmallFunction v.scope fs t e
     → (function_needs v fs t e).outside ≡ false
-    → HasRoom (function_needs v fs t e)
+    → StaysWithinLimits (function_needs v fs t e)

@@ -7,18 +7,18 @@ use Rattle.ada_tree.specs.ProgramGrammar.{program}
 use Rattle.checking.specs.ProgramRules.{IsLegal}
 use Rattle.ravenscar.specs.ProgramRules.{IsRestricted}
 use Rattle.expr_code.specs.declared.refusal.Refusal.TheVariants as refusal
-use Rattle.ada_link.specs.Refusing.{RefusesProgram, program_needs}
-use Rattle.source_laws.specs.Depths.{HasRoom}
+use Rattle.ada_link.specs.Refusing.{RefusesLinking, program_needs}
+use Rattle.source_laws.specs.Depths.{StaysWithinLimits}
 use Rattle.source_laws.specs.Small.{IsSmall}
 
 -- frames and operand stacks of its bodies have room
 abbrev pub SmallHasRoom : Type 0
 SmallHasRoom = (limit : Limit) (t : ProgramTree) (tokens : List Token) → program limit t tokens
     → IsLegal t → IsRestricted t → IsSmall t tokens → (program_needs t).outside ≡ false
-    → HasRoom (program_needs t)
+    → StaysWithinLimits (program_needs t)
 
 -- so it passes no limit
 abbrev pub SmallIsUnlimited : Type 0
 SmallIsUnlimited = (limit : Limit) (t : ProgramTree) (tokens : List Token) → program limit t tokens
     → IsLegal t → IsRestricted t → IsSmall t tokens → (program_needs t).outside ≡ false
-    → RefusesProgram t refusal.Limit → ⊥
+    → RefusesLinking t refusal.Limit → ⊥

@@ -6,7 +6,7 @@ use Rattle.ada_tree.specs.ProgramTree.{ProgramTree}
 use Rattle.ada_tree.specs.Language.{Limit}
 use Rattle.ada_tree.specs.ProgramGrammar.{program}
 use Rattle.expr_code.specs.declared.refusal.Refusal.TheVariants as refusal
-use Rattle.ada_link.specs.Refusing.{RefusesProgram, is_spelled, program_needs}
+use Rattle.ada_link.specs.Refusing.{RefusesLinking, is_spelled, program_needs}
 
 -- a text that tokens spell, and the tree that they spell
 pub record IsText (text : List ℕ) (tokens : List Token) (t : ProgramTree) : Type 0 where
@@ -20,5 +20,5 @@ TextsAreSpelled = (text : List ℕ) (tokens : List Token) (t : ProgramTree) → 
 
 -- so a text is outside only where its tree has what no code is made of
 abbrev pub OutsideIsTold : Type 0
-OutsideIsTold = (text : List ℕ) (tokens : List Token) (t : ProgramTree) → IsText text tokens t → RefusesProgram t refusal.Outside
+OutsideIsTold = (text : List ℕ) (tokens : List Token) (t : ProgramTree) → IsText text tokens t → RefusesLinking t refusal.Outside
     → (program_needs t).outside ≡ true

@@ -28,7 +28,7 @@ use Rattle.expr_code.specs.Views.{At}
 use Rattle.expr_code.specs.Code.{Adds, Extends, Holds, StandsFrom, here}
 use Rattle.expr_code.specs.Emitting as expressions
 use Rattle.expr_code.specs.Emitting.{EmitsExpression}
-use Rattle.expr_code.specs.Flows.{AreKept, Flows}
+use Rattle.expr_code.specs.Flows.{AreKeptBetween, Flows}
 use Rattle.expr_code.specs.Computing.{Computes}
 use Rattle.expr_code.specs.Seeing.{Package, Sees, Suits, library_of}
 use Rattle.expr_code.specs.declared.code.Code.{Code}
@@ -39,7 +39,7 @@ use Rattle.stmt_code.specs.Handling.{Handling}
 use Rattle.stmt_code.specs.Bounds.{handlers_words, sequence_bound, stmt_bound, stmts_bound, stmts_words}
 use Rattle.stmt_code.specs.Covering.{EmitsSequence}
 use Rattle.stmt_code.specs.Suiting.{SuitsStatements}
-use Rattle.stmt_code.specs.Emitting.{Allows, AreLegal, AreLegalHandlers, Emits, EmitsDeclarations, EmitsStatement, EmitsStatements, HasLabels, IsLegal, IsReached, Meant, Serves, seeing}
+use Rattle.stmt_code.specs.Emitting.{Allows, AreLegalStatements, AreLegalHandlers, Emits, EmitsDeclarations, EmitsStatement, EmitsStatements, HasLabels, IsLegalStatement, IsReachable, Meant, Serves, seeing}
 use Rattle.stmt_code.specs.Resting.{Framed}
 use Rattle.stmt_code.specs.Statements.{AreStatements, IsSequence, IsStatement, Numbers, Ways}
 use Rattle.stmt_code.specs.declared.draft.Draft.{Draft}
@@ -110,7 +110,7 @@ same_place o place a is e = some_same a place (sym e ∙ is)
 
 -- a jump from an empty operand stack to a place that is reached
 pub jump_kept : (i : Sections) (s : Subprogram) (low high place to : ℕ) → slice_get i.instructions place ≡ Some (record { depth = 0; operation = op.Jump to })
-    → IsReached i low high to → AreKept i s low high place (suc place) 0
+    → IsReachable i low high to → AreKeptBetween i s low high place (suc place) 0
 jump_kept i s low high place to there r =
     kept_one i s low high place 0 0 (op.Jump to) there (omega arith) (omega arith) refl refl (omega arith) (omega arith) refl (λ e. absurd cc)
     (λ a e.
@@ -126,8 +126,8 @@ module _ (v : Visible) where
     pub value_kept : (i : Sections) (s : Subprogram) (low high : ℕ) → low ≤ here a → here c ≤ high → Holds i (here a) c → SuitsStatements v i s → c.deepest ≤ s.stack
         → has_operands o ≡ true → names_things i s o ≡ true → taken_by i s.results o ≤ 1 → 1 - taken_by i s.results o + given_by i o ≡ 0 → is_return o ≡ false
         → has_depth i (here c) 0 ≡ true
-        → ((t : ℕ) → jump_target o ≡ Some t → IsReached i low high t)
-        → AreKept i s low high (here a) (here c) 0
+        → ((t : ℕ) → jump_target o ≡ Some t → IsReachable i low high t)
+        → AreKeptBetween i s low high (here a) (here c) 0
     value_kept i s low high down up h suits deep operands names takes leaves is_none ends reached =
         let next = added_here m c 1 o q in
         let grows = added_extends m c 1 o q in
@@ -138,7 +138,7 @@ module _ (v : Visible) where
         let first = runs.flows i s (holds_before i (here a) m c grows h) suits.names (omega (arith, grows.deeper, deep)) within last.begins in
         kept_then i s low high (here a) (here m) (here c) 0 1
         (widened i s (here a) (here m) low high (here a) (here m) 0 down (omega (arith, next, up)) first)
-        (subst (λ n. AreKept i s low high (here m) n 1) (sym next) last)
+        (subst (λ n. AreKeptBetween i s low high (here m) n 1) (sym next) last)
 
   module _ (w : Ways) where
     -- ---- nothing, and one behind the other
@@ -209,7 +209,7 @@ module _ (v : Visible) where
     -- ---- jumps to the ways out
 
     jump_emits : (Is : Meant) (a c : Draft) (place size : ℕ) → 1 ≤ size
-        → ((i : Sections) (s : Subprogram) (low high : ℕ) → Allows i s low high w → IsReached i low high place)
+        → ((i : Sections) (s : Subprogram) (low high : ℕ) → Allows i s low high w → IsReachable i low high place)
         → ((i : Sections) (program : Program) (g : Package) (numbers : Numbers) (f : Framed) (handling : Handling) (from : ℕ)
         → At i from (op.Jump place)
         → Is i program g numbers f handling from (suc from))
@@ -227,7 +227,7 @@ module _ (v : Visible) where
               subst (λ n. Is i program g numbers f handling (here a.code) n) (sym next)
               (means i program g numbers f handling (here a.code) (added_at a.code c.code 0 (op.Jump place) q i (here a.code) (omega arith) h));
           flows = λ i s low high down up h l suits deep wide ends ways.
-              subst (λ n. AreKept i s low high (here a.code) n 0) (sym next)
+              subst (λ n. AreKeptBetween i s low high (here a.code) n 0) (sym next)
               (jump_kept i s low high (here a.code) place (added_there a.code c.code 0 (op.Jump place) q i (here a.code) (omega arith) h)
               (reached i s low high ways));
         }
@@ -274,7 +274,7 @@ module _ (v : Visible) where
           );
           flows = λ i s low high down up h l suits deep wide ends ways.
               value_kept a.code m c.code o p.extends p.flows q i s low high down up h suits deep refl refl (omega arith) (omega arith) refl ends
-              (λ t g. subst (IsReached i low high) (sym (same_place o place t refl g)) (ways.exit place way));
+              (λ t g. subst (IsReachable i low high) (sym (same_place o place t refl g)) (ways.exit place way));
         }
 
     -- ---- statements in a loop
@@ -370,14 +370,14 @@ pub none_there : {A : Type 0} (xs : List A) → length xs ≡ 0 → xs ≡ []
 none_there [] e = refl
 none_there (x ∷ xs) e = absurd (omega (arith, e))
 
-pub wanted_legal : (s : Scope) (w : Wanted) (e : ExprTree) → faults_of s w e ≡ [] → expressions.IsLegal s e
+pub wanted_legal : (s : Scope) (w : Wanted) (e : ExprTree) → faults_of s w e ≡ [] → expressions.IsLegalExpression s e
 wanted_legal s w e h = record { wanted = w; unbroken = front_empty (faults_in s w e) (mismatch s w (own_of s e) (start_of e)) h }
 
-pub exit_condition : (s : Scope) (place : ℕ) (x : Option ExprTree) (e : ExprTree) → x ≡ Some e → IsLegal s (statements.Exit place x) → condition_faults s e ≡ []
+pub exit_condition : (s : Scope) (place : ℕ) (x : Option ExprTree) (e : ExprTree) → x ≡ Some e → IsLegalStatement s (statements.Exit place x) → condition_faults s e ≡ []
 exit_condition s place x e is h =
     back_empty (exit_rule h.around place) (condition_faults s e) (ap (λ y. exit_rule h.around place ++ optional_condition_faults s y) (sym is) ∙ h.unbroken)
 
-module _ (s : Scope) (place : ℕ) (ds : List DeclarationTree) (body : StmtTrees) (all : HandlerTrees) (h : IsLegal s (statements.Block place ds body all)) where
+module _ (s : Scope) (place : ℕ) (ds : List DeclarationTree) (body : StmtTrees) (all : HandlerTrees) (h : IsLegalStatement s (statements.Block place ds body all)) where
   abbrev own_faults : Faults
   own_faults = locals_faults s ds ++ stmts_faults (locals_scope s ds) h.around body
 
@@ -390,13 +390,13 @@ module _ (s : Scope) (place : ℕ) (ds : List DeclarationTree) (body : StmtTrees
   pub block_declarations : locals_faults s ds ≡ []
   block_declarations = front_empty (locals_faults s ds) (stmts_faults (locals_scope s ds) h.around body) both
 
-  pub block_body : AreLegal (locals_scope s ds) body
+  pub block_body : AreLegalStatements (locals_scope s ds) body
   block_body = record { around = h.around; unbroken = back_empty (locals_faults s ds) (stmts_faults (locals_scope s ds) h.around body) both }
 
   pub block_handlers : AreLegalHandlers (locals_scope s ds) all
   block_handlers = record { around = h.around; before = []; unbroken = back_empty own_faults handler_faults h.unbroken }
 
-pub statement_legal : (s : Scope) (all : List Stmt) (n : ℕ) (x : Stmt) → n < length all → x ≡ get_or all n x → AreLegal s (stmt_trees all) → IsLegal s (stmt_tree x)
+pub statement_legal : (s : Scope) (all : List Stmt) (n : ℕ) (x : Stmt) → n < length all → x ≡ get_or all n x → AreLegalStatements s (stmt_trees all) → IsLegalStatement s (stmt_tree x)
 statement_legal s all n x less is h = record { around = h.around; unbroken = at all n less is h.unbroken }
   where
     at : (all : List Stmt) (n : ℕ) → n < length all → x ≡ get_or all n x → stmts_faults s h.around (stmt_trees all) ≡ [] → stmt_faults s h.around (stmt_tree x) ≡ []

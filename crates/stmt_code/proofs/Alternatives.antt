@@ -21,7 +21,7 @@ use Rattle.expr_code.specs.Code.{Adds, Extends, Holds, StandsFrom, here}
 use Rattle.expr_code.specs.Computing.{Computes}
 use Rattle.expr_code.specs.Emitting as expressions
 use Rattle.expr_code.specs.Emitting.{EmitsExpression}
-use Rattle.expr_code.specs.Flows.{AreKept}
+use Rattle.expr_code.specs.Flows.{AreKeptBetween}
 use Rattle.expr_code.specs.Seeing.{Sees, library_of}
 use Rattle.expr_code.specs.declared.code.Code.{Code}
 use Rattle.expr_code.specs.declared.visible.Visible.{Visible}
@@ -29,7 +29,7 @@ use Rattle.expr_code.proofs.Flowing.{kept_one, kept_then, widened}
 use Rattle.expr_code.proofs.Growing.{added_extends, added_here, extends_trans}
 use Rattle.stmt_code.specs.Alternatives.{AddsAlternatives, AreLegalAlternatives, AreLegalChoices, AreSelected, in_front}
 use Rattle.stmt_code.specs.Bounds.{alternatives_bound, stmt_bound}
-use Rattle.stmt_code.specs.Emitting.{AreLegal, EmitsOpen, EmitsStatement, EmitsStatements, IsLegal, MeantTo, Serves}
+use Rattle.stmt_code.specs.Emitting.{AreLegalStatements, EmitsOpen, EmitsStatement, EmitsStatements, IsLegalStatement, MeantTo, Serves}
 use Rattle.stmt_code.specs.Statements.{AreAlternatives, IsChoice, IsStatement, Ways}
 use Rattle.stmt_code.specs.declared.draft.Draft.{Draft}
 use Rattle.stmt_code.proofs.Adding.{IsBeside, jump_kept, labels_before, labels_beside, labels_then, mapped_next, most_beside, take_all, taken_beside}
@@ -140,7 +140,7 @@ module _ (v : Visible) (w : Ways) (e : ExprTree) where
           (omega (arith, closing.deeper, deepest)) (let m = most_beside valued new still in omega (arith, m, wide)) closes.begins ways in
           let choosing = first.flows i s low high (here closed) down (omega (arith, chosen_extends.longer)) (omega (arith, patch.long, up, over))
           (in_chosen i end up j) (omega (arith, chosen_extends.deeper, deepest)) (ap (λ m. has_depth i m 1) (sym patch.long) ∙ more) in_body.begins in
-          subst (λ m. AreKept i s low high (here start.code) m 1) (sym (patch.long ∙ four))
+          subst (λ m. AreKeptBetween i s low high (here start.code) m 1) (sym (patch.long ∙ four))
           (kept_then i s low high (here start.code) (here valued.code) (suc (here valued.code)) 1 0
           (kept_then i s low high (here start.code) (here chosen.code) (here valued.code) 1 0 choosing in_body) closes);
     }
@@ -310,7 +310,7 @@ module _ (v : Visible) (w : Ways) (e : ExprTree) where
           let value = widened i s (here start.code) (here valued.code) low high (here start.code) (here valued.code) 0 down
           (omega (arith, valued_extends.longer, up, over))
           (first.flows.flows i s (in_value i end j) suits.names (omega (arith, valued_extends.deeper, deep)) one middle.begins) in
-          subst (λ m. AreKept i s low high (here start.code) m 0) (sym five)
+          subst (λ m. AreKeptBetween i s low high (here start.code) m 0) (sym five)
           (kept_then i s low high (here start.code) (here selected.code) (suc (here selected.code)) 0 1
           (kept_then i s low high (here start.code) (here valued.code) (here selected.code) 0 1 value middle) last);
     }
@@ -328,7 +328,7 @@ module _ (v : Visible) (w : Ways) (e : ExprTree) where
 
 -- ---- what is legal
 
-module _ (s : Scope) (place : ℕ) (e : ExprTree) (all : AlternativeTrees) (h : IsLegal s (statements.Case place e all)) where
+module _ (s : Scope) (place : ℕ) (e : ExprTree) (all : AlternativeTrees) (h : IsLegalStatement s (statements.Case place e all)) where
   two_faults : (selecting_faults s e ++ alternatives_faults s h.around (choices_wanted s (own_of s e)) [] all) ≡ []
   two_faults = front_empty (selecting_faults s e ++ alternatives_faults s h.around (choices_wanted s (own_of s e)) [] all) (others_rule place all) h.unbroken
 
@@ -342,12 +342,12 @@ module _ (s : Scope) (place : ℕ) (e : ExprTree) (all : AlternativeTrees) (h : 
     unbroken = back_empty (selecting_faults s e) (alternatives_faults s h.around (choices_wanted s (own_of s e)) [] all) two_faults;
   }
 
-pub selecting_legal : (s : Scope) (e : ExprTree) → selecting_faults s e ≡ [] → expressions.IsLegal s e
+pub selecting_legal : (s : Scope) (e : ExprTree) → selecting_faults s e ≡ [] → expressions.IsLegalExpression s e
 selecting_legal s e h = record { wanted = _; unbroken = selecting_inside s e h }
 
 pub record AlternativeIsLegal (s : Scope) (e : ExprTree) (x : Alternative) : Type 0 where
   pub choices : AreLegalChoices s e (choices_tree x.choices)
-  pub body : AreLegal s (stmt_trees x.statements.items)
+  pub body : AreLegalStatements s (stmt_trees x.statements.items)
 
 pub alternative_legal : (s : Scope) (e : ExprTree) (all : List Alternative) (n : ℕ) (x : Alternative) → n < length all → x ≡ get_or all n x
     → AreLegalAlternatives s e (alternative_trees all)

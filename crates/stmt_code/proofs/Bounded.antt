@@ -41,8 +41,8 @@ use Rattle.expr_code.specs.Widths.{width_of}
 use Rattle.expr_code.specs.declared.visible.Slot.{Slot}
 use Rattle.expr_code.specs.declared.visible.Visible.{Visible}
 use Rattle.expr_code.proofs.Widths.{integral_one, known}
-use Rattle.stmt_code.specs.Emitting.{AreLegal, HasEntries, IsLegal, Serves, seeing}
-use Rattle.stmt_code.specs.Layout.{EndsBy}
+use Rattle.stmt_code.specs.Emitting.{AreLegalStatements, HasEntries, IsLegalStatement, Serves, seeing}
+use Rattle.stmt_code.specs.Layout.{EndsBelow}
 use Rattle.stmt_code.specs.Resting.{Framed}
 use Rattle.stmt_code.specs.Turns.{BeginsRange}
 use Rattle.stmt_code.specs.declared.draft.Draft.{Draft}
@@ -59,11 +59,11 @@ use Rattle.stmt_code.proofs.Widening.{scope_wider}
 -- ---- what is legal
 
 module _ (s : Scope) (place : ℕ) (parameter : Identifier) (reversed : Bool) (range : RangeTree) (body : StmtTrees)
-    (h : IsLegal s (Loop place (For parameter reversed range) body)) where
+    (h : IsLegalStatement s (Loop place (For parameter reversed range) body)) where
   pub loop_range : loop_faults s parameter range ≡ []
   loop_range = front_empty (loop_faults s parameter range) (stmts_faults (loop_scope s parameter range) (in_loop h.around) body) h.unbroken
 
-  pub loop_body : AreLegal (loop_scope s parameter range) body
+  pub loop_body : AreLegalStatements (loop_scope s parameter range) body
   loop_body = record {
     around = in_loop h.around;
     unbroken = back_empty (loop_faults s parameter range) (stmts_faults (loop_scope s parameter range) (in_loop h.around) body) h.unbroken;
@@ -83,7 +83,7 @@ module _ (s : Scope) (sound : SoundScope s) (e : ExprTree) (h : faults_of s AnyI
   pub integer_width : width_of s e ≡ 1
   integer_width = integral_one s (own_of s e) integer_own
 
-  pub integer_legal : expressions.IsLegal s e
+  pub integer_legal : expressions.IsLegalExpression s e
   integer_legal = wanted_legal s AnyInteger e h
 
 -- the type of the bounds
@@ -215,7 +215,7 @@ module _ (stay : ShapesStay) (v later : Visible) (start opened : Draft) (paramet
       agrees = subst (λ z. Agrees z (record serves.place { locals = object ∷ serves.place.locals })) (sym scope_is)
           (kept.parameter v.scope serves.place parameter.name of_type.number (pos 0) serves.agrees hidden of_type.integers);
       laid = parameter_laid kept sized g (seeing f v) inner serves.laid sound parameter.name of_type.number slot t.limit holds stay;
-      ends = subst (EndsBy inner) top
+      ends = subst (EndsBelow inner) top
           (parameter_ends kept sized g (seeing f v) inner serves.laid sound parameter.name of_type.number slot t.limit holds stay start.words.taken serves.ends
           r.counter);
       below = subst (AreBelow inner.reserved) top

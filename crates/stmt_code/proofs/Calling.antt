@@ -44,13 +44,13 @@ use Rattle.expr_code.proofs.Coming.{acts, after_first}
 use Rattle.expr_code.proofs.Coming as coming
 use Rattle.expr_code.proofs.Calling.{enters, inner as callee, refused, replicated}
 use Rattle.expr_code.specs.declared.visible.Visible.{Visible}
-use Rattle.stmt_code.specs.Resting.{AreHeld, Framed, Narrows, RestsWith}
+use Rattle.stmt_code.specs.Resting.{AreHeld, Framed, NarrowsFrame, RestsWith}
 use Rattle.stmt_code.specs.Copying.{AreCopies, ArePlaced, actuals_on, addresses_of, copies_on, held_at, left_out, passed_actuals, passed_expression, passed_words, taken}
 use Rattle.stmt_code.specs.declared.call.Destination.{Destination}
 use Rattle.stmt_code.specs.Handling.{GoesBy, unhandled}
-use Rattle.stmt_code.specs.Statements.{IsCall, IsProcedure, Numbers, parameter_subtype, shapes_of}
+use Rattle.stmt_code.specs.Statements.{IsCall, IsProcedureCode, Numbers, parameter_subtype, shapes_of}
 use Rattle.stmt_code.specs.Jumping.{Here, Jumps, There}
-use Rattle.stmt_code.specs.Standing.{Going, Leads, LeadsEnd, Shares, WaitsFor, items_size, work_size}
+use Rattle.stmt_code.specs.Standing.{Going, LeadsByWays, LeadsEnd, Shares, WaitsFor, items_size, work_size}
 use Rattle.stmt_code.specs.Laws.{HasCode}
 use Rattle.stmt_code.proofs.Going.{declares_end, declares_follow, earlier, jumps_up, narrows_same, parameters_end, parameters_follow, same_end}
 use Rattle.stmt_code.proofs.Sizes.{item_counts}
@@ -133,7 +133,7 @@ module _ (this : Scene) where
   abbrev Meet : TaskState → Type 0
   Meet s = scene.Meet this s
 
-  abbrev Meets : source.Stepped → steps.Stepped → Type 0
+  abbrev Meets : source.SourceStepped → steps.Stepped → Type 0
   Meets x y = scene.Meets this x y
 
   abbrev Setting : Type 0
@@ -218,7 +218,7 @@ module _ (this : Scene) where
     met_procedure : (i' : Item) (items : List Item) → w.work ≡ Goes (i' ∷ items) → s.frame.stack ≡ [] → s.raising ≡ None
         → (a : Setting) (now' : Framed) (at mid to : ℕ) (q : Procedure) (number : ℕ) (ds : List Destination) (v : Val Actuals)
         → source.item_step now i' items ≡ with_value now v items (λ x. source.plain_call now q x items)
-        → Leads i program g numbers a f.subprogram f.place at to now'
+        → LeadsByWays i program g numbers a f.subprogram f.place at to now'
         → at ≤ mid
         → suc mid ≤ to
         → numbers q ≡ Some number
@@ -240,7 +240,7 @@ module _ (this : Scene) where
         outside depth inner goes =
         by_left (frames_left items) refl
       where
-        proc : IsProcedure i program g numbers q number
+        proc : IsProcedureCode i program g numbers q number
         proc = has.procedures name q number found numbered
 
         names : List (List ℕ)
@@ -268,7 +268,7 @@ module _ (this : Scene) where
         few : (n : ℕ) → frames_left items ≡ suc n → suc (length fs) < FRAMES
         few n e = omega (arith, e, depth)
 
-        step_of : Actuals → source.Stepped
+        step_of : Actuals → source.SourceStepped
         step_of z = source.enters now Quiet (activation_of q z.values) (body_of q z.targets items)
 
         words_of_call : Actuals → List ℤ
@@ -332,7 +332,7 @@ module _ (this : Scene) where
               handling = proc.middle;
             } in
             let enter = proc.enters z.values addresses locals given.0 given.1 (as_many z ez) (replicated (proc.s.locals - proc.s.parameters)) in
-            let ending : (last : Framed) → (from : ℕ) → Jumps i from proc.stop → In number from → Narrows g last proc.middle
+            let ending : (last : Framed) → (from : ℕ) → Jumps i from proc.stop → In number from → NarrowsFrame g last proc.middle
             → (same : proc.begins.reserved ≡ proc.middle.reserved)
             → LeadsEnd i program g numbers (seeing last around) number from last names addresses =
             λ last from jumps inside nar same. record {
@@ -355,7 +355,7 @@ module _ (this : Scene) where
               next = (omega (arith, x.0, u, le), omega (arith, y.1, over));
               handles = leads.reaches.2;
             } in
-            let last : (begun : Narrows g proc.begun proc.begins) → Narrows g proc.runs.later proc.middle → Follow (seeing proc.runs.later around) number proc.runs.mid
+            let last : (begun : NarrowsFrame g proc.begun proc.begins) → NarrowsFrame g proc.runs.later proc.middle → Follow (seeing proc.runs.later around) number proc.runs.mid
             (statements_of q z.targets items) (caller ∷ fs) (w.own ∷ w.callers) =
             λ begun nar.
             let same : proc.begins.reserved ≡ proc.middle.reserved = sym begun.reserved ∙ proc.orders.reserved in (
@@ -398,7 +398,7 @@ module _ (this : Scene) where
                 goes_within i a.raised at mid to to goes le (omega arith),
               ),
             ) in
-            let middle : (begun : Narrows g proc.begun proc.begins) → Follow (seeing proc.begun around) number proc.first (declarations_of q z.targets items)
+            let middle : (begun : NarrowsFrame g proc.begun proc.begins) → Follow (seeing proc.begun around) number proc.first (declarations_of q z.targets items)
             (caller ∷ fs) (w.own ∷ w.callers) =
             λ begun.
             earlier i program g numbers (declarations_of q z.targets items) (seeing proc.middle around) proc.begun number proc.first proc.first (caller ∷ fs)
@@ -563,7 +563,7 @@ module _ (this : Scene) where
         let counted = pushed.0 in
         let targets = targets_many outer.visible.names xs in
         let next : Frame = record { subprogram = c.subprogram; place = suc c.place; locals = c.locals; stack = stack; role = c.role } in
-        let after' : source.Stepped = record {
+        let after' : source.SourceStepped = record {
           effect = Quiet;
           solo = record
               { memory = store; task = record { work = source.copying vs xs items; own = o; callers = older } };

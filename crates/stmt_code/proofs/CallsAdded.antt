@@ -42,11 +42,11 @@ use Rattle.expr_code.proofs.Flowing.{Changes, flows_then, instruction_flows, wid
 use Rattle.expr_code.proofs.Growing.{added_at, added_extends, added_here, extends_trans, holds_before, holds_later}
 use Rattle.stmt_code.specs.Copying.{AreCopies}
 use Rattle.stmt_code.specs.declared.call.Destination.{Destination}
-use Rattle.stmt_code.specs.Emitting.{EmitsStatement, IsLegal, Serves}
-use Rattle.stmt_code.specs.Passing.{ArePassedInFront, ArePassedWell, ComputesActuals, EmitsActuals, EmitsCopies, actuals_behind, copied_width}
+use Rattle.stmt_code.specs.Emitting.{EmitsStatement, IsLegalStatement, Serves}
+use Rattle.stmt_code.specs.Passing.{ArePassedInFront, ArePassedAndPlaced, ComputesActuals, EmitsPassedActuals, EmitsCopies, actuals_behind, copied_width}
 use Rattle.stmt_code.specs.Suiting.{SuitsStatements}
 use Rattle.stmt_code.specs.Resting.{Framed}
-use Rattle.stmt_code.specs.Statements.{IsCalled, Numbers, Ways}
+use Rattle.stmt_code.specs.Statements.{IsCalleeCode, Numbers, Ways}
 use Rattle.stmt_code.specs.declared.draft.Draft.{Draft}
 use Rattle.stmt_code.proofs.Actuals.{computes_none}
 use Rattle.stmt_code.proofs.Adding.{IsBeside, labels_beside, most_beside, taken_beside}
@@ -87,7 +87,7 @@ same_actuals path a x (inr h) is = same_some a x (ap actuals_behind (sym h) ∙ 
 
 -- ---- what is legal
 
-module _ (v : Visible) (name : NameTree) (profile : Profile) (names : NamesProfile v.scope name.first.name profile) (legal : IsLegal v.scope (statements.Call name)) where
+module _ (v : Visible) (name : NameTree) (profile : Profile) (names : NamesProfile v.scope name.first.name profile) (legal : IsLegalStatement v.scope (statements.Call name)) where
   abbrev it : Standing
   it = standing.Callee (callee.Direct names.number)
 
@@ -124,9 +124,9 @@ flows_too : (v : Visible) (a c : Code) (one two : ℕ) → Flows (Suits v) a one
 flows_too v a c one two p = record { flows = λ i s h suits deep high is. p.flows i s h suits.names deep high is }
 
 module _ (quiet : QuietStays) (v : Visible) (w : Ways) (a c : Draft) (m n : Code) (name : NameTree) (profile : Profile)
-    (names : NamesProfile v.scope name.first.name profile) (legal : IsLegal v.scope (statements.Call name)) (number : ℕ)
+    (names : NamesProfile v.scope name.first.name profile) (legal : IsLegalStatement v.scope (statements.Call name)) (number : ℕ)
     (told : subprogram_of v name.first.name ≡ Some number) (all : List Argument) (written : actuals_behind name.selectors ≡ Some (argument_trees all))
-    (ds : List Destination) (height : ℕ) (p : EmitsActuals v a.code 0 profile.formals (map argument_tree all) ds height m)
+    (ds : List Destination) (height : ℕ) (p : EmitsPassedActuals v a.code 0 profile.formals (map argument_tree all) ds height m)
     (q : Adds m height (op.Call number) n) (r : EmitsCopies v n ds 0 c.code) (beside : IsBeside a c) where
   next : here n ≡ suc (here m)
   next = added_here m n height (op.Call number) q
@@ -167,20 +167,20 @@ module _ (quiet : QuietStays) (v : Visible) (w : Ways) (a c : Draft) (m n : Code
         (subst (λ x. ComputesActuals i program g f (here a.code) (here m) (parameters ++ []) x) (trees_are all)
         (passed.computes (here m) [] NoArguments (omega arith) (computes_none quiet i (library_of g) (Sees g f.names) f.names (here m))))
 
-    passes : ArePassedWell i program g f parameters (argument_trees all) ds
+    passes : ArePassedAndPlaced i program g f parameters (argument_trees all) ds
     passes =
-        subst (λ l. ArePassedWell i program g f l (argument_trees all) ds) (nothing_behind parameters)
-        (subst (λ x. ArePassedWell i program g f (parameters ++ []) x ds) (trees_are all)
-        (subst (λ l. ArePassedWell i program g f (parameters ++ []) (arguments_in_front (map argument_tree all) NoArguments) l) (nothing_behind ds)
+        subst (λ l. ArePassedAndPlaced i program g f l (argument_trees all) ds) (nothing_behind parameters)
+        (subst (λ x. ArePassedAndPlaced i program g f (parameters ++ []) x ds) (trees_are all)
+        (subst (λ l. ArePassedAndPlaced i program g f (parameters ++ []) (arguments_in_front (map argument_tree all) NoArguments) l) (nothing_behind ds)
         (passed.passes [] NoArguments [] (passes_none program g serves.scope f))))
 
     copies : AreCopies i program g f (suc (here m)) (here c.code) ds
     copies = subst (λ x. AreCopies i program g f x (here c.code) ds) next
         (r.stands i (holds_later i (here a.code) (here n) c.code to_call.longer h) program g f seen serves.laid)
 
-    calls : IsCalled i program g numbers f (here a.code) (here c.code) name (callee_by program None name.first name.selectors)
+    calls : IsCalleeCode i program g numbers f (here a.code) (here c.code) name (callee_by program None name.first name.selectors)
     calls =
-        subst (IsCalled i program g numbers f (here a.code) (here c.code) name)
+        subst (IsCalleeCode i program g numbers f (here a.code) (here c.code) name)
         (sym (callee_is program name.first name.selectors (argument_trees all) written
         ∙ ap (λ o. callee_with o None (argument_trees all)) found.is))
         (calls_procedure quiet i program g serves.scope numbers f callee_here number

@@ -22,7 +22,7 @@ use Rattle.expr_code.specs.declared.refusal.Refusal.{Refusal}
 use Rattle.expr_code.specs.declared.visible.Visible.{Visible}
 use Rattle.expr_code.proofs.Actuals.{nothing_behind, sizes_are}
 use Rattle.expr_code.proofs.Refusals.{or_left, or_right}
-use Rattle.stmt_code.specs.Passing.{EmitsActuals, EmitsCopies, actuals_behind, copied_width}
+use Rattle.stmt_code.specs.Passing.{EmitsPassedActuals, EmitsCopies, actuals_behind, copied_width}
 use Rattle.stmt_code.specs.Refusing.{IsNeeding, IsPartFit, Needs, RefusesMain, actual_needs, actuals_needs, are_unknown, beyond_if, both, check_words, copies_needs, copy_needs, destinations_for, destinations_of, has_unfit, is_unknown, passed_needs, stacked}
 use Rattle.stmt_code.specs.Suiting.{passed_width}
 use Rattle.stmt_code.specs.declared.call.Destination.{Destination}
@@ -57,7 +57,7 @@ sum_among g w (y ∷ all) (suc n) x less is = (let rest = sum_among g w all n x 
 
 pub actual_refuses : (v : Visible) (old mid : Code) (fs : List FormalParameter) (all : List Argument) (n height : ℕ) (f : FormalParameter) (x : Argument)
     (ds : List Destination) (why : Refusal) → n < length fs → f ≡ get_or fs n f → n < length all → x ≡ get_or all n x
-    → EmitsActuals v old 0 (take n fs) (map argument_tree (take n all)) ds height mid
+    → EmitsPassedActuals v old 0 (take n fs) (map argument_tree (take n all)) ds height mid
     → IsNeeding (here mid + 20 * argument_size (argument_tree x)) (actual_needs height v f (argument_tree x)) why
     → IsNeeding (here old + 20 * total argument_size (map argument_tree all)) (actuals_needs 0 v fs (argument_trees all)) why
 actual_refuses v old mid fs all n height f x ds why less is less_all is_all p r =

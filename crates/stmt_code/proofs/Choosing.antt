@@ -85,7 +85,7 @@ module _ (this : Scene) where
   abbrev Meet : TaskState → Type 0
   Meet s = scene.Meet this s
 
-  abbrev Meets : source.Stepped → steps.Stepped → Type 0
+  abbrev Meets : source.SourceStepped → steps.Stepped → Type 0
   Meets x y = scene.Meets this x y
 
   abbrev Setting : Type 0

@@ -111,7 +111,7 @@ module _ (this : Scene) where
   abbrev Meet : TaskState → Type 0
   Meet s = scene.Meet this s
 
-  abbrev Meets : source.Stepped → steps.Stepped → Type 0
+  abbrev Meets : source.SourceStepped → steps.Stepped → Type 0
   Meets x y = scene.Meets this x y
 
   abbrev Setting : Type 0
@@ -212,7 +212,7 @@ module _ (this : Scene) where
         at : ℕ
         at = address_of a.visible.names x
 
-        go : Value → source.Stepped
+        go : Value → source.SourceStepped
         go y = source.stores now x y (source.copying vs xs items)
 
         shaped : (d : Destination) → ArePlaced a.visible.names (d ∷ []) (x ∷ []) → has_shape (shape_of a.visible.names.scope d.subtype) v ≡ true

@@ -88,7 +88,7 @@ module _ (this : Scene) where
   abbrev Meet : TaskState → Type 0
   Meet s = scene.Meet this s
 
-  abbrev Meets : source.Stepped → steps.Stepped → Type 0
+  abbrev Meets : source.SourceStepped → steps.Stepped → Type 0
   Meets x y = scene.Meets this x y
 
   abbrev Setting : Type 0
@@ -126,7 +126,7 @@ module _ (this : Scene) where
     Spent n from to = Spends (behaviour i schedule) t frames_of (most_steps i) (suc (length fs)) n k (in_frame m from fs) k (in_frame m to fs)
 
     -- the step leaves the task with these items and this activation, and changes nothing else
-    abbrev left_with : Activation → List Item → source.Stepped
+    abbrev left_with : Activation → List Item → source.SourceStepped
     left_with own items = record {
       effect = Quiet;
       solo = record { memory = store; task = record { work = Goes items; own = own; callers = w.callers } };
@@ -161,7 +161,7 @@ module _ (this : Scene) where
 
     -- ---- the range
 
-    range_is : (range : RangeTree) (go : Value → Value → source.Stepped) (items : List Item) (p : Place)
+    range_is : (range : RangeTree) (go : Value → Value → source.SourceStepped) (items : List Item) (p : Place)
         → with_value now (val p range.first) items (λ v. with_value now (val p range.last) items (go v))
         ≡ with_value now (bounds range (call p.frames_left) p) items (λ b. go b.first b.last)
     range_is range go items p = by_first (val p range.first)
@@ -299,7 +299,7 @@ module _ (this : Scene) where
                 (subst (λ q. suc (items_size items) < work_size q) (sym is)
                 (let e = item_counts (Does (Loop place (For parameter reversed range) body)) items in omega (arith, e)))
               where
-                started : source.Stepped
+                started : source.SourceStepped
                 started = if reversed then source.for_turn now parameter.name true y x body items else source.for_turn now parameter.name false x y body items
             by_null false full =
                 turns (turn_first reversed x y) (turn_last reversed x y) (number_bounds x y)
@@ -355,7 +355,7 @@ module _ (this : Scene) where
         step : work_step now w.work ≡ source.next_turn now parameter reversed now' last body items
         step = ap (λ q. work_step now q) is
 
-        go : ℤ → source.Stepped
+        go : ℤ → source.SourceStepped
         go next = source.for_turn now parameter reversed next last body items
 
         by_end : (b : Bool) → are_same now' last ≡ b → Meet (in_frame m (placed f f.place []) fs).task

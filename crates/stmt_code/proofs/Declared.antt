@@ -41,7 +41,7 @@ use Rattle.expr_code.specs.Views.{At}
 use Rattle.expr_code.specs.Code.{Adds, Extends, Holds, here}
 use Rattle.expr_code.specs.Computing.{ComputesChecked}
 use Rattle.expr_code.specs.Emitting.{EmitsChecked, EmitsFitting}
-use Rattle.expr_code.specs.Flows.{AreKept, Flows}
+use Rattle.expr_code.specs.Flows.{AreKeptBetween, Flows}
 use Rattle.expr_code.specs.Seeing.{Package, Sees, Suits, library_of, subprogram_of}
 use Rattle.expr_code.specs.declared.code.Code.{Code}
 use Rattle.expr_code.specs.declared.visible.Slot.{Slot}
@@ -50,9 +50,9 @@ use Rattle.expr_code.proofs.Flowing.{Changes, flows_then, instruction_flows, kep
 use Rattle.expr_code.proofs.Growing.{added_at, added_extends, added_here, extends_self, extends_trans, holds_before, holds_later}
 use Rattle.expr_code.proofs.Going.{uncapped_words}
 use Rattle.stmt_code.specs.Bounds.{declarations_bound, locals_words, words_if_any}
-use Rattle.stmt_code.specs.Emitting.{AddsInitial, EmitsDeclarations, EmitsInitial, EmitsInitialWords, EmitsObject, FitsIfAny, HasEntries, Pushes, Serves, Takes, first_word, seeing}
-use Rattle.stmt_code.specs.Layout.{EndsBy, Spares, Widens}
-use Rattle.stmt_code.specs.Resting.{Framed, Narrows}
+use Rattle.stmt_code.specs.Emitting.{AddsInitial, EmitsDeclarations, EmitsInitial, EmitsInitialWords, EmitsObject, FitsIfAny, HasEntries, Pushes, Serves, TakesWords, first_word, seeing}
+use Rattle.stmt_code.specs.Layout.{EndsBelow, Spares, Widens}
+use Rattle.stmt_code.specs.Resting.{Framed, NarrowsFrame}
 use Rattle.stmt_code.specs.Statements.{AreDeclared, IsDeclared, Numbers}
 use Rattle.stmt_code.specs.Suiting.{SuitsStatements}
 use Rattle.stmt_code.specs.declared.draft.Draft.{Draft}
@@ -78,9 +78,9 @@ block_some n h = at_least 1 n (and_parts (nat_le 1 n) (nat_le n WORDS) h).0
     at_least a b e = search rules
 
 -- words that were told and taken are not more than told
-pub takes_words : (old new : FrameWords) (told n : ℕ) → told ≡ capped n → Takes old told new → new.taken ≤ FRAME_WORDS → Takes old n new
+pub takes_words : (old new : FrameWords) (told n : ℕ) → told ≡ capped n → TakesWords old told new → new.taken ≤ FRAME_WORDS → TakesWords old n new
 takes_words old new told n is takes within =
-    subst (λ k. Takes old k new) (uncapped_words told n is (let taken = takes.taken in omega (arith, taken, within))) takes
+    subst (λ k. TakesWords old k new) (uncapped_words told n is (let taken = takes.taken in omega (arith, taken, within))) takes
 
 -- ---- one declaration
 
@@ -88,7 +88,7 @@ module _ (kept : AgreementIsKept) (sized : ValuesHaveWords) (calls : CallsAreTyp
     (scopes : ScopesAreSound) where
   module _ (v later : Visible) (a c : Draft) (d : ObjectTree) (t : Subtype) (first : ℕ) (sound : SoundScope v.scope) (entries : HasEntries v)
       (legal : local_object_faults v.scope d ≡ []) (named : subtype_of v.scope d.subtype ≡ Some t) (stored : EmitsObject v a.code first t d.value c.code)
-      (takes : Takes a.words (words_of v.scope t) c.words) (first_is : first ≡ a.words.taken) (same : c.labels ≡ a.labels) (same_rows : KeepsRows a c)
+      (takes : TakesWords a.words (words_of v.scope t) c.words) (first_is : first ≡ a.words.taken) (same : c.labels ≡ a.labels) (same_rows : KeepsRows a c)
       (scope : later.scope ≡ local_object_scope v.scope d)
       (slots : later.slots ≡ v.slots ++ Some (record { region = regions.Locals; offset = first }) ∷ [])
       (subprograms : later.subprograms ≡ v.subprograms ++ None ∷ []) where
@@ -129,7 +129,7 @@ module _ (kept : AgreementIsKept) (sized : ValuesHaveWords) (calls : CallsAreTyp
       pub some : 1 ≤ size
       pub flows : (i : Sections) (s : Subprogram) (low high : ℕ) → low ≤ here a.code → here c.code ≤ high → Holds i (here a.code) c.code → SuitsStatements v i s
           → c.code.deepest ≤ s.stack → first + size ≤ s.locals → has_depth i (here c.code) 0 ≡ true
-          → AreKept i s low high (here a.code) (here c.code) 0
+          → AreKeptBetween i s low high (here a.code) (here c.code) 0
       pub stands : (i : Sections) → Holds i (here a.code) c.code → (program : Program) (g : Package) (numbers : Numbers) (f : Framed) → f.names ≡ v
           → Serves program g numbers f a.words.taken
           → Widens f d.name.name r t slot (seeing f later) → Spares f t slot (seeing f later)
@@ -154,7 +154,7 @@ module _ (kept : AgreementIsKept) (sized : ValuesHaveWords) (calls : CallsAreTyp
           → here c.code ≤ high
           → Holds i (here a.code) c.code → SuitsStatements v i s
           → c.code.deepest ≤ s.stack → first + size ≤ s.locals → has_depth i (here c.code) 0 ≡ true
-          → AreKept i s low high (here a.code) (here c.code) 0
+          → AreKeptBetween i s low high (here a.code) (here c.code) 0
       word_flows single grown runs i s low high down up h suits deep within ends =
           value_kept v a.code m c.code (op.StoreLocal first) grown runs q i s low high down up h suits deep refl
           (less_true first s.locals (omega (arith, within, single))) (omega arith) (omega arith) refl ends (λ u e. absurd (no_target u e))
@@ -261,7 +261,7 @@ module _ (kept : AgreementIsKept) (sized : ValuesHaveWords) (calls : CallsAreTyp
 
         words_flow : (i : Sections) (s : Subprogram) (low high : ℕ) → low ≤ here a.code → here c.code ≤ high → Holds i (here a.code) c.code → SuitsStatements v i s
             → c.code.deepest ≤ s.stack → first + size ≤ s.locals → has_depth i (here c.code) 0 ≡ true
-            → AreKept i s low high (here a.code) (here c.code) 0
+            → AreKeptBetween i s low high (here a.code) (here c.code) 0
         words_flow i s low high down up h suits deep within ends =
             widened i s (here a.code) (here c.code) low high (here a.code) (here c.code) 0 down up (words_run.flows i s h suits.names deep (omega arith) ends)
 
@@ -365,7 +365,7 @@ module _ (kept : AgreementIsKept) (sized : ValuesHaveWords) (calls : CallsAreTyp
       sound_here : SoundScope f.names.scope
       sound_here = subst (λ x. SoundScope x.scope) (sym names) sound
 
-      narrows : Narrows g behind f
+      narrows : NarrowsFrame g behind f
       narrows = narrows_wider kept g f behind d.name.name r t slot widens sound_here refl
 
       serves_later : Serves program g numbers behind c.words.taken
@@ -379,7 +379,7 @@ module _ (kept : AgreementIsKept) (sized : ValuesHaveWords) (calls : CallsAreTyp
             (kept.declared f.names.scope serves.place d.name.name r t (initial f.names.scope t) serves.agrees adds.hidden adds.sound (shaped (shape_of f.names.scope t)));
         laid = laid_wider stay g f behind d.name.name r t slot sound_here serves.laid widens refl
             (free_wider stay g f behind d.name.name r t slot sound_here serves.laid widens refl spares);
-        ends = subst (EndsBy behind) (let n = takes.taken in let k = size_here in omega (arith, n, k))
+        ends = subst (EndsBelow behind) (let n = takes.taken in let k = size_here in omega (arith, n, k))
             (ends_wider stay g f behind d.name.name r t slot sound_here serves.laid widens refl a.words.taken serves.ends first_is);
         below = λ n among. (let k = serves.below n among in let more = takes.taken in omega (arith, k, more));
       }

@@ -10,7 +10,7 @@ use Rattle.types.specs.Places.{Place}
 use Rattle.meaning.specs.Works.{Activation}
 use Rattle.expr_code.specs.Seeing.{Package}
 use Rattle.expr_code.specs.Views.{At, View}
-use Rattle.stmt_code.specs.Resting.{Framed, Held, Knows, Rests, RestsWith}
+use Rattle.stmt_code.specs.Resting.{Framed, HeldWord, Knows, Rests, RestsWith}
 use Rattle.stmt_code.specs.Handling.{IsKept, KeepsException}
 use Rattle.stmt_code.specs.Layout.{IsFree, IsLaidOut}
 use Rattle.stmt_code.proofs.Parameters.{IsUnseen, held_stay, number_written, unseen_rests, with_word, word_there}
@@ -34,7 +34,7 @@ rests_reserving g v word a locals h = record {
 
 module _ (quiet : QuietStays) (sized : ValuesHaveWords) (i : Sections) (g : Package) (v : Framed) (laid : IsLaidOut g v) (word place : ℕ)
     (here : At i place (op.StoreLocal word)) (unseen : IsUnseen v word) (free : IsFree v.reserved word 1) (room : word < v.room) where
-  kept : (f : Frame) (held : List Held) (a : Activation) (x : ℕ) → v.room ≤ length f.locals → RestsWith g v held a f.locals
+  kept : (f : Frame) (held : List HeldWord) (a : Activation) (x : ℕ) → v.room ≤ length f.locals → RestsWith g v held a f.locals
       → IsKept i g (reserving word v) word place f held a x
   kept f held a x many rests =
       let less : word < length f.locals = omega (arith, room, many) in

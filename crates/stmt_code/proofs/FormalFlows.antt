@@ -15,13 +15,13 @@ use Rattle.image.specs.declared.subprograms.Subprogram.{Subprogram}
 use Rattle.types.specs.Layouts.{words_of}
 use Rattle.types.specs.Scopes.{Scope}
 use Rattle.expr_code.specs.Code.{Adds, Extends}
-use Rattle.expr_code.specs.Flows.{AreKept, Flows, Keeps}
+use Rattle.expr_code.specs.Flows.{AreKeptBetween, Flows, KeepsInstructionRules}
 use Rattle.expr_code.specs.Seeing.{subprogram_of}
 use Rattle.expr_code.specs.declared.code.Code.{Code}
 use Rattle.expr_code.specs.declared.visible.Visible.{Visible}
 use Rattle.expr_code.proofs.Flowing.{Changes, flows_then, instruction_flows}
 use Rattle.expr_code.proofs.Growing.{added_extends, extends_trans}
-use Rattle.stmt_code.specs.Formals.{BeginsWithin, HasRoom, HasRoomAt, HasWord, HaveRoom}
+use Rattle.stmt_code.specs.Formals.{BeginsWithin, HasFormalRoom, HasRoomAt, HasWord, HaveFormalRoom}
 use Rattle.stmt_code.specs.Subprograms.{CallBare, CallsBare, IsBare}
 use Rattle.stmt_code.specs.declared.formals.PlacedFormal.{PlacedFormal}
 use Rattle.stmt_code.proofs.Adding.{depth_there}
@@ -138,14 +138,14 @@ module _ (i : Sections) (s : Subprogram) (low high place depth : ℕ)
   no_target : (a : ℕ) → None ≡ Some a → ⊥
   no_target a e = cc
 
-  pub return_kept : AreKept i s low high place (suc place) depth
+  pub return_kept : AreKeptBetween i s low high place (suc place) depth
   return_kept = record {
     begins = depth_there i place depth op.Return there;
     shallow = shallow;
     each = λ k x le less is.
         let same = only k x le less is in
-        subst (λ n. Keeps i s low high n x) (sym same.0)
-        (subst (λ y. Keeps i s low high place y) (sym same.1)
+        subst (λ n. KeepsInstructionRules i s low high n x) (sym same.0)
+        (subst (λ y. KeepsInstructionRules i s low high place y) (sym same.1)
         (record { operands = refl; names = refl; depth = keeps; jumps = λ a e. absurd (no_target a e) }));
   }
 
@@ -211,14 +211,14 @@ given_flows s old addressed new depth above address many height x wide more p gr
     (subst (λ n. Flows (HasWord x.offset) addressed n new height) (let up : above ≡ suc depth = omega (arith, more) in up) (q some))))
 
 pub address_flows : (s : Scope) (old new : Code) (depth address height : ℕ) (x : PlacedFormal) → x.address ≡ Some address
-    → Flows (HasRoomAt s address x) old depth new height → Flows (HasRoom s x) old depth new height
+    → Flows (HasRoomAt s address x) old depth new height → Flows (HasFormalRoom s x) old depth new height
 address_flows s old new depth address height x there p =
-    flows_under (HasRoomAt s address x) (HasRoom s x) (λ i q asked. (asked, asked.address address there)) old new depth height p
+    flows_under (HasRoomAt s address x) (HasFormalRoom s x) (λ i q asked. (asked, asked.address address there)) old new depth height p
 
 -- ---- one of several parameters, and one of several calls
 
 pub room_at : (s : Scope) (xs : List PlacedFormal) (n : ℕ) (x other : PlacedFormal) → n < length xs → x ≡ get_or xs n other → (i : Sections) (q : Subprogram)
-    → HaveRoom s xs i q → HasRoom s x i q
+    → HaveFormalRoom s xs i q → HasFormalRoom s x i q
 room_at s xs n x other less is i q all = subst (BeginsWithin s q.locals) (sym is) (All-get_or (BeginsWithin s q.locals) xs n other less all)
 
 pub call_flows : (v : Visible) (all : List MainStatement) (n : ℕ) (s : MainStatement) (package_ procedure : Identifier) (number : ℕ) (old new : Code)

@@ -25,14 +25,14 @@ use Rattle.declaring.specs.BodyNames.{formals_scope}
 use Rattle.well_typed.proofs.Positions.{same_some}
 use Rattle.meaning.specs.Calls.{is_out}
 use Rattle.expr_code.specs.Code.{Adds, Extends, Holds, here}
-use Rattle.expr_code.specs.Flows.{AreKept, Flows}
+use Rattle.expr_code.specs.Flows.{AreKeptBetween, Flows}
 use Rattle.expr_code.specs.Views.{At}
 use Rattle.expr_code.specs.declared.code.Code.{Code}
 use Rattle.expr_code.specs.declared.visible.Visible.{Visible}
 use Rattle.expr_code.proofs.Flowing.{flows_same, flows_then, kept_then}
 use Rattle.expr_code.proofs.Growing.{added_at, added_extends, added_here, added_there, extends_self, extends_trans, holds_before, holds_later}
 use Rattle.stmt_code.specs.Bounds.{words_if_any, words_named}
-use Rattle.stmt_code.specs.Formals.{AddsLoaded, AddsReturned, AreInitial, AreReturned, HasRoom, HasRoomAt, HaveRoom, Initialises, InitialThen, IsLoaded, PlacesFormals, ReturnedThen, Returns, ReturnsOne, StandInTurn, StandsAt, StoresFirstWord, StoresFirstWords, no_subprogram, passed_for, placed_words, returned_more, slot_for, words_returned}
+use Rattle.stmt_code.specs.Formals.{AddsLoaded, AddsReturned, AreInitial, AreReturned, HasFormalRoom, HasRoomAt, HaveFormalRoom, Initialises, InitialThen, IsLoadingCode, PlacesFormals, ReturnedThen, Returns, ReturnsOne, StandInTurn, StandsAt, StoresFirstWord, StoresFirstWords, no_subprogram, passed_for, placed_words, returned_more, slot_for, words_returned}
 use Rattle.stmt_code.specs.declared.draft.FrameWords.{FrameWords}
 use Rattle.stmt_code.specs.declared.formals.PlacedFormal.{PlacedFormal}
 use Rattle.stmt_code.specs.declared.formals.PlacedFormals.{PlacedFormals}
@@ -113,21 +113,21 @@ pub record InitialSoFar (s : Scope) (old : Code) (xs : List PlacedFormal) (n : �
   pub extends : Extends old now
   pub sized : here now + most_initial s (drop n xs) ≤ here old + most_initial s xs
   pub stands : (i : Sections) (to : ℕ) → Holds i (here old) now → AreInitial i s (here now) to (drop n xs) → AreInitial i s (here old) to xs
-  pub flows : Flows (HaveRoom s xs) old 0 now 0
+  pub flows : Flows (HaveFormalRoom s xs) old 0 now 0
 
 pub initial_begins : (s : Scope) (old : Code) (xs : List PlacedFormal) → InitialSoFar s old xs 0 old
-initial_begins s old xs = record { extends = extends_self old; sized = omega arith; stands = λ i to h are. are; flows = flows_same (HaveRoom s xs) old 0 }
+initial_begins s old xs = record { extends = extends_self old; sized = omega arith; stands = λ i to h are. are; flows = flows_same (HaveFormalRoom s xs) old 0 }
 
 module _ (v : Visible) (old now next : Code) (xs : List PlacedFormal) (n : ℕ) (x other : PlacedFormal) (less : n < length xs) (is : x ≡ get_or xs n other)
     (wide : length (value_words (initial v.scope x.subtype)) ≡ words_of v.scope x.subtype) (so_far : InitialSoFar v.scope old xs n now) where
   first_is : drop n xs ≡ x ∷ drop (n + 1) xs
   first_is = at_drop_more (λ l. l) xs n other less ∙ ap (λ y. y ∷ drop (n + 1) xs) (sym is)
 
-  has_word : (i : Sections) (q : Subprogram) → HaveRoom v.scope xs i q → x.offset < q.locals
+  has_word : (i : Sections) (q : Subprogram) → HaveFormalRoom v.scope xs i q → x.offset < q.locals
   has_word i q asked = (room_at v.scope xs n x other less is i q asked).value
 
   -- one that is not copied in
-  begins_next : is_out x.mode ≡ true → here next ≤ here now + (2 + words_of v.scope x.subtype) → Extends now next → Flows (HaveRoom v.scope xs) now 0 next 0
+  begins_next : is_out x.mode ≡ true → here next ≤ here now + (2 + words_of v.scope x.subtype) → Extends now next → Flows (HaveFormalRoom v.scope xs) now 0 next 0
       → ((i : Sections) → Holds i (here old) next → StoresFirstWord i v.scope (here now) (here next) x ⊎ StoresFirstWords i v.scope (here now) (here next) x)
       → InitialSoFar v.scope old xs (n + 1) next
   begins_next out few grows runs begins = record {
@@ -137,7 +137,7 @@ module _ (v : Visible) (old now next : Code) (xs : List PlacedFormal) (n : ℕ) 
         so_far.stands i to (holds_before i (here old) now next grows h)
         (subst (AreInitial i v.scope (here now) to) (sym first_is)
         (subst (λ b. InitialThen i v.scope (here now) x (λ m. AreInitial i v.scope m to (drop (n + 1) xs)) b) (sym out) (here next, begins i h, are)));
-    flows = flows_then (HaveRoom v.scope xs) old now next 0 0 0 so_far.extends grows so_far.flows runs;
+    flows = flows_then (HaveFormalRoom v.scope xs) old now next 0 0 0 so_far.extends grows so_far.flows runs;
   }
 
   -- ... of one word
@@ -148,7 +148,7 @@ module _ (v : Visible) (old now next : Code) (xs : List PlacedFormal) (n : ℕ) 
       let storing = added_extends pushed next 1 (op.StoreLocal x.offset) store in
       let one = added_here now pushed 0 (op.Push q.word) q.adds in
       begins_next out few (extends_trans now pushed next pushing storing)
-      (first_word_flows (HaveRoom v.scope xs) now pushed next x.offset q.word has_word q.adds store)
+      (first_word_flows (HaveFormalRoom v.scope xs) now pushed next x.offset q.word has_word q.adds store)
       (λ i h.
       inl (record {
         word = q.word;
@@ -174,7 +174,7 @@ module _ (v : Visible) (old now next : Code) (xs : List PlacedFormal) (n : ℕ) 
       let many = pushed_here placed pushed 1 all q in
       begins_next out few
       (extends_trans now placed next (added_extends now placed 0 (op.Push (pos x.offset)) address) (extends_trans placed pushed next pushing storing))
-      (first_block_flows (HaveRoom v.scope xs) now placed pushed next x.offset size all block wide address q store)
+      (first_block_flows (HaveFormalRoom v.scope xs) now placed pushed next x.offset size all block wide address q store)
       (λ i h.
       let in_value = holds_before i (here old) pushed next storing h in
       inr (record {
@@ -235,7 +235,7 @@ pub record ReturnedSoFar (s : Scope) (old : Code) (xs : List PlacedFormal) (n he
   pub sized : here now ≤ here old + 3 * length (drop n xs)
   pub high : height ≡ words_returned s (drop n xs)
   pub stands : (i : Sections) → Holds i (here old) now → AreReturned i s (here old) (here now) (drop n xs)
-  pub flows : Flows (HaveRoom s xs) old 0 now height
+  pub flows : Flows (HaveFormalRoom s xs) old 0 now height
 
 pub returned_begins : (s : Scope) (old : Code) (xs : List PlacedFormal) (n : ℕ) → length xs ≤ n → ReturnedSoFar s old xs n 0 old
 returned_begins s old xs n up = record {
@@ -243,7 +243,7 @@ returned_begins s old xs n up = record {
   sized = omega arith;
   high = ap (words_returned s) (sym (drop_all n xs up));
   stands = λ i h. subst (AreReturned i s (here old) (here old)) (sym (drop_all n xs up)) refl;
-  flows = flows_same (HaveRoom s xs) old 0;
+  flows = flows_same (HaveFormalRoom s xs) old 0;
 }
 
 module _ (s : Scope) (old now next : Code) (xs : List PlacedFormal) (n height : ℕ) (x other : PlacedFormal) (less : n < length xs) (is : x ≡ get_or xs n other)
@@ -253,7 +253,7 @@ module _ (s : Scope) (old now next : Code) (xs : List PlacedFormal) (n height : 
 
   -- one that is copied back
   pub returned_next : (a : ℕ) → x.address ≡ Some a → (higher : ℕ) → higher ≡ suc (height + words_of s x.subtype) → AddsReturned s now a x next
-      → Flows (HasRoom s x) now height next higher
+      → Flows (HasFormalRoom s x) now height next higher
       → ReturnedSoFar s old xs n higher next
   returned_next a there higher high q runs = record {
     extends = extends_trans old now next so_far.extends q.extends;
@@ -271,8 +271,8 @@ module _ (s : Scope) (old now next : Code) (xs : List PlacedFormal) (n height : 
           q.addresses i (holds_later i (here old) (here now) next so_far.extends.longer h),
           q.loads i (holds_later i (here old) (here now) next so_far.extends.longer h),
         ));
-    flows = flows_then (HaveRoom s xs) old now next 0 height higher so_far.extends q.extends so_far.flows
-        (flows_under (HasRoom s x) (HaveRoom s xs) (room_at s xs n x other less is) now next height higher runs);
+    flows = flows_then (HaveFormalRoom s xs) old now next 0 height higher so_far.extends q.extends so_far.flows
+        (flows_under (HasFormalRoom s x) (HaveFormalRoom s xs) (room_at s xs n x other less is) now next height higher runs);
   }
 
   -- another one
@@ -316,7 +316,7 @@ returned_all s old now next xs height so_far q = record {
       (omega (arith, q.within, deep)) results in
       let first = so_far.flows.flows i z (holds_before i (here old) now next grows h) room (omega (arith, q.deeper, deep)) last.shallow last.begins in
       kept_then i z (here old) (here now) (here old) (here now) (here next) 0 height first
-      (subst (λ n. AreKept i z (here old) (here now) (here now) n height) (sym ended) last);
+      (subst (λ n. AreKeptBetween i z (here old) (here now) (here now) n height) (sym ended) last);
 }
   where
     grows : Extends now next
@@ -364,8 +364,8 @@ returns_one s old addressed new depth address many x wide p q = record {
   sized = (let e = q.sized in omega (arith, one, e));
   addresses = λ i h. added_at old addressed depth (op.LoadLocal address) p i (here old) (omega arith) (holds_before i (here old) addressed new q.extends h);
   loads = λ i h.
-      subst (λ m. IsLoaded i m (here new) x.offset (words_of s x.subtype)) one
-      (subst (IsLoaded i (here addressed) (here new) x.offset) (sym wide) (q.loads i (holds_later i (here old) (here addressed) new grows.longer h)));
+      subst (λ m. IsLoadingCode i m (here new) x.offset (words_of s x.subtype)) one
+      (subst (IsLoadingCode i (here addressed) (here new) x.offset) (sym wide) (q.loads i (holds_later i (here old) (here addressed) new grows.longer h)));
 }
   where
     grows : Extends old addressed

@@ -32,7 +32,7 @@ use Rattle.expr_code.specs.Views.{At, in_frame, placed, view_of}
 use Rattle.expr_code.specs.declared.visible.Slot.{Slot}
 use Rattle.expr_code.proofs.Coming.{pushes}
 use Rattle.stmt_code.specs.Copying.{GivesBack, copies_on, held_at}
-use Rattle.stmt_code.specs.Formals.{IsLoaded}
+use Rattle.stmt_code.specs.Formals.{IsLoadingCode}
 use Rattle.stmt_code.specs.Layout.{NamesObject}
 use Rattle.stmt_code.specs.Resting.{AreHeld, Framed, IsAtHome, Knows}
 use Rattle.stmt_code.proofs.Assigning.{found_some}
@@ -53,7 +53,7 @@ module _ (i : Sections) (v : Framed) where
     pub role : Role
     pub named : NamesObject v.names.scope name role t
     pub address : At i from (op.LoadLocal held)
-    pub value : IsLoaded i (suc from) to slot.offset (words_of v.names.scope t)
+    pub value : IsLoadingCode i (suc from) to slot.offset (words_of v.names.scope t)
 
   -- all of them, from the last one to the first
   abbrev pub AreGiven : (from to : ℕ) → (names : List (List ℕ)) → (held : List ℕ) → List Subtype → Type 0
@@ -90,7 +90,7 @@ module _ (i : Sections) (v : Framed) where
           × Leads (to - from) from [] to (copies_on vs addresses [])
 
       -- the value's words are put on the operand stack
-      value_loaded : (from to offset size : ℕ) (x : Value) (base : List ℤ) → IsLoaded i from to offset size → Lies f.locals offset x
+      value_loaded : (from to offset size : ℕ) (x : Value) (base : List ℤ) → IsLoadingCode i from to offset size → Lies f.locals offset x
           → length (value_words x) ≡ size
           → Leads (to - from) from base to (on base x)
       value_loaded from to offset size x base (inl h) lies many =
@@ -150,7 +150,7 @@ module _ (i : Sections) (v : Framed) where
                 (value_loaded (suc mid) to one.slot.offset (words_of v.names.scope s) x.value (pos a ∷ base) one.value lies wide))),
           )
         where
-          loaded_up : (from to offset size : ℕ) → IsLoaded i from to offset size → from ≤ to
+          loaded_up : (from to offset size : ℕ) → IsLoadingCode i from to offset size → from ≤ to
           loaded_up from to offset size (inl h) = let end = h.2 in omega (arith, end)
           loaded_up from to offset size (inr h) = let end = h.2 in omega (arith, end)
 

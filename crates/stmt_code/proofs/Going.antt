@@ -7,22 +7,22 @@ use Rattle.meaning.specs.Programs.{Parameter, Program}
 use Rattle.meaning.specs.Works.{Item, Declares, DeclaresParameter, Sequence, Does, DoesMain, Repeats, RepeatsWhile, RepeatsFor, Handles, EndsHandler, EndsCall, Activation, ends_of_calls}
 use Rattle.meaning.specs.SourceSteps.{before, behind_loop, end_of_body}
 use Rattle.expr_code.specs.Seeing.{Package}
-use Rattle.stmt_code.specs.Resting.{AreHeld, Framed, Narrows, Shows, held_offset}
+use Rattle.stmt_code.specs.Resting.{AreHeld, Framed, NarrowsFrame, Shows, held_offset}
 use Rattle.stmt_code.specs.Handling.{GoesBy, exception_in}
 use Rattle.stmt_code.specs.Copying.{addresses_of}
 use Rattle.stmt_code.specs.Counting.{IsCounted, in_turn}
 use Rattle.stmt_code.specs.Statements.{AreDeclared, AreParametersDeclared, AreStatements, Numbers}
 use Rattle.stmt_code.specs.Jumping.{Here, Jumps, There}
-use Rattle.stmt_code.specs.Standing.{Around, Follows, Inside, IsOutermost, Leads, LeadsBack, LeadsBehind, LeadsEnd, LeadsInto, LeadsNext, LeadsOut, LeadsOver, Reaches, with_visible}
+use Rattle.stmt_code.specs.Standing.{Around, Follows, Inside, IsOutermost, LeadsByWays, LeadsBack, LeadsBehind, LeadsEnd, LeadsInto, LeadsNext, LeadsOut, LeadsOver, ReachesWays, with_visible}
 use Rattle.stmt_code.proofs.Handling.{goes_within}
 
-pub narrows_same : (g : Package) (v : Framed) → Narrows g v v
+pub narrows_same : (g : Package) (v : Framed) → NarrowsFrame g v v
 narrows_same g v = record { shows = λ p view h. h; reserved = refl }
 
-pub shows_then : (g : Package) (a b c : Framed) → Narrows g a b → Shows g b c → Shows g a c
+pub shows_then : (g : Package) (a b c : Framed) → NarrowsFrame g a b → Shows g b c → Shows g a c
 shows_then g a b c x y p view h = y p view (x.shows p view h)
 
-pub narrows_both : (g : Package) (a b c : Framed) → Narrows g a b → Narrows g b c → Narrows g a c
+pub narrows_both : (g : Package) (a b c : Framed) → NarrowsFrame g a b → NarrowsFrame g b c → NarrowsFrame g a c
 narrows_both g a b c x y = record { shows = shows_then g a b c x y.shows; reserved = x.reserved ∙ y.reserved }
 
 abbrev pub rest_of : {A : Type 0} → List A → List A
@@ -55,8 +55,8 @@ module _ (i : Sections) (program : Program) (g : Package) (numbers : Numbers) wh
 
   -- from an earlier place, with more visible
 
-  earlier_leads : (a : Setting) (more : Framed) (n x y at to : ℕ) (now : Framed) → Jump x y → Narrows g more a.visible → In n x
-      → Leads i program g numbers a n y at to now → Leads i program g numbers (seeing more a) n x at to now
+  earlier_leads : (a : Setting) (more : Framed) (n x y at to : ℕ) (now : Framed) → Jump x y → NarrowsFrame g more a.visible → In n x
+      → LeadsByWays i program g numbers a n y at to now → LeadsByWays i program g numbers (seeing more a) n x at to now
   earlier_leads a more n x y at to now j nar ins h = record {
     jumps = jumps_both j h.jumps;
     narrows = narrows_both g more a.visible now nar h.narrows;
@@ -66,7 +66,7 @@ module _ (i : Sections) (program : Program) (g : Package) (numbers : Numbers) wh
     to_inside = h.to_inside;
   }
 
-  earlier_into : (v more : Framed) (n x y at to : ℕ) (now : Framed) → Jump x y → Narrows g more v → In n x
+  earlier_into : (v more : Framed) (n x y at to : ℕ) (now : Framed) → Jump x y → NarrowsFrame g more v → In n x
       → LeadsInto i program g numbers v n y at to now → LeadsInto i program g numbers more n x at to now
   earlier_into v more n x y at to now j nar ins h = record {
     jumps = jumps_both j h.jumps;
@@ -76,7 +76,7 @@ module _ (i : Sections) (program : Program) (g : Package) (numbers : Numbers) wh
     to_inside = h.to_inside;
   }
 
-  pub into : (a : Setting) (n from at to : ℕ) (now : Framed) → Leads i program g numbers a n from at to now
+  pub into : (a : Setting) (n from at to : ℕ) (now : Framed) → LeadsByWays i program g numbers a n from at to now
       → LeadsInto i program g numbers a.visible n from at to now
   into a n from at to now h = record { jumps = h.jumps; narrows = h.narrows; from_inside = h.from_inside; up = h.up; to_inside = h.to_inside }
 
@@ -98,7 +98,7 @@ module _ (i : Sections) (program : Program) (g : Package) (numbers : Numbers) wh
   abbrev LeadEnd : Setting → (n from : ℕ) → Framed → List (List ℕ) → List ℕ → Type 0
   LeadEnd a n from now names addresses = LeadsEnd i program g numbers a n from now names addresses
 
-  earlier_end : (a : Setting) (more now : Framed) (n x y : ℕ) (names : List (List ℕ)) (addresses : List ℕ) → Jump x y → Narrows g now a.visible → In n x
+  earlier_end : (a : Setting) (more now : Framed) (n x y : ℕ) (names : List (List ℕ)) (addresses : List ℕ) → Jump x y → NarrowsFrame g now a.visible → In n x
       → LeadEnd a n y a.visible names addresses → LeadEnd (seeing more a) n x now names addresses
   earlier_end a more now n x y names addresses j nar ins h = record {
     at = h.at;
@@ -127,7 +127,7 @@ module _ (i : Sections) (program : Program) (g : Package) (numbers : Numbers) wh
   }
 
   earlier_next : (a : Setting) (more : Framed) (n x y head to back counter limit : ℕ) (now last : ℤ) (inner : Framed) (outer : Setting) → Jump x y
-      → Narrows g more a.visible → In n x → LeadsNext i program g numbers a n y head to back counter limit now last inner outer
+      → NarrowsFrame g more a.visible → In n x → LeadsNext i program g numbers a n y head to back counter limit now last inner outer
       → LeadsNext i program g numbers (seeing more a) n x head to back counter limit now last inner outer
   earlier_next a more n x y head to back counter limit now last inner outer j nar ins h = record {
     jumps = jumps_both j h.jumps;
@@ -140,7 +140,7 @@ module _ (i : Sections) (program : Program) (g : Package) (numbers : Numbers) wh
     to_inside = h.to_inside;
   }
 
-  earlier_back : (a : Setting) (more : Framed) (n x y head to : ℕ) (outer : Setting) → Jump x y → Narrows g more a.visible
+  earlier_back : (a : Setting) (more : Framed) (n x y head to : ℕ) (outer : Setting) → Jump x y → NarrowsFrame g more a.visible
       → In n x → LeadsBack i program g numbers a n y head to outer → LeadsBack i program g numbers (seeing more a) n x head to outer
   earlier_back a more n x y head to outer j nar ins h = record {
     back = h.back;
@@ -157,7 +157,7 @@ module _ (i : Sections) (program : Program) (g : Package) (numbers : Numbers) wh
     to_inside = h.to_inside;
   }
 
-  earlier_over : (a : Setting) (more : Framed) (n x y at to : ℕ) (outer : Setting) → Jump x y → Narrows g more a.visible → In n x
+  earlier_over : (a : Setting) (more : Framed) (n x y at to : ℕ) (outer : Setting) → Jump x y → NarrowsFrame g more a.visible → In n x
       → LeadsOver i program g numbers a n y at to outer → LeadsOver i program g numbers (seeing more a) n x at to outer
   earlier_over a more n x y at to outer j nar ins h = record {
     jumps = jumps_both j h.jumps;
@@ -169,7 +169,7 @@ module _ (i : Sections) (program : Program) (g : Package) (numbers : Numbers) wh
     to_inside = h.to_inside;
   }
 
-  earlier_behind : (a : Setting) (more : Framed) (n x y to word exception : ℕ) (outer : Setting) → Jump x y → Narrows g more a.visible → In n x
+  earlier_behind : (a : Setting) (more : Framed) (n x y to word exception : ℕ) (outer : Setting) → Jump x y → NarrowsFrame g more a.visible → In n x
       → LeadsBehind i program g numbers a n y to word exception outer → LeadsBehind i program g numbers (seeing more a) n x to word exception outer
   earlier_behind a more n x y to word exception outer j nar ins h = record {
     jumps = jumps_both j h.jumps;
@@ -181,7 +181,7 @@ module _ (i : Sections) (program : Program) (g : Package) (numbers : Numbers) wh
   }
 
   pub earlier : (items : List Item) (a : Setting) (more : Framed) (n x y : ℕ) (fs : List Frame) (os : List Activation)
-      → Jump x y → Narrows g more a.visible → In n x → Follow a n y items fs os → Follow (seeing more a) n x items fs os
+      → Jump x y → NarrowsFrame g more a.visible → In n x → Follow a n y items fs os → Follow (seeing more a) n x items fs os
   earlier [] a more n x y fs os j nar ins h = (earlier_out a more n x y j ins h.0, h.1, h.2)
   earlier (Declares d ∷ items) a more n x y fs os j nar ins h = (h.0, h.1, h.2, h.3, earlier_leads a more n x y h.0 h.1 h.2 j nar ins h.4, h.5, h.6, h.7, h.8)
   earlier (DeclaresParameter d ∷ items) a more n x y fs os j nar ins h =
@@ -237,7 +237,7 @@ module _ (i : Sections) (program : Program) (g : Package) (numbers : Numbers) wh
 
   -- statements, and then the items
   pub before_follows : (stmts : StmtTrees) (a : Setting) (now : Framed) (n from to : ℕ) (items : List Item) (fs : List Frame) (os : List Activation)
-      → AreStatements i program g numbers now a.ways a.raised from to stmts → from ≤ to → In n from → In n to → Reaches i program g numbers a now
+      → AreStatements i program g numbers now a.ways a.raised from to stmts → from ≤ to → In n from → In n to → ReachesWays i program g numbers a now
       → Follow (seeing now a) n to items fs os
       → Follow (seeing now a) n from (before stmts items) fs os
   before_follows NoStmts a now n from to items fs os code le x y reach rest = subst (λ q. Follow (seeing now a) n q items fs os) (sym code) rest
@@ -261,19 +261,19 @@ module _ (i : Sections) (program : Program) (g : Package) (numbers : Numbers) wh
   -- declarations, and then the items
   pub declares_follow : (ds : List DeclarationTree) (a : Setting) (now later : Framed) (n from to : ℕ) (items : List Item) (fs : List Frame)
       (os : List Activation)
-      → AreDeclared i program g numbers now from to later ds → GoesBy i a.raised from to → from ≤ to → In n from → In n to → Reaches i program g numbers a now
-      → (Narrows g later now → Follow (seeing later a) n to items fs os)
+      → AreDeclared i program g numbers now from to later ds → GoesBy i a.raised from to → from ≤ to → In n from → In n to → ReachesWays i program g numbers a now
+      → (NarrowsFrame g later now → Follow (seeing later a) n to items fs os)
       → Follow (seeing now a) n from (map Declares ds ++ items) fs os
   declares_follow [] a now later n from to items fs os code goes le x y reach rest =
       subst (λ q. Follow (seeing now a) n q items fs os) (sym code.0)
-      (subst (λ q. Follow (seeing q a) n to items fs os) code.1 (rest (subst (λ q. Narrows g q now) (sym code.1) (narrows_same g now))))
+      (subst (λ q. Follow (seeing q a) n to items fs os) code.1 (rest (subst (λ q. NarrowsFrame g q now) (sym code.1) (narrows_same g now))))
   declares_follow (d ∷ ds) a now later n from to items fs os code goes le x y reach rest =
       let mid = code.0 in
       let next = code.1 in
       let u = code.2 in
       let v = code.3 in
       let inside : In n mid = (omega (arith, x.0, u), omega (arith, y.1, v)) in
-      let further : Reaches i program g numbers a next =
+      let further : ReachesWays i program g numbers a next =
       (shows_then g next now a.behind code.5 reach.0, shows_then g next now a.ending code.5 reach.1, shows_then g next now a.handling code.5 reach.2) in (
         from,
         mid,
@@ -290,11 +290,11 @@ module _ (i : Sections) (program : Program) (g : Package) (numbers : Numbers) wh
   -- `out` parameters, and then the items
   pub parameters_follow : (ps : List Parameter) (a : Setting) (now later : Framed) (n from to : ℕ) (items : List Item) (fs : List Frame) (os : List Activation)
       → AreParametersDeclared i program g numbers now from to later ps → from ≤ to → In n from → In n to
-      → (Narrows g later now → Follow (seeing later a) n to items fs os)
+      → (NarrowsFrame g later now → Follow (seeing later a) n to items fs os)
       → Follow (seeing now a) n from (map DeclaresParameter ps ++ items) fs os
   parameters_follow [] a now later n from to items fs os code le x y rest =
       subst (λ q. Follow (seeing now a) n q items fs os) (sym code.0)
-      (subst (λ q. Follow (seeing q a) n to items fs os) code.1 (rest (subst (λ q. Narrows g q now) (sym code.1) (narrows_same g now))))
+      (subst (λ q. Follow (seeing q a) n to items fs os) code.1 (rest (subst (λ q. NarrowsFrame g q now) (sym code.1) (narrows_same g now))))
   parameters_follow (f ∷ ps) a now later n from to items fs os code le x y rest =
       let mid = code.0 in
       let next = code.1 in

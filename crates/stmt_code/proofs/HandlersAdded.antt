@@ -25,13 +25,13 @@ use Rattle.meaning.specs.Programs.{Program}
 use Rattle.meaning.specs.SourceSteps.{some_covers}
 use Rattle.expr_code.specs.Branches.{Joins}
 use Rattle.expr_code.specs.Code.{Adds, Extends, Holds, StandsFrom, here}
-use Rattle.expr_code.specs.Flows.{AreKept, Keeps}
+use Rattle.expr_code.specs.Flows.{AreKeptBetween, KeepsInstructionRules}
 use Rattle.expr_code.specs.Seeing.{Package}
 use Rattle.expr_code.specs.declared.visible.Visible.{Visible}
 use Rattle.expr_code.proofs.Flowing.{kept_one, kept_then}
 use Rattle.expr_code.proofs.Growing.{added_at, added_extends, added_here, added_there, extends_self, extends_trans, holds_before, holds_later}
 use Rattle.stmt_code.specs.Covering.{AddsHandlers, AreEachKept, AreHandling, EmitsApart, IsOwn, bound_of, choice_rows, first_for, in_front}
-use Rattle.stmt_code.specs.Emitting.{Allows, AreLegal, AreLegalHandlers, EmitsStatements, HasLabels, IsHandled, MeantTo, Serves, Takes}
+use Rattle.stmt_code.specs.Emitting.{Allows, AreLegalStatements, AreLegalHandlers, EmitsStatements, HasLabels, IsHandled, MeantTo, Serves, TakesWords}
 use Rattle.stmt_code.specs.Handling.{Handling, or_answer}
 use Rattle.stmt_code.specs.Layout.{IsFree, IsLaidOut}
 use Rattle.stmt_code.specs.Raising.{are_numbered}
@@ -95,7 +95,7 @@ module _ (program : Program) (g : Package) (numbers : Numbers) (f : Framed) (tak
 
 module _ (v : Visible) (w : Ways) (region : Row) (a b c d : Draft) (word target : ℕ) (choices : List ExceptionChoice) (body : StmtTrees)
     (target_is : target ≡ here a.code) (numbered : are_numbered a.exceptions.items choices ≡ true)
-    (word_is : word ≡ a.words.taken) (takes : Takes a.words 1 b.words) (stores : Adds a.code 1 (op.StoreLocal word) b.code) (same : b.labels ≡ a.labels)
+    (word_is : word ≡ a.words.taken) (takes : TakesWords a.words 1 b.words) (stores : Adds a.code 1 (op.StoreLocal word) b.code) (same : b.labels ≡ a.labels)
     (kept : KeepsRows a b) (q : EmitsStatements v (within_handler word w) b body c) (jump : Adds c.code 0 (op.Jump 0) d.code) (still : d.labels ≡ c.labels)
     (words : d.words ≡ record c.words { taken = word }) (same_rows : KeepsRows c d) where
   abbrev row : Row
@@ -205,7 +205,7 @@ module _ (v : Visible) (w : Ways) (region : Row) (a b c d : Draft) (word target 
         (λ t g. absurd cc) in
         let whole = kept_then i s low high (here a.code) (here c.code) (suc (here c.code)) 1 0
         (kept_then i s low high (here a.code) (here b.code) (here c.code) 1 0
-        (subst (λ n. AreKept i s low high (here a.code) n 1) (sym one) first) middle) closes in
+        (subst (λ n. AreKeptBetween i s low high (here a.code) n 1) (sym one) first) middle) closes in
         λ k x le less is. whole.each k x le (omega (arith, less, two)) is
 
   ready_there : slice_get d.code.instructions.items target ≡ Some (record { depth = 1; operation = op.StoreLocal word })
@@ -275,7 +275,7 @@ pub each_then : (i : Sections) (s : Subprogram) (low high from mid to : ℕ) →
     → AreEachKept i s low high from to
 each_then i s low high from mid to first second = λ k x le less is. by k x le less is (either_side k mid)
   where
-    by : (k : ℕ) (x : Instr) → from ≤ k → k < to → slice_get i.instructions k ≡ Some x → (k < mid) ⊎ (mid ≤ k) → Keeps i s low high k x
+    by : (k : ℕ) (x : Instr) → from ≤ k → k < to → slice_get i.instructions k ≡ Some x → (k < mid) ⊎ (mid ≤ k) → KeepsInstructionRules i s low high k x
     by k x le less is (inl small) = first k x le small is
     by k x le less is (inr large) = second k x large less is
 
@@ -477,7 +477,7 @@ module _ (v : Visible) (w : Ways) where
 -- ---- what is legal
 
 pub handler_legal : (s : Scope) (all : List Handler) (n : ℕ) (h : Handler) → n < length all → h ≡ get_or all n h → AreLegalHandlers s (handler_trees all)
-    → AreLegal s (stmt_trees h.statements.items)
+    → AreLegalStatements s (stmt_trees h.statements.items)
 handler_legal s all n h less is legal = record { around = in_handler legal.around; unbroken = at all n legal.before less is legal.unbroken }
   where
     at : (all : List Handler) (n : ℕ) (before : List (List ℕ)) → n < length all → h ≡ get_or all n h

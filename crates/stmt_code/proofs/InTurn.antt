@@ -27,7 +27,7 @@ use Rattle.expr_code.proofs.Actuals.{in_front_then, nothing_behind, sum_then}
 use Rattle.expr_code.proofs.Flowing.{flows_same, flows_then}
 use Rattle.expr_code.proofs.Growing.{extends_self, extends_trans, holds_before, holds_later}
 use Rattle.stmt_code.specs.declared.call.Destination.{Destination}
-use Rattle.stmt_code.specs.Passing.{AddsActuals, ArePassedInFront, ArePassedWell, ComputesActuals, EmitsActuals, copied_width}
+use Rattle.stmt_code.specs.Passing.{AddsActuals, ArePassedInFront, ArePassedAndPlaced, ComputesActuals, EmitsPassedActuals, copied_width}
 use Rattle.stmt_code.specs.Suiting.{passed_width, returned_width}
 use Rattle.stmt_code.specs.Resting.{Framed}
 use Rattle.stmt_code.proofs.Actuals.{ComputesActual, computes_in, computes_more}
@@ -106,9 +106,9 @@ module _ (i : Sections) (program : Program) (g : Package) (v : Framed) where
         (subst (λ l. ComputesActuals i program g v from end (ps ++ (qs ++ others)) l) (sym (in_front_then one two rest))
         (p.computes end (qs ++ others) (arguments_in_front two rest) (omega (arith, up, le)) (q.computes end others rest le later)));
     passes = λ others rest hs well.
-        subst (λ l. ArePassedWell i program g v l (arguments_in_front (one ++ two) rest) ((ds ++ es) ++ hs)) (sym (append_assoc ps qs others))
-        (subst (λ l. ArePassedWell i program g v (ps ++ (qs ++ others)) l ((ds ++ es) ++ hs)) (sym (in_front_then one two rest))
-        (subst (λ l. ArePassedWell i program g v (ps ++ (qs ++ others)) (arguments_in_front one (arguments_in_front two rest)) l) (sym (append_assoc ds es hs))
+        subst (λ l. ArePassedAndPlaced i program g v l (arguments_in_front (one ++ two) rest) ((ds ++ es) ++ hs)) (sym (append_assoc ps qs others))
+        (subst (λ l. ArePassedAndPlaced i program g v (ps ++ (qs ++ others)) l ((ds ++ es) ++ hs)) (sym (in_front_then one two rest))
+        (subst (λ l. ArePassedAndPlaced i program g v (ps ++ (qs ++ others)) (arguments_in_front one (arguments_in_front two rest)) l) (sym (append_assoc ds es hs))
         (p.passes (qs ++ others) (arguments_in_front two rest) (es ++ hs) (q.passes others rest hs well))));
     many = (let a = length-append ds es in
         let b = length-append (results ps) (results qs) in
@@ -129,7 +129,7 @@ module _ (i : Sections) (program : Program) (g : Package) (v : Framed) where
 
 -- ---- code that was added
 
-pub actuals_none : (v : Visible) (c : Code) (depth : ℕ) → EmitsActuals v c depth [] [] [] depth c
+pub actuals_none : (v : Visible) (c : Code) (depth : ℕ) → EmitsPassedActuals v c depth [] [] [] depth c
 actuals_none v c depth = record {
   extends = extends_self c;
   sized = omega arith;
@@ -144,7 +144,7 @@ actuals_none v c depth = record {
     nothing (p ∷ ps) h = absurd cc
 
 pub actuals_then : (v : Visible) (a b c : Code) (depth middle height : ℕ) (fs gs : List FormalParameter) (one two : List ArgumentTree) (ds es : List Destination)
-    → EmitsActuals v a depth fs one ds middle b → EmitsActuals v b middle gs two es height c → EmitsActuals v a depth (fs ++ gs) (one ++ two) (ds ++ es) height c
+    → EmitsPassedActuals v a depth fs one ds middle b → EmitsPassedActuals v b middle gs two es height c → EmitsPassedActuals v a depth (fs ++ gs) (one ++ two) (ds ++ es) height c
 actuals_then v a b c depth middle height fs gs one two ds es p q = record {
   extends = extends_trans a b c p.extends q.extends;
   sized = (let sum = sum_then argument_size one two in let long = length-append ds es in omega (arith, p.sized, q.sized, sum, long));
@@ -162,22 +162,22 @@ actuals_then v a b c depth middle height fs gs one two ds es p q = record {
 pub actuals_next : (v : Visible) (start old new : Code) (depth middle height : ℕ) (formals : List FormalParameter) (all : List Argument) (n : ℕ)
     (f : FormalParameter) (x : Argument) (ds es : List Destination)
     → n < length formals → f ≡ get_or formals n f → n < length all → x ≡ get_or all n x
-    → EmitsActuals v start depth (take n formals) (map argument_tree (take n all)) ds middle old
-    → EmitsActuals v old middle (f ∷ []) (argument_tree x ∷ []) es height new
-    → EmitsActuals v start depth (take (n + 1) formals) (map argument_tree (take (n + 1) all)) (ds ++ es) height new
+    → EmitsPassedActuals v start depth (take n formals) (map argument_tree (take n all)) ds middle old
+    → EmitsPassedActuals v old middle (f ∷ []) (argument_tree x ∷ []) es height new
+    → EmitsPassedActuals v start depth (take (n + 1) formals) (map argument_tree (take (n + 1) all)) (ds ++ es) height new
 actuals_next v start old new depth middle height formals all n f x ds es less is less_all is_all before one =
-    subst (λ l. EmitsActuals v start depth l (map argument_tree (take (n + 1) all)) (ds ++ es) height new) (sym (taken_next formals n f less is))
-    (subst (λ l. EmitsActuals v start depth (take n formals ++ f ∷ []) l (ds ++ es) height new) (sym (mapped_next argument_tree all n x less_all is_all))
+    subst (λ l. EmitsPassedActuals v start depth l (map argument_tree (take (n + 1) all)) (ds ++ es) height new) (sym (taken_next formals n f less is))
+    (subst (λ l. EmitsPassedActuals v start depth (take n formals ++ f ∷ []) l (ds ++ es) height new) (sym (mapped_next argument_tree all n x less_all is_all))
     (actuals_then v start old new depth middle height (take n formals) (f ∷ []) (map argument_tree (take n all)) (argument_tree x ∷ []) ds es before one))
 
 pub all_actuals : (v : Visible) (start new : Code) (depth height : ℕ) (formals : List FormalParameter) (all : List Argument) (ds : List Destination) (n : ℕ)
     → n ≤ length all → length all ≤ n
-    → EmitsActuals v start depth (take n formals) (map argument_tree (take n all)) ds height new
-    → EmitsActuals v start depth (take (length all) formals) (map argument_tree all) ds height new
+    → EmitsPassedActuals v start depth (take n formals) (map argument_tree (take n all)) ds height new
+    → EmitsPassedActuals v start depth (take (length all) formals) (map argument_tree all) ds height new
 all_actuals v start new depth height formals all ds n down up h =
     let same : n ≡ length all = omega (arith, down, up) in
-    subst (λ m. EmitsActuals v start depth (take m formals) (map argument_tree all) ds height new) same
-    (subst (λ l. EmitsActuals v start depth (take n formals) (map argument_tree l) ds height new) (take_all all n up) h)
+    subst (λ m. EmitsPassedActuals v start depth (take m formals) (map argument_tree all) ds height new) same
+    (subst (λ l. EmitsPassedActuals v start depth (take n formals) (map argument_tree l) ds height new) (take_all all n up) h)
 
 -- ---- what is copied back to, in a list
 
@@ -185,11 +185,11 @@ pub adds_none : (v : Visible) (c : Code) (before : List Destination) → AddsAct
 adds_none v c before = record { destinations = []; after_is = sym (nothing_behind before); emits = actuals_none v c 0 }
 
 pub adds_one : (v : Visible) (old new : Code) (depth : ℕ) (f : FormalParameter) (x y : ArgumentTree) (before after ds : List Destination) (height : ℕ) → x ≡ y
-    → after ≡ before ++ ds → EmitsActuals v old depth (f ∷ []) (y ∷ []) ds height new → AddsActuals v old depth (f ∷ []) (x ∷ []) before after height new
+    → after ≡ before ++ ds → EmitsPassedActuals v old depth (f ∷ []) (y ∷ []) ds height new → AddsActuals v old depth (f ∷ []) (x ∷ []) before after height new
 adds_one v old new depth f x y before after ds height same told p = record {
   destinations = ds;
   after_is = told;
-  emits = subst (λ z. EmitsActuals v old depth (f ∷ []) (z ∷ []) ds height new) (sym same) p;
+  emits = subst (λ z. EmitsPassedActuals v old depth (f ∷ []) (z ∷ []) ds height new) (sym same) p;
 }
 
 pub adds_next : (v : Visible) (start old new : Code) (depth middle height : ℕ) (formals : List FormalParameter) (all : List Argument) (n : ℕ)
@@ -217,7 +217,7 @@ all_adds v start new depth height formals all before after n down up p = record 
 -- ---- mode `in`
 
 pub in_emits : QuietStays → (v : Visible) (old new : Code) (depth height : ℕ) (f : FormalParameter) (e : ExprTree) → f.mode ≡ mode.In
-    → height ≡ depth + words_of v.scope f.subtype → EmitsFitting v old depth f.subtype e new → EmitsActuals v old depth (f ∷ []) (tree.Value e ∷ []) [] height new
+    → height ≡ depth + words_of v.scope f.subtype → EmitsFitting v old depth f.subtype e new → EmitsPassedActuals v old depth (f ∷ []) (tree.Value e ∷ []) [] height new
 in_emits quiet v old new depth height f e is up p = record {
   extends = p.extends;
   sized = omega (arith, p.sized);

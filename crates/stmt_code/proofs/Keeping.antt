@@ -28,14 +28,14 @@ use Rattle.well_typed.specs.SoundScopes.{IsKnown, SoundScope}
 use Rattle.well_typed.proofs.Positions.{same_some}
 use Rattle.well_typed.proofs.Widening.{subtype_known}
 use Rattle.expr_code.specs.Code.{Holds, StandsFrom, here}
-use Rattle.expr_code.specs.Flows.{AreKept}
+use Rattle.expr_code.specs.Flows.{AreKeptBetween}
 use Rattle.expr_code.specs.declared.visible.Slot.{Slot}
 use Rattle.expr_code.specs.declared.visible.Visible.{Visible}
 use Rattle.expr_code.proofs.Flowing.{kept_then, widened}
 use Rattle.expr_code.proofs.Growing.{added_at, added_extends, added_here, added_there, extends_trans, holds_before, holds_later}
 use Rattle.stmt_code.specs.Emitting.{Allows, HasEntries, HasLabels, no_ways}
-use Rattle.stmt_code.specs.Formals.{BeginsWithin, HasValue, HaveRoom, PlacesFormals, StandInTurn, StandsAt, no_subprogram, slot_for}
-use Rattle.stmt_code.specs.Subprograms.{AddsFunction, AddsMain, AddsProcedure, CallBare, CallsBare, CallsProcedures, HasWords, KeepsRules, NamesIfCalled, fresh}
+use Rattle.stmt_code.specs.Formals.{BeginsWithin, HasValue, HaveFormalRoom, PlacesFormals, StandInTurn, StandsAt, no_subprogram, slot_for}
+use Rattle.stmt_code.specs.Subprograms.{AddsFunction, AddsMain, AddsProcedure, CallBare, CallsBare, CallsProcedures, HasSubprogramWords, KeepsRules, NamesIfCalled, fresh}
 use Rattle.stmt_code.specs.Suiting.{SuitsStatements, passed_width, returned_width}
 use Rattle.stmt_code.specs.declared.draft.Draft.{Draft}
 use Rattle.stmt_code.specs.declared.draft.FrameWords.{FrameWords}
@@ -154,7 +154,7 @@ module _ (stay : ShapesStay) (added : NamesAreAdded) (v later : Visible) (fs : L
       (let m = places.most in omega (arith, m, wide))
 
   module _ (i : Sections) (s : Subprogram) (wide : framed.most ≤ s.locals) where
-    pub room_for : HaveRoom later.scope items i s
+    pub room_for : HaveFormalRoom later.scope items i s
     room_for = begun_within s.locals wide
 
     pub suits_body : SuitsStatements v i s → SuitsStatements later i s
@@ -184,7 +184,7 @@ module _ (stay : ShapesStay) (added : NamesAreAdded) (v : Visible) (old : Draft)
   wide_run : adds.framed.most ≤ words.locals
   wide_run = let m = adds.runs.most in let l = adds.locals in omega (arith, m, l)
 
-  module _ (i : Sections) (s : Subprogram) (h : Holds i start new.code) (labels : HasLabels i new.labels) (has : HasWords s words)
+  module _ (i : Sections) (s : Subprogram) (h : Holds i start new.code) (labels : HasLabels i new.labels) (has : HasSubprogramWords s words)
       (suits : SuitsStatements v i s) where
     wide : adds.framed.most ≤ s.locals
     wide = let l = has.locals in omega (arith, l, wide_run)
@@ -198,24 +198,24 @@ module _ (stay : ShapesStay) (added : NamesAreAdded) (v : Visible) (old : Draft)
     in_front : Holds i start adds.initial
     in_front = holds_before i start adds.initial adds.run.code adds.runs.extends (holds_before i start adds.run.code new.code adds.returns.extends h)
 
-    given : AreKept i s (here adds.run.code) back (here adds.run.code) (here new.code) 0
+    given : AreKeptBetween i s (here adds.run.code) back (here adds.run.code) (here new.code) 0
     given =
         adds.returns.flows i s (holds_later i start (here adds.run.code) new.code (omega (arith, first_up, run_up)) h)
         (room_for stay added v adds.later fs adds.framed adds.placed sound entries adds.places i s wide) deep has.results
 
-    run_kept : AreKept i s start back (here adds.initial) (here adds.run.code) 0
+    run_kept : AreKeptBetween i s start back (here adds.initial) (here adds.run.code) 0
     run_kept =
         adds.runs.flows i s start back first_up adds.returns.up in_run (subst (HasLabels i) adds.labels labels)
         (suits_body stay added v adds.later fs adds.framed adds.placed sound entries adds.places i s wide suits)
         (let d = adds.returns.extends.deeper in omega (arith, d, deep)) (let l = has.locals in let m = adds.locals in omega (arith, l, m)) given.begins
         (nowhere i s start back)
 
-    first_kept : AreKept i s start (here adds.initial) start (here adds.initial) 0
+    first_kept : AreKeptBetween i s start (here adds.initial) start (here adds.initial) 0
     first_kept =
         adds.initialises.flows.flows i s in_front (room_for stay added v adds.later fs adds.framed adds.placed sound entries adds.places i s wide)
         (let d = adds.returns.extends.deeper in let e = adds.runs.extends.deeper in omega (arith, d, e, deep)) (omega arith) run_kept.begins
 
-    procedure_kept : AreKept i s start back start (here new.code) 0
+    procedure_kept : AreKeptBetween i s start back start (here new.code) 0
     procedure_kept =
         kept_then i s start back start (here adds.initial) (here new.code) 0 0
         (widened i s start (here adds.initial) start back start (here adds.initial) 0 (omega arith) (let u = adds.returns.up in omega (arith, run_up, u))
@@ -268,8 +268,8 @@ module _ (stay : ShapesStay) (added : NamesAreAdded) (v : Visible) (old : Draft)
   wide_value : adds.framed.most ≤ words.locals
   wide_value = let l = adds.locals in omega (arith, l)
 
-  function_kept : (i : Sections) (s : Subprogram) → Holds i (here old.code) new.code → HasLabels i new.labels → HasWords s words → SuitsStatements v i s
-      → AreKept i s (here old.code) (here adds.valued) (here old.code) (here new.code) 0
+  function_kept : (i : Sections) (s : Subprogram) → Holds i (here old.code) new.code → HasLabels i new.labels → HasSubprogramWords s words → SuitsStatements v i s
+      → AreKeptBetween i s (here old.code) (here adds.valued) (here old.code) (here new.code) 0
   function_kept i s h labels has suits =
       let wide : adds.framed.most ≤ s.locals = (let l = has.locals in omega (arith, l, wide_value)) in
       let deep : new.code.deepest ≤ s.stack = (let a = has.stack in let b = adds.stack in omega (arith, a, b)) in
@@ -281,7 +281,7 @@ module _ (stay : ShapesStay) (added : NamesAreAdded) (v : Visible) (old : Draft)
       (suits_body stay added v adds.later fs adds.framed adds.placed sound entries adds.places i s wide suits).names
       (let d = adds.returns.deeper in omega (arith, d, deep)) returned.shallow returned.begins in
       kept_then i s (here old.code) (here adds.valued) (here old.code) (here adds.valued) (here new.code) 0 1 first
-      (subst (λ n. AreKept i s (here old.code) (here adds.valued) (here adds.valued) n 1) (sym value_end) returned)
+      (subst (λ n. AreKeptBetween i s (here old.code) (here adds.valued) (here adds.valued) n 1) (sym value_end) returned)
 
   pub function_keeps : KeepsRules v old words new
   function_keeps = record {
@@ -327,8 +327,8 @@ module _ (v : Visible) (old : Draft) (all : List MainStatement) (words : Subprog
   calls_end : here new.code ≡ suc (here adds.called)
   calls_end = added_here adds.called new.code 0 op.Return adds.returns
 
-  main_kept : (i : Sections) (s : Subprogram) → Holds i (here old.code) new.code → HasLabels i new.labels → HasWords s words → SuitsStatements v i s
-      → AreKept i s (here old.code) (here adds.called) (here old.code) (here new.code) 0
+  main_kept : (i : Sections) (s : Subprogram) → Holds i (here old.code) new.code → HasLabels i new.labels → HasSubprogramWords s words → SuitsStatements v i s
+      → AreKeptBetween i s (here old.code) (here adds.called) (here old.code) (here new.code) 0
   main_kept i s h labels has suits =
       let deep : new.code.deepest ≤ s.stack = (let a = has.stack in let b = adds.stack in omega (arith, a, b)) in
       let returned = return_kept i s (here old.code) (here adds.called) (here adds.called) 0
@@ -337,7 +337,7 @@ module _ (v : Visible) (old : Draft) (all : List MainStatement) (words : Subprog
       (holds_before i (here old.code) adds.called new.code (added_extends adds.called new.code 0 op.Return adds.returns) h)
       (calls_bare v i s suits all called) (let d = adds.returns.deeper in omega (arith, d, deep)) (omega arith) returned.begins in
       kept_then i s (here old.code) (here adds.called) (here old.code) (here adds.called) (here new.code) 0 0 first
-      (subst (λ n. AreKept i s (here old.code) (here adds.called) (here adds.called) n 0) (sym calls_end) returned)
+      (subst (λ n. AreKeptBetween i s (here old.code) (here adds.called) (here adds.called) n 0) (sym calls_end) returned)
 
   pub main_keeps : KeepsRules v old words new
   main_keeps = record {

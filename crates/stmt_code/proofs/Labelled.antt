@@ -13,7 +13,7 @@ use Rattle.ada_tree.specs.declared.statement.Stmt.{Stmt}
 use Rattle.ada_tree.specs.StatementTree.{AlternativeTrees, Block, Call, Case, ElsifTrees, HandlerTrees, If, Loop, MoreAlternatives, MoreElsifs, MoreHandlers, MoreStmts, NoAlternatives, NoElsifs, NoHandlers, NoStmts, StmtTree, StmtTrees, alternative_tree, alternative_trees, alternatives_of, elsif_tree, elsif_trees, elsifs_of, handler_tree, handler_trees, handlers_of, stmt_tree, stmt_trees}
 use Rattle.expr_code.specs.Code.{StandsFrom}
 use Rattle.stmt_code.specs.Labels.{alternatives_labels, elsifs_labels, handlers_labels, is_label, stmt_labels, stmts_labels, with_label, with_line}
-use Rattle.stmt_code.specs.Lines.{Line, line_of}
+use Rattle.stmt_code.specs.Lines.{LabelledValue, line_of}
 
 abbrev Labels : Type 0
 Labels = List (List ℕ)
@@ -71,7 +71,7 @@ label_longer l text = by_test (is_label l text)
     by_test true = omega arith
     by_test false = let one = length-append l (text ∷ []) in omega (arith, one)
 
-line_longer : (l : Labels) (o : Option Line) → length l ≤ length (with_line l o)
+line_longer : (l : Labels) (o : Option LabelledValue) → length l ≤ length (with_line l o)
 line_longer l None = omega arith
 line_longer l (Some line) = label_longer l line.label
 

@@ -15,7 +15,7 @@ use Rattle.well_typed.proofs.Goods.{object_known}
 use Rattle.well_typed.proofs.Positions.{entity_kept, entity_number, item_added, number_added, number_kept, same_some}
 use Rattle.expr_code.specs.Seeing.{Package, slot_of, told_of}
 use Rattle.expr_code.specs.declared.visible.Slot.{Slot}
-use Rattle.stmt_code.specs.Layout.{AreApart, EndsBy, IsLaid, IsLaidOut, NamesObject, Widens, AreFree, IsFree, IsVariable, Spares}
+use Rattle.stmt_code.specs.Layout.{AreApart, EndsBelow, IsLaid, IsLaidOut, NamesObject, Widens, AreFree, IsFree, IsVariable, Spares}
 use Rattle.stmt_code.specs.Resting.{Framed}
 use Rattle.stmt_code.proofs.Names.{WasTold, is_told, same_name, told_of_more}
 
@@ -33,7 +33,7 @@ pub record AddsObject (v : Framed) (name : List ℕ) (r : Role) (t : Subtype) (t
   pub offset : slot.offset ≡ top
   pub fits : top + words_of v.names.scope t ≤ v.room
 
-pub widens_behind : (v later : Framed) (name : List ℕ) (r : Role) (t : Subtype) (top : ℕ) (slot : Slot) → EndsBy v top → AddsObject v name r t top slot later
+pub widens_behind : (v later : Framed) (name : List ℕ) (r : Role) (t : Subtype) (top : ℕ) (slot : Slot) → EndsBelow v top → AddsObject v name r t top slot later
     → Widens v name r t slot later
 widens_behind v later name r t top slot ends adds = record {
   hidden = adds.hidden;
@@ -245,7 +245,7 @@ module _ (stay : ShapesStay) (g : Package) (v later : Framed) (name : List ℕ) 
   }
 
   -- and they end behind the new one, where that stands behind all others
-  pub ends_wider : (top : ℕ) → EndsBy v top → slot.offset ≡ top → EndsBy later (top + words_of s t)
+  pub ends_wider : (top : ℕ) → EndsBelow v top → slot.offset ≡ top → EndsBelow later (top + words_of s t)
   ends_wider top ends at other x q u h local n =
       let n' = subst (λ z. NamesObject z other q u) scope_is n in
       subst (λ z. x.offset + words_of z u ≤ top + words_of s t) (sym scope_is)

@@ -23,7 +23,7 @@ use Rattle.expr_code.proofs.Shallow.{shallow_as, shallow_more, shallow_next, sha
 use Rattle.stmt_code.specs.Bounds.{locals_words}
 use Rattle.stmt_code.specs.Emitting.{Pushes}
 use Rattle.stmt_code.specs.Labels.{stmt_labels, with_label, with_line}
-use Rattle.stmt_code.specs.Lines.{Line, is_put, line_of}
+use Rattle.stmt_code.specs.Lines.{LabelledValue, is_put, line_of}
 use Rattle.stmt_code.specs.Refusing.{Needs, address_needs, assigned_needs, beyond_if, both, framed, initial_needs, line_needs, locals_needs, locals_visible, nothing, object_needs, put_needs, single_needs, stored_needs, value_needs, words_at}
 use Rattle.stmt_code.specs.Statements.{Ways}
 use Rattle.stmt_code.specs.Staying.{Stays, StaysDeclarations, StaysStatement}
@@ -58,7 +58,7 @@ return_stays v w old place a p = stays_code old old (beyond_if (not (is_some w.r
 
 -- ---- lines
 
-pub line_stays : (v : Visible) (old : Draft) (name : NameTree) (line : Line) (a b : Code) (labels : List (List ℕ)) → line_of name ≡ Some line
+pub line_stays : (v : Visible) (old : Draft) (name : NameTree) (line : LabelledValue) (a b : Code) (labels : List (List ℕ)) → line_of name ≡ Some line
     → IsShallow old.code a (0 + peak v.scope line.value) → IsShallow a b 1 → labels ≡ with_label old.labels line.label
     → Stays old (put_needs v name) (stmt_labels old.labels (Call name)) (length old.rows.items) (record old { code = b; labels = labels })
 line_stays v old name line a b labels is p q told =

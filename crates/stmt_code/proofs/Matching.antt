@@ -23,7 +23,7 @@ use Rattle.meaning.specs.Works.{Item, Declares, DeclaresParameter, Sequence, Doe
 use Rattle.sound_steps.specs.Laws.{StepsAreSound, StoresAreAlike}
 use Rattle.expr_code.specs.Seeing.{Package}
 use Rattle.stmt_code.specs.Resting.{Framed}
-use Rattle.stmt_code.specs.Statements.{IsCalled, IsPut, Numbers}
+use Rattle.stmt_code.specs.Statements.{IsCalleeCode, IsPutCode, Numbers}
 use Rattle.stmt_code.specs.Standing.{Catching, CodeStands, Copying, Going, IsCatching, Over as Ended, Raised, Shares, items_size, work_size}
 use Rattle.stmt_code.specs.Laws.{HasCode, StepsAreMet}
 use Rattle.stmt_code.proofs.Scenes.{AtOnce, Keeping, Scene}
@@ -85,7 +85,7 @@ module _ (this : Scene) where
   abbrev Meet : TaskState → Type 0
   Meet s = scene.Meet this s
 
-  abbrev Meets : source.Stepped → steps.Stepped → Type 0
+  abbrev Meets : source.SourceStepped → steps.Stepped → Type 0
   Meets x y = scene.Meets this x y
 
   abbrev Setting : Type 0
@@ -134,7 +134,7 @@ module _ (this : Scene) where
 
     met_called : (name : NameTree) (items : List Item) → w.work ≡ Goes (Does (tree.Call name) ∷ items) → (h : IsAtItems (Does (tree.Call name) ∷ items))
         → (o : Option Callee) → callee_by program None name.first name.selectors ≡ o
-        → (let r = h.follows in IsCalled i program g numbers r.2 r.0 r.1 name o) → Meet s
+        → (let r = h.follows in IsCalleeCode i program g numbers r.2 r.0 r.1 name o) → Meet s
     met_called name items is h (Some c) e code =
         calls.met_call this s name c items is h e (ap (λ q. source.call_or_put now name (callee_by program q name.first name.selectors) items) h.outside ∙ ap
         (λ q. source.call_or_put now name q items) e) code
@@ -143,7 +143,7 @@ module _ (this : Scene) where
         (ap (λ q. source.call_or_put now name (callee_by program q name.first name.selectors) items) h.outside ∙ ap (λ q. source.call_or_put now name q items) e
         ∙ ap (λ q. source.put_call now q name.selectors items) code.0)
       where
-        by_selectors : (selectors : SelectorTrees) → (let r = h.follows in IsPut i program g numbers r.2 r.0 r.1 selectors)
+        by_selectors : (selectors : SelectorTrees) → (let r = h.follows in IsPutCode i program g numbers r.2 r.0 r.1 selectors)
             → source.item_step now (Does (tree.Call name)) items ≡ source.put_call now (Some Put) selectors items → Meet s
         by_selectors (MoreSelectors (Arguments (MoreArguments (Text label at) (MoreArguments (expressions.Value v) NoArguments))) NoSelectors) put same =
             turn.met_put this s name label at v items is h same put

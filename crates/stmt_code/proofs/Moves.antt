@@ -16,8 +16,8 @@ use Rattle.types.specs.Places.{is_among}
 use Rattle.types.specs.Shapes.{shape_of}
 use Rattle.expr_code.specs.Branches.{Branch, Closes, Joins, Rejoins, branch_of, in_front}
 use Rattle.expr_code.specs.Code.{Adds, Extends, Holds, Patches, here}
-use Rattle.expr_code.specs.Emitting.{EmitsExpression, IsLegal}
-use Rattle.expr_code.specs.Flows.{AreKept}
+use Rattle.expr_code.specs.Emitting.{EmitsExpression, IsLegalExpression}
+use Rattle.expr_code.specs.Flows.{AreKeptBetween}
 use Rattle.expr_code.specs.Going.{EmitsAddress}
 use Rattle.expr_code.specs.Locating.{IsPath}
 use Rattle.expr_code.specs.Seeing.{Sees, Suits, library_of}
@@ -72,7 +72,7 @@ module _ (v : Visible) (to : Moved) where
   -- ---- what a name has
 
   module _ (old mid new : Code) (name : NameTree) (x : Source) (last : Subtype) (is : IsSource v name x)
-      (legal : IsLegal v.scope (Named name.first name.selectors))
+      (legal : IsLegalExpression v.scope (Named name.first name.selectors))
       (block : is_block to.words ≡ true) (holds : holds_variables to.region ≡ true)
       (q : EmitsAddress v old 1 x.slot.offset x.whole name.selectors last mid) (y : Adds mid 2 (op.Copy to.region x.slot.region to.words) new) where
     next : here new ≡ suc (here mid)
@@ -276,11 +276,11 @@ module _ (v : Visible) (to : Moved) where
           let in_test = first.flows.flows i s (in_tested i end up j) suits (omega (arith, tested_extends.deeper, deep)) high testing.begins in
           let test_kept = widened i s (here start) (here tested) (here start) end (here start) (here tested) 1 (omega arith)
           (omega (arith, two, second.extends.longer, four, end_is, up)) in_test in
-          subst (λ m. AreKept i s (here start) end (here start) m 1) (sym (end_is ∙ four))
+          subst (λ m. AreKeptBetween i s (here start) end (here start) m 1) (sym (end_is ∙ four))
           (kept_then i s (here start) end (here start) (here valued) (suc (here valued)) 1 0
           (kept_then i s (here start) end (here start) (here jumped) (here valued) 1 1
           (kept_then i s (here start) end (here start) (here tested) (here jumped) 1 2 test_kept
-          (subst (λ m. AreKept i s (here start) end (here tested) m 2) (sym two) testing)) value_kept) closes);
+          (subst (λ m. AreKeptBetween i s (here start) end (here tested) m 2) (sym two) testing)) value_kept) closes);
     }
 
   -- ---- the whole
@@ -330,7 +330,7 @@ module _ (v : Visible) (to : Moved) where
             (omega (arith, r.long)) in_last in
             let front = p.flows i s (here new) below (joins i h) suits (omega (arith, q.extends.deeper, deepest)) in_last.shallow ends in_last.begins in
             kept_then i s (here start) (here new) (here start) (here branched) (here new) 1 1 front
-            (subst (λ m. AreKept i s (here start) (here new) (here branched) m 1) (sym r.long) last_kept);
+            (subst (λ m. AreKeptBetween i s (here start) (here new) (here branched) m 1) (sym r.long) last_kept);
       };
     }
 

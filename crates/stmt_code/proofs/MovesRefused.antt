@@ -14,7 +14,7 @@ use Rattle.types.specs.Scopes.{number_of}
 use Rattle.types.specs.Standings.{standing_of, stands_first}
 use Rattle.expr_code.specs.Branches.{Branch, branch_of}
 use Rattle.expr_code.specs.Code.{IsShallow, here}
-use Rattle.expr_code.specs.Emitting.{IsLegal}
+use Rattle.expr_code.specs.Emitting.{IsLegalExpression}
 use Rattle.expr_code.specs.Refusing.{IsRefused, IsRefusedBeside, IsUnfit, RefusesAddress, RefusesExpression, peak, selectors_peak}
 use Rattle.expr_code.specs.Seeing.{slot_of}
 use Rattle.expr_code.specs.declared.code.Code.{Code}
@@ -342,14 +342,14 @@ pub record PartsMoved (v : Visible) (condition value : ExprTree) (elsifs : List 
   pub last_moved : is_moved v last ≡ true
 
 pub parts_moved : (v : Visible) (e : ExprTree) (place : ℕ) (condition value : ExprTree) (elsifs : List ElsifValue) (last : ExprTree)
-    → e ≡ Conditional place condition value (elsif_value_trees elsifs) last → IsLegal v.scope e → is_moved v e ≡ true
+    → e ≡ Conditional place condition value (elsif_value_trees elsifs) last → IsLegalExpression v.scope e → is_moved v e ≡ true
     → PartsMoved v condition value elsifs last
 parts_moved v e place condition value elsifs last is legal h =
     let both = both_true (is_moved v value) (are_moved v (elsif_value_trees elsifs) && is_moved v last) (sym (ap (is_moved v) is) ∙ h) in
     let rest = both_true (are_moved v (elsif_value_trees elsifs)) (is_moved v last) both.1 in
     record {
       legal = legal_parts v.scope place condition value (map branch_of elsifs) last
-          (subst (λ t. IsLegal v.scope (Conditional place condition value t last)) (sym (branches_are elsifs)) (subst (IsLegal v.scope) is legal));
+          (subst (λ t. IsLegalExpression v.scope (Conditional place condition value t last)) (sym (branches_are elsifs)) (subst (IsLegalExpression v.scope) is legal));
       value_moved = both.0;
       elsifs_moved = ap (are_moved v) (branches_are elsifs) ∙ rest.0;
       last_moved = rest.1;

@@ -35,7 +35,7 @@ use Rattle.meaning.specs.Targets.{activation_with, store_with}
 use Rattle.meaning.specs.Works.{Activation, Store, Target}
 use Rattle.expr_code.specs.Coming.{Comes, most_steps, on}
 use Rattle.expr_code.specs.Computing.{Answers}
-use Rattle.expr_code.specs.Emitting.{IsLegal}
+use Rattle.expr_code.specs.Emitting.{IsLegalExpression}
 use Rattle.expr_code.specs.Locating.{Finds, located}
 use Rattle.expr_code.specs.Naming.{Lies}
 use Rattle.expr_code.specs.Seeing.{Package, Sees, library_of}
@@ -48,7 +48,7 @@ use Rattle.expr_code.proofs.Naming.{same_words}
 use Rattle.expr_code.proofs.Passing.{named_value}
 use Rattle.expr_code.proofs.Paths.{NamesStored, finds_path, located_value}
 use Rattle.stmt_code.specs.declared.call.Destination.{Destination}
-use Rattle.stmt_code.specs.Copying.{IsPlaced}
+use Rattle.stmt_code.specs.Copying.{IsPlacedTarget}
 use Rattle.stmt_code.specs.Jumping.{Here, There}
 use Rattle.stmt_code.specs.Layout.{IsLaidOut}
 use Rattle.stmt_code.specs.Moving.{IsMoved, IsMovedElse, IsSource, MovesNamed}
@@ -105,7 +105,7 @@ module _ (quiet : QuietStays) (i : Sections) (mid size low high : ℕ) (source :
 -- ---- where the words of what is named stand
 
 pub source_stands : (v : Visible) (first : Identifier) (selectors : SelectorTrees) (x : Source)
-    → IsSource v (record { first = first; selectors = selectors }) x → IsLegal v.scope (Named first selectors)
+    → IsSource v (record { first = first; selectors = selectors }) x → IsLegalExpression v.scope (Named first selectors)
     → (g : Package)
     → NamesStored (Sees g v) first selectors x.whole (shape_of v.scope x.whole) x.slot.region x.slot.offset
 source_stands v first selectors x is legal g p view sees =
@@ -225,7 +225,7 @@ module _ (kept : AgreementIsKept) (sized : ValuesHaveWords) (places : PartsHaveP
       form : (form : TypeForm) × (form_at v.names.scope last.type_number ≡ Some form)
       form = form_there (form_at v.names.scope last.type_number) typed.known
 
-      here : IsPlaced v.names to_target z
+      here : IsPlacedTarget v.names to_target z
       here = placed_here sized v way holds form.0 form.1 c p view good knows (within ∙ outside) z named
 
       at : place_of v.names to_target z here ≡ place_in sized way z

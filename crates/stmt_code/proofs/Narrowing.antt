@@ -12,7 +12,7 @@ use Rattle.well_typed.specs.SoundScopes.{SoundScope}
 use Rattle.expr_code.specs.Seeing.{Package, slot_of, subprogram_of, told_of}
 use Rattle.expr_code.specs.declared.visible.Slot.{Slot}
 use Rattle.stmt_code.specs.Layout.{Widens}
-use Rattle.stmt_code.specs.Resting.{Framed, Narrows, Shows}
+use Rattle.stmt_code.specs.Resting.{Framed, NarrowsFrame, Shows}
 use Rattle.stmt_code.proofs.Names.{told_more}
 
 module _ (kept : AgreementIsKept) (g : Package) (v later : Framed) (name : List ℕ) (r : Role) (t : Subtype) (slot : Slot)
@@ -51,5 +51,5 @@ module _ (kept : AgreementIsKept) (g : Package) (v later : Framed) (name : List 
     homes = λ other s told. knows.homes other s (slot_more other s told);
   }
 
-  pub narrows_wider : later.reserved ≡ v.reserved → Narrows g later v
+  pub narrows_wider : later.reserved ≡ v.reserved → NarrowsFrame g later v
   narrows_wider same = record { shows = shows_wider; reserved = same }

@@ -21,7 +21,7 @@ use Rattle.expr_code.specs.Branches.{Closes, Joins, Rejoins}
 use Rattle.expr_code.specs.Code.{Adds, Extends, Holds, Patches, StandsFrom, here}
 use Rattle.expr_code.specs.Computing.{Computes}
 use Rattle.expr_code.specs.Emitting.{EmitsExpression}
-use Rattle.expr_code.specs.Flows.{AreKept}
+use Rattle.expr_code.specs.Flows.{AreKeptBetween}
 use Rattle.expr_code.specs.Seeing.{Package, Sees, library_of}
 use Rattle.expr_code.specs.declared.code.Code.{Code}
 use Rattle.expr_code.specs.declared.visible.Visible.{Visible}
@@ -29,7 +29,7 @@ use Rattle.expr_code.proofs.Flowing.{kept_one, kept_then, widened}
 use Rattle.expr_code.proofs.Growing.{added_extends, added_here, extends_trans, get_last, patched_extends, patched_here, patched_other, patched_there}
 use Rattle.stmt_code.specs.Handling.{Handling}
 use Rattle.stmt_code.specs.Bounds.{elsifs_bound, stmt_bound, stmts_bound}
-use Rattle.stmt_code.specs.Emitting.{AddsParts, AreLegal, AreLegalElsifs, AreParts, Emits, EmitsOpen, EmitsStatement, EmitsStatements, IsLegal, Meant, MeantTo, Serves, in_front}
+use Rattle.stmt_code.specs.Emitting.{AddsParts, AreLegalStatements, AreLegalElsifs, AreParts, Emits, EmitsOpen, EmitsStatement, EmitsStatements, IsLegalStatement, Meant, MeantTo, Serves, in_front}
 use Rattle.stmt_code.specs.Resting.{Framed}
 use Rattle.stmt_code.specs.Statements.{AreStatements, IsOtherwise, IsStatement, Numbers, Ways}
 use Rattle.stmt_code.specs.declared.draft.Draft.{Draft}
@@ -239,7 +239,7 @@ module _ (v : Visible) (w : Ways) where
           (handled_inside a a c d rejoined p.rows i program handling goes)));
       flows = λ i s low high down up h l suits deep wide ends ways.
           let empty = ap (λ n. has_depth i n 0) (sym r.long) ∙ ends in
-          subst (λ n. AreKept i s low high (here a.code) n 0) (sym r.long)
+          subst (λ n. AreKeptBetween i s low high (here a.code) n 0) (sym r.long)
           (p.flows i s low high (here c.code) down (omega arith) (omega (arith, up, r.long)) (joins i h)
           (labels_before i c.labels d.labels (labels_beside c d same) l) suits
           (omega (arith, deep, ap (λ n. n) r.deepest)) (let m = most_beside c d same in omega (arith, m, wide)) (omega arith) empty empty ways);
@@ -363,11 +363,11 @@ module _ (v : Visible) (w : Ways) where
           let in_test = first.flows.flows i s (in_tested i end up j) suits.names (omega (arith, tested_extends.deeper, deep)) one testing.begins in
           let test_kept = widened i s (here start.code) (here tested) low high (here start.code) (here tested) 0 down
           (omega (arith, two, second.extends.longer, four, end_is, up, over)) in_test in
-          subst (λ m. AreKept i s low high (here start.code) m 0) (sym (end_is ∙ four))
+          subst (λ m. AreKeptBetween i s low high (here start.code) m 0) (sym (end_is ∙ four))
           (kept_then i s low high (here start.code) (here valued.code) (suc (here valued.code)) 0 0
           (kept_then i s low high (here start.code) (here jumped.code) (here valued.code) 0 0
           (kept_then i s low high (here start.code) (here tested) (here jumped.code) 0 1 test_kept
-          (subst (λ m. AreKept i s low high (here tested) m 1) (sym two) testing)) in_body) closes);
+          (subst (λ m. AreKeptBetween i s low high (here tested) m 1) (sym two) testing)) in_body) closes);
     }
 
   -- ---- parts of an `if`, as methods add them
@@ -486,7 +486,7 @@ module _ (v : Visible) (w : Ways) where
 -- ---- what is legal
 
 module _ (s : Scope) (x : statements.StmtTree) (place : ℕ) (e : ExprTree) (body : StmtTrees) (elsifs : ElsifTrees) (others : StmtTrees)
-    (is : x ≡ statements.If place e body elsifs others) (h : IsLegal s x) where
+    (is : x ≡ statements.If place e body elsifs others) (h : IsLegalStatement s x) where
   whole : stmt_faults s h.around (statements.If place e body elsifs others) ≡ []
   whole = ap (stmt_faults s h.around) (sym is) ∙ h.unbroken
 
@@ -499,7 +499,7 @@ module _ (s : Scope) (x : statements.StmtTree) (place : ℕ) (e : ExprTree) (bod
   pub if_condition : condition_faults s e ≡ []
   if_condition = front_empty (condition_faults s e) (stmts_faults s h.around body) two_faults
 
-  pub if_body : AreLegal s body
+  pub if_body : AreLegalStatements s body
   if_body = record { around = h.around; unbroken = back_empty (condition_faults s e) (stmts_faults s h.around body) two_faults }
 
   pub if_elsifs : AreLegalElsifs s elsifs
@@ -508,7 +508,7 @@ module _ (s : Scope) (x : statements.StmtTree) (place : ℕ) (e : ExprTree) (bod
     unbroken = back_empty (condition_faults s e ++ stmts_faults s h.around body) (elsifs_faults s h.around elsifs) three_faults;
   }
 
-  pub if_others : AreLegal s others
+  pub if_others : AreLegalStatements s others
   if_others = record {
     around = h.around;
     unbroken = back_empty ((condition_faults s e ++ stmts_faults s h.around body) ++ elsifs_faults s h.around elsifs) (stmts_faults s h.around others) whole;
@@ -516,7 +516,7 @@ module _ (s : Scope) (x : statements.StmtTree) (place : ℕ) (e : ExprTree) (bod
 
 pub record PartIsLegal (s : Scope) (x : ElsifPart) : Type 0 where
   pub condition : condition_faults s (expr_tree x.condition) ≡ []
-  pub body : AreLegal s (stmt_trees x.statements.items)
+  pub body : AreLegalStatements s (stmt_trees x.statements.items)
 
 pub part_legal : (s : Scope) (all : List ElsifPart) (n : ℕ) (x : ElsifPart) → n < length all → x ≡ get_or all n x → AreLegalElsifs s (elsif_trees all)
     → PartIsLegal s x

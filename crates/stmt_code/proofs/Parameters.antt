@@ -20,8 +20,8 @@ use Rattle.expr_code.specs.Seeing.{Package, SeesPackage, slot_of}
 use Rattle.expr_code.specs.Views.{View}
 use Rattle.expr_code.specs.declared.visible.Slot.{Slot}
 use Rattle.stmt_code.specs.Counting.{in_turn, with_parameter}
-use Rattle.stmt_code.specs.Layout.{AreApart, AreFree, EndsBy, IsFree, IsLaidOut, NamesObject, Widens}
-use Rattle.stmt_code.specs.Resting.{AreHeld, Framed, Held, Knows, Rests, RestsWith, Shows, held_offset}
+use Rattle.stmt_code.specs.Layout.{AreApart, AreFree, EndsBelow, IsFree, IsLaidOut, NamesObject, Widens}
+use Rattle.stmt_code.specs.Resting.{AreHeld, Framed, HeldWord, Knows, Rests, RestsWith, Shows, held_offset}
 use Rattle.stmt_code.proofs.Holding.{held_kept}
 use Rattle.stmt_code.proofs.Laying.{AddsObject, ends_wider, free_more, laid_wider, widens_behind}
 use Rattle.stmt_code.proofs.Names.{meant_width, single_number}
@@ -55,7 +55,7 @@ pub record HoldsRange (v : Framed) (name : List ℕ) (n : ℕ) (slot : Slot) (li
 abbrev pub AreBelow : List ℕ → ℕ → Type 0
 AreBelow places top = (n : ℕ) → is_among places n ≡ true → n < top
 
-pub holds_behind : (v inner : Framed) (name : List ℕ) (n top : ℕ) (slot : Slot) → EndsBy v top → AreBelow v.reserved top
+pub holds_behind : (v inner : Framed) (name : List ℕ) (n top : ℕ) (slot : Slot) → EndsBelow v top → AreBelow v.reserved top
     → AddsObject v name role.LoopParameter (base_range_of n) top slot inner → inner.reserved ≡ top ∷ suc top ∷ v.reserved → suc top < v.room
     → HoldsRange v name n slot (suc top) inner
 holds_behind v inner name n top slot ends below adds reserved room = record {
@@ -126,7 +126,7 @@ pub number_written : (words : List ℤ) (a : ℕ) (w : ℤ) → a < length words
 number_written words a w less = written words a (Number w) (omega (arith, less))
 
 -- words that are held stay where one is put at a place that is none of theirs
-pub held_stay : (held : List Held) (places : List ℕ) (words : List ℤ) (a : ℕ) (w : ℤ) → a < length words → map held_offset held ≡ places → IsFree places a 1
+pub held_stay : (held : List HeldWord) (places : List ℕ) (words : List ℤ) (a : ℕ) (w : ℤ) → a < length words → map held_offset held ≡ places → IsFree places a 1
     → AreHeld words held → AreHeld (with_word a w words) held
 held_stay held places words a w less same free h =
     held_kept held places words (with_word a w words) same (others_kept places a (w ∷ []) words (omega (arith, less)) free) h
@@ -231,7 +231,7 @@ module _ (kept : AgreementIsKept) (sized : ValuesHaveWords) (g : Package) (v inn
   abbrev pub with_both : (now last : ℤ) → List ℤ → List ℤ
   with_both now last locals = with_word counter now (with_word limit last locals)
 
-  module _ (a : Activation) (locals : List ℤ) (held : List Held) (now last : ℤ) (rests : RestsWith g v held a locals) (first : counter < length locals)
+  module _ (a : Activation) (locals : List ℤ) (held : List HeldWord) (now last : ℤ) (rests : RestsWith g v held a locals) (first : counter < length locals)
       (second : limit < length locals) where
     abbrev middle : List ℤ
     middle = with_word limit last locals
@@ -275,7 +275,7 @@ module _ (kept : AgreementIsKept) (sized : ValuesHaveWords) (g : Package) (v inn
     both_swapped = words_swapped locals counter limit now last first second holds.differ
 
   -- the next turn: the parameter has another value
-  pub next_rests : (a : Activation) (locals : List ℤ) (held : List Held) (now last next : ℤ)
+  pub next_rests : (a : Activation) (locals : List ℤ) (held : List HeldWord) (now last next : ℤ)
       → RestsWith g inner (in_turn counter limit now last held) a locals
       → RestsWith g inner (in_turn counter limit next last held) (with_parameter name next a) (with_word counter next locals)
   next_rests a locals held now last next rests =
@@ -319,7 +319,7 @@ module _ (kept : AgreementIsKept) (sized : ValuesHaveWords) (g : Package) (v inn
     parameter_laid = laid_wider stay g v inner name role.LoopParameter (base_range_of n) slot sound laid holds.widens holds.region parameter_spares
 
     -- the words of all that is visible in the statements, and those that they leave alone, end behind the two words of the loop
-    pub parameter_ends : (top : ℕ) → EndsBy v top → counter ≡ top → EndsBy inner (suc (suc top))
+    pub parameter_ends : (top : ℕ) → EndsBelow v top → counter ≡ top → EndsBelow inner (suc (suc top))
     parameter_ends top ends at other x r t told local named =
         let e = ends_wider stay g v inner name role.LoopParameter (base_range_of n) slot sound laid holds.widens holds.region top ends at other x r t told local
         named in

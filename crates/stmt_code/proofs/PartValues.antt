@@ -10,13 +10,13 @@ use Rattle.meaning.specs.Targets.{changed_element, changed_field, changed_part, 
 use Rattle.meaning.specs.Works.{Part, Element, Field}
 use Rattle.expr_code.specs.Naming.{Lies}
 use Rattle.expr_code.proofs.Locating.{element_shape, field_fits, window}
-use Rattle.stmt_code.specs.Parts.{HasPart, HasParts, inner, part_offset, part_shape}
+use Rattle.stmt_code.specs.Parts.{ShapeHasPart, HasParts, inner, part_offset, part_shape}
 use Rattle.stmt_code.proofs.PartWords.{parts_changed}
 use Rattle.stmt_code.proofs.Words.{below, drop_twice, lies_there, lies_within, with_there, with_words}
 
 -- ---- its shape
 
-one_suited : ValuesHaveWords → (x : Shape) (part : Part) (v w : Value) → HasPart x part → has_shape x v ≡ true → component_at part v ≡ Some w → has_shape (inner x part) w ≡ true
+one_suited : ValuesHaveWords → (x : Shape) (part : Part) (v w : Value) → ShapeHasPart x part → has_shape x v ≡ true → component_at part v ≡ Some w → has_shape (inner x part) w ≡ true
 one_suited sized (Repeated n x) (Element k) (Array vs) w has shaped at =
     element_shape x vs k w (and_parts (nat_eq (count_values vs) n) (all_values (has_shape x) vs) shaped).1 at
 one_suited sized (Repeated n x) (Element k) (Number z) w has shaped at = cc

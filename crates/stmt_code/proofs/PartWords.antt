@@ -12,7 +12,7 @@ use Rattle.meaning.specs.Works.{Part, Element, Field}
 use Rattle.expr_code.specs.Locating.{shape_in}
 use Rattle.expr_code.specs.Naming.{Lies}
 use Rattle.stmt_code.specs.Layout.{AreApart}
-use Rattle.stmt_code.specs.Parts.{HasPart, HasParts, inner, part_offset, part_shape, place_or_none, step}
+use Rattle.stmt_code.specs.Parts.{ShapeHasPart, HasParts, inner, part_offset, part_shape, place_or_none, step}
 use Rattle.stmt_code.proofs.Words.{IsWritten, below, lies_there, lies_within, with_length, with_words, written}
 
 -- with one part more
@@ -24,7 +24,7 @@ pub further_shape : (x : Shape) (parts : List Part) (part : Part) → part_shape
 further_shape x [] part = refl
 further_shape x (one ∷ parts) part = further_shape (inner x one) parts part
 
-pub further_part : (x : Shape) (parts : List Part) (part : Part) → HasParts x parts → HasPart (part_shape x parts) part → HasParts x (parts ++ part ∷ [])
+pub further_part : (x : Shape) (parts : List Part) (part : Part) → HasParts x parts → ShapeHasPart (part_shape x parts) part → HasParts x (parts ++ part ∷ [])
 further_part x [] part h k = (k, tt)
 further_part x (one ∷ parts) part h k = (h.0, further_part (inner x one) parts part h.1 k)
 
@@ -63,7 +63,7 @@ field_fits (MoreShapes own y more) name x o h k = by_test (bytes_eq own name) h 
     by_test true h k later = let e = ap words (unwrap y x h) in let z = unwrap 0 o k in omega (arith, e, z)
     by_test false h k later = let m = behind (words y) (field_offset more name) o k in let i = later m.0 h m.1 in let e = m.2 in omega (arith, i, e)
 
-step_fits : (x : Shape) (part : Part) → HasPart x part → step x part + words (inner x part) ≤ words x
+step_fits : (x : Shape) (part : Part) → ShapeHasPart x part → step x part + words (inner x part) ≤ words x
 step_fits (Repeated n x) (Element k) h = times_fit k n (words x) h
 step_fits (Grouped parts) (Field name) h =
     let f = field_fits parts name h.0 h.1 h.2 h.3 in
@@ -223,7 +223,7 @@ module _ (sized : ValuesHaveWords) (b : ℕ) (new : List ℤ) (change : Value �
           )
 
   -- one part is changed
-  part_changed : (x : Shape) (part : Part) → HasPart x part → Changes (inner x part) b new change → (v : Value) → has_shape x v ≡ true
+  part_changed : (x : Shape) (part : Part) → ShapeHasPart x part → Changes (inner x part) b new change → (v : Value) → has_shape x v ≡ true
       → (has_shape x (changed_part part change v) ≡ true) × (value_words (changed_part part change v) ≡ with_words (step x part + b) new (value_words v))
   part_changed (Repeated n x) (Element k) has c (Array vs) h =
       let parts = and_parts (nat_eq (count_values vs) n) (all_values (has_shape x) vs) h in

@@ -29,7 +29,7 @@ use Rattle.stmt_code.specs.declared.draft.Draft.{Draft}
 use Rattle.stmt_code.specs.declared.range_loop.Turns.{Turns}
 use Rattle.sound_steps.specs.Fitting.{entity_named}
 use Rattle.stmt_code.specs.Labels.{alternatives_labels, elsifs_labels, handlers_labels, stmt_labels, stmts_labels, with_label, with_line}
-use Rattle.stmt_code.specs.Lines.{Line, is_put, line_of}
+use Rattle.stmt_code.specs.Lines.{LabelledValue, is_put, line_of}
 use Rattle.stmt_code.proofs.Labelled.{alternatives_few, as_many, elsifs_longer, parts_few, stmts_few, stmts_longer}
 use Rattle.stmt_code.proofs.Putting.{line_written}
 use Rattle.stmt_code.proofs.Turned.{all_here}
@@ -325,7 +325,7 @@ module _ (v : Visible) (w : Ways) (old : Draft) (why : Refusal) where
       value_refused v old.code 0 e (here old.code + stmt_bound v.scope (Exit place (Some e))) (stmt_needs at (Exit place (Some e))) old.labels why (omega arith)
       (in_right (beyond_if (not at.looped)) (value_needs v e)) r
 
-  pub line_refused : (name : NameTree) (line : Line) → line_of name ≡ Some line → RefusesExpression v old.code 0 line.value why
+  pub line_refused : (name : NameTree) (line : LabelledValue) → line_of name ≡ Some line → RefusesExpression v old.code 0 line.value why
       → Refuses old (stmt_labels old.labels (tree.Call name)) (stmt_bound v.scope (tree.Call name)) (put_needs v name) why
   line_refused name line is r =
       let size = ap selectors_size (line_written name.selectors line.label line.value is).is in
@@ -334,7 +334,7 @@ module _ (v : Visible) (w : Ways) (old : Draft) (why : Refusal) where
       (of_right (value_needs v line.value) (beyond_if (not (is_put (entity_named v.scope name.first.name)))) (line_needs v (line_of name))
       (subst (λ o. Within (value_needs v line.value) (line_needs v o)) (sym is) (within_self (value_needs v line.value)))) r
 
-  module _ (name : NameTree) (line : Line) (is : line_of name ≡ Some line) where
+  module _ (name : NameTree) (line : LabelledValue) (is : line_of name ≡ Some line) where
     abbrev written : Needs
     written = put_needs v name
 

@@ -36,7 +36,7 @@ use Rattle.expr_code.specs.Views.{At, View, in_frame, placed, view_of}
 use Rattle.expr_code.specs.declared.visible.Slot.{Slot}
 use Rattle.expr_code.specs.declared.visible.Visible.{Visible}
 use Rattle.expr_code.proofs.Coming.{after_first, more, pushes}
-use Rattle.stmt_code.specs.Copying.{IsHomeOf, IsPlaced, address_of, objects_at, offset_or_none, shape_named}
+use Rattle.stmt_code.specs.Copying.{IsHomeOf, IsPlacedTarget, address_of, objects_at, offset_or_none, shape_named}
 use Rattle.stmt_code.specs.Layout.{IsVariable, NamesObject}
 use Rattle.stmt_code.specs.Parts.{HasParts, part_offset, part_shape}
 use Rattle.stmt_code.specs.Resting.{Framed, IsAtHome, Knows}
@@ -240,7 +240,7 @@ pub placed_here : {i : Sections} {g : Package} {first : Identifier} {selectors :
     (v : Framed) (way : PointsTo i g v.names first selectors last from to) → HoldsVariables way.slot.region
     → (form : TypeForm) → form_at v.names.scope last.type_number ≡ Some form
     → (c : Calls) (p : Place) (view : View) → (library_of g).sound c → Knows g v p view → p.within ≡ None → (z : Target) → pointed first selectors c p ≡ Gives z
-    → IsPlaced v.names (record { region = way.slot.region; subtype = last }) z
+    → IsPlacedTarget v.names (record { region = way.slot.region; subtype = last }) z
 placed_here {first = first} sized v way holds form known c p view good knows outside z gives =
     let part = part_here sized way c p view good knows.sees z gives in
     let name = name_here sized way c p view good knows.sees z gives in

@@ -34,10 +34,10 @@ use Rattle.expr_code.proofs.Widths.{integers_fit_width}
 use Rattle.expr_code.specs.declared.code.Code.{Code}
 use Rattle.expr_code.specs.declared.visible.Visible.{Visible}
 use Rattle.expr_code.proofs.Growing.{added_at, added_extends, added_here, holds_before}
-use Rattle.stmt_code.specs.Emitting.{EmitsStatement, HasLabels, IsLegal, Serves}
-use Rattle.stmt_code.specs.Lines.{Line, is_put, line_behind, line_in, line_of}
+use Rattle.stmt_code.specs.Emitting.{EmitsStatement, HasLabels, IsLegalStatement, Serves}
+use Rattle.stmt_code.specs.Lines.{LabelledValue, is_put, line_behind, line_in, line_of}
 use Rattle.stmt_code.specs.Resting.{Framed}
-use Rattle.stmt_code.specs.Statements.{IsCalled, Numbers, Ways}
+use Rattle.stmt_code.specs.Statements.{IsCalleeCode, Numbers, Ways}
 use Rattle.stmt_code.specs.declared.draft.Draft.{Draft}
 use Rattle.stmt_code.proofs.RowsAdded.{KeepsRows, goes_kept, rows_kept}
 use Rattle.stmt_code.proofs.Adding.{value_extends, value_kept}
@@ -67,7 +67,7 @@ pub record Written (path : SelectorTrees) (label : List ℕ) (value : ExprTree) 
   pub at : ℕ
   pub is : path ≡ MoreSelectors (Arguments (MoreArguments (Text label at) (MoreArguments (tree.Value value) NoArguments))) NoSelectors
 
-some_line : (x y : Line) → Some x ≡ Some y → x ≡ y
+some_line : (x y : LabelledValue) → Some x ≡ Some y → x ≡ y
 some_line x y e = cc
 
 pub line_written : (path : SelectorTrees) (label : List ℕ) (value : ExprTree) → line_behind path ≡ Some (record { label = label; value = value })
@@ -96,7 +96,7 @@ line_written (MoreSelectors (Arguments (MoreArguments (Text l at) (MoreArguments
 
 -- ---- what is legal
 
-module _ (s : Scope) (name : NameTree) (label : List ℕ) (value : ExprTree) (h : IsLegal s (statements.Call name)) (put : entity_named s name.first.name ≡ Some Put)
+module _ (s : Scope) (name : NameTree) (label : List ℕ) (value : ExprTree) (h : IsLegalStatement s (statements.Call name)) (put : entity_named s name.first.name ≡ Some Put)
     (written : line_of name ≡ Some (record { label = label; value = value })) where
   faults : selectors_faults s name.first.place standing.Put name.selectors ≡ []
   faults =
@@ -158,7 +158,7 @@ module _ (v : Visible) (w : Ways) (a c : Draft) (m : Code) (name : NameTree) (la
 
   abbrev forms : SelectorTrees → Sections → Program → Package → Numbers → Framed → (from to : ℕ) → Type 0
   forms x i program g numbers f from to =
-      IsCalled i program g numbers f from to (record { first = name.first; selectors = x }) (callee_by program None name.first x)
+      IsCalleeCode i program g numbers f from to (record { first = name.first; selectors = x }) (callee_by program None name.first x)
 
   means : (i : Sections) → Holds i (here a.code) c.code → HasLabels i c.labels → (program : Program) (g : Package) (numbers : Numbers) (f : Framed) → f.names ≡ v
       → Serves program g numbers f a.words.taken → c.words.most ≤ f.room → forms name.selectors i program g numbers f (here a.code) (here c.code)
@@ -167,7 +167,7 @@ module _ (v : Visible) (w : Ways) (a c : Draft) (m : Code) (name : NameTree) (la
       let line = MoreArguments (Text label this.at) (MoreArguments (tree.Value value) NoArguments) in
       let found = serves.finds name.first.name Put (ap (λ x. entity_named x.scope name.first.name) names ∙ put) in
       subst (λ x. forms x i program g numbers f (here a.code) (here c.code)) (sym this.is)
-      (subst (λ o. IsCalled i program g numbers f (here a.code) (here c.code)
+      (subst (λ o. IsCalleeCode i program g numbers f (here a.code) (here c.code)
       (record { first = name.first; selectors = MoreSelectors (Arguments line) NoSelectors }) (callee_with o None line)) (sym found.free) (
         found.is,
         (

@@ -12,7 +12,7 @@ use Rattle.image.specs.declared.instruction.Operation.TheVariants as op
 use Rattle.image.specs.declared.subprograms.Subprogram.{Subprogram}
 use Rattle.meaning.specs.Programs.{Program, exception_number}
 use Rattle.expr_code.specs.Code.{Adds, Holds, here}
-use Rattle.expr_code.specs.Flows.{AreKept}
+use Rattle.expr_code.specs.Flows.{AreKeptBetween}
 use Rattle.expr_code.specs.Seeing.{Package}
 use Rattle.expr_code.specs.Views.{At}
 use Rattle.expr_code.specs.declared.code.Code.{Code}
@@ -131,7 +131,7 @@ module _ (v : Visible) (w : Ways) (a c : Draft) (m : Code) (place : ℕ) (name :
     at_raise = added_there m c.code 1 op.Raise q i (here a.code) (omega (arith, one)) h
 
     raise_kept : (s : Subprogram) (low high : ℕ) → c.code.deepest ≤ s.stack → ((word : ℕ) → w.handled ≡ Some word → word < s.locals)
-        → AreKept i s low high (here a.code) (here c.code) 0
+        → AreKeptBetween i s low high (here a.code) (here c.code) 0
     raise_kept s low high deep room =
         let within : 1 ≤ s.stack = omega (arith, q.within, deep) in
         let takes = put.takes i s.results in
@@ -142,8 +142,8 @@ module _ (v : Visible) (w : Ways) (a c : Draft) (m : Code) (place : ℕ) (name :
         put.operands (put.names i s room) (omega (arith, takes)) (omega (arith, takes, gives)) put.plain
         (λ g. ap (λ n. has_depth i n 1) (sym one) ∙ depth_there i (here m) 1 op.Raise at_raise)
         (λ t g. absurd (nowhere t (sym put.still ∙ g))) in
-        subst (λ n. AreKept i s low high (here a.code) n 0) (sym two)
-        (kept_then i s low high (here a.code) (here m) (suc (here m)) 0 1 (subst (λ n. AreKept i s low high (here a.code) n 0) (sym one) first) second)
+        subst (λ n. AreKeptBetween i s low high (here a.code) n 0) (sym two)
+        (kept_then i s low high (here a.code) (here m) (suc (here m)) 0 1 (subst (λ n. AreKeptBetween i s low high (here a.code) n 0) (sym one) first) second)
       where
         nowhere : (t : ℕ) → None ≡ Some t → ⊥
         nowhere t e = cc

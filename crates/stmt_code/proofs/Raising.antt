@@ -33,7 +33,7 @@ use Rattle.expr_code.proofs.Coming.{acts}
 use Rattle.expr_code.proofs.Coming as coming
 use Rattle.stmt_code.specs.Resting.{StandsFor}
 use Rattle.stmt_code.specs.Statements.{Numbers}
-use Rattle.stmt_code.specs.Standing.{AreInner, Catches, Catching, CaughtIf, CodeStands, IsSound, Over as Ended, Raised, Shares, items_size, relation, work_size}
+use Rattle.stmt_code.specs.Standing.{AreInner, Catches, Catching, CaughtIf, CodeStands, IsSoundWork, Over as Ended, Raised, Shares, items_size, relation, work_size}
 use Rattle.stmt_code.specs.Laws.{HasCode}
 use Rattle.stmt_code.proofs.Catching.{handling_here}
 use Rattle.stmt_code.proofs.Going.{jumps_up}
@@ -93,7 +93,7 @@ module _ (this : Scene) where
   abbrev w : TaskWork
   w = this.w
 
-  abbrev sound : IsSound i program g numbers w
+  abbrev sound : IsSoundWork i program g numbers w
   sound = this.sound
 
   abbrev now : source.Here
@@ -133,7 +133,7 @@ module _ (this : Scene) where
 
   module _ (s : TaskState) (x : ℕ) where
     -- no step of code
-    met_still : (y : source.Stepped) → work_step now w.work ≡ y → y.effect ≡ Quiet → y.solo.memory ≡ store
+    met_still : (y : source.SourceStepped) → work_step now w.work ≡ y → y.effect ≡ Quiet → y.solo.memory ≡ store
         → CodeStands i program g numbers k y.solo.task s
         → work_size y.solo.task.work < work_size w.work
         → MetFrom s
@@ -145,7 +145,7 @@ module _ (this : Scene) where
         less
 
     -- the step of code that raises
-    met_step : (y : source.Stepped) (z : steps.Stepped) → work_step now w.work ≡ y → act i schedule k t (record { memory = m; task = s }) ≡ z
+    met_step : (y : source.SourceStepped) (z : steps.Stepped) → work_step now w.work ≡ y → act i schedule k t (record { memory = m; task = s }) ≡ z
         → scene.Meets this y z
         → MetFrom s
     met_step y z is there meets =
@@ -170,7 +170,7 @@ module _ (this : Scene) where
     met_left names opened xs items f fs is throws inner c =
         let above = c.0 in
         let below = c.1 in
-        let after' : source.Stepped = source.leaves now Quiet (c.2 ∷ c.3) (Raising x items) None in
+        let after' : source.SourceStepped = source.leaves now Quiet (c.2 ∷ c.3) (Raising x items) None in
         let stack : Removable f (above ∷ below) = subst (λ q. Removable f q) c.6 inner in
         met_still after'
         (ap (λ q. work_step now q) is ∙ ap (λ q. source.leaves now Quiet w.callers (source.call_raised x q items) None) c.4

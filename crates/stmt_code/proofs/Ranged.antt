@@ -17,7 +17,7 @@ use Rattle.meaning.specs.Programs.{Program}
 use Rattle.expr_code.specs.Views.{At}
 use Rattle.expr_code.specs.Code.{Extends, Holds, Patches, here}
 use Rattle.expr_code.specs.Computing.{Computes}
-use Rattle.expr_code.specs.Flows.{AreKept}
+use Rattle.expr_code.specs.Flows.{AreKeptBetween}
 use Rattle.expr_code.specs.Seeing.{Package, Sees, library_of}
 use Rattle.expr_code.specs.declared.code.Code.{Code}
 use Rattle.expr_code.specs.declared.visible.Visible.{Visible}
@@ -25,7 +25,7 @@ use Rattle.expr_code.proofs.Flowing.{kept_one, kept_then, widened}
 use Rattle.expr_code.proofs.Growing.{added_extends, added_here, extends_trans, patched_extends, patched_here, patched_other}
 use Rattle.stmt_code.specs.Handling.{GoesBy, Handling}
 use Rattle.stmt_code.specs.Bounds.{stmts_words}
-use Rattle.stmt_code.specs.Emitting.{Allows, BeginsLoop, EmitsStatement, EmitsStatements, EndsLoop, HasEntries, HasLabels, IsHandled, IsReached, Serves, seeing}
+use Rattle.stmt_code.specs.Emitting.{Allows, BeginsLoop, EmitsStatement, EmitsStatements, EndsLoop, HasEntries, HasLabels, IsHandled, IsReachable, Serves, seeing}
 use Rattle.stmt_code.specs.Resting.{Framed}
 use Rattle.stmt_code.specs.Suiting.{SuitsStatements}
 use Rattle.stmt_code.specs.Statements.{AreStatements, IsStatement, Numbers, Ways, within_loop}
@@ -346,10 +346,10 @@ module _ (stay : ShapesStay) (v later : Visible) (w : Ways) (a b e c : Draft) (c
       opened_up : here e.code ≤ high
       opened_up = omega (arith, counted_up, counted_at, tested_at, behind_body)
 
-      end_reached : IsReached i low high (here whole)
+      end_reached : IsReachable i low high (here whole)
       end_reached = record { down = omega (arith, down, grows.longer, whole_at); up = up; empty = empty }
 
-      out_reached : IsReached i low high out
+      out_reached : IsReachable i low high out
       out_reached = record {
         down = omega (arith, down, out_is);
         up = omega (arith, opened_up, before_body, begun_at, out_is);
@@ -358,9 +358,9 @@ module _ (stay : ShapesStay) (v later : Visible) (w : Ways) (a b e c : Draft) (c
 
       -- a jump to the end
       test_kept : (place next : ℕ) → slice_get i.instructions place ≡ Some (record { depth = 1; operation = op.JumpIfNotZero (here whole) }) → next ≡ suc place
-          → has_depth i next 0 ≡ true → AreKept i s low high place next 1
+          → has_depth i next 0 ≡ true → AreKeptBetween i s low high place next 1
       test_kept place next there is begins =
-          subst (λ n. AreKept i s low high place n 1) (sym is)
+          subst (λ n. AreKeptBetween i s low high place n 1) (sym is)
           (kept_one i s low high place 1 0 (op.JumpIfNotZero (here whole)) there single (omega arith) refl refl (omega arith) (omega arith) refl
           (λ g. ap (λ n. has_depth i n 0) (sym is) ∙ begins)
           (λ n g. let to : n ≡ here whole = same_place (op.JumpIfNotZero (here whole)) (here whole) n refl g in (
@@ -369,50 +369,50 @@ module _ (stay : ShapesStay) (v later : Visible) (w : Ways) (a b e c : Draft) (c
             ap (λ m. has_depth i m 0) to ∙ empty,
           )))
 
-      counted_kept : AreKept i s low high (here q.tested) (here counted) 0
+      counted_kept : AreKeptBetween i s low high (here q.tested) (here counted) 0
       counted_kept =
           widened i s (here q.tested) (here counted) low high (here q.tested) (here counted) 0 (omega (arith, opened_down, behind_body, tested_at)) counted_up
           ((counted_flow t q.tested counted q.counts).flows i s in_counted has (omega (arith, turning.deeper, deepest)) (omega arith)
           (depth_there i (here counted) 0 (op.Jump (here e.code)) at_back))
 
-      last_kept : AreKept i s low high (here q.compared) (here q.tested) 1
+      last_kept : AreKeptBetween i s low high (here q.compared) (here q.tested) 1
       last_kept = test_kept (here q.compared) (here q.tested) at_last tested_at counted_kept.begins
 
-      values_kept : AreKept i s low high (here c.code) (here q.compared) 0
+      values_kept : AreKeptBetween i s low high (here c.code) (here q.compared) 0
       values_kept =
           widened i s (here c.code) (here q.compared) low high (here c.code) (here q.compared) 0 (omega (arith, opened_down, p.extends.longer))
           (omega (arith, counted_up, counted_at, tested_at))
           ((values_flow t c.code q.compared q.compares).flows i s in_values has (omega (arith, values_grow.deeper, deepest)) single last_kept.begins)
 
-      body_kept : AreKept i s low high (here e.code) (here c.code) 0
+      body_kept : AreKeptBetween i s low high (here e.code) (here c.code) 0
       body_kept =
           p.flows i s low high opened_down (omega (arith, counted_up, counted_at, tested_at, values_at)) in_body l
           (suits_inside stay v later b e parameter reversed range t null sound entries legal of_type r i s has.counter suits)
           (omega (arith, body_grows.deeper, deepest)) wide values_kept.begins (in_the_loop i s low high out w ways out_reached)
 
-      null_kept : AreKept i s low high (here compared) (here e.code) 1
+      null_kept : AreKeptBetween i s low high (here compared) (here e.code) 1
       null_kept = test_kept (here compared) (here e.code) at_null opened_at body_kept.begins
 
-      bounds_kept : AreKept i s low high start (here compared) 2
+      bounds_kept : AreKeptBetween i s low high start (here compared) 2
       bounds_kept =
           widened i s start (here compared) low high start (here compared) 2 (omega (arith, begun_down, bounds_long)) (omega (arith, opened_up, opened_at))
           ((bounds_flow t r.bounded compared r.begins.compares).flows i s in_bounds has (omega (arith, compared_grows.deeper, deepest)) single null_kept.begins)
 
-      last_bound : AreKept i s low high (here r.middle) start 1
+      last_bound : AreKeptBetween i s low high (here r.middle) start 1
       last_bound =
           widened i s (here r.middle) start low high (here r.middle) start 1 (omega (arith, begun_down, r.first.extends.longer))
           (omega (arith, opened_up, opened_at, compared_at))
           (r.last.flows.flows i s in_last suits.names (omega (arith, bounded_grows.deeper, deepest)) bounds_kept.shallow bounds_kept.begins)
 
-      first_bound : AreKept i s low high (here b.code) (here r.middle) 0
+      first_bound : AreKeptBetween i s low high (here b.code) (here r.middle) 0
       first_bound =
           widened i s (here b.code) (here r.middle) low high (here b.code) (here r.middle) 0 begun_down
           (omega (arith, opened_up, opened_at, compared_at, r.last.extends.longer))
           (r.first.flows.flows i s in_first suits.names (omega (arith, middle_grows.deeper, deepest)) last_bound.shallow last_bound.begins)
 
-      skips : AreKept i s low high (here a.code) out 0
+      skips : AreKeptBetween i s low high (here a.code) out 0
       skips =
-          subst (λ n. AreKept i s low high (here a.code) n 0) (let x : suc (here a.code) ≡ out = omega (arith, out_is) in x)
+          subst (λ n. AreKeptBetween i s low high (here a.code) n 0) (let x : suc (here a.code) ≡ out = omega (arith, out_is) in x)
           (jump_kept i s low high (here a.code) (here a.code + 2) at_skip
           (record {
             down = omega (arith, down);
@@ -420,24 +420,24 @@ module _ (stay : ShapesStay) (v later : Visible) (w : Ways) (a b e c : Draft) (c
             empty = ap (λ n. has_depth i n 0) (sym begun_at) ∙ first_bound.begins;
           }))
 
-      leaves : AreKept i s low high out (here b.code) 0
+      leaves : AreKeptBetween i s low high out (here b.code) 0
       leaves =
-          subst (λ n. AreKept i s low high out n 0) (let x : suc out ≡ here b.code = omega (arith, out_is, begun_at) in x)
-          (jump_kept i s low high out (here turned) at_out (subst (IsReached i low high) whole_at end_reached))
+          subst (λ n. AreKeptBetween i s low high out n 0) (let x : suc out ≡ here b.code = omega (arith, out_is, begun_at) in x)
+          (jump_kept i s low high out (here turned) at_out (subst (IsReachable i low high) whole_at end_reached))
 
-      repeats : AreKept i s low high (here counted) (here whole) 0
+      repeats : AreKeptBetween i s low high (here counted) (here whole) 0
       repeats =
-          subst (λ n. AreKept i s low high (here counted) n 0) (sym (whole_at ∙ turned_at))
+          subst (λ n. AreKeptBetween i s low high (here counted) n 0) (sym (whole_at ∙ turned_at))
           (jump_kept i s low high (here counted) (here e.code) at_back (record { down = opened_down; up = opened_up; empty = body_kept.begins }))
 
-      in_turn : AreKept i s low high (here e.code) (here whole) 0
+      in_turn : AreKeptBetween i s low high (here e.code) (here whole) 0
       in_turn =
           kept_then i s low high (here e.code) (here c.code) (here whole) 0 0 body_kept
           (kept_then i s low high (here c.code) (here q.compared) (here whole) 0 1 values_kept
           (kept_then i s low high (here q.compared) (here q.tested) (here whole) 1 0 last_kept
           (kept_then i s low high (here q.tested) (here counted) (here whole) 0 0 counted_kept repeats)))
 
-      pub loop_kept : AreKept i s low high (here a.code) (here whole) 0
+      pub loop_kept : AreKeptBetween i s low high (here a.code) (here whole) 0
       loop_kept =
           kept_then i s low high (here a.code) out (here whole) 0 0 skips
           (kept_then i s low high out (here b.code) (here whole) 0 0 leaves

@@ -36,9 +36,9 @@ use Rattle.expr_code.specs.Views.{At, in_frame, placed, view_of}
 use Rattle.expr_code.specs.declared.visible.Slot.{Slot}
 use Rattle.expr_code.proofs.Coming.{acts, after_first, more, then_comes, steps}
 use Rattle.stmt_code.specs.Handling.{GoesBy, Handling}
-use Rattle.stmt_code.specs.Counting.{Bounds, GoesOn, IsCounted, IsNext, IsRange, bounds, in_turn, number_bounds, turn_first, turn_last, with_last, with_parameter}
+use Rattle.stmt_code.specs.Counting.{Bounds, GoesOn, IsCounted, IsTurnEnd, IsRange, bounds, in_turn, number_bounds, turn_first, turn_last, with_last, with_parameter}
 use Rattle.stmt_code.specs.Layout.{IsLaidOut}
-use Rattle.stmt_code.specs.Resting.{Framed, Held, Knows, RestsWith}
+use Rattle.stmt_code.specs.Resting.{Framed, HeldWord, Knows, RestsWith}
 use Rattle.stmt_code.specs.Statements.{AreStatements, IsStatement, Numbers, Ways, within_loop}
 use Rattle.stmt_code.specs.Turns.{next_operation}
 use Rattle.stmt_code.proofs.Parameters.{HoldsRange, both_swapped, inside, next_rests, null_rests, parameter_fits, parameter_shows, turn_rests, with_both, with_word, word_long}
@@ -144,7 +144,7 @@ module _ (quiet : QuietStays) (kept : AgreementIsKept) (sized : ValuesHaveWords)
 
     -- in both directions
     begun_by : (mid to : ℕ) (reversed : Bool) → Begins i counter limit mid to reversed → (x y : ℤ) → counter < length f.locals → limit < length f.locals
-        → (a : Activation) (held : List Held) → RestsWith g v held a f.locals
+        → (a : Activation) (held : List HeldWord) → RestsWith g v held a f.locals
         → Goes 6 (placed f mid (y ∷ x ∷ []))
         (at (if int_lt y x then to else behind 6 mid)
         (with_both kept sized g v inner laid sound name n slot limit holds (turn_first reversed x y) (turn_last reversed x y) f.locals) [])
@@ -264,7 +264,7 @@ module _ (quiet : QuietStays) (kept : AgreementIsKept) (sized : ValuesHaveWords)
           → Knows g v p (view_of i schedule k m f fs) → limit < length f.locals
       limit_in p f schedule k m fs knows = let r = knows.room in let h = holds.room in omega (arith, r, h)
 
-      null : (schedule : List ScheduleLine) (k : Kernel) (t : ℕ) (m : Words) (f : Frame) (fs : List Frame) (held : List Held) (a : Activation) (p : Place)
+      null : (schedule : List ScheduleLine) (k : Kernel) (t : ℕ) (m : Words) (f : Frame) (fs : List Frame) (held : List HeldWord) (a : Activation) (p : Place)
           (x y : ℤ)
           → Calm k t → p.locals ≡ a.locals → Knows g v p (view_of i schedule k m f fs) → RestsWith g v held a f.locals
           → bounds range (call p.frames_left) p ≡ Gives (number_bounds x y) → int_lt y x ≡ true
@@ -282,7 +282,7 @@ module _ (quiet : QuietStays) (kept : AgreementIsKept) (sized : ValuesHaveWords)
                 rests c l;
           }
 
-      begins : (schedule : List ScheduleLine) (k : Kernel) (t : ℕ) (m : Words) (f : Frame) (fs : List Frame) (held : List Held) (a : Activation) (p : Place)
+      begins : (schedule : List ScheduleLine) (k : Kernel) (t : ℕ) (m : Words) (f : Frame) (fs : List Frame) (held : List HeldWord) (a : Activation) (p : Place)
           (x y : ℤ)
           → Calm k t → p.locals ≡ a.locals → Knows g v p (view_of i schedule k m f fs) → RestsWith g v held a f.locals
           → bounds range (call p.frames_left) p ≡ Gives (number_bounds x y) → int_lt y x ≡ false
@@ -302,7 +302,7 @@ module _ (quiet : QuietStays) (kept : AgreementIsKept) (sized : ValuesHaveWords)
           }
 
   -- the end of a turn
-  pub is_next : (reversed : Bool) (back to : ℕ) → Advances i counter limit back to reversed → IsNext i g inner counter limit back (behind 8 back) to name reversed
+  pub is_next : (reversed : Bool) (back to : ℕ) → Advances i counter limit back to reversed → IsTurnEnd i g inner counter limit back (behind 8 back) to name reversed
   is_next reversed back to code = record {
     ends = ends;
     mid = behind 7 back;
@@ -314,7 +314,7 @@ module _ (quiet : QuietStays) (kept : AgreementIsKept) (sized : ValuesHaveWords)
     goes = goes;
   }
     where
-      ends : (schedule : List ScheduleLine) (k : Kernel) (t : ℕ) (m : Words) (f : Frame) (fs : List Frame) (held : List Held) (a : Activation) (now last : ℤ)
+      ends : (schedule : List ScheduleLine) (k : Kernel) (t : ℕ) (m : Words) (f : Frame) (fs : List Frame) (held : List HeldWord) (a : Activation) (now last : ℤ)
           → Calm k t → RestsWith g inner (in_turn counter limit now last held) a f.locals → are_same now last ≡ true
           → GoesOn i g schedule k t m (placed f back []) fs ((behind 8 back) - back) to inner (in_turn counter limit now last held) a
       ends schedule k t m f fs held a now last calm rests same = record {
@@ -325,7 +325,7 @@ module _ (quiet : QuietStays) (kept : AgreementIsKept) (sized : ValuesHaveWords)
         rests = rests;
       }
 
-      goes : (schedule : List ScheduleLine) (k : Kernel) (t : ℕ) (m : Words) (f : Frame) (fs : List Frame) (held : List Held) (a : Activation)
+      goes : (schedule : List ScheduleLine) (k : Kernel) (t : ℕ) (m : Words) (f : Frame) (fs : List Frame) (held : List HeldWord) (a : Activation)
           (now last next : ℤ)
           → Calm k t → RestsWith g inner (in_turn counter limit now last held) a f.locals
           → GoesOn i g schedule k t m (placed f (behind 7 back) (next ∷ [])) fs ((behind 8 back) - (behind 7 back)) (behind 8 back) inner

@@ -15,11 +15,11 @@ use Rattle.stmt_rules.specs.SimpleRules.{condition_faults}
 use Rattle.stmt_rules.specs.StatementRules.{in_loop, stmts_faults}
 use Rattle.expr_code.specs.Views.{At}
 use Rattle.expr_code.specs.Code.{Extends, Holds, here}
-use Rattle.expr_code.specs.Flows.{AreKept}
+use Rattle.expr_code.specs.Flows.{AreKeptBetween}
 use Rattle.expr_code.specs.declared.visible.Visible.{Visible}
 use Rattle.expr_code.proofs.Flowing.{kept_then}
 use Rattle.expr_code.proofs.Growing.{added_extends, added_here, extends_trans, patched_extends, patched_here, patched_holds, patched_other}
-use Rattle.stmt_code.specs.Emitting.{Allows, AreLegal, BeginsLoop, EmitsStatement, EmitsStatements, EndsLoop, HasLabels, IsLegal, IsReached, Serves}
+use Rattle.stmt_code.specs.Emitting.{Allows, AreLegalStatements, BeginsLoop, EmitsStatement, EmitsStatements, EndsLoop, HasLabels, IsLegalStatement, IsReachable, Serves}
 use Rattle.stmt_code.specs.Statements.{AreStatements, Ways, within_loop}
 use Rattle.stmt_code.specs.declared.draft.Draft.{Draft}
 use Rattle.stmt_code.proofs.Adding.{IsBeside, depth_there, jump_kept, labels_before, labels_beside, labels_then, most_beside, taken_beside}
@@ -27,10 +27,10 @@ use Rattle.stmt_code.proofs.Opening.{added_is, patched_is, some_same}
 use Rattle.stmt_code.proofs.RowsAdded.{Surrounds, finds_later, finds_patched, handled_inside, rows_around}
 
 -- in a loop the way out behind it is reached, where its jump stands with an empty operand stack
-pub in_the_loop : (i : Sections) (s : Subprogram) (low high exit : ℕ) (w : Ways) → Allows i s low high w → IsReached i low high exit
+pub in_the_loop : (i : Sections) (s : Subprogram) (low high exit : ℕ) (w : Ways) → Allows i s low high w → IsReachable i low high exit
     → Allows i s low high (within_loop exit w)
 in_the_loop i s low high exit w ways r = record {
-  exit = λ place is. subst (IsReached i low high) (some_same exit place is) r;
+  exit = λ place is. subst (IsReachable i low high) (some_same exit place is) r;
   return = ways.return;
   handled = ways.handled;
 }
@@ -136,7 +136,7 @@ module _ (v : Visible) (w : Ways) where
         four ∙ three,
       );
       flows = λ i s low high down up h l suits deep wide end ways.
-          let reached : IsReached i low high out = record {
+          let reached : IsReachable i low high out = record {
             down = omega (arith, down, out_is);
             up = omega (arith, up, four, three, p.extends.longer, two, one, out_is);
             empty = depth_there i out 0 (op.Jump (here ends.turned)) (at_out i h);
@@ -145,21 +145,21 @@ module _ (v : Visible) (w : Ways) where
           (omega (arith, turning.deeper, ap (λ n. n) ends.patches.deepest, deep)) (let m = most_beside c d still in omega (arith, m, wide)) (depth_there i (here c.code) 0 (op.Jump back) (at_back i h))
           (in_the_loop i s low high out w ways reached) in
           let head : back ≡ here b.code = omega (arith, back_is, one, two) in
-          let turn : IsReached i low high back = record {
+          let turn : IsReachable i low high back = record {
             down = omega (arith, head, down, one, two);
             up = omega (arith, head, up, four, three, p.extends.longer);
             empty = ap (λ n. has_depth i n 0) head ∙ kept.begins;
           } in
-          let first = jump_kept i s low high (here a.code) (here a.code + 2) (at_skip i h) (subst (IsReached i low high) back_is turn) in
+          let first = jump_kept i s low high (here a.code) (here a.code + 2) (at_skip i h) (subst (IsReachable i low high) back_is turn) in
           let second = jump_kept i s low high out (here ends.turned) (at_out i h)
           (record { down = omega (arith, down, three, p.extends.longer, two, one); up = omega (arith, up, four); empty = ap (λ n. has_depth i n 0) (sym four) ∙ end }) in
           let last = jump_kept i s low high (here c.code) back (at_back i h) turn in
-          subst (λ n. AreKept i s low high (here a.code) n 0) (sym (four ∙ three))
+          subst (λ n. AreKeptBetween i s low high (here a.code) n 0) (sym (four ∙ three))
           (kept_then i s low high (here a.code) (here c.code) (suc (here c.code)) 0 0
           (kept_then i s low high (here a.code) (here b.code) (here c.code) 0 0
           (kept_then i s low high (here a.code) out (here b.code) 0 0
-          (subst (λ n. AreKept i s low high (here a.code) n 0) (let e : suc (here a.code) ≡ out = omega (arith, out_is) in e) first)
-          (subst (λ n. AreKept i s low high out n 0) (let e : suc out ≡ here b.code = omega (arith, out_is, one, two) in e) second)) kept) last);
+          (subst (λ n. AreKeptBetween i s low high (here a.code) n 0) (let e : suc (here a.code) ≡ out = omega (arith, out_is) in e) first)
+          (subst (λ n. AreKeptBetween i s low high out n 0) (let e : suc out ≡ here b.code = omega (arith, out_is, one, two) in e) second)) kept) last);
     }
       where
         head_is : here b.code ≡ here a.code + 2
@@ -168,11 +168,11 @@ module _ (v : Visible) (w : Ways) where
 -- ---- what is legal
 
 module _ (s : Scope) (place : ℕ) (body : StmtTrees) where
-  pub forever_body : IsLegal s (statements.Loop place Forever body) → AreLegal s body
+  pub forever_body : IsLegalStatement s (statements.Loop place Forever body) → AreLegalStatements s body
   forever_body h = record { around = in_loop h.around; unbroken = h.unbroken }
 
-  pub while_condition : (e : ExprTree) → IsLegal s (statements.Loop place (While e) body) → condition_faults s e ≡ []
+  pub while_condition : (e : ExprTree) → IsLegalStatement s (statements.Loop place (While e) body) → condition_faults s e ≡ []
   while_condition e h = front_empty (condition_faults s e) (stmts_faults s (in_loop h.around) body) h.unbroken
 
-  pub while_body : (e : ExprTree) → IsLegal s (statements.Loop place (While e) body) → AreLegal s body
+  pub while_body : (e : ExprTree) → IsLegalStatement s (statements.Loop place (While e) body) → AreLegalStatements s body
   while_body e h = record { around = in_loop h.around; unbroken = back_empty (condition_faults s e) (stmts_faults s (in_loop h.around) body) h.unbroken }

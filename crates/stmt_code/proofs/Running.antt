@@ -11,14 +11,14 @@ use Rattle.image.specs.declared.instruction.Operation.{Operation}
 use Rattle.image.specs.declared.instruction.Operation.TheVariants as op
 use Rattle.expr_code.specs.Views.{At}
 use Rattle.expr_code.specs.Code.{Extends, Holds, Patches, StandsFrom, here}
-use Rattle.expr_code.specs.Flows.{AreKept}
+use Rattle.expr_code.specs.Flows.{AreKeptBetween}
 use Rattle.expr_code.specs.declared.visible.Visible.{Visible}
 use Rattle.expr_code.proofs.Flowing.{kept_then}
 use Rattle.expr_code.proofs.Growing.{added_extends, added_here, extends_trans, holds_before, patched_extends, patched_here, patched_holds, patched_other}
 use Rattle.stmt_code.specs.Handling.{GoesBy}
 use Rattle.stmt_code.specs.Bounds.{handlers_words, stmts_words}
 use Rattle.stmt_code.specs.Covering.{EmitsSequence}
-use Rattle.stmt_code.specs.Emitting.{Allows, BeginsLoop, EmitsDeclarations, EmitsRun, HasLabels, IsReached, Serves, seeing}
+use Rattle.stmt_code.specs.Emitting.{Allows, BeginsLoop, EmitsDeclarations, EmitsRun, HasLabels, IsReachable, Serves, seeing}
 use Rattle.stmt_code.specs.Statements.{IsSequence, Ways}
 use Rattle.stmt_code.specs.declared.draft.Draft.{Draft}
 use Rattle.stmt_code.proofs.Adding.{IsBeside, depth_there, jump_kept, labels_before, labels_beside, labels_then, most_beside, taken_beside}
@@ -146,14 +146,14 @@ module _ (v later : Visible) (a b c d e : Draft) (ds : List DeclarationTree) (bo
               (handled_inside a c d e around q.rows i program handling goes)))));
         };
     flows = λ i s low high down up h l suits deep wide ends ways.
-        let way : IsReached i low high out = record {
+        let way : IsReachable i low high out = record {
           down = omega (arith, down, out_is, p.extends.longer);
           up = omega (arith, up, three, q.extends.longer, two, one, out_is);
           empty = depth_there i out 0 (op.Jump end) (at_way i h);
         } in
         let inner : Allows i s low high (returning out) = record {
           exit = λ place is. absurd cc;
-          return = λ place is. subst (IsReached i low high) (some_same out place is) way;
+          return = λ place is. subst (IsReachable i low high) (some_same out place is) way;
           handled = λ word is. absurd cc;
         } in
         let wider = p.suits i s suits (omega (arith, many, wide)) in
@@ -176,9 +176,9 @@ module _ (v later : Visible) (a b c d e : Draft) (ds : List DeclarationTree) (bo
         kept_then i s low high (here a.code) (here b.code) (here e.code) 0 0 first
         (kept_then i s low high (here b.code) (here c.code) (here e.code) 0 0
         (kept_then i s low high (here b.code) out (here c.code) 0 0
-        (subst (λ n. AreKept i s low high (here b.code) n 0) (let k : suc (here b.code) ≡ out = omega (arith, out_is) in k) over)
-        (subst (λ n. AreKept i s low high out n 0) (let k : suc out ≡ here c.code = omega (arith, out_is, one, two) in k) leave))
-        (subst (λ n. AreKept i s low high (here c.code) n 0) (sym three) kept));
+        (subst (λ n. AreKeptBetween i s low high (here b.code) n 0) (let k : suc (here b.code) ≡ out = omega (arith, out_is) in k) over)
+        (subst (λ n. AreKeptBetween i s low high out n 0) (let k : suc out ≡ here c.code = omega (arith, out_is, one, two) in k) leave))
+        (subst (λ n. AreKeptBetween i s low high (here c.code) n 0) (sym three) kept));
   }
 
 -- ---- the parts of a body, as they are handed on

@@ -38,11 +38,11 @@ use Rattle.expr_code.specs.Computing.{Everywhere}
 use Rattle.expr_code.specs.Seeing.{Package, Sees, SeesPackage, library_of}
 use Rattle.expr_code.proofs.Coming.{acts}
 use Rattle.expr_code.proofs.Coming as coming
-use Rattle.stmt_code.specs.Resting.{Framed, Held, IsSmall, Knows, Narrows, Rests, RestsWith, Shows, StandsFor}
+use Rattle.stmt_code.specs.Resting.{Framed, HeldWord, IsAddressable, Knows, NarrowsFrame, Rests, RestsWith, Shows, StandsFor}
 use Rattle.stmt_code.specs.Handling.{GoesBy}
 use Rattle.stmt_code.specs.Statements.{Numbers}
 use Rattle.stmt_code.specs.Jumping.{Here, Jumps, There}
-use Rattle.stmt_code.specs.Standing.{AreInner, Around, Catches, CodeStands, Follows, Going, Inside, IsGoing, IsSound, Leads, with_visible, Raised, Shares, StaysAlone, WorkStands, items_size, relation, work_size}
+use Rattle.stmt_code.specs.Standing.{AreInner, Around, Catches, CodeStands, Follows, Going, Inside, IsGoingOn, IsSoundWork, LeadsByWays, with_visible, Raised, Shares, StaysAlone, WorkStands, items_size, relation, work_size}
 use Rattle.stmt_code.specs.Laws.{HasCode}
 use Rattle.stmt_code.proofs.Going.{Drops, earlier, jumps_up, shows_then, way_back, way_out}
 use Rattle.stmt_code.proofs.Catching.{catches}
@@ -66,7 +66,7 @@ pub record Scene : Type 0 where
   pub m : Words
   pub shares : Shares i program g numbers store m
   pub w : TaskWork
-  pub sound : IsSound i program g numbers w
+  pub sound : IsSoundWork i program g numbers w
 
 module _ (this : Scene) where
   abbrev quiet : QuietStays
@@ -120,7 +120,7 @@ module _ (this : Scene) where
   abbrev w : TaskWork
   w = this.w
 
-  abbrev sound : IsSound i program g numbers w
+  abbrev sound : IsSoundWork i program g numbers w
   sound = this.sound
 
   abbrev pub now : source.Here
@@ -162,14 +162,14 @@ module _ (this : Scene) where
   pub step_sound : IsSoundStep now (opened_in (source.items_of w.work)) (work_step now w.work)
   step_sound = sound_steps program schedule k t (record { memory = store; task = w }) premises shares.sound (sound store shares.sound)
 
-  module _ (x : source.Stepped) (is : work_step now w.work ≡ x) where
+  module _ (x : source.SourceStepped) (is : work_step now w.work ≡ x) where
     step_is : IsSoundStep now (opened_in (source.items_of w.work)) x
     step_is = subst (λ y. IsSoundStep now (opened_in (source.items_of w.work)) y) is step_sound
 
     pub store_after : IsSoundStore program x.solo.memory
     store_after = step_is.store.sound
 
-    pub task_after : waits_after x.effect ≡ None → IsSound i program g numbers x.solo.task
+    pub task_after : waits_after x.effect ≡ None → IsSoundWork i program g numbers x.solo.task
     task_after none m' s' = alike program None x.solo.memory m' x.solo.task store_after s'
         (subst (λ q. IsSoundTask program x.solo.memory q x.solo.task) none step_is.task)
 
@@ -183,7 +183,7 @@ module _ (this : Scene) where
 
   -- ---- what is seen
 
-  pub is_small : (f : Frame) → length f.locals ≤ 65536 → (fs : List Frame) → IsSmall (view_of i schedule k m f fs)
+  pub is_small : (f : Frame) → length f.locals ≤ 65536 → (fs : List Frame) → IsAddressable (view_of i schedule k m f fs)
   is_small f small fs regions.Locals = small
   is_small f small fs regions.Plain = shares.stands.plain
   is_small f small fs regions.Object = of_object (own_object i f)
@@ -209,13 +209,13 @@ module _ (this : Scene) where
       (shares.stands.shared p view (record { scope = refl; functions = refl; variables = refl; components = refl }) refl refl refl refl
       (is_small f rests.small []) (shares.sound.functions p)) refl refl refl).room
 
-  pub sees_here : {held : List Held} (v : Framed) (items : List Item) (f : Frame) (fs : List Frame) → RestsWith g v held w.own f.locals
+  pub sees_here : {held : List HeldWord} (v : Framed) (items : List Item) (f : Frame) (fs : List Frame) → RestsWith g v held w.own f.locals
       → Knows g v (place_of now items) (view_of i schedule k m f fs)
   sees_here v items f fs rests =
       rests.rests.sees (place_of now items) (view_of i schedule k m f fs) (sees_package items f fs rests.rests.small) refl refl refl
 
   -- what code computes, the frame comes to
-  pub evaluates : {A : Type 0} {held : List Held} (v : Framed) (from to : ℕ) (stack : List ℤ → A → List ℤ) (value : Calls → Place
+  pub evaluates : {A : Type 0} {held : List HeldWord} (v : Framed) (from to : ℕ) (stack : List ℤ → A → List ℤ) (value : Calls → Place
       → Val A) (items : List Item) (f : Frame) (fs : List Frame)
       → Everywhere i (library_of g) (Sees g v.names) from to stack value → RestsWith g v held w.own f.locals → length fs ≡ ends_of_calls items
       → Comes i schedule k t m (placed f from []) fs (to - from) to (stack []) (value (call (frames_left items)) (place_of now items))
@@ -261,7 +261,7 @@ module _ (this : Scene) where
   -- ---- how steps meet
 
   -- what code stands for after a step of the source with this effect
-  pub record Meets (x : source.Stepped) (y : steps.Stepped) : Type 0 where
+  pub record Meets (x : source.SourceStepped) (y : steps.Stepped) : Type 0 where
     pub effect : y.effect ≡ x.effect
     pub waits : waits_after x.effect ≡ None
     pub alone : StaysAlone x.effect
@@ -296,7 +296,7 @@ module _ (this : Scene) where
       )
 
   -- a quiet step, met by steps up to one that is still to be taken, if there are any
-  pub quiet_from : (s : TaskState) (n : ℕ) (c : TaskState) (x : source.Stepped) → work_step now w.work ≡ x → x.effect ≡ Quiet → x.solo.memory ≡ store
+  pub quiet_from : (s : TaskState) (n : ℕ) (c : TaskState) (x : source.SourceStepped) → work_step now w.work ≡ x → x.effect ≡ Quiet → x.solo.memory ≡ store
       → Takes (behaviour i schedule) t frames_of (most_steps i) (frames_of s) n k (record { memory = m; task = s }) k (record { memory = m; task = c })
       → IsLow s n
       → ((s' : TaskState) → s' ≡ c → WorkStands i program g numbers k x.solo.task s')
@@ -316,7 +316,7 @@ module _ (this : Scene) where
       (begun l.1)
 
   -- a step that is met by the last of some steps
-  pub moves_from : (s : TaskState) (n : ℕ) (c : Solo Words TaskState) (x : source.Stepped) (y : steps.Stepped) → work_step now w.work ≡ x
+  pub moves_from : (s : TaskState) (n : ℕ) (c : Solo Words TaskState) (x : source.SourceStepped) (y : steps.Stepped) → work_step now w.work ≡ x
       → act i schedule k t c ≡ y
       → Takes (behaviour i schedule) t frames_of (most_steps i) (frames_of s) n k (record { memory = m; task = s }) k c
       → IsLow s n
@@ -330,7 +330,7 @@ module _ (this : Scene) where
       (record { sound = store_after x is; stands = meets.words })
       (record { alone = meets.alone; stands = record { sound = task_after x is meets.waits; code = meets.code } })
 
-  pub met_quiet_on : (base : List ℤ) (f : Frame) (fs : List Frame) (n : ℕ) (c : TaskState) (x : source.Stepped) → work_step now w.work ≡ x → x.effect ≡ Quiet
+  pub met_quiet_on : (base : List ℤ) (f : Frame) (fs : List Frame) (n : ℕ) (c : TaskState) (x : source.SourceStepped) → work_step now w.work ≡ x → x.effect ≡ Quiet
       → x.solo.memory ≡ store
       → (all : Takes (behaviour i schedule) t frames_of (most_steps i) (suc (length fs)) n k (in_frame m (placed f f.place base) fs) k
       (record { memory = m; task = c }))
@@ -349,7 +349,7 @@ module _ (this : Scene) where
 
   -- a step of the source that evaluates: what raises is met, and what has no meaning is excluded
   pub met_value_on : {A : Type 0} (base start : List ℤ) (f : Frame) (fs : List Frame) (n from n' to : ℕ) (stack : A → List ℤ) (v : Val A)
-      (items : List Item) (go : A → source.Stepped)
+      (items : List Item) (go : A → source.SourceStepped)
       → Spends (behaviour i schedule) t frames_of (most_steps i) (suc (length fs)) n k (in_frame m (placed f f.place base) fs) k
       (in_frame m (placed f from start) fs)
       → Comes i schedule k t m (placed f from start) fs n' to stack v
@@ -383,7 +383,7 @@ module _ (this : Scene) where
 
   -- ... and is then met by the code's last instruction
   pub met_comes_on : {A : Type 0} (base start : List ℤ) (f : Frame) (fs : List Frame) (n from n' to : ℕ) (stack : A → List ℤ) (v : Val A)
-      (items : List Item) (go : A → source.Stepped)
+      (items : List Item) (go : A → source.SourceStepped)
       → Spends (behaviour i schedule) t frames_of (most_steps i) (suc (length fs)) n k (in_frame m (placed f f.place base) fs) k
       (in_frame m (placed f from start) fs)
       → Comes i schedule k t m (placed f from start) fs n' to stack v
@@ -403,7 +403,7 @@ module _ (this : Scene) where
       (omega (arith, low), λ some. omega (arith, low)) y.2)
 
   -- ... from an empty operand stack
-  pub met_quiet : (f : Frame) (fs : List Frame) (n : ℕ) (c : TaskState) (x : source.Stepped) → work_step now w.work ≡ x → x.effect ≡ Quiet
+  pub met_quiet : (f : Frame) (fs : List Frame) (n : ℕ) (c : TaskState) (x : source.SourceStepped) → work_step now w.work ≡ x → x.effect ≡ Quiet
       → x.solo.memory ≡ store
       → (all : Takes (behaviour i schedule) t frames_of (most_steps i) (suc (length fs)) n k (in_frame m (placed f f.place []) fs) k
       (record { memory = m; task = c }))
@@ -413,7 +413,7 @@ module _ (this : Scene) where
       → Meet (in_frame m (placed f f.place []) fs).task
   met_quiet f fs n c x = met_quiet_on [] f fs n c x
 
-  pub met_value : {A : Type 0} (f : Frame) (fs : List Frame) (n from n' to : ℕ) (stack : A → List ℤ) (v : Val A) (items : List Item) (go : A → source.Stepped)
+  pub met_value : {A : Type 0} (f : Frame) (fs : List Frame) (n from n' to : ℕ) (stack : A → List ℤ) (v : Val A) (items : List Item) (go : A → source.SourceStepped)
       → Reaching f fs n f.place from
       → Comes i schedule k t m (placed f from []) fs n' to stack v
       → n + n' < size_of i f.subprogram + size_of i f.subprogram
@@ -428,7 +428,7 @@ module _ (this : Scene) where
       → Meet (in_frame m (placed f f.place []) fs).task
   met_value f fs n from n' to stack v items go = met_value_on [] [] f fs n from n' to stack v items go
 
-  pub met_comes : {A : Type 0} (f : Frame) (fs : List Frame) (n from n' to : ℕ) (stack : A → List ℤ) (v : Val A) (items : List Item) (go : A → source.Stepped)
+  pub met_comes : {A : Type 0} (f : Frame) (fs : List Frame) (n from n' to : ℕ) (stack : A → List ℤ) (v : Val A) (items : List Item) (go : A → source.SourceStepped)
       → Reaching f fs n f.place from
       → Comes i schedule k t m (placed f from []) fs n' to stack v
       → n + n' < size_of i f.subprogram + size_of i f.subprogram
@@ -441,7 +441,7 @@ module _ (this : Scene) where
   met_comes f fs n from n' to stack v items go = met_comes_on [] [] f fs n from n' to stack v items go
 
   -- no step of code, and what is left to do is less
-  pub met_still : (s : TaskState) (x : source.Stepped) → work_step now w.work ≡ x → x.effect ≡ Quiet → x.solo.memory ≡ store
+  pub met_still : (s : TaskState) (x : source.SourceStepped) → work_step now w.work ≡ x → x.effect ≡ Quiet → x.solo.memory ≡ store
       → CodeStands i program g numbers k x.solo.task s
       → work_size x.solo.task.work < work_size w.work
       → Meet s
@@ -471,13 +471,13 @@ module _ (this : Scene) where
     fs = s.callers
 
     abbrev pub IsAtItems : List Item → Type 0
-    IsAtItems items = IsGoing i program g numbers items w.own w.callers s
+    IsAtItems items = IsGoingOn i program g numbers items w.own w.callers s
 
     -- the same frame goes on elsewhere
     pub goes_on : (items : List Item) (own : Activation) (a : Setting) (place : ℕ) (locals : List ℤ) → Follow a f.subprogram place items fs w.callers
         → RestsWith g a.visible a.held own locals
         → own.within ≡ None → length fs ≡ ends_of_calls items → Removable f fs
-        → IsGoing i program g numbers items own w.callers (record { frame = goes_at f place locals; callers = fs; raising = None })
+        → IsGoingOn i program g numbers items own w.callers (record { frame = goes_at f place locals; callers = fs; raising = None })
     goes_on items own a place locals follows rests outside depth inner =
         record {
           around = a;
@@ -497,7 +497,7 @@ module _ (this : Scene) where
           (rests.sees p view shared one two three);
     }
 
-    pub narrowed : {held : List Held} (a b : Framed) (own : Activation) (locals : List ℤ) → Narrows g a b → RestsWith g a held own locals
+    pub narrowed : {held : List HeldWord} (a b : Framed) (own : Activation) (locals : List ℤ) → NarrowsFrame g a b → RestsWith g a held own locals
         → RestsWith g b held own locals
     narrowed a b own locals nar rests = record {
       rests = shown a b own locals nar.shows rests.rests;
@@ -525,7 +525,7 @@ module _ (this : Scene) where
         })
 
     -- a step without a value: jumps, and one instruction
-    pub met_plain : (o : Operation) (x : source.Stepped) (y : steps.Stepped) (at : ℕ) (items : List Item) → work_step now w.work ≡ x → s.frame.stack ≡ []
+    pub met_plain : (o : Operation) (x : source.SourceStepped) (y : steps.Stepped) (at : ℕ) (items : List Item) → work_step now w.work ≡ x → s.frame.stack ≡ []
         → s.raising ≡ None
         → Jumps i f.place at → In f.subprogram f.place → In f.subprogram at
         → At i at o
@@ -594,14 +594,14 @@ module _ (this : Scene) where
         })
 
     -- the code of the next items is reached by jumps
-    pub reached : (a : Setting) (from at to : ℕ) (now' : Framed) (items : List Item) → Leads i program g numbers a f.subprogram from at to now'
+    pub reached : (a : Setting) (from at to : ℕ) (now' : Framed) (items : List Item) → LeadsByWays i program g numbers a f.subprogram from at to now'
         → Follow (seeing now' a) f.subprogram at items fs w.callers
         → Follow (seeing a.visible a) f.subprogram from items fs w.callers
     reached a from at to now' items leads follows = earlier i program g numbers items (seeing now' a) a.visible f.subprogram from at fs w.callers
         leads.jumps leads.narrows leads.from_inside follows
 
     -- nothing but what is left to do changes
-    pub met_items : (x : source.Stepped) (items : List Item) → work_step now w.work ≡ source.goes now items → suc (items_size items) < work_size w.work
+    pub met_items : (x : source.SourceStepped) (items : List Item) → work_step now w.work ≡ source.goes now items → suc (items_size items) < work_size w.work
         → s.frame.stack ≡ [] → s.raising ≡ None
         → (a : Setting) → Follow a f.subprogram f.place items fs w.callers → RestsWith g a.visible a.held w.own f.locals → w.own.within ≡ None
         → length fs ≡ ends_of_calls items
@@ -631,7 +631,7 @@ module _ (this : Scene) where
     -- ---- ways out
 
     -- what is visible at a way out, and what is held there, where the frame goes on there
-    pub way_rests : (a outer : Setting) (now' last : Framed) → RestsWith g a.visible a.held w.own f.locals → Narrows g a.visible now' → Shows g now' last
+    pub way_rests : (a outer : Setting) (now' last : Framed) → RestsWith g a.visible a.held w.own f.locals → NarrowsFrame g a.visible now' → Shows g now' last
         → last ≡ outer.visible → Drops i program g numbers (seeing now' a) outer → RestsWith g outer.visible outer.held w.own f.locals
     way_rests a outer now' last rests one two e drops = record {
       rests = subst (λ q. Rests g q w.own f.locals) e (shown a.visible last w.own f.locals (shows_then g a.visible now' last one two) rests.rests);

@@ -38,7 +38,7 @@ use Rattle.well_typed.proofs.Expressions.{not_false}
 use Rattle.meaning.specs.Programs.{Program}
 use Rattle.expr_code.specs.Branches.{Joins}
 use Rattle.expr_code.specs.Code.{Extends, Holds, here}
-use Rattle.expr_code.specs.Flows.{AreKept}
+use Rattle.expr_code.specs.Flows.{AreKeptBetween}
 use Rattle.expr_code.specs.Naming.{scalar_word}
 use Rattle.expr_code.specs.Seeing.{Package, Sees}
 use Rattle.expr_code.specs.Views.{At, View}
@@ -109,7 +109,7 @@ all_count (c ∷ cs) = let one = expr_counts c in let more = all_count cs in ome
 module _ (i : Sections) (s : Subprogram) (low high label : ℕ) (down : low ≤ label) (up : label ≤ high) (there : has_depth i label 1 ≡ true) where
   test_kept : (old : Code) (word : ℤ) (new : Code) → AddsTest old word label new → Holds i (here old) new → new.deepest ≤ s.stack
       → has_depth i (here new) 1 ≡ true
-      → AreKept i s low high (here old) (here new) 1
+      → AreKeptBetween i s low high (here old) (here new) 1
   test_kept old word new a h deep ends =
       let jump = op.JumpIfNotZero label in
       let one = added_here old a.copied 1 op.Duplicate a.copies in
@@ -143,14 +143,14 @@ module _ (i : Sections) (s : Subprogram) (low high label : ℕ) (down : low ≤ 
       kept_then i s low high (here old) (here a.compared) (here new) 1 2
       (kept_then i s low high (here old) (here a.pushed) (here a.compared) 1 3
       (kept_then i s low high (here old) (here a.copied) (here a.pushed) 1 2
-      (subst (λ n. AreKept i s low high (here old) n 1) (sym one) copying)
-      (subst (λ n. AreKept i s low high (here a.copied) n 2) (sym two) pushing))
-      (subst (λ n. AreKept i s low high (here a.pushed) n 3) (sym three) comparing))
-      (subst (λ n. AreKept i s low high (here a.compared) n 2) (sym four) jumping)
+      (subst (λ n. AreKeptBetween i s low high (here old) n 1) (sym one) copying)
+      (subst (λ n. AreKeptBetween i s low high (here a.copied) n 2) (sym two) pushing))
+      (subst (λ n. AreKeptBetween i s low high (here a.pushed) n 3) (sym three) comparing))
+      (subst (λ n. AreKeptBetween i s low high (here a.compared) n 2) (sym four) jumping)
 
   tests_kept : (t : Scope) (cs : List ExprTree) (old new : Code) → TestsAll t label old cs new → Holds i (here old) new → new.deepest ≤ s.stack → 1 ≤ s.stack
       → has_depth i (here new) 1 ≡ true
-      → AreKept i s low high (here old) (here new) 1
+      → AreKeptBetween i s low high (here old) (here new) 1
   tests_kept t [] old new same h deep one ends =
       let e = ap here same in record {
         begins = ap (λ n. has_depth i n 1) (sym e) ∙ ends;
@@ -327,7 +327,7 @@ pub record Selects (v : Visible) (e : ExprTree) (old : Code) (choices : ChoicesT
   pub flows : (i : Sections) (s : Subprogram) (low high to : ℕ) → low ≤ here old → here new ≤ to → to ≤ high → Joins i (here old) next to 1 new
       → new.deepest ≤ s.stack
       → has_depth i to 1 ≡ true → has_depth i (here new) 0 ≡ true
-      → AreKept i s low high (here old) (here new) 1
+      → AreKeptBetween i s low high (here old) (here new) 1
 
 only_there : (n : ℕ) → is_among (n ∷ []) n ≡ true
 only_there n = ap (λ t. t || false) (same_self n)
@@ -338,7 +338,7 @@ not_behind n = none_behind (n ∷ []) (suc n) (suc n) (λ m e. (let same = alone
 -- a value is dropped
 drop_kept : (i : Sections) (s : Subprogram) (low high place : ℕ) → slice_get i.instructions place ≡ Some (record { depth = 1; operation = op.Drop })
     → 1 ≤ s.stack → has_depth i (suc place) 0 ≡ true
-    → AreKept i s low high place (suc place) 1
+    → AreKeptBetween i s low high place (suc place) 1
 drop_kept i s low high place there one ends =
     kept_one i s low high place 1 0 op.Drop there one (omega arith) refl refl (omega arith) (omega arith) refl (λ g. ends) (λ t g. absurd cc)
 
@@ -359,7 +359,7 @@ module _ (calls : CallsAreTyped) (statics : StaticIsValue) (quiet : QuietStays) 
             (scalar_there calls statics quiet i program g numbers f e (ap (λ x. selecting_faults x.scope e) names ∙ selecting)) place (here old) last there
             (omega (arith, to, up)));
         flows = λ i s low high last down up over j deep depth ends.
-            subst (λ n. AreKept i s low high (here old) n 1) (sym to)
+            subst (λ n. AreKeptBetween i s low high (here old) n 1) (sym to)
             (drop_kept i s low high (here old) (j.others (here old) _ (omega arith) (none (here old)) (added_is old new 1 op.Drop a.drops))
             (omega (arith, a.drops.within, deep)) (ap (λ n. has_depth i n 0) (sym to) ∙ ends));
       }
@@ -434,7 +434,7 @@ module _ (calls : CallsAreTyped) (statics : StaticIsValue) (quiet : QuietStays) 
           )) in
           let testing = tests_kept i s low high (suc (here a.tested)) (omega (arith, down, grown.longer)) (omega (arith, two, up, over)) dropping.begins v.scope cs old
           a.tested tests (in_tested i to j) (omega (arith, grows.deeper, deep)) deepest passing.begins in
-          subst (λ n. AreKept i s low high (here old) n 1) (sym two)
+          subst (λ n. AreKeptBetween i s low high (here old) n 1) (sym two)
           (kept_then i s low high (here old) (suc (here a.tested)) (suc (suc (here a.tested))) 1 1
           (kept_then i s low high (here old) (here a.tested) (suc (here a.tested)) 1 1 testing passing) dropping);
     }

@@ -9,10 +9,10 @@ use Rattle.meaning.specs.SourceSteps as source
 use Rattle.meaning.specs.SourceSteps.{work_step}
 use Rattle.meaning.specs.Works.{Item, Declares, Sequence, Does, Handles, EndsHandler, Goes, Activation, TaskWork}
 use Rattle.expr_code.specs.Seeing.{Package}
-use Rattle.stmt_code.specs.Resting.{Framed, Narrows, RestsWith}
+use Rattle.stmt_code.specs.Resting.{Framed, NarrowsFrame, RestsWith}
 use Rattle.stmt_code.specs.Statements.{IsSequence, Numbers}
 use Rattle.stmt_code.specs.Jumping.{Here, There}
-use Rattle.stmt_code.specs.Standing.{Reaches, in_sequence, items_size, work_size}
+use Rattle.stmt_code.specs.Standing.{ReachesWays, in_sequence, items_size, work_size}
 use Rattle.stmt_code.proofs.Going.{before_ends, before_follows, declares_end, declares_follow, drops_handler, earlier, jumps_up, narrows_same, shows_then}
 use Rattle.stmt_code.proofs.Scenes.{Scene}
 use Rattle.stmt_code.proofs.Scenes as scene
@@ -99,7 +99,7 @@ module _ (this : Scene) where
     -- a sequence begins
     begins : (body : StmtTrees) (hs : HandlerTrees) (items : List Item) (a : Setting) (now' : Framed) (at to : ℕ)
         → IsSequence i program g numbers now' a.ways a.raised at to body hs → at ≤ to → In f.subprogram at → In f.subprogram to
-        → Reaches i program g numbers a now' → Follow (seeing now' a) f.subprogram to items fs w.callers
+        → ReachesWays i program g numbers a now' → Follow (seeing now' a) f.subprogram to items fs w.callers
         → (b : Setting) × (b.visible ≡ now') × (b.held ≡ a.held) × Follow b f.subprogram at (source.before body (Handles hs ∷ items)) fs w.callers
     begins body NoHandlers items a now' at to code le x y reach rest = (
       seeing now' a,
@@ -154,7 +154,7 @@ module _ (this : Scene) where
         (subst (λ q. suc (items_size all) < work_size q) (sym is) (omega (arith, e))) h.stack h.going
         (seeing h.around.visible b)
         (earlier i program g numbers all b h.around.visible f.subprogram f.place r.0 fs w.callers leads.jumps
-        (subst (λ q. Narrows g h.around.visible q) (sym inner.1) leads.narrows) x inner.3)
+        (subst (λ q. NarrowsFrame g h.around.visible q) (sym inner.1) leads.narrows) x inner.3)
         (subst (λ q. RestsWith g h.around.visible q w.own f.locals) (sym inner.2) h.rests) h.outside
         (h.depth ∙ sym (before_ends i program g numbers body (Handles hs ∷ items))) h.inner
 

@@ -35,13 +35,13 @@ use Rattle.expr_code.specs.Views.{At}
 use Rattle.expr_code.specs.Code.{Adds, Holds, here}
 use Rattle.expr_code.specs.Computing.{ComputesChecked}
 use Rattle.expr_code.specs.Emitting.{EmitsChecked, IsFit}
-use Rattle.expr_code.specs.Flows.{AreKept}
+use Rattle.expr_code.specs.Flows.{AreKeptBetween}
 use Rattle.expr_code.specs.Seeing.{Package, Sees, library_of, slot_of}
 use Rattle.expr_code.specs.declared.code.Code.{Code}
 use Rattle.expr_code.specs.declared.visible.Slot.{Slot}
 use Rattle.expr_code.specs.declared.visible.Visible.{Visible}
 use Rattle.expr_code.proofs.Growing.{added_at, added_extends, added_here, holds_before}
-use Rattle.stmt_code.specs.Emitting.{EmitsStatement, IsLegal, store_operation, stored_in}
+use Rattle.stmt_code.specs.Emitting.{EmitsStatement, IsLegalStatement, store_operation, stored_in}
 use Rattle.stmt_code.specs.Layout.{IsLaidOut, IsVariable, NamesObject}
 use Rattle.stmt_code.specs.Suiting.{SuitsStatements}
 use Rattle.stmt_code.specs.Resting.{Framed}
@@ -109,7 +109,7 @@ pub whole_stands : (s : Scope) (name : NameTree) (r : Role) (t : Subtype) → na
 whole_stands s name r t whole_name stands = ap (standing_of s name.first) whole_name ∙ ap (λ w. select_all s w NoSelectors) stands
 
 module _ (s : Scope) (name : NameTree) (e : ExprTree) (r : Role) (t : Subtype) (standing_is : standing_of s name.first name.selectors ≡ standing.Part r t)
-    (legal : IsLegal s (statements.Assignment name e)) where
+    (legal : IsLegalStatement s (statements.Assignment name e)) where
   pub assigned_fit : IsFit s t e
   assigned_fit = record {
     wanted = OfType t.type_number;
@@ -189,7 +189,7 @@ module _ (kept : AgreementIsKept) (sized : ValuesHaveWords) (calls : CallsAreTyp
 
   module _ (i : Sections) (s : Subprogram) (low high : ℕ) (down : low ≤ here a.code) (up : here c.code ≤ high) (h : Holds i (here a.code) c.code)
       (suits : SuitsStatements v i s) (deep : c.code.deepest ≤ s.stack) (ends : has_depth i (here c.code) 0 ≡ true) where
-    flows_by : (x : Region) → slot.region ≡ x → stored_in x slot.offset ≡ Some o → AreKept i s low high (here a.code) (here c.code) 0
+    flows_by : (x : Region) → slot.region ≡ x → stored_in x slot.offset ≡ Some o → AreKeptBetween i s low high (here a.code) (here c.code) 0
     flows_by regions.Locals is k =
         value_kept v a.code m c.code (op.StoreLocal slot.offset) p.extends p.flows
         (subst (λ x. Adds m 1 x c.code) (sym (some_same (op.StoreLocal slot.offset) o k)) q) i s low high down up h suits deep refl

@@ -42,7 +42,7 @@ use Rattle.expr_code.specs.declared.visible.Slot.{Slot}
 use Rattle.expr_code.specs.declared.visible.Visible.{Visible}
 use Rattle.expr_code.proofs.Flowing.{Changes, flows_then, instruction_flows, widened}
 use Rattle.expr_code.proofs.Growing.{added_at, added_extends, added_here, extends_trans, holds_before, holds_later}
-use Rattle.stmt_code.specs.Emitting.{EmitsStatement, IsLegal, stored_at}
+use Rattle.stmt_code.specs.Emitting.{EmitsStatement, IsLegalStatement, stored_at}
 use Rattle.stmt_code.specs.Layout.{IsLaidOut, IsVariable, NamesObject}
 use Rattle.stmt_code.specs.Resting.{Framed}
 use Rattle.stmt_code.specs.Statements.{IsAssigned, Numbers, Ways}
@@ -108,7 +108,7 @@ store_changes v r size o block it = by_count it.is
 -- ---- what is legal
 
 module _ (s : Scope) (name : NameTree) (e : ExprTree) (r : Role) (t : Subtype) (stands : stands_first s (number_of s name.first.name) ≡ standing.Part r t) where
-  pub assigned_path : IsLegal s (statements.Assignment name e) → IsLegalPath s t name.selectors
+  pub assigned_path : IsLegalStatement s (statements.Assignment name e) → IsLegalPath s t name.selectors
   assigned_path legal =
       let target = front_empty (target_faults s name.first name.selectors) (faults_of s (assigned_wanted s name) e) legal.unbroken in
       let whole = front_empty (name_faults s name.first name.selectors)

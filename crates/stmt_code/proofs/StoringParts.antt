@@ -33,7 +33,7 @@ use Rattle.expr_code.specs.Naming.{Lies}
 use Rattle.expr_code.specs.Seeing.{Package, Sees, slot_of}
 use Rattle.expr_code.specs.Views.{At, View, in_frame, placed, view_of}
 use Rattle.expr_code.specs.declared.visible.Visible.{Visible}
-use Rattle.stmt_code.specs.Copying.{IsHomeOf, IsPlaced, address_of, entity_shape, offset_or_none, shape_named}
+use Rattle.stmt_code.specs.Copying.{IsHomeOf, IsPlacedTarget, address_of, entity_shape, offset_or_none, shape_named}
 use Rattle.stmt_code.specs.declared.call.Destination.{Destination}
 use Rattle.stmt_code.specs.Layout.{AreApart, IsFree, IsLaidOut, NamesObject}
 use Rattle.stmt_code.specs.Parts.{part_offset, part_shape}
@@ -79,10 +79,10 @@ block_in quiet i regions.Object place offset base size h here = absurd h
 pub shape_is : (s : Scope) (name : List ℕ) (r : Role) (t : Subtype) → NamesObject s name r t → shape_named s name ≡ shape_of s t
 shape_is s name r t n = ap (λ o. elim o [ None ↦ Shapeless | Some k ↦ entity_shape s (entity_at s k) ]) n.numbered ∙ ap (entity_shape s) n.stands
 
-abbrev pub place_of : (v : Visible) (d : Destination) (x : Target) → IsPlaced v d x → ℕ
+abbrev pub place_of : (v : Visible) (d : Destination) (x : Target) → IsPlacedTarget v d x → ℕ
 place_of v d x h = h.slot.offset + part_offset (shape_of v.scope h.whole) x.parts
 
-pub address_is : (v : Visible) (d : Destination) (x : Target) (h : IsPlaced v d x) → address_of v x ≡ place_of v d x h
+pub address_is : (v : Visible) (d : Destination) (x : Target) (h : IsPlacedTarget v d x) → address_of v x ≡ place_of v d x h
 address_is v d x h =
     ap (λ o. offset_or_none o + part_offset (shape_named v.scope x.name) x.parts) h.there
     ∙ ap (λ q. h.slot.offset + part_offset q x.parts) (shape_is v.scope x.name h.role h.whole h.named)
@@ -112,7 +112,7 @@ outside_changed x y a is = ap (λ h. activation_with (record x { home = h }) y a
 -- ---- a value of the target's subtype
 
 module _ (kept : AgreementIsKept) (sized : ValuesHaveWords) (i : Sections) (program : Program) (g : Package) (v : Framed) (laid : IsLaidOut g v)
-    (d : Destination) (x : Target) (h : IsPlaced v.names d x) (y : Value) (suited : has_shape (shape_of v.names.scope d.subtype) y ≡ true) where
+    (d : Destination) (x : Target) (h : IsPlacedTarget v.names d x) (y : Value) (suited : has_shape (shape_of v.names.scope d.subtype) y ≡ true) where
   abbrev whole_shape : Shape
   whole_shape = shape_of v.names.scope h.whole
 

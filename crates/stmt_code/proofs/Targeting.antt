@@ -34,7 +34,7 @@ use Rattle.meaning.specs.Targets.{all_selected, element_of, part_of, selected}
 use Rattle.meaning.specs.Works.{Part, Element, Field, Target}
 use Rattle.expr_code.specs.Views.{At, frames_above, in_frame, placed, Sight, View, view_of}
 use Rattle.expr_code.specs.Coming.{Comes, most_steps, on}
-use Rattle.expr_code.specs.Computing.{Answers, IsNumber, Library}
+use Rattle.expr_code.specs.Computing.{Answers, ComesToNumber, Library}
 use Rattle.expr_code.specs.Locating.{IsPath, shape_in}
 use Rattle.expr_code.proofs.Coming.{acts, after_first, more, steps, pushes, then_comes}
 use Rattle.expr_code.proofs.Locating.{distance, given, in_base, indexes, passed_number}
@@ -76,7 +76,7 @@ module _ (W : Shape) (offset : ℕ) where
   element_partly y s x part many n element h is less =
       let here = h.shape ∙ is in
       record {
-        has = further_part W y.parts (Element n) h.has (subst (λ q. shapes.HasPart q (Element n)) (sym here) less);
+        has = further_part W y.parts (Element n) h.has (subst (λ q. shapes.ShapeHasPart q (Element n)) (sym here) less);
         shape = further_shape W y.parts (Element n) ∙ ap (λ q. shapes.inner q (Element n)) here;
         subtype = refl;
       }
@@ -94,7 +94,7 @@ module _ (W : Shape) (offset : ℕ) where
   field_partly y s x part parts name o component h is there at =
       let here = h.shape ∙ is in
       record {
-        has = further_part W y.parts (Field name) h.has (subst (λ q. shapes.HasPart q (Field name)) (sym here) (part, o, there, at));
+        has = further_part W y.parts (Field name) h.has (subst (λ q. shapes.ShapeHasPart q (Field name)) (sym here) (part, o, there, at));
         shape = further_shape W y.parts (Field name) ∙ ap (λ q. shapes.inner q (Field name)) here ∙ ap shape_or_none there;
         subtype = refl;
       }
@@ -111,7 +111,7 @@ module _ (W : Shape) (offset : ℕ) where
   module _ (i : Sections) (library : Library) (sight : Sight) (sound : (p : Place) (view : View) → sight p view → SoundScope p.scope) (calls : Calls)
       (good : library.sound calls) (p : Place) (view : View) (sees : sight p view) where
     -- what a checked index is
-    index_value : (s index element : Subtype) (many : ℕ) (e : ExprTree) → IsNumber i library sight e → form_at p.scope s.type_number ≡ Some (Arrays index many element)
+    index_value : (s index element : Subtype) (many : ℕ) (e : ExprTree) → ComesToNumber i library sight e → form_at p.scope s.type_number ≡ Some (Arrays index many element)
         → (v : Value) → and_then (value_with calls p e) (passed index) ≡ Gives v
         → (z : ℤ) × (n : ℕ) × (v ≡ Number z) × (z -ℤ index.first ≡ pos n) × (n < many)
     index_value s index element many e number form v ev =

@@ -51,7 +51,7 @@ use Rattle.expr_code.proofs.Flowing.{Changes, flows_then, instruction_flows}
 use Rattle.expr_code.proofs.Growing.{added_at, added_extends, added_here, extends_trans, holds_before, holds_later}
 use Rattle.expr_code.proofs.Widths.{words_by_type}
 use Rattle.stmt_code.specs.Layout.{IsVariable, NamesObject}
-use Rattle.stmt_code.specs.Passing.{AddsValue, ArePassedInFront, EmitsActuals, EmitsTarget, holds_variables, loaded_at}
+use Rattle.stmt_code.specs.Passing.{AddsValue, ArePassedInFront, EmitsPassedActuals, EmitsTarget, holds_variables, loaded_at}
 use Rattle.stmt_code.specs.Suiting.{returned_width}
 use Rattle.stmt_code.specs.declared.call.Destination.{Destination}
 use Rattle.stmt_code.proofs.ChecksAdded.{IsChecked, is_checked}
@@ -115,14 +115,14 @@ taken_legal s n first selectors r t stands legal =
 
 -- ... and no rule is broken in its name, nor in the parts behind it
 pub name_legal : (s : Scope) (f : FormalParameter) (e : ExprTree) → formal_slot f ≡ Takes f.subtype.type_number → IsPassedLegally s f (tree.Value e)
-    → expressions.IsLegal s e
+    → expressions.IsLegalExpression s e
 name_legal s f e takes legal = record {
   wanted = OfType f.subtype.type_number;
   unbroken = front_empty (faults_in s (OfType f.subtype.type_number) e) _ (ap (λ x. argument_faults s x (tree.Value e)) (sym takes) ∙ legal);
 }
 
 pub path_legal : (s : Scope) (first : Identifier) (selectors : SelectorTrees) (r : Role) (t : Subtype) → stands_first s (number_of s first.name) ≡ standing.Part r t
-    → expressions.IsLegal s (Named first selectors) → IsLegalPath s t selectors
+    → expressions.IsLegalExpression s (Named first selectors) → IsLegalPath s t selectors
 path_legal s first selectors r t stands legal =
     let hidden = rule NAME_NOT_VISIBLE first.place (not (is_visible s first.name)) in
     let all = selectors_faults s first.place (stands_first s (number_of s first.name)) selectors in
@@ -194,7 +194,7 @@ module _ (sized : ValuesHaveWords) (quiet : QuietStays) (v : Visible) (old low :
       ∙ ap suc (same_words v.scope f.subtype d.subtype typed.same)
 
   -- `out`
-  pub out_emits : (height : ℕ) → f.mode ≡ mode.Out → height ≡ depth + 1 → EmitsActuals v old depth (f ∷ []) (tree.Value e ∷ []) (d ∷ []) height low
+  pub out_emits : (height : ℕ) → f.mode ≡ mode.Out → height ≡ depth + 1 → EmitsPassedActuals v old depth (f ∷ []) (tree.Value e ∷ []) (d ∷ []) height low
   out_emits height is up = record {
     extends = target.emits.extends;
     sized = omega (arith, target.emits.sized, size);
@@ -307,7 +307,7 @@ module _ (sized : ValuesHaveWords) (quiet : QuietStays) (v : Visible) (old low :
             inr (subst (λ n. At i (suc (here low)) (op.LoadBlock target.slot.region n)) many
             (subst (λ r. At i (suc (here low)) (op.LoadBlock r value.words)) (sym target.region) h))
 
-    pub both_emits : f.mode ≡ mode.InOut → EmitsActuals v old depth (f ∷ []) (tree.Value e ∷ []) (d ∷ []) height new
+    pub both_emits : f.mode ≡ mode.InOut → EmitsPassedActuals v old depth (f ∷ []) (tree.Value e ∷ []) (d ∷ []) height new
     both_emits is = record {
       extends = extends_trans old low new target.emits.extends after;
       sized = omega (arith, target.emits.sized, size, doubled_here, loaded_here, check.few);

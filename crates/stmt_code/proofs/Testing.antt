@@ -12,13 +12,13 @@ use Rattle.expr_code.specs.Views.{At}
 use Rattle.expr_code.specs.Code.{Adds, Extends, Holds, Patches, StandsFrom, here}
 use Rattle.expr_code.specs.Computing.{Computes}
 use Rattle.expr_code.specs.Emitting.{EmitsExpression}
-use Rattle.expr_code.specs.Flows.{AreKept}
+use Rattle.expr_code.specs.Flows.{AreKeptBetween}
 use Rattle.expr_code.specs.Seeing.{Sees, library_of}
 use Rattle.expr_code.specs.declared.code.Code.{Code}
 use Rattle.expr_code.specs.declared.visible.Visible.{Visible}
 use Rattle.expr_code.proofs.Flowing.{kept_one, kept_then, widened}
 use Rattle.expr_code.proofs.Growing.{added_extends, added_here, extends_trans, patched_extends, patched_here, patched_other}
-use Rattle.stmt_code.specs.Emitting.{BeginsLoop, EmitsStatement, EmitsStatements, EndsLoop, HasLabels, IsReached, Serves}
+use Rattle.stmt_code.specs.Emitting.{BeginsLoop, EmitsStatement, EmitsStatements, EndsLoop, HasLabels, IsReachable, Serves}
 use Rattle.stmt_code.specs.Statements.{AreStatements, Ways, within_loop}
 use Rattle.stmt_code.specs.declared.draft.Draft.{Draft}
 use Rattle.stmt_code.proofs.Adding.{IsBeside, depth_there, jump_kept, labels_before, labels_beside, labels_then, same_place}
@@ -193,7 +193,7 @@ module _ (v : Visible) (w : Ways) where
       flows = λ i s low high down up h l suits deep wide empty ways.
           let deepest : ends.turned.deepest ≤ s.stack = omega (arith, ap (λ n. n) patch.deepest, ap (λ n. n) ends.patches.deepest, deep) in
           let single : 1 ≤ s.stack = omega (arith, jump.within, jumped_turned.deeper, deepest) in
-          let reached : IsReached i low high out = record {
+          let reached : IsReachable i low high out = record {
             down = omega (arith, down, out_is);
             up = omega (arith, up, five, four, three, p.extends.longer, tested_here, first.extends.longer, two, one, out_is);
             empty = depth_there i out 0 (op.Jump (here ends.turned)) (at_out i h);
@@ -212,12 +212,12 @@ module _ (v : Visible) (w : Ways) where
           let value = widened i s (here b.code) (here tested) low high (here b.code) (here tested) 0 (omega (arith, down, one, two))
           (omega (arith, up, five, four, three, p.extends.longer, tested_here)) condition in
           let head : back ≡ here b.code = omega (arith, back_is, one, two) in
-          let turn : IsReached i low high back = record {
+          let turn : IsReachable i low high back = record {
             down = omega (arith, head, down, one, two);
             up = omega (arith, head, up, five, four, three, p.extends.longer, tested_here, first.extends.longer);
             empty = ap (λ n. has_depth i n 0) head ∙ value.begins;
           } in
-          let skips = jump_kept i s low high (here a.code) (here a.code + 2) (at_skip i h) (subst (IsReached i low high) back_is turn) in
+          let skips = jump_kept i s low high (here a.code) (here a.code + 2) (at_skip i h) (subst (IsReachable i low high) back_is turn) in
           let leaves = jump_kept i s low high out (here ends.turned) (at_out i h)
           (record {
             down = omega (arith, down, three, p.extends.longer, tested_here, first.extends.longer, two, one);
@@ -225,15 +225,15 @@ module _ (v : Visible) (w : Ways) where
             empty = ap (λ n. has_depth i n 0) (sym (five ∙ four)) ∙ empty;
           }) in
           let repeats = jump_kept i s low high (here c.code) back (at_back i h) turn in
-          subst (λ n. AreKept i s low high (here a.code) n 0) (sym (five ∙ four ∙ three))
+          subst (λ n. AreKeptBetween i s low high (here a.code) n 0) (sym (five ∙ four ∙ three))
           (kept_then i s low high (here a.code) (here c.code) (suc (here c.code)) 0 0
           (kept_then i s low high (here a.code) (here jumped.code) (here c.code) 0 0
           (kept_then i s low high (here a.code) (here tested) (here jumped.code) 0 1
           (kept_then i s low high (here a.code) (here b.code) (here tested) 0 0
           (kept_then i s low high (here a.code) out (here b.code) 0 0
-          (subst (λ n. AreKept i s low high (here a.code) n 0) (let e : suc (here a.code) ≡ out = omega (arith, out_is) in e) skips)
-          (subst (λ n. AreKept i s low high out n 0) (let e : suc out ≡ here b.code = omega (arith, out_is, one, two) in e) leaves)) value)
-          (subst (λ m. AreKept i s low high (here tested) m 1) (sym tested_here) tests)) kept) repeats);
+          (subst (λ n. AreKeptBetween i s low high (here a.code) n 0) (let e : suc (here a.code) ≡ out = omega (arith, out_is) in e) skips)
+          (subst (λ n. AreKeptBetween i s low high out n 0) (let e : suc out ≡ here b.code = omega (arith, out_is, one, two) in e) leaves)) value)
+          (subst (λ m. AreKeptBetween i s low high (here tested) m 1) (sym tested_here) tests)) kept) repeats);
     }
       where
         head_is : here b.code ≡ here a.code + 2

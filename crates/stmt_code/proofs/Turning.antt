@@ -34,13 +34,13 @@ use Rattle.expr_code.specs.Coming.{Comes, most_steps, on, size_of}
 use Rattle.expr_code.specs.Seeing.{Package}
 use Rattle.expr_code.proofs.Coming.{acts, after_first}
 use Rattle.expr_code.proofs.Coming as coming
-use Rattle.stmt_code.specs.Resting.{Framed, Held, RestsWith, Shows}
+use Rattle.stmt_code.specs.Resting.{Framed, HeldWord, RestsWith, Shows}
 use Rattle.stmt_code.proofs.Holding.{held_kept}
 use Rattle.stmt_code.specs.Handling.{GoesBy}
 use Rattle.stmt_code.specs.Storing.{Arrives, Assigned, Assigns, Puts, assigned, assigned_to, declared, declared_from, object_declared}
-use Rattle.stmt_code.specs.Statements.{AreStatements, IsOtherwise, IsPut, IsWhile, Numbers, within_loop}
+use Rattle.stmt_code.specs.Statements.{AreStatements, IsOtherwise, IsPutCode, IsWhile, Numbers, within_loop}
 use Rattle.stmt_code.specs.Jumping.{Here, Jumps, There}
-use Rattle.stmt_code.specs.Standing.{Going, Leads, LeadsInto, Reaches, in_loop, Shares, items_size, work_size}
+use Rattle.stmt_code.specs.Standing.{Going, LeadsByWays, LeadsInto, ReachesWays, in_loop, Shares, items_size, work_size}
 use Rattle.stmt_code.proofs.Going.{before_ends, before_follows, earlier, into, jumps_up, narrows_same, way_out}
 use Rattle.stmt_code.proofs.Sizes.{item_counts}
 use Rattle.stmt_code.proofs.Handling.{goes_within}
@@ -95,7 +95,7 @@ module _ (this : Scene) where
   abbrev Meet : TaskState → Type 0
   Meet s = scene.Meet this s
 
-  abbrev Meets : source.Stepped → steps.Stepped → Type 0
+  abbrev Meets : source.SourceStepped → steps.Stepped → Type 0
   Meets x y = scene.Meets this x y
 
   abbrev Setting : Type 0
@@ -135,7 +135,7 @@ module _ (this : Scene) where
     -- what takes the exceptions of these places of a statement
     pub handled_at : {A : Type 0} {i' : Item} (items : List Item) (v : Val A) (h : IsAtItems (i' ∷ items)) (now' : Framed) (at to end : ℕ)
         → ends_of_calls (i' ∷ items) ≡ ends_of_calls items
-        → Leads i program g numbers h.around f.subprogram f.place at to now' → Follow (seeing now' h.around) f.subprogram to items fs w.callers
+        → LeadsByWays i program g numbers h.around f.subprogram f.place at to now' → Follow (seeing now' h.around) f.subprogram to items fs w.callers
         → GoesBy i h.around.raised at to → end ≤ to → Handled v items at end
     handled_at items v h now' at to end ends leads rest goes le =
         scene.handled_by this s (seeing now' h.around) now' to items v at end rest (goes_within i h.around.raised at at end to goes (omega arith) le)
@@ -233,7 +233,7 @@ module _ (this : Scene) where
     -- the parts of an `if` behind its first statements
     pub otherwise_follows : (place : ℕ) (elsifs : ElsifTrees) (others : StmtTrees) (a : Setting) (now' : Framed) (from to : ℕ) (items : List Item)
         → IsOtherwise i program g numbers now' a.ways a.raised from to elsifs (λ x y. AreStatements i program g numbers now' a.ways a.raised x y others) → from ≤ to
-        → In f.subprogram from → In f.subprogram to → Reaches i program g numbers a now'
+        → In f.subprogram from → In f.subprogram to → ReachesWays i program g numbers a now'
         → Follow (seeing now' a) f.subprogram to items fs w.callers
         → Follow (seeing now' a) f.subprogram from (source.otherwise place elsifs others items) fs w.callers
     otherwise_follows place NoElsifs others a now' from to items code le x y reach rest = before_follows i program g numbers others a now' f.subprogram from
@@ -336,7 +336,7 @@ module _ (this : Scene) where
         rests h.outside (h.depth ∙ sym (before_ends i program g numbers body (Repeats body ∷ items))) h.inner)
 
     -- a loop holds the same words as what is around it
-    turned : (v : Framed) (one other : List Held) → one ≡ other → RestsWith g v one w.own f.locals → RestsWith g v other w.own f.locals
+    turned : (v : Framed) (one other : List HeldWord) → one ≡ other → RestsWith g v one w.own f.locals → RestsWith g v other w.own f.locals
     turned v one other same rests = subst (λ q. RestsWith g v q w.own f.locals) same rests
 
     pub met_repeats : (body : StmtTrees) (items : List Item) → w.work ≡ Goes (Repeats body ∷ items) → (h : IsAtItems (Repeats body ∷ items)) → Meet s
@@ -541,7 +541,7 @@ module _ (this : Scene) where
         )
 
     -- code that arrives at an instruction which meets the step meets it
-    met_arrived : {A : Type 0} (items : List Item) (go : A → source.Stepped) (n from to : ℕ) (later : Framed) (store_after' : A → Store)
+    met_arrived : {A : Type 0} (items : List Item) (go : A → source.SourceStepped) (n from to : ℕ) (later : Framed) (store_after' : A → Store)
         (own_after : A → Activation) (u : Val A)
         → work_step now w.work ≡ with_value now u items go
         → items_size items < work_size w.work
@@ -666,7 +666,7 @@ module _ (this : Scene) where
         h.outside (λ x. same_object x.target x.value w.own ∙ h.outside) h.depth h.inner
         (handled_at items (assigned name e (call (frames_left items)) (place_of now items)) h r.2 r.0 r.1 r.1 refl r.3 r.5 r.4.1 (omega arith))
       where
-        go : Assigned → source.Stepped
+        go : Assigned → source.SourceStepped
         go x = record {
           effect = Quiet;
           solo = record {
@@ -707,7 +707,7 @@ module _ (this : Scene) where
     pub met_put : (name : NameTree) (label : _) (at : ℕ) (e : ExprTree) (items : List Item) → w.work ≡ Goes (Does (tree.Call name) ∷ items)
         → (h : IsAtItems (Does (tree.Call name) ∷ items))
         → source.item_step now (Does (tree.Call name)) items ≡ with_value now (source.evaluate now items e) items (source.put_line now label items)
-        → (let r = h.follows in IsPut i program g numbers r.2 r.0 r.1
+        → (let r = h.follows in IsPutCode i program g numbers r.2 r.0 r.1
         (MoreSelectors (Arguments (MoreArguments (Text label at) (MoreArguments (expressions.Value e) NoArguments))) NoSelectors))
         → Meet s
     met_put name label at e items is h same code =

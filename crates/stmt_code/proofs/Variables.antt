@@ -25,7 +25,7 @@ use Rattle.expr_code.specs.Seeing.{Package, SeesPackage, outside}
 use Rattle.expr_code.specs.Views.{View}
 use Rattle.expr_code.specs.declared.visible.Slot.{Slot}
 use Rattle.stmt_code.specs.Layout.{AreApart, IsLaidPackage, NamesObject}
-use Rattle.stmt_code.specs.Resting.{IsAt, IsSmall, StandsFor}
+use Rattle.stmt_code.specs.Resting.{IsAt, IsAddressable, StandsFor}
 use Rattle.stmt_code.proofs.Names.{meant_width, name_is, object_value, same_name}
 use Rattle.stmt_code.proofs.Words.{IsWritten}
 
@@ -65,7 +65,7 @@ module _ (kept : AgreementIsKept) (sized : ValuesHaveWords) (program : Program) 
   new_words = record m { plain = after }
 
   module _ (p : Place) (view : View) (is_at : IsAt program new_store p) (now : p.now ≡ view.now) (schedule : p.schedule ≡ view.schedule)
-      (plain : view.words regions.Plain ≡ after) (small : IsSmall view) (sound : FunctionsAreSound p) where
+      (plain : view.words regions.Plain ≡ after) (small : IsAddressable view) (sound : FunctionsAreSound p) where
     abbrev old_place : Place
     old_place = record p { variables = store.variables }
 
@@ -95,7 +95,7 @@ module _ (kept : AgreementIsKept) (sized : ValuesHaveWords) (program : Program) 
         schedule
         refl refl few functions_before
       where
-        few : IsSmall old_view
+        few : IsAddressable old_view
         few regions.Locals = small regions.Locals
         few regions.Plain = stands.plain
         few regions.Object = small regions.Object

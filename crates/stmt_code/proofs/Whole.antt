@@ -14,12 +14,12 @@ use Rattle.image.specs.declared.subprograms.Kind.TheVariants as kinds
 use Rattle.image.specs.declared.subprograms.Subprogram.{Subprogram}
 use Rattle.well_typed.proofs.Positions.{first_place, place_is}
 use Rattle.expr_code.specs.Code.{Holds, here}
-use Rattle.expr_code.specs.Flows.{AreKept, Keeps}
+use Rattle.expr_code.specs.Flows.{AreKeptBetween, KeepsInstructionRules}
 use Rattle.expr_code.specs.declared.visible.Visible.{Visible}
 use Rattle.stmt_code.specs.Emitting.{HasLabels}
-use Rattle.stmt_code.specs.Subprograms.{HasWords, KeepsRules}
+use Rattle.stmt_code.specs.Subprograms.{HasSubprogramWords, KeepsRules}
 use Rattle.stmt_code.specs.Suiting.{SuitsStatements}
-use Rattle.stmt_code.specs.Whole.{AreAllKept, IsKept, IsOutside, KeptCodePasses, PassesOnCode}
+use Rattle.stmt_code.specs.Whole.{AreAllKept, KeepsSubprogramRules, IsOutside, KeptCodePasses, PassesOnCode}
 use Rattle.stmt_code.specs.declared.draft.Draft.{Draft}
 use Rattle.stmt_code.specs.declared.subprogram.SubprogramWords.{SubprogramWords}
 use Rattle.stmt_code.proofs.FormalFlows.{both, equal, least}
@@ -41,32 +41,32 @@ all_by test (x ∷ xs) h = both (test x) (list_all test xs) (h 0 x refl) (all_by
 module _ (i : Sections) where
   -- ---- tests of subprograms
 
-  begun_by : (test : ℕ → Subprogram → Bool) → ((first : ℕ) (s : Subprogram) → IsKept i first s → test first s ≡ true) → (all : List Subprogram) (first : ℕ)
+  begun_by : (test : ℕ → Subprogram → Bool) → ((first : ℕ) (s : Subprogram) → KeepsSubprogramRules i first s → test first s ≡ true) → (all : List Subprogram) (first : ℕ)
       → AreAllKept i first all → all_begun test first all ≡ true
   begun_by test h [] first kept = refl
   begun_by test h (s ∷ rest) first kept = both (test first s) (all_begun test s.end_ rest) (h first s kept.0) (begun_by test h rest s.end_ kept.1)
 
-  each_by : (test : Subprogram → Bool) → ((first : ℕ) (s : Subprogram) → IsKept i first s → test s ≡ true) → (all : List Subprogram) (first : ℕ)
+  each_by : (test : Subprogram → Bool) → ((first : ℕ) (s : Subprogram) → KeepsSubprogramRules i first s → test s ≡ true) → (all : List Subprogram) (first : ℕ)
       → AreAllKept i first all → list_all test all ≡ true
   each_by test h [] first kept = refl
   each_by test h (s ∷ rest) first kept = both (test s) (list_all test rest) (h first s kept.0) (each_by test h rest s.end_ kept.1)
 
-  numbered_by : (test : ℕ → Subprogram → Bool) → ((n first : ℕ) (s : Subprogram) → IsKept i first s → test n s ≡ true) → (all : List Subprogram) (n first : ℕ)
+  numbered_by : (test : ℕ → Subprogram → Bool) → ((n first : ℕ) (s : Subprogram) → KeepsSubprogramRules i first s → test n s ≡ true) → (all : List Subprogram) (n first : ℕ)
       → AreAllKept i first all → all_placed test n all ≡ true
   numbered_by test h [] n first kept = refl
   numbered_by test h (s ∷ rest) n first kept =
       both (test n s) (all_placed test (n + 1) rest) (h n first s kept.0) (numbered_by test h rest (n + 1) s.end_ kept.1)
 
-  closed : (first : ℕ) (s : Subprogram) → IsKept i first s → is_closed i s ≡ true
+  closed : (first : ℕ) (s : Subprogram) → KeepsSubprogramRules i first s → is_closed i s ≡ true
   closed first s h =
       let e = h.end in
       let at : s.end_ - 1 ≡ h.last = omega (arith, e) in
       ap (λ o. some_and o (λ x. not (goes_on x.operation))) (ap (slice_get i.instructions) at ∙ h.returns.1)
 
-  objectless : (first : ℕ) (s : Subprogram) → IsKept i first s → has_object i s ≡ true
+  objectless : (first : ℕ) (s : Subprogram) → KeepsSubprogramRules i first s → has_object i s ≡ true
   objectless first s h = ap (λ o. none_or o (λ n. nat_lt n (length i.objects))) h.outside.object
 
-  ends_behind : (first : ℕ) (s : Subprogram) → IsKept i first s → nat_lt first s.end_ ≡ true
+  ends_behind : (first : ℕ) (s : Subprogram) → KeepsSubprogramRules i first s → nat_lt first s.end_ ≡ true
   ends_behind first s h = let u = h.up in let e = h.end in less_true first s.end_ (omega (arith, u, e))
 
   no_entry : (n : ℕ) (k : Kind) → object_of k ≡ None → is_entry_of_object i n k ≡ true
@@ -77,7 +77,7 @@ module _ (i : Sections) where
   of_task s true h = let k = h refl in both (nat_eq s.parameters 0) (nat_eq s.results 0) (equal s.parameters 0 k.0) (equal s.results 0 k.1)
   of_task s false h = refl
 
-  one_of : (n first : ℕ) (s : Subprogram) → IsKept i first s → is_subprogram i n s ≡ true
+  one_of : (n first : ℕ) (s : Subprogram) → KeepsSubprogramRules i first s → is_subprogram i n s ≡ true
   one_of n first s h =
       both (nat_le s.parameters s.locals) _ (least s.parameters s.locals h.passed)
       (both (nat_le (s.locals + s.stack) FRAME_WORDS) _ (least (s.locals + s.stack) FRAME_WORDS h.fits)
@@ -116,13 +116,13 @@ module _ (i : Sections) where
     number : ℕ
     first : ℕ
     s : Subprogram
-    kept : IsKept i first s
+    kept : KeepsSubprogramRules i first s
     begins : start ≤ first
     down : first ≤ k
     up : k < s.end_
     holds : (a : ℕ) → first ≤ a → a < s.end_ → (holder all a ≡ Some s) × (holder_number all a ≡ Some number)
 
-  held_first : (s : Subprogram) (rest : List Subprogram) (first k : ℕ) → IsKept i first s → first ≤ k → k < s.end_ → IsHeld first (s ∷ rest) k
+  held_first : (s : Subprogram) (rest : List Subprogram) (first k : ℕ) → KeepsSubprogramRules i first s → first ≤ k → k < s.end_ → IsHeld first (s ∷ rest) k
   held_first s rest first k kept down up = record {
     number = 0;
     first = first;
@@ -170,7 +170,7 @@ module _ (i : Sections) where
         let e = end_is i.subprograms in
         find_held i.subprograms 0 k kept (omega arith) (omega (arith, less, e, ends))
 
-    keeps : (k : ℕ) (x : Instr) (is : slice_get i.instructions k ≡ Some x) → (let h = held k x is in Keeps i h.s h.first h.kept.last k x)
+    keeps : (k : ℕ) (x : Instr) (is : slice_get i.instructions k ≡ Some x) → (let h = held k x is in KeepsInstructionRules i h.s h.first h.kept.last k x)
     keeps k x is = let h = held k x is in h.kept.kept.each k x h.down h.up is
 
     jump_test : (k : ℕ) (x : Instr) → slice_get i.instructions k ≡ Some x → (t : Option ℕ) → jump_target x.operation ≡ t
@@ -216,8 +216,8 @@ module _ (i : Sections) where
 -- ---- what methods add
 
 added_kept : (v : Visible) (old new : Draft) (words : SubprogramWords) → KeepsRules v old words new → (i : Sections) (s : Subprogram) → Holds i (here old.code) new.code
-    → HasLabels i new.labels → HasWords s words → SuitsStatements v i s → s.end_ ≡ here new.code → IsOutside s
-    → IsKept i (here old.code) s
+    → HasLabels i new.labels → HasSubprogramWords s words → SuitsStatements v i s → s.end_ ≡ here new.code → IsOutside s
+    → KeepsSubprogramRules i (here old.code) s
 added_kept v old new words keeps i s holds labels has suits end outside =
     let l = has.locals in
     record {
@@ -228,7 +228,7 @@ added_kept v old new words keeps i s holds labels has suits end outside =
       up = keeps.up;
       end = end ∙ keeps.end;
       returns = keeps.returns i holds;
-      kept = subst (λ n. AreKept i s (here old.code) keeps.last (here old.code) n 0) (sym end) (keeps.flows i s holds labels has suits);
+      kept = subst (λ n. AreKeptBetween i s (here old.code) keeps.last (here old.code) n 0) (sym end) (keeps.flows i s holds labels has suits);
     }
 
 pub kept_code_passes : KeptCodePasses

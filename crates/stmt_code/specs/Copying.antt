@@ -37,7 +37,7 @@ use Rattle.expr_code.specs.declared.visible.Slot.{Slot}
 use Rattle.expr_code.specs.declared.visible.Visible.{Visible}
 use Rattle.stmt_code.specs.Layout.{IsVariable, NamesObject}
 use Rattle.stmt_code.specs.Parts.{HasParts, part_offset, part_shape}
-use Rattle.stmt_code.specs.Resting.{AreHeld, Framed, Held, IsAt, Knows, Rests, StandsFor}
+use Rattle.stmt_code.specs.Resting.{AreHeld, Framed, HeldWord, IsAt, Knows, Rests, StandsFor}
 use Rattle.stmt_code.specs.Storing.{Puts}
 use Rattle.stmt_code.specs.declared.call.Destination.{Destination}
 
@@ -70,7 +70,7 @@ IsHomeOf regions.Plain h = h ≡ InPackage
 IsHomeOf regions.Object h = ⊥
 
 -- the target is a variable, or a part of one, that has words there
-pub record IsPlaced (v : Visible) (d : Destination) (x : Target) : Type 0 where
+pub record IsPlacedTarget (v : Visible) (d : Destination) (x : Target) : Type 0 where
   pub slot : Slot
   pub there : slot_of v x.name ≡ Some slot
   pub region : slot.region ≡ d.region
@@ -86,7 +86,7 @@ pub record IsPlaced (v : Visible) (d : Destination) (x : Target) : Type 0 where
 
 abbrev pub ArePlaced : Visible → List Destination → List Target → Type 0
 ArePlaced v [] [] = ⊤
-ArePlaced v (d ∷ ds) (x ∷ xs) = IsPlaced v d x × ArePlaced v ds xs
+ArePlaced v (d ∷ ds) (x ∷ xs) = IsPlacedTarget v d x × ArePlaced v ds xs
 ArePlaced v ds xs = ⊥
 
 -- ---- parameters
@@ -127,7 +127,7 @@ copies_on (v ∷ vs) (a ∷ rest) base = on (pos a ∷ copies_on vs rest base) v
 copies_on vs addresses base = base
 
 -- the addresses stand in these words of the frame
-abbrev pub held_at : (offsets addresses : List ℕ) → List Held
+abbrev pub held_at : (offsets addresses : List ℕ) → List HeldWord
 held_at (n ∷ ns) (a ∷ rest) = record { offset = n; word = pos a } ∷ held_at ns rest
 held_at ns addresses = []
 
@@ -179,7 +179,7 @@ module _ (i : Sections) (program : Program) (g : Package) where
         → Rests g v a f.locals
         → Knows g v p (view_of i schedule k m f fs)
         → a.within ≡ None
-        → IsPlaced v.names d x
+        → IsPlacedTarget v.names d x
         → has_shape (shape_of v.names.scope d.subtype) y ≡ true
         → Puts i program g schedule k t m f fs mid (on (pos (address_of v.names x) ∷ base) y) base v (store_with x y store) (activation_with x y a)
 

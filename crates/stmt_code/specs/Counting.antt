@@ -23,7 +23,7 @@ use Rattle.expr_code.specs.Views.{At, in_frame, placed, view_of}
 use Rattle.expr_code.specs.Coming.{Comes, most_steps}
 use Rattle.expr_code.specs.Computing.{Everywhere}
 use Rattle.expr_code.specs.Seeing.{library_of, Package, Sees}
-use Rattle.stmt_code.specs.Resting.{Framed, Held, Knows, RestsWith, Shows}
+use Rattle.stmt_code.specs.Resting.{Framed, HeldWord, Knows, RestsWith, Shows}
 
 -- the bounds of the range, the first one before the last one
 pub record Bounds : Type 0 where
@@ -40,7 +40,7 @@ abbrev pub number_bounds : (first last : ℤ) → Bounds
 number_bounds first last = record { first = Number first; last = Number last }
 
 -- the words that are held in a turn
-abbrev pub in_turn : (counter limit : ℕ) (now last : ℤ) → List Held → List Held
+abbrev pub in_turn : (counter limit : ℕ) (now last : ℤ) → List HeldWord → List HeldWord
 in_turn counter limit now last held = record { offset = counter; word = now } ∷ record { offset = limit; word = last } ∷ held
 
 -- the activation with the parameter's value in a turn
@@ -56,7 +56,7 @@ turn_last reversed first last = if reversed then first else last
 
 module _ (i : Sections) (g : Package) where
   -- The frame goes on at a place with an empty operand stack, after at most n steps of its own: its locals stand for the activation, and hold these words.
-  pub record GoesOn (schedule : List ScheduleLine) (k : Kernel) (t : ℕ) (m : Words) (f : Frame) (fs : List Frame) (n to : ℕ) (later : Framed) (held : List Held)
+  pub record GoesOn (schedule : List ScheduleLine) (k : Kernel) (t : ℕ) (m : Words) (f : Frame) (fs : List Frame) (n to : ℕ) (later : Framed) (held : List HeldWord)
       (a : Activation) : Type 0 where
     pub locals : List ℤ
     pub spends : Spends (behaviour i schedule) t frames_of (most_steps i) (suc (length fs)) n k (in_frame m f fs) k
@@ -70,7 +70,7 @@ module _ (i : Sections) (g : Package) where
     pub over : mid ≤ start
     pub stack : List ℤ → Bounds → List ℤ
     pub computes : Everywhere i (library_of g) (Sees g v.names) from mid stack (bounds range)
-    pub null : (schedule : List ScheduleLine) (k : Kernel) (t : ℕ) (m : Words) (f : Frame) (fs : List Frame) (held : List Held) (a : Activation) (p : Place)
+    pub null : (schedule : List ScheduleLine) (k : Kernel) (t : ℕ) (m : Words) (f : Frame) (fs : List Frame) (held : List HeldWord) (a : Activation) (p : Place)
         (x y : ℤ)
         → Calm k t
         → p.locals ≡ a.locals
@@ -79,7 +79,7 @@ module _ (i : Sections) (g : Package) where
         → bounds range (call p.frames_left) p ≡ Gives (number_bounds x y)
         → int_lt y x ≡ true
         → GoesOn schedule k t m (placed f mid (stack [] (number_bounds x y))) fs (start - mid) to v held a
-    pub begins : (schedule : List ScheduleLine) (k : Kernel) (t : ℕ) (m : Words) (f : Frame) (fs : List Frame) (held : List Held) (a : Activation) (p : Place)
+    pub begins : (schedule : List ScheduleLine) (k : Kernel) (t : ℕ) (m : Words) (f : Frame) (fs : List Frame) (held : List HeldWord) (a : Activation) (p : Place)
         (x y : ℤ)
         → Calm k t
         → p.locals ≡ a.locals
@@ -92,8 +92,8 @@ module _ (i : Sections) (g : Package) where
         (with_parameter parameter (turn_first reversed x y) a)
 
   -- The end of a turn: behind the loop after the last one; else its value is the next one, and the frame comes to the jump back.
-  pub record IsNext (inner : Framed) (counter limit from turn to : ℕ) (parameter : List ℕ) (reversed : Bool) : Type 0 where
-    pub ends : (schedule : List ScheduleLine) (k : Kernel) (t : ℕ) (m : Words) (f : Frame) (fs : List Frame) (held : List Held) (a : Activation) (now last : ℤ)
+  pub record IsTurnEnd (inner : Framed) (counter limit from turn to : ℕ) (parameter : List ℕ) (reversed : Bool) : Type 0 where
+    pub ends : (schedule : List ScheduleLine) (k : Kernel) (t : ℕ) (m : Words) (f : Frame) (fs : List Frame) (held : List HeldWord) (a : Activation) (now last : ℤ)
         → Calm k t
         → RestsWith g inner (in_turn counter limit now last held) a f.locals
         → are_same now last ≡ true
@@ -103,12 +103,12 @@ module _ (i : Sections) (g : Package) where
     pub up : from ≤ mid
     pub over : mid ≤ turn
     pub stack : ℤ → List ℤ
-    pub counts : (schedule : List ScheduleLine) (k : Kernel) (t : ℕ) (m : Words) (f : Frame) (fs : List Frame) (held : List Held) (a : Activation) (now last : ℤ)
+    pub counts : (schedule : List ScheduleLine) (k : Kernel) (t : ℕ) (m : Words) (f : Frame) (fs : List Frame) (held : List HeldWord) (a : Activation) (now last : ℤ)
         → Calm k t
         → RestsWith g inner (in_turn counter limit now last held) a f.locals
         → are_same now last ≡ false
         → Comes i schedule k t m (placed f from []) fs (mid - from) mid stack (number_computed (if reversed then difference_of now (pos 1) else sum_of now (pos 1)))
-    pub goes : (schedule : List ScheduleLine) (k : Kernel) (t : ℕ) (m : Words) (f : Frame) (fs : List Frame) (held : List Held) (a : Activation) (now last next : ℤ)
+    pub goes : (schedule : List ScheduleLine) (k : Kernel) (t : ℕ) (m : Words) (f : Frame) (fs : List Frame) (held : List HeldWord) (a : Activation) (now last next : ℤ)
         → Calm k t
         → RestsWith g inner (in_turn counter limit now last held) a f.locals
         → GoesOn schedule k t m (placed f mid (stack next)) fs (turn - mid) turn inner (in_turn counter limit next last held) (with_parameter parameter next a)
@@ -127,7 +127,7 @@ module _ (i : Sections) (g : Package) where
     pub end : to ≡ suc turn
     pub skip : At i from (op.Jump (from + 2))
     pub out : At i (from + 1) (op.Jump to)
-    pub next : IsNext inner counter limit back turn to parameter reversed
+    pub next : IsTurnEnd inner counter limit back turn to parameter reversed
     pub jump : At i turn (op.Jump start)
     pub shows : Shows g inner v
     pub reserved : inner.reserved ≡ counter ∷ limit ∷ v.reserved

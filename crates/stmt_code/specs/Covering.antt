@@ -15,7 +15,7 @@ use Rattle.types.specs.Scopes.{Scope}
 use Rattle.meaning.specs.Programs.{Program}
 use Rattle.expr_code.specs.Branches.{Joins, Rejoins}
 use Rattle.expr_code.specs.Code.{Adds, Extends, StandsFrom, here}
-use Rattle.expr_code.specs.Flows.{Keeps}
+use Rattle.expr_code.specs.Flows.{KeepsInstructionRules}
 use Rattle.expr_code.specs.Seeing.{Package}
 use Rattle.expr_code.specs.declared.visible.Visible.{Visible}
 use Rattle.stmt_code.specs.Bounds.{handlers_bound, sequence_bound}
@@ -67,7 +67,7 @@ AreHandling w own all i program g numbers f handling end from to =
     → AreHandlers i program g numbers f w handling (λ x. or_answer (first_for own x) (next x)) from end (in_front all rest)
 
 abbrev pub AreEachKept : Sections → Subprogram → (low high from to : ℕ) → Type 0
-AreEachKept i s low high from to = (k : ℕ) (x : Instr) → from ≤ k → k < to → slice_get i.instructions k ≡ Some x → Keeps i s low high k x
+AreEachKept i s low high from to = (k : ℕ) (x : Instr) → from ≤ k → k < to → slice_get i.instructions k ≡ Some x → KeepsInstructionRules i s low high k x
 
 -- Code that nothing in front of it goes on to, and which goes on to nothing behind it but by the jumps that wait, which find an empty operand stack: what it is
 -- in every image that joins these to what stands behind, and that it keeps the rules of images.

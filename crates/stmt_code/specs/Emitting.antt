@@ -29,13 +29,13 @@ use Rattle.sound_steps.specs.Fitting.{IsFound, entity_named}
 use Rattle.expr_code.specs.Branches.{Joins}
 use Rattle.expr_code.specs.Code.{Adds, Extends, Holds, Patches, StandsFrom, here}
 use Rattle.expr_code.specs.Emitting.{EmitsChecked, EmitsFitting, IsFit}
-use Rattle.expr_code.specs.Flows.{AreKept}
+use Rattle.expr_code.specs.Flows.{AreKeptBetween}
 use Rattle.expr_code.specs.Seeing.{Package, subprogram_of}
 use Rattle.expr_code.specs.declared.code.Code.{Code}
 use Rattle.expr_code.specs.declared.visible.Slot.{Slot}
 use Rattle.expr_code.specs.declared.visible.Visible.{Visible}
 use Rattle.stmt_code.specs.Bounds.{declarations_bound, elsifs_bound, run_bound, stmt_bound, stmts_bound}
-use Rattle.stmt_code.specs.Layout.{EndsBy, IsLaidOut}
+use Rattle.stmt_code.specs.Layout.{EndsBelow, IsLaidOut}
 use Rattle.stmt_code.specs.Suiting.{SuitsStatements}
 use Rattle.stmt_code.specs.Resting.{Framed}
 use Rattle.stmt_code.specs.Handling.{GoesByRows, Handling, unhandled}
@@ -49,11 +49,11 @@ use Rattle.stmt_code.specs.declared.leaving.Leaving.{Leaving}
 -- ---- what is asked
 
 -- no rule is broken in a statement, in statements, and in parts of an `if`, wherever they stand
-pub record IsLegal (s : Scope) (x : StmtTree) : Type 0 where
+pub record IsLegalStatement (s : Scope) (x : StmtTree) : Type 0 where
   pub around : Around
   pub unbroken : stmt_faults s around x ≡ []
 
-pub record AreLegal (s : Scope) (body : StmtTrees) : Type 0 where
+pub record AreLegalStatements (s : Scope) (body : StmtTrees) : Type 0 where
   pub around : Around
   pub unbroken : stmts_faults s around body ≡ []
 
@@ -72,7 +72,7 @@ abbrev pub ways_of : Leaving → Ways
 ways_of l = record { exit = l.exit; return = l.return_; handled = l.handled }
 
 -- so many words of the frame more are taken
-pub record Takes (old : FrameWords) (many : ℕ) (new : FrameWords) : Type 0 where
+pub record TakesWords (old : FrameWords) (many : ℕ) (new : FrameWords) : Type 0 where
   pub taken : new.taken ≡ old.taken + many
   pub grows : old.most ≤ new.most
   pub most : new.taken ≤ new.most
@@ -94,19 +94,19 @@ pub record Serves (program : Program) (g : Package) (numbers : Numbers) (v : Fra
   pub here : place.scope ≡ program.scope
   pub agrees : Agrees v.names.scope place
   pub laid : IsLaidOut g v
-  pub ends : EndsBy v taken
+  pub ends : EndsBelow v taken
   pub below : (n : ℕ) → is_among v.reserved n ≡ true → n < taken
 
 -- a place that may be gone to with an empty operand stack
-pub record IsReached (i : Sections) (low high place : ℕ) : Type 0 where
+pub record IsReachable (i : Sections) (low high place : ℕ) : Type 0 where
   pub down : low ≤ place
   pub up : place ≤ high
   pub empty : has_depth i place 0 ≡ true
 
 -- The ways out may be gone to, and the word that holds an exception is one of the frame.
 pub record Allows (i : Sections) (s : Subprogram) (low high : ℕ) (w : Ways) : Type 0 where
-  pub exit : (place : ℕ) → w.exit ≡ Some place → IsReached i low high place
-  pub return : (place : ℕ) → w.return ≡ Some place → IsReached i low high place
+  pub exit : (place : ℕ) → w.exit ≡ Some place → IsReachable i low high place
+  pub return : (place : ℕ) → w.return ≡ Some place → IsReachable i low high place
   pub handled : (word : ℕ) → w.handled ≡ Some word → word < s.locals
 
 -- ---- rows of handlers that were added
@@ -157,7 +157,7 @@ pub record Emits (Is : Meant) (v : Visible) (w : Ways) (old : Draft) (size : ℕ
   pub flows : (i : Sections) (s : Subprogram) (low high : ℕ) → low ≤ here old.code → here new.code ≤ high
       → Holds i (here old.code) new.code → HasLabels i new.labels → SuitsStatements v i s → new.code.deepest ≤ s.stack → new.words.most ≤ s.locals
       → has_depth i (here new.code) 0 ≡ true → Allows i s low high w
-      → AreKept i s low high (here old.code) (here new.code) 0
+      → AreKeptBetween i s low high (here old.code) (here new.code) 0
 
 abbrev pub EmitsStatement : Visible → Ways → Draft → StmtTree → Draft → Type 0
 EmitsStatement v w old x new = Emits (λ i program g numbers f handling from to. IsStatement i program g numbers f w handling from to x) v w old
@@ -272,7 +272,7 @@ pub record EmitsDeclarations (v : Visible) (old : Draft) (ds : List DeclarationT
   pub flows : (i : Sections) (s : Subprogram) (low high : ℕ) → low ≤ here old.code → here new.code ≤ high
       → Holds i (here old.code) new.code → SuitsStatements v i s → new.code.deepest ≤ s.stack → new.words.most ≤ s.locals
       → has_depth i (here new.code) 0 ≡ true
-      → AreKept i s low high (here old.code) (here new.code) 0
+      → AreKeptBetween i s low high (here old.code) (here new.code) 0
   pub suits : (i : Sections) (s : Subprogram) → SuitsStatements v i s → new.words.most ≤ s.locals → SuitsStatements later i s
 
 -- ---- code whose jumps to its end wait for the place
@@ -300,7 +300,7 @@ pub record EmitsOpen (Is : MeantTo) (v : Visible) (w : Ways) (depth : ℕ) (old 
       → Joins i (here old.code) waiting end 0 new.code → HasLabels i new.labels → SuitsStatements v i s → new.code.deepest ≤ s.stack
       → new.words.most ≤ s.locals → depth ≤ s.stack
       → has_depth i end 0 ≡ true → has_depth i (here new.code) depth ≡ true → Allows i s low high w
-      → AreKept i s low high (here old.code) (here new.code) depth
+      → AreKeptBetween i s low high (here old.code) (here new.code) depth
 
 -- these parts of an `if` in front of others
 abbrev pub in_front : List (ExprTree × StmtTrees) → ElsifTrees → ElsifTrees
@@ -339,7 +339,7 @@ pub record EndsLoop (old : Code) (out back : ℕ) (new : Code) : Type 0 where
 -- no rule is broken in the declarations, the statements and the handlers of a body
 pub record IsLegalRun (s : Scope) (ds : List DeclarationTree) (body : StmtTrees) (all : HandlerTrees) : Type 0 where
   pub declared : locals_faults s ds ≡ []
-  pub statements : AreLegal (locals_scope s ds) body
+  pub statements : AreLegalStatements (locals_scope s ds) body
   pub handled : AreLegalHandlers (locals_scope s ds) all
 
 abbrev pub no_ways : Ways

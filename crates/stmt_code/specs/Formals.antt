@@ -19,7 +19,7 @@ use Rattle.declaring.specs.BodyNames.{formal_role, formals_scope}
 use Rattle.meaning.specs.Calls.{is_out}
 use Rattle.meaning.specs.Programs.{Parameter}
 use Rattle.expr_code.specs.Code.{Extends, Holds, here}
-use Rattle.expr_code.specs.Flows.{AreKept, Flows}
+use Rattle.expr_code.specs.Flows.{AreKeptBetween, Flows}
 use Rattle.expr_code.specs.Views.{At}
 use Rattle.expr_code.specs.declared.code.Code.{Code}
 use Rattle.expr_code.specs.declared.visible.Slot.{Slot}
@@ -143,14 +143,14 @@ abbrev pub HasWord : (offset : ℕ) → Sections → Subprogram → Type 0
 HasWord offset i q = offset < q.locals
 
 -- ... those of a parameter, of one with this address, and of all
-abbrev pub HasRoom : Scope → PlacedFormal → Sections → Subprogram → Type 0
-HasRoom s x i q = BeginsWithin s q.locals x
+abbrev pub HasFormalRoom : Scope → PlacedFormal → Sections → Subprogram → Type 0
+HasFormalRoom s x i q = BeginsWithin s q.locals x
 
 abbrev pub HasRoomAt : Scope → (address : ℕ) → PlacedFormal → Sections → Subprogram → Type 0
 HasRoomAt s address x i q = BeginsWithin s q.locals x × (address < q.locals)
 
-abbrev pub HaveRoom : Scope → List PlacedFormal → Sections → Subprogram → Type 0
-HaveRoom s xs i q = All (BeginsWithin s q.locals) xs
+abbrev pub HaveFormalRoom : Scope → List PlacedFormal → Sections → Subprogram → Type 0
+HaveFormalRoom s xs i q = All (BeginsWithin s q.locals) xs
 
 -- ---- `out` parameters, which begin as objects without initial value (RM 6.4.1)
 
@@ -187,13 +187,13 @@ pub record Initialises (s : Scope) (old : Code) (xs : List PlacedFormal) (new : 
   pub extends : Extends old new
   pub sized : here new ≤ here old + (2 * length xs + total (placed_words s) xs)
   pub stands : (i : Sections) → Holds i (here old) new → AreInitial i s (here old) (here new) xs
-  pub flows : Flows (HaveRoom s xs) old 0 new 0
+  pub flows : Flows (HaveFormalRoom s xs) old 0 new 0
 
 -- ---- what the end of a body gives back
 
 -- the words of a value in the frame are put on the operand stack: a single one by LDL, several by PUSH of their place and LDB
-abbrev pub IsLoaded : Sections → (from to offset size : ℕ) → Type 0
-IsLoaded i from to offset size =
+abbrev pub IsLoadingCode : Sections → (from to offset size : ℕ) → Type 0
+IsLoadingCode i from to offset size =
     ((size ≡ 1) × At i from (op.LoadLocal offset) × (to ≡ suc from))
     ⊎ (At i from (op.Push (pos offset)) × At i (suc from) (op.LoadBlock regions.Locals size) × (to ≡ suc (suc from)))
 
@@ -201,7 +201,7 @@ IsLoaded i from to offset size =
 pub record AddsLoaded (old : Code) (offset many : ℕ) (new : Code) : Type 0 where
   pub extends : Extends old new
   pub sized : here new ≤ here old + 2
-  pub loads : (i : Sections) → Holds i (here old) new → IsLoaded i (here old) (here new) offset many
+  pub loads : (i : Sections) → Holds i (here old) new → IsLoadingCode i (here old) (here new) offset many
 
 -- ... and of an address in front of it
 pub record AddsReturned (s : Scope) (old : Code) (address : ℕ) (x : PlacedFormal) (new : Code) : Type 0 where
@@ -209,19 +209,19 @@ pub record AddsReturned (s : Scope) (old : Code) (address : ℕ) (x : PlacedForm
   pub longer : suc (here old) ≤ here new
   pub sized : here new ≤ here old + 3
   pub addresses : (i : Sections) → Holds i (here old) new → At i (here old) (op.LoadLocal address)
-  pub loads : (i : Sections) → Holds i (here old) new → IsLoaded i (suc (here old)) (here new) x.offset (words_of s x.subtype)
+  pub loads : (i : Sections) → Holds i (here old) new → IsLoadingCode i (suc (here old)) (here new) x.offset (words_of s x.subtype)
 
 -- of a parameter that is copied back both were added, above so many words of the operand stack; of another one nothing
 pub record ReturnsOne (s : Scope) (old : Code) (depth : ℕ) (x : PlacedFormal) (height : ℕ) (new : Code) : Type 0 where
   pub none : x.address ≡ None → (new ≡ old) × (height ≡ depth)
   pub some : (a : ℕ) → x.address ≡ Some a → AddsReturned s old a x new × (height ≡ suc (depth + words_of s x.subtype))
-  pub flows : Flows (HasRoom s x) old depth new height
+  pub flows : Flows (HasFormalRoom s x) old depth new height
 
 -- of one that is copied back the address and the value
 abbrev pub ReturnedThen : Sections → Scope → (from to : ℕ) → PlacedFormal → (rest : ℕ → Type 0) → (address : Option ℕ) → Type 0
 ReturnedThen i s from to x rest None = rest to
 ReturnedThen i s from to x rest (Some a) =
-    (mid : ℕ) × (from ≤ mid) × (mid ≤ to) × rest mid × At i mid (op.LoadLocal a) × IsLoaded i (suc mid) to x.offset (words_of s x.subtype)
+    (mid : ℕ) × (from ≤ mid) × (mid ≤ to) × rest mid × At i mid (op.LoadLocal a) × IsLoadingCode i (suc mid) to x.offset (words_of s x.subtype)
 
 -- all of them, from the last one to the first
 abbrev pub AreReturned : Sections → Scope → (from to : ℕ) → List PlacedFormal → Type 0
@@ -247,5 +247,5 @@ pub record Returns (s : Scope) (old : Code) (xs : List PlacedFormal) (height : �
   pub high : height ≡ words_returned s xs
   pub stands : (i : Sections) → Holds i (here old) new → AreReturned i s (here old) back xs
   pub returns : (i : Sections) → Holds i (here old) new → At i back op.Return
-  pub flows : (i : Sections) (q : Subprogram) → Holds i (here old) new → HaveRoom s xs i q → new.deepest ≤ q.stack → q.results ≡ height
-      → AreKept i q (here old) back (here old) (here new) 0
+  pub flows : (i : Sections) (q : Subprogram) → Holds i (here old) new → HaveFormalRoom s xs i q → new.deepest ≤ q.stack → q.results ≡ height
+      → AreKeptBetween i q (here old) back (here old) (here new) 0

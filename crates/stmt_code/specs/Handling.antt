@@ -11,7 +11,7 @@ use Rattle.image.specs.Steps.{act, does}
 use Rattle.meaning.specs.Works.{Activation}
 use Rattle.expr_code.specs.Seeing.{Package}
 use Rattle.expr_code.specs.Views.{in_frame, placed}
-use Rattle.stmt_code.specs.Resting.{Framed, Held, RestsWith, Shows}
+use Rattle.stmt_code.specs.Resting.{Framed, HeldWord, RestsWith, Shows}
 
 -- where each exception goes on in the same subprogram, if it does
 abbrev pub Handling : Type 0
@@ -42,12 +42,12 @@ abbrev pub CoverJust : (from to : ℕ) → List Row → Type 0
 CoverJust from to rows = All (λ q. (q.start ≡ from) × (q.end_ ≡ to)) rows
 
 -- the word of a frame that holds an exception
-abbrev pub exception_in : (word x : ℕ) → Held
+abbrev pub exception_in : (word x : ℕ) → HeldWord
 exception_in word x = record { offset = word; word = pos x }
 
 module _ (i : Sections) (g : Package) where
   -- The instruction takes the exception off the operand stack into a word of the frame, which is held from there on.
-  pub record IsKept (inner : Framed) (word place : ℕ) (f : Frame) (held : List Held) (a : Activation) (x : ℕ) : Type 0 where
+  pub record IsKept (inner : Framed) (word place : ℕ) (f : Frame) (held : List HeldWord) (a : Activation) (x : ℕ) : Type 0 where
     pub locals : List ℤ
     pub acts : (schedule : List ScheduleLine) (k : Kernel) (t : ℕ) (m : Words) (fs : List Frame)
         → act i schedule k t (in_frame m (placed f place (pos x ∷ [])) fs)
@@ -58,5 +58,5 @@ module _ (i : Sections) (g : Package) where
   pub record KeepsException (v inner : Framed) (word place : ℕ) : Type 0 where
     pub shows : Shows g inner v
     pub reserved : inner.reserved ≡ word ∷ v.reserved
-    pub keeps : (f : Frame) (held : List Held) (a : Activation) (x : ℕ) → v.room ≤ length f.locals → RestsWith g v held a f.locals
+    pub keeps : (f : Frame) (held : List HeldWord) (a : Activation) (x : ℕ) → v.room ≤ length f.locals → RestsWith g v held a f.locals
         → IsKept inner word place f held a x

@@ -1,7 +1,7 @@
 -- Which labels code has behind statements: those in front of them, and each label of their lines that is not among these yet, in the order of the lines.
 use Rattle.std.specs.Prelude.{ℕ, Bool, true, false, List, [], ◌∷◌, ◌++◌, bytes_eq, is_some, position, Option, Some, None}
 use Rattle.ada_tree.specs.StatementTree.{AlternativeTrees, Block, Call, Case, ElsifTrees, HandlerTrees, If, Loop, MoreAlternatives, MoreElsifs, MoreHandlers, MoreStmts, NoAlternatives, NoElsifs, NoHandlers, NoStmts, StmtTree, StmtTrees}
-use Rattle.stmt_code.specs.Lines.{Line, line_of}
+use Rattle.stmt_code.specs.Lines.{LabelledValue, line_of}
 
 abbrev pub is_label : (labels : List (List ℕ)) → List ℕ → Bool
 is_label labels text = is_some (position (bytes_eq text) labels)
@@ -9,7 +9,7 @@ is_label labels text = is_some (position (bytes_eq text) labels)
 abbrev pub with_label : (labels : List (List ℕ)) → List ℕ → List (List ℕ)
 with_label labels text = elim (is_label labels text) [ true ↦ labels | false ↦ labels ++ text ∷ [] ]
 
-abbrev pub with_line : (labels : List (List ℕ)) → Option Line → List (List ℕ)
+abbrev pub with_line : (labels : List (List ℕ)) → Option LabelledValue → List (List ℕ)
 with_line labels None = labels
 with_line labels (Some line) = with_label labels line.label
 

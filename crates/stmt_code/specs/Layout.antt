@@ -60,8 +60,8 @@ pub record IsLaidOut (g : Package) (v : Framed) : Type 0 where
   pub subprograms : length v.names.subprograms ≡ length v.names.scope
 
 -- the words of all that is visible in the frame end there
-abbrev pub EndsBy : Framed → ℕ → Type 0
-EndsBy v top = (name : List ℕ) (x : Slot) (r : Role) (t : Subtype) → slot_of v.names name ≡ Some x → x.region ≡ regions.Locals
+abbrev pub EndsBelow : Framed → ℕ → Type 0
+EndsBelow v top = (name : List ℕ) (x : Slot) (r : Role) (t : Subtype) → slot_of v.names name ≡ Some x → x.region ≡ regions.Locals
     → NamesObject v.names.scope name r t → x.offset + words_of v.names.scope t ≤ top
 
 -- what is visible behind the declaration of an object: one name more, with its place

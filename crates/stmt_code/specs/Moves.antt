@@ -9,7 +9,7 @@ use Rattle.ada_tree.specs.Size.{elsif_values_size, expr_size}
 use Rattle.types.specs.Places.{is_among}
 use Rattle.expr_code.specs.Branches.{Branch, Joins, in_front}
 use Rattle.expr_code.specs.Code.{Extends, Holds, here}
-use Rattle.expr_code.specs.Flows.{AreKept, Flows}
+use Rattle.expr_code.specs.Flows.{AreKeptBetween, Flows}
 use Rattle.expr_code.specs.Seeing.{Package, Suits}
 use Rattle.expr_code.specs.declared.code.Code.{Code}
 use Rattle.expr_code.specs.declared.visible.Visible.{Visible}
@@ -42,7 +42,7 @@ pub record EmitsMoves (v : Visible) (to : Moved) (old : Code) (all : List Branch
   pub flows : (i : Sections) (s : Subprogram) (end : ℕ) → here new ≤ end → Joins i (here old) waiting end 0 new → Suits v i s → new.deepest ≤ s.stack
       → 1 ≤ s.stack
       → has_depth i end 0 ≡ true → has_depth i (here new) 1 ≡ true
-      → AreKept i s (here old) end (here old) (here new) 1
+      → AreKeptBetween i s (here old) end (here old) (here new) 1
 
 -- code of these branches was added, and the places of their jumps to what waits
 pub record AddsMoves (v : Visible) (to : Moved) (old : Code) (all : List Branch) (before after : List ℕ) (new : Code) : Type 0 where

@@ -15,7 +15,7 @@ use Rattle.types.specs.Scopes.{Scope, form_at, number_of}
 use Rattle.types.specs.Standings.{standing_of, stands_first}
 use Rattle.types.specs.Shapes.{Shape, shape_of}
 use Rattle.expr_code.specs.Computing.{Computes}
-use Rattle.expr_code.specs.Emitting.{IsLegal, is_composite}
+use Rattle.expr_code.specs.Emitting.{IsLegalExpression, is_composite}
 use Rattle.expr_code.specs.Locating.{IsPath}
 use Rattle.expr_code.specs.Seeing.{library_of, Package, Sees, slot_of}
 use Rattle.expr_code.specs.Views.{At}
@@ -91,7 +91,7 @@ module _ (i : Sections) (g : Package) (v : Visible) (region : Region) (words : �
   pub record MovesNamed (from to : ℕ) (first : Identifier) (selectors : SelectorTrees) : Type 0 where
     pub source : Source
     pub is : IsSource v (record { first = first; selectors = selectors }) source
-    pub legal : IsLegal v.scope (Named first selectors)
+    pub legal : IsLegalExpression v.scope (Named first selectors)
     pub last : Subtype
     pub end : Shape
     pub mid : ℕ

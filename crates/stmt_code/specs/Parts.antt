@@ -19,10 +19,10 @@ step (Repeated n x) (Element k) = k * words x
 step (Grouped parts) (Field name) = place_or_none (field_offset parts name)
 step x part = 0
 
-abbrev pub HasPart : Shape → Part → Type 0
-HasPart (Repeated n x) (Element k) = k < n
-HasPart (Grouped parts) (Field name) = (x : Shape) × (o : ℕ) × (shape_in parts name ≡ Some x) × (field_offset parts name ≡ Some o)
-HasPart x part = ⊥
+abbrev pub ShapeHasPart : Shape → Part → Type 0
+ShapeHasPart (Repeated n x) (Element k) = k < n
+ShapeHasPart (Grouped parts) (Field name) = (x : Shape) × (o : ℕ) × (shape_in parts name ≡ Some x) × (field_offset parts name ≡ Some o)
+ShapeHasPart x part = ⊥
 
 abbrev pub part_offset : Shape → List Part → ℕ
 part_offset x [] = 0
@@ -34,4 +34,4 @@ part_shape x (part ∷ parts) = part_shape (inner x part) parts
 
 abbrev pub HasParts : Shape → List Part → Type 0
 HasParts x [] = ⊤
-HasParts x (part ∷ parts) = HasPart x part × HasParts (inner x part) parts
+HasParts x (part ∷ parts) = ShapeHasPart x part × HasParts (inner x part) parts

@@ -62,8 +62,8 @@ module _ (i : Sections) (program : Program) (g : Package) (v : Framed) where
       Everywhere i (library_of g) (Sees g v.names) from to (actuals_on v.names ps) (λ calls p. passed_actuals calls p ps rest)
 
   -- outside of protected objects their values have the shapes and types of the parameters, and their targets are placed where it is copied back to
-  abbrev pub ArePassedWell : List Parameter → ArgumentTrees → List Destination → Type 0
-  ArePassedWell ps rest ds =
+  abbrev pub ArePassedAndPlaced : List Parameter → ArgumentTrees → List Destination → Type 0
+  ArePassedAndPlaced ps rest ds =
       (calls : Calls) (p : Place) (view : View) (a : Actuals) → (library_of g).sound calls → Knows g v p view → p.within ≡ None
       → passed_actuals calls p ps rest ≡ Gives a
       → ArePassed (map (shape_of g.scope) (map parameter_subtype (taken ps))) a.values × AreOf program.scope (taken_types ps) a.values
@@ -73,13 +73,13 @@ module _ (i : Sections) (program : Program) (g : Package) (v : Framed) where
   pub record ArePassedInFront (from mid : ℕ) (ps : List Parameter) (all : List ArgumentTree) (ds : List Destination) : Type 0 where
     pub computes : (to : ℕ) (qs : List Parameter) (rest : ArgumentTrees) → mid ≤ to → ComputesActuals mid to qs rest
         → ComputesActuals from to (ps ++ qs) (arguments_in_front all rest)
-    pub passes : (qs : List Parameter) (rest : ArgumentTrees) (es : List Destination) → ArePassedWell qs rest es
-        → ArePassedWell (ps ++ qs) (arguments_in_front all rest) (ds ++ es)
+    pub passes : (qs : List Parameter) (rest : ArgumentTrees) (es : List Destination) → ArePassedAndPlaced qs rest es
+        → ArePassedAndPlaced (ps ++ qs) (arguments_in_front all rest) (ds ++ es)
     pub many : length ds ≡ length (results ps)
 
 -- The code of actual parameters was added, from left to right. It leaves the words that are passed on the operand stack, and tells where it is copied back to;
 -- there is room for the code of these copies.
-pub record EmitsActuals (v : Visible) (old : Code) (depth : ℕ) (fs : List FormalParameter) (all : List ArgumentTree) (ds : List Destination) (height : ℕ)
+pub record EmitsPassedActuals (v : Visible) (old : Code) (depth : ℕ) (fs : List FormalParameter) (all : List ArgumentTree) (ds : List Destination) (height : ℕ)
     (new : Code) : Type 0 where
   pub extends : Extends old new
   pub sized : here new + 4 * length ds ≤ here old + 20 * total argument_size all
@@ -95,7 +95,7 @@ pub record AddsActuals (v : Visible) (old : Code) (depth : ℕ) (fs : List Forma
     (height : ℕ) (new : Code) : Type 0 where
   pub destinations : List Destination
   pub after_is : after ≡ before ++ destinations
-  pub emits : EmitsActuals v old depth fs all destinations height new
+  pub emits : EmitsPassedActuals v old depth fs all destinations height new
 
 -- ---- targets
 

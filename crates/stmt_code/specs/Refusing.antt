@@ -40,7 +40,7 @@ use Rattle.expr_code.specs.declared.visible.Visible.{Visible}
 use Rattle.stmt_code.specs.Formals.{passed_for, placed_words, returned_more}
 use Rattle.stmt_code.specs.Bounds.{alternatives_bound, declarations_bound, elsifs_bound, handlers_bound, local_words, locals_words, run_bound, sequence_bound, stmt_bound, stmts_bound, words_named}
 use Rattle.stmt_code.specs.Labels.{alternatives_labels, elsifs_labels, handlers_labels, stmt_labels, stmts_labels}
-use Rattle.stmt_code.specs.Lines.{Line, is_put, line_of}
+use Rattle.stmt_code.specs.Lines.{LabelledValue, is_put, line_of}
 use Rattle.stmt_code.specs.Moves.{alone}
 use Rattle.stmt_code.specs.Moving.{moves}
 use Rattle.stmt_code.specs.Passing.{actuals_behind, copied_width, holds_variables}
@@ -301,7 +301,7 @@ assignment_needs v name e = needs_by v name e (moves v name e)
 -- ---- lines
 
 -- of a line: its value
-abbrev pub line_needs : Visible → Option Line → Needs
+abbrev pub line_needs : Visible → Option LabelledValue → Needs
 line_needs v None = beyond
 line_needs v (Some line) = value_needs v line.value
 

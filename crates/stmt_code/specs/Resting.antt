@@ -20,8 +20,8 @@ pub record IsAt (program : Program) (store : Store) (p : Place) : Type 0 where
   pub components : p.components ≡ store.components
 
 -- no region has more words than addresses tell
-abbrev pub IsSmall : View → Type 0
-IsSmall view = (r : Region) → length (view.words r) ≤ 65536
+abbrev pub IsAddressable : View → Type 0
+IsAddressable view = (r : Region) → length (view.words r) ≤ 65536
 
 -- The shared words stand for the store: whatever task evaluates, and whatever frame of code does it.
 pub record StandsFor (program : Program) (g : Package) (store : Store) (m : Words) : Type 0 where
@@ -31,7 +31,7 @@ pub record StandsFor (program : Program) (g : Package) (store : Store) (m : Word
       → p.schedule ≡ view.schedule
       → view.memory ≡ m
       → view.words regions.Plain ≡ m.plain
-      → IsSmall view
+      → IsAddressable view
       → FunctionsAreSound p
       → SeesPackage g p view
   pub plain : length m.plain ≤ 65536
@@ -63,14 +63,14 @@ pub record Rests (g : Package) (v : Framed) (a : Activation) (locals : List ℤ)
       → Knows g v p view
 
 -- a word of a frame that statements leave alone, as long as a loop over a range, or the end of the body, goes by it
-pub record Held : Type 0 where
+pub record HeldWord : Type 0 where
   pub offset : ℕ
   pub word : ℤ
 
-abbrev pub held_offset : Held → ℕ
+abbrev pub held_offset : HeldWord → ℕ
 held_offset h = h.offset
 
-abbrev pub AreHeld : List ℤ → List Held → Type 0
+abbrev pub AreHeld : List ℤ → List HeldWord → Type 0
 AreHeld locals [] = ⊤
 AreHeld locals (h ∷ hs) = (slice_get locals h.offset ≡ Some h.word) × AreHeld locals hs
 
@@ -79,7 +79,7 @@ abbrev pub AreKept : (places : List ℕ) → (before after : List ℤ) → Type 
 AreKept places before after = (n : ℕ) → is_among places n ≡ true → slice_get after n ≡ slice_get before n
 
 -- ... and the words that are held are those that statements leave alone
-pub record RestsWith (g : Package) (v : Framed) (words : List Held) (a : Activation) (locals : List ℤ) : Type 0 where
+pub record RestsWith (g : Package) (v : Framed) (words : List HeldWord) (a : Activation) (locals : List ℤ) : Type 0 where
   pub rests : Rests g v a locals
   pub held : AreHeld locals words
   pub apart : map held_offset words ≡ v.reserved
@@ -89,6 +89,6 @@ abbrev pub Shows : Package → (now later : Framed) → Type 0
 Shows g now later = (p : Place) (view : View) → Knows g now p view → Knows g later p view
 
 -- what is visible later is among what is visible now, and statements leave the same words alone
-pub record Narrows (g : Package) (now later : Framed) : Type 0 where
+pub record NarrowsFrame (g : Package) (now later : Framed) : Type 0 where
   pub shows : Shows g now later
   pub reserved : now.reserved ≡ later.reserved

@@ -14,19 +14,19 @@ use Rattle.image.specs.declared.instruction.Operation.TheVariants as op
 use Rattle.types.specs.Values.{Value}
 use Rattle.meaning.specs.Meeting.{Relation}
 use Rattle.meaning.specs.Programs.{Program}
-use Rattle.meaning.specs.Works.{Item, Declares, DeclaresParameter, Sequence, Does, DoesMain, Repeats, RepeatsWhile, RepeatsFor, Handles, EndsHandler, EndsCall, EndsServed, Work, Goes, Copies, Raising, Activation, Given, Store, Target, TaskWork, ends_of_calls}
+use Rattle.meaning.specs.Works.{Item, Declares, DeclaresParameter, Sequence, Does, DoesMain, Repeats, RepeatsWhile, RepeatsFor, Handles, EndsHandler, EndsCall, EndsServed, Work, Goes, Copies, Raising, Activation, GivenToCaller, Store, Target, TaskWork, ends_of_calls}
 use Rattle.meaning.specs.SourceSteps.{before, handler_for}
 use Rattle.sound_steps.specs.Holding.{IsSoundStore, IsSoundTask}
 use Rattle.expr_code.specs.Views.{At, placed}
 use Rattle.expr_code.specs.Coming.{Throws, size_of}
 use Rattle.expr_code.specs.Seeing.{Package}
-use Rattle.stmt_code.specs.Resting.{Framed, Held, Narrows, RestsWith, Shows, StandsFor}
+use Rattle.stmt_code.specs.Resting.{Framed, HeldWord, NarrowsFrame, RestsWith, Shows, StandsFor}
 use Rattle.stmt_code.specs.Handling.{GoesBy, Handling, exception_in}
 use Rattle.stmt_code.specs.Copying.{AreCopies, ArePlaced, GivesBack, addresses_of, copies_on, held_at}
 use Rattle.stmt_code.specs.declared.call.Destination.{Destination}
 use Rattle.stmt_code.specs.Counting.{IsCounted, in_turn}
 use Rattle.stmt_code.specs.Jumping.{Jumps}
-use Rattle.stmt_code.specs.Statements.{AreHandlers, AreStatements, IsDeclared, IsForever, IsMainStatement, IsParameterDeclared, IsSequence, IsStatement, IsWhile, Numbers, Ways, within_handler, within_loop}
+use Rattle.stmt_code.specs.Statements.{AreHandlers, AreStatements, IsDeclared, IsForever, IsMainStatementCode, IsParameterDeclared, IsSequence, IsStatement, IsWhile, Numbers, Ways, within_handler, within_loop}
 
 -- ---- what is left to do, as a size that falls where no code is run
 
@@ -64,7 +64,7 @@ module _ (i : Sections) (program : Program) (g : Package) (numbers : Numbers) wh
     pub visible : Framed
     pub ways : Ways
     pub raised : Handling
-    pub held : List Held
+    pub held : List HeldWord
     pub behind : Framed
     pub ending : Framed
     pub handling : Framed
@@ -98,22 +98,22 @@ module _ (i : Sections) (program : Program) (g : Package) (numbers : Numbers) wh
   }
 
   -- what is visible at the ways out, and at the handlers, is visible here
-  abbrev pub Reaches : Around → Framed → Type 0
-  Reaches a v = Shows g v a.behind × Shows g v a.ending × Shows g v a.handling
+  abbrev pub ReachesWays : Around → Framed → Type 0
+  ReachesWays a v = Shows g v a.behind × Shows g v a.ending × Shows g v a.handling
 
   -- the part of the subprogram's code between two places, to which forward jumps lead, in front of all statements
   pub record LeadsInto (v : Framed) (n from at to : ℕ) (now : Framed) : Type 0 where
     pub jumps : Jumps i from at
-    pub narrows : Narrows g v now
+    pub narrows : NarrowsFrame g v now
     pub from_inside : Inside n from
     pub up : at ≤ to
     pub to_inside : Inside n to
 
   -- ... from which ways out may lead
-  pub record Leads (a : Around) (n from at to : ℕ) (now : Framed) : Type 0 where
+  pub record LeadsByWays (a : Around) (n from at to : ℕ) (now : Framed) : Type 0 where
     pub jumps : Jumps i from at
-    pub narrows : Narrows g a.visible now
-    pub reaches : Reaches a now
+    pub narrows : NarrowsFrame g a.visible now
+    pub reaches : ReachesWays a now
     pub from_inside : Inside n from
     pub up : at ≤ to
     pub to_inside : Inside n to
@@ -126,7 +126,7 @@ module _ (i : Sections) (program : Program) (g : Package) (numbers : Numbers) wh
     pub end : to ≡ suc back
     pub up : head ≤ back
     pub loop : a ≡ in_loop (head + 1) a.visible outer
-    pub narrows : Narrows g a.visible outer.visible
+    pub narrows : NarrowsFrame g a.visible outer.visible
     pub reaches : Shows g outer.visible outer.ending
     pub handles : Shows g outer.visible outer.handling
     pub from_inside : Inside n from
@@ -137,7 +137,7 @@ module _ (i : Sections) (program : Program) (g : Package) (numbers : Numbers) wh
   pub record LeadsNext (a : Around) (n from head to back counter limit : ℕ) (now last : ℤ) (inner : Framed) (outer : Around) : Type 0 where
     pub jumps : Jumps i from back
     pub loop : a ≡ in_range (head + 1) counter limit now last a.visible outer
-    pub narrows : Narrows g a.visible inner
+    pub narrows : NarrowsFrame g a.visible inner
     pub reaches : Shows g outer.visible outer.ending
     pub handles : Shows g outer.visible outer.handling
     pub from_inside : Inside n from
@@ -148,8 +148,8 @@ module _ (i : Sections) (program : Program) (g : Package) (numbers : Numbers) wh
   pub record LeadsOver (a : Around) (n from at to : ℕ) (outer : Around) : Type 0 where
     pub jumps : Jumps i from to
     pub sequence : a ≡ in_sequence a.raised a.visible outer
-    pub narrows : Narrows g a.visible outer.visible
-    pub reaches : Reaches outer outer.visible
+    pub narrows : NarrowsFrame g a.visible outer.visible
+    pub reaches : ReachesWays outer outer.visible
     pub from_inside : Inside n from
     pub at_inside : Inside n at
     pub to_inside : Inside n to
@@ -184,7 +184,7 @@ module _ (i : Sections) (program : Program) (g : Package) (numbers : Numbers) wh
     pub at : ℕ
     pub last : Framed
     pub jumps : Jumps i from at
-    pub narrows : Narrows g now last
+    pub narrows : NarrowsFrame g now last
     pub gives : GivesBack i program g last names n at
     pub held : a.held ≡ held_at last.reserved addresses
     pub outermost : IsOutermost a
@@ -204,25 +204,25 @@ module _ (i : Sections) (program : Program) (g : Package) (numbers : Numbers) wh
   abbrev pub Follows : Around → (n from : ℕ) → List Item → List Frame → List Activation → Type 0
   Follows a n from [] fs os = LeadsOut a n from × (a.ways.return ≡ None) × (fs ≡ [])
   Follows a n from (Declares d ∷ items) fs os =
-      (at : ℕ) × (to : ℕ) × (now : Framed) × (later : Framed) × Leads a n from at to now × Narrows g later now
+      (at : ℕ) × (to : ℕ) × (now : Framed) × (later : Framed) × LeadsByWays a n from at to now × NarrowsFrame g later now
       × IsDeclared i program g numbers now at to later d
       × Follows (with_visible later a) n to items fs os
       × GoesBy i a.raised at to
   Follows a n from (DeclaresParameter f ∷ items) fs os =
-      (at : ℕ) × (to : ℕ) × (now : Framed) × (later : Framed) × LeadsInto a.visible n from at to now × Narrows g later now
+      (at : ℕ) × (to : ℕ) × (now : Framed) × (later : Framed) × LeadsInto a.visible n from at to now × NarrowsFrame g later now
       × IsParameterDeclared i program g numbers now at to later f
       × Follows (with_visible later a) n to items fs os
   Follows a n from (Sequence body hs ∷ items) fs os =
-      (at : ℕ) × (to : ℕ) × (now : Framed) × Leads a n from at to now
+      (at : ℕ) × (to : ℕ) × (now : Framed) × LeadsByWays a n from at to now
       × IsSequence i program g numbers now a.ways a.raised at to body hs
       × Follows (with_visible now a) n to items fs os
   Follows a n from (Does s ∷ items) fs os =
-      (at : ℕ) × (to : ℕ) × (now : Framed) × Leads a n from at to now
+      (at : ℕ) × (to : ℕ) × (now : Framed) × LeadsByWays a n from at to now
       × IsStatement i program g numbers now a.ways a.raised at to s
       × Follows (with_visible now a) n to items fs os
   Follows a n from (DoesMain s ∷ items) fs os =
-      (at : ℕ) × (to : ℕ) × (now : Framed) × Leads a n from at to now
-      × IsMainStatement i program g numbers at to s
+      (at : ℕ) × (to : ℕ) × (now : Framed) × LeadsByWays a n from at to now
+      × IsMainStatementCode i program g numbers at to s
       × Follows (with_visible now a) n to items fs os
       × GoesBy i a.raised at to
   Follows a n from (Handles NoHandlers ∷ items) fs os = Follows a n from items fs os
@@ -265,7 +265,7 @@ module _ (i : Sections) (program : Program) (g : Package) (numbers : Numbers) wh
   AreInner f [] = Unit {0}
   AreInner f (c ∷ fs) = (f.role ≡ Inner) × AreInner c fs
 
-  pub record IsGoing (items : List Item) (own : Activation) (os : List Activation) (s : TaskState) : Type 0 where
+  pub record IsGoingOn (items : List Item) (own : Activation) (os : List Activation) (s : TaskState) : Type 0 where
     pub around : Around
     pub follows : Follows around s.frame.subprogram s.frame.place items s.callers os
     pub rests : RestsWith g around.visible around.held own s.frame.locals
@@ -304,7 +304,7 @@ module _ (i : Sections) (program : Program) (g : Package) (numbers : Numbers) wh
     pub acts : (schedule : List ScheduleLine) (k : Kernel) (t : ℕ) (m : Words)
         → steps.act i schedule k t (record { memory = m; task = s })
         ≡ steps.does Quiet m (record s.frame { place = place; locals = locals; stack = [] }) s.callers None None
-    pub going : IsGoing items own os (record { frame = record s.frame { place = place; locals = locals; stack = [] }; callers = s.callers; raising = None })
+    pub going : IsGoingOn items own os (record { frame = record s.frame { place = place; locals = locals; stack = [] }; callers = s.callers; raising = None })
 
   -- The exception goes on in the frame at a handler, which keeps it there and has these statements.
   pub record IsCaught (x : ℕ) (f : Frame) (fs : List Frame) (own : Activation) (os : List Activation) (body : StmtTrees) (items : List Item) : Type 0 where
@@ -330,7 +330,7 @@ module _ (i : Sections) (program : Program) (g : Package) (numbers : Numbers) wh
   Catches x f fs own os (i ∷ items) = Catches x f fs own os items
 
   pub data CodeStands (k : Kernel) (w : TaskWork) (s : TaskState) : Type 0 where
-    Going : (items : List Item) → w.work ≡ Goes items → IsGoing items w.own w.callers s → CodeStands k w s
+    Going : (items : List Item) → w.work ≡ Goes items → IsGoingOn items w.own w.callers s → CodeStands k w s
     Copying : (vs : List Value) (xs : List Target) (items : List Item) → w.work ≡ Copies vs xs items → IsCopying vs xs items w.own w.callers s
         → CodeStands k w s
     Catching : (items : List Item) → w.work ≡ Goes items → IsCatching items w.own w.callers s → CodeStands k w s
@@ -340,11 +340,11 @@ module _ (i : Sections) (program : Program) (g : Package) (numbers : Numbers) wh
     Over : (o : Outcome) → k.outcome ≡ Some o → CodeStands k w s
 
   -- the task's work breaks no rule, whatever the store is
-  abbrev pub IsSound : TaskWork → Type 0
-  IsSound w = (m : Store) → IsSoundStore program m → IsSoundTask program m None w
+  abbrev pub IsSoundWork : TaskWork → Type 0
+  IsSoundWork w = (m : Store) → IsSoundStore program m → IsSoundTask program m None w
 
   pub record WorkStands (k : Kernel) (w : TaskWork) (s : TaskState) : Type 0 where
-    pub sound : IsSound w
+    pub sound : IsSoundWork w
     pub code : CodeStands k w s
 
   pub record Left (k : Kernel) (e : Effect) (w : TaskWork) (s : TaskState) : Type 0 where
@@ -355,7 +355,7 @@ module _ (i : Sections) (program : Program) (g : Package) (numbers : Numbers) wh
     pub sound : IsSoundStore program store
     pub stands : StandsFor program g store m
 
-  abbrev pub relation : Relation Store TaskWork Given Words TaskState steps.Given
+  abbrev pub relation : Relation Store TaskWork GivenToCaller Words TaskState steps.Given
   relation = record {
     shares = Shares;
     stands = λ k t w s. WorkStands k w s;

@@ -35,7 +35,7 @@ use Rattle.expr_code.specs.Views.{At, View, in_frame, placed, view_of}
 use Rattle.expr_code.specs.Coming.{most_steps, on}
 use Rattle.expr_code.specs.Computing.{ArePassed, Computes, Everywhere}
 use Rattle.expr_code.specs.Seeing.{library_of, Package, Sees}
-use Rattle.stmt_code.specs.Resting.{Framed, Knows, Narrows, RestsWith}
+use Rattle.stmt_code.specs.Resting.{Framed, Knows, NarrowsFrame, RestsWith}
 use Rattle.stmt_code.specs.Copying.{AreCopies, ArePlaced, GivesBack, actuals_on, held_at, left_out, passed_actuals, passed_words, taken}
 use Rattle.stmt_code.specs.declared.call.Destination.{Destination}
 use Rattle.stmt_code.specs.Counting.{IsCounted, IsRange}
@@ -78,10 +78,10 @@ module _ (i : Sections) (program : Program) (g : Package) (numbers : Numbers) wh
   -- ---- statements without others within
 
   -- the value of a line and the instruction that writes it
-  abbrev pub IsPut : Framed → (from to : ℕ) → SelectorTrees → Type 0
-  IsPut v from to (MoreSelectors (Arguments (MoreArguments (Text label at) (MoreArguments (Value e) NoArguments))) NoSelectors) =
+  abbrev pub IsPutCode : Framed → (from to : ℕ) → SelectorTrees → Type 0
+  IsPutCode v from to (MoreSelectors (Arguments (MoreArguments (Text label at) (MoreArguments (Value e) NoArguments))) NoSelectors) =
       (mid : ℕ) × (number : ℕ) × (from ≤ mid) × IsValue v from mid e × At i mid (op.PutLine number) × (text_at i.labels number ≡ label) × (to ≡ suc mid)
-  IsPut v from to s = ⊥
+  IsPutCode v from to s = ⊥
 
   -- the actual parameters, the call, and what is copied back
   pub record IsCall (v : Framed) (from to : ℕ) (c : Callee) : Type 0 where
@@ -105,15 +105,15 @@ module _ (i : Sections) (program : Program) (g : Package) (numbers : Numbers) wh
         × ArePlaced v.names destinations a.targets
 
   -- a statement of main, which calls a procedure of the package without parameters (RM 10.2)
-  abbrev pub IsMainStatement : (from to : ℕ) → MainStatement → Type 0
-  IsMainStatement from to (main.Null place) = from ≡ to
-  IsMainStatement from to (main.Call package_ procedure) =
+  abbrev pub IsMainStatementCode : (from to : ℕ) → MainStatement → Type 0
+  IsMainStatementCode from to (main.Null place) = from ≡ to
+  IsMainStatementCode from to (main.Call package_ procedure) =
       (q : Procedure) × (number : ℕ) × (procedure_here program None procedure.name ≡ Some q) × (numbers q ≡ Some number) × (q.parameters ≡ []) × At i from
       (op.Call number) × (to ≡ suc from)
 
-  abbrev pub IsCalled : Framed → (from to : ℕ) → NameTree → Option Callee → Type 0
-  IsCalled v from to name (Some c) = IsCall v from to c
-  IsCalled v from to name None = (named_entity program.scope name.first ≡ Some Put) × IsPut v from to name.selectors
+  abbrev pub IsCalleeCode : Framed → (from to : ℕ) → NameTree → Option Callee → Type 0
+  IsCalleeCode v from to name (Some c) = IsCall v from to c
+  IsCalleeCode v from to name None = (named_entity program.scope name.first ≡ Some Put) × IsPutCode v from to name.selectors
 
   abbrev pub IsAssigned : Framed → (from to : ℕ) → NameTree → ExprTree → Type 0
   IsAssigned v from to name e = Assigns i program g v v from to (assigned name e) (λ x m. store_with x.target x.value m)
@@ -143,7 +143,7 @@ module _ (i : Sections) (program : Program) (g : Package) (numbers : Numbers) wh
   abbrev pub AreDeclared : (v : Framed) → (from to : ℕ) → (later : Framed) → List DeclarationTree → Type 0
   AreDeclared v from to later [] = (from ≡ to) × (later ≡ v)
   AreDeclared v from to later (d ∷ ds) =
-      (mid : ℕ) × (next : Framed) × (from ≤ mid) × (mid ≤ to) × IsDeclared v from mid next d × Narrows g next v × AreDeclared next mid to later ds
+      (mid : ℕ) × (next : Framed) × (from ≤ mid) × (mid ≤ to) × IsDeclared v from mid next d × NarrowsFrame g next v × AreDeclared next mid to later ds
 
   -- an `out` parameter, which begins as an object without initial value (RM 6.4.1)
   abbrev pub IsParameterDeclared : (v : Framed) → (from to : ℕ) → (later : Framed) → Parameter → Type 0
@@ -154,7 +154,7 @@ module _ (i : Sections) (program : Program) (g : Package) (numbers : Numbers) wh
   abbrev pub AreParametersDeclared : (v : Framed) → (from to : ℕ) → (later : Framed) → List Parameter → Type 0
   AreParametersDeclared v from to later [] = (from ≡ to) × (later ≡ v)
   AreParametersDeclared v from to later (f ∷ fs) =
-      (mid : ℕ) × (next : Framed) × (from ≤ mid) × (mid ≤ to) × IsParameterDeclared v from mid next f × Narrows g next v
+      (mid : ℕ) × (next : Framed) × (from ≤ mid) × (mid ≤ to) × IsParameterDeclared v from mid next f × NarrowsFrame g next v
       × AreParametersDeclared next mid to later fs
 
   -- ---- statements by their parts
@@ -229,7 +229,7 @@ module _ (i : Sections) (program : Program) (g : Package) (numbers : Numbers) wh
     pub IsStatement : Framed → Ways → Handling → (from to : ℕ) → StmtTree → Type 0
     IsStatement v w r from to (Null place) = from ≡ to
     IsStatement v w r from to (Assignment name e) = IsAssigned v from to name e × GoesBy i r from to
-    IsStatement v w r from to (Call name) = IsCalled v from to name (callee_by program None name.first name.selectors) × GoesBy i r from to
+    IsStatement v w r from to (Call name) = IsCalleeCode v from to name (callee_by program None name.first name.selectors) × GoesBy i r from to
     IsStatement v w r from to (Exit place None) = IsJump w.exit from to
     IsStatement v w r from to (Exit place (Some e)) = IsConditionalExit v w.exit from to e × GoesBy i r from to
     IsStatement v w r from to (Return place None) = IsJump w.return from to
@@ -300,7 +300,7 @@ module _ (i : Sections) (program : Program) (g : Package) (numbers : Numbers) wh
     pub statements : IsSequence later (record { exit = None; return = Some (mid + 1); handled = None }) unhandled (mid + 2) to body hs
 
   -- the code of a procedure of the package: its `out` parameters, its declarations and statements, and what it gives back
-  pub record IsProcedure (q : Procedure) (number : ℕ) : Type 0 where
+  pub record IsProcedureCode (q : Procedure) (number : ℕ) : Type 0 where
     pub s : Subprogram
     pub there : called i number ≡ Some s
     pub outside : q.object ≡ None
@@ -314,7 +314,7 @@ module _ (i : Sections) (program : Program) (g : Package) (numbers : Numbers) wh
     pub stop : ℕ
     pub down : first_place i number ≤ first
     pub ready : AreParametersDeclared begins (first_place i number) first begun (left_out q.parameters)
-    pub orders : Narrows g begun middle
+    pub orders : NarrowsFrame g begun middle
     pub runs : IsRun middle first stop q.body.declarations q.body.statements q.body.handlers
     pub gives : GivesBack i program g middle (results q.parameters) number stop
     pub within : suc gives.back ≤ s.end_
@@ -329,4 +329,4 @@ module _ (i : Sections) (program : Program) (g : Package) (numbers : Numbers) wh
   -- those that calls find by their names
   abbrev pub HasProcedures : Type 0
   HasProcedures =
-      (name : List ℕ) (q : Procedure) (number : ℕ) → procedure_here program None name ≡ Some q → numbers q ≡ Some number → IsProcedure q number
+      (name : List ℕ) (q : Procedure) (number : ℕ) → procedure_here program None name ≡ Some q → numbers q ≡ Some number → IsProcedureCode q number

@@ -24,7 +24,7 @@ use Rattle.well_typed.specs.Agreeing.{parameter_subtype}
 use Rattle.well_typed.specs.SoundScopes.{AreIn, IsKnown}
 use Rattle.expr_code.specs.Code.{Adds, Extends, Holds, StandsFrom, here}
 use Rattle.expr_code.specs.Emitting.{EmitsChecked}
-use Rattle.expr_code.specs.Flows.{AreKept, Flows}
+use Rattle.expr_code.specs.Flows.{AreKeptBetween, Flows}
 use Rattle.expr_code.specs.Seeing.{NamesProfile, subprogram_of}
 use Rattle.expr_code.specs.Views.{At}
 use Rattle.expr_code.specs.declared.code.Code.{Code}
@@ -159,7 +159,7 @@ pub record IsCalledFunction (s : Scope) (fs : List Formal) (result : Subtype) (w
   pub results : IsKnown s result → words.results ≡ words_of s result
 
 -- the subprogram has these words
-pub record HasWords (s : code.Subprogram) (words : SubprogramWords) : Type 0 where
+pub record HasSubprogramWords (s : code.Subprogram) (words : SubprogramWords) : Type 0 where
   pub parameters : s.parameters ≡ words.passed
   pub results : s.results ≡ words.results
   pub locals : s.locals ≡ words.locals
@@ -179,5 +179,5 @@ pub record KeepsRules (v : Visible) (old : Draft) (words : SubprogramWords) (new
   pub up : here old.code ≤ last
   pub end : here new.code ≡ suc last
   pub returns : (i : Sections) → Holds i (here old.code) new.code → At i last op.Return
-  pub flows : (i : Sections) (s : code.Subprogram) → Holds i (here old.code) new.code → HasLabels i new.labels → HasWords s words → SuitsStatements v i s
-      → AreKept i s (here old.code) last (here old.code) (here new.code) 0
+  pub flows : (i : Sections) (s : code.Subprogram) → Holds i (here old.code) new.code → HasLabels i new.labels → HasSubprogramWords s words → SuitsStatements v i s
+      → AreKeptBetween i s (here old.code) last (here old.code) (here new.code) 0

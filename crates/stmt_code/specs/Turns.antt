@@ -11,7 +11,7 @@ use Rattle.expr_code.specs.Code.{Adds, here}
 use Rattle.expr_code.specs.Emitting.{EmitsExpression}
 use Rattle.expr_code.specs.declared.code.Code.{Code}
 use Rattle.expr_code.specs.declared.visible.Visible.{Visible}
-use Rattle.stmt_code.specs.Emitting.{Takes}
+use Rattle.stmt_code.specs.Emitting.{TakesWords}
 use Rattle.stmt_code.specs.declared.draft.Draft.{Draft}
 use Rattle.stmt_code.specs.declared.range_loop.Turns.{Turns}
 
@@ -63,7 +63,7 @@ pub record BeginsRange (v : Visible) (old : Draft) (parameter : Identifier) (rev
   pub bounded : Code
   pub last : EmitsExpression v middle 1 1 range.last bounded
   pub begins : BeginsTurns bounded t null new.code
-  pub takes : Takes old.words 2 new.words
+  pub takes : TakesWords old.words 2 new.words
   pub counter : t.counter ≡ old.words.taken
   pub limit : t.limit ≡ suc t.counter
   pub goes : t.reversed ≡ reversed

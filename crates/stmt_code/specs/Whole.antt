@@ -8,11 +8,11 @@ use Rattle.image.specs.Sections.{Sections, object_of}
 use Rattle.image.specs.declared.instruction.Operation.TheVariants as op
 use Rattle.image.specs.declared.subprograms.Subprogram.{Subprogram}
 use Rattle.expr_code.specs.Code.{Holds, here}
-use Rattle.expr_code.specs.Flows.{AreKept}
+use Rattle.expr_code.specs.Flows.{AreKeptBetween}
 use Rattle.expr_code.specs.Views.{At}
 use Rattle.expr_code.specs.declared.visible.Visible.{Visible}
 use Rattle.stmt_code.specs.Emitting.{HasLabels}
-use Rattle.stmt_code.specs.Subprograms.{HasWords, KeepsRules}
+use Rattle.stmt_code.specs.Subprograms.{HasSubprogramWords, KeepsRules}
 use Rattle.stmt_code.specs.Suiting.{SuitsStatements}
 use Rattle.stmt_code.specs.declared.draft.Draft.{Draft}
 use Rattle.stmt_code.specs.declared.subprogram.SubprogramWords.{SubprogramWords}
@@ -23,7 +23,7 @@ pub record IsOutside (s : Subprogram) : Type 0 where
   pub bare : is_task_body s.kind ≡ true → (s.parameters ≡ 0) × (s.results ≡ 0)
 
 -- the subprogram's code begins there, ends with a return, and keeps the rules
-pub record IsKept (i : Sections) (first : ℕ) (s : Subprogram) : Type 0 where
+pub record KeepsSubprogramRules (i : Sections) (first : ℕ) (s : Subprogram) : Type 0 where
   pub outside : IsOutside s
   pub passed : s.parameters ≤ s.locals
   pub fits : s.locals + s.stack ≤ FRAME_WORDS
@@ -31,12 +31,12 @@ pub record IsKept (i : Sections) (first : ℕ) (s : Subprogram) : Type 0 where
   pub up : first ≤ last
   pub end : s.end_ ≡ suc last
   pub returns : At i last op.Return
-  pub kept : AreKept i s first last first s.end_ 0
+  pub kept : AreKeptBetween i s first last first s.end_ 0
 
 -- each of them, where the one before it ends
 abbrev pub AreAllKept : Sections → (first : ℕ) → List Subprogram → Type 0
 AreAllKept i first [] = ⊤
-AreAllKept i first (s ∷ rest) = IsKept i first s × AreAllKept i s.end_ rest
+AreAllKept i first (s ∷ rest) = KeepsSubprogramRules i first s × AreAllKept i s.end_ rest
 
 -- the tests of an image's instructions and subprograms
 pub record PassesOnCode (i : Sections) : Type 0 where
@@ -53,7 +53,7 @@ pub record PassesOnCode (i : Sections) : Type 0 where
 pub record KeptCodePasses : Type 0 where
   -- what methods add is such code
   pub added : (v : Visible) (old new : Draft) (words : SubprogramWords) → KeepsRules v old words new → (i : Sections) (s : Subprogram) → Holds i (here old.code) new.code
-      → HasLabels i new.labels → HasWords s words → SuitsStatements v i s → s.end_ ≡ here new.code → IsOutside s
-      → IsKept i (here old.code) s
+      → HasLabels i new.labels → HasSubprogramWords s words → SuitsStatements v i s → s.end_ ≡ here new.code → IsOutside s
+      → KeepsSubprogramRules i (here old.code) s
   -- an image of nothing else passes
   pub whole : (i : Sections) → AreAllKept i 0 i.subprograms → last_end i.subprograms ≡ length i.instructions → PassesOnCode i

@@ -10,7 +10,7 @@ ghost use Rattle.types.specs.Standings.{stands_first};
 ghost use Rattle.expr_code.specs.Seeing.{slot_of};
 ghost use Rattle.stmt_code.specs.Staying.{Stays};
 ghost use Rattle.stmt_code.specs.Bounds.{stmt_bound};
-ghost use Rattle.stmt_code.specs.Emitting.{EmitsStatement, IsLegal, store_operation, stored_at};
+ghost use Rattle.stmt_code.specs.Emitting.{EmitsStatement, IsLegalStatement, store_operation, stored_at};
 ghost use Rattle.stmt_code.specs.Refusing.{assignment_needs, Refuses, stored_needs};
 ghost use Rattle.stmt_code.specs.Statements.{Ways};
 ghost use Rattle.well_typed.specs.SoundScopes.{SoundScope};
@@ -62,7 +62,7 @@ impl Draft {
         value: &Expr,
     ) -> Result<(), Refusal>
         requires sound { SoundScope visible.now.scope }
-        requires legal { IsLegal visible.now.scope (Assignment (name_tree name.now) (expr_tree value.now)) }
+        requires legal { IsLegalStatement visible.now.scope (Assignment (name_tree name.now) (expr_tree value.now)) }
         ensures emits { (w : Ways) → OnOk result (EmitsStatement visible.now w self.old (Assignment (name_tree name.now) (expr_tree value.now)) self.new) }
         ensures refused { IfErr result (λ why. Refuses self.old self.old.labels (stmt_bound visible.now.scope (Assignment (name_tree name.now) (expr_tree value.now))) (assignment_needs visible.now (name_tree name.now) (expr_tree value.now)) why) }
         ensures stays { OnOk result (Stays self.old (assignment_needs visible.now (name_tree name.now) (expr_tree value.now)) self.old.labels (length self.old.rows.items) self.new) }
@@ -98,7 +98,7 @@ impl Draft {
         value: &Expr,
     ) -> Result<(), Refusal>
         requires sound { SoundScope visible.now.scope }
-        requires legal { IsLegal visible.now.scope (Assignment (name_tree name.now) (expr_tree value.now)) }
+        requires legal { IsLegalStatement visible.now.scope (Assignment (name_tree name.now) (expr_tree value.now)) }
         requires stands { (r : Role) × (stands_first visible.now.scope (number_of visible.now.scope (name_tree name.now).first.name) ≡ standing.Part r subtype) }
         requires there { slot_of visible.now (name_tree name.now).first.name ≡ Some slot }
         requires whole { (name_tree name.now).selectors ≡ NoSelectors }
@@ -128,7 +128,7 @@ impl Draft {
         value: &Expr,
     ) -> Result<(), Refusal>
         requires sound { SoundScope visible.now.scope }
-        requires legal { IsLegal visible.now.scope (Assignment (name_tree name.now) (expr_tree value.now)) }
+        requires legal { IsLegalStatement visible.now.scope (Assignment (name_tree name.now) (expr_tree value.now)) }
         requires stands { (r : Role) × (stands_first visible.now.scope (number_of visible.now.scope (name_tree name.now).first.name) ≡ standing.Part r subtype) }
         requires there { slot_of visible.now (name_tree name.now).first.name ≡ Some slot }
         ensures emits { (w : Ways) → OnOk result (EmitsStatement visible.now w self.old (Assignment (name_tree name.now) (expr_tree value.now)) self.new) }

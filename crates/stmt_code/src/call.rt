@@ -12,7 +12,7 @@ ghost use Rattle.expr_code.specs.Seeing.{NamesProfile};
 ghost use Rattle.image.specs.Rules.{is_block};
 ghost use Rattle.stmt_code.specs.Labels.{stmt_labels};
 ghost use Rattle.stmt_code.specs.Staying.{Stays};
-ghost use Rattle.stmt_code.specs.Emitting.{EmitsStatement, IsLegal};
+ghost use Rattle.stmt_code.specs.Emitting.{EmitsStatement, IsLegalStatement};
 ghost use Rattle.stmt_code.specs.Passing.{actuals_behind, AddsActuals, AddsCheck, AddsCopy, AddsRange, AddsValue, copied_width, EmitsCopies, EmitsTarget, holds_variables, loaded_at};
 ghost use Rattle.stmt_code.specs.Bounds.{stmt_bound};
 ghost use Rattle.stmt_code.specs.Refusing.{actual_needs, actuals_needs, call_needs, check_words, copied_needs, copies_needs, copy_needs, destinations_for, destinations_named, destinations_of, invoked_needs, IsNeeding, IsPartFit, is_taken, Refuses, target_needs};
@@ -134,7 +134,7 @@ fn add_named(
     destinations: &mut Vec<Destination>,
 ) -> Result<Destination, Refusal>
     requires sound { SoundScope visible.now.scope }
-    requires legal { expressions.IsLegal visible.now.scope (Named (name_tree name.now).first (name_tree name.now).selectors) }
+    requires legal { expressions.IsLegalExpression visible.now.scope (Named (name_tree name.now).first (name_tree name.now).selectors) }
     ensures emits { IfOk result (λ destination. EmitsTarget visible.now code.old depth (Named (name_tree name.now).first (name_tree name.now).selectors) destination code.new) }
     ensures told { IfOk result (λ destination. destinations.new.items ≡ destinations.old.items ++ destination ∷ []) }
     ensures fits { IfOk result (λ destination. IsPartFit visible.now destination) }
@@ -168,7 +168,7 @@ fn add_target(
     destinations: &mut Vec<Destination>,
 ) -> Result<Destination, Refusal>
     requires sound { SoundScope visible.now.scope }
-    requires legal { expressions.IsLegal visible.now.scope (expr_tree e.now) }
+    requires legal { expressions.IsLegalExpression visible.now.scope (expr_tree e.now) }
     ensures emits { IfOk result (λ destination. EmitsTarget visible.now code.old depth (expr_tree e.now) destination code.new) }
     ensures told { IfOk result (λ destination. destinations.new.items ≡ destinations.old.items ++ destination ∷ []) }
     ensures fits { IfOk result (λ destination. IsPartFit visible.now destination) }
@@ -337,7 +337,7 @@ impl Draft {
     /// Adds the code of a call of a procedure of the package, or of a line.
     pub(crate) fn call(&mut self, visible: &Visible, name: &NameExpr) -> Result<(), Refusal>
         requires sound { SoundScope visible.now.scope }
-        requires legal { IsLegal visible.now.scope (Call (name_tree name.now)) }
+        requires legal { IsLegalStatement visible.now.scope (Call (name_tree name.now)) }
         ensures emits { (w : Ways) → OnOk result (EmitsStatement visible.now w self.old (Call (name_tree name.now)) self.new) }
         ensures refused { IfErr result (λ why. Refuses self.old (stmt_labels self.old.labels (Call (name_tree name.now))) (stmt_bound visible.now.scope (Call (name_tree name.now))) (call_needs visible.now (name_tree name.now)) why) }
         ensures stays { OnOk result (Stays self.old (call_needs visible.now (name_tree name.now)) (stmt_labels self.old.labels (Call (name_tree name.now))) (length self.old.rows.items) self.new) }
@@ -357,7 +357,7 @@ impl Draft {
     ) -> Result<(), Refusal>
         requires sound { SoundScope visible.now.scope }
         requires names { NamesProfile visible.now.scope name.now.first.name (profile_value profile.now) }
-        requires legal { IsLegal visible.now.scope (Call (name_tree name.now)) }
+        requires legal { IsLegalStatement visible.now.scope (Call (name_tree name.now)) }
         ensures emits { (w : Ways) → OnOk result (EmitsStatement visible.now w self.old (Call (name_tree name.now)) self.new) }
         ensures refused { IfErr result (λ why. Refuses self.old (stmt_labels self.old.labels (Call (name_tree name.now))) (stmt_bound visible.now.scope (Call (name_tree name.now))) (invoked_needs visible.now (name_tree name.now) (profile_value profile.now)) why) }
         ensures stays { OnOk result (Stays self.old (invoked_needs visible.now (name_tree name.now) (profile_value profile.now)) (stmt_labels self.old.labels (Call (name_tree name.now))) (length self.old.rows.items) self.new) }

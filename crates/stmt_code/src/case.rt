@@ -7,7 +7,7 @@ ghost use Rattle.expr_code.specs.Code.{here};
 ghost use Rattle.expr_code.specs.Refusing.{IsRefused};
 ghost use Rattle.stmt_code.specs.Staying.{StaysAlternatives, StaysStatement};
 ghost use Rattle.stmt_code.specs.Alternatives.{AddsAlternatives, AddsChoices, AddsTest, AddsValues, AreLegalAlternatives, AreLegalChoices, TestsAll};
-ghost use Rattle.stmt_code.specs.Emitting.{AreLegal, EmitsStatement, HasEntries, IsLegal, ways_of};
+ghost use Rattle.stmt_code.specs.Emitting.{AreLegalStatements, EmitsStatement, HasEntries, IsLegalStatement, ways_of};
 ghost use Rattle.stmt_code.specs.Refusing.{choices_fault, IsNeeding, RefusesAlternatives, RefusesChoices, RefusesStatement, stacked_unless};
 ghost use Rattle.stmt_rules.specs.CaseRules.{selecting_faults};
 ghost use Rattle.well_typed.specs.SoundScopes.{SoundScope};
@@ -102,7 +102,7 @@ impl Draft {
     ) -> Result<(), Refusal>
         requires sound { SoundScope visible.old.scope }
         requires entries { HasEntries visible.old }
-        requires legal { IsLegal visible.old.scope (Case place (expr_tree value.now) (alternative_trees alternatives.now)) }
+        requires legal { IsLegalStatement visible.old.scope (Case place (expr_tree value.now) (alternative_trees alternatives.now)) }
         ensures emits { OnOk result (EmitsStatement visible.old (ways_of leaving) self.old (Case place (expr_tree value.now) (alternative_trees alternatives.now)) self.new) }
         ensures refused { IfErr result (λ why. RefusesStatement visible.old (ways_of leaving) self.old (Case place (expr_tree value.now) (alternative_trees alternatives.now)) why) }
         ensures stays { OnOk result (StaysStatement visible.old (ways_of leaving) self.old (Case place (expr_tree value.now) (alternative_trees alternatives.now)) self.new) }
@@ -154,7 +154,7 @@ impl Draft {
         requires entries { HasEntries visible.old }
         requires selecting { selecting_faults visible.old.scope (expr_tree value.now) ≡ [] }
         requires choices { AreLegalChoices visible.old.scope (expr_tree value.now) (choices_tree alternative.now.choices) }
-        requires legal { AreLegal visible.old.scope (stmt_trees alternative.now.statements.items) }
+        requires legal { AreLegalStatements visible.old.scope (stmt_trees alternative.now.statements.items) }
         ensures adds { OnOk result (AddsAlternatives visible.old (ways_of leaving) (expr_tree value.now) self.old (alternative_tree alternative.now ∷ []) waiting.old.items waiting.new.items self.new) }
         ensures refused { IfErr result (λ why. RefusesAlternatives visible.old (ways_of leaving) self.old (alternatives_of (alternative_tree alternative.now ∷ [])) why) }
         ensures stays { OnOk result (StaysAlternatives visible.old (ways_of leaving) self.old (alternatives_of (alternative_tree alternative.now ∷ [])) self.new) }

@@ -3,7 +3,7 @@ ghost use Rattle.std.specs.Prelude.{◌≡◌, ◌+◌, ◌≤◌, ◌⊎◌, []
 ghost use Rattle.expr_code.specs.Code.{StandsFrom};
 ghost use Rattle.expr_code.specs.Refusing.{IsRefused};
 ghost use Rattle.stmt_code.specs.Labels.{with_label};
-ghost use Rattle.stmt_code.specs.Emitting.{Takes};
+ghost use Rattle.stmt_code.specs.Emitting.{TakesWords};
 ghost use Rattle.stmt_code.specs.Refusing.{HasManyLabels};
 
 use base::limits::{FRAME_WORDS, LABELS};
@@ -96,7 +96,7 @@ impl FrameWords {
     /// Takes so many words behind those that are taken, and tells the first of them. A frame has at most 512 (docs/FORMATS.md).
     pub fn take(&mut self, words: u16) -> Result<u16, Refusal>
         ensures first { IfOk result (λ first. first ≡ self.old.taken) }
-        ensures takes { OnOk result (Takes self.old words self.new) }
+        ensures takes { OnOk result (TakesWords self.old words self.new) }
         ensures most { OnOk result (self.new.most ≡ max self.old.most (self.old.taken + words)) }
         ensures within { OnOk result (self.new.taken ≤ FRAME_WORDS) }
         ensures refused { IfErr result (λ why. IsRefused 0 (self.old.taken + words) false why) }

@@ -4,7 +4,7 @@ ghost use Rattle.ada_tree.specs.StatementTree.{handler_tree, handler_trees, hand
 ghost use Rattle.expr_code.specs.Code.{here};
 ghost use Rattle.expr_code.specs.Refusing.{IsRefused};
 ghost use Rattle.stmt_code.specs.Covering.{AddsCovered, AddsHandled, AddsHandlers, choice_rows, EmitsSequence};
-ghost use Rattle.stmt_code.specs.Emitting.{AreLegal, AreLegalHandlers, HasEntries, ways_of};
+ghost use Rattle.stmt_code.specs.Emitting.{AreLegalStatements, AreLegalHandlers, HasEntries, ways_of};
 ghost use Rattle.stmt_code.specs.Raising.{are_numbered, choice_number};
 ghost use Rattle.stmt_code.specs.Refusing.{beyond_if, IsNeeding, RefusesCovered, RefusesHandlers, RefusesSequence};
 ghost use Rattle.stmt_code.specs.Rows.{choices_many};
@@ -82,7 +82,7 @@ impl Draft {
     ) -> Result<(), Refusal>
         requires sound { SoundScope visible.old.scope }
         requires entries { HasEntries visible.old }
-        requires legal { AreLegal visible.old.scope (stmt_trees body.now) }
+        requires legal { AreLegalStatements visible.old.scope (stmt_trees body.now) }
         requires handled { AreLegalHandlers visible.old.scope (handler_trees all.now) }
         ensures emits { OnOk result (EmitsSequence visible.old (ways_of leaving) self.old (stmt_trees body.now) (handler_trees all.now) self.new) }
         ensures refused { IfErr result (λ why. RefusesSequence visible.old (ways_of leaving) self.old (stmt_trees body.now) (handler_trees all.now) why) }
@@ -108,7 +108,7 @@ impl Draft {
     ) -> Result<Cover, Refusal>
         requires sound { SoundScope visible.old.scope }
         requires entries { HasEntries visible.old }
-        requires legal { AreLegal visible.old.scope (stmt_trees body.now) }
+        requires legal { AreLegalStatements visible.old.scope (stmt_trees body.now) }
         ensures covers { IfOk result (λ cover. AddsCovered visible.old (ways_of leaving) self.old (stmt_trees body.now) cover self.new) }
         ensures refused { IfErr result (λ why. RefusesCovered visible.old (ways_of leaving) self.old (stmt_trees body.now) why) }
         ensures stays { OnOk result (StaysStatements visible.old (ways_of leaving) self.old (stmt_trees body.now) self.new) }
@@ -193,7 +193,7 @@ impl Draft {
     ) -> Result<(), Refusal>
         requires sound { SoundScope visible.old.scope }
         requires entries { HasEntries visible.old }
-        requires legal { AreLegal visible.old.scope (stmt_trees handler.now.statements.items) }
+        requires legal { AreLegalStatements visible.old.scope (stmt_trees handler.now.statements.items) }
         ensures adds { OnOk result (AddsHandlers visible.old (ways_of leaving) region self.old (handler_tree handler.now ∷ []) waiting.old.items waiting.new.items own.old.items own.new.items self.new) }
         ensures refused { IfErr result (λ why. RefusesHandlers visible.old (ways_of leaving) self.old (handlers_of (handler_tree handler.now ∷ [])) why) }
         ensures stays { OnOk result (StaysHandlers visible.old (ways_of leaving) self.old (handlers_of (handler_tree handler.now ∷ [])) self.new) }

@@ -13,7 +13,7 @@ ghost use Rattle.expr_code.specs.Emitting.{is_composite};
 ghost use Rattle.expr_code.specs.Emitting as expressions;
 ghost use Rattle.expr_code.specs.Seeing.{slot_of};
 ghost use Rattle.expr_code.specs.Widths.{AreWide, width_of};
-ghost use Rattle.stmt_code.specs.Emitting.{EmitsStatement, IsLegal};
+ghost use Rattle.stmt_code.specs.Emitting.{EmitsStatement, IsLegalStatement};
 ghost use Rattle.stmt_code.specs.Moves.{AddsMoves, alone, EmitsMove};
 ghost use Rattle.stmt_code.specs.Moving.{are_moved, is_moved, names_composite, source_at, variable_at};
 ghost use Rattle.stmt_code.specs.Bounds.{stmt_bound};
@@ -131,7 +131,7 @@ fn are_moved(visible: &Visible, elsifs: &[ElsifValue]) -> bool
 // Adds the address of what is named, above that on the operand stack, and what moves its words from there.
 fn add_named(code: &mut Code, visible: &Visible, to: Moved, name: &NameExpr) -> Result<(), Refusal>
     requires sound { SoundScope visible.now.scope }
-    requires legal { expressions.IsLegal visible.now.scope (Named (name_tree name.now).first (name_tree name.now).selectors) }
+    requires legal { expressions.IsLegalExpression visible.now.scope (Named (name_tree name.now).first (name_tree name.now).selectors) }
     requires moved { is_moved visible.now (Named (name_tree name.now).first (name_tree name.now).selectors) ≡ true }
     requires block { is_block to.words ≡ true }
     requires holds { holds_variables to.region ≡ true }
@@ -155,7 +155,7 @@ fn add_named(code: &mut Code, visible: &Visible, to: Moved, name: &NameExpr) -> 
 #[cycle(add_move)]
 fn add_move(code: &mut Code, visible: &Visible, to: Moved, e: &Expr) -> Result<(), Refusal>
     requires sound { SoundScope visible.now.scope }
-    requires legal { expressions.IsLegal visible.now.scope (expr_tree e.now) }
+    requires legal { expressions.IsLegalExpression visible.now.scope (expr_tree e.now) }
     requires moved { is_moved visible.now (expr_tree e.now) ≡ true }
     requires block { is_block to.words ≡ true }
     requires holds { holds_variables to.region ≡ true }
@@ -193,9 +193,9 @@ fn add_branch(
     waiting: &mut Vec<usize>,
 ) -> Result<(), Refusal>
     requires sound { SoundScope visible.now.scope }
-    requires condition { expressions.IsLegal visible.now.scope (expr_tree condition.now) }
+    requires condition { expressions.IsLegalExpression visible.now.scope (expr_tree condition.now) }
     requires wide { width_of visible.now.scope (expr_tree condition.now) ≡ 1 }
-    requires legal { expressions.IsLegal visible.now.scope (expr_tree value.now) }
+    requires legal { expressions.IsLegalExpression visible.now.scope (expr_tree value.now) }
     requires moved { is_moved visible.now (expr_tree value.now) ≡ true }
     requires block { is_block to.words ≡ true }
     requires holds { holds_variables to.region ≡ true }
@@ -245,7 +245,7 @@ impl Draft {
         value: &Expr,
     ) -> Result<(), Refusal>
         requires sound { SoundScope visible.now.scope }
-        requires legal { IsLegal visible.now.scope (Assignment (name_tree name.now) (expr_tree value.now)) }
+        requires legal { IsLegalStatement visible.now.scope (Assignment (name_tree name.now) (expr_tree value.now)) }
         requires stands { (r : Role) × (stands_first visible.now.scope (number_of visible.now.scope (name_tree name.now).first.name) ≡ standing.Part r subtype) }
         requires there { slot_of visible.now (name_tree name.now).first.name ≡ Some slot }
         requires composite { let n = name_tree name.now in names_composite visible.now.scope (standing_of visible.now.scope n.first n.selectors) ≡ true }
@@ -271,7 +271,7 @@ impl Draft {
         value: &Expr,
     ) -> Result<(), Refusal>
         requires sound { SoundScope visible.now.scope }
-        requires legal { IsLegal visible.now.scope (Assignment (name_tree name.now) (expr_tree value.now)) }
+        requires legal { IsLegalStatement visible.now.scope (Assignment (name_tree name.now) (expr_tree value.now)) }
         requires stands { (r : Role) × (stands_first visible.now.scope (number_of visible.now.scope (name_tree name.now).first.name) ≡ standing.Part r subtype) }
         requires there { slot_of visible.now (name_tree name.now).first.name ≡ Some slot }
         requires composite { let n = name_tree name.now in names_composite visible.now.scope (standing_of visible.now.scope n.first n.selectors) ≡ true }

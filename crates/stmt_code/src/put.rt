@@ -5,7 +5,7 @@ ghost use Rattle.ada_tree.specs.StatementTree.{Call};
 ghost use Rattle.sound_steps.specs.Fitting.{entity_named};
 ghost use Rattle.stmt_code.specs.Labels.{stmt_labels};
 ghost use Rattle.stmt_code.specs.Staying.{Stays};
-ghost use Rattle.stmt_code.specs.Emitting.{EmitsStatement, IsLegal};
+ghost use Rattle.stmt_code.specs.Emitting.{EmitsStatement, IsLegalStatement};
 ghost use Rattle.stmt_code.specs.Lines.{is_put, line_in, line_of};
 ghost use Rattle.stmt_code.specs.Refusing.{put_needs, Refuses};
 ghost use Rattle.stmt_code.specs.Bounds.{stmt_bound};
@@ -62,7 +62,7 @@ impl Draft {
     /// Adds the code of a line: its value, and the instruction that writes it with the label.
     pub(crate) fn put(&mut self, visible: &Visible, name: &NameExpr) -> Result<(), Refusal>
         requires sound { SoundScope visible.now.scope }
-        requires legal { IsLegal visible.now.scope (Call (name_tree name.now)) }
+        requires legal { IsLegalStatement visible.now.scope (Call (name_tree name.now)) }
         ensures emits { (w : Ways) → OnOk result (EmitsStatement visible.now w self.old (Call (name_tree name.now)) self.new) }
         ensures refused { IfErr result (λ why. Refuses self.old (stmt_labels self.old.labels (Call (name_tree name.now))) (stmt_bound visible.now.scope (Call (name_tree name.now))) (put_needs visible.now (name_tree name.now)) why) }
         ensures stays { OnOk result (Stays self.old (put_needs visible.now (name_tree name.now)) (stmt_labels self.old.labels (Call (name_tree name.now))) (length self.old.rows.items) self.new) }

@@ -5,7 +5,7 @@ ghost use Rattle.declaring.specs.BodyNames.{loop_faults};
 ghost use Rattle.expr_code.specs.Code.{here};
 ghost use Rattle.expr_code.specs.Refusing.{IsRefused};
 ghost use Rattle.stmt_code.specs.Staying.{StaysRange, StaysStatement};
-ghost use Rattle.stmt_code.specs.Emitting.{EmitsStatement, HasEntries, IsLegal, ways_of};
+ghost use Rattle.stmt_code.specs.Emitting.{EmitsStatement, HasEntries, IsLegalStatement, ways_of};
 ghost use Rattle.stmt_code.specs.Refusing.{RefusesRange, RefusesStatement};
 ghost use Rattle.stmt_code.specs.Turns.{BeginsRange, BeginsTurns, EndsTurn, next_operation, word_of_first, word_of_last};
 ghost use Rattle.well_typed.specs.SoundScopes.{SoundScope};
@@ -147,7 +147,7 @@ impl Draft {
     ) -> Result<(), Refusal>
         requires sound { SoundScope visible.old.scope }
         requires entries { HasEntries visible.old }
-        requires legal { IsLegal visible.old.scope (Loop place (For parameter.now reversed (range_tree range.now)) (stmt_trees body.now)) }
+        requires legal { IsLegalStatement visible.old.scope (Loop place (For parameter.now reversed (range_tree range.now)) (stmt_trees body.now)) }
         ensures emits { OnOk result (EmitsStatement visible.old (ways_of leaving) self.old (Loop place (For parameter.now reversed (range_tree range.now)) (stmt_trees body.now)) self.new) }
         ensures refused { IfErr result (λ why. RefusesStatement visible.old (ways_of leaving) self.old (Loop place (For parameter.now reversed (range_tree range.now)) (stmt_trees body.now)) why) }
         ensures stays { OnOk result (StaysStatement visible.old (ways_of leaving) self.old (Loop place (For parameter.now reversed (range_tree range.now)) (stmt_trees body.now)) self.new) }

@@ -3,7 +3,7 @@ ghost use Rattle.std.specs.Prelude.{◌≡◌, ◌∷◌, [], map, IfErr, OnOk};
 ghost use Rattle.ada_tree.specs.ExpressionTree.{expr_tree};
 ghost use Rattle.ada_tree.specs.StatementTree.{Block, declaration_tree, elsif_tree, elsif_trees, elsifs_of, Exit, iteration_tree, Loop, NoHandlers, optional_tree, Return, stmt_tree, stmt_trees};
 ghost use Rattle.stmt_code.specs.Staying.{StaysParts, StaysStatement, StaysStatements};
-ghost use Rattle.stmt_code.specs.Emitting.{AddsParts, AreLegal, AreLegalElsifs, EmitsStatement, EmitsStatements, HasEntries, IsLegal, ways_of};
+ghost use Rattle.stmt_code.specs.Emitting.{AddsParts, AreLegalStatements, AreLegalElsifs, EmitsStatement, EmitsStatements, HasEntries, IsLegalStatement, ways_of};
 ghost use Rattle.stmt_code.specs.Refusing.{RefusesParts, RefusesStatement, RefusesStatements};
 ghost use Rattle.stmt_rules.specs.SimpleRules.{condition_faults};
 ghost use Rattle.well_typed.specs.SoundScopes.{SoundScope};
@@ -29,7 +29,7 @@ impl Draft {
         condition: &Option<Expr>,
     ) -> Result<(), Refusal>
         requires sound { SoundScope visible.now.scope }
-        requires legal { IsLegal visible.now.scope (Exit place (optional_tree expr_tree condition.now)) }
+        requires legal { IsLegalStatement visible.now.scope (Exit place (optional_tree expr_tree condition.now)) }
         ensures emits { OnOk result (EmitsStatement visible.now (ways_of leaving) self.old (Exit place (optional_tree expr_tree condition.now)) self.new) }
         ensures refused { IfErr result (λ why. RefusesStatement visible.now (ways_of leaving) self.old (Exit place (optional_tree expr_tree condition.now)) why) }
         ensures stays { OnOk result (StaysStatement visible.now (ways_of leaving) self.old (Exit place (optional_tree expr_tree condition.now)) self.new) }
@@ -74,7 +74,7 @@ impl Draft {
     ) -> Result<(), Refusal>
         requires sound { SoundScope visible.old.scope }
         requires entries { HasEntries visible.old }
-        requires legal { IsLegal visible.old.scope (stmt_tree statement.now) }
+        requires legal { IsLegalStatement visible.old.scope (stmt_tree statement.now) }
         ensures emits { OnOk result (EmitsStatement visible.old (ways_of leaving) self.old (stmt_tree statement.now) self.new) }
         ensures refused { IfErr result (λ why. RefusesStatement visible.old (ways_of leaving) self.old (stmt_tree statement.now) why) }
         ensures stays { OnOk result (StaysStatement visible.old (ways_of leaving) self.old (stmt_tree statement.now) self.new) }
@@ -132,7 +132,7 @@ impl Draft {
     ) -> Result<(), Refusal>
         requires sound { SoundScope visible.old.scope }
         requires entries { HasEntries visible.old }
-        requires legal { AreLegal visible.old.scope (stmt_trees all.now) }
+        requires legal { AreLegalStatements visible.old.scope (stmt_trees all.now) }
         ensures emits { OnOk result (EmitsStatements visible.old (ways_of leaving) self.old (stmt_trees all.now) self.new) }
         ensures refused { IfErr result (λ why. RefusesStatements visible.old (ways_of leaving) self.old (stmt_trees all.now) why) }
         ensures stays { OnOk result (StaysStatements visible.old (ways_of leaving) self.old (stmt_trees all.now) self.new) }
@@ -157,7 +157,7 @@ impl Draft {
         requires sound { SoundScope visible.old.scope }
         requires entries { HasEntries visible.old }
         requires condition { condition_faults visible.old.scope (expr_tree condition.now) ≡ [] }
-        requires legal { AreLegal visible.old.scope (stmt_trees body.now) }
+        requires legal { AreLegalStatements visible.old.scope (stmt_trees body.now) }
         ensures adds { OnOk result (AddsParts visible.old (ways_of leaving) self.old ((expr_tree condition.now, stmt_trees body.now) ∷ []) waiting.old.items waiting.new.items self.new) }
         ensures refused { IfErr result (λ why. RefusesParts visible.old (ways_of leaving) self.old (elsifs_of ((expr_tree condition.now, stmt_trees body.now) ∷ [])) why) }
         ensures stays { OnOk result (StaysParts visible.old (ways_of leaving) self.old (elsifs_of ((expr_tree condition.now, stmt_trees body.now) ∷ [])) self.new) }
@@ -204,7 +204,7 @@ impl Draft {
     ) -> Result<(), Refusal>
         requires sound { SoundScope visible.old.scope }
         requires entries { HasEntries visible.old }
-        requires legal { IsLegal visible.old.scope (Loop place (iteration_tree iteration.now) (stmt_trees body.now)) }
+        requires legal { IsLegalStatement visible.old.scope (Loop place (iteration_tree iteration.now) (stmt_trees body.now)) }
         ensures emits { OnOk result (EmitsStatement visible.old (ways_of leaving) self.old (Loop place (iteration_tree iteration.now) (stmt_trees body.now)) self.new) }
         ensures refused { IfErr result (λ why. RefusesStatement visible.old (ways_of leaving) self.old (Loop place (iteration_tree iteration.now) (stmt_trees body.now)) why) }
         ensures stays { OnOk result (StaysStatement visible.old (ways_of leaving) self.old (Loop place (iteration_tree iteration.now) (stmt_trees body.now)) self.new) }
@@ -244,7 +244,7 @@ impl Draft {
     ) -> Result<(), Refusal>
         requires sound { SoundScope visible.old.scope }
         requires entries { HasEntries visible.old }
-        requires legal { IsLegal visible.old.scope (Block place (map declaration_tree declarations.now) (stmt_trees body.now) NoHandlers) }
+        requires legal { IsLegalStatement visible.old.scope (Block place (map declaration_tree declarations.now) (stmt_trees body.now) NoHandlers) }
         ensures emits { OnOk result (EmitsStatement visible.old (ways_of leaving) self.old (Block place (map declaration_tree declarations.now) (stmt_trees body.now) NoHandlers) self.new) }
         ensures refused { IfErr result (λ why. RefusesStatement visible.old (ways_of leaving) self.old (Block place (map declaration_tree declarations.now) (stmt_trees body.now) NoHandlers) why) }
         ensures stays { OnOk result (StaysStatement visible.old (ways_of leaving) self.old (Block place (map declaration_tree declarations.now) (stmt_trees body.now) NoHandlers) self.new) }

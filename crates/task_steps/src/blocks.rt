@@ -4,7 +4,7 @@ ghost use Rattle.base.specs.declared.limits.TheConstants.{WORDS};
 ghost use Rattle.image.specs.Frames.{region_words, words_at, words_put};
 ghost use Rattle.image.specs.declared.instruction.Operation.TheVariants as operations;
 ghost use Rattle.processor.specs.Decoding.{with_block, words_in};
-ghost use Rattle.task_steps.specs.Stepping.{Does, IsPut, IsReady, Kept, Put, block_at};
+ghost use Rattle.task_steps.specs.Stepping.{Does, PutsWords, IsReadyFor, IsBlockKept, Put, block_at};
 
 use crate::acts::{Act, Effect};
 use crate::kernel_steps::operand;
@@ -22,7 +22,7 @@ pub(crate) fn load_block(
     region: Region,
     count: u16,
 ) -> Act
-    requires { IsReady program.now state.old (operations.LoadBlock region count) }
+    requires { IsReadyFor program.now state.old (operations.LoadBlock region count) }
     ensures { Does program.now (operations.LoadBlock region count) state.old memory.old result memory.new state.new }
 {
     let index = operand(state, 0);
@@ -43,7 +43,7 @@ pub(crate) fn store_block(
     region: Region,
     count: u16,
 ) -> Act
-    requires { IsReady program.now state.old (operations.StoreBlock region count) }
+    requires { IsReadyFor program.now state.old (operations.StoreBlock region count) }
     ensures { Does program.now (operations.StoreBlock region count) state.old memory.old result memory.new state.new }
 {
     let index = operand(state, count);
@@ -65,7 +65,7 @@ pub(crate) fn copy(
     source: Region,
     count: u16,
 ) -> Act
-    requires { IsReady program.now state.old (operations.Copy target source count) }
+    requires { IsReadyFor program.now state.old (operations.Copy target source count) }
     ensures { Does program.now (operations.Copy target source count) state.old memory.old result memory.new state.new }
 {
     let from = operand(state, 0);
@@ -121,7 +121,7 @@ fn keep_block(
 ) -> bool
     requires { length state.now.frame.locals ≤ WORDS }
     ensures shared { memory.new.shared ≡ memory.old.shared }
-    ensures kept { Kept (words_at (region_words program.now region (words_in program.now memory.old.shared) state.now.frame) index count) result memory.new.passed }
+    ensures kept { IsBlockKept (words_at (region_words program.now region (words_in program.now memory.old.shared) state.now.frame) index count) result memory.new.passed }
 {
     let words = region_words(program, state, memory, region);
     let Some(at) = block_at(words.len(), index, usize::from(count)) else {
@@ -182,7 +182,7 @@ fn put_words(
     at: usize,
 )
     requires { at + length memory.old.passed ≤ length (region_words program.now region (words_in program.now memory.old.shared) state.old.frame) }
-    ensures { IsPut program.now region (with_block (region_words program.now region (words_in program.now memory.old.shared) state.old.frame) at memory.old.passed) memory.old state.old memory.new state.new }
+    ensures { PutsWords program.now region (with_block (region_words program.now region (words_in program.now memory.old.shared) state.old.frame) at memory.old.passed) memory.old state.old memory.new state.new }
 {
     match region {
         Region::Locals => state.store_locals(at, memory.passed()),

@@ -10,7 +10,7 @@ ghost use Rattle.kernel.specs.State.{Kernel};
 ghost use Rattle.processor.specs.Decoding.{words_in};
 ghost use Rattle.processor.specs.Layout.{role_of};
 ghost use Rattle.task_steps.specs.Acting.{effect_of, stepped_of};
-ghost use Rattle.task_steps.specs.Stepping.{Does, DoesIn, IsOfObject, IsReady, MayRaise, opening};
+ghost use Rattle.task_steps.specs.Stepping.{Does, DoesIn, IsObjectKind, IsReadyFor, MayRaise, opening};
 ghost use Rattle.tasking.specs.Held.{kernel_of};
 ghost use Rattle.tasking.specs.Orderly.{IsTask};
 
@@ -27,7 +27,7 @@ use tasking::Tasking;
 
 /// CALL.
 pub(crate) fn call(program: &Program, state: &mut TaskState, memory: &Memory, number: u16) -> Act
-    requires { IsReady program.now state.old (operations.Call number) }
+    requires { IsReadyFor program.now state.old (operations.Call number) }
     ensures { Does program.now (operations.Call number) state.old memory.now result memory.now state.new }
 {
     let Some(subprogram) = called(program, number) else {
@@ -55,7 +55,7 @@ pub(crate) fn protected_call<R: Ready, D: Delays>(
 ) -> Act
     requires task { IsTask (kernel_of tasking.now) task }
     requires objects { (kernel_of tasking.now).partition.objects ≡ length program.now.objects }
-    requires here { IsReady program.now state.old (operations.ProtectedCall number) }
+    requires here { IsReadyFor program.now state.old (operations.ProtectedCall number) }
     ensures { (schedule : List ScheduleLine) → DoesIn program.now (operations.ProtectedCall number) state.old memory.now result memory.now state.new schedule (kernel_of tasking.now) task }
 {
     let Some(subprogram) = called(program, number) else {
@@ -74,7 +74,7 @@ pub(crate) fn protected_call<R: Ready, D: Delays>(
 
 // The object of an external call.
 fn external_object(program: &Program, kind: Kind) -> u8
-    requires { IsOfObject program.now kind }
+    requires { IsObjectKind program.now kind }
     ensures { object_of kind ≡ Some result }
 {
     match kind {
@@ -105,7 +105,7 @@ pub(crate) fn entry_call<R: Ready, D: Delays>(
 ) -> Act
     requires task { IsTask (kernel_of tasking.now) task }
     requires objects { (kernel_of tasking.now).partition.objects ≡ length program.now.objects }
-    requires here { IsReady program.now state.old (operations.EntryCall object) }
+    requires here { IsReadyFor program.now state.old (operations.EntryCall object) }
     ensures { (schedule : List ScheduleLine) → DoesIn program.now (operations.EntryCall object) state.old memory.now result memory.now state.new schedule (kernel_of tasking.now) task }
 {
     let Some(number) = entry(program, object) else {

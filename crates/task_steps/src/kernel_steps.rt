@@ -11,7 +11,7 @@ ghost use Rattle.kernel.specs.Effects.{is_inside_any};
 ghost use Rattle.kernel.specs.State.{Kernel};
 ghost use Rattle.processor.specs.Decoding.{words_in};
 ghost use Rattle.task_steps.specs.Acting.{stepped_of};
-ghost use Rattle.task_steps.specs.Stepping.{Does, DoesIn, IsReady, MayRaise};
+ghost use Rattle.task_steps.specs.Stepping.{Does, DoesIn, IsReadyFor, MayRaise};
 ghost use Rattle.tasking.specs.Held.{kernel_of};
 ghost use Rattle.tasking.specs.Orderly.{IsTask};
 
@@ -57,7 +57,7 @@ pub(crate) fn check_blocking<R: Ready, D: Delays>(
     memory: &Memory,
 ) -> Act
     requires task { IsTask (kernel_of tasking.now) task }
-    requires here { IsReady program.now state.old operations.CheckBlocking }
+    requires here { IsReadyFor program.now state.old operations.CheckBlocking }
     ensures { (schedule : List ScheduleLine) → DoesIn program.now operations.CheckBlocking state.old memory.now result memory.now state.new schedule (kernel_of tasking.now) task }
 {
     if let Some(act) = refuse_inside(program, tasking, task, state, memory) {
@@ -76,7 +76,7 @@ pub(crate) fn delay_until<R: Ready, D: Delays>(
     memory: &Memory,
 ) -> Act
     requires task { IsTask (kernel_of tasking.now) task }
-    requires here { IsReady program.now state.old operations.DelayUntil }
+    requires here { IsReadyFor program.now state.old operations.DelayUntil }
     ensures { (schedule : List ScheduleLine) → DoesIn program.now operations.DelayUntil state.old memory.now result memory.now state.new schedule (kernel_of tasking.now) task }
 {
     if let Some(act) = refuse_inside(program, tasking, task, state, memory) {
@@ -89,7 +89,7 @@ pub(crate) fn delay_until<R: Ready, D: Delays>(
 
 /// PUT.
 pub(crate) fn put_line(program: &Program, state: &mut TaskState, memory: &Memory, label: u16) -> Act
-    requires { IsReady program.now state.old (operations.PutLine label) }
+    requires { IsReadyFor program.now state.old (operations.PutLine label) }
     ensures { Does program.now (operations.PutLine label) state.old memory.now result memory.now state.new }
 {
     let value = state.pop();
@@ -105,7 +105,7 @@ pub(crate) fn read_input<R: Ready, D: Delays>(
     state: &mut TaskState,
     memory: &Memory,
 ) -> Act
-    requires { IsReady program.now state.old operations.ReadInput }
+    requires { IsReadyFor program.now state.old operations.ReadInput }
     ensures { (t : ℕ) → DoesIn program.now operations.ReadInput state.old memory.now result memory.now state.new schedule.now (kernel_of tasking.now) t }
 {
     let channel = operand(state, 0);
@@ -137,7 +137,7 @@ pub(crate) fn clock<R: Ready, D: Delays>(
     state: &mut TaskState,
     memory: &Memory,
 ) -> Act
-    requires { IsReady program.now state.old operations.Clock }
+    requires { IsReadyFor program.now state.old operations.Clock }
     ensures { (schedule : List ScheduleLine) (t : ℕ) → DoesIn program.now operations.Clock state.old memory.now result memory.now state.new schedule (kernel_of tasking.now) t }
 {
     state.push(tasking.now());
@@ -147,7 +147,7 @@ pub(crate) fn clock<R: Ready, D: Delays>(
 
 /// RAISE: the exception that the top word names.
 pub(crate) fn raise_named(program: &Program, state: &mut TaskState, memory: &Memory) -> Act
-    requires { IsReady program.now state.old operations.Raise }
+    requires { IsReadyFor program.now state.old operations.Raise }
     ensures { Does program.now operations.Raise state.old memory.now result memory.now state.new }
 {
     let number = operand(state, 0);

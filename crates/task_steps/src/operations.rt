@@ -4,7 +4,7 @@ ghost use Rattle.image.specs.Steps.{act};
 ghost use Rattle.image_laws.specs.Shape.{IsSound};
 ghost use Rattle.processor.specs.Decoding.{is_left};
 ghost use Rattle.task_steps.specs.Acting.{solo_in, stepped_of};
-ghost use Rattle.task_steps.specs.Stepping.{DoesIn, IsReady};
+ghost use Rattle.task_steps.specs.Stepping.{DoesIn, IsReadyFor};
 ghost use Rattle.tasking.specs.Held.{kernel_of};
 ghost use Rattle.tasking.specs.Orderly.{IsTask};
 
@@ -78,7 +78,7 @@ fn operate<R: Ready, D: Delays>(
 ) -> Act
     requires task { IsTask (kernel_of tasking.now) task }
     requires objects { (kernel_of tasking.now).partition.objects ≡ length program.now.objects }
-    requires here { IsReady program.now state.old operation }
+    requires here { IsReadyFor program.now state.old operation }
     requires left { is_left operation ≡ true }
     ensures { DoesIn program.now operation state.old memory.old result memory.new state.new schedule.now (kernel_of tasking.now) task }
 {

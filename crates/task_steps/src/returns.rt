@@ -1,7 +1,7 @@
 //! Returns: the end of the task's body, of a call, of a call and its action, or of a body that was run for a queued caller (RM 9.5.3).
 ghost use Rattle.std.specs.Prelude.{◌≡◌};
 ghost use Rattle.image.specs.declared.instruction.Operation.TheVariants as operations;
-ghost use Rattle.task_steps.specs.Stepping.{Does, IsReady};
+ghost use Rattle.task_steps.specs.Stepping.{Does, IsReadyFor};
 
 use crate::acts::{Act, Effect, Given};
 use crate::lookups::results;
@@ -11,7 +11,7 @@ use processor::{Program, Role, TaskState};
 
 /// RET.
 pub(crate) fn leave(program: &Program, state: &mut TaskState, memory: &mut Memory) -> Act
-    requires { IsReady program.now state.old operations.Return }
+    requires { IsReadyFor program.now state.old operations.Return }
     ensures { Does program.now operations.Return state.old memory.old result memory.new state.new }
 {
     let results = results(program, state);

@@ -9,7 +9,7 @@ use Rattle.std.proofs.lemmas.List.{length-map, map-append}
 use Rattle.clock.specs.declared.delays.Sleeper.{Sleeper as Row}
 use Rattle.tasking.specs.declared.reports.Place.TheVariants as places
 use Rattle.tasking.specs.Held.{Held, kernel_of, lists_below, sleeper_of, sleepers_of}
-use Rattle.tasking.specs.Orderly.{IsKept, IsNowhere, IsOrderly, IsTask, standing}
+use Rattle.tasking.specs.Orderly.{IsKeptOrderly, IsNowhere, IsOrderly, IsTask, standing}
 use Rattle.tasking.proofs.Places.{highest_same, list_at}
 use Rattle.tasking.proofs.Standing.{asleep_orderly, sleeping_room, head_task, once_low, preempted_orderly, ready_orderly, ready_room, runs_one}
 use Rattle.tasking.proofs.Standing.{runs_orderly, runs_task}
@@ -19,7 +19,7 @@ use Rattle.tasking.proofs.Moved.{head_runs_is, highest_low, none_runs_is, preemp
 abbrev pub seen : {h old : Held} → h ≡ old → Held
 seen {h = h} e = h
 
-module _ (h old : Held) (same : h ≡ old) (kept : IsKept h) where
+module _ (h old : Held) (same : h ≡ old) (kept : IsKeptOrderly h) where
   pub task_here : (t : ℕ) → IsTask (kernel_of old) t → IsTask (kernel_of h) t
   task_here t task = subst (λ v. IsTask (kernel_of v) t) (sym same) task
 
@@ -39,7 +39,7 @@ module _ (h old : Held) (same : h ≡ old) (kept : IsKept h) where
   runner_before t run = subst (λ v. IsTask (kernel_of v) t) same (runner_here t run)
 
 module _ (g : Held) (q r : Queues) (old : Held) (same : record g { ready = lists_below PRIORITIES q } ≡ old)
-    (kept : IsKept (record g { ready = lists_below PRIORITIES q })) where
+    (kept : IsKeptOrderly (record g { ready = lists_below PRIORITIES q })) where
   abbrev h : Held
   h = record g { ready = lists_below PRIORITIES q }
 
@@ -69,7 +69,7 @@ module _ (g : Held) (q r : Queues) (old : Held) (same : record g { ready = lists
     becomes_is e = becomes_path e ∙ ap (λ v. becomes_ready t (kernel_of v)) same
 
     pub becomes_kept : IsNowhere (kernel_of old) t → ((p : ℕ) → r p ≡ put a (q a ++ t ∷ []) q p)
-        → IsKept (record g { ready = lists_below PRIORITIES r; places = set g.places k places.Ready })
+        → IsKeptOrderly (record g { ready = lists_below PRIORITIES r; places = set g.places k places.Ready })
     becomes_kept none e = record {
       orderly = subst IsOrderly (sym (becomes_path e))
           (ready_orderly (kernel_of h) t (task_here h old same kept t task) (ap (λ v. standing (kernel_of v) t) same ∙ none) kept.orderly);
@@ -85,7 +85,7 @@ module _ (g : Held) (q r : Queues) (old : Held) (same : record g { ready = lists
     outranked_is e = preempted_path e ∙ ap (λ v. preempted t (kernel_of v)) same
 
     pub outranked_kept : old.running ≡ Some t → ((p : ℕ) → r p ≡ put a (t ∷ q a) q p)
-        → IsKept (record g { running = None; ready = lists_below PRIORITIES r; places = set g.places k places.Ready })
+        → IsKeptOrderly (record g { running = None; ready = lists_below PRIORITIES r; places = set g.places k places.Ready })
     outranked_kept run e = record {
       orderly = subst IsOrderly (sym (preempted_path e)) (preempted_orderly (kernel_of h) t (runs_here h old same kept t run) kept.orderly);
       rows = rows_placed h (record g { running = None; ready = lists_below PRIORITIES r }) k t places.Ready is (task_here h old same kept t task) kept.rows;
@@ -132,7 +132,7 @@ module _ (g : Held) (q r : Queues) (old : Held) (same : record g { ready = lists
             ≡ runs_from (kernel_highest (kernel_of old).ready PRIORITIES) (kernel_of old)
         run_is = head_path ∙ old_is
 
-        pub run_kept : IsKept (record g { running = Some t; ready = lists_below PRIORITIES r; places = set g.places k places.Running })
+        pub run_kept : IsKeptOrderly (record g { running = Some t; ready = lists_below PRIORITIES r; places = set g.places k places.Running })
         run_kept = record {
           orderly = subst IsOrderly (sym head_path) (runs_orderly (kernel_of h) (highest q) (λ p i. highest_low q p i) none_here kept.orderly);
           rows = rows_placed h (record g { running = Some t; ready = lists_below PRIORITIES r }) k t places.Running is head_is_task kept.rows;
@@ -145,14 +145,14 @@ module _ (g : Held) (q r : Queues) (old : Held) (same : record g { ready = lists
       pub idle_is : kernel_of (record g { ready = lists_below PRIORITIES r }) ≡ runs_from (kernel_highest (kernel_of old).ready PRIORITIES) (kernel_of old)
       idle_is = idle_path ∙ old_is
 
-      pub idle_kept : IsKept (record g { ready = lists_below PRIORITIES r })
+      pub idle_kept : IsKeptOrderly (record g { ready = lists_below PRIORITIES r })
       idle_kept = record {
         orderly = subst IsOrderly (sym idle_path) (runs_orderly (kernel_of h) (highest q) (λ p i. highest_low q p i) none_here kept.orderly);
         rows = rows_same h (record g { ready = lists_below PRIORITIES r }) kept.rows;
       }
 
 -- a task that is nowhere sleeps
-module _ (h old : Held) (same : h ≡ old) (kept : IsKept h) (t : ℕ) where
+module _ (h old : Held) (same : h ≡ old) (kept : IsKeptOrderly h) (t : ℕ) where
   pub asleep_room : IsTask (kernel_of old) t → IsNowhere (kernel_of old) t → length h.sleepers < TASKS
   asleep_room task none =
       let l = sleeping_room (kernel_of h) TASKS t kept.rows.few_tasks (task_here h old same kept t task)
@@ -162,7 +162,7 @@ module _ (h old : Held) (same : h ≡ old) (kept : IsKept h) (t : ℕ) where
 
   pub asleep_kept : (k : ℕ) (w : ℤ) (rows : List Row) → k ≡ t → IsTask (kernel_of old) t → IsNowhere (kernel_of old) t → rows
       ≡ h.sleepers ++ record { task = t; wake = w } ∷ []
-      → IsKept (record h { sleepers = rows; places = set h.places k places.Asleep })
+      → IsKeptOrderly (record h { sleepers = rows; places = set h.places k places.Asleep })
   asleep_kept k w rows is task none e = record {
     orderly = subst (λ ss. IsOrderly (record (falls_asleep t w (kernel_of h)) { sleepers = ss }))
         (sym (ap sleepers_of e ∙ map-append sleeper_of h.sleepers (record { task = t; wake = w } ∷ [])))

@@ -16,7 +16,7 @@ use Rattle.tasking.specs.declared.reports.Kind.{Kind}
 use Rattle.tasking.specs.declared.reports.Kind.TheVariants as kinds
 use Rattle.tasking.specs.declared.reports.Place.TheVariants as places
 use Rattle.tasking.specs.Held.{Held, action_of, actions_of, innermost, kernel_of, kinds_at, refused_as}
-use Rattle.tasking.specs.Orderly.{AreRows, IsKept, IsTask}
+use Rattle.tasking.specs.Orderly.{AreRows, IsKeptOrderly, IsTask}
 use Rattle.tasking.proofs.Actions.{closed_is, innermost_at, innermost_is, open_is, opened_is, raised_is, retaken_is}
 use Rattle.tasking.proofs.Moved.{placed, rows_placed}
 use Rattle.tasking.proofs.Moves.{in_places, task_here}
@@ -94,7 +94,7 @@ short_put rows t ks lk few all u =
     (same_or_not u t)
 
 -- a task's open actions are written
-module _ (h : Held) (kept : IsKept h) (t : ℕ) (task : IsTask (kernel_of h) t) where
+module _ (h : Held) (kept : IsKeptOrderly h) (t : ℕ) (task : IsTask (kernel_of h) t) where
   pub in_kinds : t < length h.kinds
   in_kinds = let r = kept.rows in let f = r.few_tasks in let e = r.kinds in omega arith
 
@@ -121,8 +121,8 @@ module _ (h : Held) (kept : IsKept h) (t : ℕ) (task : IsTask (kernel_of h) t) 
       paired = paired_put h.objects.opened h.kinds t os ks in_opened in_kinds e r.paired;
     }
 
-    pub actions_kept : length ks ≤ OBJECTS → length ks ≡ length os → IsKept (record h { objects = objects; kinds = rows })
-    actions_kept few e = subst (λ v. IsKept v) (λ i. record h { objects = sym oe i; kinds = sym ke i }) (record {
+    pub actions_kept : length ks ≤ OBJECTS → length ks ≡ length os → IsKeptOrderly (record h { objects = objects; kinds = rows })
+    actions_kept few e = subst (λ v. IsKeptOrderly v) (λ i. record h { objects = sym oe i; kinds = sym ke i }) (record {
       orderly = kept.orderly;
       rows = actions_rows few e;
     })
@@ -140,7 +140,7 @@ refused_go true c = refl
 refused_go false true = refl
 refused_go false false = refl
 
-module _ (h old : Held) (same : h ≡ old) (kept : IsKept h) (t o : ℕ) where
+module _ (h old : Held) (same : h ≡ old) (kept : IsKeptOrderly h) (t o : ℕ) where
   open_here : is_object_open o ((kernel_of h).actions t) ≡ is_among o (opened_by h.objects t)
   open_here = open_is o (opened_by h.objects t) (kinds_at h.kinds t) (kept.rows.paired t)
 
@@ -177,7 +177,7 @@ module _ (h old : Held) (same : h ≡ old) (kept : IsKept h) (t o : ℕ) where
 
   pub opens_kept : (kind : Kind) (objects : Actions) (rows : List (List Kind)) → length (opened_by h.objects t) < OBJECTS → IsTask (kernel_of old) t
       → objects ≡ with_opened t (opened_by h.objects t ++ o ∷ []) h.objects → rows ≡ set h.kinds t (kinds_at h.kinds t ++ kind ∷ [])
-      → IsKept (record h { objects = objects; kinds = rows })
+      → IsKeptOrderly (record h { objects = objects; kinds = rows })
   opens_kept kind objects rows room task oe ke =
       actions_kept h kept t (task_here h old same kept t task) _ _ objects rows oe ke
       (let p = kept.rows.paired t in let a = length-append (kinds_at h.kinds t) (kind ∷ []) in omega (arith, p, a, room))
@@ -246,7 +246,7 @@ writing_at (p ∷ os) ks o e w =
       written kinds.Writes q o e = cc
       written (kinds.Serves v) q o e = absurd (cc)
 
-module _ (h old : Held) (same : h ≡ old) (kept : IsKept h) (t : ℕ) (task : IsTask (kernel_of old) t) where
+module _ (h old : Held) (same : h ≡ old) (kept : IsKeptOrderly h) (t : ℕ) (task : IsTask (kernel_of old) t) where
   here : IsTask (kernel_of h) t
   here = task_here h old same kept t task
 
@@ -263,7 +263,7 @@ module _ (h old : Held) (same : h ≡ old) (kept : IsKept h) (t : ℕ) (task : I
   pub closes_kept : (objects : Actions) (rows : List (List Kind))
       → objects ≡ with_opened t (without_last (opened_by h.objects t)) h.objects → rows
       ≡ set h.kinds t (take (length (kinds_at h.kinds t) - 1) (kinds_at h.kinds t))
-      → IsKept (record h { objects = objects; kinds = rows })
+      → IsKeptOrderly (record h { objects = objects; kinds = rows })
   closes_kept objects rows oe ke = actions_kept h kept t here _ _ objects rows oe ke
       (let s = kept.rows.short t in let a = length-take (length (kinds_at h.kinds t) - 1) (kinds_at h.kinds t) in omega (arith, s, a))
       (fewer_long (kinds_at h.kinds t) (opened_by h.objects t) (kept.rows.paired t))
@@ -330,10 +330,10 @@ module _ (h old : Held) (same : h ≡ old) (kept : IsKept h) (t : ℕ) (task : I
           ∙ (ap (λ l. record (takes_over t o u [] (kernel_of h)) { actions = put t l (kernel_of h).actions }) acts
           ∙ ap (λ v. takes_over t o u (outer_of ((kernel_of v).actions t)) (kernel_of v)) same))
 
-      pub takes_kept : IsKept (record h { objects = objects; kinds = rows; places = set h.places k (places.Served o) })
+      pub takes_kept : IsKeptOrderly (record h { objects = objects; kinds = rows; places = set h.places k (places.Served o) })
       takes_kept =
           let r = rows_placed h h k u (places.Served o) is (task_here h old same kept u caller) kept.rows in
-          subst (λ v. IsKept v) (λ i. record h { objects = sym oe i; kinds = sym ke i; places = set h.places k (places.Served o) }) (record {
+          subst (λ v. IsKeptOrderly v) (λ i. record h { objects = sym oe i; kinds = sym ke i; places = set h.places k (places.Served o) }) (record {
             orderly = kept.orderly;
             rows = record {
               few_tasks = r.few_tasks;

@@ -13,7 +13,7 @@ use Rattle.kernel.specs.Invariant.{Fits, count}
 use Rattle.tasking.specs.declared.reports.Place.TheVariants as places
 use Rattle.tasking.specs.declared.reports.Kind.{Kind}
 use Rattle.tasking.specs.Held.{Held, kernel_of, lists_below, partition_of, place_of, sleepers_of}
-use Rattle.tasking.specs.Orderly.{IsKept, IsNowhere, IsOrderly, IsTask, listings, standing}
+use Rattle.tasking.specs.Orderly.{IsKeptOrderly, IsNowhere, IsOrderly, IsTask, listings, standing}
 use Rattle.tasking.proofs.Places.{list_at, list_past}
 use Rattle.tasking.proofs.Standing.{active_low, none_of, ready_orderly, ready_standing}
 use Rattle.tasking.proofs.Objects.{none_at}
@@ -83,7 +83,7 @@ module _ (bases ceilings : List ℕ) (q : Queues) (rows : List Row) (objects : A
       }) ≡ blank (partition_of bases ceilings)
   blank_is = ap (λ a. kernel_of (start_with a)) objects_are ∙ plain_is
 
-  pub blank_kept : IsKept
+  pub blank_kept : IsKeptOrderly
       (record {
         running = None;
         ready = lists_below PRIORITIES q;
@@ -95,7 +95,7 @@ module _ (bases ceilings : List ℕ) (q : Queues) (rows : List Row) (objects : A
         time = pos 0;
         outcome = None;
       })
-  blank_kept = subst (λ a. IsKept (start_with a)) (sym objects_are) (record {
+  blank_kept = subst (λ a. IsKeptOrderly (start_with a)) (sym objects_are) (record {
     orderly = subst IsOrderly (sym plain_is) (blank_orderly (partition_of bases ceilings) fits);
     rows = record {
       few_tasks = few_tasks;

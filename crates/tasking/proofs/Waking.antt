@@ -14,7 +14,7 @@ use Rattle.kernel.specs.Clock.{falls_asleep, least, released, time_moves, wakes_
 use Rattle.kernel.specs.Invariant.{count, naps}
 use Rattle.kernel.specs.PutLaws.{eqb_same, put_put}
 use Rattle.tasking.specs.Held.{Held, kernel_of, sleeper_of, sleepers_of}
-use Rattle.tasking.specs.Orderly.{AreAwoken, IsKept, IsNowhere, IsOrderly, IsTask, all_ready, due, least_of, waiting}
+use Rattle.tasking.specs.Orderly.{AreAwoken, IsKeptOrderly, IsNowhere, IsOrderly, IsTask, all_ready, due, least_of, waiting}
 use Rattle.tasking.proofs.Moved.{rows_same}
 use Rattle.tasking.proofs.Standing.{active_low, once_low, ready_orderly, ready_standing, task_of}
 
@@ -112,12 +112,12 @@ over_is k [] e = refl
 over_is k (s ∷ ss) e = absurd (cc)
 
 -- what the keeper of sleepers promises, seen as the kernel
-module _ (h old : Held) (same : h ≡ old) (kept : IsKept h) (time held : ℤ) (time_same : held ≡ time) where
+module _ (h old : Held) (same : h ≡ old) (kept : IsKeptOrderly h) (time held : ℤ) (time_same : held ≡ time) where
   module _ (rows : List Row) (left : rows ≡ waiting_rows held h.sleepers) where
     rows_are : sleepers_of rows ≡ waiting time (sleepers_of h.sleepers)
     rows_are = ap sleepers_of (left ∙ ap (λ n. waiting_rows n h.sleepers) time_same) ∙ sym (waiting_same time h.sleepers)
 
-    pub expired_kept : IsKept (record h { sleepers = rows; time = held })
+    pub expired_kept : IsKeptOrderly (record h { sleepers = rows; time = held })
     expired_kept = record {
       orderly = subst (λ ss. IsOrderly (record (kernel_of h) { sleepers = ss })) (sym rows_are) (expired_orderly (kernel_of h) time kept.orderly);
       rows = rows_same h (record h { sleepers = rows; time = held }) kept.rows;

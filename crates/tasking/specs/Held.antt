@@ -5,7 +5,7 @@ use Rattle.clock.specs.declared.delays.Sleeper.{Sleeper as Row}
 use Rattle.protected.specs.Actions.{Actions, opened_by, queued_at}
 use Rattle.protected.specs.declared.refusal.Refusal.{Refusal as Refused}
 use Rattle.protected.specs.declared.refusal.Refusal.TheVariants as refused
-use Rattle.kernel.specs.State.{Partition, Kernel, Place, IsRunning, IsReady, IsAsleep, IsQueued, IsServed, IsFinished, Action, Reads, Writes, Serves}
+use Rattle.kernel.specs.State.{Partition, Kernel, TaskPlace, IsRunning, IsReady, IsAsleep, IsQueued, IsServed, IsFinished, Action, Reads, Writes, Serves}
 use Rattle.kernel.specs.State.{Sleeper, Outcome, Ended, WaitsForever, ImageFault, Unhandled}
 use Rattle.kernel.specs.Effects.{Ending, Closes, TakesOver, HandsBack, Refusal, SameObject, AboveCeiling}
 use Rattle.tasking.specs.declared.reports.Place.{Place as Stand}
@@ -17,7 +17,7 @@ use Rattle.tasking.specs.declared.reports.Outcome.TheVariants as outcomes
 use Rattle.tasking.specs.declared.reports.Ending.{Ending as Left}
 use Rattle.tasking.specs.declared.reports.Ending.TheVariants as endings
 
-abbrev pub place_of : Stand → Place
+abbrev pub place_of : Stand → TaskPlace
 place_of places.Running = IsRunning
 place_of places.Ready = IsReady
 place_of places.Asleep = IsAsleep
@@ -25,7 +25,7 @@ place_of (places.Queued o) = IsQueued o
 place_of (places.Served o) = IsServed o
 place_of places.Finished = IsFinished
 
-abbrev pub place_at : List Stand → ℕ → Place
+abbrev pub place_at : List Stand → ℕ → TaskPlace
 place_at stands t = place_of (get_or stands t places.Finished)
 
 abbrev pub outcome_of : End → Outcome

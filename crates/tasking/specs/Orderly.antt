@@ -88,6 +88,6 @@ pub record AreRows (h : Held) : Type 0 where
   pub short : (t : ℕ) → length (kinds_at h.kinds t) ≤ OBJECTS
   pub paired : (t : ℕ) → length (kinds_at h.kinds t) ≡ length (opened_by h.objects t)
 
-pub record IsKept (h : Held) : Type 0 where
+pub record IsKeptOrderly (h : Held) : Type 0 where
   pub orderly : IsOrderly (kernel_of h)
   pub rows : AreRows h

@@ -35,7 +35,7 @@ pub struct Tasking<R: Ready, D: Delays> {
 impl<R: Ready, D: Delays> Model for Tasking<R, D> {
     ghost use Rattle.std.specs.Prelude.{map};
     ghost use Rattle.tasking.specs.Held.{Held, held_of as held};
-    ghost use Rattle.tasking.specs.Orderly.{IsKept as Kept};
+    ghost use Rattle.tasking.specs.Orderly.{IsKeptOrderly as Kept};
 
     ghost Value = { Held };
 

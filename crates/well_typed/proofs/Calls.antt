@@ -11,7 +11,7 @@ use Rattle.types.specs.Evaluating.{call, entered, passed, value_with}
 use Rattle.expr_rules.specs.declared.own.Own.TheVariants.{Typed}
 use Rattle.expr_rules.specs.Laws.{suits}
 use Rattle.well_typed.specs.Agreeing.{Agrees}
-use Rattle.well_typed.specs.Answers.{CallsAnswer, FunctionsAreSound, IsSoundBody}
+use Rattle.well_typed.specs.Answers.{CallsAnswer, FunctionsAreSound, ReturnsSoundly}
 use Rattle.well_typed.specs.Laws.{CallsAreTyped}
 use Rattle.well_typed.proofs.Goods.{not_empty}
 use Rattle.well_typed.proofs.Applying.{same_suits}
@@ -33,7 +33,7 @@ inside_answers : (p : Place) (g : Function) (ws : List Value) (left m : ℕ) (op
 inside_answers p g ws zero m opened answers actions owner name f vs found fit = refl
 inside_answers p g ws (suc left) m opened answers actions owner name f vs found fit = answers actions owner name f vs found fit
 
-body_suits : (p : Place) (f : Function) (vs : List Value) (left : ℕ) (actions : List ℕ) → IsSoundBody (entered p f vs left) f → CallsAnswer (call left) p
+body_suits : (p : Place) (f : Function) (vs : List Value) (left : ℕ) (actions : List ℕ) → ReturnsSoundly (entered p f vs left) f → CallsAnswer (call left) p
     → suits p.scope (Typed f.result.type_number) (value_with (call left) (entered (record p { actions = actions }) f vs left) f.value) ≡ true
 body_suits p f vs left actions body answers =
     let place = entered p f vs left in

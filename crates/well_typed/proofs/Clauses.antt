@@ -6,7 +6,7 @@ use Rattle.types.specs.Entities.{TypeForm, Integers, Booleans, Times, Spans, Ent
 use Rattle.types.specs.Scopes.{Scope, Named, base_range_of, boolean_type, entity_at, entity_of, form_at, form_of, from_integer, from_nothing, integer, integer_type, is_visible, number_of, with_control_io, with_name, with_real_time}
 use Rattle.expr_rules.specs.Typing.{is_integers, is_spans, is_times}
 use Rattle.expr_rules.proofs.TypeShapes.{type_entity}
-use Rattle.well_typed.specs.SoundScopes.{IsSound, SoundScope}
+use Rattle.well_typed.specs.SoundScopes.{IsSoundEntity, SoundScope}
 use Rattle.well_typed.proofs.Positions.{entity_added, item_added, number_added}
 use Rattle.well_typed.proofs.Growing.{entity_sound, form_kept, grown, test_kept}
 use Rattle.well_typed.specs.Laws.{ScopesAreSound}
@@ -70,13 +70,13 @@ module _ (s : Scope) (sound : SoundScope s) where
   span_at : form_at two (suc (length s)) ≡ Some Spans
   span_at = ap (λ k. form_at two k) (sym (longer s time)) ∙ ap (λ o. form_of (entity_of o)) (item_added one span)
 
-  type_sound : (n m : ℕ) (form : TypeForm) (e : Entity) → n ≡ m → OfType form (base_range_of m) ≡ e → (is_times (Some form) ≡ true) ⊎ (is_spans (Some form) ≡ true) → IsSound two n e
-  type_sound n m Times e at is h = subst (λ k. IsSound two k e) (sym at) (subst (λ x. IsSound two m x) is (record { numbered = refl; parts = tt }))
-  type_sound n m Spans e at is h = subst (λ k. IsSound two k e) (sym at) (subst (λ x. IsSound two m x) is (record { numbered = refl; parts = tt }))
+  type_sound : (n m : ℕ) (form : TypeForm) (e : Entity) → n ≡ m → OfType form (base_range_of m) ≡ e → (is_times (Some form) ≡ true) ⊎ (is_spans (Some form) ≡ true) → IsSoundEntity two n e
+  type_sound n m Times e at is h = subst (λ k. IsSoundEntity two k e) (sym at) (subst (λ x. IsSoundEntity two m x) is (record { numbered = refl; parts = tt }))
+  type_sound n m Spans e at is h = subst (λ k. IsSoundEntity two k e) (sym at) (subst (λ x. IsSoundEntity two m x) is (record { numbered = refl; parts = tt }))
   type_sound n m form e at is (inl h) = cc
   type_sound n m form e at is (inr h) = cc
 
-  each_two : (n : ℕ) (e : Entity) → entity_at two n ≡ Some e → IsSound two n e
+  each_two : (n : ℕ) (e : Entity) → entity_at two n ≡ Some e → IsSoundEntity two n e
   each_two n e h =
       elim (entity_added one span n e h) [
         | inl k ↦

@@ -16,7 +16,7 @@ use Rattle.types.specs.Places.{Meaning}
 use Rattle.expr_rules.specs.Typing.{is_integers, is_spans, is_times}
 use Rattle.expr_rules.specs.Laws.{type_shape}
 use Rattle.expr_rules.proofs.TypeShapes.{entity_named, kept_shape, type_entity}
-use Rattle.well_typed.specs.SoundScopes.{AreEarlier, AreKnown, AreKnownParts, AreSoundOperations, HasOperation, IsEarlier, IsKnown, IsSound, IsSoundEntry, IsSoundForm, IsSoundObject, IsSoundOperation, IsSoundPredefined, IsSoundProfile, IsSoundResult, SoundScope}
+use Rattle.well_typed.specs.SoundScopes.{AreEarlier, AreKnown, AreKnownParts, AreSoundOperations, HasOperation, IsEarlier, IsKnown, IsSoundEntity, IsSoundEntry, IsSoundForm, IsSoundObject, IsSoundOperation, IsSoundPredefined, IsSoundProfile, IsSoundResult, SoundScope}
 use Rattle.well_typed.specs.Agreeing.{MeansOne}
 use Rattle.well_typed.proofs.Positions.{entity_added, entity_kept}
 use Rattle.well_typed.proofs.Parts.{same_values, shape_found}
@@ -129,7 +129,7 @@ module _ (s u : Scope) (has : HasTypes s u) where
   one_kept here m role.LoopParameter t known h = h
   one_kept here m r t known h = record { value = h.value; is = h.is; suited = values_kept t h.value known ∙ h.suited }
 
-  pub entity_sound : (n : ℕ) (e : Entity) → IsSound s n e → IsSound u n e
+  pub entity_sound : (n : ℕ) (e : Entity) → IsSoundEntity s n e → IsSoundEntity u n e
   entity_sound n (OfType form t) h = record { numbered = h.numbered; parts = form_sound n form h.parts }
   entity_sound n (OfSubtype t) h = known_kept t h
   entity_sound n (Object r t) h = object_kept r t h
@@ -167,8 +167,8 @@ module _ (s : Scope) (name : List ℕ) (r : Role) (t : Subtype) where
       by_form (Some form) e k = ap test (form_before n form e) ∙ k
       by_form None e k = cc
 
-  object_sound : IsSoundObject s r t → (n : ℕ) (e : Entity) → Object r t ≡ e → IsSound (s ++ object_named name r t ∷ []) n e
-  object_sound known n e h = subst (λ x. IsSound (s ++ object_named name r t ∷ []) n x) h (object_kept s (s ++ object_named name r t ∷ []) (grown s (object_named name r t ∷ [])) r t known)
+  object_sound : IsSoundObject s r t → (n : ℕ) (e : Entity) → Object r t ≡ e → IsSoundEntity (s ++ object_named name r t ∷ []) n e
+  object_sound known n e h = subst (λ x. IsSoundEntity (s ++ object_named name r t ∷ []) n x) h (object_kept s (s ++ object_named name r t ∷ []) (grown s (object_named name r t ∷ [])) r t known)
 
   pub sound_with_object : SoundScope s → IsSoundObject s r t → SoundScope (s ++ object_named name r t ∷ [])
   sound_with_object sound known =

@@ -6,7 +6,7 @@ use Rattle.types.specs.Scopes.{Scope, base_range_of, boolean_type, changed_at, e
 use Rattle.types.specs.Shapes.{Shape, entity_shape, narrowed, shape_or_none, shapes_after}
 use Rattle.types.specs.Places.{Place, meaning_of}
 use Rattle.expr_rules.specs.Typing.{is_spans, is_times}
-use Rattle.well_typed.specs.SoundScopes.{IsSound, SoundScope}
+use Rattle.well_typed.specs.SoundScopes.{IsSoundEntity, SoundScope}
 use Rattle.well_typed.specs.Agreeing.{Agrees, Means}
 use Rattle.well_typed.proofs.Positions.{first_place, number_place, same_some}
 use Rattle.well_typed.proofs.Goods.{object_known}
@@ -62,7 +62,7 @@ module _ (s : Scope) (n : ℕ) where
         shapes = λ k form h. ap (λ l. narrowed (base_range_of k) (shape_or_none (slice_get l k))) (same_shapes [] s n []);
       }
 
-  offered_sound : (k : ℕ) (e : Entity) → IsSound inside k e → IsSound inside k (offering [] e)
+  offered_sound : (k : ℕ) (e : Entity) → IsSoundEntity inside k e → IsSoundEntity inside k (offering [] e)
   offered_sound k (Protected o) h = (tt, h.1)
   offered_sound k e h = h
 
@@ -75,11 +75,11 @@ module _ (s : Scope) (n : ℕ) where
         each = each;
       }
     where
-      each : (k : ℕ) (e : Entity) → entity_at inside k ≡ Some e → IsSound inside k e
+      each : (k : ℕ) (e : Entity) → entity_at inside k ≡ Some e → IsSoundEntity inside k e
       each k e h =
           let old = changed_entity s n (offering []) k e h in
           let kept = entity_sound s inside has_types k old.0 (sound.each k old.0 old.1) in
-          elim old.2 [ inl same ↦ subst (IsSound inside k) same kept | inr same ↦ subst (IsSound inside k) same (offered_sound k old.0 kept) ]
+          elim old.2 [ inl same ↦ subst (IsSoundEntity inside k) same kept | inr same ↦ subst (IsSoundEntity inside k) same (offered_sound k old.0 kept) ]
 
   module _ (p : Place) (agrees : Agrees s p) where
     means_still : (name : List ℕ) (k : ℕ) (e : Entity) → entity_at s k ≡ Some e → Means s p name e → Means inside p name e

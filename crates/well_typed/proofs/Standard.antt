@@ -6,7 +6,7 @@ use Rattle.types.specs.Standings.{stands_first, stands_for}
 use Rattle.types.specs.Places.{meaning_in_scope, meaning_of_entity}
 use Rattle.types.specs.Statics.{static_place}
 use Rattle.expr_rules.specs.Typing.{is_spans, is_times}
-use Rattle.well_typed.specs.SoundScopes.{IsSound, SoundScope}
+use Rattle.well_typed.specs.SoundScopes.{IsSoundEntity, SoundScope}
 use Rattle.well_typed.specs.Agreeing.{Agrees, Means}
 use Rattle.well_typed.proofs.Positions.{same_some}
 
@@ -32,7 +32,7 @@ is_simple Exception = true
 is_simple e = false
 
 record IsSimple (n : ℕ) (e : Entity) : Type 0 where
-  sound : IsSound standard n e
+  sound : IsSoundEntity standard n e
   simple : is_simple e ≡ true
 
 stands : (n : ℕ) (x e : Entity) → IsSimple n x → Some x ≡ Some e → IsSimple n e

@@ -13,7 +13,7 @@ use Rattle.meaning.specs.Targets.{activation_with, objects_of, store_with, store
 use Rattle.well_typed.specs.SoundScopes.{IsKnown, SoundScope}
 use Rattle.well_typed.specs.Agreeing.{Agrees}
 use Rattle.well_typed.specs.Laws.{HasComponent, Replaces}
-use Rattle.well_typed.specs.Variables.{CanBeStored, HasPart, HasTargetValue, IsTarget, TargetsAreVariables, part_subtype, seen_by}
+use Rattle.well_typed.specs.Variables.{CanBeStored, HasPart, HasTargetValue, IsTargetThere, TargetsAreVariables, part_subtype, seen_by}
 use Rattle.well_typed.proofs.Positions.{same_some}
 use Rattle.well_typed.proofs.Agreement.{component_kept, local_kept, place_values, variable_kept}
 use Rattle.well_typed.proofs.Storing.{value_there, whole_changed}
@@ -160,7 +160,7 @@ found_still t x y v object old before after (inr e) found suited new = by_test (
     by_test false k = record { object = old; there = ap (λ l. object_of l y.name) e.0 ∙ ap (λ b. cond b (Some (renewed x v object)) (object_of before y.name)) k ∙ found; same = refl; suited = suited }
 
 still_target : (t : Scope) (y : Target) (n : Store) (c : Activation) (old : Object) → IsKnown t old.subtype
-    → part_subtype t old.subtype y.parts ≡ Some y.subtype → IsStill t y old (objects_of y n c) → IsTarget t y n c
+    → part_subtype t old.subtype y.parts ≡ Some y.subtype → IsStill t y old (objects_of y n c) → IsTargetThere t y n c
 still_target t y n c old known part h =
     record {
       object = h.object;
@@ -176,7 +176,7 @@ part_there : (s : Scope) (t u : Subtype) (parts : List Part) (v : Value) → Sou
     → HasPart s u parts v
 part_there s t u parts v sound there suited = let found = value_there s sound parts t u v suited there in record { value = found.0; is = found.1; suited = found.2 }
 
-target_valued : (s : Scope) (x : Target) (m : Store) (a : Activation) → SoundScope s → IsTarget s x m a → HasTargetValue s x m a
+target_valued : (s : Scope) (x : Target) (m : Store) (a : Activation) → SoundScope s → IsTargetThere s x m a → HasTargetValue s x m a
 target_valued s x m a sound there =
     let found = value_there s sound x.parts there.object.subtype x.subtype there.object.value there.suited there.part in
     record { value = found.0; is = ap (λ o. value_in o x.parts) there.there ∙ found.1; suited = found.2 }
@@ -197,11 +197,11 @@ module _ (s : Scope) (p : Place) (x : Target) (v : Value) (m : Store) (a : Activ
   stored_elsewhere : (t : Scope) (c : Activation) → Agrees t (seen_by p m c) → Agrees t (seen_by p (store_with x v m) c)
   stored_elsewhere t c agrees = other_stored t p x v object m a c x.home agrees can.target.there fits_place
 
-  target_kept : (y : Target) → IsTarget s y m a → IsTarget s y (store_with x v m) (activation_with x v a)
+  target_kept : (y : Target) → IsTargetThere s y m a → IsTargetThere s y (store_with x v m) (activation_with x v a)
   target_kept y there = still_target s y (store_with x v m) (activation_with x v a) there.object there.known there.part
       (found_still s x y v object there.object (objects_of y m a) (objects_of y (store_with x v m) (activation_with x v a)) (own_objects x v object m a x.home y.home can.target.there) there.there there.suited (λ is. fits_here))
 
-  kept_elsewhere : (t : Scope) (y : Target) (c : Activation) → Agrees t (seen_by p m c) → IsTarget t y m c → IsTarget t y (store_with x v m) c
+  kept_elsewhere : (t : Scope) (y : Target) (c : Activation) → Agrees t (seen_by p m c) → IsTargetThere t y m c → IsTargetThere t y (store_with x v m) c
   kept_elsewhere t y c agrees there =
       still_target t y (store_with x v m) c there.object there.known there.part
       (found_still t x y v object there.object (objects_of y m c) (objects_of y (store_with x v m) c) (other_objects x v object m a c x.home y.home can.target.there) there.there there.suited

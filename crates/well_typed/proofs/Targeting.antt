@@ -32,7 +32,7 @@ use Rattle.meaning.specs.Targets.{all_selected, element_of, first_of, object_nam
 use Rattle.well_typed.specs.SoundScopes.{IsKnown, IsSoundObject, SoundScope}
 use Rattle.well_typed.specs.Agreeing.{Agrees, Means, MeansObject, MeansOne}
 use Rattle.well_typed.specs.Answers.{CallsAnswer, FunctionsAreSound}
-use Rattle.well_typed.specs.Variables.{IsTarget, NamesTarget, part_in, seen_by}
+use Rattle.well_typed.specs.Variables.{IsTargetThere, NamesTarget, part_in, seen_by}
 use Rattle.well_typed.proofs.Positions.{named, same_some}
 use Rattle.well_typed.proofs.FixedNames.{same_form}
 use Rattle.well_typed.proofs.Goods.{Good, GoodCallee, good_first, good_select, no_constant_parts, no_integer_parts, not_none, part_unbroken, sound_form}
@@ -225,7 +225,7 @@ module _ (s : Scope) (p : Place) (m : Store) (a : Activation) (agrees : Agrees s
   record IsNamedBy (name : List ℕ) (t : Subtype) : Type 0 where
     target : Target
     is : object_named (seen_by p m a) name ≡ Some target
-    there : IsTarget s target m a
+    there : IsTargetThere s target m a
     same : target.subtype ≡ t
 
   abbrev objects_at : Home → List Object
@@ -289,17 +289,17 @@ module _ (s : Scope) (p : Place) (m : Store) (a : Activation) (agrees : Agrees s
 
     abbrev Names : Role → SelectorTrees → Target → Type 0
     Names r selectors x =
-        (at : ℕ) → IsTarget s x m a → selectors_faults s at (standing.Part r x.subtype) selectors ≡ [] → variable_rule s at Anything (select_all s (standing.Part r x.subtype) selectors) ≡ []
+        (at : ℕ) → IsTargetThere s x m a → selectors_faults s at (standing.Part r x.subtype) selectors ≡ [] → variable_rule s at Anything (select_all s (standing.Part r x.subtype) selectors) ≡ []
         → NamesTarget s (select_all s (standing.Part r x.subtype) selectors) m a (all_selected calls place selectors x)
 
     abbrev with_more : Target → Part → Subtype → Target
     with_more x part u = record x { parts = x.parts ++ part ∷ []; subtype = u }
 
-    known_part : (x : Target) → IsTarget s x m a → IsKnown s x.subtype
+    known_part : (x : Target) → IsTargetThere s x m a → IsKnown s x.subtype
     known_part x there = parts_known s agrees.sound x.parts there.object.subtype x.subtype there.known there.part
 
-    more_there : (x : Target) (part : Part) (u : Subtype) → IsTarget s x m a → part_in (form_at s x.subtype.type_number) part ≡ Some u
-        → IsTarget s (with_more x part u) m a
+    more_there : (x : Target) (part : Part) (u : Subtype) → IsTargetThere s x m a → part_in (form_at s x.subtype.type_number) part ≡ Some u
+        → IsTargetThere s (with_more x part u) m a
     more_there x part u there h =
         record {
           object = there.object;
@@ -313,7 +313,7 @@ module _ (s : Scope) (p : Place) (m : Store) (a : Activation) (agrees : Agrees s
     same_place_form x form h = agrees.forms x.subtype.type_number form h
 
     -- what follows a part
-    part_follows : (r : Role) (rest : SelectorTrees) (x : Target) (part : Part) (u : Subtype) → IsTarget s x m a
+    part_follows : (r : Role) (rest : SelectorTrees) (x : Target) (part : Part) (u : Subtype) → IsTargetThere s x m a
         → part_in (form_at s x.subtype.type_number) part ≡ Some u → (at : ℕ)
         → selectors_faults s at (standing.Part r u) rest ≡ [] → variable_rule s at Anything (select_all s (standing.Part r u) rest) ≡ []
         → Names r rest (with_more x part u)
@@ -324,7 +324,7 @@ module _ (s : Scope) (p : Place) (m : Store) (a : Activation) (agrees : Agrees s
     Goes r rest = (x : Target) → Names r rest x
 
     component_selected : (r : Role) (rest : SelectorTrees) (name : Identifier) (x : Target) (o : Option TypeForm) → form_at s x.subtype.type_number ≡ o
-        → (at : ℕ) → IsTarget s x m a → component_rule at name o ≡ []
+        → (at : ℕ) → IsTargetThere s x m a → component_rule at name o ≡ []
         → selectors_faults s at (component_stands r o name.name) rest ≡ []
         → variable_rule s at Anything (select_all s (component_stands r o name.name) rest) ≡ [] → Goes r rest
         → NamesTarget s (select_all s (component_stands r o name.name) rest) m a (and_then (selected calls place x o (Component name)) (all_selected calls place rest))
@@ -338,7 +338,7 @@ module _ (s : Scope) (p : Place) (m : Store) (a : Activation) (agrees : Agrees s
 
     -- an index is evaluated and checked
     element_follows : (r : Role) (rest : SelectorTrees) (x : Target) (index : Subtype) (size : ℕ) (element : Subtype) (vs : Val (List Value))
-        → form_at s x.subtype.type_number ≡ Some (Arrays index size element) → (at : ℕ) → IsTarget s x m a
+        → form_at s x.subtype.type_number ≡ Some (Arrays index size element) → (at : ℕ) → IsTargetThere s x m a
         → ActualsSuit s (index ∷ []) vs → selectors_faults s at (standing.Part r element) rest ≡ []
         → variable_rule s at Anything (select_all s (standing.Part r element) rest) ≡ [] → Goes r rest
         → NamesTarget s (select_all s (standing.Part r element) rest) m a (and_then (and_then vs (element_of x index element)) (all_selected calls place rest))
@@ -358,7 +358,7 @@ module _ (s : Scope) (p : Place) (m : Store) (a : Activation) (agrees : Agrees s
         (part_follows r rest x (Element position) element there has at faults v (goes (with_more x (Element position) element)))
 
     element_selected : (r : Role) (rest : SelectorTrees) (xs : ArgumentTrees) (x : Target) (o : Option TypeForm) (single : Bool)
-        → form_at s x.subtype.type_number ≡ o → is_single xs ≡ single → (at : ℕ) → IsTarget s x m a
+        → form_at s x.subtype.type_number ≡ o → is_single xs ≡ single → (at : ℕ) → IsTargetThere s x m a
         → is_doubtful (element_stands r o single) ≡ false → arguments_faults s (standing.Part r x.subtype) zero xs ≡ []
         → selectors_faults s at (element_stands r o single) rest ≡ []
         → variable_rule s at Anything (select_all s (element_stands r o single) rest) ≡ [] → Goes r rest

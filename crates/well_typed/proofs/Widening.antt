@@ -8,20 +8,20 @@ use Rattle.types.specs.Scopes.{Scope, Named, boolean_type, entity_at, form_at, f
 use Rattle.expr_rules.specs.Typing.{is_spans, is_times}
 use Rattle.expr_rules.proofs.TypeShapes.{type_entity}
 use Rattle.type_rules.specs.SubtypeNames.{entity_at_or_none, subtype_in, subtype_of}
-use Rattle.well_typed.specs.SoundScopes.{IsKnown, IsSound, SoundScope}
+use Rattle.well_typed.specs.SoundScopes.{IsKnown, IsSoundEntity, SoundScope}
 use Rattle.well_typed.proofs.Positions.{entity_added, same_some}
 use Rattle.well_typed.proofs.Goods.{known_type}
 use Rattle.well_typed.proofs.Growing.{entity_sound, form_kept, grown, test_kept}
 
-module _ (s : Scope) (x : Named) (sound : SoundScope s) (own : IsSound (s ++ x ∷ []) (length s) x.entity) (untimed : is_times (form_of (Some x.entity)) ≡ false) where
+module _ (s : Scope) (x : Named) (sound : SoundScope s) (own : IsSoundEntity (s ++ x ∷ []) (length s) x.entity) (untimed : is_times (form_of (Some x.entity)) ≡ false) where
   abbrev wider : Scope
   wider = s ++ x ∷ []
 
-  each_wider : (n : ℕ) (e : Entity) → entity_at wider n ≡ Some e → IsSound wider n e
+  each_wider : (n : ℕ) (e : Entity) → entity_at wider n ≡ Some e → IsSoundEntity wider n e
   each_wider n e h =
       elim (entity_added s x n e h) [
         | inl k ↦ entity_sound s wider (grown s (x ∷ [])) n e (sound.each n e k)
-        | inr k ↦ subst (λ m. IsSound wider m e) (sym k.0) (subst (IsSound wider (length s)) k.1 own)
+        | inr k ↦ subst (λ m. IsSoundEntity wider m e) (sym k.0) (subst (IsSoundEntity wider (length s)) k.1 own)
       ]
 
   span_wider : (n : ℕ) → is_times (form_at wider n) ≡ true → is_spans (form_at wider (suc n)) ≡ true
@@ -45,11 +45,11 @@ module _ (s : Scope) (x : Named) (sound : SoundScope s) (own : IsSound (s ++ x �
         each = each_wider;
       }
 
-pub widened : (s : Scope) (name : List ℕ) (e : Entity) → SoundScope s → is_visible s name ≡ false → IsSound (with_name s name e) (length s) e → is_times (form_of (Some e)) ≡ false → SoundScope (with_name s name e)
+pub widened : (s : Scope) (name : List ℕ) (e : Entity) → SoundScope s → is_visible s name ≡ false → IsSoundEntity (with_name s name e) (length s) e → is_times (form_of (Some e)) ≡ false → SoundScope (with_name s name e)
 widened s name e sound hidden own untimed =
     let x : Named = record { name = name; entity = e } in
     let is : with_name s name e ≡ s ++ x ∷ [] = ap (λ b. cond b s (s ++ x ∷ [])) hidden in
-    subst SoundScope (sym is) (wider_sound s x sound (subst (λ u. IsSound u (length s) e) is own) untimed)
+    subst SoundScope (sym is) (wider_sound s x sound (subst (λ u. IsSoundEntity u (length s) e) is own) untimed)
 
 pub subtype_known : (s : Scope) (name : Identifier) (t : Subtype) → SoundScope s → subtype_of s name ≡ Some t → IsKnown s t
 subtype_known s name t sound h = by_number (number_of s name.name) h

@@ -25,7 +25,7 @@ CallsAnswer calls p = (actions : List ℕ) (owner : Option ℕ) (name : List ℕ
     → suits p.scope (Typed f.result.type_number) (calls (record p { actions = actions }) f vs) ≡ true
 
 -- what the body of a function returns is legal in a scope that agrees with the place of the body
-pub record IsSoundBody (p : Place) (f : Function) : Type 0 where
+pub record ReturnsSoundly (p : Place) (f : Function) : Type 0 where
   pub scope : Scope
   pub agrees : Agrees scope p
   pub known : IsKnown scope f.result
@@ -34,4 +34,4 @@ pub record IsSoundBody (p : Place) (f : Function) : Type 0 where
 -- each function here is sound, wherever it is called: the package's objects are those of this place
 abbrev pub FunctionsAreSound : Place → Type 0
 FunctionsAreSound p = (owner : Option ℕ) (name : List ℕ) (f : Function) (vs : List Value) (left : ℕ)
-    → function_of p.functions owner name ≡ Some f → are_actuals p.scope f.formals vs ≡ true → IsSoundBody (entered p f vs left) f
+    → function_of p.functions owner name ≡ Some f → are_actuals p.scope f.formals vs ≡ true → ReturnsSoundly (entered p f vs left) f

@@ -21,7 +21,7 @@ use Rattle.expr_rules.specs.ExpressionRules.{faults_in, faults_of}
 use Rattle.expr_rules.specs.Laws.{IsTyped, suits}
 use Rattle.type_rules.specs.SubtypeNames.{subtype_of}
 use Rattle.declaring.specs.Laws.{StandsFirst}
-use Rattle.well_typed.specs.SoundScopes.{IsKnown, IsSound, IsSoundObject, SoundScope}
+use Rattle.well_typed.specs.SoundScopes.{IsKnown, IsSoundEntity, IsSoundObject, SoundScope}
 use Rattle.well_typed.specs.Agreeing.{Agrees}
 use Rattle.well_typed.specs.Answers.{CallsAnswer, FunctionsAreSound}
 
@@ -48,7 +48,7 @@ pub record ScopesAreSound : Type 0 where
   -- the names that are always visible
   pub begun : SoundScope standard
   -- with one more name; Time comes with Time_Span behind it
-  pub widened : (s : Scope) (name : List ℕ) (e : Entity) → SoundScope s → is_visible s name ≡ false → IsSound (with_name s name e) (length s) e
+  pub widened : (s : Scope) (name : List ℕ) (e : Entity) → SoundScope s → is_visible s name ≡ false → IsSoundEntity (with_name s name e) (length s) e
       → is_times (form_of (Some e)) ≡ false
       → SoundScope (with_name s name e)
   -- the units of the language (RM D.8, and Control_IO)

@@ -119,21 +119,21 @@ IsSoundObject s r t = IsKnown s t
 -- ---- scopes
 
 -- what the name with this number stands for
-abbrev pub IsSound : Scope → ℕ → Entity → Type 0
-IsSound s number (OfType form t) = IsSoundType s number form t
-IsSound s number (OfSubtype t) = IsKnown s t
-IsSound s number (Object r t) = IsSoundObject s r t
-IsSound s number (Constant t v) = IsSoundConstant s t v
-IsSound s number (Subprogram p) = IsSoundProfile s p
-IsSound s number (Entry p) = IsSoundEntry s p
-IsSound s number (Predefined o p) = IsSoundPredefined s o p
-IsSound s number (Protected o) = (AreSoundOperations s o.operations) × (AreKnownParts s o.components)
-IsSound s number Doubtful = ⊥
-IsSound s number e = ⊤
+abbrev pub IsSoundEntity : Scope → ℕ → Entity → Type 0
+IsSoundEntity s number (OfType form t) = IsSoundType s number form t
+IsSoundEntity s number (OfSubtype t) = IsKnown s t
+IsSoundEntity s number (Object r t) = IsSoundObject s r t
+IsSoundEntity s number (Constant t v) = IsSoundConstant s t v
+IsSoundEntity s number (Subprogram p) = IsSoundProfile s p
+IsSoundEntity s number (Entry p) = IsSoundEntry s p
+IsSoundEntity s number (Predefined o p) = IsSoundPredefined s o p
+IsSoundEntity s number (Protected o) = (AreSoundOperations s o.operations) × (AreKnownParts s o.components)
+IsSoundEntity s number Doubtful = ⊥
+IsSoundEntity s number e = ⊤
 
 -- each name is known, Integer and Boolean are the types with their numbers, and Time_Span stands behind Time
 pub record SoundScope (s : Scope) : Type 0 where
   pub integer : form_at s integer_type ≡ Some Integers
   pub boolean : form_at s boolean_type ≡ Some Booleans
   pub span : (n : ℕ) → is_times (form_at s n) ≡ true → is_spans (form_at s (suc n)) ≡ true
-  pub each : (number : ℕ) (e : Entity) → entity_at s number ≡ Some e → IsSound s number e
+  pub each : (number : ℕ) (e : Entity) → entity_at s number ≡ Some e → IsSoundEntity s number e

@@ -42,7 +42,7 @@ pub record HasPart (s : Scope) (u : Subtype) (parts : List Part) (v : Value) : T
   pub suited : has_shape (shape_of s u) value ≡ true
 
 -- the target is a part of an object that is there, with a value of its shape
-pub record IsTarget (s : Scope) (x : Target) (m : Store) (a : Activation) : Type 0 where
+pub record IsTargetThere (s : Scope) (x : Target) (m : Store) (a : Activation) : Type 0 where
   pub object : Object
   pub there : object_of (objects_of x m a) x.name ≡ Some object
   pub known : IsKnown s object.subtype
@@ -51,7 +51,7 @@ pub record IsTarget (s : Scope) (x : Target) (m : Store) (a : Activation) : Type
 
 -- it is the target for a name that stands for a variable
 pub record IsTargetOf (s : Scope) (w : Standing) (x : Target) (m : Store) (a : Activation) : Type 0 where
-  pub target : IsTarget s x m a
+  pub target : IsTargetThere s x m a
   pub known : IsKnown s x.subtype
   pub role : Role
   pub stands : w ≡ standing.Part role x.subtype
@@ -69,7 +69,7 @@ pub record HasTargetValue (s : Scope) (x : Target) (m : Store) (a : Activation) 
 -- a value of its shape can be stored in the target of a place that agrees
 pub record CanBeStored (s : Scope) (p : Place) (x : Target) (v : Value) (m : Store) (a : Activation) : Type 0 where
   pub agrees : Agrees s (seen_by p m a)
-  pub target : IsTarget s x m a
+  pub target : IsTargetThere s x m a
   pub suited : has_shape (shape_of s x.subtype) v ≡ true
 
 pub record TargetsAreVariables : Type 0 where
@@ -84,13 +84,13 @@ pub record TargetsAreVariables : Type 0 where
       → has_shape (shape_of s t) v ≡ true
       → has_shape (shape_of s u) new ≡ true → has_shape (shape_of s t) (with_part parts new v) ≡ true
   -- the value of a target
-  pub valued : (s : Scope) (x : Target) (m : Store) (a : Activation) → SoundScope s → IsTarget s x m a → HasTargetValue s x m a
+  pub valued : (s : Scope) (x : Target) (m : Store) (a : Activation) → SoundScope s → IsTargetThere s x m a → HasTargetValue s x m a
   -- a value is stored: the activation that stores it agrees as before, and so does each other one; targets stay targets
   pub stored : (s : Scope) (p : Place) (x : Target) (v : Value) (m : Store) (a : Activation) → CanBeStored s p x v m a
       → Agrees s (seen_by p (store_with x v m) (activation_with x v a))
   pub elsewhere : (s t : Scope) (p : Place) (x : Target) (v : Value) (m : Store) (a c : Activation) → CanBeStored s p x v m a → Agrees t (seen_by p m c)
       → Agrees t (seen_by p (store_with x v m) c)
-  pub kept : (s : Scope) (p : Place) (x y : Target) (v : Value) (m : Store) (a : Activation) → CanBeStored s p x v m a → IsTarget s y m a
-      → IsTarget s y (store_with x v m) (activation_with x v a)
+  pub kept : (s : Scope) (p : Place) (x y : Target) (v : Value) (m : Store) (a : Activation) → CanBeStored s p x v m a → IsTargetThere s y m a
+      → IsTargetThere s y (store_with x v m) (activation_with x v a)
   pub kept_elsewhere : (s t : Scope) (p : Place) (x y : Target) (v : Value) (m : Store) (a c : Activation) → CanBeStored s p x v m a → Agrees t (seen_by p m c)
-      → IsTarget t y m c → IsTarget t y (store_with x v m) c
+      → IsTargetThere t y m c → IsTargetThere t y (store_with x v m) c

@@ -20,7 +20,7 @@ use Rattle.ada_tree.specs.StatementGrammar.{task_entry, task_definition, task_re
 use Rattle.ada_tree.specs.StatementGrammar.{protected, declaration}
 use Rattle.parser.specs.Reading.{first, is_kind, is_first, is_word, is_mark, identifier_of, seq, mapped, opened, skip_mark}
 use Rattle.parser.specs.MoreReading.{Either, Left, Right, is_identifier, flag}
-use Rattle.parser.specs.ExpressionReading.{Values, values}
+use Rattle.parser.specs.ExpressionReading.{ExpressionReaders, values}
 use Rattle.parser.specs.DeclarationReading.{range_at, aspect_at, aspect_part, initial_part, object_rest_at, object_of, object_at, mode_of, mode_at, formal_at}
 use Rattle.parser.specs.DeclarationReading.{formals_in, formals_at, procedure_at, function_at, subprogram_at, entry_at, task_entry_at, task_definition_at}
 use Rattle.parser.specs.DeclarationReading.{task_rest_at, task_of, task_at, operation_of, operation_at, begins_operation, protected_component_at, listed}
@@ -168,7 +168,7 @@ formal_exact =
 abbrev pub InParentheses : List Formal → Limit → Tokens → Type 0
 InParentheses all l = mark marks.LeftParenthesis ⨾ separated semicolon formal all ⨾ mark marks.RightParenthesis
 
-pub formals_in_exact : (n : ℕ) (r : Values) → Exact (formals_in r) (λ all. InParentheses all (Some n)) Free
+pub formals_in_exact : (n : ℕ) (r : ExpressionReaders) → Exact (formals_in r) (λ all. InParentheses all (Some n)) Free
 formals_in_exact n r =
     past_exact (kinds.Delimiter marks.LeftParenthesis) refl
     (ended_exact (exact_separated semicolon refl formal_at formal Any formal_exact (λ o h. tt)) (exact_skipped (kinds.Delimiter marks.RightParenthesis) refl)

@@ -15,7 +15,7 @@ use Rattle.ada_tree.specs.ExpressionGrammar.{Production, Factor, Term, Simple, R
 use Rattle.parser.specs.Reading.{Reader, is_next, is_word, is_mark, entry_of, mark_of, skip_word, skip_mark, identifier_of, seq, after, mapped, choose, many}
 use Rattle.parser.specs.Reading.{nothing, opened}
 use Rattle.parser.specs.ExpressionReading.{number, label, is_number, is_label, multiplying, adding, relational, sign, prefix, begins, operator_of, placed}
-use Rattle.parser.specs.ExpressionReading.{unary_of, Values, argument_in, arguments_list, arguments_in, component_of, attribute_of, selector_in}
+use Rattle.parser.specs.ExpressionReading.{unary_of, ExpressionReaders, argument_in, arguments_list, arguments_in, component_of, attribute_of, selector_in}
 use Rattle.parser.specs.ExpressionReading.{begins_selector, starts_selector, selectors_in, name_in, elsif_value_in, elsif_values_in, conditional_in}
 use Rattle.parser.specs.ExpressionReading.{enclosed_in, parenthesis_in, named_in, open_primary_in, primary_in, prefixed, factor_in, folded, operated, chain_of}
 use Rattle.parser.specs.ExpressionReading.{term_in, simple_in, compared_in, relation_in, begins_logical, with_more, logical_of, first_word, second_word}
@@ -37,14 +37,14 @@ use Rattle.parser.proofs.general.Deep.{deep_then, deep_after, deep_choose, deep_
 use Rattle.parser.proofs.general.Deep.{opening_kind}
 
 -- with n levels
-abbrev DeepValues : ℕ → Values → Type 0
+abbrev DeepValues : ℕ → ExpressionReaders → Type 0
 DeepValues n r = Deep n r.expression × ((place : ℕ) → DeepWhere (is_word words.If) n (r.conditional place))
 
 -- exact, and faults of depth are right
-abbrev pub Known : ℕ → Values → Type 0
+abbrev pub Known : ℕ → ExpressionReaders → Type 0
 Known n r = Exacts n r × DeepValues n r
 
-pub known_exact : (k : ℕ) (d : Option Values) → Below Known k d → Below Exacts k d
+pub known_exact : (k : ℕ) (d : Option ExpressionReaders) → Below Known k d → Below Exacts k d
 known_exact zero None b = tt
 known_exact zero (Some r) b = absurd b
 known_exact (suc k) None b = absurd b
@@ -58,12 +58,12 @@ if_opens o h = opening_kind (kinds.Word words.If) o refl h
 
 -- ---- names
 
-deep_argument : (n : ℕ) (r : Values) → Known n r → Deep n (argument_in r)
+deep_argument : (n : ℕ) (r : ExpressionReaders) → Known n r → Deep n (argument_in r)
 deep_argument n r h =
     deep_choose n (is_next is_label) (entry_of label) (mapped Value r.expression) (deep_where (is_next is_label) n (entry_of label) (deep_entry n label))
     (deep_mapped n Value r.expression h.1.0)
 
-deep_arguments : (n : ℕ) (r : Values) → Known n r → Deep (suc n) (arguments_in r)
+deep_arguments : (n : ℕ) (r : ExpressionReaders) → Known n r → Deep (suc n) (arguments_in r)
 deep_arguments n r h =
     let list : Deep n (arguments_list r) =
     deep_separated n (kinds.Delimiter marks.Comma) refl (argument_in r) (argument_with n) ArgumentStops (exact_argument n r h.0) comma_ends
@@ -88,13 +88,13 @@ deep_attribute k =
     (deep_then k (skip_mark marks.Apostrophe) identifier_of (λ _. mark marks.Apostrophe) Free (exact_skipped (kinds.Delimiter marks.Apostrophe) refl)
     (deep_skipped k (kinds.Delimiter marks.Apostrophe)) (deep_identifier k))
 
-deep_selector : (k : ℕ) (d : Option Values) → Below Known k d → Deep k (selector_in d)
+deep_selector : (k : ℕ) (d : Option ExpressionReaders) → Below Known k d → Deep k (selector_in d)
 deep_selector k d b =
     deep_choose k (is_mark marks.LeftParenthesis) (opened d arguments_in) (choose (is_mark marks.Dot) component_of attribute_of)
     (deep_opened Known (is_mark marks.LeftParenthesis) k d arguments_in parenthesis_opens b deep_arguments)
     (deep_choose k (is_mark marks.Dot) component_of attribute_of (deep_where (is_mark marks.Dot) k component_of (deep_component k)) (deep_attribute k))
 
-pub deep_name_in : (k : ℕ) (d : Option Values) → Below Known k d → Deep k (name_in d)
+pub deep_name_in : (k : ℕ) (d : Option ExpressionReaders) → Below Known k d → Deep k (name_in d)
 unfolding name_in
 deep_name_in k d b =
     deep_mapped k _ (seq identifier_of (selectors_in d))
@@ -103,7 +103,7 @@ deep_name_in k d b =
 
 -- ---- primaries
 
-deep_elsif_value : (n : ℕ) (r : Values) → Known n r → Deep n (elsif_value_in r)
+deep_elsif_value : (n : ℕ) (r : ExpressionReaders) → Known n r → Deep n (elsif_value_in r)
 deep_elsif_value n r h =
     deep_mapped n _ (seq (skip_word words.Elsif) (seq r.expression (seq (skip_word words.Then) r.expression)))
     (deep_then n (skip_word words.Elsif) (seq r.expression (seq (skip_word words.Then) r.expression)) (λ _. word words.Elsif) Free
@@ -112,11 +112,11 @@ deep_elsif_value n r h =
     (deep_then n (skip_word words.Then) r.expression (λ _. word words.Then) Free (exact_skipped (kinds.Word words.Then) refl)
     (deep_skipped n (kinds.Word words.Then)) h.1.0)))
 
-deep_elsif_values : (n : ℕ) (r : Values) → Known n r → Deep n (elsif_values_in r)
+deep_elsif_values : (n : ℕ) (r : ExpressionReaders) → Known n r → Deep n (elsif_values_in r)
 deep_elsif_values n r h =
     deep_many n (is_word words.Elsif) (elsif_value_in r) (elsif_with n) (λ _. Ends continues_expression) (exact_elsif_value n r h.0) (deep_elsif_value n r h)
 
-deep_conditional : (place n : ℕ) (r : Values) → Known n r → Deep (suc n) (conditional_in place r)
+deep_conditional : (place n : ℕ) (r : ExpressionReaders) → Known n r → Deep (suc n) (conditional_in place r)
 deep_conditional place n r h =
     let other : Deep n (seq (skip_word words.Else) r.expression) =
     deep_then n (skip_word words.Else) r.expression (λ _. word words.Else) Free (exact_skipped (kinds.Word words.Else) refl)
@@ -139,12 +139,12 @@ deep_conditional place n r h =
     (λ _. word words.If) Free (exact_skipped (kinds.Word words.If) refl) (deep_skipped (suc n) (kinds.Word words.If)) test
     (λ x s g. omega (arith, one_opener (kinds.Word words.If) s refl g)))
 
-deep_enclosed : (place n : ℕ) (r : Values) → Known n r → Deep n (enclosed_in r place)
+deep_enclosed : (place n : ℕ) (r : ExpressionReaders) → Known n r → Deep n (enclosed_in r place)
 deep_enclosed place n r h =
     deep_choose n (is_word words.If) (r.conditional place) (mapped (Parenthesized place) r.expression) (h.1.1 place)
     (deep_mapped n (Parenthesized place) r.expression h.1.0)
 
-deep_parenthesis : (n : ℕ) (r : Values) → Known n r → Deep (suc n) (parenthesis_in r)
+deep_parenthesis : (n : ℕ) (r : ExpressionReaders) → Known n r → Deep (suc n) (parenthesis_in r)
 deep_parenthesis n r h =
     deep_after n (suc n) (mark_of marks.LeftParenthesis) (λ place. mapped (λ x. x.0) (seq (enclosed_in r place) (skip_mark marks.RightParenthesis)))
     (mark_at marks.LeftParenthesis) Free
@@ -154,7 +154,7 @@ deep_parenthesis n r h =
     (deep_enclosed place n r h) (deep_skipped n (kinds.Delimiter marks.RightParenthesis))))
     (λ place s g. omega (arith, one_opener_at (kinds.Delimiter marks.LeftParenthesis) place s refl g))
 
-deep_primary : (k : ℕ) (d : Option Values) → Below Known k d → Deep k (primary_in d)
+deep_primary : (k : ℕ) (d : Option ExpressionReaders) → Below Known k d → Deep k (primary_in d)
 unfolding primary_in
 deep_primary k d b =
     deep_closed k begins_selector (open_primary_in d)
@@ -175,7 +175,7 @@ deep_prefixed k f n a table da =
 deep_operator : (k : ℕ) (f : TokenKind → Option BinaryOperator) → Deep k (operator_of f)
 deep_operator k f = deep_entry k (λ kind place. f kind)
 
-deep_factor : (k : ℕ) (d : Option Values) → Below Known k d → Deep k (factor_in d)
+deep_factor : (k : ℕ) (d : Option ExpressionReaders) → Below Known k d → Deep k (factor_in d)
 unfolding factor_in
 deep_factor k d b = deep_prefixed k prefix Factor (primary_in d) prefixes (deep_primary k d b)
 
@@ -193,14 +193,14 @@ module _ (k : ℕ) (f : TokenKind → Option BinaryOperator) (n : Production) (t
       (exact_seq (operator_of f) b (operator_with n) PB Free (λ _. SB) (λ _. SB) (exact_operator f n table) eb (λ x y v r g st. (tt, st)) (λ x y v r g st t. t))
       (deep_item db)))
 
-deep_term : (k : ℕ) (d : Option Values) → Below Known k d → Deep k (term_in d)
+deep_term : (k : ℕ) (d : Option ExpressionReaders) → Below Known k d → Deep k (term_in d)
 unfolding term_in
 deep_term k d b =
     let e = exact_factor k d (known_exact k d b) in
     deep_chain k multiplying Term multiplying_table (factor_in d) (factor_in d) (derives Factor (Some k)) (derives Factor (Some k)) (Ends starts_selector)
     (Ends starts_selector) e e (deep_factor k d b) (deep_factor k d b)
 
-pub deep_simple_in : (k : ℕ) (d : Option Values) → Below Known k d → Deep k (simple_in d)
+pub deep_simple_in : (k : ℕ) (d : Option ExpressionReaders) → Below Known k d → Deep k (simple_in d)
 unfolding simple_in
 deep_simple_in k d b =
     deep_chain k adding Simple adding_table (prefixed sign (term_in d)) (term_in d) (prefixed_with Simple k) (derives Term (Some k)) (Ends continues_term)
@@ -208,7 +208,7 @@ deep_simple_in k d b =
     (exact_signed k d (known_exact k d b)) (exact_term k d (known_exact k d b)) (deep_prefixed k sign Simple (term_in d) signs (deep_term k d b))
     (deep_term k d b)
 
-deep_compared : (k : ℕ) (d : Option Values) (left : ExprTree) → Below Known k d → Deep k (compared_in d left)
+deep_compared : (k : ℕ) (d : Option ExpressionReaders) (left : ExprTree) → Below Known k d → Deep k (compared_in d left)
 deep_compared k d left b =
     deep_choose k (begins relational) (mapped _ (seq (operator_of relational) (simple_in d))) (nothing left)
     (deep_where (begins relational) k (mapped _ (seq (operator_of relational) (simple_in d)))
@@ -217,7 +217,7 @@ deep_compared k d left b =
     (deep_operator k relational) (deep_simple_in k d b))))
     (deep_nothing k left)
 
-deep_relation : (k : ℕ) (d : Option Values) → Below Known k d → Deep k (relation_in d)
+deep_relation : (k : ℕ) (d : Option ExpressionReaders) → Below Known k d → Deep k (relation_in d)
 unfolding relation_in
 deep_relation k d b =
     deep_closed k (begins relational) (after (simple_in d) (compared_in d))
@@ -264,7 +264,7 @@ deep_repeated k o =
     (deep_then k (skip_word (first_word o)) (optional_word (second_word o)) (λ _. word (first_word o)) Free
     (exact_skipped (kinds.Word (first_word o)) (is_itself (first_word o))) (deep_skipped k (kinds.Word (first_word o))) (deep_optional k (second_word o)))
 
-deep_logical_chain : (k : ℕ) (d : Option Values) (left : ExprTree) (o : BinaryOperator) → Below Known k d → Deep k (logical_chain d left o)
+deep_logical_chain : (k : ℕ) (d : Option ExpressionReaders) (left : ExprTree) (o : BinaryOperator) → Below Known k d → Deep k (logical_chain d left o)
 deep_logical_chain k d left o b =
     let e = exact_relation k d (known_exact k d b) in
     let operand : Reader ExprTree = mapped (λ x. x.1) (seq (repeated o) (relation_in d)) in
@@ -280,7 +280,7 @@ deep_logical_chain k d left o b =
     (deep_mapped k (λ x. x.1) (seq (repeated o) (relation_in d))
     (deep_then k (repeated o) (relation_in d) (λ _. words_of o) Free (exact_words_of o) (deep_repeated k o) (deep_relation k d b)))))
 
-deep_logical : (k : ℕ) (d : Option Values) (left : ExprTree) → Below Known k d → Deep k (logical_in d left)
+deep_logical : (k : ℕ) (d : Option ExpressionReaders) (left : ExprTree) → Below Known k d → Deep k (logical_in d left)
 deep_logical k d left b =
     deep_choose k begins_logical (after logical_of (logical_chain d left)) (nothing left)
     (deep_where begins_logical k (after logical_of (logical_chain d left))
@@ -288,7 +288,7 @@ deep_logical k d left b =
     (λ x s g. omega arith)))
     (deep_nothing k left)
 
-pub deep_expression_in : (k : ℕ) (d : Option Values) → Below Known k d → Deep k (expression_in d)
+pub deep_expression_in : (k : ℕ) (d : Option ExpressionReaders) → Below Known k d → Deep k (expression_in d)
 unfolding expression_in
 deep_expression_in k d b =
     deep_closed k begins_logical (after (relation_in d) (logical_in d))

@@ -16,7 +16,7 @@ use Rattle.ada_tree.specs.Language.{Tokens, ◌⨾◌, word, mark, token_at, ide
 use Rattle.ada_tree.specs.ExpressionGrammar.{Expression, unary_symbol, made, spells_elsif_values, spells_selectors, spells_selector, spells_arguments}
 use Rattle.ada_tree.specs.ExpressionGrammar.{spells_further_arguments, spells_argument, derives, spells_name}
 use Rattle.parser.specs.Reading.{Reader, first, is_kind, is_next, is_mark, entry_of, is_there, skip_mark, identifier_of, seq, mapped, choose, opened}
-use Rattle.parser.specs.ExpressionReading.{number, label, is_label, multiplying, adding, relational, Values, argument_in, arguments_list, arguments_in}
+use Rattle.parser.specs.ExpressionReading.{number, label, is_label, multiplying, adding, relational, ExpressionReaders, argument_in, arguments_list, arguments_in}
 use Rattle.parser.specs.ExpressionReading.{component_of, attribute_of, selector_in, starts_selector, begins_selector, selectors_in, name_in, named_in}
 use Rattle.parser.specs.ExpressionReading.{starts_logical}
 use Rattle.parser.proofs.general.Exact.{Exact, Free, Both, entry, exact_entry, exact_seq, exact_mapped, exact_told, exact_either, exact_choose}
@@ -88,7 +88,7 @@ abbrev pub ExpressionStops : ExprTree → Option Token → Type 0
 ExpressionStops e o = Ends continues_expression o
 
 -- with n levels, expressions and if expressions are read exactly
-abbrev pub Exacts : ℕ → Values → Type 0
+abbrev pub Exacts : ℕ → ExpressionReaders → Type 0
 Exacts n r =
     Exact r.expression (derives Expression (Some n)) ExpressionStops
     × ((place : ℕ) → Exact (r.conditional place) (λ e. inside (Some n) (branches place e)) ExpressionStops)
@@ -169,7 +169,7 @@ which_argument : (n : ℕ) (x : ArgumentTree) (s r : Tokens) → argument_with n
 which_argument n (Text text place) s r g st = inl (first_token_at is_label (kinds.Label text) place s r g, g, tt)
 which_argument n (Value e) s r g st = inr (apart starts is_label label_starts_none (first (s ++ r)) (first_made e (Some n) s r g.1), g, st)
 
-pub exact_argument : (n : ℕ) (r : Values) → Exacts n r → Exact (argument_in r) (argument_with n) ArgumentStops
+pub exact_argument : (n : ℕ) (r : ExpressionReaders) → Exacts n r → Exact (argument_in r) (argument_with n) ArgumentStops
 exact_argument n r h =
     exact_either (is_next is_label) (entry_of label) (mapped Value r.expression) labelled (valued (Some n)) (argument_with n) Free
     (λ _. Ends continues_expression) ArgumentStops
@@ -183,7 +183,7 @@ comma_ends (Text text place) o h = tt
 abbrev pub ListStops : List ArgumentTree → Option Token → Type 0
 ListStops = LastStops (is_mark marks.Comma) ArgumentStops
 
-pub exact_arguments_list : (n : ℕ) (r : Values) → Exacts n r → Exact (arguments_list r) (separated (kinds.Delimiter marks.Comma) (argument_with n)) ListStops
+pub exact_arguments_list : (n : ℕ) (r : ExpressionReaders) → Exacts n r → Exact (arguments_list r) (separated (kinds.Delimiter marks.Comma) (argument_with n)) ListStops
 exact_arguments_list n r h =
     exact_separated_last (kinds.Delimiter marks.Comma) refl (argument_in r) (argument_with n) ArgumentStops (exact_argument n r h) comma_ends
 
@@ -227,7 +227,7 @@ parens_back n (Arguments all) ts g =
 parens_back n (Component name) ts g = absurd g
 parens_back n (Attribute name) ts g = absurd g
 
-pub exact_arguments : (n : ℕ) (r : Values) → Exacts n r → Exact (arguments_in r) (λ s. parens s (Some n)) Free
+pub exact_arguments : (n : ℕ) (r : ExpressionReaders) → Exacts n r → Exact (arguments_in r) (λ s. parens s (Some n)) Free
 exact_arguments n r h =
     exact_mapped (λ x. Arguments (arguments_of x.1.0)) (seq (skip_mark marks.LeftParenthesis) (seq (arguments_list r) (skip_mark marks.RightParenthesis))) _
     (λ s. parens s (Some n)) Free Free
@@ -337,7 +337,7 @@ which_selector k (Component name) s r g =
 which_selector k (Attribute name) s r g =
     inr (first_of (is_kind (kinds.Delimiter marks.LeftParenthesis)) (kinds.Delimiter marks.Apostrophe) (identifier name) s r g, g)
 
-pub exact_selector : (k : ℕ) (d : Option Values) → Below Exacts k d → Exact (selector_in d) (selector_with k) Free
+pub exact_selector : (k : ℕ) (d : Option ExpressionReaders) → Below Exacts k d → Exact (selector_in d) (selector_with k) Free
 exact_selector k d b =
     exact_choose (is_mark marks.LeftParenthesis) (opened d arguments_in) (choose (is_mark marks.Dot) component_of attribute_of)
     (λ x. inside (Some k) (parens x)) pointed (selector_with k) Free
@@ -357,7 +357,7 @@ selector_first k (Attribute name) s r g = first_of starts_selector (kinds.Delimi
 abbrev pub Any : Option Token → Type 0
 Any o = Unit {0}
 
-pub exact_selectors : (k : ℕ) (d : Option Values) → Below Exacts k d → Exact (selectors_in d) (each (selector_with k)) (λ _. Ends starts_selector)
+pub exact_selectors : (k : ℕ) (d : Option ExpressionReaders) → Below Exacts k d → Exact (selectors_in d) (each (selector_with k)) (λ _. Ends starts_selector)
 exact_selectors k d b =
     exact_told (selectors_in d) (each (selector_with k)) (each (selector_with k)) (ManyStops begins_selector Any) (λ _. Ends starts_selector)
     (exact_many begins_selector (selector_in d) (selector_with k) Any (exact_selector k d b) (selector_first k) (λ o h. tt) refl)
@@ -385,7 +385,7 @@ selectors_back k (MoreSelectors s rest) ts g = let h = selectors_back k rest g.1
 abbrev named_by : Identifier × List SelectorTree → NameTree
 named_by x = record { first = x.0; selectors = selectors_of x.1 }
 
-pub exact_name : (k : ℕ) (d : Option Values) → Below Exacts k d → Exact (name_in d) (spells_name (Some k)) (λ _. Ends starts_selector)
+pub exact_name : (k : ℕ) (d : Option ExpressionReaders) → Below Exacts k d → Exact (name_in d) (spells_name (Some k)) (λ _. Ends starts_selector)
 unfolding name_in
 exact_name k d b =
     exact_mapped named_by (seq identifier_of (selectors_in d)) (Both identifier (each (selector_with k))) (spells_name (Some k)) (λ _. Ends starts_selector)
@@ -410,7 +410,7 @@ as_name_back : (k : ℕ) (y : ExprTree) (ts : Tokens) → as_name k y ts → (n 
 as_name_back k (Named name all) ts g = (record { first = name; selectors = all }, g, refl)
 as_name_back k y ts g = absurd g
 
-pub exact_named : (k : ℕ) (d : Option Values) → Below Exacts k d → Exact (named_in d) (as_name k) (λ _. Ends starts_selector)
+pub exact_named : (k : ℕ) (d : Option ExpressionReaders) → Below Exacts k d → Exact (named_in d) (as_name k) (λ _. Ends starts_selector)
 exact_named k d b =
     exact_mapped (λ n. Named n.first n.selectors) (name_in d) (spells_name (Some k)) (as_name k) (λ _. Ends starts_selector) (λ _. Ends starts_selector)
     (exact_name k d b)

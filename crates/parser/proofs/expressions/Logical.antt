@@ -17,7 +17,7 @@ use Rattle.ada_tree.specs.Language.{Tokens, ◌⨾◌, word, each}
 use Rattle.ada_tree.specs.ExpressionGrammar.{Production, Primary, Factor, Term, Simple, Relation, Chain, Expression, production, unary_production, stands_for}
 use Rattle.ada_tree.specs.ExpressionGrammar.{operator, derives}
 use Rattle.parser.specs.Reading.{Reader, first, is_kind, is_next, is_first, is_word, skip_word, seq, mapped, choose, many, after, closed, nothing}
-use Rattle.parser.specs.ExpressionReading.{Values, folded, relation_in, starts_logical, begins_logical, with_more, logical_of, first_word, second_word}
+use Rattle.parser.specs.ExpressionReading.{ExpressionReaders, folded, relation_in, starts_logical, begins_logical, with_more, logical_of, first_word, second_word}
 use Rattle.parser.specs.ExpressionReading.{optional_word, repeated, operated, logical_chain, logical_in, expression_in}
 use Rattle.parser.proofs.general.Exact.{Exact, Free, Both, exact_seq, exact_behind, exact_mapped, exact_told, exact_either, exact_closed, Closed, exact_nothing}
 use Rattle.parser.proofs.general.Exact.{is_itself, is_that_kind, no_such, not_both, true_or_false}
@@ -300,7 +300,7 @@ exact_repeated o h =
 abbrev pub next_operand : ℕ → BinaryOperator → ExprTree → Tokens → Type 0
 next_operand k o t = logical_with o ⨾ derives Relation (Some k) t
 
-module _ (k : ℕ) (d : Option Values) (b : Below Exacts k d) (o : BinaryOperator) (lo : is_logical o ≡ true) where
+module _ (k : ℕ) (d : Option ExpressionReaders) (b : Below Exacts k d) (o : BinaryOperator) (lo : is_logical o ≡ true) where
   abbrev item : Reader ExprTree
   item = mapped (λ x. x.1) (seq (repeated o) (relation_in d))
 
@@ -432,7 +432,7 @@ again_is : (o : BinaryOperator) (left e x : ExprTree) (xs : List ExprTree) (t : 
     → e ≡ folded (operated o) (Binary o left x) xs → is_next (again e) t ≡ is_first (kinds.Word (first_word o)) t
 again_is o left e x xs t lo is = ap (λ (z : ExprTree). is_next (again z) t) is ∙ again_chain o left x xs t lo
 
-exact_chained : (k : ℕ) (d : Option Values) (left : ExprTree) → Below Exacts k d → Exact (after logical_of (logical_chain d left)) (Chained k left) ChainStops
+exact_chained : (k : ℕ) (d : Option ExpressionReaders) (left : ExprTree) → Below Exacts k d → Exact (after logical_of (logical_chain d left)) (Chained k left) ChainStops
 exact_chained k d left b =
     exact_behind logical_of (logical_chain d left) logical_with With OperatorStops (λ o e t. (is_word (first_word o) t ≡ false) × Ends continues_relation t)
     (Chained k left) ChainStops
@@ -460,7 +460,7 @@ Rest k left e ts = Chained k left e ts ⊎ same_here left e ts
 abbrev RestStops : ExprTree → Option Token → Type 0
 RestStops e t = Ends (again e) t × (is_chain e ≡ true → Ends continues_relation t)
 
-exact_rest : (k : ℕ) (d : Option Values) (left : ExprTree) (u : Tokens) → Below Exacts k d → derives Relation (Some k) left u
+exact_rest : (k : ℕ) (d : Option ExpressionReaders) (left : ExprTree) (u : Tokens) → Below Exacts k d → derives Relation (Some k) left u
     → Exact (logical_in d left) (Rest k left) RestStops
 exact_rest k d left u b whole =
     exact_either begins_logical (after logical_of (logical_chain d left)) (nothing left) (Chained k left) (same_here left) (Rest k left) ChainStops Free
@@ -645,14 +645,14 @@ expression_stop : (k : ℕ) (x y : ExprTree) (v r : Tokens) → Rest k x y v →
 expression_stop k x y v r (inl w) sa sb = (sb.1 (chained_chain k x y v w), sb.0)
 expression_stop k x y v r (inr w) sa sb = (subst (λ (z : Tokens). Ends continues_relation (first (z ++ r))) w.1 sa, sb.0)
 
-exact_open_expression : (k : ℕ) (d : Option Values) → Below Exacts k d → Exact (after (relation_in d) (logical_in d)) (derives Expression (Some k)) OpenStops
+exact_open_expression : (k : ℕ) (d : Option ExpressionReaders) → Below Exacts k d → Exact (after (relation_in d) (logical_in d)) (derives Expression (Some k)) OpenStops
 exact_open_expression k d b =
     exact_behind (relation_in d) (logical_in d) (derives Relation (Some k)) (Rest k) (λ _. Ends continues_relation) (λ left. RestStops)
     (derives Expression (Some k)) OpenStops
     (exact_relation k d b) (λ x u g. exact_rest k d x u b g) (expression_to k) (expression_back k)
     (λ x y u v r g h st. expression_fits k x y v r h st) (λ x y u v r g h sa sb. expression_stop k x y v r h sa sb)
 
-pub exact_expression_in : (k : ℕ) (d : Option Values) → Below Exacts k d → Exact (expression_in d) (derives Expression (Some k)) ExpressionStops
+pub exact_expression_in : (k : ℕ) (d : Option ExpressionReaders) → Below Exacts k d → Exact (expression_in d) (derives Expression (Some k)) ExpressionStops
 unfolding expression_in
 exact_expression_in k d b =
     exact_told (closed begins_logical (after (relation_in d) (logical_in d))) (derives Expression (Some k)) (derives Expression (Some k))

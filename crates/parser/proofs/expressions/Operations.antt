@@ -15,7 +15,7 @@ use Rattle.ada_tree.specs.Language.{Tokens, ◌⨾◌, token, token_at, each, Li
 use Rattle.ada_tree.specs.ExpressionGrammar.{Production, Primary, Factor, Term, Simple, Relation, production, unary_production, left_operand, right_operand}
 use Rattle.ada_tree.specs.ExpressionGrammar.{made_by, stands_for, unary_symbol, operator, derives}
 use Rattle.parser.specs.Reading.{Reader, first, is_next, is_there, seq, mapped, many}
-use Rattle.parser.specs.ExpressionReading.{multiplying, adding, relational, sign, prefix, begins, operator_of, placed, unary_of, Values, starts_selector}
+use Rattle.parser.specs.ExpressionReading.{multiplying, adding, relational, sign, prefix, begins, operator_of, placed, unary_of, ExpressionReaders, starts_selector}
 use Rattle.parser.specs.ExpressionReading.{primary_in, prefixed, factor_in, folded, joined, chain_of, term_in, simple_in}
 use Rattle.parser.proofs.general.Exact.{Exact, Free, Both, entry, exact_entry, exact_seq, exact_mapped, exact_told, exact_either}
 use Rattle.parser.proofs.general.Several.{ManyStops, exact_many, Below, first_then, first_token_at, first_of_at, first_inside, apart, Ends, ends_both}
@@ -223,7 +223,7 @@ factor_to : (k : ℕ) (e : ExprTree) (ts : Tokens) → prefixed_with Factor k e 
 factor_to k e ts (inl g) = unary_made Factor k e ts refl g
 factor_to k e ts (inr g) = widen Primary Factor k e ts widen_factor g
 
-pub exact_factor : (k : ℕ) (d : Option Values) → Below Exacts k d → Exact (factor_in d) (derives Factor (Some k)) (λ _. Ends starts_selector)
+pub exact_factor : (k : ℕ) (d : Option ExpressionReaders) → Below Exacts k d → Exact (factor_in d) (derives Factor (Some k)) (λ _. Ends starts_selector)
 unfolding factor_in
 exact_factor k d b =
     exact_told (prefixed prefix (primary_in d)) (prefixed_with Factor k) (derives Factor (Some k)) (λ _. Ends starts_selector) (λ _. Ends starts_selector)
@@ -476,7 +476,7 @@ multiplying_goes k h = refl
 abbrev multiplies : TokenKind → Bool
 multiplies k = is_there (multiplying k)
 
-pub exact_term : (k : ℕ) (d : Option Values) → Below Exacts k d → Exact (term_in d) (derives Term (Some k)) (λ _. Ends continues_term)
+pub exact_term : (k : ℕ) (d : Option ExpressionReaders) → Below Exacts k d → Exact (term_in d) (derives Term (Some k)) (λ _. Ends continues_term)
 unfolding term_in
 exact_term k d b =
     exact_told (chain_of (factor_in d) multiplying (factor_in d)) (derives Term (Some k)) (derives Term (Some k))
@@ -525,12 +525,12 @@ adding_goes k h = absurd cc
 abbrev adds : TokenKind → Bool
 adds k = is_there (adding k)
 
-pub exact_signed : (k : ℕ) (d : Option Values) → Below Exacts k d → Exact (prefixed sign (term_in d)) (prefixed_with Simple k) (λ _. Ends continues_term)
+pub exact_signed : (k : ℕ) (d : Option ExpressionReaders) → Below Exacts k d → Exact (prefixed sign (term_in d)) (prefixed_with Simple k) (λ _. Ends continues_term)
 exact_signed k d b =
     exact_prefixed sign Simple k (term_in d) (Ends continues_term) signs (exact_term k d b)
     (λ e s r g. apart starts_term (λ z. is_there (sign z)) no_sign (first (s ++ r)) (first_term e (Some k) s r g))
 
-pub exact_simple_in : (k : ℕ) (d : Option Values) → Below Exacts k d → Exact (simple_in d) (derives Simple (Some k)) (λ _. Ends continues_simple)
+pub exact_simple_in : (k : ℕ) (d : Option ExpressionReaders) → Below Exacts k d → Exact (simple_in d) (derives Simple (Some k)) (λ _. Ends continues_simple)
 unfolding simple_in
 exact_simple_in k d b =
     exact_told (chain_of (prefixed sign (term_in d)) adding (term_in d)) (derives Simple (Some k)) (derives Simple (Some k))

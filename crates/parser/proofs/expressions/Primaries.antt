@@ -13,7 +13,7 @@ use Rattle.ada_tree.specs.ExpressionTree.{elsif_values_of}
 use Rattle.ada_tree.specs.Language.{Tokens, ◌⨾◌, word, mark, mark_at, each, Limit, inside}
 use Rattle.ada_tree.specs.ExpressionGrammar.{Primary, Expression, production, unary_production, stands_for, spells_elsif_values, derives}
 use Rattle.parser.specs.Reading.{first, is_kind, is_next, is_word, is_mark, entry_of, mark_of, skip_word, skip_mark, seq, mapped, choose, closed, opened}
-use Rattle.parser.specs.ExpressionReading.{number, is_number, Values, starts_selector, begins_selector, elsif_value_in, elsif_values_in, conditional_in}
+use Rattle.parser.specs.ExpressionReading.{number, is_number, ExpressionReaders, starts_selector, begins_selector, elsif_value_in, elsif_values_in, conditional_in}
 use Rattle.parser.specs.ExpressionReading.{enclosed_in, parenthesis_in, named_in, open_primary_in, primary_in}
 use Rattle.parser.proofs.general.Exact.{Exact, Free, Both, exact_seq, exact_after, exact_mapped, exact_told, exact_either, exact_choose, exact_closed, Closed}
 use Rattle.parser.proofs.general.Exact.{no_such}
@@ -27,7 +27,7 @@ use Rattle.parser.proofs.expressions.Expressions.{exact_named}
 abbrev pub elsif_with : ℕ → ExprTree × ExprTree → Tokens → Type 0
 elsif_with n x = word words.Elsif ⨾ derives Expression (Some n) x.0 ⨾ word words.Then ⨾ derives Expression (Some n) x.1
 
-pub exact_elsif_value : (n : ℕ) (r : Values) → Exacts n r → Exact (elsif_value_in r) (elsif_with n) (λ _. Ends continues_expression)
+pub exact_elsif_value : (n : ℕ) (r : ExpressionReaders) → Exacts n r → Exact (elsif_value_in r) (elsif_with n) (λ _. Ends continues_expression)
 exact_elsif_value n r h =
     let value =
     exact_seq (skip_word words.Then) r.expression (λ _. word words.Then) (derives Expression (Some n)) Free ExpressionStops (λ x. Ends continues_expression)
@@ -46,7 +46,7 @@ exact_elsif_value n r h =
 pub elsif_first : (n : ℕ) (x : ExprTree × ExprTree) (s r : Tokens) → elsif_with n x s → is_word words.Elsif (first (s ++ r)) ≡ true
 elsif_first n x s r g = first_of (is_kind (kinds.Word words.Elsif)) (kinds.Word words.Elsif) _ s r g
 
-pub exact_elsif_values : (n : ℕ) (r : Values) → Exacts n r
+pub exact_elsif_values : (n : ℕ) (r : ExpressionReaders) → Exacts n r
     → Exact (elsif_values_in r) (each (elsif_with n)) (ManyStops (is_word words.Elsif) (Ends continues_expression))
 exact_elsif_values n r h =
     exact_many (is_word words.Elsif) (elsif_value_in r) (elsif_with n) (Ends continues_expression) (exact_elsif_value n r h) (elsif_first n)
@@ -108,7 +108,7 @@ conditional_back place n (Conditional here condition value others else_value) ts
     )
 conditional_back place n y ts f = absurd f
 
-pub exact_conditional : (place n : ℕ) (r : Values) → Exacts n r → Exact (conditional_in place r) (λ e. branches place e (Some n)) ExpressionStops
+pub exact_conditional : (place n : ℕ) (r : ExpressionReaders) → Exacts n r → Exact (conditional_in place r) (λ e. branches place e (Some n)) ExpressionStops
 exact_conditional place n r h =
     let other =
     exact_seq (skip_word words.Else) r.expression (λ _. word words.Else) (derives Expression (Some n)) Free ExpressionStops (λ x. Ends continues_expression)
@@ -164,7 +164,7 @@ plain_back : (place n : ℕ) (y : ExprTree) (ts : Tokens) → plain place n y ts
 plain_back place n (Parenthesized here e) ts g = (e, g.1, ap (λ (z : ℕ). Parenthesized z e) (sym g.0))
 plain_back place n y ts g = absurd g
 
-exact_plain : (place n : ℕ) (r : Values) → Exacts n r → Exact (mapped (Parenthesized place) r.expression) (plain place n) ExpressionStops
+exact_plain : (place n : ℕ) (r : ExpressionReaders) → Exacts n r → Exact (mapped (Parenthesized place) r.expression) (plain place n) ExpressionStops
 exact_plain place n r h =
     exact_mapped (Parenthesized place) r.expression (derives Expression (Some n)) (plain place n) ExpressionStops ExpressionStops h.0 (λ x ts g. (refl, g))
     (plain_back place n) (λ x ts o g st. st) (λ x ts o g st. st)
@@ -194,7 +194,7 @@ which_enclosed place n (Conditional here condition value others else_value) s r 
     )
 which_enclosed place n x s r g = absurd g
 
-pub exact_enclosed : (place n : ℕ) (r : Values) → Exacts n r → Exact (enclosed_in r place) (enclosed place n) ExpressionStops
+pub exact_enclosed : (place n : ℕ) (r : ExpressionReaders) → Exacts n r → Exact (enclosed_in r place) (enclosed place n) ExpressionStops
 exact_enclosed place n r h =
     exact_choose (is_word words.If) (r.conditional place) (mapped (Parenthesized place) r.expression) (λ e. inside (Some n) (branches place e)) (plain place n)
     (enclosed place n) ExpressionStops
@@ -223,7 +223,7 @@ bracketed_back n (Parenthesized here e) ts g = let h = g.4 in (here, (g.0, g.1, 
 bracketed_back n (Conditional here condition value others else_value) ts g = let h = g.4 in (here, (g.0, g.1, g.2, g.3, (h.0, h.1, h.2, (refl, h.3), h.4)))
 bracketed_back n y ts g = absurd g
 
-exact_shut : (place n : ℕ) (r : Values) → Exacts n r
+exact_shut : (place n : ℕ) (r : ExpressionReaders) → Exacts n r
     → Exact (mapped (λ x. x.0) (seq (enclosed_in r place) (skip_mark marks.RightParenthesis))) (λ e. enclosed place n e ⨾ mark marks.RightParenthesis) Free
 exact_shut place n r h =
     exact_mapped (λ x. x.0) (seq (enclosed_in r place) (skip_mark marks.RightParenthesis)) (Both (enclosed place n) (λ _. mark marks.RightParenthesis))
@@ -233,7 +233,7 @@ exact_shut place n r h =
     (λ x y v r g st. (first_token continues_expression (kinds.Delimiter marks.RightParenthesis) v r g, tt)) (λ x y v r g st t. tt))
     (λ x ts g. g) (λ y ts g. ((y, tt), g, refl)) (λ x ts o g st. tt) (λ x ts o g st. tt)
 
-pub exact_parenthesis : (n : ℕ) (r : Values) → Exacts n r → Exact (parenthesis_in r) (λ e. bracketed e (Some n)) Free
+pub exact_parenthesis : (n : ℕ) (r : ExpressionReaders) → Exacts n r → Exact (parenthesis_in r) (λ e. bracketed e (Some n)) Free
 exact_parenthesis n r h =
     exact_after (mark_of marks.LeftParenthesis) (λ place. mapped (λ x. x.0) (seq (enclosed_in r place) (skip_mark marks.RightParenthesis)))
     (mark_at marks.LeftParenthesis) (λ place e. enclosed place n e ⨾ mark marks.RightParenthesis) Free (λ place. Free)
@@ -268,7 +268,7 @@ which_bare k (Number value place) s r g st = inl (first_token_at is_number (kind
 which_bare k (Named name all) s r g st = inr (first_of_at is_number (kinds.Identifier name.name) name.place _ s r g, g, st)
 which_bare k x s r g st = absurd g
 
-exact_bare : (k : ℕ) (d : Option Values) → Below Exacts k d → Exact (choose (is_next is_number) (entry_of number) (named_in d)) (bare k) BareStops
+exact_bare : (k : ℕ) (d : Option ExpressionReaders) → Below Exacts k d → Exact (choose (is_next is_number) (entry_of number) (named_in d)) (bare k) BareStops
 exact_bare k d b =
     exact_either (is_next is_number) (entry_of number) (named_in d) numeral (as_name k) (bare k) Free (λ _. Ends starts_selector) BareStops exact_numeral
     (exact_named k d b)
@@ -320,7 +320,7 @@ which_primary k (Conditional place condition value others else_value) s r g st =
 which_primary k (Unary o place e) s r g st = absurd (no_unary_primary o g.0)
 which_primary k (Binary o left right) s r g st = absurd (no_binary_primary o g.0)
 
-pub exact_open_primary : (k : ℕ) (d : Option Values) → Below Exacts k d → Exact (open_primary_in d) (primary_with k) BareStops
+pub exact_open_primary : (k : ℕ) (d : Option ExpressionReaders) → Below Exacts k d → Exact (open_primary_in d) (primary_with k) BareStops
 exact_open_primary k d b =
     exact_either (is_mark marks.LeftParenthesis) (opened d parenthesis_in) (choose (is_next is_number) (entry_of number) (named_in d))
     (λ e. inside (Some k) (bracketed e)) (bare k) (primary_with k) Free BareStops BareStops
@@ -331,7 +331,7 @@ bare_stops : (x : ExprTree) (o : Option Token) → Ends starts_selector o → Ba
 bare_stops (Named name all) o st = st
 bare_stops x o st = tt
 
-pub exact_primary : (k : ℕ) (d : Option Values) → Below Exacts k d → Exact (primary_in d) (primary_with k) (λ _. Ends starts_selector)
+pub exact_primary : (k : ℕ) (d : Option ExpressionReaders) → Below Exacts k d → Exact (primary_in d) (primary_with k) (λ _. Ends starts_selector)
 unfolding primary_in
 exact_primary k d b =
     exact_told (closed begins_selector (open_primary_in d)) (primary_with k) (primary_with k) (Closed begins_selector BareStops) (λ _. Ends starts_selector)

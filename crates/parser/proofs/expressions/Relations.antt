@@ -13,7 +13,7 @@ use Rattle.ada_tree.specs.ExpressionTree.{ExprTree, Number, Named, Parenthesized
 use Rattle.ada_tree.specs.Language.{Tokens, ◌⨾◌}
 use Rattle.ada_tree.specs.ExpressionGrammar.{Production, Simple, Relation, production, unary_production, left_operand, right_operand, stands_for, derives}
 use Rattle.parser.specs.Reading.{first, is_next, is_there, seq, mapped, after, closed, nothing}
-use Rattle.parser.specs.ExpressionReading.{relational, begins, operator_of, Values, simple_in, compared_in, relation_in}
+use Rattle.parser.specs.ExpressionReading.{relational, begins, operator_of, ExpressionReaders, simple_in, compared_in, relation_in}
 use Rattle.parser.proofs.general.Exact.{Exact, Free, Both, exact_seq, exact_behind, exact_mapped, exact_told, exact_either, exact_closed, Closed, exact_nothing}
 use Rattle.parser.proofs.general.Exact.{not_both}
 use Rattle.parser.proofs.general.Several.{Below, first_then, apart, Ends, ends_both, ends_left, ends_right}
@@ -88,7 +88,7 @@ second_first : (k : ℕ) (left e : ExprTree) (s r : Tokens) → with_second k le
 second_first k left e s r g =
     first_then compares true (operator_with Relation g.0) _ s r (λ u r h. operator_first relational Relation relational_table g.0 u r h) g.3
 
-exact_second : (k : ℕ) (d : Option Values) (left : ExprTree) → Below Exacts k d
+exact_second : (k : ℕ) (d : Option ExpressionReaders) (left : ExprTree) → Below Exacts k d
     → Exact (mapped (λ x. Binary x.0 left x.1) (seq (operator_of relational) (simple_in d))) (with_second k left) (λ _. Ends continues_simple)
 exact_second k d left b =
     exact_mapped (λ x. Binary x.0 left x.1) (seq (operator_of relational) (simple_in d)) (Both (operator_with Relation) (derives Simple (Some k)))
@@ -98,7 +98,7 @@ exact_second k d left b =
     (λ x y v r g st. (tt, st)) (λ x y v r g st t. t))
     (λ x ts g. (x.0, x.1, refl, g)) (λ y ts g. ((g.0, g.1), g.3, sym g.2)) (λ x ts o g st. st) (λ x ts o g st. st)
 
-exact_compared : (k : ℕ) (d : Option Values) (left : ExprTree) → Below Exacts k d → is_relation left ≡ false
+exact_compared : (k : ℕ) (d : Option ExpressionReaders) (left : ExprTree) → Below Exacts k d → is_relation left ≡ false
     → Exact (compared_in d left) (compared k left) ComparedStops
 exact_compared k d left b alone =
     exact_either (begins relational) (mapped (λ x. Binary x.0 left x.1) (seq (operator_of relational) (simple_in d))) (nothing left) (with_second k left)
@@ -195,14 +195,14 @@ relation_stop : (k : ℕ) (x y : ExprTree) (v r : Tokens) → compared k x y v �
 relation_stop k x y v r (inl w) sa sb = (sb.1 (second_is k x y v w), sb.0)
 relation_stop k x y v r (inr w) sa sb = (subst (λ (z : Tokens). Ends continues_simple (first (z ++ r))) w.1 sa, sb.0)
 
-exact_open_relation : (k : ℕ) (d : Option Values) → Below Exacts k d → Exact (after (simple_in d) (compared_in d)) (derives Relation (Some k)) OpenStops
+exact_open_relation : (k : ℕ) (d : Option ExpressionReaders) → Below Exacts k d → Exact (after (simple_in d) (compared_in d)) (derives Relation (Some k)) OpenStops
 exact_open_relation k d b =
     exact_behind (simple_in d) (compared_in d) (derives Simple (Some k)) (compared k) (λ _. Ends continues_simple) (λ left. ComparedStops)
     (derives Relation (Some k)) OpenStops
     (exact_simple_in k d b) (λ x u g. exact_compared k d x b (simple_alone k x u g)) (relation_to k) (relation_back k)
     (λ x y u v r g h st. relation_fits k x y v r h st) (λ x y u v r g h sa sb. relation_stop k x y v r h sa sb)
 
-pub exact_relation : (k : ℕ) (d : Option Values) → Below Exacts k d → Exact (relation_in d) (derives Relation (Some k)) (λ _. Ends continues_relation)
+pub exact_relation : (k : ℕ) (d : Option ExpressionReaders) → Below Exacts k d → Exact (relation_in d) (derives Relation (Some k)) (λ _. Ends continues_relation)
 unfolding relation_in
 exact_relation k d b =
     exact_told (closed (begins relational) (after (simple_in d) (compared_in d))) (derives Relation (Some k)) (derives Relation (Some k))

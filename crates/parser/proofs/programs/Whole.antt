@@ -14,7 +14,7 @@ use Rattle.parser.specs.declared.refusal.Refusal.{Refusal}
 use Rattle.parser.specs.Levels.{opens, openers}
 use Rattle.parser.specs.Reading.{first, Gives, is_next}
 use Rattle.parser.specs.ProgramReading.{whole_at}
-use Rattle.parser.specs.Parsing.{Derives, Gave, end_of, place_behind, NoneBegins, IsFaulty, IsRefusal, IsTooDeep, HasOneTree, start_or, place_at, fault_of}
+use Rattle.parser.specs.Parsing.{Derives, GaveTree, end_of, place_behind, NoneBegins, IsFaulty, IsRefusal, IsTooDeep, HasOneTree, start_or, place_at, fault_of}
 use Rattle.parser.specs.Parsing.{answer_of}
 use Rattle.parser.proofs.general.Exact.{ok_is, ok_not_err}
 use Rattle.parser.proofs.programs.Programs.{whole_exact}
@@ -108,7 +108,7 @@ is_found limit ts (Err refusals.Memory) h = tt
 is_found limit ts (Err (refusals.Broken b)) h = tt
 
 pub is_only : LimitIsDepth → (ts : Tokens) (r : Result Program Refusal) → Gives program_tree r [] (whole_at 40 ts) → (t : ProgramTree) → Derives t ts
-    → Gave (answer_of ts r) t
+    → GaveTree (answer_of ts r) t
 is_only limit ts (Ok p) h t d = ap (λ (x : ProgramTree × Tokens). x.0) (ok_is (program_tree p, []) (t, []) (sym h ∙ whole_complete limit ts t d))
 is_only limit ts (Err refusals.Memory) h t d = refl
 is_only limit ts (Err (refusals.Broken b)) h t d = absurd (never limit ts t b d h)

@@ -15,7 +15,7 @@ use Rattle.parser.specs.declared.refusal.Broken.{Broken}
 use Rattle.parser.specs.Reading.{Reader, first, refuse, is_kind, is_next, is_first, is_word, is_mark, token_of, identifier_of, seq, mapped, choose, opened}
 use Rattle.parser.specs.Reading.{Read, ◌>>=◌, skip_mark}
 use Rattle.parser.specs.Levels.{opens, openers, IsDeep}
-use Rattle.parser.specs.ExpressionReading.{Values, values, expression_at}
+use Rattle.parser.specs.ExpressionReading.{ExpressionReaders, values, expression_at}
 use Rattle.parser.specs.MoreReading.{past, ended, perhaps, flag, Left, Right, either, is_identifier, word_in, next_word, by_word}
 use Rattle.parser.specs.DeclarationReading.{range_at, aspect_part, initial_part, object_rest_at, object_at, formal_at, formals_in, formals_at, subprogram_at}
 use Rattle.parser.specs.DeclarationReading.{entry_at, task_entry_at, task_definition_at, task_rest_at, task_at, operation_at, begins_operation}
@@ -128,7 +128,7 @@ deep_formal k =
     deep_changed k _ (deep_named k (deep_past k (kinds.Delimiter marks.Colon) refl (deep_mapped_both k _ flags_exact (deep_flags k) (deep_identifier k))))
 
 -- in their parentheses
-deep_formals_in : (n : ℕ) (r : Values) → Deep (suc n) (formals_in r)
+deep_formals_in : (n : ℕ) (r : ExpressionReaders) → Deep (suc n) (formals_in r)
 deep_formals_in n r =
     deep_after n (suc n) _ (λ _. _) _ _ (exact_token (kinds.Delimiter marks.LeftParenthesis) refl) (deep_token (suc n) (kinds.Delimiter marks.LeftParenthesis))
     (λ x s g. deep_ended n (exact_separated semicolon refl formal_at formal Any formal_exact (λ o h. tt))

@@ -11,8 +11,8 @@ use Rattle.expr_code.specs.Code.{here}
 use Rattle.stmt_code.specs.Bounds.{main_bound}
 use Rattle.stmt_code.specs.Refusing.{RefusesMain}
 use Rattle.expr_code.specs.declared.refusal.Refusal.TheVariants as refusal
-use Rattle.ada_link.specs.Refusing.{RefusesParts}
-use Rattle.ada_link.specs.Directory.{AreNumbered, HasManyBodies}
+use Rattle.ada_link.specs.Refusing.{RefusesSections}
+use Rattle.ada_link.specs.Directory.{HaveBodyNumbers, HasManyBodies}
 use Rattle.ada_link.specs.Globals.{AreGlobals, RefusesGlobals}
 use Rattle.ada_link.proofs.Refusals.{bodies_refused, code_refused, directory_told, globals_refused, labels_told, main_refused, plain_refused, protected_refused, row_refused, rows_told, task_refused}
 use Rattle.ada_link.proofs.program.put_together.Goals as goal
@@ -30,8 +30,8 @@ walk_over-requires c =
     let are = subst (λ z. AreGlobals z (package_items t.package_) g) c.scope-scope.ensures
     (subst (λ p. AreGlobals c.scope-scope.result.now (package_items (optional_tree package_tree p.package_)) g) c.program-program.ensures.same
     c.in_ok-slots.ensures.globals) in
-    let numbered = subst (λ z. AreNumbered z (package_bodies t.package_) c.in_ok-numbers.numbers.items) c.scope-scope.ensures
-    (subst (λ p. AreNumbered c.scope-scope.result.now (package_bodies (optional_tree package_tree p.package_)) c.in_ok-numbers.numbers.items)
+    let numbered = subst (λ z. HaveBodyNumbers z (package_bodies t.package_) c.in_ok-numbers.numbers.items) c.scope-scope.ensures
+    (subst (λ p. HaveBodyNumbers c.scope-scope.result.now (package_bodies (optional_tree package_tree p.package_)) c.in_ok-numbers.numbers.items)
     c.program-program.ensures.same c.in_ok-numbers.ensures.numbered) in
     record { directory = directory_told t g c.in_ok-numbers.numbers.items _ are numbered refl refl; exceptions = are.exceptions }
 
@@ -157,10 +157,10 @@ returns-in_err-texts-clause-refused c =
 
 pub returns-in_err-push-clause-refused : goal.returns-in_err-push-clause-refused
 returns-in_err-push-clause-refused c =
-    let memory : RefusesParts (program_tree c.args.accepted.now) refusal.Memory = inl (inl tt) in
+    let memory : RefusesSections (program_tree c.args.accepted.now) refusal.Memory = inl (inl tt) in
     search (rules, memory, c.from_residual-in_err-push.ensures)
 
 pub returns-in_err-push-2-clause-refused : goal.returns-in_err-push-2-clause-refused
 returns-in_err-push-2-clause-refused c =
-    let memory : RefusesParts (program_tree c.args.accepted.now) refusal.Memory = inl (inl tt) in
+    let memory : RefusesSections (program_tree c.args.accepted.now) refusal.Memory = inl (inl tt) in
     search (rules, memory, c.from_residual-in_err-push-2.ensures)

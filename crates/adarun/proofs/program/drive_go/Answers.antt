@@ -1,6 +1,6 @@
 use Rattle.std.proofs.Common.{Err, ap, inr, subst, sym, ◌∙◌}
-use Rattle.adarun.specs.Driving.{IsRead}
-use Rattle.compile_and_go.specs.Stopping.{Refuses}
+use Rattle.adarun.specs.Driving.{IsContentRead}
+use Rattle.compile_and_go.specs.Stopping.{RefusesRunning}
 use Rattle.compile_and_go.specs.declared.going.GoFault.TheVariants as faults
 use Rattle.adarun.proofs.Driving.{failed_keeps, refused_leaves, run_leaves, schedule_leaves}
 use Rattle.adarun.proofs.program.drive_go.Goals as goal
@@ -11,7 +11,7 @@ returns-in-Ok-go-clause-leaves g c =
 
 pub returns-in-Err-Source-clause-leaves : goal.returns-in-Err-Source-clause-leaves
 returns-in-Err-Source-clause-leaves g c =
-    refused_leaves _ _ _ _ _ _ _ _ _ _ c.refuse_source.ensures c.in-Ok.ensures c.deref.ensures.value (subst (Refuses _ _) c.in-Err-Source.field-0-is c.in-Err-Source.ensures.refused) (ap g.O.Sink.bytes (c.in-Err-Source.ensures.source c.in-Err-Source.fault (ap Err c.in-Err-Source.field-0-is)))
+    refused_leaves _ _ _ _ _ _ _ _ _ _ c.refuse_source.ensures c.in-Ok.ensures c.deref.ensures.value (subst (RefusesRunning _ _) c.in-Err-Source.field-0-is c.in-Err-Source.ensures.refused) (ap g.O.Sink.bytes (c.in-Err-Source.ensures.source c.in-Err-Source.fault (ap Err c.in-Err-Source.field-0-is)))
 
 pub returns-in-Err-Schedule-clause-leaves : goal.returns-in-Err-Schedule-clause-leaves
 returns-in-Err-Schedule-clause-leaves g c =
@@ -26,8 +26,8 @@ returns-clause-leaves g c =
     rw c.cannot_write.ensures
     (inr (record {
       text = c.deref.result.now;
-      source_read = subst (IsRead (g.F.FileStore.contents c.args.files.now c.args.source.now)) (sym c.deref.ensures.value) c.in-Ok.ensures;
+      source_read = subst (IsContentRead (g.F.FileStore.contents c.args.files.now c.args.source.now)) (sym c.deref.ensures.value) c.in-Ok.ensures;
       input = c.deref-2.result.now;
-      input_read = subst (IsRead (g.F.FileStore.contents c.args.files.now c.args.schedule.now)) (sym c.deref-2.ensures.value) c.in-Ok-read.ensures;
+      input_read = subst (IsContentRead (g.F.FileStore.contents c.args.files.now c.args.schedule.now)) (sym c.deref-2.ensures.value) c.in-Ok-read.ensures;
       begins = c.in-Err-Run-Write.ensures.beginning (ap Err (c.in-Err-Run-Write.field-0-is ∙ ap faults.Run c.in-Err-Run-Write.field-0-0-is));
     }))

@@ -1,6 +1,6 @@
 use Rattle.std.proofs.Common.{rules, arith, length, true, sym, ap, subst, ◌≡◌, ◌∙◌, to_z, of_z, w64}
 use Rattle.clock.specs.declared.heap.Entry.{Entry}
-use Rattle.clock.specs.Heaps.{AreDistinct, Has, IsNobodyDue, IsWithin, by_number, is_due_entry}
+use Rattle.clock.specs.Heaps.{AreDistinct, IsAmong, IsNobodyDue, IsWithin, by_number, is_due_entry}
 use Rattle.clock.proofs.Heaps.{take_front}
 use Rattle.clock.proofs.Adding.{all_grown, failing_are, left_distinct, one_taken, passing_are, right_distinct, right_within}
 use Rattle.clock.proofs.heap_delays.take_due.Goals as goal
@@ -27,7 +27,7 @@ sort-requires c =
     let l = c.loop-entry in
     subst AreDistinct (sym c.as_mut_slice.ensures.value) (left_distinct c.args.heap.now l.due.items l.heap l.invariant.0 c.requires.distinct)
 
-are_due : (c : goal.After-due-3-1) → (z : Entry) → Has z c.loop-entry.due.items → is_due_entry c.args.now z ≡ true
+are_due : (c : goal.After-due-3-1) → (z : Entry) → IsAmong z c.loop-entry.due.items → is_due_entry c.args.now z ≡ true
 are_due c z has = subst (λ t. is_due_entry t z ≡ true) (same_time c) (c.loop-entry.invariant.2 z has)
 
 not_due : (c : goal.After-due-3-1) → IsNobodyDue c.args.now c.loop-entry.heap

@@ -3,7 +3,7 @@ use Rattle.std.specs.Prelude.{IfErr}
 use Rattle.ada_tree.specs.ProgramTree.{program_tree}
 use Rattle.checking.specs.ProgramRules.{IsLegal}
 use Rattle.parser.specs.Parsing.{Derives}
-use Rattle.compile_and_go.specs.Accepted.{IsGiven, IsJudged, RefusesText}
+use Rattle.compile_and_go.specs.Accepted.{CompilesAccepted, IsJudged, RefusesText}
 use Rattle.compile_and_go.proofs.Compiling.{compiles, given, judged, judged_accepted, judged_legal, legal_given, refused_left_out, refused_text, restricted_given, tells, unrestricted_text}
 use Rattle.compile_and_go.proofs.compilation.compile.Goals as goal
 
@@ -57,7 +57,7 @@ returns-in_err-checked-clause-accepted c = λ tree given_tree.
     let same = c.deref.ensures.value ∙ c.in_ok-list.ensures.complete is_tree.tokens is_tree.spells in
     let only = c.in_ok-program.ensures.only tree (subst (Derives tree) (sym same) is_tree.derives) in
     let is : c.from_residual-in_err-checked.result ≡ Err c.in_err-checked.field-0.0 = search rules in
-    subst (IsGiven c.args.source.now tree) (sym is) (legal_given _ _ _ _ only given_tree.legal c.in_err-checked.ensures.refused)
+    subst (CompilesAccepted c.args.source.now tree) (sym is) (legal_given _ _ _ _ only given_tree.legal c.in_err-checked.ensures.refused)
 
 pub returns-in_err-accepted-clause-accepted : goal.returns-in_err-accepted-clause-accepted
 returns-in_err-accepted-clause-accepted c = λ tree given_tree.
@@ -65,7 +65,7 @@ returns-in_err-accepted-clause-accepted c = λ tree given_tree.
     let same = c.deref.ensures.value ∙ c.in_ok-list.ensures.complete is_tree.tokens is_tree.spells in
     let only = c.in_ok-program.ensures.only tree (subst (Derives tree) (sym same) is_tree.derives) in
     let is : c.from_residual-in_err-accepted.result ≡ Err c.in_err-accepted.field-0.0 = search rules in
-    subst (IsGiven c.args.source.now tree) (sym is)
+    subst (CompilesAccepted c.args.source.now tree) (sym is)
     (restricted_given _ _ _ _ (ap program_tree c.in_ok-checked.ensures.same ∙ only) given_tree.restricted c.in_err-accepted.ensures.refused)
 
 pub returns-clause-accepted : goal.returns-clause-accepted

@@ -4,7 +4,7 @@ use Rattle.ada_tree.specs.declared.expression.Expr as expressions
 use Rattle.ada_tree.specs.ExpressionTree.{expr_tree}
 use Rattle.expr_code.specs.Branches.{AreLegalBranches, branch_of}
 use Rattle.expr_code.specs.Code.{IsShallow}
-use Rattle.expr_code.specs.Emitting.{IsLegal}
+use Rattle.expr_code.specs.Emitting.{IsLegalExpression}
 use Rattle.expr_code.specs.Widths.{AreWide, width_of}
 use Rattle.expr_code.proofs.Growing.{added_here}
 use Rattle.expr_code.proofs.Legal.{legal_branch}
@@ -153,11 +153,11 @@ add_move-add_branch-requires t c =
       (
         c.requires.sound,
         (
-          subst (λ e. IsLegal v.scope (expr_tree e)) (sym c.deref-in-Conditional-2.ensures) moved.legal.condition,
+          subst (λ e. IsLegalExpression v.scope (expr_tree e)) (sym c.deref-in-Conditional-2.ensures) moved.legal.condition,
           (
             subst (λ e. width_of v.scope (expr_tree e) ≡ 1) (sym c.deref-in-Conditional-2.ensures) words.condition,
             (
-              subst (λ e. IsLegal v.scope (expr_tree e)) (sym c.deref-in-Conditional.ensures) moved.legal.value,
+              subst (λ e. IsLegalExpression v.scope (expr_tree e)) (sym c.deref-in-Conditional.ensures) moved.legal.value,
               (
                 subst (λ e. is_moved v (expr_tree e) ≡ true) (sym c.deref-in-Conditional.ensures) moved.value_moved,
                 (c.requires.block, c.requires.holds),
@@ -204,7 +204,7 @@ add_move-add_move-requires-in-Conditional t c =
       (
         c.requires.sound,
         (
-          subst (λ e. IsLegal v.scope (expr_tree e)) (sym c.deref-in-Conditional-4.ensures) moved.legal.last,
+          subst (λ e. IsLegalExpression v.scope (expr_tree e)) (sym c.deref-in-Conditional-4.ensures) moved.legal.last,
           (
             subst (λ e. is_moved v (expr_tree e) ≡ true) (sym c.deref-in-Conditional-4.ensures) moved.last_moved,
             (c.requires.block, c.requires.holds),

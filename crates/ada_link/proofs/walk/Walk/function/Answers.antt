@@ -8,7 +8,7 @@ use Rattle.meaning.specs.Programs.{program_of, returned, subtype_named}
 use Rattle.expr_code.specs.Emitting.{IsFit}
 use Rattle.stmt_code.specs.Subprograms.{AddsFunction, IsCalledFunction}
 use Rattle.stmt_code.specs.WholeRefusals.{RefusesFunction}
-use Rattle.ada_link.specs.Walking.{AddsValue, RefusesBody}
+use Rattle.ada_link.specs.Walking.{AddsValueFunction, RefusesBody}
 use Rattle.ada_link.proofs.BodyRefused.{both_ok, value_refused, value_told}
 use Rattle.ada_link.proofs.walk.Walk.function.Goals as goal
 
@@ -30,7 +30,7 @@ returns-clause-adds c =
     let old = c.args.self.now.draft in
     let d = subprogram_tree c.args.subprogram.now in
     IfOk-weaker c.function.result (λ words. AddsFunction v old c.deref-2.result.now c.result_subtype-result.result value words c.function.new.self)
-    (λ words. AddsValue (program_tree c.args.accepted.now) d (body_tree c.args.body.now) c.args.subtype.now v old words c.function.new.self)
+    (λ words. AddsValueFunction (program_tree c.args.accepted.now) d (body_tree c.args.body.now) c.args.subtype.now v old words c.function.new.self)
     (λ words h. record {
       value = value;
       returns = ap (λ l. returned (stmt_trees l)) (sym c.deref.ensures.value) ∙ c.in_ok-value.ensures.value;

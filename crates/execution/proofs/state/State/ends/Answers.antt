@@ -3,7 +3,7 @@ use Rattle.image.specs.Rules.{IsWellFormed}
 use Rattle.kernel.specs.Effects.{Ends, after, ending_of}
 use Rattle.task_steps.specs.Acting.{given_of}
 use Rattle.tasking.specs.Held.{kernel_of}
-use Rattle.execution.specs.Held.{Held}
+use Rattle.execution.specs.Held.{HeldWorld}
 use Rattle.execution.specs.Settling.{CanReceive, CanServe, given_tasks, served_tasks}
 use Rattle.execution.proofs.Ending.{can_receive, can_serve}
 use Rattle.execution.proofs.Settle.{settles_given, settles_served}
@@ -33,7 +33,7 @@ returns-in-TakesOver g c =
     let can = can_serve c.reaches_callers.ensures c.steps_whole.ensures.owes c.code_leads_on.ensures.leads_on c.code_leads_on.ensures.size c.args.self.now w count c.args.task c.args.is_open c.args.given c.requires c.in-TakesOver.object c.in-TakesOver.caller (sym is) in
     let kernel = c.in-TakesOver.ensures.kernel ∙ ap (λ h. after c.args.task (Ends c.args.is_open) (kernel_of h.tasking)) c.self.view_is in
     settles_served c.args.self.now c.serves.new.self c.args.task _ c.end_action.new.self kernel c.in-TakesOver.object c.in-TakesOver.caller (sym is) can
-    (c.serves.ensures ∙ ap {A = Held} (λ h. record h { tasking = c.end_action.new.self; tasks = served_tasks h.image h.tasks c.args.task c.in-TakesOver.object c.in-TakesOver.caller }) c.self.view_is)
+    (c.serves.ensures ∙ ap {A = HeldWorld} (λ h. record h { tasking = c.end_action.new.self; tasks = served_tasks h.image h.tasks c.args.task c.in-TakesOver.object c.in-TakesOver.caller }) c.self.view_is)
 
 pub returns-in-HandsBack : goal.returns-in-HandsBack
 returns-in-HandsBack g c =
@@ -43,4 +43,4 @@ returns-in-HandsBack g c =
     let can = can_receive c.reaches_callers.ensures c.steps_whole.ensures.owes c.code_leads_on.ensures.leads_on c.code_leads_on.ensures.size c.args.self.now w count c.args.task c.args.is_open c.args.given c.requires c.in-HandsBack.caller (sym is) in
     let kernel = c.in-HandsBack.ensures.kernel ∙ ap (λ h. after c.args.task (Ends c.args.is_open) (kernel_of h.tasking)) c.self.view_is in
     settles_given c.args.self.now c.hands_back.new.self c.args.task _ c.end_action.new.self kernel c.in-HandsBack.caller (sym is) can.caller
-    (c.hands_back.ensures ∙ ap {A = Held} (λ h. record h { tasking = c.end_action.new.self; tasks = given_tasks h.image h.tasks c.in-HandsBack.caller (given_of h.memory.passed c.args.given) }) c.self.view_is)
+    (c.hands_back.ensures ∙ ap {A = HeldWorld} (λ h. record h { tasking = c.end_action.new.self; tasks = given_tasks h.image h.tasks c.in-HandsBack.caller (given_of h.memory.passed c.args.given) }) c.self.view_is)

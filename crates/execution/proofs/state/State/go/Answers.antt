@@ -5,7 +5,7 @@ use Rattle.image.specs.Steps.{is_open}
 use Rattle.image_laws.specs.Shape.{IsSound}
 use Rattle.image_laws.specs.Whole.{IsWhole}
 use Rattle.kernel.specs.Calm.{Calm, IsRunner}
-use Rattle.task_steps.specs.Acting.{WentOn, solo_in}
+use Rattle.task_steps.specs.Acting.{ComesToAct, solo_in}
 use Rattle.tasking.specs.Held.{kernel_of}
 use Rattle.execution.specs.Held.{task_at, world_of}
 use Rattle.execution.proofs.Tasks.{task_there}
@@ -31,7 +31,7 @@ returns-clause-went g c =
     sym (task_there program c.self.inside.tasks.items c.from.result c.go.new.state c.in-Some.ensures.item.3.0 task (sym c.from.ensures)) in
     let went = c.go.ensures calm in
     subst
-    (λ h. WentOn h.image h.schedule (kernel_of h.tasking) task c.args.limit c.go.result.left (solo_in h.image h.memory (task_at h.image h.tasks task)) c.go.result.act c.go.new.memory (task_at program (slice_set c.self.inside.tasks.items c.from.result c.go.new.state) task))
+    (λ h. ComesToAct h.image h.schedule (kernel_of h.tasking) task c.args.limit c.go.result.left (solo_in h.image h.memory (task_at h.image h.tasks task)) c.go.result.act c.go.new.memory (task_at program (slice_set c.self.inside.tasks.items c.from.result c.go.new.state) task))
     c.self.view_is
-    (subst (λ s. WentOn program c.self.inside.schedule.now (kernel_of c.self.inside.tasking) task c.args.limit c.go.result.left (solo_in program c.self.inside.memory s) c.go.result.act c.go.new.memory (task_at program (slice_set c.self.inside.tasks.items c.from.result c.go.new.state) task)) there
-    (subst (λ s. WentOn program c.self.inside.schedule.now (kernel_of c.self.inside.tasking) task c.args.limit c.go.result.left (solo_in program c.self.inside.memory c.in-Some.state.now) c.go.result.act c.go.new.memory s) later went))
+    (subst (λ s. ComesToAct program c.self.inside.schedule.now (kernel_of c.self.inside.tasking) task c.args.limit c.go.result.left (solo_in program c.self.inside.memory s) c.go.result.act c.go.new.memory (task_at program (slice_set c.self.inside.tasks.items c.from.result c.go.new.state) task)) there
+    (subst (λ s. ComesToAct program c.self.inside.schedule.now (kernel_of c.self.inside.tasking) task c.args.limit c.go.result.left (solo_in program c.self.inside.memory c.in-Some.state.now) c.go.result.act c.go.new.memory s) later went))

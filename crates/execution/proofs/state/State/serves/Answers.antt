@@ -4,7 +4,7 @@ use Rattle.image.specs.Code.{initial_state}
 use Rattle.image.specs.Frames.{Serving, arguments}
 use Rattle.image.specs.Operations.{called, entry_of}
 use Rattle.image.specs.Sections.{first_place}
-use Rattle.execution.specs.Held.{Held, task_at}
+use Rattle.execution.specs.Held.{HeldWorld, task_at}
 use Rattle.execution.specs.Settling.{served_tasks, without}
 use Rattle.execution.proofs.ServedFrame.{served_is, served_tasks_are}
 use Rattle.execution.proofs.Tasks.{task_elsewhere}
@@ -25,7 +25,7 @@ returns g c =
     let is_called : called now.image number ≡ Some s = ap (λ h. called h.image number) (sym c.self.view_is) ∙ found_called in
     let place = c.first_place-place.ensures ∙ ap (λ h. first_place h.image number) c.self.view_is in
     let words = c.deref.ensures.0 ∙ c.take_parameters-parameters.ensures.words in
-    let before : Held = record now { tasks = slice_set now.tasks caller (without s.parameters (task_at now.image now.tasks caller)) } in
+    let before : HeldWorld = record now { tasks = slice_set now.tasks caller (without s.parameters (task_at now.image now.tasks caller)) } in
     let taken : c.take_parameters-parameters.new.self ≡ before = c.take_parameters-parameters.ensures.state in
     let both = c.self-2.view_is ∙ taken in
     let server : c.in-Some-get_mut.server.now ≡ task_at now.image now.tasks task =

@@ -7,7 +7,7 @@ use Rattle.std.specs.Prelude.{IfErr, IfOk, OnOk}
 use Rattle.std.proofs.lemmas.Result.{IfErr-weaker, IfOk-weaker, on_ok_weaker}
 use Rattle.ada_tree.specs.declared.expression.Expr as expressions
 use Rattle.ada_tree.specs.ExpressionTree.{argument_tree, argument_trees, Arguments, expr_tree, MoreSelectors, Named, name_tree, NoSelectors, selector_tree, selector_trees}
-use Rattle.expr_code.specs.Emitting.{EmitsExpression, IsLegal}
+use Rattle.expr_code.specs.Emitting.{EmitsExpression, IsLegalExpression}
 use Rattle.expr_code.specs.Going.{EmitsPath, IsLegalPart, IsLegalPath}
 use Rattle.expr_code.proofs.Branching.{adds_none, all_branches}
 use Rattle.expr_code.proofs.Checking.{checked_emits, fit_legal, unchecked_emits}
@@ -283,7 +283,7 @@ conversion-returns-in-Expr-clause-width t c =
     let words : width_of s (Named c.args.first.now (MoreSelectors (Arguments (argument_trees c.args.arguments.now)) NoSelectors)) ≡ 1 =
     ap (λ all. width_of s (Named c.args.first.now (MoreSelectors (Arguments all) NoSelectors))) one
     ∙ conversion_width s c.args.first.now (expr_tree c.in-Expr.e) c.args.subtype c.requires.stands
-    (subst (λ all. IsLegal s (Named c.args.first.now (MoreSelectors (Arguments all) NoSelectors))) one c.requires.legal) in
+    (subst (λ all. IsLegalExpression s (Named c.args.first.now (MoreSelectors (Arguments all) NoSelectors))) one c.requires.legal) in
     on_ok_weaker _ (λ p. words) c.checked.ensures.emits
 
 pub conversion-returns-in-Expr-clause-emits : goal.conversion-returns-in-Expr-clause-emits
@@ -293,7 +293,7 @@ conversion-returns-in-Expr-clause-emits t c =
     (λ all. EmitsExpression c.args.visible.now c.args.self.now c.args.depth 1 (Named c.args.first.now (MoreSelectors (Arguments all) NoSelectors))
     c.checked.new.self) (sym one)
     (conversion_emits c.quiet_stays.ensures c.args.visible.now _ _ c.args.depth c.args.first.now (expr_tree c.in-Expr.e) c.args.subtype c.requires.stands
-    (subst (λ all. IsLegal c.args.visible.now.scope (Named c.args.first.now (MoreSelectors (Arguments all) NoSelectors))) one c.requires.legal) p))
+    (subst (λ all. IsLegalExpression c.args.visible.now.scope (Named c.args.first.now (MoreSelectors (Arguments all) NoSelectors))) one c.requires.legal) p))
     c.checked.ensures.emits
 
 -- ---- names

@@ -17,7 +17,7 @@ use Rattle.expr_code.proofs.Widths.{condition_width}
 use Rattle.stmt_code.specs.Refusing.{alternatives_needs, around, elsifs_needs}
 use Rattle.stmt_code.specs.Staying.{StaysAlternatives, StaysParts}
 use Rattle.stmt_code.specs.Alternatives.{AddsAlternatives, AreLegalChoices}
-use Rattle.stmt_code.specs.Emitting.{AddsParts, AreLegal, EmitsStatement, EmitsStatements, EndsLoop, HasEntries, IsLegal, ways_of}
+use Rattle.stmt_code.specs.Emitting.{AddsParts, AreLegalStatements, EmitsStatement, EmitsStatements, EndsLoop, HasEntries, IsLegalStatement, ways_of}
 use Rattle.stmt_code.proofs.Adding.{block_body, block_declarations, block_emits, wanted_legal, without_handlers}
 use Rattle.stmt_code.proofs.Alternatives.{all_alternatives, alternative_closed, alternative_legal, alternatives_next, case_alternatives, case_emits, case_selecting, case_waiting, choices_waiting, no_alternatives, selecting_legal}
 use Rattle.stmt_code.proofs.Opening.{all_parts, branch_closed, no_parts, part_legal, parts_next}
@@ -74,7 +74,7 @@ elsifs-branch-self-requires t c =
           subst HasEntries there c.requires.entries,
           (
             subst (λ x. condition_faults x.scope (expr_tree c.part-item.result.condition) ≡ []) there legal.condition,
-            subst (λ x. AreLegal x.scope (stmt_trees c.deref.result.now)) there (subst (λ l. AreLegal s (stmt_trees l)) (sym c.deref.ensures.value) legal.body),
+            subst (λ x. AreLegalStatements x.scope (stmt_trees c.deref.result.now)) there (subst (λ l. AreLegalStatements s (stmt_trees l)) (sym c.deref.ensures.value) legal.body),
           ),
         ),
       ),
@@ -168,7 +168,7 @@ alternatives-alternative-requires t c =
             subst (λ x. selecting_faults x.scope e ≡ []) there c.requires.selecting,
             (
               subst (λ x. AreLegalChoices x.scope e (choices_tree c.alternative-item.result.choices)) there legal.choices,
-              subst (λ x. AreLegal x.scope (stmt_trees c.alternative-item.result.statements.items)) there legal.body,
+              subst (λ x. AreLegalStatements x.scope (stmt_trees c.alternative-item.result.statements.items)) there legal.body,
             ),
           ),
         ),
@@ -264,7 +264,7 @@ repeated-of_width-requires-clause-legal t c =
     let s = c.args.visible.now.scope in
     let e = expr_tree c.in-While.condition in
     let body = stmt_trees c.args.body.now in
-    let legal = subst (λ i. IsLegal s (Loop c.args.place (iteration_tree i) body)) c.in-While.is c.requires.legal in
+    let legal = subst (λ i. IsLegalStatement s (Loop c.args.place (iteration_tree i) body)) c.in-While.is c.requires.legal in
     wanted_legal s boolean_wanted e (while_condition s c.args.place body e legal)
 
 pub repeated-of_width-requires-clause-wide : goal.repeated-of_width-requires-clause-wide
@@ -272,7 +272,7 @@ repeated-of_width-requires-clause-wide t c =
     let s = c.args.visible.now.scope in
     let e = expr_tree c.in-While.condition in
     let body = stmt_trees c.args.body.now in
-    let legal = subst (λ i. IsLegal s (Loop c.args.place (iteration_tree i) body)) c.in-While.is c.requires.legal in
+    let legal = subst (λ i. IsLegalStatement s (Loop c.args.place (iteration_tree i) body)) c.in-While.is c.requires.legal in
     condition_width s c.requires.sound e (while_condition s c.args.place body e legal)
 
 pub repeated-statements-requires-in-While : goal.repeated-statements-requires-in-While
@@ -280,7 +280,7 @@ repeated-statements-requires-in-While t c =
     let s = c.args.visible.now.scope in
     let e = expr_tree c.in-While.condition in
     let body = stmt_trees c.args.body.now in
-    let legal = subst (λ i. IsLegal s (Loop c.args.place (iteration_tree i) body)) c.in-While.is c.requires.legal in
+    let legal = subst (λ i. IsLegalStatement s (Loop c.args.place (iteration_tree i) body)) c.in-While.is c.requires.legal in
     (search (rules, statements.the_lemmas), (c.requires.sound, (c.requires.entries, while_body s c.args.place body e legal)))
 
 pub repeated-returns-in_ok-end_loop-in-Forever-clause-emits : goal.repeated-returns-in_ok-end_loop-in-Forever-clause-emits
@@ -339,7 +339,7 @@ pub repeated-counted-requires : goal.repeated-counted-requires
 repeated-counted-requires t c =
     let s = c.args.visible.now.scope in
     let body = stmt_trees c.args.body.now in
-    let legal = subst (λ i. IsLegal s (Loop c.args.place (iteration_tree i) body)) c.in-For.is c.requires.legal in
+    let legal = subst (λ i. IsLegalStatement s (Loop c.args.place (iteration_tree i) body)) c.in-For.is c.requires.legal in
     (search (rules, statements.the_lemmas), (c.requires.sound, (c.requires.entries, legal)))
 
 pub repeated-returns-in-For-clause-emits : goal.repeated-returns-in-For-clause-emits
@@ -378,7 +378,7 @@ counted-statements-requires t c =
         (
           entries_inside c.shapes_stay.ensures v c.begin_range.new.visible begun c.begin_range.new.self c.args.parameter.now c.args.reversed range _ _
               c.requires.sound c.requires.entries legal type_is r,
-          subst (λ s. AreLegal s (stmt_trees c.args.body.now)) (sym r.scope)
+          subst (λ s. AreLegalStatements s (stmt_trees c.args.body.now)) (sym r.scope)
               (loop_body v.scope c.args.place c.args.parameter.now c.args.reversed range (stmt_trees c.args.body.now) c.requires.legal),
         ),
       ),
@@ -438,7 +438,7 @@ block-statements-requires t c =
         declared.sound,
         (
           declared.entries,
-          subst (λ s. AreLegal s (stmt_trees c.args.body.now)) (sym declared.scope)
+          subst (λ s. AreLegalStatements s (stmt_trees c.args.body.now)) (sym declared.scope)
               (block_body c.args.visible.now.scope c.args.place (map declaration_tree c.args.declarations.now)
               (stmt_trees c.args.body.now) NoHandlers c.requires.legal),
         ),

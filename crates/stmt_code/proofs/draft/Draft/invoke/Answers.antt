@@ -12,7 +12,7 @@ use Rattle.types.specs.Entities as entity
 use Rattle.types.specs.Entities.{profile_value}
 use Rattle.well_typed.specs.SoundScopes.{AreKnown}
 use Rattle.expr_code.specs.Actuals.{ArePassedLegally}
-use Rattle.stmt_code.specs.Passing.{EmitsActuals, EmitsCopies}
+use Rattle.stmt_code.specs.Passing.{EmitsPassedActuals, EmitsCopies}
 use Rattle.stmt_code.specs.Refusing.{actuals_needs, copies_needs, destinations_of, IsNeeding, IsPartFit}
 use Rattle.stmt_code.specs.Suiting.{passed_width}
 use Rattle.expr_code.proofs.Growing.{added_here}
@@ -43,9 +43,9 @@ returns-clause-emits c =
     let ds = added.destinations in
     let told = c.deref-2.ensures.value ∙ added.after_is ∙ ap (λ l. l ++ ds) c.new-destinations.ensures.items in
     let actuals =
-    subst (λ l. EmitsActuals v c.args.self.now.code 0 l (map argument_tree all) ds c.in_ok-height.height c.add_actuals.new.code)
+    subst (λ l. EmitsPassedActuals v c.args.self.now.code 0 l (map argument_tree all) ds c.in_ok-height.height c.add_actuals.new.code)
     (take_all profile.formals (length all) (omega (arith, counted)))
-    (subst (λ l. EmitsActuals v c.args.self.now.code 0 (take (length all) l) (map argument_tree all) ds c.in_ok-height.height c.add_actuals.new.code)
+    (subst (λ l. EmitsPassedActuals v c.args.self.now.code 0 (take (length all) l) (map argument_tree all) ds c.in_ok-height.height c.add_actuals.new.code)
     c.deref.ensures.value added.emits) in λ w.
     on_ok_weaker _
     (λ r.

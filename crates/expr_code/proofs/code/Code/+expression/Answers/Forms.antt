@@ -3,7 +3,7 @@ use Rattle.std.proofs.Common.{map, rules, refl, sym, ap, ◌∙◌, subst, ◌�
 use Rattle.ada_tree.specs.declared.expression.Expr as expressions
 use Rattle.ada_tree.specs.ExpressionTree.{expr_tree}
 use Rattle.expr_code.specs.Branches.{AddsBranches, AreLegalBranches, branch_of}
-use Rattle.expr_code.specs.Emitting.{AreLegal, EmitsExpression, IsLegal}
+use Rattle.expr_code.specs.Emitting.{AreLegalOperands, EmitsExpression, IsLegalExpression}
 use Rattle.expr_code.proofs.Branching.{branch_closed, branches_next, conditional_legal, whole_at}
 use Rattle.expr_code.proofs.Chains.{chain_emits, first_legal, legal_at, more_legal, one_emitted, second_legal}
 use Rattle.expr_code.proofs.Legal.{legal_branch, legal_operand}
@@ -22,7 +22,7 @@ expression-of_width-requires-in-Chain t c =
       (
         c.requires.sound,
         (
-          subst (λ e. IsLegal c.args.visible.now.scope (expr_tree e)) (sym c.deref-in-Chain.ensures)
+          subst (λ e. IsLegalExpression c.args.visible.now.scope (expr_tree e)) (sym c.deref-in-Chain.ensures)
               (first_legal c.args.visible.now _ _ c.in-Chain.second.value c.in-Chain.more.items tree c.requires.legal),
           subst (λ e. width_of c.args.visible.now.scope (expr_tree e) ≡ 1) (sym c.deref-in-Chain.ensures) words.first,
         ),
@@ -37,7 +37,7 @@ expression-operand-requires t c =
       (
         c.requires.sound,
         (
-          subst (λ o. IsLegal c.args.visible.now.scope (expr_tree o.value)) (sym c.deref-in-Chain-2.ensures)
+          subst (λ o. IsLegalExpression c.args.visible.now.scope (expr_tree o.value)) (sym c.deref-in-Chain-2.ensures)
               (second_legal c.args.visible.now _ _ c.in-Chain.second.value c.in-Chain.more.items tree c.requires.legal),
           subst (λ o. width_of c.args.visible.now.scope (expr_tree o.value) ≡ 1) (sym c.deref-in-Chain-2.ensures) words.others.0,
         ),
@@ -52,7 +52,7 @@ expression-operands-requires t c =
       (
         c.requires.sound,
         (
-          subst (λ all. AreLegal c.args.visible.now.scope all) (sym c.deref-in-Chain-3.ensures.value)
+          subst (λ all. AreLegalOperands c.args.visible.now.scope all) (sym c.deref-in-Chain-3.ensures.value)
               (more_legal c.args.visible.now _ _ c.in-Chain.second.value c.in-Chain.more.items tree c.requires.legal),
           subst (λ all. AreSingle c.args.visible.now.scope all) (sym c.deref-in-Chain-3.ensures.value) words.others.1,
         ),
@@ -97,7 +97,7 @@ expression-of_width-requires t c =
       (
         c.requires.sound,
         (
-          subst (λ e. IsLegal s (expr_tree e)) (sym c.deref-in-Unary.ensures) (legal_operand s _ _ _ legal),
+          subst (λ e. IsLegalExpression s (expr_tree e)) (sym c.deref-in-Unary.ensures) (legal_operand s _ _ _ legal),
           subst (λ e. width_of s (expr_tree e) ≡ 1) (sym c.deref-in-Unary.ensures) (unary_width s c.requires.sound _ _ _ legal).left,
         ),
       ),
@@ -114,7 +114,7 @@ expression-of_width-requires-in-Conditional t c =
       (
         c.requires.sound,
         (
-          subst (λ e. IsLegal s (expr_tree e)) (sym c.deref-in-Conditional.ensures) parts.condition,
+          subst (λ e. IsLegalExpression s (expr_tree e)) (sym c.deref-in-Conditional.ensures) parts.condition,
           subst (λ e. width_of s (expr_tree e) ≡ 1)
               (sym c.deref-in-Conditional.ensures) words.condition,
         ),
@@ -127,7 +127,7 @@ expression-expression-requires-in-Conditional t c =
     let tree = ap expr_tree c.in-Conditional.is ∙ c.conditional_by_parts.ensures c.in-Conditional.field-0 c.in-Conditional.condition c.in-Conditional.value
     c.in-Conditional.elsifs c.in-Conditional.last in
     let parts = conditional_legal s _ c.in-Conditional.field-0 _ _ c.in-Conditional.elsifs.items _ tree c.requires.legal in
-    (search (rules, expressions.the_lemmas), (c.requires.sound, subst (λ e. IsLegal s (expr_tree e)) (sym c.deref-in-Conditional-2.ensures) parts.value))
+    (search (rules, expressions.the_lemmas), (c.requires.sound, subst (λ e. IsLegalExpression s (expr_tree e)) (sym c.deref-in-Conditional-2.ensures) parts.value))
 
 pub expression-elsifs-requires : goal.expression-elsifs-requires
 expression-elsifs-requires t c =
@@ -160,7 +160,7 @@ expression-of_width-requires-in-Conditional-2 t c =
       (
         c.requires.sound,
         (
-          subst (λ e. IsLegal s (expr_tree e)) (sym c.deref-in-Conditional-4.ensures) parts.last,
+          subst (λ e. IsLegalExpression s (expr_tree e)) (sym c.deref-in-Conditional-4.ensures) parts.last,
           subst (λ e. width_of s (expr_tree e) ≡ c.in_ok-width-in-Conditional.width) (sym c.deref-in-Conditional-4.ensures) (words.last ∙ sym told),
         ),
       ),

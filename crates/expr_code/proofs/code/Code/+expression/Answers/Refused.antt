@@ -3,7 +3,7 @@ use Rattle.std.proofs.Common.{inr, ◌+◌, ◌*◌, arith, map, rules, refl, sy
 use Rattle.ada_tree.specs.declared.expression.Expr as expressions
 use Rattle.ada_tree.specs.ExpressionTree.{argument_trees, Arguments, expr_tree, MoreSelectors, Named, NoSelectors, selector_tree, selector_trees}
 use Rattle.expr_code.specs.Branches.{AddsBranches, branch_of}
-use Rattle.expr_code.specs.Emitting.{EmitsExpression, IsLegal}
+use Rattle.expr_code.specs.Emitting.{EmitsExpression, IsLegalExpression}
 use Rattle.types.specs.Scopes.{number_of}
 use Rattle.types.specs.Standings.{stands_first}
 use Rattle.expr_code.proofs.Going.{index_integers, one_argument, path_counts}
@@ -195,7 +195,7 @@ called-call-requires t c =
     (sym c.deref.ensures.value) in
     let same = one_selector c.args.selectors.now c.selector-item.result _ c.in-len1.len_at_least c.in-len1.len_below c.selector-item.is tree in (
       search (rules, expressions.the_lemmas),
-      (c.requires.sound, (search rules, subst (λ x. IsLegal c.args.visible.now.scope (Named c.args.first.now x)) same c.requires.legal)),
+      (c.requires.sound, (search rules, subst (λ x. IsLegalExpression c.args.visible.now.scope (Named c.args.first.now x)) same c.requires.legal)),
     )
 
 pub called-returns-in_err-call-in-Arguments-clause-refused : goal.called-returns-in_err-call-in-Arguments-clause-refused

@@ -7,7 +7,7 @@ use Rattle.ada_tree.specs.StatementTree.{Block, Case, Loop, NoHandlers, alternat
 use Rattle.well_typed.specs.SoundScopes.{SoundScope}
 use Rattle.stmt_code.specs.Refusing.{around, stmts_needs}
 use Rattle.stmt_code.specs.Staying.{StaysStatement}
-use Rattle.stmt_code.specs.Emitting.{AddsParts, AreLegal, AreLegalElsifs, EmitsStatement, EmitsStatements, HasEntries, IsLegal, ways_of}
+use Rattle.stmt_code.specs.Emitting.{AddsParts, AreLegalStatements, AreLegalElsifs, EmitsStatement, EmitsStatements, HasEntries, IsLegalStatement, ways_of}
 use Rattle.stmt_code.proofs.Adding.{all_statements, no_statements, none_there, null_emits, statement_legal, statements_next}
 use Rattle.stmt_code.proofs.Opening.{if_body, if_condition, if_elsifs, if_emits, if_others, waiting_there}
 use Rattle.stmt_code.proofs.PartsStay.{statements_end, statements_stay}
@@ -32,7 +32,7 @@ statement-branch-self-requires t c =
           c.requires.entries,
           (
             if_condition c.args.visible.now.scope (stmt_tree c.args.statement.now) c.in-If.field-0 (expr_tree c.in-If.condition) (stmt_trees c.in-If.body.items) (elsif_trees c.in-If.elsifs.items) (stmt_trees c.in-If.others.items) tree c.requires.legal,
-            subst (λ l. AreLegal c.args.visible.now.scope (stmt_trees l)) (sym c.deref.ensures.value)
+            subst (λ l. AreLegalStatements c.args.visible.now.scope (stmt_trees l)) (sym c.deref.ensures.value)
                 (if_body c.args.visible.now.scope (stmt_tree c.args.statement.now) c.in-If.field-0 (expr_tree c.in-If.condition) (stmt_trees c.in-If.body.items) (elsif_trees c.in-If.elsifs.items) (stmt_trees c.in-If.others.items) tree c.requires.legal),
           ),
         ),
@@ -65,8 +65,8 @@ statement-statements-requires t c =
         subst (λ x. SoundScope x.scope) (sym (c.in_ok-elsifs-in-If.ensures.same ∙ c.in_ok-branch-in-If.ensures.same)) c.requires.sound,
         (
           subst HasEntries (sym (c.in_ok-elsifs-in-If.ensures.same ∙ c.in_ok-branch-in-If.ensures.same)) c.requires.entries,
-          subst (λ x. AreLegal x.scope (stmt_trees c.deref-in-If-2.result.now)) (sym (c.in_ok-elsifs-in-If.ensures.same ∙ c.in_ok-branch-in-If.ensures.same))
-              (subst (λ l. AreLegal c.args.visible.now.scope (stmt_trees l)) (sym c.deref-in-If-2.ensures.value)
+          subst (λ x. AreLegalStatements x.scope (stmt_trees c.deref-in-If-2.result.now)) (sym (c.in_ok-elsifs-in-If.ensures.same ∙ c.in_ok-branch-in-If.ensures.same))
+              (subst (λ l. AreLegalStatements c.args.visible.now.scope (stmt_trees l)) (sym c.deref-in-If-2.ensures.value)
               (if_others c.args.visible.now.scope (stmt_tree c.args.statement.now) c.in-If.field-0 (expr_tree c.in-If.condition) (stmt_trees c.in-If.body.items)
               (elsif_trees c.in-If.elsifs.items) (stmt_trees c.in-If.others.items) tree c.requires.legal)),
         ),
@@ -149,7 +149,7 @@ statement-case-requires t c =
         c.requires.sound,
         (
           c.requires.entries,
-          subst (λ l. IsLegal s (Case c.in-Case.place e (alternative_trees l))) (sym c.deref-in-Case.ensures.value) (subst (IsLegal s) tree c.requires.legal),
+          subst (λ l. IsLegalStatement s (Case c.in-Case.place e (alternative_trees l))) (sym c.deref-in-Case.ensures.value) (subst (IsLegalStatement s) tree c.requires.legal),
         ),
       ),
     )
@@ -193,8 +193,8 @@ statement-repeated-requires t c =
         c.requires.sound,
         (
           c.requires.entries,
-          subst (λ l. IsLegal s (Loop c.in-Loop.place (iteration_tree c.in-Loop.iteration) (stmt_trees l))) (sym c.deref-in-Loop.ensures.value)
-              (subst (IsLegal s) tree c.requires.legal),
+          subst (λ l. IsLegalStatement s (Loop c.in-Loop.place (iteration_tree c.in-Loop.iteration) (stmt_trees l))) (sym c.deref-in-Loop.ensures.value)
+              (subst (IsLegalStatement s) tree c.requires.legal),
         ),
       ),
     )
@@ -228,10 +228,10 @@ statement-block-requires t c =
         c.requires.sound,
         (
           c.requires.entries,
-          subst (λ l. IsLegal s (Block c.in-Block.place (map declaration_tree l) (stmt_trees c.deref-then-is_empty.result.now) NoHandlers))
+          subst (λ l. IsLegalStatement s (Block c.in-Block.place (map declaration_tree l) (stmt_trees c.deref-then-is_empty.result.now) NoHandlers))
               (sym c.deref-then-is_empty-2.ensures.value)
-              (subst (λ l. IsLegal s (Block c.in-Block.place (map declaration_tree c.in-Block.declarations.items) (stmt_trees l) NoHandlers))
-              (sym c.deref-then-is_empty.ensures.value) (subst (IsLegal s) tree c.requires.legal)),
+              (subst (λ l. IsLegalStatement s (Block c.in-Block.place (map declaration_tree c.in-Block.declarations.items) (stmt_trees l) NoHandlers))
+              (sym c.deref-then-is_empty.ensures.value) (subst (IsLegalStatement s) tree c.requires.legal)),
         ),
       ),
     )
@@ -278,7 +278,7 @@ statements-statement-requires t c =
         subst (λ x. SoundScope x.scope) there c.requires.sound,
         (
           subst HasEntries there c.requires.entries,
-          subst (λ x. IsLegal x.scope (stmt_tree c.statement-item.result)) there
+          subst (λ x. IsLegalStatement x.scope (stmt_tree c.statement-item.result)) there
               (statement_legal c.args.visible.now.scope c.args.all.now _ c.statement-item.result c.loop-statement-test.true c.statement-item.is c.requires.legal),
         ),
       ),

@@ -10,7 +10,7 @@ use Rattle.expr_code.specs.Branches.{Rejoins}
 use Rattle.expr_code.specs.Code.{here}
 use Rattle.stmt_code.specs.Bounds.{locals_words}
 use Rattle.stmt_code.specs.Covering.{AddsCovered, AddsHandled, AddsHandlers, choice_rows}
-use Rattle.stmt_code.specs.Emitting.{AreLegal, AreLegalHandlers, EmitsDeclarations, EmitsStatement, EmitsStatements, HasEntries, IsLegal, ways_of}
+use Rattle.stmt_code.specs.Emitting.{AreLegalStatements, AreLegalHandlers, EmitsDeclarations, EmitsStatement, EmitsStatements, HasEntries, IsLegalStatement, ways_of}
 use Rattle.stmt_code.specs.Labels.{stmts_labels}
 use Rattle.stmt_code.specs.Raising.{are_numbered}
 use Rattle.stmt_code.specs.Refusing.{RefusesCovered, RefusesHandlers, RefusesStatement, around, handlers_needs, locals_visible}
@@ -59,7 +59,7 @@ each_handler-handler-requires t c =
         subst (λ x. SoundScope x.scope) there c.requires.sound,
         (
           subst HasEntries there c.requires.entries,
-          subst (λ x. AreLegal x.scope (stmt_trees c.handler-item.result.statements.items)) there
+          subst (λ x. AreLegalStatements x.scope (stmt_trees c.handler-item.result.statements.items)) there
               (handler_legal c.args.visible.now.scope c.args.all.now _ c.handler-item.result c.loop-handler-test.true c.handler-item.is c.requires.legal),
         ),
       ),
@@ -192,7 +192,7 @@ statement-declarations-requires-clause-legal t c =
     ∙ c.statements_by_parts.ensures.blocks c.in-Block.place c.in-Block.declarations c.in-Block.body c.in-Block.handlers in
     subst (λ l. locals_faults s (map declaration_tree l) ≡ []) (sym c.deref-in-Block.ensures.value)
     (block_declarations s c.in-Block.place (map declaration_tree c.in-Block.declarations.items) (stmt_trees c.in-Block.body.items)
-    (handler_trees c.in-Block.handlers.items) (subst (IsLegal s) tree c.requires.legal))
+    (handler_trees c.in-Block.handlers.items) (subst (IsLegalStatement s) tree c.requires.legal))
 
 pub statement-covered-requires : goal.statement-covered-requires
 statement-covered-requires t c =
@@ -207,10 +207,10 @@ statement-covered-requires t c =
         declared.sound,
         (
           declared.entries,
-          subst (λ l. AreLegal c.declarations.new.visible.scope (stmt_trees l)) (sym c.deref-in-Block-2.ensures.value)
-              (subst (λ z. AreLegal z (stmt_trees c.in-Block.body.items)) (sym declared.scope)
+          subst (λ l. AreLegalStatements c.declarations.new.visible.scope (stmt_trees l)) (sym c.deref-in-Block-2.ensures.value)
+              (subst (λ z. AreLegalStatements z (stmt_trees c.in-Block.body.items)) (sym declared.scope)
               (block_body s c.in-Block.place ds (stmt_trees c.in-Block.body.items) (handler_trees c.in-Block.handlers.items)
-              (subst (IsLegal s) tree c.requires.legal))),
+              (subst (IsLegalStatement s) tree c.requires.legal))),
         ),
       ),
     )
@@ -255,7 +255,7 @@ statement-handlers-requires t c =
                 (subst (λ l. AreLegalHandlers c.declarations.new.visible.scope (handler_trees l)) (sym c.deref-in-Block-3.ensures.value)
                 (subst (λ z. AreLegalHandlers z (handler_trees c.in-Block.handlers.items)) (sym declared.scope)
                 (block_handlers s c.in-Block.place ds (stmt_trees c.in-Block.body.items) (handler_trees c.in-Block.handlers.items)
-                (subst (IsLegal s) tree c.requires.legal)))),
+                (subst (IsLegalStatement s) tree c.requires.legal)))),
             cover_there c.declarations.new.visible (ways_of c.args.leaving) c.declarations.new.self c.covered.new.self c.in_ok-cover-in-Block.cover
                 (stmt_trees c.deref-in-Block-2.result.now) c.in_ok-cover-in-Block.ensures.covers,
           ),
