@@ -36,11 +36,11 @@ use Rattle.sound_programs.proofs.Walked.{Origin, declared_one, declares, body_it
 use Rattle.sound_programs.proofs.Walked as walked
 use Rattle.sound_programs.proofs.WiderScopes.{equal_bytes, same_bytes, seen_some, some_seen, stands}
 use Rattle.sound_programs.proofs.Whole.{IsPackage, kept, known_kind, no_doubt, subprogram_is, subprogram_item}
-use Rattle.ada_link.specs.Counts.{bodies_among}
-use Rattle.ada_link.proofs.Differing.{AreAmong, AreDiffering, differing_more, is_of, no_more_than}
+use Rattle.package_code.specs.Counts.{bodies_among}
+use Rattle.package_code.proofs.Differing.{AreAmong, AreDiffering, differing_more, is_of, no_more_than}
 use Rattle.ada_link.proofs.LabelsFit.{within_limit}
-use Rattle.ada_link.proofs.ItemsTold.{none_taken}
-use Rattle.ada_link.proofs.Variables.{exceptions_both}
+use Rattle.package_code.proofs.ItemsTold.{none_taken}
+use Rattle.package_code.proofs.Variables.{exceptions_both}
 
 -- ---- how many things of a kind there are
 

@@ -14,13 +14,13 @@ use Rattle.sound_programs.proofs.Listing.{same_some}
 use Rattle.expr_code.specs.Code.{here}
 use Rattle.stmt_code.specs.Emitting.{HasLabels}
 use Rattle.stmt_code.specs.Whole.{AreAllKept, KeepsSubprogramRules, KeptCodePasses, PassesOnCode}
-use Rattle.ada_link.specs.Program.{HasProgram, main_row}
-use Rattle.ada_link.specs.Walking.{row_of}
-use Rattle.ada_link.proofs.InFront.{LawsOfNames}
-use Rattle.ada_link.proofs.Linking.{begins_there, called_front, called_main, first_main, holds_main, holds_there, labels_there}
+use Rattle.package_code.specs.Program.{HasProgram, main_row}
+use Rattle.package_code.specs.Walking.{row_of}
+use Rattle.package_code.proofs.InFront.{LawsOfNames}
+use Rattle.package_code.proofs.Linking.{begins_there, called_front, called_main, first_main, holds_main, holds_there, labels_there}
 use Rattle.ada_link.proofs.Suited.{front_suited}
-use Rattle.ada_link.proofs.Counted.{IsOfBody, owner_of}
-use Rattle.ada_link.proofs.Walked.{last_or_before}
+use Rattle.package_code.proofs.Counted.{IsOfBody, owner_of}
+use Rattle.package_code.proofs.Walked.{last_or_before}
 
 -- each is, where each by its number is
 all_kept : (i : Sections) (all : List Subprogram) (first : ℕ)

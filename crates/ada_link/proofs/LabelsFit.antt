@@ -16,11 +16,11 @@ use Rattle.size_rules.specs.Limits.{Things, first_use, first_uses, is_among, ove
 use Rattle.size_rules.specs.PackageSizes.{body_item_inside, body_items_inside, frame_faults, operations_inside, package_inside, package_things}
 use Rattle.size_rules.specs.ProgramSizes.{declared_faults, label_faults, optional_size_faults}
 use Rattle.sound_programs.specs.Fronts.{declared_in}
-use Rattle.stmt_code.specs.Labels.{alternatives_labels, elsifs_labels, handlers_labels, is_label, stmt_labels, stmts_labels, with_label, with_line}
-use Rattle.stmt_code.specs.Lines.{line_behind}
+use Rattle.part_code.specs.Labels.{alternatives_labels, elsifs_labels, handlers_labels, is_label, stmt_labels, stmts_labels, with_label, with_line}
+use Rattle.part_code.specs.Lines.{line_behind}
 use Rattle.stmt_code.specs.WholeRefusals.{body_labels}
-use Rattle.ada_link.specs.Refusing.{item_labels, items_labels}
-use Rattle.ada_link.proofs.Differing.{AreAmong, AreDiffering, differing_more, is_of, no_more_than, of_either, of_front, of_last, position_is}
+use Rattle.package_code.specs.Refusing.{item_labels, items_labels}
+use Rattle.package_code.proofs.Differing.{AreAmong, AreDiffering, differing_more, is_of, no_more_than, of_either, of_front, of_last, position_is}
 use Rattle.sound_programs.proofs.WiderScopes.{equal_bytes, same_bytes}
 
 -- ---- labels that are counted

@@ -30,9 +30,9 @@ use Rattle.sound_programs.proofs.BodyProfiles.{parameters_are, profile_formals, 
 use Rattle.sound_programs.proofs.Trees.{main_legal}
 use Rattle.sound_programs.proofs.Whole.{IsPackage}
 use Rattle.stmt_code.specs.Subprograms.{CallsProcedures, NamesBare, NamesIfCalled}
-use Rattle.ada_link.proofs.CodedPackage.{procedure_stands}
-use Rattle.ada_link.proofs.InFront.{LawsOfNames, known, last_is, memory, names, whole}
-use Rattle.ada_link.specs.Laws.{MainMayBeAdded}
+use Rattle.package_code.proofs.CodedPackage.{procedure_stands}
+use Rattle.package_code.proofs.InFront.{LawsOfNames, known, last_is, memory, names, whole}
+use Rattle.package_code.specs.Laws.{MainMayBeAdded}
 
 -- each statement is null, or a call of a procedure of the program without parameters
 abbrev pub AreFound : Program → List MainStatement → Type 0

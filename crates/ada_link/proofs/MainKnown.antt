@@ -21,14 +21,14 @@ use Rattle.sound_programs.proofs.Whole.{IsPackage}
 use Rattle.well_typed.proofs.Positions.{entity_number, first_place, found_at, number_place, suc_of}
 use Rattle.expr_code.specs.Entries.{entry_at}
 use Rattle.expr_code.specs.Seeing.{subprogram_of, told_of}
-use Rattle.stmt_code.specs.Refusing.{are_unknown}
-use Rattle.ada_link.specs.Laws.{MainIsKnown}
-use Rattle.ada_link.specs.Refusing.{number_in, seen_at, told_behind}
-use Rattle.ada_link.proofs.CodedPackage.{procedure_stands}
-use Rattle.ada_link.proofs.InFront.{LawsOfNames, last_is, whole}
+use Rattle.part_code.specs.Needs.{are_unknown}
+use Rattle.package_code.specs.Laws.{MainIsKnown}
+use Rattle.package_code.specs.Refusing.{number_in, seen_at, told_behind}
+use Rattle.package_code.proofs.CodedPackage.{procedure_stands}
+use Rattle.package_code.proofs.InFront.{LawsOfNames, last_is, whole}
 use Rattle.ada_link.proofs.MainCalls.{AreFound, main_found}
-use Rattle.ada_link.proofs.Numbered.{bodies_numbered}
-use Rattle.ada_link.proofs.Seen.{all_behind}
+use Rattle.package_code.proofs.Numbered.{bodies_numbered}
+use Rattle.package_code.proofs.Seen.{all_behind}
 
 -- ---- what is told of a name that is not among the first
 

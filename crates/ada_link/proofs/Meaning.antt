@@ -36,15 +36,15 @@ use Rattle.sound_programs.specs.BodyLaws.{PremisesHold}
 use Rattle.sound_programs.specs.ProgramLaws.{StartsAreSound}
 use Rattle.expr_code.specs.Coming.{most_steps}
 use Rattle.expr_code.specs.Seeing.{Package}
-use Rattle.stmt_code.specs.Handling.{unhandled}
-use Rattle.stmt_code.specs.Laws.{StepsAreMet}
-use Rattle.stmt_code.specs.Resting.{Shows}
-use Rattle.stmt_code.specs.Statements.{Numbers}
-use Rattle.stmt_code.specs.Jumping.{Here}
-use Rattle.stmt_code.specs.Standing.{Around, CodeStands, Follows, Going, Inside, Left, Shares, WorkStands, relation, work_size}
-use Rattle.stmt_code.proofs.Handling.{goes_within}
-use Rattle.ada_link.specs.LinkLaws.{LinkedKeepsCount, LinkedMeansTheSame}
-use Rattle.ada_link.specs.Linked.{AreMain, IsLinkedProgram}
+use Rattle.part_code.specs.Handling.{unhandled}
+use Rattle.met_steps.specs.Laws.{StepsAreMet}
+use Rattle.part_code.specs.Resting.{Shows}
+use Rattle.part_code.specs.Statements.{Numbers}
+use Rattle.part_code.specs.Jumping.{Here}
+use Rattle.met_steps.specs.Standing.{Around, CodeStands, Follows, Going, Inside, Left, Shares, WorkStands, relation, work_size}
+use Rattle.part_code.proofs.Handling.{goes_within}
+use Rattle.package_code.specs.LinkLaws.{LinkedKeepsCount, LinkedMeansTheSame}
+use Rattle.package_code.specs.Linked.{AreMain, IsLinkedProgram}
 use Rattle.ada_link.proofs.Single.{Single, begins_single, single_after}
 
 pub record LawsBelow : Type 0 where

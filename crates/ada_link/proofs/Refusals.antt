@@ -18,19 +18,19 @@ use Rattle.expr_code.specs.Seeing.{told_of}
 use Rattle.expr_code.specs.declared.refusal.Refusal.{Refusal}
 use Rattle.expr_code.specs.declared.refusal.Refusal.TheVariants as refusal
 use Rattle.expr_code.proofs.Refusals.{or_left}
-use Rattle.stmt_code.specs.Bounds.{main_bound}
-use Rattle.stmt_code.specs.Refusing.{RefusesMain, are_unknown, beyond_if}
-use Rattle.stmt_code.proofs.Refused.{needing_refused}
-use Rattle.ada_link.specs.Counts.{bodies_among, bodies_before, bounds_from}
-use Rattle.ada_link.specs.Directory.{HaveBodyNumbers, HasManyBodies, IsDirectory}
-use Rattle.ada_link.specs.Globals.{AreGlobals, RefusesGlobals, refuses_items}
-use Rattle.ada_link.specs.Laws.{HasFew}
-use Rattle.ada_link.specs.Program.{HasProgram, has_texts, is_within_limits}
-use Rattle.ada_link.specs.Refusing.{RefusesCode, RefusesSections, RefusesLinking, is_spelled, items_labels, items_needs, items_rows, number_among, program_bound, program_labels, program_needs, program_rows, seen_at}
-use Rattle.ada_link.specs.Walking.{IsAsTold}
-use Rattle.ada_link.specs.declared.directory.Directory.{Directory}
-use Rattle.ada_link.specs.declared.globals.Globals.{Globals}
-use Rattle.ada_link.specs.declared.walk.Walk.{Walk}
+use Rattle.part_code.specs.Bounds.{main_bound}
+use Rattle.part_code.specs.Needs.{RefusesMain, are_unknown, beyond_if}
+use Rattle.part_code.proofs.Within.{needing_refused}
+use Rattle.package_code.specs.Counts.{bodies_among, bodies_before, bounds_from}
+use Rattle.package_code.specs.Directory.{HaveBodyNumbers, HasManyBodies, IsDirectory}
+use Rattle.package_code.specs.Globals.{AreGlobals, RefusesGlobals, refuses_items}
+use Rattle.package_code.specs.Laws.{HasFew}
+use Rattle.package_code.specs.Program.{HasProgram, has_texts, is_within_limits}
+use Rattle.package_code.specs.Refusing.{RefusesCode, RefusesSections, RefusesLinking, is_spelled, items_labels, items_needs, items_rows, number_among, program_bound, program_labels, program_needs, program_rows, seen_at}
+use Rattle.package_code.specs.Walking.{IsAsTold}
+use Rattle.package_code.specs.declared.directory.Directory.{Directory}
+use Rattle.package_code.specs.declared.globals.Globals.{Globals}
+use Rattle.package_code.specs.declared.walk.Walk.{Walk}
 
 -- ---- bodies stand in the package's body
 

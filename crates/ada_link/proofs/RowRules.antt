@@ -14,11 +14,11 @@ use Rattle.image.specs.Sections.{Sections, end_of, holder_number}
 use Rattle.image.specs.declared.subprograms.Subprogram.{Subprogram}
 use Rattle.expr_code.specs.Code.{here}
 use Rattle.stmt_code.specs.Emitting.{FindsException}
-use Rattle.stmt_code.specs.Rows.{LiesWithin}
+use Rattle.part_code.specs.Rows.{LiesWithin}
 use Rattle.stmt_code.proofs.Whole.{number_here, number_later}
-use Rattle.ada_link.specs.Program.{HasProgram, main_row}
-use Rattle.ada_link.specs.Walking.{HasRows, LiesInOne, begins_at}
-use Rattle.ada_link.proofs.Walked.{begins_kept, rows_are}
+use Rattle.package_code.specs.Program.{HasProgram, main_row}
+use Rattle.package_code.specs.Walking.{HasRows, LiesInOne, begins_at}
+use Rattle.package_code.proofs.Walked.{begins_kept, rows_are}
 
 -- ---- the subprogram that holds a place
 

@@ -34,17 +34,17 @@ use Rattle.expr_code.specs.Code.{here}
 use Rattle.expr_code.specs.Seeing.{IsCallable, NamesProfile, Package, Suits, slot_of, subprogram_of, told_of}
 use Rattle.expr_code.specs.declared.visible.Slot.{Slot}
 use Rattle.expr_code.specs.declared.visible.Visible.{Visible}
-use Rattle.stmt_code.specs.Resting.{Framed}
+use Rattle.part_code.specs.Resting.{Framed}
 use Rattle.stmt_code.specs.Subprograms.{IsCalledFunction, IsCalledProcedure}
-use Rattle.stmt_code.specs.Suiting.{IsCallableProcedure, SuitsStatements, passed_width, returned_width}
-use Rattle.ada_link.specs.Directory.{AreTold}
-use Rattle.ada_link.specs.Package.{IsPackageOf}
-use Rattle.ada_link.specs.Program.{HasProgram}
-use Rattle.ada_link.specs.Walking.{HasBody, row_of}
-use Rattle.ada_link.proofs.InFront.{LawsOfNames, front_sound, front_words, kept_behind, names, whole}
-use Rattle.ada_link.proofs.InOrder.{package_in_order}
-use Rattle.ada_link.proofs.Linking.{body_there, called_front, in_front, ordered, package_of, with_one, without}
-use Rattle.ada_link.proofs.NewParameters.{formals_told, result_told}
+use Rattle.part_code.specs.Suiting.{IsCallableProcedure, SuitsStatements, passed_width, returned_width}
+use Rattle.package_code.specs.Directory.{AreTold}
+use Rattle.package_code.specs.Package.{IsPackageOf}
+use Rattle.package_code.specs.Program.{HasProgram}
+use Rattle.package_code.specs.Walking.{HasBody, row_of}
+use Rattle.package_code.proofs.InFront.{LawsOfNames, front_sound, front_words, kept_behind, names, whole}
+use Rattle.package_code.proofs.InOrder.{package_in_order}
+use Rattle.package_code.proofs.Linking.{body_there, called_front, in_front, ordered, package_of, with_one, without}
+use Rattle.package_code.proofs.NewParameters.{formals_told, result_told}
 
 -- ---- words of parameters, whose subtypes take as many in the one scope as in the other
 

@@ -5,9 +5,9 @@ use Rattle.ada_tree.specs.ProgramTree.{ProgramTree}
 use Rattle.checking.specs.ProgramLayouts.{WordsHaveRoom}
 use Rattle.checking.specs.ProgramRules.{IsLegal}
 use Rattle.size_rules.specs.ProgramSizes.{size_faults}
-use Rattle.ada_link.specs.Laws.{TablesAreSmall}
+use Rattle.package_code.specs.Laws.{TablesAreSmall}
 use Rattle.ada_link.proofs.CountsFit.{exceptions_few, subprograms_few}
-use Rattle.ada_link.proofs.InFront.{LawsOfNames}
+use Rattle.package_code.proofs.InFront.{LawsOfNames}
 use Rattle.ada_link.proofs.LabelsFit.{labels_few}
 use Rattle.ada_link.proofs.WordsFit.{words_few}
 

@@ -20,11 +20,11 @@ use Rattle.meaning.specs.Programs.{base_priority, exceptions_among, package_item
 use Rattle.sound_programs.proofs.WiderScopes.{bytes_same}
 use Rattle.expr_code.specs.Code.{here}
 use Rattle.stmt_code.specs.Whole.{KeptCodePasses, PassesOnCode}
-use Rattle.ada_link.specs.Laws.{SectionsAreWellFormed}
-use Rattle.ada_link.specs.Program.{HasProgram, KeepsTables}
-use Rattle.ada_link.proofs.InFront.{LawsOfNames}
+use Rattle.package_code.specs.Laws.{SectionsAreWellFormed}
+use Rattle.package_code.specs.Program.{HasProgram, KeepsTables}
+use Rattle.package_code.proofs.InFront.{LawsOfNames}
 use Rattle.ada_link.proofs.KeptCode.{code_passes, long}
-use Rattle.ada_link.proofs.Linking.{called_main}
+use Rattle.package_code.proofs.Linking.{called_main}
 use Rattle.ada_link.proofs.RowRules.{rows_cover, rows_find, rows_known, rows_nested, rows_within}
 
 -- ---- tests

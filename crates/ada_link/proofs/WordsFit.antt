@@ -26,11 +26,11 @@ use Rattle.sound_programs.proofs.BodyProfiles.{named_is, subtype_kept}
 use Rattle.sound_programs.proofs.Listing.{taken_next}
 use Rattle.sound_programs.proofs.Walked.{item_new, legal_at, scope_next}
 use Rattle.sound_programs.proofs.Whole.{IsPackage, kept, known_subtype}
-use Rattle.ada_link.specs.Package.{first_words_of}
-use Rattle.ada_link.proofs.Declared.{among_both}
-use Rattle.ada_link.proofs.InFront.{LawsOfNames, last_is, memory, whole}
-use Rattle.ada_link.proofs.Seen.{one_behind}
-use Rattle.ada_link.proofs.Variables.{variables_both}
+use Rattle.package_code.specs.Package.{first_words_of}
+use Rattle.package_code.proofs.Declared.{among_both}
+use Rattle.package_code.proofs.InFront.{LawsOfNames, last_is, memory, whole}
+use Rattle.package_code.proofs.Seen.{one_behind}
+use Rattle.package_code.proofs.Variables.{variables_both}
 
 some_at : (items : List BodyItemTree) (k : ℕ) → k < length items → (x : BodyItemTree) × (slice_get items k ≡ Some x)
 some_at [] k h = absurd (omega (arith, h))

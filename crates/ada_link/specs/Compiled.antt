@@ -7,8 +7,8 @@ use Rattle.ada_tree.specs.ProgramTree.{ProgramTree}
 use Rattle.image.specs.Sections.{Sections}
 use Rattle.expr_code.specs.Coming.{size_of}
 use Rattle.expr_code.specs.declared.refusal.Refusal.TheVariants as refusal
-use Rattle.ada_link.specs.Counts.{instructions_bound}
-use Rattle.ada_link.specs.Refusing.{RefusesLinking}
+use Rattle.package_code.specs.Counts.{instructions_bound}
+use Rattle.package_code.specs.Refusing.{RefusesLinking}
 
 -- Each subprogram has at most as many instructions as its text tells: 20 for each part of it, and two for each word of an object that is declared in it.
 abbrev pub IsBounded : ProgramTree → Sections → Type 0

@@ -6,7 +6,7 @@ ghost use Rattle.checking.specs.ProgramRules.{IsLegal};
 ghost use Rattle.ravenscar.specs.ProgramRules.{IsRestricted};
 ghost use Rattle.expr_code.specs.Coming.{most_steps};
 ghost use Rattle.meaning.specs.SameMeaning.{KeepsCount, SameMeaning};
-ghost use Rattle.ada_link.specs.Refusing.{RefusesLinking};
+ghost use Rattle.package_code.specs.Refusing.{RefusesLinking};
 ghost use Rattle.ada_link.specs.Compiled.{IsBounded, RefusesTree};
 
 use crate::laws::{sections_are_bounded, sections_are_well_formed, sections_mean_the_same};

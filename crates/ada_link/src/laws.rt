@@ -1,5 +1,5 @@
 //! The laws of code that is put together from a program, each what a function without work ensures.
-ghost use Rattle.ada_link.specs.Laws.{BodiesAreNumbered, BodiesMayBeAdded, MainIsKnown, MainMayBeAdded, NamesAreSound, SectionsAreBounded, SectionsAreWellFormed, SectionsMeanTheSame, TablesAreSmall, VariablesArePlaced};
+ghost use Rattle.package_code.specs.Laws.{MainIsKnown, MainMayBeAdded, NamesAreSound, SectionsAreBounded, SectionsAreWellFormed, SectionsMeanTheSame, TablesAreSmall, VariablesArePlaced};
 
 use crate::link_laws::{linked_keeps_count, linked_means_the_same};
 use checking::laws::words_have_room;
@@ -14,22 +14,6 @@ use well_typed::laws::scopes_are_sound;
 /// The names of an accepted program are sound.
 pub fn names_are_sound()
     ensures { NamesAreSound }
-{
-    premises_hold();
-}
-
-/// What the methods ask that add the code of bodies is so of each body of an accepted program.
-pub fn bodies_may_be_added()
-    ensures { BodiesMayBeAdded }
-{
-    names_are_known();
-    premises_hold();
-    scopes_are_sound();
-}
-
-/// Each body of an accepted program has the number of its name, since no two of them have one name.
-pub fn bodies_are_numbered()
-    ensures { BodiesAreNumbered }
 {
     premises_hold();
 }

@@ -2,12 +2,8 @@
 #![tactic(auto)]
 
 mod compiling;
-mod directory;
-mod globals;
-mod initial;
 pub mod laws;
 pub mod link_laws;
 mod program;
-mod walk;
 
 pub use compiling::compile_tree;

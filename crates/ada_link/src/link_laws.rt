@@ -1,13 +1,13 @@
 //! The laws of images with the code of a program whose only task is main, each what a function without work ensures.
-ghost use Rattle.ada_link.specs.LinkLaws.{LinkedKeepsCount, LinkedMeansTheSame};
+ghost use Rattle.package_code.specs.LinkLaws.{LinkedKeepsCount, LinkedMeansTheSame};
 
 use image_laws::kernel_kept;
 use kernel::laws::{lines_grow, quiet_stays, reaches_callers, runner_is_calm};
 use meaning::laws::count_gives_meaning;
+use met_steps::laws::steps_are_met;
 use sound_programs::body_laws::premises_hold;
 use sound_programs::program_laws::starts_are_sound;
 use sound_steps::laws::stores_are_alike;
-use stmt_code::laws::steps_are_met;
 
 /// A well-formed image that has the code of an accepted program keeps the count of steps.
 pub fn linked_keeps_count()

@@ -5,21 +5,19 @@ ghost use Rattle.base.specs.Names.{is_label, is_name};
 ghost use Rattle.ada_tree.specs.ProgramTree.{program_tree};
 ghost use Rattle.meaning.specs.Programs.{base_priority, program_of};
 ghost use Rattle.expr_code.specs.Refusing.{IsRefused};
-ghost use Rattle.ada_link.specs.Program.{HasProgram, KeepsTables, has_texts, is_within_limits};
-ghost use Rattle.ada_link.specs.Refusing.{RefusesSections, RefusesLinking, program_labels, program_rows};
+ghost use Rattle.package_code.specs.Program.{HasProgram, KeepsTables, has_texts, is_within_limits};
+ghost use Rattle.package_code.specs.Refusing.{RefusesSections, RefusesLinking, program_labels, program_rows};
 
-use crate::directory::{Directory, number_bodies};
-use crate::globals::{Globals, globals_of};
 use crate::laws::{
     main_is_known, main_may_be_added, names_are_sound, tables_are_small, variables_are_placed,
 };
-use crate::walk::{Walk, row, walk_over};
 use base::limits::{EXCEPTIONS, LABELS, ROWS, SUBPROGRAMS, TASK_PRIORITY, WORDS};
 use base::names::{is_label, is_name};
 use declaring::{DEFAULT_PRIORITY, priority_of};
 use expr_code::Refusal;
 use image::{Kind, Object, Parts, Task};
 use lexer::Text;
+use package_code::{Directory, Globals, Walk, globals_of, number_bodies, row, walk_over};
 use ravenscar::Accepted;
 use std::alloc::Global;
 

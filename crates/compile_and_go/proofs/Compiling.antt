@@ -19,7 +19,7 @@ use Rattle.fault_numbers.specs.Numbers.{AreNumberedWithin, GrammarNumbers, IsNum
 use Rattle.meaning.specs.SameMeaning.{KeepsCount, SameMeaning}
 use Rattle.expr_code.specs.Coming.{most_steps}
 use Rattle.ada_link.specs.Compiled.{IsBounded, RefusesTree}
-use Rattle.ada_link.specs.Refusing.{program_needs}
+use Rattle.package_code.specs.Refusing.{program_needs}
 use Rattle.source_laws.specs.Limits.{SmallIsUnlimited}
 use Rattle.source_laws.specs.Spelled.{OutsideIsTold}
 use Rattle.compile_and_go.specs.Accepted.{Compiles, IsAccepted, CompilesAccepted, IsJudged, IsLeftOut, IsTreeOf, RefusesAccepted, RefusesText}

@@ -17,8 +17,8 @@ use Rattle.meaning.specs.SameMeaning.{KeepsCount, SameMeaning}
 use Rattle.expr_code.specs.Coming.{most_steps}
 use Rattle.expr_code.specs.declared.refusal.Refusal.TheVariants as refusal
 use Rattle.ada_link.specs.Compiled.{IsBounded, outside, too_large}
-use Rattle.ada_link.specs.Refusing.{program_needs}
-use Rattle.ada_link.specs.Refusing as sections
+use Rattle.package_code.specs.Refusing.{program_needs}
+use Rattle.package_code.specs.Refusing as sections
 use Rattle.source_laws.specs.Small.{IsSmall}
 
 -- the tree is what the text spells

@@ -34,8 +34,8 @@ use Rattle.sound_programs.proofs.Walked.{kept_next, scope_next}
 use Rattle.sound_programs.proofs.WiderScopes.{stands, stands_number}
 use Rattle.sound_programs.proofs.Whole.{IsPackage, kept, known_subtype}
 use Rattle.expr_code.specs.Seeing.{NamesProfile, profile_named, subprogram_profile}
-use Rattle.stmt_code.specs.Bounds.{body_words, formals_words, words_if_any}
-use Rattle.ada_link.proofs.InFront.{known_inside}
+use Rattle.part_code.specs.Bounds.{body_words, formals_words, words_if_any}
+use Rattle.package_code.proofs.InFront.{known_inside}
 use Rattle.source_laws.specs.Small.{IsSmall, body_loops, small_words}
 use Rattle.source_laws.specs.Depths.{FewFormals, formals_take}
 use Rattle.source_laws.specs.Visible.{CalleesHaveFew, FrontsAreSmall, FrontsKeepLimits}

@@ -10,9 +10,9 @@ use Rattle.ada_tree.specs.Size.{aspect_size, body_item_size, body_size, package_
 use Rattle.types.specs.Layouts as layouts
 use Rattle.declaring.specs.BodyNames.{formals_scope}
 use Rattle.sound_programs.specs.Fronts.{declared_in, front}
-use Rattle.stmt_code.specs.Bounds.{body_words, formals_words, main_bound}
-use Rattle.ada_link.specs.Counts.{bodies_among, bounds_from}
-use Rattle.ada_link.specs.Laws.{TablesAreSmall}
+use Rattle.part_code.specs.Bounds.{body_words, formals_words, main_bound}
+use Rattle.package_code.specs.Counts.{bodies_among, bounds_from}
+use Rattle.package_code.specs.Laws.{TablesAreSmall}
 use Rattle.source_laws.specs.Small.{IsSmall, SmallCodeFits, body_loops, body_room, small_words}
 use Rattle.source_laws.proofs.RowsCounted.{declared_size, rows_counted}
 

@@ -50,12 +50,13 @@ use Rattle.sound_programs.proofs.Walked.{declares, one_of, own_profile, scope_ne
 use Rattle.sound_programs.proofs.WiderScopes.{number_stands, stands}
 use Rattle.sound_programs.proofs.Whole.{IsPackage, kept}
 use Rattle.expr_code.specs.declared.visible.Visible.{Visible}
-use Rattle.stmt_code.specs.Refusing.{behind_locals, formals_frame, handlers_needs, in_body, locals_needs, out_needs, outs_needs, run_needs, sequence_needs, stmts_needs}
+use Rattle.stmt_code.specs.Refusing.{behind_locals, handlers_needs, in_body, run_needs, sequence_needs, stmts_needs}
+use Rattle.part_code.specs.Needs.{formals_frame, locals_needs, out_needs, outs_needs}
 use Rattle.stmt_code.specs.WholeRefusals.{formals_placed, formals_visible, procedure_needs}
-use Rattle.stmt_code.specs.declared.formals.PlacedFormal.{PlacedFormal}
-use Rattle.ada_link.specs.Refusing.{function_if_any, item_needs, items_needs, seen_at, subprogram_needs}
-use Rattle.ada_link.proofs.InFront.{known_inside}
-use Rattle.ada_link.proofs.Seen.{one_behind}
+use Rattle.part_code.specs.declared.formals.PlacedFormal.{PlacedFormal}
+use Rattle.package_code.specs.Refusing.{function_if_any, item_needs, items_needs, seen_at, subprogram_needs}
+use Rattle.package_code.proofs.InFront.{known_inside}
+use Rattle.package_code.proofs.Seen.{one_behind}
 use Rattle.source_laws.specs.Visible.{FrontsKeepLimits, KeepsLimits, NothingIsUnfit}
 use Rattle.source_laws.proofs.CalleesSmall.{AreNamed, front_named, same_at}
 use Rattle.source_laws.proofs.CodeCounted.{behind, behind_is}

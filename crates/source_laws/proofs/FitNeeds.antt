@@ -20,13 +20,14 @@ use Rattle.sound_programs.proofs.WiderScopes.{stands_number}
 use Rattle.expr_code.specs.Refusing.{is_fit}
 use Rattle.expr_code.specs.Seeing.{profile_named}
 use Rattle.expr_code.specs.declared.visible.Visible.{Visible}
-use Rattle.stmt_code.specs.Bounds.{local_words}
-use Rattle.stmt_code.specs.Lines.{LabelledValue, line_of}
-use Rattle.stmt_code.specs.Moving.{moves}
-use Rattle.stmt_code.specs.Passing.{actuals_behind}
-use Rattle.stmt_code.specs.Refusing.{Around, Needs, actual_needs, actuals_needs, alternatives_needs, assignment_needs, behind_locals, both, call_needs, called_needs, choices_needs, copies_needs, destinations_of, elsifs_needs, handlers_needs, has_unfit, head_needs, in_loop, in_out_needs, initial_needs, inside_handler, line_needs, local_needs, local_visible, locals_needs, locals_visible, moded_needs, move_needs, moves_needs, needs_by, needs_if_any, object_needs, passed_needs, raise_needs, return_needs, stmt_needs, stmts_needs, target_needs}
-use Rattle.stmt_code.specs.Suiting.{passed_width}
-use Rattle.stmt_code.specs.declared.call.Destination.{Destination}
+use Rattle.part_code.specs.Bounds.{local_words}
+use Rattle.part_code.specs.Lines.{LabelledValue, line_of}
+use Rattle.part_code.specs.Moving.{moves}
+use Rattle.part_code.specs.Passing.{actuals_behind}
+use Rattle.stmt_code.specs.Refusing.{Standpoint, alternatives_needs, behind_locals, elsifs_needs, handlers_needs, head_needs, in_loop, inside_handler, needs_if_any, raise_needs, return_needs, stmt_needs, stmts_needs}
+use Rattle.part_code.specs.Needs.{Needs, actual_needs, actuals_needs, assignment_needs, both, call_needs, called_needs, choices_needs, copies_needs, destinations_of, has_unfit, in_out_needs, initial_needs, line_needs, local_needs, local_visible, locals_needs, locals_visible, moded_needs, move_needs, moves_needs, needs_by, object_needs, passed_needs, target_needs}
+use Rattle.part_code.specs.Suiting.{passed_width}
+use Rattle.part_code.specs.declared.call.Destination.{Destination}
 use Rattle.source_laws.proofs.CalleesSmall.{named_there}
 use Rattle.source_laws.proofs.FitScopes.{AreFew, FewThings, IsFew, IsInside, Serves, all_fit, few_back, few_fit, few_front, local_few, local_inside, locals_inside, loop_inside}
 
@@ -145,7 +146,7 @@ return_fit : (returns : Bool) (o : Option ExprTree) → IsFit (return_needs retu
 return_fit returns None = refl
 return_fit returns (Some e) = refl
 
-raise_fit : (a : Around) (o : Option Identifier) → IsFit (raise_needs a o)
+raise_fit : (a : Standpoint) (o : Option Identifier) → IsFit (raise_needs a o)
 raise_fit a None = refl
 raise_fit a (Some name) = refl
 
@@ -168,24 +169,24 @@ module _ (adding : WordsAddUp) (stay : ShapesStay) (s : Scope) where
 
   -- ---- statements
 
-  head_fit : (a : Around) → IsInside s a.visible.scope → (i : IterationTree) → IsFit (head_needs a i)
+  head_fit : (a : Standpoint) → IsInside s a.visible.scope → (i : IterationTree) → IsFit (head_needs a i)
   head_fit a inside Forever = refl
   head_fit a inside (While condition) = seen_fit a.visible inside.served
   head_fit a inside (For parameter reversed range) =
       or_from (has_unfit a.visible) (has_unfit a.visible) (seen_fit a.visible inside.served) (seen_fit a.visible inside.served)
 
-  in_loop_inside : (a : Around) → IsInside s a.visible.scope → (i : IterationTree) → IsInside s (in_loop a i).visible.scope
+  in_loop_inside : (a : Standpoint) → IsInside s a.visible.scope → (i : IterationTree) → IsInside s (in_loop a i).visible.scope
   in_loop_inside a inside Forever = inside
   in_loop_inside a inside (While condition) = inside
   in_loop_inside a inside (For parameter reversed range) = loop_inside stay s a.visible.scope inside parameter range
 
-  pub block_inside : (a : Around) (ds : List DeclarationTree) → IsInside s a.visible.scope → FewThings (locals_things s ds)
+  pub block_inside : (a : Standpoint) (ds : List DeclarationTree) → IsInside s a.visible.scope → FewThings (locals_things s ds)
       → IsInside s (behind_locals a ds).visible.scope
   block_inside a ds inside h =
       subst (IsInside s) (sym (behind_scope a.visible a.taken ds)) (locals_inside adding stay s a.visible.scope inside ds h)
 
   mutual
-    pub stmt_fit : (x : StmtTree) (a : Around) → IsInside s a.visible.scope → FewThings (stmt_things s x) → IsFit (stmt_needs a x)
+    pub stmt_fit : (x : StmtTree) (a : Standpoint) → IsInside s a.visible.scope → FewThings (stmt_things s x) → IsFit (stmt_needs a x)
     stmt_fit (Assignment target value) a inside h = assignment_fit a.visible inside.served target value
     stmt_fit (Call name) a inside h = call_fit a.visible inside.served name
     stmt_fit (Exit place condition) a inside h = if_any_fit a.visible inside.served condition
@@ -217,20 +218,20 @@ module _ (adding : WordsAddUp) (stay : ShapesStay) (s : Scope) where
         (handlers_fit all next (block_inside a ds inside own) (few_back adding (one ++ two) three h)))
     stmt_fit x a inside h = refl
 
-    pub stmts_fit : (body : StmtTrees) (a : Around) → IsInside s a.visible.scope → FewThings (stmts_things s body) → IsFit (stmts_needs a body)
+    pub stmts_fit : (body : StmtTrees) (a : Standpoint) → IsInside s a.visible.scope → FewThings (stmts_things s body) → IsFit (stmts_needs a body)
     stmts_fit NoStmts a inside h = refl
     stmts_fit (MoreStmts x rest) a inside h =
         both_fit (stmt_needs a x) (stmts_needs a rest) (stmt_fit x a inside (few_front adding (stmt_things s x) (stmts_things s rest) h))
         (stmts_fit rest a inside (few_back adding (stmt_things s x) (stmts_things s rest) h))
 
-    elsifs_fit : (all : ElsifTrees) (a : Around) → IsInside s a.visible.scope → FewThings (elsifs_things s all) → IsFit (elsifs_needs a all)
+    elsifs_fit : (all : ElsifTrees) (a : Standpoint) → IsInside s a.visible.scope → FewThings (elsifs_things s all) → IsFit (elsifs_needs a all)
     elsifs_fit NoElsifs a inside h = refl
     elsifs_fit (MoreElsifs condition body rest) a inside h =
         or_from (has_unfit a.visible) _ (seen_fit a.visible inside.served)
         (both_fit (stmts_needs a body) (elsifs_needs a rest) (stmts_fit body a inside (few_front adding (stmts_things s body) (elsifs_things s rest) h))
         (elsifs_fit rest a inside (few_back adding (stmts_things s body) (elsifs_things s rest) h)))
 
-    alternatives_fit : (all : AlternativeTrees) (a : Around) → IsInside s a.visible.scope → FewThings (alternatives_things s all)
+    alternatives_fit : (all : AlternativeTrees) (a : Standpoint) → IsInside s a.visible.scope → FewThings (alternatives_things s all)
         → IsFit (alternatives_needs a all)
     alternatives_fit NoAlternatives a inside h = refl
     alternatives_fit (MoreAlternatives place choices body rest) a inside h =
@@ -239,7 +240,7 @@ module _ (adding : WordsAddUp) (stay : ShapesStay) (s : Scope) where
         (stmts_fit body a inside (few_front adding (stmts_things s body) (alternatives_things s rest) h))
         (alternatives_fit rest a inside (few_back adding (stmts_things s body) (alternatives_things s rest) h)))
 
-    pub handlers_fit : (all : HandlerTrees) (a : Around) → IsInside s a.visible.scope → FewThings (handlers_things s all) → IsFit (handlers_needs a all)
+    pub handlers_fit : (all : HandlerTrees) (a : Standpoint) → IsInside s a.visible.scope → FewThings (handlers_things s all) → IsFit (handlers_needs a all)
     handlers_fit NoHandlers a inside h = refl
     handlers_fit (MoreHandlers choices body rest) a inside h =
         both_fit (stmts_needs (inside_handler a) body) (handlers_needs a rest)

@@ -33,8 +33,8 @@ use Rattle.well_typed.proofs.Positions.{entity_added}
 use Rattle.sound_programs.proofs.Listing.{same_some}
 use Rattle.sound_programs.proofs.WiderScopes.{form_with, stands, stands_with}
 use Rattle.expr_code.specs.Refusing.{is_fit}
-use Rattle.stmt_code.specs.Refusing.{are_unfit, is_unfit}
-use Rattle.ada_link.proofs.InFront.{known_inside}
+use Rattle.part_code.specs.Needs.{are_unfit, is_unfit}
+use Rattle.package_code.proofs.InFront.{known_inside}
 use Rattle.source_laws.specs.Depths.{is_full}
 use Rattle.source_laws.proofs.CalleesSmall.{with_behind}
 use Rattle.source_laws.proofs.FullShapes.{full_fit}

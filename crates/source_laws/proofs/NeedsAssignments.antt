@@ -22,8 +22,8 @@ use Rattle.expr_code.specs.Emitting.{IsLegalExpression}
 use Rattle.expr_code.specs.Refusing.{peak}
 use Rattle.expr_code.specs.Widths.{AreWide, width_of}
 use Rattle.expr_code.specs.declared.visible.Visible.{Visible}
-use Rattle.stmt_code.specs.Moving.{moves}
-use Rattle.stmt_code.specs.Refusing.{Needs, address_needs, assigned_needs, assignment_needs, beyond, both, has_unfit, move_needs, moves_needs, needs_above, needs_by, words_at}
+use Rattle.part_code.specs.Moving.{moves}
+use Rattle.part_code.specs.Needs.{Needs, address_needs, assigned_needs, assignment_needs, beyond, both, has_unfit, move_needs, moves_needs, needs_above, needs_by, words_at}
 use Rattle.source_laws.specs.Depths.{AreStored, IsSmallScope}
 use Rattle.source_laws.proofs.PeakSlots.{IsPath, begins, name_path, value_path}
 use Rattle.source_laws.proofs.Peaks.{conditional_parts, inside_legal, legal_of, listed, spelled_parts}

@@ -18,9 +18,10 @@ use Rattle.well_typed.proofs.Expressions.{not_false}
 use Rattle.expr_code.specs.Refusing.{is_outside, is_passable}
 use Rattle.expr_code.specs.declared.visible.Visible.{Visible}
 use Rattle.expr_code.proofs.Widths.{fit_width}
-use Rattle.stmt_code.specs.Bounds.{body_words, handlers_words, locals_words, stmts_words}
-use Rattle.stmt_code.specs.Formals.{passed_for, slot_for}
-use Rattle.stmt_code.specs.Refusing.{Needs, all_given, are_wordless, behind_locals, both, formals_frame, formals_needs, handlers_needs, locals_needs, outs_needs, run_needs, sequence_needs, stacked, stmts_needs}
+use Rattle.part_code.specs.Bounds.{body_words, handlers_words, locals_words, stmts_words}
+use Rattle.part_code.specs.Formals.{passed_for, slot_for}
+use Rattle.part_code.specs.Needs.{Needs, all_given, are_wordless, both, formals_frame, formals_needs, locals_needs, outs_needs, stacked}
+use Rattle.stmt_code.specs.Refusing.{behind_locals, handlers_needs, run_needs, sequence_needs, stmts_needs}
 use Rattle.stmt_code.specs.Refusing as code
 use Rattle.stmt_code.specs.WholeRefusals.{formals_placed, formals_visible, returned_needs}
 use Rattle.stmt_code.proofs.Refused.{locals_seen}

@@ -42,11 +42,11 @@ use Rattle.expr_code.specs.Seeing.{NamesProfile, profile_named, slot_of, subprog
 use Rattle.expr_code.specs.declared.visible.Slot as visible
 use Rattle.expr_code.specs.declared.visible.Visible.{Visible}
 use Rattle.expr_code.proofs.Widths.{integral_one, words_by_type}
-use Rattle.stmt_code.specs.Lines.{LabelledValue, is_put, line_behind, line_in, line_of}
-use Rattle.stmt_code.specs.Passing.{actuals_behind, copied_width}
-use Rattle.stmt_code.specs.Refusing.{Needs, actual_needs, actuals_needs, address_needs, beyond_if, both, call_needs, called_needs, check_words, copies_needs, copy_needs, destination_at, destinations_for, destinations_named, destinations_of, has_unfit, in_needs, in_out_needs, line_needs, passed_needs, stacked, target_needs, words_at}
-use Rattle.stmt_code.specs.Suiting.{passed_width, returned_width}
-use Rattle.stmt_code.specs.declared.call.Destination.{Destination}
+use Rattle.part_code.specs.Lines.{LabelledValue, is_put, line_behind, line_in, line_of}
+use Rattle.part_code.specs.Passing.{actuals_behind, copied_width}
+use Rattle.part_code.specs.Needs.{Needs, actual_needs, actuals_needs, address_needs, beyond_if, both, call_needs, called_needs, check_words, copies_needs, copy_needs, destination_at, destinations_for, destinations_named, destinations_of, has_unfit, in_needs, in_out_needs, line_needs, passed_needs, stacked, target_needs, words_at}
+use Rattle.part_code.specs.Suiting.{passed_width, returned_width}
+use Rattle.part_code.specs.declared.call.Destination.{Destination}
 use Rattle.source_laws.specs.Depths.{IsSmallScope, formals_take}
 use Rattle.source_laws.proofs.PeakBounds.{through}
 use Rattle.source_laws.proofs.PeakSlots.{IsPath, begins, slot_by, slot_width, value_path}

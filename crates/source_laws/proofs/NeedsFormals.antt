@@ -19,11 +19,11 @@ use Rattle.well_typed.specs.SoundScopes.{IsKnown, IsSoundObject}
 use Rattle.well_typed.proofs.Growing.{object_named}
 use Rattle.well_typed.proofs.Widening.{subtype_known}
 use Rattle.expr_code.specs.declared.visible.Visible.{Visible}
-use Rattle.stmt_code.specs.Bounds.{formals_words, words_if_any, words_named}
-use Rattle.stmt_code.specs.Formals.{slot_for}
-use Rattle.stmt_code.specs.Refusing.{all_given, are_wordless, formals_frame, is_wordless, outs_needs}
+use Rattle.part_code.specs.Bounds.{formals_words, words_if_any, words_named}
+use Rattle.part_code.specs.Formals.{slot_for}
+use Rattle.part_code.specs.Needs.{all_given, are_wordless, formals_frame, is_wordless, outs_needs}
 use Rattle.stmt_code.specs.WholeRefusals.{from_behind, out_behind, placed_formals, placed_if}
-use Rattle.stmt_code.specs.declared.formals.PlacedFormal.{PlacedFormal}
+use Rattle.part_code.specs.declared.formals.PlacedFormal.{PlacedFormal}
 use Rattle.source_laws.specs.Depths.{AreStored, IsSmallScope}
 use Rattle.source_laws.proofs.NeedsScopes.{few_words, small_named, subtype_kept, words_kept}
 

@@ -23,8 +23,8 @@ use Rattle.declaring.specs.LocalRules.{local_faults, local_scope, locals_faults}
 use Rattle.well_typed.proofs.Widening.{subtype_known}
 use Rattle.expr_code.specs.Refusing.{is_fit, peak}
 use Rattle.expr_code.specs.declared.visible.Visible.{Visible}
-use Rattle.stmt_code.specs.Bounds.{local_words, locals_words, words_if_any}
-use Rattle.stmt_code.specs.Refusing.{framed, has_unfit, initial_needs, local_needs, local_visible, locals_needs, locals_visible, object_needs}
+use Rattle.part_code.specs.Bounds.{local_words, locals_words, words_if_any}
+use Rattle.part_code.specs.Needs.{framed, has_unfit, initial_needs, local_needs, local_visible, locals_needs, locals_visible, object_needs}
 use Rattle.source_laws.specs.Depths.{IsSmallScope, IsSmallVisible}
 use Rattle.source_laws.proofs.NeedsBounds.{Fits, both_fit, fits_more, nothing_fits, outside_left, outside_right, stack_fits, value_bound}
 use Rattle.source_laws.proofs.NeedsScopes.{few_words, one_held, small_local}

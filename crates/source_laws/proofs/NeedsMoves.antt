@@ -32,8 +32,8 @@ use Rattle.expr_code.specs.declared.visible.Slot.{Slot}
 use Rattle.expr_code.specs.declared.visible.Visible.{Visible}
 use Rattle.expr_code.proofs.Fitting.{composite_width}
 use Rattle.expr_code.proofs.Widths.{binary_width, boolean_one, integral_one, unary_width, words_by_type}
-use Rattle.stmt_code.specs.Moving.{are_moved, is_held, is_moved, moves, names_composite}
-use Rattle.stmt_code.specs.Refusing.{address_needs, assigned_needs, is_object, is_stored, is_taken, stored_needs, takes_value, words_at}
+use Rattle.part_code.specs.Moving.{are_moved, is_held, is_moved, moves, names_composite}
+use Rattle.part_code.specs.Needs.{address_needs, assigned_needs, is_object, is_stored, is_taken, stored_needs, takes_value, words_at}
 use Rattle.source_laws.specs.Depths.{IsSmallVisible}
 use Rattle.source_laws.proofs.NeedsBounds.{outside_left, outside_right}
 use Rattle.source_laws.proofs.NeedsNames.{named_source}

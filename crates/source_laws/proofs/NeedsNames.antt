@@ -37,9 +37,9 @@ use Rattle.expr_code.specs.Widths.{own_words, width_of}
 use Rattle.expr_code.specs.declared.visible.Slot.{Slot}
 use Rattle.expr_code.specs.declared.visible.Visible.{Visible}
 use Rattle.expr_code.proofs.Widths.{fixed_width, integral_one, words_by_type}
-use Rattle.stmt_code.specs.Moving.{source_at, source_by, variable_at}
-use Rattle.stmt_code.specs.Passing.{holds_variables}
-use Rattle.stmt_code.specs.declared.moving.Source.{Source}
+use Rattle.part_code.specs.Moving.{source_at, source_by, variable_at}
+use Rattle.part_code.specs.Passing.{holds_variables}
+use Rattle.part_code.specs.declared.moving.Source.{Source}
 use Rattle.source_laws.specs.Depths.{AreStored, IsSmallVisible}
 use Rattle.source_laws.proofs.NeedsScopes.{profile_by}
 use Rattle.source_laws.proofs.PeakSlots.{IsPath, value_path}

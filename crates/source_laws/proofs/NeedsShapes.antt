@@ -13,7 +13,7 @@ use Rattle.well_typed.specs.SoundScopes.{IsKnown}
 use Rattle.well_typed.proofs.Goods.{not_empty, object_known}
 use Rattle.expr_code.specs.Refusing.{is_fit}
 use Rattle.expr_code.specs.declared.visible.Visible.{Visible}
-use Rattle.stmt_code.specs.Refusing.{are_unfit, has_unfit, is_unfit}
+use Rattle.part_code.specs.Needs.{are_unfit, has_unfit, is_unfit}
 use Rattle.source_laws.specs.Depths.{IsSmallScope}
 use Rattle.source_laws.proofs.FullShapes.{full_fit, narrowed_full}
 

@@ -28,8 +28,9 @@ use Rattle.stmt_rules.specs.SimpleRules.{condition_faults, exit_rule, optional_c
 use Rattle.stmt_rules.specs.StatementRules.{alternatives_faults, elsifs_faults, in_handler, in_loop, more_handlers_faults, stmt_faults, stmts_faults}
 use Rattle.expr_code.specs.Refusing.{peak}
 use Rattle.expr_code.specs.declared.visible.Visible.{Visible}
-use Rattle.stmt_code.specs.Bounds.{alternatives_words, elsifs_words, handlers_words, locals_words, stmt_words, stmts_words}
-use Rattle.stmt_code.specs.Refusing.{Around, alternatives_needs, behind_locals, beyond_if, both, choices_needs, elsifs_needs, framed, handler_needs, handlers_needs, head_needs, inside_counted, inside_handler, inside_loop, locals_needs, needs_above, needs_if_any, raise_needs, return_needs, stmt_needs, stmts_needs, value_needs}
+use Rattle.part_code.specs.Bounds.{alternatives_words, elsifs_words, handlers_words, locals_words, stmt_words, stmts_words}
+use Rattle.stmt_code.specs.Refusing.{Standpoint, alternatives_needs, behind_locals, elsifs_needs, handler_needs, handlers_needs, head_needs, inside_counted, inside_handler, inside_loop, needs_if_any, raise_needs, return_needs, stmt_needs, stmts_needs}
+use Rattle.part_code.specs.Needs.{beyond_if, both, choices_needs, framed, locals_needs, needs_above, value_needs}
 use Rattle.stmt_code.proofs.Refused.{locals_seen}
 use Rattle.source_laws.specs.Depths.{IsSmallScope, IsSmallVisible}
 use Rattle.source_laws.proofs.NeedsAssignments.{assignment_fits}
@@ -124,7 +125,7 @@ choices_fit : (s : Scope) (choices : ChoicesTree) (taken words deep : ℕ) → F
 choices_fit s (Values cs) taken words deep = record { stack_low = omega arith; frame_low = omega arith; fit = refl }
 choices_fit s (OtherValues place) taken words deep = record { stack_low = omega arith; frame_low = omega arith; fit = refl }
 
-exit_fits : (a : Around) (o : Option ExprTree) (l : Limit) (ts : Tokens) → optional (λ e. word words.When ⨾ expression l e) o ts → IsSmallScope a.visible.scope
+exit_fits : (a : Standpoint) (o : Option ExprTree) (l : Limit) (ts : Tokens) → optional (λ e. word words.When ⨾ expression l e) o ts → IsSmallScope a.visible.scope
     → optional_condition_faults a.visible.scope o ≡ [] → (taken words : ℕ) → Fits (needs_if_any a.visible o) taken words (depth_if_any expr_depth o)
 exit_fits a None l ts d small h taken words = nothing_fits taken words 0
 exit_fits a (Some e) l ts d small h taken words =
@@ -137,14 +138,14 @@ return_fits : (returns : _) (o : Option ExprTree) (taken words deep : ℕ) → F
 return_fits returns None taken words deep = record { stack_low = omega arith; frame_low = omega arith; fit = refl }
 return_fits returns (Some e) taken words deep = record { stack_low = omega arith; frame_low = omega arith; fit = refl }
 
-raise_fits : (a : Around) (o : Option Identifier) (taken words deep : ℕ) → Fits (raise_needs a o) taken words deep
+raise_fits : (a : Standpoint) (o : Option Identifier) (taken words deep : ℕ) → Fits (raise_needs a o) taken words deep
 raise_fits a (Some name) taken words deep = record { stack_low = omega arith; frame_low = omega arith; fit = refl }
 raise_fits a None taken words deep = record { stack_low = omega arith; frame_low = omega arith; fit = refl }
 
 -- ---- statements
 
 mutual
-  pub stmt_fits : (x : StmtTree) (a : Around) (b : rules.Around) (l : Limit) (ts : Tokens) → grammar.stmt x l ts → stmt_faults a.visible.scope b x ≡ []
+  pub stmt_fits : (x : StmtTree) (a : Standpoint) (b : rules.Around) (l : Limit) (ts : Tokens) → grammar.stmt x l ts → stmt_faults a.visible.scope b x ≡ []
       → IsSmallVisible a.visible → stmt_words a.visible.scope x ≤ 64 → (stmt_needs a x).outside ≡ false
       → Fits (stmt_needs a x) a.taken (stmt_words a.visible.scope x) (stmt_depth x)
   stmt_fits (Null place) a b l ts d h small few out = nothing_fits a.taken 0 0
@@ -298,7 +299,7 @@ mutual
       (record { stack_low = omega (arith, stack); frame_low = omega (arith, frame, k_same); fit = r.fit }))
   stmt_fits other a b l ts d h small few out = beyond_fits a.taken 0 (stmt_depth other)
 
-  pub stmts_fit : (body : StmtTrees) (a : Around) (b : rules.Around) (l : Limit) → AreSpelled l body → stmts_faults a.visible.scope b body ≡ []
+  pub stmts_fit : (body : StmtTrees) (a : Standpoint) (b : rules.Around) (l : Limit) → AreSpelled l body → stmts_faults a.visible.scope b body ≡ []
       → IsSmallVisible a.visible → stmts_words a.visible.scope body ≤ 64 → (stmts_needs a body).outside ≡ false
       → Fits (stmts_needs a body) a.taken (stmts_words a.visible.scope body) (stmts_depth body)
   stmts_fit NoStmts a b l d h small few out = nothing_fits a.taken 0 0
@@ -317,7 +318,7 @@ mutual
       (fits_more first a.taken a.taken m (m + n) (stmt_depth x) deep p (omega arith) (le-max_left (stmt_depth x) (stmts_depth rest)))
       (fits_more others a.taken a.taken n (m + n) (stmts_depth rest) deep q (omega arith) (le-max_right (stmt_depth x) (stmts_depth rest)))
 
-  elsifs_fit : (all : ElsifTrees) (a : Around) (b : rules.Around) (l : Limit) (ts : Tokens) → grammar.elsifs all l ts → elsifs_faults a.visible.scope b all ≡ []
+  elsifs_fit : (all : ElsifTrees) (a : Standpoint) (b : rules.Around) (l : Limit) (ts : Tokens) → grammar.elsifs all l ts → elsifs_faults a.visible.scope b all ≡ []
       → IsSmallVisible a.visible → elsifs_words a.visible.scope all ≤ 64 → (elsifs_needs a all).outside ≡ false
       → Fits (elsifs_needs a all) a.taken (elsifs_words a.visible.scope all) (elsifs_depth all)
   elsifs_fit NoElsifs a b l ts d h small few out = nothing_fits a.taken 0 0
@@ -344,7 +345,7 @@ mutual
       (fits_more first a.taken a.taken m (m + n) (stmts_depth body) deep q (omega arith) (omega arith))
       (fits_more others a.taken a.taken n (m + n) (elsifs_depth rest) deep r (omega arith) (omega arith)))
 
-  alternatives_fit : (all : AlternativeTrees) (a : Around) (b : rules.Around) (w : Wanted) (before : List Scalar) (l : Limit) → AlternativesSpelled l all
+  alternatives_fit : (all : AlternativeTrees) (a : Standpoint) (b : rules.Around) (w : Wanted) (before : List Scalar) (l : Limit) → AlternativesSpelled l all
       → alternatives_faults a.visible.scope b w before all ≡ [] → IsSmallVisible a.visible → alternatives_words a.visible.scope all ≤ 64
       → (alternatives_needs a all).outside ≡ false → Fits (alternatives_needs a all) a.taken (alternatives_words a.visible.scope all) (alternatives_depth all)
   alternatives_fit NoAlternatives a b w before l d h small few out = nothing_fits a.taken 0 0
@@ -370,7 +371,7 @@ mutual
       (fits_more others a.taken a.taken n (m + n) (alternatives_depth rest) deep r (omega arith) (omega arith)))
 
   -- each handler keeps its exception in a word
-  pub handlers_fit : (all : HandlerTrees) (a : Around) (b : rules.Around) (before : List (List ℕ)) (l : Limit) → HandlersSpelled l all
+  pub handlers_fit : (all : HandlerTrees) (a : Standpoint) (b : rules.Around) (before : List (List ℕ)) (l : Limit) → HandlersSpelled l all
       → more_handlers_faults a.visible.scope b before all ≡ [] → IsSmallVisible a.visible → handlers_words a.visible.scope all ≤ 64
       → (handlers_needs a all).outside ≡ false → Fits (handlers_needs a all) (a.taken + 1) (handlers_words a.visible.scope all) (handlers_depth all)
   handlers_fit NoHandlers a b before l d h small few out = nothing_fits (a.taken + 1) 0 0

@@ -32,13 +32,13 @@ use Rattle.sound_programs.proofs.Called.{head_legal}
 use Rattle.sound_programs.proofs.Listing.{same_some}
 use Rattle.sound_programs.proofs.Trees.{tree_package}
 use Rattle.expr_code.specs.declared.refusal.Refusal.TheVariants as refusal
-use Rattle.stmt_code.specs.Bounds.{body_words, formals_words}
-use Rattle.stmt_code.specs.Refusing.{Needs, beyond_if, both}
+use Rattle.part_code.specs.Bounds.{body_words, formals_words}
+use Rattle.part_code.specs.Needs.{Needs, beyond_if, both}
 use Rattle.stmt_code.specs.WholeRefusals.{procedure_needs}
 use Rattle.expr_code.specs.declared.visible.Slot.{Slot}
-use Rattle.ada_link.specs.Package.{place_among}
-use Rattle.ada_link.specs.Refusing.{RefusesLinking, slot_in, told_behind, function_if_any, item_needs, items_needs, program_needs, seen_at}
-use Rattle.ada_link.proofs.Adding.{body_legal, value_legal}
+use Rattle.package_code.specs.Package.{place_among}
+use Rattle.package_code.specs.Refusing.{RefusesLinking, slot_in, told_behind, function_if_any, item_needs, items_needs, program_needs, seen_at}
+use Rattle.package_code.proofs.Adding.{body_legal, value_legal}
 use Rattle.source_laws.specs.Depths.{AreStored, FunctionsHaveRoom, StaysWithinLimits, IsSmallVisible, IsSmallFunction, IsSmallProcedure, ProceduresHaveRoom}
 use Rattle.source_laws.specs.Limits.{SmallHasRoom, SmallIsUnlimited}
 use Rattle.source_laws.specs.Small.{IsSmall, SmallCodeFits, body_loops}

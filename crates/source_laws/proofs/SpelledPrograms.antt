@@ -12,8 +12,8 @@ use Rattle.ada_tree.specs.ProgramGrammar.{body, body_item, item, package_part, p
 use Rattle.meaning.specs.Programs.{exceptions_among, items_among, package_items}
 use Rattle.sound_programs.specs.Fronts.{declared_in}
 use Rattle.stmt_code.specs.WholeRefusals.{body_labels}
-use Rattle.ada_link.specs.Refusing.{is_spelled, item_labels, items_labels, program_labels}
-use Rattle.ada_link.proofs.Variables.{exceptions_both}
+use Rattle.package_code.specs.Refusing.{is_spelled, item_labels, items_labels, program_labels}
+use Rattle.package_code.proofs.Variables.{exceptions_both}
 use Rattle.source_laws.specs.Spelled.{OutsideIsTold, TextsAreSpelled}
 use Rattle.source_laws.proofs.SpelledTokens.{spelled_tokens}
 use Rattle.source_laws.proofs.SpelledStatements.{AreLabels, Keeps, Tells, body_told, both_told, joined, known, later, named, same, sooner}

@@ -15,8 +15,8 @@ use Rattle.ada_tree.specs.Language.{Limit, Tokens, identifier, inside, token_at,
 use Rattle.ada_tree.specs.ExpressionGrammar.{spells_arguments, spells_name, spells_selectors}
 use Rattle.ada_tree.specs.StatementGrammar.{alternatives, else_stmts, elsifs, further_handlers, further_stmts, handlers, some_alternatives, stmt, stmts}
 use Rattle.ada_tree.specs.ProgramGrammar.{body}
-use Rattle.stmt_code.specs.Labels.{alternatives_labels, elsifs_labels, handlers_labels, is_label, stmt_labels, stmts_labels, with_label, with_line}
-use Rattle.stmt_code.specs.Lines.{line_behind, line_in, line_of}
+use Rattle.part_code.specs.Labels.{alternatives_labels, elsifs_labels, handlers_labels, is_label, stmt_labels, stmts_labels, with_label, with_line}
+use Rattle.part_code.specs.Lines.{line_behind, line_in, line_of}
 use Rattle.stmt_code.specs.WholeRefusals.{body_labels}
 use Rattle.source_laws.proofs.SpelledTokens.{AreSpelled, IsKindSpelled}
 

@@ -27,8 +27,8 @@ use Rattle.sound_programs.proofs.Listing.{same_some}
 use Rattle.sound_programs.proofs.Trees.{tree_package}
 use Rattle.sound_programs.proofs.Walked.{scope_behind}
 use Rattle.sound_programs.proofs.Whole.{IsPackage}
-use Rattle.ada_link.proofs.InFront.{known_inside}
-use Rattle.ada_link.proofs.Seen.{all_behind}
+use Rattle.package_code.proofs.InFront.{known_inside}
+use Rattle.package_code.proofs.Seen.{all_behind}
 use Rattle.source_laws.specs.Visible.{FrontsKeepLimits, KeepsLimits}
 use Rattle.source_laws.proofs.BoundedNames.{AreBounded, bounded_at, fronts_bounded, is_bounded, start_bounded}
 use Rattle.source_laws.proofs.WholeItems.{declared_whole, is_whole_body_item}

@@ -31,9 +31,9 @@ use Rattle.expr_code.specs.Seeing.{profile_named}
 use Rattle.expr_code.specs.Widths.{width_of}
 use Rattle.expr_code.specs.declared.visible.Slot.{Slot}
 use Rattle.expr_code.specs.declared.visible.Visible.{Visible}
-use Rattle.stmt_code.specs.Bounds.{body_words, formals_words}
-use Rattle.stmt_code.specs.Passing.{holds_variables}
-use Rattle.stmt_code.specs.Refusing.{Needs}
+use Rattle.part_code.specs.Bounds.{body_words, formals_words}
+use Rattle.part_code.specs.Passing.{holds_variables}
+use Rattle.part_code.specs.Needs.{Needs}
 use Rattle.stmt_code.specs.WholeRefusals.{function_needs, procedure_needs}
 
 -- ---- what is asked of the names that are visible

@@ -7,7 +7,7 @@ use Rattle.ada_tree.specs.ProgramGrammar.{program}
 use Rattle.checking.specs.ProgramRules.{IsLegal}
 use Rattle.ravenscar.specs.ProgramRules.{IsRestricted}
 use Rattle.expr_code.specs.declared.refusal.Refusal.TheVariants as refusal
-use Rattle.ada_link.specs.Refusing.{RefusesLinking, program_needs}
+use Rattle.package_code.specs.Refusing.{RefusesLinking, program_needs}
 use Rattle.source_laws.specs.Depths.{StaysWithinLimits}
 use Rattle.source_laws.specs.Small.{IsSmall}
 

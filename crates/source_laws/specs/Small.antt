@@ -12,8 +12,8 @@ use Rattle.declaring.specs.BodyNames.{formals_scope}
 use Rattle.checking.specs.ProgramRules.{IsLegal}
 use Rattle.ravenscar.specs.ProgramRules.{IsRestricted}
 use Rattle.sound_programs.specs.Fronts.{declared_in, front}
-use Rattle.stmt_code.specs.Bounds.{body_words, formals_words}
-use Rattle.ada_link.specs.Refusing.{program_bound, program_rows}
+use Rattle.part_code.specs.Bounds.{body_words, formals_words}
+use Rattle.package_code.specs.Refusing.{program_bound, program_rows}
 
 -- ---- counted loops, whose parameters take a word each (RM 5.5)
 

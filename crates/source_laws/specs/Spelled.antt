@@ -6,7 +6,7 @@ use Rattle.ada_tree.specs.ProgramTree.{ProgramTree}
 use Rattle.ada_tree.specs.Language.{Limit}
 use Rattle.ada_tree.specs.ProgramGrammar.{program}
 use Rattle.expr_code.specs.declared.refusal.Refusal.TheVariants as refusal
-use Rattle.ada_link.specs.Refusing.{RefusesLinking, is_spelled, program_needs}
+use Rattle.package_code.specs.Refusing.{RefusesLinking, is_spelled, program_needs}
 
 -- a text that tokens spell, and the tree that they spell
 pub record IsText (text : List ℕ) (tokens : List Token) (t : ProgramTree) : Type 0 where

@@ -16,7 +16,7 @@ use Rattle.ravenscar.specs.ProgramRules.{IsRestricted}
 use Rattle.well_typed.specs.SoundScopes.{IsKnown}
 use Rattle.sound_programs.specs.Fronts.{front}
 use Rattle.expr_code.specs.Refusing.{is_fit}
-use Rattle.ada_link.specs.Refusing.{program_needs}
+use Rattle.package_code.specs.Refusing.{program_needs}
 use Rattle.source_laws.specs.Depths.{FewFormals, IsSmallScope, is_full}
 use Rattle.source_laws.specs.Small.{IsSmall}
 

@@ -6,7 +6,7 @@ use Rattle.handlers.specs.declared.rows.Row.{Row}
 use Rattle.handlers.specs.Innermost.{covers, handler_of, handles, inner_of, innermost, target_of, width}
 use Rattle.handlers.specs.Laws.{LieAround, RowsAround, RowsInside, takes}
 use Rattle.image.specs.Sections.{Sections}
-use Rattle.stmt_code.specs.Handling.{CoverJust, GoesBy, GoesByRows, Handling, LieWithin, or_answer}
+use Rattle.part_code.specs.Handling.{CoverJust, GoesBy, GoesByRows, Handling, LieWithin, or_answer}
 
 -- ---- which places rows cover
 

@@ -1,14 +1,13 @@
 -- Code of statements that was added: nothing, statements one behind another, jumps to the ways out, and lines.
 use Rattle.std.proofs.Common.{◌≡◌, ℕ, zero, suc, ◌+◌, ◌-◌, ◌<◌, ◌≤◌, ◌++◌, List, [], ◌∷◌, length, map, take, true, false, Option, Some, None, refl, sym, ap, ◌∙◌, subst, arith, rules}
-use Rattle.std.specs.Prelude.{get_or, nat_eq, slice_get}
-use Rattle.std.proofs.Math.Seq.{take-suc}
+use Rattle.std.specs.Prelude.{get_or, nat_eq}
 use Rattle.ada_tree.specs.declared.statement.Stmt.{Stmt}
 use Rattle.ada_tree.specs.ExpressionTree.{ExprTree}
 use Rattle.ada_tree.specs.StatementTree as statements
-use Rattle.ada_tree.specs.StatementTree.{DeclarationTree, HandlerTrees, MoreStmts, NoHandlers, NoStmts, StmtTree, StmtTrees, stmt_tree, stmt_trees, stmts_of}
+use Rattle.ada_tree.specs.StatementTree.{DeclarationTree, HandlerTrees, NoHandlers, NoStmts, StmtTree, StmtTrees, stmt_tree, stmt_trees, stmts_of}
 use Rattle.image.specs.Sections.{Sections}
 use Rattle.image.specs.Operations.{given_by, jump_target, taken_by}
-use Rattle.image.specs.Rules.{has_depth, has_operands, is_return, names_things, none_or}
+use Rattle.image.specs.Rules.{has_depth, has_operands, is_return, names_things}
 use Rattle.image.specs.declared.instruction.Operation.{Operation}
 use Rattle.image.specs.declared.instruction.Operation.TheVariants as op
 use Rattle.image.specs.declared.subprograms.Subprogram.{Subprogram}
@@ -35,33 +34,18 @@ use Rattle.expr_code.specs.declared.code.Code.{Code}
 use Rattle.expr_code.specs.declared.visible.Visible.{Visible}
 use Rattle.expr_code.proofs.Flowing.{kept_one, kept_then, widened}
 use Rattle.expr_code.proofs.Growing.{added_at, added_extends, added_here, added_there, extends_self, extends_trans, holds_before, holds_later}
-use Rattle.stmt_code.specs.Handling.{Handling}
-use Rattle.stmt_code.specs.Bounds.{handlers_words, sequence_bound, stmt_bound, stmts_bound, stmts_words}
+use Rattle.part_code.specs.Handling.{Handling}
+use Rattle.part_code.specs.Bounds.{handlers_words, sequence_bound, stmt_bound, stmts_bound, stmts_words}
 use Rattle.stmt_code.specs.Covering.{EmitsSequence}
-use Rattle.stmt_code.specs.Suiting.{SuitsStatements}
-use Rattle.stmt_code.specs.Emitting.{Allows, AreLegalStatements, AreLegalHandlers, Emits, EmitsDeclarations, EmitsStatement, EmitsStatements, HasLabels, IsLegalStatement, IsReachable, Meant, Serves, seeing}
-use Rattle.stmt_code.specs.Resting.{Framed}
-use Rattle.stmt_code.specs.Statements.{AreStatements, IsSequence, IsStatement, Numbers, Ways}
+use Rattle.part_code.specs.Suiting.{SuitsStatements}
+use Rattle.stmt_code.specs.Emitting.{Allows, AreLegalStatements, AreLegalHandlers, Emits, EmitsDeclarations, EmitsStatement, EmitsStatements, HasLabels, IsLegalStatement, Meant, Serves, seeing}
+use Rattle.part_code.specs.Emitting.{IsReachable}
+use Rattle.part_code.specs.Resting.{Framed}
+use Rattle.part_code.specs.Statements.{AreStatements, IsSequence, IsStatement, Numbers, Ways}
 use Rattle.stmt_code.specs.declared.draft.Draft.{Draft}
 use Rattle.stmt_code.proofs.RowsAdded.{KeepsRows, Surrounds, finds_later, goes_front, goes_kept, handled_first, handled_inside, handled_second, rows_around, rows_kept, rows_then}
-
--- ---- lists
-
-pub mapped_next : {A B : Type 0} (f : A → B) (all : List A) (n : ℕ) (x : A) → n < length all → x ≡ get_or all n x
-    → map f (take (n + 1) all) ≡ map f (take n all) ++ f x ∷ []
-mapped_next f all n x less is =
-    let more : n + 1 ≡ suc n = omega arith in
-    ap (λ m. map f (take m all)) more ∙ ap (map f) (take-suc all n x less) ∙ last (take n all) (get_or all n x) ∙ ap (λ y. map f (take n all) ++ f y ∷ []) (sym is)
-  where
-    last : (xs : List _) (y : _) → map f (xs ++ y ∷ []) ≡ map f xs ++ f y ∷ []
-    last [] y = refl
-    last (z ∷ xs) y = ap (λ l. f z ∷ l) (last xs y)
-
-pub take_all : {A : Type 0} (xs : List A) (n : ℕ) → length xs ≤ n → take n xs ≡ xs
-take_all [] zero up = refl
-take_all [] (suc n) up = refl
-take_all (x ∷ xs) zero up = absurd (omega (arith, up))
-take_all (x ∷ xs) (suc n) up = ap (λ l. x ∷ l) (take_all xs n (omega (arith, up)))
+use Rattle.part_code.proofs.Lists.{mapped_next, take_all}
+use Rattle.part_code.proofs.Jumps.{same_place, jump_kept}
 
 -- ---- labels
 
@@ -97,25 +81,6 @@ most_beside old new same = ap (λ w. w.most) same.1
 same_self : (n : ℕ) → nat_eq n n ≡ true
 same_self zero = refl
 same_self (suc n) = search rules
-
-pub depth_there : (i : Sections) (place depth : ℕ) (o : Operation) → slice_get i.instructions place ≡ Some (record { depth = depth; operation = o })
-    → has_depth i place depth ≡ true
-depth_there i place depth o there = ap (λ y. none_or y (λ x. nat_eq x.depth depth)) there ∙ same_self depth
-
-pub same_place : (o : Operation) (place a : ℕ) → jump_target o ≡ Some place → jump_target o ≡ Some a → a ≡ place
-same_place o place a is e = some_same a place (sym e ∙ is)
-  where
-    some_same : (x y : ℕ) → Some x ≡ Some y → x ≡ y
-    some_same x y e = cc
-
--- a jump from an empty operand stack to a place that is reached
-pub jump_kept : (i : Sections) (s : Subprogram) (low high place to : ℕ) → slice_get i.instructions place ≡ Some (record { depth = 0; operation = op.Jump to })
-    → IsReachable i low high to → AreKeptBetween i s low high place (suc place) 0
-jump_kept i s low high place to there r =
-    kept_one i s low high place 0 0 (op.Jump to) there (omega arith) (omega arith) refl refl (omega arith) (omega arith) refl (λ e. absurd cc)
-    (λ a e.
-    let same : a ≡ to = same_place (op.Jump to) to a refl e in
-    (omega (arith, same, r.down), omega (arith, same, r.up), ap (λ n. has_depth i n 0) same ∙ r.empty))
 
 module _ (v : Visible) where
   -- ---- a value, and an instruction that takes it

@@ -27,14 +27,19 @@ use Rattle.expr_code.specs.declared.code.Code.{Code}
 use Rattle.expr_code.specs.declared.visible.Visible.{Visible}
 use Rattle.expr_code.proofs.Flowing.{kept_one, kept_then, widened}
 use Rattle.expr_code.proofs.Growing.{added_extends, added_here, extends_trans}
-use Rattle.stmt_code.specs.Alternatives.{AddsAlternatives, AreLegalAlternatives, AreLegalChoices, AreSelected, in_front}
-use Rattle.stmt_code.specs.Bounds.{alternatives_bound, stmt_bound}
+use Rattle.stmt_code.specs.Alternatives.{AddsAlternatives, AreLegalAlternatives, AreSelected, in_front}
+use Rattle.part_code.specs.Choices.{AreLegalChoices}
+use Rattle.part_code.specs.Bounds.{alternatives_bound, stmt_bound}
 use Rattle.stmt_code.specs.Emitting.{AreLegalStatements, EmitsOpen, EmitsStatement, EmitsStatements, IsLegalStatement, MeantTo, Serves}
-use Rattle.stmt_code.specs.Statements.{AreAlternatives, IsChoice, IsStatement, Ways}
+use Rattle.part_code.specs.Statements.{AreAlternatives, IsChoice, IsStatement, Ways}
 use Rattle.stmt_code.specs.declared.draft.Draft.{Draft}
-use Rattle.stmt_code.proofs.Adding.{IsBeside, jump_kept, labels_before, labels_beside, labels_then, mapped_next, most_beside, take_all, taken_beside}
-use Rattle.stmt_code.proofs.Opening.{added_is, alone, append_again, append_none, joined, none_before, none_behind, not_alone, open_then, same_self, shorter}
-use Rattle.stmt_code.proofs.Selecting.{Selects, selecting_inside}
+use Rattle.stmt_code.proofs.Adding.{IsBeside, labels_before, labels_beside, labels_then, most_beside, taken_beside}
+use Rattle.part_code.proofs.Jumps.{jump_kept}
+use Rattle.part_code.proofs.Lists.{mapped_next, take_all}
+use Rattle.part_code.proofs.Jumps.{added_is}
+use Rattle.part_code.proofs.Lists.{alone, append_again, append_none, none_before, none_behind, not_alone, same_self, shorter}
+use Rattle.stmt_code.proofs.Opening.{joined, open_then}
+use Rattle.part_code.proofs.Selecting.{Selects, selecting_inside}
 use Rattle.stmt_code.proofs.RowsAdded.{Surrounds, finds_later, finds_rejoined, goes_front, handled_inside, rows_around, rows_kept}
 
 module _ (v : Visible) (w : Ways) (e : ExprTree) where

@@ -32,16 +32,16 @@ use Rattle.expr_code.specs.Views.{At, placed, view_of}
 use Rattle.expr_code.specs.declared.visible.Slot.{Slot}
 use Rattle.expr_code.proofs.Coming.{more, then_comes}
 use Rattle.expr_code.proofs.Locating.{given}
-use Rattle.stmt_code.specs.declared.call.Destination.{Destination}
-use Rattle.stmt_code.specs.Layout.{IsLaidOut, IsVariable, NamesObject}
-use Rattle.stmt_code.specs.Resting.{Framed, IsAt, Knows, Rests, StandsFor}
-use Rattle.stmt_code.specs.Statements.{IsAssigned, Numbers}
-use Rattle.stmt_code.specs.Storing.{Assigned, Puts, assigned, assigned_to}
-use Rattle.stmt_code.proofs.Arriving.{stores_assign}
-use Rattle.stmt_code.proofs.Declaring.{IsTypedAs, value_suits}
-use Rattle.stmt_code.proofs.Pointing.{PointsTo, address_here, computes_pointed, part_here, place_in, placed_here, pointed}
-use Rattle.stmt_code.proofs.StoringCode.{comes_part, given_value}
-use Rattle.stmt_code.proofs.StoringParts.{HoldsVariables, StoresIn, address_is, block_in, part_puts, place_of, word_in}
+use Rattle.part_code.specs.declared.call.Destination.{Destination}
+use Rattle.part_code.specs.Layout.{IsLaidOut, IsVariable, NamesObject}
+use Rattle.part_code.specs.Resting.{Framed, IsAt, Knows, Rests, StandsFor}
+use Rattle.part_code.specs.Statements.{IsAssigned, Numbers}
+use Rattle.part_code.specs.Storing.{Assigned, Puts, assigned, assigned_to}
+use Rattle.part_code.proofs.Arriving.{stores_assign}
+use Rattle.part_code.proofs.Declaring.{IsTypedAs, value_suits}
+use Rattle.part_code.proofs.Pointing.{PointsTo, address_here, computes_pointed, part_here, place_in, placed_here, pointed}
+use Rattle.part_code.proofs.StoringCode.{comes_part, given_value}
+use Rattle.part_code.proofs.StoringParts.{HoldsVariables, StoresIn, address_is, block_in, part_puts, place_of, word_in}
 
 pub form_there : (o : Option TypeForm) → is_some o ≡ true → (form : TypeForm) × (o ≡ Some form)
 form_there (Some form) h = (form, refl)

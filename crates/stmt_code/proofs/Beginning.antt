@@ -20,11 +20,11 @@ use Rattle.sound_steps.specs.Objects.{AreOf, IsOf}
 use Rattle.expr_code.specs.Naming.{Lies}
 use Rattle.expr_code.specs.Seeing.{Package}
 use Rattle.expr_code.specs.declared.visible.Slot.{Slot}
-use Rattle.stmt_code.specs.Copying.{first_address, first_words, held_at, passed_words}
-use Rattle.stmt_code.specs.Layout.{IsLaidOut, Widens}
-use Rattle.stmt_code.specs.Resting.{AreHeld, Framed, Rests}
+use Rattle.part_code.specs.Copying.{first_address, first_words, held_at, passed_words}
+use Rattle.part_code.specs.Layout.{IsLaidOut, Widens}
+use Rattle.part_code.specs.Resting.{AreHeld, Framed, Rests}
 use Rattle.stmt_code.proofs.Entering.{rests_more}
-use Rattle.stmt_code.proofs.Words.{below}
+use Rattle.part_code.proofs.Words.{below}
 
 -- ---- words in front of others
 

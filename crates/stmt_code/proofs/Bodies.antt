@@ -14,9 +14,9 @@ use Rattle.meaning.specs.Programs.{Parameter, Procedure, Program}
 use Rattle.sound_steps.specs.Fitting.{taken_types}
 use Rattle.sound_steps.specs.Objects.{AreOf}
 use Rattle.expr_code.specs.Seeing.{Package}
-use Rattle.stmt_code.specs.Copying.{held_at, passed_words}
-use Rattle.stmt_code.specs.Layout.{IsLaidPackage}
-use Rattle.stmt_code.specs.Resting.{AreHeld, Framed, Rests, RestsWith, held_offset}
+use Rattle.part_code.specs.Copying.{held_at, passed_words}
+use Rattle.part_code.specs.Layout.{IsLaidPackage}
+use Rattle.part_code.specs.Resting.{AreHeld, Framed, Rests, RestsWith, held_offset}
 use Rattle.stmt_code.proofs.Beginning.{Enters, EntersOne, begun, entered}
 use Rattle.stmt_code.proofs.Entering.{IsOfPackage, rests_alike, rests_package}
 

@@ -41,18 +41,19 @@ use Rattle.expr_code.specs.Widths.{width_of}
 use Rattle.expr_code.specs.declared.visible.Slot.{Slot}
 use Rattle.expr_code.specs.declared.visible.Visible.{Visible}
 use Rattle.expr_code.proofs.Widths.{integral_one, known}
-use Rattle.stmt_code.specs.Emitting.{AreLegalStatements, HasEntries, IsLegalStatement, Serves, seeing}
-use Rattle.stmt_code.specs.Layout.{EndsBelow}
-use Rattle.stmt_code.specs.Resting.{Framed}
+use Rattle.stmt_code.specs.Emitting.{AreLegalStatements, IsLegalStatement, Serves, seeing}
+use Rattle.part_code.specs.Emitting.{HasEntries}
+use Rattle.part_code.specs.Layout.{EndsBelow}
+use Rattle.part_code.specs.Resting.{Framed}
 use Rattle.stmt_code.specs.Turns.{BeginsRange}
 use Rattle.stmt_code.specs.declared.draft.Draft.{Draft}
-use Rattle.stmt_code.specs.declared.range_loop.Turns.{Turns}
+use Rattle.part_code.specs.declared.turns.Turns.{Turns}
 use Rattle.stmt_code.proofs.Adding.{wanted_legal}
 use Rattle.stmt_code.proofs.Laying.{AddsObject}
-use Rattle.stmt_code.proofs.Names.{single_number}
+use Rattle.part_code.proofs.Names.{single_number}
 use Rattle.stmt_code.proofs.Parameters.{AreBelow, HoldsRange, holds_behind, parameter_below, parameter_ends, parameter_laid}
-use Rattle.stmt_code.specs.Statements.{Numbers}
-use Rattle.stmt_code.specs.Suiting.{SuitsStatements}
+use Rattle.part_code.specs.Statements.{Numbers}
+use Rattle.part_code.specs.Suiting.{SuitsStatements}
 use Rattle.stmt_code.proofs.Suiting.{entries_wider, number_wider, slots_first, stands_wider, subprograms_first, suits_wider}
 use Rattle.stmt_code.proofs.Widening.{scope_wider}
 

@@ -19,14 +19,14 @@ use Rattle.well_typed.specs.SoundScopes.{AreIn, IsKnown, SoundScope}
 use Rattle.well_typed.proofs.Positions.{same_some}
 use Rattle.well_typed.proofs.Widening.{subtype_known}
 use Rattle.expr_code.specs.declared.visible.Visible.{Visible}
-use Rattle.stmt_code.specs.Emitting.{HasEntries}
-use Rattle.stmt_code.specs.Formals.{StandInTurn, StandsAt, passed_for, returned_more, words_returned}
+use Rattle.part_code.specs.Emitting.{HasEntries}
+use Rattle.part_code.specs.Formals.{StandInTurn, StandsAt, passed_for, returned_more, words_returned}
 use Rattle.stmt_code.specs.Subprograms.{AddsFunction, AddsProcedure, IsCalledFunction, IsCalledProcedure}
-use Rattle.stmt_code.specs.Suiting.{passed_width, returned_width}
+use Rattle.part_code.specs.Suiting.{passed_width, returned_width}
 use Rattle.stmt_code.specs.declared.draft.Draft.{Draft}
-use Rattle.stmt_code.specs.declared.formals.PlacedFormal.{PlacedFormal}
+use Rattle.part_code.specs.declared.formals.PlacedFormal.{PlacedFormal}
 use Rattle.stmt_code.specs.declared.subprogram.SubprogramWords.{SubprogramWords}
-use Rattle.stmt_code.proofs.FormalWords.{passed_named, passed_placed}
+use Rattle.part_code.proofs.FormalWords.{passed_named, passed_placed}
 use Rattle.stmt_code.proofs.Keeping.{wider}
 
 -- ---- the formals of a profile, one by one

@@ -1,15 +1,13 @@
 -- Code of calls of procedures that was added: the actual parameters, CALL, and what is copied back (RM 6.4, 6.4.1).
-use Rattle.std.proofs.Common.{◌≡◌, ℕ, suc, ◌+◌, ◌≤◌, inl, inr, List, [], ◌∷◌, ◌++◌, length, map, Bool, true, not, ◌||◌, Some, None, refl, sym, ap, ◌∙◌, subst, arith}
+use Rattle.std.proofs.Common.{◌≡◌, ℕ, suc, ◌+◌, inl, inr, List, [], ◌++◌, length, map, Bool, true, not, ◌||◌, Some, None, refl, sym, ap, ◌∙◌, subst, arith}
 use Rattle.std.specs.Prelude.{slice_get}
 use Rattle.base.specs.declared.faults.TheConstants.{NAME_NOT_VISIBLE}
 use Rattle.kernel.specs.Laws.{QuietStays}
 use Rattle.ada_tree.specs.declared.expression.Argument.{Argument}
 use Rattle.ada_tree.specs.declared.expression.Identifier.{Identifier}
-use Rattle.ada_tree.specs.declared.expression.Selector.{Selector}
-use Rattle.ada_tree.specs.declared.expression.Selector as selectors
-use Rattle.ada_tree.specs.ExpressionTree.{ArgumentTrees, Arguments, Attribute, Component, MoreSelectors, NameTree, NoArguments, NoSelectors, SelectorTrees, argument_tree, argument_trees, selector_trees}
+use Rattle.ada_tree.specs.ExpressionTree.{ArgumentTrees, Arguments, Attribute, Component, MoreSelectors, NameTree, NoArguments, NoSelectors, SelectorTrees, argument_tree, argument_trees}
 use Rattle.ada_tree.specs.StatementTree as statements
-use Rattle.ada_tree.specs.Size.{arguments_size, selectors_size, total}
+use Rattle.ada_tree.specs.Size.{total}
 use Rattle.image.specs.Sections.{Sections}
 use Rattle.image.specs.Operations.{called, parameters_of, results_of}
 use Rattle.image.specs.Rules.{calls_inside, is_plain, some_and}
@@ -40,31 +38,22 @@ use Rattle.expr_code.specs.declared.visible.Visible.{Visible}
 use Rattle.expr_code.proofs.Actuals.{actual_legal, counted, nothing_behind, sizes_are, trees_are}
 use Rattle.expr_code.proofs.Flowing.{Changes, flows_then, instruction_flows, widened}
 use Rattle.expr_code.proofs.Growing.{added_at, added_extends, added_here, extends_trans, holds_before, holds_later}
-use Rattle.stmt_code.specs.Copying.{AreCopies}
-use Rattle.stmt_code.specs.declared.call.Destination.{Destination}
+use Rattle.part_code.specs.Copying.{AreCopies}
+use Rattle.part_code.specs.declared.call.Destination.{Destination}
 use Rattle.stmt_code.specs.Emitting.{EmitsStatement, IsLegalStatement, Serves}
-use Rattle.stmt_code.specs.Passing.{ArePassedInFront, ArePassedAndPlaced, ComputesActuals, EmitsPassedActuals, EmitsCopies, actuals_behind, copied_width}
-use Rattle.stmt_code.specs.Suiting.{SuitsStatements}
-use Rattle.stmt_code.specs.Resting.{Framed}
-use Rattle.stmt_code.specs.Statements.{IsCalleeCode, Numbers, Ways}
+use Rattle.part_code.specs.Passing.{ArePassedInFront, ArePassedAndPlaced, ComputesActuals, EmitsPassedActuals, EmitsCopies, actuals_behind, copied_width}
+use Rattle.part_code.specs.Suiting.{SuitsStatements}
+use Rattle.part_code.specs.Resting.{Framed}
+use Rattle.part_code.specs.Statements.{IsCalleeCode, Numbers, Ways}
 use Rattle.stmt_code.specs.declared.draft.Draft.{Draft}
-use Rattle.stmt_code.proofs.Actuals.{computes_none}
+use Rattle.part_code.proofs.Actuals.{computes_none}
 use Rattle.stmt_code.proofs.Adding.{IsBeside, labels_beside, most_beside, taken_beside}
 use Rattle.stmt_code.proofs.RowsAdded.{goes_kept, rows_kept}
 use Rattle.stmt_code.proofs.CodeOfCalls.{calls_procedure}
-use Rattle.stmt_code.proofs.PassingWell.{passes_none}
+use Rattle.part_code.proofs.PassingWell.{passes_none}
+use Rattle.part_code.proofs.WrittenActuals.{same_some, size_is}
 
 -- ---- the form
-
-pub many_selectors : (all : List Selector) → 2 ≤ length all → None ≡ actuals_behind (selector_trees all)
-many_selectors [] le = absurd (omega (arith, le))
-many_selectors (a ∷ []) le = absurd (omega (arith, le))
-many_selectors (selectors.Component i ∷ b ∷ rest) le = refl
-many_selectors (selectors.Attribute i ∷ b ∷ rest) le = refl
-many_selectors (selectors.Arguments' shape row ∷ b ∷ rest) le = refl
-
-same_some : (a x : ArgumentTrees) → Some a ≡ Some x → a ≡ x
-same_some a x h = cc
 
 callee_is : (program : Program) (first : Identifier) (path : SelectorTrees) (x : ArgumentTrees) → actuals_behind path ≡ Some x
     → callee_by program None first path ≡ callee_with (procedure_here program None first.name) None x
@@ -73,13 +62,6 @@ callee_is program first (MoreSelectors (Arguments a) NoSelectors) x h = ap (call
 callee_is program first (MoreSelectors (Arguments a) (MoreSelectors y rest)) x h = cc
 callee_is program first (MoreSelectors (Component name) rest) x h = cc
 callee_is program first (MoreSelectors (Attribute name) rest) x h = cc
-
-pub size_is : (path : SelectorTrees) (x : ArgumentTrees) → actuals_behind path ≡ Some x → arguments_size x ≤ selectors_size path
-size_is NoSelectors x h = (let same = ap arguments_size (same_some NoArguments x h) in omega (arith, same))
-size_is (MoreSelectors (Arguments a) NoSelectors) x h = (let same = ap arguments_size (same_some a x h) in omega (arith, same))
-size_is (MoreSelectors (Arguments a) (MoreSelectors y rest)) x h = cc
-size_is (MoreSelectors (Component name) rest) x h = cc
-size_is (MoreSelectors (Attribute name) rest) x h = cc
 
 same_actuals : (path : SelectorTrees) (a x : ArgumentTrees) → HasArguments path a → actuals_behind path ≡ Some x → a ≡ x
 same_actuals path a x (inl h) is = h.1 ∙ same_some NoArguments x (ap actuals_behind (sym h.0) ∙ is)

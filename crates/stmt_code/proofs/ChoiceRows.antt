@@ -1,8 +1,7 @@
 -- Rows of the choices of handlers: for which exceptions they are, where these go on, and what they are beside other rows.
-use Rattle.std.proofs.Common.{◌≡◌, ℕ, suc, ◌+◌, ◌-◌, ◌<◌, ◌≤◌, List, [], ◌∷◌, ◌++◌, All, drop, length, Bool, true, false, Option, Some, None, refl, sym, ap, ◌∙◌, subst, arith, rules}
-use Rattle.std.specs.Prelude.{◌&&◌, ◌||◌, bytes_eq, get_or, if◌then◌else◌, is_some, nat_eq, nat_le, nat_lt, not, option_map, position, ⊤}
+use Rattle.std.proofs.Common.{◌≡◌, ℕ, suc, ◌+◌, ◌-◌, ◌<◌, ◌≤◌, List, [], ◌∷◌, ◌++◌, All, length, Bool, true, false, Option, Some, None, refl, sym, ap, ◌∙◌, subst, arith, rules}
+use Rattle.std.specs.Prelude.{◌&&◌, ◌||◌, bytes_eq, get_or, if◌then◌else◌, is_some, nat_eq, nat_le, nat_lt, option_map, position, ⊤}
 use Rattle.std.specs.List.{list_all}
-use Rattle.std.proofs.lemmas.List.{at_drop_more}
 use Rattle.std.proofs.lemmas.List.Elements.{All-cons, All-head, All-nil, All-tail, All-weaker}
 use Rattle.std.proofs.lemmas.List.Folds.{list_all-append}
 use Rattle.std.proofs.lemmas.List.Quantifiers.{position-Some}
@@ -18,9 +17,10 @@ use Rattle.meaning.specs.Programs.{Program, exception_name, exception_number}
 use Rattle.meaning.specs.SourceSteps as source
 use Rattle.meaning.specs.SourceSteps.{some_covers}
 use Rattle.sound_steps.specs.Objects.{IsException}
-use Rattle.stmt_code.specs.Covering.{choice_rows, first_for, row_for}
-use Rattle.stmt_code.specs.Handling.{CoverJust, or_answer}
-use Rattle.stmt_code.specs.Raising.{AreNamed, are_numbered, choice_number, number_among, number_at}
+use Rattle.part_code.specs.ChoiceRows.{choice_rows, row_for}
+use Rattle.stmt_code.specs.Covering.{first_for}
+use Rattle.part_code.specs.Handling.{CoverJust, or_answer}
+use Rattle.part_code.specs.Raising.{AreNamed, are_numbered, choice_number, number_among, number_at}
 use Rattle.stmt_code.proofs.RaisesAdded.{numbered}
 
 some_same : {X : Type 0} (x y : X) → Some x ≡ Some y → x ≡ y
@@ -213,13 +213,6 @@ module _ (exceptions : List (List ℕ)) (q : Row) where
           All-cons P (row_for q (choice_number exceptions c)) (choice_rows exceptions q cs)
           (subst (λ o. P (row_for q o)) (sym told) (one n (choice_known c n told)))
           (rest (sym (ap (λ o. is_some o && are_numbered exceptions cs) told) ∙ h))
-
--- a choice among them that has no number
-pub unknown_among : (exceptions : List (List ℕ)) (cs : List ExceptionChoice) (n : ℕ) (c : ExceptionChoice) → n < length cs → c ≡ get_or cs n c
-    → choice_number exceptions c ≡ None → are_numbered exceptions (drop n cs) ≡ are_numbered exceptions cs → not (are_numbered exceptions cs) ≡ true
-unknown_among exceptions cs n c less is none same =
-    let left = at_drop_more (λ l. l) cs n c less ∙ ap (λ y. y ∷ drop (n + 1) cs) (sym is) in
-    ap not (sym same ∙ ap (are_numbered exceptions) left ∙ ap (λ o. is_some o && are_numbered exceptions (drop (n + 1) cs)) none)
 
 -- ---- regions beside others
 

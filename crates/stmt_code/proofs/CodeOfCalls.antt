@@ -7,13 +7,13 @@ use Rattle.meaning.specs.Calls.{Callee, results}
 use Rattle.meaning.specs.Programs.{Program}
 use Rattle.expr_code.specs.Seeing.{Package, Sees, library_of}
 use Rattle.expr_code.specs.Views.{At}
-use Rattle.stmt_code.specs.Copying.{AreCopies}
-use Rattle.stmt_code.specs.declared.call.Destination.{Destination}
-use Rattle.stmt_code.specs.Resting.{Framed}
-use Rattle.stmt_code.specs.Statements.{IsCall, Numbers}
-use Rattle.stmt_code.proofs.Actuals.{ComputesActuals}
-use Rattle.stmt_code.proofs.CopyingBack.{copies_up}
-use Rattle.stmt_code.proofs.PassingWell.{PassAllWell}
+use Rattle.part_code.specs.Copying.{AreCopies}
+use Rattle.part_code.specs.declared.call.Destination.{Destination}
+use Rattle.part_code.specs.Resting.{Framed}
+use Rattle.part_code.specs.Statements.{IsCall, Numbers}
+use Rattle.part_code.proofs.Actuals.{ComputesActuals}
+use Rattle.part_code.proofs.CopyingBack.{copies_up}
+use Rattle.part_code.proofs.PassingWell.{PassAllWell}
 
 module _ (quiet : QuietStays) (i : Sections) (program : Program) (g : Package) (scope_is : program.scope ≡ g.scope) (numbers : Numbers) (v : Framed) (c : Callee) where
   pub calls_procedure : (number : ℕ) → numbers c.procedure ≡ Some number → c.through ≡ None → c.procedure.barrier ≡ None

@@ -9,8 +9,8 @@ use Rattle.handlers.specs.Nesting.{all_nested, are_nested}
 use Rattle.handlers.specs.declared.rows.Row.{Row}
 use Rattle.image.specs.Sections.{Sections}
 use Rattle.stmt_code.specs.Covering.{first_for}
-use Rattle.stmt_code.specs.Handling.{CoverJust, GoesByRows, Handling, or_answer}
-use Rattle.stmt_code.specs.Rows.{LiesWithin}
+use Rattle.part_code.specs.Handling.{CoverJust, GoesByRows, Handling, or_answer}
+use Rattle.part_code.specs.Rows.{LiesWithin}
 use Rattle.stmt_code.proofs.AddedRows.{no_more, not_yet, rows_covered, without_first, without_last}
 use Rattle.stmt_code.proofs.ChoiceRows.{behind_nested, first_there, just_nested, nested_with, within_nested}
 

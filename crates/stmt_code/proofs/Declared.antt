@@ -49,23 +49,25 @@ use Rattle.expr_code.specs.declared.visible.Visible.{Visible}
 use Rattle.expr_code.proofs.Flowing.{Changes, flows_then, instruction_flows, kept_then, widened}
 use Rattle.expr_code.proofs.Growing.{added_at, added_extends, added_here, extends_self, extends_trans, holds_before, holds_later}
 use Rattle.expr_code.proofs.Going.{uncapped_words}
-use Rattle.stmt_code.specs.Bounds.{declarations_bound, locals_words, words_if_any}
-use Rattle.stmt_code.specs.Emitting.{AddsInitial, EmitsDeclarations, EmitsInitial, EmitsInitialWords, EmitsObject, FitsIfAny, HasEntries, Pushes, Serves, TakesWords, first_word, seeing}
-use Rattle.stmt_code.specs.Layout.{EndsBelow, Spares, Widens}
-use Rattle.stmt_code.specs.Resting.{Framed, NarrowsFrame}
-use Rattle.stmt_code.specs.Statements.{AreDeclared, IsDeclared, Numbers}
-use Rattle.stmt_code.specs.Suiting.{SuitsStatements}
+use Rattle.part_code.specs.Bounds.{declarations_bound, locals_words, words_if_any}
+use Rattle.part_code.specs.Emitting.{AddsInitial, EmitsInitial, EmitsInitialWords, EmitsObject, FitsIfAny, HasEntries, Pushes, TakesWords, first_word}
+use Rattle.stmt_code.specs.Emitting.{EmitsDeclarations, Serves, seeing}
+use Rattle.part_code.specs.Layout.{EndsBelow, Spares, Widens}
+use Rattle.part_code.specs.Resting.{Framed, NarrowsFrame}
+use Rattle.part_code.specs.Statements.{AreDeclared, IsDeclared, Numbers}
+use Rattle.part_code.specs.Suiting.{SuitsStatements}
 use Rattle.stmt_code.specs.declared.draft.Draft.{Draft}
-use Rattle.stmt_code.specs.declared.draft.FrameWords.{FrameWords}
+use Rattle.part_code.specs.declared.frame_words.FrameWords.{FrameWords}
 use Rattle.stmt_code.proofs.RowsAdded.{KeepsRows}
-use Rattle.stmt_code.proofs.Adding.{labels_before, labels_stay, labels_then, mapped_next, take_all, value_extends, value_kept}
-use Rattle.stmt_code.proofs.Declaring.{IsTypedAs, declares_block, declares_initial, declares_initial_words, declares_value}
-use Rattle.stmt_code.proofs.Initials.{are_pushed, form_there, initial_word, pushed_extends, pushed_flows, pushed_here, shape_there}
+use Rattle.stmt_code.proofs.Adding.{labels_before, labels_stay, labels_then, value_extends, value_kept}
+use Rattle.part_code.proofs.Lists.{mapped_next, take_all}
+use Rattle.part_code.proofs.Declaring.{IsTypedAs, declares_block, declares_initial, declares_initial_words, declares_value}
+use Rattle.part_code.proofs.Initials.{are_pushed, form_there, initial_word, pushed_extends, pushed_flows, pushed_here, shape_there}
 use Rattle.stmt_code.proofs.Laying.{AddsObject, ends_wider, free_wider, laid_wider, widens_behind}
 use Rattle.stmt_code.proofs.Narrowing.{narrows_wider}
-use Rattle.stmt_code.specs.Storing.{ArePushed}
-use Rattle.stmt_code.proofs.Stored.{less_true}
-use Rattle.stmt_code.proofs.StoredParts.{store_changes}
+use Rattle.part_code.specs.Storing.{ArePushed}
+use Rattle.part_code.proofs.ObjectNames.{less_true}
+use Rattle.part_code.proofs.StoresAt.{store_changes}
 use Rattle.stmt_code.proofs.Suiting.{entries_wider, number_wider, slots_first, stands_wider, subprograms_first, suits_wider}
 use Rattle.stmt_code.proofs.Widening.{scope_wider}
 

@@ -19,12 +19,12 @@ use Rattle.expr_code.specs.Computing.{Everywhere}
 use Rattle.expr_code.specs.Seeing.{Package, Sees, library_of}
 use Rattle.expr_code.specs.Views.{At}
 use Rattle.expr_code.specs.declared.visible.Slot.{Slot}
-use Rattle.stmt_code.specs.Layout.{IsLaidOut, Spares, Widens}
-use Rattle.stmt_code.specs.Resting.{Framed}
-use Rattle.stmt_code.specs.Statements.{IsParameterDeclared, Numbers}
-use Rattle.stmt_code.specs.Storing.{ArePushed}
-use Rattle.stmt_code.proofs.Declaring.{begins_by, initial_suits}
-use Rattle.stmt_code.proofs.StoringCode.{StoresLocally, block_locally, computes_above, computes_pushed, word_locally}
+use Rattle.part_code.specs.Layout.{IsLaidOut, Spares, Widens}
+use Rattle.part_code.specs.Resting.{Framed}
+use Rattle.part_code.specs.Statements.{IsParameterDeclared, Numbers}
+use Rattle.part_code.specs.Storing.{ArePushed}
+use Rattle.part_code.proofs.Declaring.{begins_by, initial_suits}
+use Rattle.part_code.proofs.StoringCode.{StoresLocally, block_locally, computes_above, computes_pushed, word_locally}
 
 module _ (kept : AgreementIsKept) (sized : ValuesHaveWords) (quiet : QuietStays) (shaped : InitialValuesHaveShape) (i : Sections) (program : Program)
     (g : Package) (numbers : Numbers) (v later : Framed) (f : Parameter) (r : Role) (slot : Slot) (laid : IsLaidOut g v)

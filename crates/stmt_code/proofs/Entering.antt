@@ -22,10 +22,10 @@ use Rattle.expr_code.specs.Naming.{Lies}
 use Rattle.expr_code.specs.Seeing.{IsCoded, Package, SeesPackage, outside, slot_of, subprogram_of}
 use Rattle.expr_code.specs.Views.{View}
 use Rattle.expr_code.specs.declared.visible.Slot.{Slot}
-use Rattle.stmt_code.specs.Layout.{IsLaidOut, IsLaidPackage, Widens}
-use Rattle.stmt_code.specs.Resting.{Framed, IsAtHome, Knows, Rests}
-use Rattle.stmt_code.proofs.Names.{meant_by}
-use Rattle.stmt_code.proofs.Placing.{declared_knows, framed_view, package_alone, with_locals, with_objects}
+use Rattle.part_code.specs.Layout.{IsLaidOut, IsLaidPackage, Widens}
+use Rattle.part_code.specs.Resting.{Framed, IsAtHome, Knows, Rests}
+use Rattle.part_code.proofs.Names.{meant_by}
+use Rattle.part_code.proofs.Placing.{declared_knows, framed_view, package_alone, with_locals, with_objects}
 
 -- ---- an object more, whose words stand there
 

@@ -10,11 +10,11 @@ use Rattle.types.specs.Places.{Place}
 use Rattle.meaning.specs.Works.{Activation}
 use Rattle.expr_code.specs.Seeing.{Package}
 use Rattle.expr_code.specs.Views.{At, View}
-use Rattle.stmt_code.specs.Resting.{Framed, HeldWord, Knows, Rests, RestsWith}
-use Rattle.stmt_code.specs.Handling.{IsKept, KeepsException}
-use Rattle.stmt_code.specs.Layout.{IsFree, IsLaidOut}
+use Rattle.part_code.specs.Resting.{Framed, HeldWord, Knows, Rests, RestsWith}
+use Rattle.part_code.specs.Handling.{IsKept, KeepsException}
+use Rattle.part_code.specs.Layout.{IsFree, IsLaidOut}
 use Rattle.stmt_code.proofs.Parameters.{IsUnseen, held_stay, number_written, unseen_rests, with_word, word_there}
-use Rattle.stmt_code.proofs.Walking.{stores_local}
+use Rattle.part_code.proofs.Walking.{stores_local}
 
 -- a frame in which statements leave one word more alone
 abbrev pub reserving : ℕ → Framed → Framed

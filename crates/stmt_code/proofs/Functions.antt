@@ -22,8 +22,8 @@ use Rattle.expr_code.specs.Naming.{Lies}
 use Rattle.expr_code.specs.Seeing.{Package, Sees, SeesPackage}
 use Rattle.expr_code.specs.Views.{View}
 use Rattle.expr_code.specs.declared.visible.Slot.{Slot}
-use Rattle.stmt_code.specs.Layout.{IsLaidPackage}
-use Rattle.stmt_code.specs.Resting.{Framed, Rests}
+use Rattle.part_code.specs.Layout.{IsLaidPackage}
+use Rattle.part_code.specs.Resting.{Framed, Rests}
 use Rattle.stmt_code.proofs.Beginning.{Begins, value_begins, width}
 use Rattle.stmt_code.proofs.Entering.{IsOfPackage, rests_package}
 

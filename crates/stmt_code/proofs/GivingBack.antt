@@ -31,13 +31,13 @@ use Rattle.expr_code.specs.Seeing.{Package, slot_of}
 use Rattle.expr_code.specs.Views.{At, in_frame, placed, view_of}
 use Rattle.expr_code.specs.declared.visible.Slot.{Slot}
 use Rattle.expr_code.proofs.Coming.{pushes}
-use Rattle.stmt_code.specs.Copying.{GivesBack, copies_on, held_at}
-use Rattle.stmt_code.specs.Formals.{IsLoadingCode}
-use Rattle.stmt_code.specs.Layout.{NamesObject}
-use Rattle.stmt_code.specs.Resting.{AreHeld, Framed, IsAtHome, Knows}
-use Rattle.stmt_code.proofs.Assigning.{found_some}
-use Rattle.stmt_code.proofs.Loading.{Goes, loads_block, loads_single, loads_word}
-use Rattle.stmt_code.proofs.Names.{found_meant, meant_width}
+use Rattle.part_code.specs.Copying.{GivesBack, copies_on, held_at}
+use Rattle.part_code.specs.Formals.{IsLoadingCode}
+use Rattle.part_code.specs.Layout.{NamesObject}
+use Rattle.part_code.specs.Resting.{AreHeld, Framed, IsAtHome, Knows}
+use Rattle.part_code.proofs.Assigning.{found_some}
+use Rattle.part_code.proofs.Loading.{Goes, loads_block, loads_single, loads_word}
+use Rattle.part_code.proofs.Names.{found_meant, meant_width}
 
 -- the words of so many values, and of an address each
 abbrev pub words_back : Scope → List Subtype → ℕ

@@ -30,19 +30,24 @@ use Rattle.expr_code.specs.Seeing.{Package}
 use Rattle.expr_code.specs.declared.visible.Visible.{Visible}
 use Rattle.expr_code.proofs.Flowing.{kept_one, kept_then}
 use Rattle.expr_code.proofs.Growing.{added_at, added_extends, added_here, added_there, extends_self, extends_trans, holds_before, holds_later}
-use Rattle.stmt_code.specs.Covering.{AddsHandlers, AreEachKept, AreHandling, EmitsApart, IsOwn, bound_of, choice_rows, first_for, in_front}
-use Rattle.stmt_code.specs.Emitting.{Allows, AreLegalStatements, AreLegalHandlers, EmitsStatements, HasLabels, IsHandled, MeantTo, Serves, TakesWords}
-use Rattle.stmt_code.specs.Handling.{Handling, or_answer}
-use Rattle.stmt_code.specs.Layout.{IsFree, IsLaidOut}
-use Rattle.stmt_code.specs.Raising.{are_numbered}
-use Rattle.stmt_code.specs.Resting.{Framed}
-use Rattle.stmt_code.specs.Suiting.{SuitsStatements}
-use Rattle.stmt_code.specs.Statements.{AreHandlers, AreStatements, IsHandler, Numbers, Ways, within_handler}
+use Rattle.stmt_code.specs.Covering.{AddsHandlers, AreEachKept, AreHandling, EmitsApart, IsOwn, bound_of, first_for, in_front}
+use Rattle.part_code.specs.ChoiceRows.{choice_rows}
+use Rattle.stmt_code.specs.Emitting.{Allows, AreLegalStatements, AreLegalHandlers, EmitsStatements, HasLabels, IsHandled, MeantTo, Serves}
+use Rattle.part_code.specs.Emitting.{TakesWords}
+use Rattle.part_code.specs.Handling.{Handling, or_answer}
+use Rattle.part_code.specs.Layout.{IsFree, IsLaidOut}
+use Rattle.part_code.specs.Raising.{are_numbered}
+use Rattle.part_code.specs.Resting.{Framed}
+use Rattle.part_code.specs.Suiting.{SuitsStatements}
+use Rattle.part_code.specs.Statements.{AreHandlers, AreStatements, IsHandler, Numbers, Ways, within_handler}
 use Rattle.stmt_code.specs.declared.draft.Draft.{Draft}
-use Rattle.stmt_code.proofs.Adding.{jump_kept, labels_before, labels_stay, labels_then, mapped_next, take_all}
+use Rattle.part_code.proofs.Jumps.{jump_kept}
+use Rattle.stmt_code.proofs.Adding.{labels_before, labels_stay, labels_then}
+use Rattle.part_code.proofs.Lists.{mapped_next, take_all}
 use Rattle.stmt_code.proofs.ChoiceRows.{each_choice, first_choices, first_then, if_or}
 use Rattle.stmt_code.proofs.ExceptionWords.{keeps_exception, reserving}
-use Rattle.stmt_code.proofs.Opening.{added_is, alone, among_both, append_again, append_none, none_before, none_behind, not_alone, one_of, same_self, shorter, some_same}
+use Rattle.part_code.proofs.Jumps.{added_is}
+use Rattle.part_code.proofs.Lists.{alone, among_both, append_again, append_none, none_before, none_behind, not_alone, one_of, same_self, shorter, some_same}
 use Rattle.stmt_code.proofs.Parameters.{IsUnseen, free_one_more}
 use Rattle.stmt_code.proofs.RowsAdded.{KeepsRows, Surrounds, finds_later, handled_first, handled_inside, handled_second, rows_around, rows_kept, rows_then}
 

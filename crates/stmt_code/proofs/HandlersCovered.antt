@@ -17,18 +17,20 @@ use Rattle.expr_code.specs.Code.{Extends, Holds, StandsFrom, here}
 use Rattle.expr_code.specs.declared.visible.Visible.{Visible}
 use Rattle.expr_code.proofs.Flowing.{kept_then}
 use Rattle.expr_code.proofs.Growing.{added_extends, added_here, extends_trans}
-use Rattle.stmt_code.specs.Bounds.{stmts_bound}
+use Rattle.part_code.specs.Bounds.{stmts_bound}
 use Rattle.stmt_code.specs.Covering.{AddsCovered, AddsHandled, EmitsSequence, IsOwn, first_for}
 use Rattle.stmt_code.specs.Emitting.{AddsRows, FindsException, HasLabels, IsHandled, Serves}
-use Rattle.stmt_code.specs.Handling.{CoverJust, Handling, or_answer}
-use Rattle.stmt_code.specs.Rows.{LiesWithin}
-use Rattle.stmt_code.specs.Statements.{AreHandlers, Ways}
+use Rattle.part_code.specs.Handling.{CoverJust, Handling, or_answer}
+use Rattle.part_code.specs.Rows.{LiesWithin}
+use Rattle.part_code.specs.Statements.{AreHandlers, Ways}
 use Rattle.stmt_code.specs.declared.draft.Draft.{Draft}
 use Rattle.stmt_code.specs.declared.handler.Cover.{Cover}
-use Rattle.stmt_code.proofs.Adding.{jump_kept, labels_before, labels_stay, labels_then}
+use Rattle.part_code.proofs.Jumps.{jump_kept}
+use Rattle.stmt_code.proofs.Adding.{labels_before, labels_stay, labels_then}
 use Rattle.stmt_code.proofs.CoveredRows.{all_covered_nested, covered_goes, handlers_go}
 use Rattle.stmt_code.proofs.HandlersAdded.{each_then, none_front}
-use Rattle.stmt_code.proofs.Opening.{added_is, none_before, one_of, shorter}
+use Rattle.part_code.proofs.Jumps.{added_is}
+use Rattle.part_code.proofs.Lists.{none_before, one_of, shorter}
 use Rattle.stmt_code.proofs.PartsRefused.{IsLike}
 use Rattle.stmt_code.proofs.RowsAdded.{Surrounds, finds_later, finds_rejoined, rows_around, rows_then, wider_rows}
 

@@ -9,19 +9,20 @@ use Rattle.expr_code.specs.Code.{here}
 use Rattle.expr_code.specs.Refusing.{IsRefused}
 use Rattle.expr_code.specs.declared.refusal.Refusal.{Refusal}
 use Rattle.expr_code.specs.declared.visible.Visible.{Visible}
-use Rattle.stmt_code.specs.Bounds.{declarations_bound, handlers_bound, locals_words, sequence_bound, stmt_bound, stmts_bound}
-use Rattle.stmt_code.specs.Labels.{handlers_labels, stmt_labels, stmts_labels}
-use Rattle.stmt_code.specs.Raising.{are_numbered}
-use Rattle.stmt_code.specs.Refusing.{Around, IsNeeding, Needs, RefusesCovered, RefusesDeclarations, RefusesHandlers, RefusesSequence, RefusesStatement, RefusesStatements, around, behind_locals, beyond_if, both, handler_needs, handlers_needs, inside_handler, locals_needs, locals_visible, nothing, sequence_needs, stmt_needs, stmts_needs}
-use Rattle.stmt_code.specs.Statements.{Ways, within_handler}
+use Rattle.part_code.specs.Bounds.{declarations_bound, handlers_bound, locals_words, sequence_bound, stmt_bound, stmts_bound}
+use Rattle.part_code.specs.Labels.{handlers_labels, stmt_labels, stmts_labels}
+use Rattle.part_code.specs.Raising.{are_numbered}
+use Rattle.stmt_code.specs.Refusing.{Standpoint, RefusesCovered, RefusesDeclarations, RefusesHandlers, RefusesSequence, RefusesStatement, RefusesStatements, around, behind_locals, handler_needs, handlers_needs, inside_handler, sequence_needs, stmt_needs, stmts_needs}
+use Rattle.part_code.specs.Needs.{IsNeeding, Needs, beyond_if, both, locals_needs, locals_visible, nothing}
+use Rattle.part_code.specs.Statements.{Ways, within_handler}
 use Rattle.stmt_code.specs.declared.draft.Draft.{Draft}
 use Rattle.stmt_code.proofs.Labelled.{as_many, handlers_few, handlers_longer}
 use Rattle.stmt_code.proofs.PartsRefused.{IsLike, around_is, part_high, placed_refused}
-use Rattle.stmt_code.proofs.Refused.{Within, frame_within, front_within, behind_within, in_left, in_right, needing_refused, of_right, part_refused, plain_refused, within_then}
+use Rattle.part_code.proofs.Within.{Within, frame_within, front_within, behind_within, in_left, in_right, needing_refused, of_right, part_refused, plain_refused, within_then}
 
 -- ---- one of a list
 
-module _ (a : Around) where
+module _ (a : Standpoint) where
   abbrev AmongHandlers : List Handler → (n : ℕ) → Handler → Type 0
   AmongHandlers all n x =
       (handlers_bound a.visible.scope (handler_trees (take n all)) + handlers_bound a.visible.scope (handlers_of (handler_tree x ∷ []))
@@ -45,7 +46,7 @@ module _ (a : Around) where
       )
 
 module _ (v : Visible) (w : Ways) (old : Draft) (why : Refusal) where
-  abbrev at : Around
+  abbrev at : Standpoint
   at = around v w old
 
   -- ---- a handler

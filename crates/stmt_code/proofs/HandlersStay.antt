@@ -9,25 +9,26 @@ use Rattle.expr_code.specs.Code.{IsShallow}
 use Rattle.expr_code.specs.declared.code.Code.{Code}
 use Rattle.expr_code.specs.declared.visible.Visible.{Visible}
 use Rattle.expr_code.proofs.Shallow.{shallow_as}
-use Rattle.stmt_code.specs.Bounds.{locals_words}
-use Rattle.stmt_code.specs.Labels.{handlers_labels, stmts_labels}
-use Rattle.stmt_code.specs.Refusing.{Around, Needs, around, behind_locals, both, handler_needs, handlers_needs, inside_handler, locals_needs, locals_visible, nothing, stmts_needs}
-use Rattle.stmt_code.specs.Rows.{bodies_rows, choices_many, handlers_rows, stmts_rows}
-use Rattle.stmt_code.specs.Statements.{Ways, within_handler}
+use Rattle.part_code.specs.Bounds.{locals_words}
+use Rattle.part_code.specs.Labels.{handlers_labels, stmts_labels}
+use Rattle.stmt_code.specs.Refusing.{Standpoint, around, behind_locals, handler_needs, handlers_needs, inside_handler, stmts_needs}
+use Rattle.part_code.specs.Needs.{Needs, both, locals_needs, locals_visible, nothing}
+use Rattle.part_code.specs.Rows.{bodies_rows, choices_many, handlers_rows, stmts_rows}
+use Rattle.part_code.specs.Statements.{Ways, within_handler}
 use Rattle.stmt_code.specs.Staying.{Stays, StaysDeclarations, StaysHandled, StaysHandlers, StaysStatement, StaysStatements}
 use Rattle.stmt_code.specs.declared.draft.Draft.{Draft}
-use Rattle.stmt_code.specs.declared.draft.FrameWords.{FrameWords}
-use Rattle.stmt_code.proofs.Adding.{take_all}
+use Rattle.part_code.specs.declared.frame_words.FrameWords.{FrameWords}
+use Rattle.part_code.proofs.Lists.{take_all}
 use Rattle.stmt_code.proofs.HandlersRefused.{handlers_among}
 use Rattle.stmt_code.proofs.Labelled.{handlers_next}
 use Rattle.stmt_code.proofs.PartsRefused.{IsLike, around_is, around_same}
 use Rattle.stmt_code.proofs.PartsStay.{stays_taken}
-use Rattle.stmt_code.proofs.Refused.{Within, in_left, in_right, of_right}
+use Rattle.part_code.proofs.Within.{Within, in_left, in_right, of_right}
 use Rattle.stmt_code.proofs.RowsCounted.{handlers_apart, handlers_counted}
 use Rattle.stmt_code.proofs.Staying.{coded, stays_code, stays_is, stays_more, stays_self, stays_then, stays_words}
 
 module _ (v : Visible) (w : Ways) (old : Draft) where
-  abbrev at : Around
+  abbrev at : Standpoint
   at = around v w old
 
   -- ---- a handler

@@ -33,17 +33,19 @@ use Rattle.expr_code.specs.declared.visible.Slot.{Slot}
 use Rattle.expr_code.specs.declared.visible.Visible.{Visible}
 use Rattle.expr_code.proofs.Flowing.{kept_then, widened}
 use Rattle.expr_code.proofs.Growing.{added_at, added_extends, added_here, added_there, extends_trans, holds_before, holds_later}
-use Rattle.stmt_code.specs.Emitting.{Allows, HasEntries, HasLabels, no_ways}
-use Rattle.stmt_code.specs.Formals.{BeginsWithin, HasValue, HaveFormalRoom, PlacesFormals, StandInTurn, StandsAt, no_subprogram, slot_for}
-use Rattle.stmt_code.specs.Subprograms.{AddsFunction, AddsMain, AddsProcedure, CallBare, CallsBare, CallsProcedures, HasSubprogramWords, KeepsRules, NamesIfCalled, fresh}
-use Rattle.stmt_code.specs.Suiting.{SuitsStatements, passed_width, returned_width}
+use Rattle.stmt_code.specs.Emitting.{Allows, HasLabels, no_ways}
+use Rattle.part_code.specs.Emitting.{HasEntries}
+use Rattle.part_code.specs.Formals.{BeginsWithin, HasValue, HaveFormalRoom, PlacesFormals, StandInTurn, StandsAt, no_subprogram, slot_for}
+use Rattle.stmt_code.specs.Subprograms.{AddsFunction, AddsMain, AddsProcedure, CallsProcedures, HasSubprogramWords, KeepsRules, NamesIfCalled, fresh}
+use Rattle.part_code.specs.MainCalls.{CallBare, CallsBare}
+use Rattle.part_code.specs.Suiting.{SuitsStatements, passed_width, returned_width}
 use Rattle.stmt_code.specs.declared.draft.Draft.{Draft}
-use Rattle.stmt_code.specs.declared.draft.FrameWords.{FrameWords}
-use Rattle.stmt_code.specs.declared.formals.PlacedFormal.{PlacedFormal}
-use Rattle.stmt_code.specs.declared.formals.PlacedFormals.{PlacedFormals}
+use Rattle.part_code.specs.declared.frame_words.FrameWords.{FrameWords}
+use Rattle.part_code.specs.declared.formals.PlacedFormal.{PlacedFormal}
+use Rattle.part_code.specs.declared.formals.PlacedFormals.{PlacedFormals}
 use Rattle.stmt_code.specs.declared.subprogram.SubprogramWords.{SubprogramWords}
 use Rattle.stmt_code.proofs.Adding.{labels_stay}
-use Rattle.stmt_code.proofs.FormalFlows.{return_kept}
+use Rattle.part_code.proofs.FormalFlows.{return_kept}
 use Rattle.stmt_code.proofs.RowsAdded.{Surrounds, finds_later, rows_around, rows_kept}
 use Rattle.stmt_code.proofs.Suiting.{suits_behind, words_behind}
 

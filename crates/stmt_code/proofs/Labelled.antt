@@ -12,8 +12,8 @@ use Rattle.ada_tree.specs.declared.statement.Handler.{Handler}
 use Rattle.ada_tree.specs.declared.statement.Stmt.{Stmt}
 use Rattle.ada_tree.specs.StatementTree.{AlternativeTrees, Block, Call, Case, ElsifTrees, HandlerTrees, If, Loop, MoreAlternatives, MoreElsifs, MoreHandlers, MoreStmts, NoAlternatives, NoElsifs, NoHandlers, NoStmts, StmtTree, StmtTrees, alternative_tree, alternative_trees, alternatives_of, elsif_tree, elsif_trees, elsifs_of, handler_tree, handler_trees, handlers_of, stmt_tree, stmt_trees}
 use Rattle.expr_code.specs.Code.{StandsFrom}
-use Rattle.stmt_code.specs.Labels.{alternatives_labels, elsifs_labels, handlers_labels, is_label, stmt_labels, stmts_labels, with_label, with_line}
-use Rattle.stmt_code.specs.Lines.{LabelledValue, line_of}
+use Rattle.part_code.specs.Labels.{alternatives_labels, elsifs_labels, handlers_labels, is_label, stmt_labels, stmts_labels, with_label, with_line}
+use Rattle.part_code.specs.Lines.{LabelledValue, line_of}
 
 abbrev Labels : Type 0
 Labels = List (List ℕ)

@@ -15,9 +15,9 @@ use Rattle.well_typed.proofs.Goods.{object_known}
 use Rattle.well_typed.proofs.Positions.{entity_kept, entity_number, item_added, number_added, number_kept, same_some}
 use Rattle.expr_code.specs.Seeing.{Package, slot_of, told_of}
 use Rattle.expr_code.specs.declared.visible.Slot.{Slot}
-use Rattle.stmt_code.specs.Layout.{AreApart, EndsBelow, IsLaid, IsLaidOut, NamesObject, Widens, AreFree, IsFree, IsVariable, Spares}
-use Rattle.stmt_code.specs.Resting.{Framed}
-use Rattle.stmt_code.proofs.Names.{WasTold, is_told, same_name, told_of_more}
+use Rattle.part_code.specs.Layout.{AreApart, EndsBelow, IsLaid, IsLaidOut, NamesObject, Widens, AreFree, IsFree, IsVariable, Spares}
+use Rattle.part_code.specs.Resting.{Framed}
+use Rattle.part_code.proofs.Names.{WasTold, is_told, same_name, told_of_more}
 
 -- ---- places behind all others are apart from them
 

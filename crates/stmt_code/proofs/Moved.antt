@@ -33,21 +33,21 @@ use Rattle.expr_code.proofs.Fitting.{composite_passes}
 use Rattle.expr_code.proofs.Flowing.{flows_then, widened}
 use Rattle.expr_code.proofs.Growing.{extends_trans, holds_before, holds_later}
 use Rattle.stmt_code.specs.Emitting.{EmitsStatement}
-use Rattle.stmt_code.specs.Layout.{IsLaidOut, IsVariable, NamesObject}
-use Rattle.stmt_code.specs.Moves.{EmitsMove}
-use Rattle.stmt_code.specs.Moving.{IsMoved}
-use Rattle.stmt_code.specs.Passing.{holds_variables}
-use Rattle.stmt_code.specs.Resting.{Framed}
-use Rattle.stmt_code.specs.Statements.{IsAssigned, Numbers, Ways}
+use Rattle.part_code.specs.Layout.{IsLaidOut, IsVariable, NamesObject}
+use Rattle.part_code.specs.Moves.{EmitsMove}
+use Rattle.part_code.specs.Moving.{IsMoved}
+use Rattle.part_code.specs.Passing.{holds_variables}
+use Rattle.part_code.specs.Resting.{Framed}
+use Rattle.part_code.specs.Statements.{IsAssigned, Numbers, Ways}
 use Rattle.stmt_code.specs.declared.draft.Draft.{Draft}
 use Rattle.stmt_code.proofs.Adding.{IsBeside, labels_beside, most_beside, taken_beside}
-use Rattle.stmt_code.proofs.Declaring.{IsTypedAs}
+use Rattle.part_code.proofs.Declaring.{IsTypedAs}
 use Rattle.stmt_code.proofs.MovingParts.{assigns_moved}
-use Rattle.stmt_code.proofs.Pointing.{PointsTo}
+use Rattle.part_code.proofs.Pointing.{PointsTo}
 use Rattle.stmt_code.proofs.RowsAdded.{goes_kept, rows_kept}
-use Rattle.stmt_code.proofs.Stored.{names_object}
-use Rattle.stmt_code.proofs.StoringParts.{HoldsVariables}
-use Rattle.stmt_code.proofs.TargetsAdded.{where_variables}
+use Rattle.part_code.proofs.ObjectNames.{names_object}
+use Rattle.part_code.proofs.StoringParts.{HoldsVariables}
+use Rattle.part_code.proofs.TargetsAdded.{where_variables}
 
 module _ (kept : AgreementIsKept) (sized : ValuesHaveWords) (places : PartsHavePlaces) (typing : ExpressionsAreTyped) (calls : CallsAreTyped)
     (quiet : QuietStays) (v : Visible) (w : Ways) (a c : Draft) (m : Code) (name : NameTree) (e : ExprTree) (r : Role) (t last : Subtype) (slot : Slot)

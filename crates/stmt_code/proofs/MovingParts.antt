@@ -47,23 +47,23 @@ use Rattle.expr_code.proofs.Names.{legal_here}
 use Rattle.expr_code.proofs.Naming.{same_words}
 use Rattle.expr_code.proofs.Passing.{named_value}
 use Rattle.expr_code.proofs.Paths.{NamesStored, finds_path, located_value}
-use Rattle.stmt_code.specs.declared.call.Destination.{Destination}
-use Rattle.stmt_code.specs.Copying.{IsPlacedTarget}
-use Rattle.stmt_code.specs.Jumping.{Here, There}
-use Rattle.stmt_code.specs.Layout.{IsLaidOut}
-use Rattle.stmt_code.specs.Moving.{IsMoved, IsMovedElse, IsSource, MovesNamed}
-use Rattle.stmt_code.specs.Resting.{Framed, IsAt, Knows, Rests, StandsFor}
-use Rattle.stmt_code.specs.Statements.{IsAssigned, Numbers}
-use Rattle.stmt_code.specs.Storing.{Arrives, Assigned, Puts, assigned_to}
-use Rattle.stmt_code.specs.declared.moving.Source.{Source}
+use Rattle.part_code.specs.declared.call.Destination.{Destination}
+use Rattle.part_code.specs.Copying.{IsPlacedTarget}
+use Rattle.part_code.specs.Jumping.{Here, There}
+use Rattle.part_code.specs.Layout.{IsLaidOut}
+use Rattle.part_code.specs.Moving.{IsMoved, IsMovedElse, IsSource, MovesNamed}
+use Rattle.part_code.specs.Resting.{Framed, IsAt, Knows, Rests, StandsFor}
+use Rattle.part_code.specs.Statements.{IsAssigned, Numbers}
+use Rattle.part_code.specs.Storing.{Arrives, Assigned, Puts, assigned_to}
+use Rattle.part_code.specs.declared.moving.Source.{Source}
 use Rattle.stmt_code.proofs.AssigningParts.{form_there}
-use Rattle.stmt_code.proofs.Declaring.{IsTypedAs}
-use Rattle.stmt_code.proofs.Going.{jumps_both}
-use Rattle.stmt_code.proofs.Names.{variable_meant}
-use Rattle.stmt_code.proofs.Pointing.{PointsTo, address_here, computes_pointed, part_here, place_in, placed_here, pointed}
-use Rattle.stmt_code.proofs.Stored.{names_object}
-use Rattle.stmt_code.proofs.StoringParts.{HoldsVariables, PutsIn, address_is, place_of, put_there}
-use Rattle.stmt_code.proofs.Words.{block_put, with_words}
+use Rattle.part_code.proofs.Declaring.{IsTypedAs}
+use Rattle.part_code.proofs.Jumping.{jumps_both}
+use Rattle.part_code.proofs.Names.{variable_meant}
+use Rattle.part_code.proofs.Pointing.{PointsTo, address_here, computes_pointed, part_here, place_in, placed_here, pointed}
+use Rattle.part_code.proofs.ObjectNames.{names_object}
+use Rattle.part_code.proofs.StoringParts.{HoldsVariables, PutsIn, address_is, place_of, put_there}
+use Rattle.part_code.proofs.Words.{block_put, with_words}
 
 -- ---- the instruction
 
@@ -197,7 +197,7 @@ module _ (kept : AgreementIsKept) (sized : ValuesHaveWords) (places : PartsHaveP
     arrived_on : (joint end : ℕ) (u : Val Assigned) → from ≤ joint → suc joint ≤ end → At i joint (op.Jump end) → Arrived joint u → Arrived end u
     arrived_on joint end (Gives x) le over jump h =
         let high = h.3 in
-        (h.0, h.1, h.2, omega (arith, high, over), jumps_both i program g numbers h.4 (There jump over Here), h.5, h.6)
+        (h.0, h.1, h.2, omega (arith, high, over), jumps_both i h.4 (There jump over Here), h.5, h.6)
     arrived_on joint end (Raises x) le over jump comes =
         let before_end = comes.5 in (
           comes.0,

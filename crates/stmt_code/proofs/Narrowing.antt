@@ -11,9 +11,9 @@ use Rattle.well_typed.specs.Laws.{AgreementIsKept}
 use Rattle.well_typed.specs.SoundScopes.{SoundScope}
 use Rattle.expr_code.specs.Seeing.{Package, slot_of, subprogram_of, told_of}
 use Rattle.expr_code.specs.declared.visible.Slot.{Slot}
-use Rattle.stmt_code.specs.Layout.{Widens}
-use Rattle.stmt_code.specs.Resting.{Framed, NarrowsFrame, Shows}
-use Rattle.stmt_code.proofs.Names.{told_more}
+use Rattle.part_code.specs.Layout.{Widens}
+use Rattle.part_code.specs.Resting.{Framed, NarrowsFrame, Shows}
+use Rattle.part_code.proofs.Names.{told_more}
 
 module _ (kept : AgreementIsKept) (g : Package) (v later : Framed) (name : List ℕ) (r : Role) (t : Subtype) (slot : Slot)
     (widens : Widens v name r t slot later)

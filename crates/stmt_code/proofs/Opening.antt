@@ -1,14 +1,12 @@
 -- Code whose jumps to its end wait for the place: parts of an `if`, one behind the other, and the whole.
-use Rattle.std.proofs.Common.{◌≡◌, ℕ, zero, suc, ◌+◌, ◌<◌, ◌≤◌, ◌++◌, List, [], ◌∷◌, length, map, take, Bool, true, false, ◌||◌, Some, refl, sym, ap, ◌∙◌, subst, arith, rules, ◌⊎◌, inl, inr}
-use Rattle.std.specs.Prelude.{get_or, nat_eq, slice_get}
+use Rattle.std.proofs.Common.{◌≡◌, ℕ, zero, suc, ◌+◌, ◌<◌, ◌≤◌, ◌++◌, List, [], ◌∷◌, length, map, take, Bool, true, false, ◌||◌, Some, refl, sym, ap, ◌∙◌, subst, arith, ◌⊎◌, inl, inr}
+use Rattle.std.specs.Prelude.{get_or, slice_get}
 use Rattle.ada_tree.specs.declared.statement.ElsifPart.{ElsifPart}
 use Rattle.ada_tree.specs.ExpressionTree.{ExprTree, expr_tree}
 use Rattle.ada_tree.specs.StatementTree as statements
 use Rattle.ada_tree.specs.StatementTree.{ElsifTrees, MoreElsifs, NoElsifs, StmtTrees, elsif_tree, elsif_trees, elsifs_of, stmt_trees}
 use Rattle.image.specs.Sections.{Sections}
 use Rattle.image.specs.Rules.{has_depth}
-use Rattle.image.specs.declared.instruction.Instr.{Instr}
-use Rattle.image.specs.declared.instruction.Operation.{Operation}
 use Rattle.image.specs.declared.instruction.Operation.TheVariants as op
 use Rattle.types.specs.Places.{is_among}
 use Rattle.types.specs.Scopes.{Scope}
@@ -26,93 +24,20 @@ use Rattle.expr_code.specs.Seeing.{Package, Sees, library_of}
 use Rattle.expr_code.specs.declared.code.Code.{Code}
 use Rattle.expr_code.specs.declared.visible.Visible.{Visible}
 use Rattle.expr_code.proofs.Flowing.{kept_one, kept_then, widened}
-use Rattle.expr_code.proofs.Growing.{added_extends, added_here, extends_trans, get_last, patched_extends, patched_here, patched_other, patched_there}
-use Rattle.stmt_code.specs.Handling.{Handling}
-use Rattle.stmt_code.specs.Bounds.{elsifs_bound, stmt_bound, stmts_bound}
+use Rattle.expr_code.proofs.Growing.{added_extends, added_here, extends_trans, patched_extends, patched_here, patched_other}
+use Rattle.part_code.specs.Handling.{Handling}
+use Rattle.part_code.specs.Bounds.{elsifs_bound, stmt_bound, stmts_bound}
 use Rattle.stmt_code.specs.Emitting.{AddsParts, AreLegalStatements, AreLegalElsifs, AreParts, Emits, EmitsOpen, EmitsStatement, EmitsStatements, IsLegalStatement, Meant, MeantTo, Serves, in_front}
-use Rattle.stmt_code.specs.Resting.{Framed}
-use Rattle.stmt_code.specs.Statements.{AreStatements, IsOtherwise, IsStatement, Numbers, Ways}
+use Rattle.part_code.specs.Resting.{Framed}
+use Rattle.part_code.specs.Statements.{AreStatements, IsOtherwise, IsStatement, Numbers, Ways}
 use Rattle.stmt_code.specs.declared.draft.Draft.{Draft}
-use Rattle.stmt_code.proofs.Adding.{IsBeside, emits_as, jump_kept, labels_before, labels_beside, labels_then, mapped_next, most_beside, same_place, take_all, taken_beside}
-use Rattle.stmt_code.proofs.Handling.{goes_within}
+use Rattle.stmt_code.proofs.Adding.{IsBeside, emits_as, labels_before, labels_beside, labels_then, most_beside, taken_beside}
+use Rattle.part_code.proofs.Jumps.{jump_kept, same_place, added_is, patched_is}
+use Rattle.part_code.proofs.Lists.{mapped_next, take_all, shorter, same_self, append_again, append_none, among_both, one_of, alone, not_alone, none_before, none_behind}
+use Rattle.part_code.proofs.Handling.{goes_within}
 use Rattle.stmt_code.proofs.RowsAdded.{Surrounds, finds_later, finds_patched, finds_rejoined, goes_front, handled_first, handled_inside, handled_second, rows_around, rows_kept, rows_then}
 
--- ---- lists
-
-pub shorter : {X : Type 0} (xs : List X) (k : ℕ) (x : X) → slice_get xs k ≡ Some x → k < length xs
-shorter [] k x h = absurd cc
-shorter (y ∷ xs) zero x h = omega arith
-shorter (y ∷ xs) (suc k) x h = let below = shorter xs k x h in omega (arith, below)
-
-pub some_same : {X : Type 0} (x y : X) → Some x ≡ Some y → x ≡ y
-some_same x y e = cc
-
-same_nat : (a b : ℕ) → nat_eq a b ≡ true → a ≡ b
-same_nat a b e = search rules
-
-pub same_self : (n : ℕ) → nat_eq n n ≡ true
-same_self zero = refl
-same_self (suc n) = search rules
-
-pub append_again : {X : Type 0} (xs ys zs : List X) → (xs ++ ys) ++ zs ≡ xs ++ (ys ++ zs)
-append_again [] ys zs = refl
-append_again (x ∷ xs) ys zs = ap (λ l. x ∷ l) (append_again xs ys zs)
-
-pub append_none : {X : Type 0} (xs : List X) → xs ++ [] ≡ xs
-append_none [] = refl
-append_none (x ∷ xs) = ap (λ l. x ∷ l) (append_none xs)
-
-pub among_both : (a b : List ℕ) (k : ℕ) → is_among (a ++ b) k ≡ (is_among a k || is_among b k)
-among_both [] b k = refl
-among_both (n ∷ a) b k = ap (λ t. nat_eq n k || t) (among_both a b k) ∙ again (nat_eq n k) (is_among a k) (is_among b k)
-  where
-    again : (x y z : Bool) → (x || (y || z)) ≡ ((x || y) || z)
-    again true y z = refl
-    again false y z = refl
-
-pub one_of : (a b : Bool) → (a || b) ≡ true → (a ≡ true) ⊎ (b ≡ true)
-one_of true b e = inl refl
-one_of false b e = inr e
-
--- the only place that waits
-pub alone : (n k : ℕ) → is_among (n ∷ []) k ≡ true → k ≡ n
-alone n k e = by (nat_eq n k) refl e
-  where
-    by : (t : Bool) → nat_eq n k ≡ t → (t || false) ≡ true → k ≡ n
-    by true is e = sym (same_nat n k is)
-    by false is e = absurd cc
-
-pub not_alone : (n k : ℕ) → k < n → is_among (n ∷ []) k ≡ false
-not_alone n k less = by (nat_eq n k) refl
-  where
-    by : (t : Bool) → nat_eq n k ≡ t → (t || false) ≡ false
-    by true e = absurd (let same : n ≡ k = same_nat n k e in omega (arith, less, same))
-    by false e = refl
-
-pub none_before : (waiting : List ℕ) (n k : ℕ) → ((m : ℕ) → is_among waiting m ≡ true → n ≤ m) → k < n → is_among waiting k ≡ false
-none_before waiting n k inside less = by (is_among waiting k) refl
-  where
-    by : (t : Bool) → is_among waiting k ≡ t → is_among waiting k ≡ false
-    by true e = absurd (omega (arith, less, inside k e))
-    by false e = e
-
-pub none_behind : (waiting : List ℕ) (n k : ℕ) → ((m : ℕ) → is_among waiting m ≡ true → m < n) → n ≤ k → is_among waiting k ≡ false
-none_behind waiting n k inside up = by (is_among waiting k) refl
-  where
-    by : (t : Bool) → is_among waiting k ≡ t → is_among waiting k ≡ false
-    by true e = absurd (omega (arith, up, inside k e))
-    by false e = e
-
 -- ---- instructions that were added or patched
-
-pub added_is : (old new : Code) (depth : ℕ) (o : Operation) → Adds old depth o new
-    → slice_get new.instructions.items (here old) ≡ Some (record { depth = depth; operation = o })
-added_is old new depth o a = ap (λ l. slice_get l (here old)) a.instructions ∙ get_last old.instructions.items _
-
-pub patched_is : (old new : Code) (place : ℕ) (o : Operation) → Patches old place o new → (x : Instr) → slice_get old.instructions.items place ≡ Some x
-    → slice_get new.instructions.items place ≡ Some (record { depth = x.depth; operation = o })
-patched_is old new place o p x there =
-    patched_there old new place o p ∙ ap (λ z. Some (record { depth = z.depth; operation = o })) (some_same p.before x (sym p.there ∙ there))
 
 module _ (v : Visible) (w : Ways) where
   -- ---- one behind the other

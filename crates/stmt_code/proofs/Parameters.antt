@@ -19,15 +19,15 @@ use Rattle.expr_code.specs.Naming.{Lies}
 use Rattle.expr_code.specs.Seeing.{Package, SeesPackage, slot_of}
 use Rattle.expr_code.specs.Views.{View}
 use Rattle.expr_code.specs.declared.visible.Slot.{Slot}
-use Rattle.stmt_code.specs.Counting.{in_turn, with_parameter}
-use Rattle.stmt_code.specs.Layout.{AreApart, AreFree, EndsBelow, IsFree, IsLaidOut, NamesObject, Widens}
-use Rattle.stmt_code.specs.Resting.{AreHeld, Framed, HeldWord, Knows, Rests, RestsWith, Shows, held_offset}
-use Rattle.stmt_code.proofs.Holding.{held_kept}
+use Rattle.part_code.specs.Counting.{in_turn, with_parameter}
+use Rattle.part_code.specs.Layout.{AreApart, AreFree, EndsBelow, IsFree, IsLaidOut, NamesObject, Widens}
+use Rattle.part_code.specs.Resting.{AreHeld, Framed, HeldWord, Knows, Rests, RestsWith, Shows, held_offset}
+use Rattle.part_code.proofs.Holding.{held_kept}
 use Rattle.stmt_code.proofs.Laying.{AddsObject, ends_wider, free_more, laid_wider, widens_behind}
-use Rattle.stmt_code.proofs.Names.{meant_width, single_number}
+use Rattle.part_code.proofs.Names.{meant_width, single_number}
 use Rattle.stmt_code.proofs.Narrowing.{shows_wider}
-use Rattle.stmt_code.proofs.Placing.{framed_view, package_alone, parameter_knows, with_locals, with_objects}
-use Rattle.stmt_code.proofs.Words.{IsWritten, others_kept, set_is, with_outside, with_words, written}
+use Rattle.part_code.proofs.Placing.{framed_view, package_alone, parameter_knows, with_locals, with_objects}
+use Rattle.part_code.proofs.Words.{IsWritten, others_kept, set_is, with_outside, with_words, written}
 
 -- ---- what a method does for a loop over a range
 

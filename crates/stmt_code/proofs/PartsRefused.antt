@@ -20,20 +20,23 @@ use Rattle.expr_code.specs.declared.refusal.Refusal.{Refusal}
 use Rattle.expr_code.specs.declared.visible.Visible.{Visible}
 use Rattle.expr_code.proofs.Growing.{added_here}
 use Rattle.expr_code.proofs.Refusals.{peak_some}
-use Rattle.stmt_code.specs.Emitting.{BeginsLoop}
-use Rattle.stmt_code.specs.Bounds.{alternatives_bound, declarations_bound, elsifs_bound, locals_words, run_bound, sequence_bound, stmt_bound, stmts_bound}
-use Rattle.stmt_code.specs.Refusing.{Around, HasManyLabels, IsNeeding, Needs, Refuses, RefusesAlternatives, RefusesChoices, RefusesDeclarations, RefusesParts, RefusesRange, RefusesRun, RefusesSequence, RefusesStatement, RefusesStatements, alternatives_needs, around, behind_locals, beyond_if, both, choices_needs, counted_visible, elsifs_needs, framed, head_needs, in_body, in_loop, inside_counted, inside_loop, locals_needs, locals_visible, line_needs, needs_above, nothing, put_needs, run_needs, sequence_needs, stmt_needs, stmts_needs, value_needs, with_object}
-use Rattle.stmt_code.specs.Statements.{Ways, within_loop}
-use Rattle.stmt_code.specs.Turns.{BeginsRange, EndsTurn, bounds_compared, value_counted, values_compared}
+use Rattle.part_code.specs.Emitting.{BeginsLoop}
+use Rattle.part_code.specs.Bounds.{alternatives_bound, declarations_bound, elsifs_bound, locals_words, run_bound, sequence_bound, stmt_bound, stmts_bound}
+use Rattle.stmt_code.specs.Refusing.{Standpoint, Refuses, RefusesAlternatives, RefusesDeclarations, RefusesParts, RefusesRange, RefusesRun, RefusesSequence, RefusesStatement, RefusesStatements, alternatives_needs, around, behind_locals, counted_visible, elsifs_needs, head_needs, in_body, in_loop, inside_counted, inside_loop, run_needs, sequence_needs, stmt_needs, stmts_needs}
+use Rattle.part_code.specs.Needs.{HasManyLabels, IsNeeding, Needs, RefusesChoices, beyond_if, both, choices_needs, framed, locals_needs, locals_visible, line_needs, needs_above, nothing, put_needs, value_needs, with_object}
+use Rattle.part_code.specs.Statements.{Ways, within_loop}
+use Rattle.stmt_code.specs.Turns.{BeginsRange}
+use Rattle.part_code.specs.Turns.{EndsTurn, bounds_compared, value_counted, values_compared}
 use Rattle.stmt_code.specs.declared.draft.Draft.{Draft}
-use Rattle.stmt_code.specs.declared.range_loop.Turns.{Turns}
+use Rattle.part_code.specs.declared.turns.Turns.{Turns}
 use Rattle.sound_steps.specs.Fitting.{entity_named}
-use Rattle.stmt_code.specs.Labels.{alternatives_labels, elsifs_labels, handlers_labels, stmt_labels, stmts_labels, with_label, with_line}
-use Rattle.stmt_code.specs.Lines.{LabelledValue, is_put, line_of}
+use Rattle.part_code.specs.Labels.{alternatives_labels, elsifs_labels, handlers_labels, stmt_labels, stmts_labels, with_label, with_line}
+use Rattle.part_code.specs.Lines.{LabelledValue, is_put, line_of}
 use Rattle.stmt_code.proofs.Labelled.{alternatives_few, as_many, elsifs_longer, parts_few, stmts_few, stmts_longer}
 use Rattle.stmt_code.proofs.Putting.{line_written}
 use Rattle.stmt_code.proofs.Turned.{all_here}
-use Rattle.stmt_code.proofs.Refused.{Within, alternatives_among, front_within, in_left, in_right, needing_refused, of_right, part_refused, parts_among, plain_refused, stack_within, statements_among, value_needing, value_refused, within_self}
+use Rattle.part_code.proofs.Within.{Within, front_within, in_left, in_right, needing_refused, of_right, part_refused, plain_refused, stack_within, value_needing, value_refused, within_self}
+use Rattle.stmt_code.proofs.Refused.{alternatives_among, parts_among, statements_among}
 
 -- words that a part has on the operand stack
 pub part_high : (h : ℕ) (p b : Needs) → Within p b → h ≤ p.stack → h ≤ max b.stack b.frame
@@ -53,14 +56,14 @@ around_is v later w mid taken exceptions seen same kept =
 pub around_same : (v : Visible) (w : Ways) (old mid : Draft) → IsLike old mid → around v w mid ≡ around v w old
 around_same v w old mid same = around_is v v w mid old.words.taken old.exceptions.items refl same.0 (ap (λ l. l.items) same.1)
 
-pub placed_refused : (v : Visible) (w : Ways) (old mid : Draft) (few many : List (List ℕ)) (f : Around → Needs) (m n : ℕ) (b : Needs) (why : Refusal)
+pub placed_refused : (v : Visible) (w : Ways) (old mid : Draft) (few many : List (List ℕ)) (f : Standpoint → Needs) (m n : ℕ) (b : Needs) (why : Refusal)
     → IsLike old mid → m ≤ n → Within (f (around v w old)) b → length few ≤ length many
     → (IsNeeding m (f (around v w mid)) why ⊎ HasManyLabels few why) → (IsNeeding n b why ⊎ HasManyLabels many why)
 placed_refused v w old mid few many f m n b why same up within less r =
     part_refused m n (f (around v w mid)) b few many why up (subst (λ a. Within (f a) b) (sym (around_same v w old mid same)) within) less r
 
 module _ (v : Visible) (w : Ways) (old : Draft) (why : Refusal) where
-  abbrev at : Around
+  abbrev at : Standpoint
   at = around v w old
 
   -- ---- a part of an `if`
@@ -454,7 +457,7 @@ module _ (v : Visible) (old : Draft) (parameter : Identifier) (reversed : Bool) 
       (in_right (value_needs v range.first) (needs_above 1 v range.last))) r
 
 -- both bounds have a word
-pub range_two : (a : Around) (parameter : Identifier) (reversed : Bool) (range : RangeTree) → 2 ≤ (head_needs a (For parameter reversed range)).stack
+pub range_two : (a : Standpoint) (parameter : Identifier) (reversed : Bool) (range : RangeTree) → 2 ≤ (head_needs a (For parameter reversed range)).stack
 range_two a parameter reversed range =
     let last = needs_above 1 a.visible range.last in
     let inner = in_right (value_needs a.visible range.first) last in
@@ -469,7 +472,7 @@ module _ (v : Visible) (old : Draft) (why : Refusal) (ds : List DeclarationTree)
   abbrev needed : Needs
   needed = run_needs v old.words.taken old.exceptions.items ds body all
 
-  abbrev own : Around
+  abbrev own : Standpoint
   own = in_body v old.words.taken old.exceptions.items
 
   pub run_locals_refused : RefusesDeclarations v old ds why → RefusesRun v old ds body all why

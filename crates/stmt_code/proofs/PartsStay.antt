@@ -15,22 +15,24 @@ use Rattle.expr_code.specs.declared.code.Code.{Code}
 use Rattle.expr_code.specs.declared.visible.Visible.{Visible}
 use Rattle.expr_code.proofs.Refusals.{peak_some}
 use Rattle.expr_code.proofs.Shallow.{shallow_as, shallow_more, shallow_next, shallow_self, shallow_then}
-use Rattle.stmt_code.specs.Alternatives.{AddsChoices, AddsTest, TestsAll}
-use Rattle.stmt_code.specs.Bounds.{locals_words}
-use Rattle.stmt_code.specs.Emitting.{BeginsLoop, EndsLoop}
-use Rattle.stmt_code.specs.Labels.{alternatives_labels, elsifs_labels, handlers_labels, stmt_labels, stmts_labels}
-use Rattle.stmt_code.specs.Refusing.{Around, Needs, alternatives_needs, around, behind_locals, both, choices_needs, counted_visible, elsifs_needs, framed, head_needs, in_body, inside_counted, inside_loop, locals_needs, locals_visible, needs_above, nothing, sequence_needs, stmt_needs, stmts_needs, value_needs}
-use Rattle.stmt_code.specs.Rows.{alternatives_rows, elsifs_rows, handlers_rows, stmt_rows, stmts_rows}
-use Rattle.stmt_code.specs.Statements.{Ways, within_loop}
+use Rattle.part_code.specs.Choices.{AddsChoices, AddsTest, TestsAll}
+use Rattle.part_code.specs.Bounds.{locals_words}
+use Rattle.part_code.specs.Emitting.{BeginsLoop, EndsLoop}
+use Rattle.part_code.specs.Labels.{alternatives_labels, elsifs_labels, handlers_labels, stmt_labels, stmts_labels}
+use Rattle.stmt_code.specs.Refusing.{Standpoint, alternatives_needs, around, behind_locals, counted_visible, elsifs_needs, head_needs, in_body, inside_counted, inside_loop, sequence_needs, stmt_needs, stmts_needs}
+use Rattle.part_code.specs.Needs.{Needs, both, choices_needs, framed, locals_needs, locals_visible, needs_above, nothing, value_needs}
+use Rattle.part_code.specs.Rows.{alternatives_rows, elsifs_rows, handlers_rows, stmt_rows, stmts_rows}
+use Rattle.part_code.specs.Statements.{Ways, within_loop}
 use Rattle.stmt_code.specs.Staying.{Stays, StaysAlternatives, StaysDeclarations, StaysParts, StaysRange, StaysRun, StaysSequence, StaysStatement, StaysStatements}
-use Rattle.stmt_code.specs.Turns.{AddsAll, BeginsTurns, EndsTurn, bounds_compared, value_counted, values_compared}
+use Rattle.part_code.specs.Turns.{AddsAll, BeginsTurns, EndsTurn, bounds_compared, value_counted, values_compared}
 use Rattle.stmt_code.specs.declared.draft.Draft.{Draft}
-use Rattle.stmt_code.specs.declared.draft.FrameWords.{FrameWords}
-use Rattle.stmt_code.specs.declared.range_loop.Turns.{Turns}
-use Rattle.stmt_code.proofs.Adding.{take_all}
+use Rattle.part_code.specs.declared.frame_words.FrameWords.{FrameWords}
+use Rattle.part_code.specs.declared.turns.Turns.{Turns}
+use Rattle.part_code.proofs.Lists.{take_all}
 use Rattle.stmt_code.proofs.Labelled.{alternatives_next, parts_next, stmts_next}
 use Rattle.stmt_code.proofs.PartsRefused.{IsLike, around_is, around_same, range_two}
-use Rattle.stmt_code.proofs.Refused.{Within, alternatives_among, front_within, in_left, in_right, of_right, parts_among, statements_among}
+use Rattle.part_code.proofs.Within.{Within, front_within, in_left, in_right, of_right}
+use Rattle.stmt_code.proofs.Refused.{alternatives_among, parts_among, statements_among}
 use Rattle.stmt_code.proofs.RowsCounted.{alternatives_counted, parts_counted, stmts_counted}
 use Rattle.stmt_code.proofs.Staying.{coded, stays_as, stays_code, stays_is, stays_more, stays_self, stays_then}
 
@@ -86,11 +88,11 @@ choices_shallow s old (OtherValues place) next new p = p.drops.shallow
 -- ---- statements with others within
 
 module _ (v : Visible) (w : Ways) (old : Draft) where
-  abbrev at : Around
+  abbrev at : Standpoint
   at = around v w old
 
   -- where as many words are taken
-  same_within : (mid : Draft) (f : Around → Needs) (n : Needs) → IsLike old mid → Within (f at) n → Within (f (around v w mid)) n
+  same_within : (mid : Draft) (f : Standpoint → Needs) (n : Needs) → IsLike old mid → Within (f at) n → Within (f (around v w mid)) n
   same_within mid f n same within = subst (λ a. Within (f a) n) (sym (around_same v w old mid same)) within
 
   pub branch_stays : (e : ExprTree) (body : StmtTrees) (a b : Code) (mid : Draft) (d : Code) → IsShallow old.code a (0 + peak v.scope e) → IsShallow a b 1
@@ -333,7 +335,7 @@ pub run_stays : (v : Visible) (old : Draft) (ds : List DeclarationTree) (body : 
     → StaysRun v old ds body all (coded mid d)
 run_stays v old ds body all later out declared a mid d seen same kept p begun q patched =
     let locals = locals_needs v old.words.taken ds in
-    let inner : Around = behind_locals (in_body v old.words.taken old.exceptions.items) ds in
+    let inner : Standpoint = behind_locals (in_body v old.words.taken old.exceptions.items) ds in
     let run = sequence_needs inner body all in
     let n = both locals run in
     let inside : around later (record { exit = None; return = Some out; handled = None }) (coded declared a) ≡ inner =

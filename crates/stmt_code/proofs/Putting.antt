@@ -1,12 +1,8 @@
 -- Code of lines: the value, and the instruction that writes it with a label.
-use Rattle.std.proofs.Common.{◌≡◌, ℕ, suc, ◌<◌, ◌≤◌, List, [], ◌∷◌, length, true, Option, Some, None, refl, sym, ap, ◌∙◌, subst, arith, rules}
+use Rattle.std.proofs.Common.{◌≡◌, ℕ, suc, ◌<◌, ◌≤◌, List, [], length, true, Option, Some, None, refl, sym, ap, ◌∙◌, subst, arith, rules}
 use Rattle.std.specs.Prelude.{nat_lt, slice_get}
-use Rattle.ada_tree.specs.declared.expression.Argument.{Argument}
-use Rattle.ada_tree.specs.declared.expression.Argument as arguments
-use Rattle.ada_tree.specs.declared.expression.Selector.{Selector}
-use Rattle.ada_tree.specs.declared.expression.Selector as selectors
 use Rattle.ada_tree.specs.ExpressionTree as tree
-use Rattle.ada_tree.specs.ExpressionTree.{ArgumentTrees, Arguments, Attribute, Component, ExprTree, MoreArguments, MoreSelectors, NameTree, NoArguments, NoSelectors, SelectorTrees, Text, argument_trees, selector_trees}
+use Rattle.ada_tree.specs.ExpressionTree.{Arguments, Attribute, Component, ExprTree, MoreArguments, MoreSelectors, NameTree, NoArguments, NoSelectors, SelectorTrees, Text}
 use Rattle.ada_tree.specs.StatementTree as statements
 use Rattle.ada_tree.specs.Size.{selectors_size}
 use Rattle.image.specs.Sections.{Sections}
@@ -35,13 +31,13 @@ use Rattle.expr_code.specs.declared.code.Code.{Code}
 use Rattle.expr_code.specs.declared.visible.Visible.{Visible}
 use Rattle.expr_code.proofs.Growing.{added_at, added_extends, added_here, holds_before}
 use Rattle.stmt_code.specs.Emitting.{EmitsStatement, HasLabels, IsLegalStatement, Serves}
-use Rattle.stmt_code.specs.Lines.{LabelledValue, is_put, line_behind, line_in, line_of}
-use Rattle.stmt_code.specs.Resting.{Framed}
-use Rattle.stmt_code.specs.Statements.{IsCalleeCode, Numbers, Ways}
+use Rattle.part_code.specs.Lines.{LabelledValue, is_put, line_behind, line_of}
+use Rattle.part_code.specs.Resting.{Framed}
+use Rattle.part_code.specs.Statements.{IsCalleeCode, Numbers, Ways}
 use Rattle.stmt_code.specs.declared.draft.Draft.{Draft}
 use Rattle.stmt_code.proofs.RowsAdded.{KeepsRows, goes_kept, rows_kept}
 use Rattle.stmt_code.proofs.Adding.{value_extends, value_kept}
-use Rattle.stmt_code.proofs.Opening.{shorter}
+use Rattle.part_code.proofs.Lists.{shorter}
 
 -- ---- the form
 
@@ -123,29 +119,6 @@ module _ (s : Scope) (name : NameTree) (label : List ℕ) (value : ExprTree) (h 
 pub line_wide : (s : Scope) → SoundScope s → (e : ExprTree) → faults_of s (WantsType integer_type) e ≡ [] → width_of s e ≡ 1
 line_wide s sound e h =
     integers_fit_width s sound (base_range_of integer_type) e (record { wanted = WantsType integer_type; fits = refl; unbroken = h }) sound.integer
-
--- ---- forms that are none
-
-pub one_argument : (all : List Argument) → 1 ≤ length all → length all < 2 → None ≡ line_in (argument_trees all)
-one_argument [] le lt = absurd (omega (arith, le))
-one_argument (arguments.Expr e ∷ []) le lt = refl
-one_argument (arguments.Label l p ∷ []) le lt = refl
-one_argument (a ∷ b ∷ rest) le lt = absurd (omega (arith, lt))
-
-pub many_arguments : (all : List Argument) → 3 ≤ length all → None ≡ line_in (argument_trees all)
-many_arguments [] le = refl
-many_arguments (a ∷ []) le = absurd (omega (arith, le))
-many_arguments (a ∷ b ∷ []) le = absurd (omega (arith, le))
-many_arguments (arguments.Expr e ∷ b ∷ c ∷ rest) le = refl
-many_arguments (arguments.Label l p ∷ arguments.Expr e ∷ c ∷ rest) le = refl
-many_arguments (arguments.Label l p ∷ arguments.Label m q ∷ c ∷ rest) le = refl
-
-pub many_selectors : (all : List Selector) → 2 ≤ length all → None ≡ line_behind (selector_trees all)
-many_selectors [] le = refl
-many_selectors (a ∷ []) le = absurd (omega (arith, le))
-many_selectors (selectors.Component i ∷ b ∷ rest) le = refl
-many_selectors (selectors.Attribute i ∷ b ∷ rest) le = refl
-many_selectors (selectors.Arguments' shape row ∷ b ∷ rest) le = refl
 
 -- ---- the code
 

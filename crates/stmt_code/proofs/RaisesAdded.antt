@@ -20,11 +20,12 @@ use Rattle.expr_code.specs.declared.visible.Visible.{Visible}
 use Rattle.expr_code.proofs.Flowing.{kept_one, kept_then}
 use Rattle.expr_code.proofs.Growing.{added_at, added_extends, added_here, added_there, extends_trans, holds_before}
 use Rattle.stmt_code.specs.Emitting.{EmitsStatement}
-use Rattle.stmt_code.specs.Raising.{loaded, number_among, number_at, pushed, raised_by}
-use Rattle.stmt_code.specs.Statements.{IsRaised, Numbers, Ways}
+use Rattle.part_code.specs.Raising.{loaded, number_among, number_at, pushed, raised_by}
+use Rattle.part_code.specs.Statements.{IsRaised, Numbers, Ways}
 use Rattle.stmt_code.specs.declared.draft.Draft.{Draft}
-use Rattle.stmt_code.proofs.Adding.{IsBeside, depth_there, labels_beside, most_beside, taken_beside}
-use Rattle.stmt_code.proofs.Opening.{some_same}
+use Rattle.stmt_code.proofs.Adding.{IsBeside, labels_beside, most_beside, taken_beside}
+use Rattle.part_code.proofs.Jumps.{depth_there}
+use Rattle.part_code.proofs.Lists.{some_same}
 use Rattle.stmt_code.proofs.RowsAdded.{goes_kept, rows_kept}
 
 -- ---- numbers

@@ -9,17 +9,18 @@ use Rattle.expr_code.specs.declared.code.Code.{Code}
 use Rattle.expr_code.specs.declared.refusal.Refusal.{Refusal}
 use Rattle.expr_code.specs.declared.refusal.Refusal.TheVariants as refusal
 use Rattle.expr_code.specs.declared.visible.Visible.{Visible}
-use Rattle.stmt_code.specs.Bounds.{stmt_bound}
-use Rattle.stmt_code.specs.Raising.{loaded, number_among, pushed, raised_by}
-use Rattle.stmt_code.specs.Refusing.{Around, Needs, RefusesStatement, around, raise_needs, stmt_needs}
-use Rattle.stmt_code.specs.Statements.{Ways}
+use Rattle.part_code.specs.Bounds.{stmt_bound}
+use Rattle.part_code.specs.Raising.{loaded, number_among, pushed, raised_by}
+use Rattle.stmt_code.specs.Refusing.{Standpoint, RefusesStatement, around, raise_needs, stmt_needs}
+use Rattle.part_code.specs.Needs.{Needs}
+use Rattle.part_code.specs.Statements.{Ways}
 use Rattle.stmt_code.specs.Staying.{StaysStatement}
 use Rattle.stmt_code.specs.declared.draft.Draft.{Draft}
-use Rattle.stmt_code.proofs.Refused.{plain_refused, stack_within}
+use Rattle.part_code.proofs.Within.{plain_refused, stack_within}
 use Rattle.stmt_code.proofs.Staying.{coded, stays_code, stays_self}
 
 -- the exception is one word
-one_word : (a : Around) (name : Option Identifier) → (raise_needs a name).stack ≡ 1
+one_word : (a : Standpoint) (name : Option Identifier) → (raise_needs a name).stack ≡ 1
 one_word a (Some name) = refl
 one_word a None = refl
 

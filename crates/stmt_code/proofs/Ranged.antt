@@ -23,23 +23,27 @@ use Rattle.expr_code.specs.declared.code.Code.{Code}
 use Rattle.expr_code.specs.declared.visible.Visible.{Visible}
 use Rattle.expr_code.proofs.Flowing.{kept_one, kept_then, widened}
 use Rattle.expr_code.proofs.Growing.{added_extends, added_here, extends_trans, patched_extends, patched_here, patched_other}
-use Rattle.stmt_code.specs.Handling.{GoesBy, Handling}
-use Rattle.stmt_code.specs.Bounds.{stmts_words}
-use Rattle.stmt_code.specs.Emitting.{Allows, BeginsLoop, EmitsStatement, EmitsStatements, EndsLoop, HasEntries, HasLabels, IsHandled, IsReachable, Serves, seeing}
-use Rattle.stmt_code.specs.Resting.{Framed}
-use Rattle.stmt_code.specs.Suiting.{SuitsStatements}
-use Rattle.stmt_code.specs.Statements.{AreStatements, IsStatement, Numbers, Ways, within_loop}
-use Rattle.stmt_code.specs.Turns.{BeginsRange, EndsTurn, bounds_compared, value_counted, values_compared}
+use Rattle.part_code.specs.Handling.{GoesBy, Handling}
+use Rattle.part_code.specs.Bounds.{stmts_words}
+use Rattle.stmt_code.specs.Emitting.{Allows, EmitsStatement, EmitsStatements, HasLabels, IsHandled, Serves, seeing}
+use Rattle.part_code.specs.Emitting.{BeginsLoop, EndsLoop, HasEntries, IsReachable}
+use Rattle.part_code.specs.Resting.{Framed}
+use Rattle.part_code.specs.Suiting.{SuitsStatements}
+use Rattle.part_code.specs.Statements.{AreStatements, IsStatement, Numbers, Ways, within_loop}
+use Rattle.stmt_code.specs.Turns.{BeginsRange}
+use Rattle.part_code.specs.Turns.{EndsTurn, bounds_compared, value_counted, values_compared}
 use Rattle.stmt_code.specs.declared.draft.Draft.{Draft}
-use Rattle.stmt_code.specs.declared.range_loop.Turns.{Turns}
-use Rattle.stmt_code.proofs.Adding.{IsBeside, depth_there, jump_kept, labels_beside, labels_stay, labels_then, most_beside, same_place, taken_beside}
+use Rattle.part_code.specs.declared.turns.Turns.{Turns}
+use Rattle.stmt_code.proofs.Adding.{IsBeside, labels_beside, labels_stay, labels_then, most_beside, taken_beside}
+use Rattle.part_code.proofs.Jumps.{depth_there, jump_kept, same_place}
 use Rattle.stmt_code.proofs.Bounded.{IsOfIntegers, holds, serves_inside, slot, suits_inside}
-use Rattle.stmt_code.proofs.Opening.{added_is, patched_is, shorter}
+use Rattle.part_code.proofs.Jumps.{added_is, patched_is}
+use Rattle.part_code.proofs.Lists.{shorter}
 use Rattle.stmt_code.proofs.Ranging.{Advances, Begins, stands_counted}
 use Rattle.stmt_code.proofs.Repeating.{in_the_loop}
 use Rattle.stmt_code.proofs.Turned.{HasBoth, StandAll, advances_by, all_extends, all_here, all_there, begins_by, bounds_flow, counted_flow, values_flow}
-use Rattle.stmt_code.proofs.Walking.{behind}
-use Rattle.stmt_code.proofs.Handling.{goes_within}
+use Rattle.part_code.proofs.Walking.{behind}
+use Rattle.part_code.proofs.Handling.{goes_within}
 use Rattle.stmt_code.proofs.RowsAdded.{Surrounds, finds_later, finds_patched, goes_behind, goes_front, handled_inside, keeps_then, rows_around}
 
 -- no place of a part of code is this one

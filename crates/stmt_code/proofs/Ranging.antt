@@ -35,14 +35,14 @@ use Rattle.expr_code.specs.Seeing.{library_of, Package, Sees}
 use Rattle.expr_code.specs.Views.{At, in_frame, placed, view_of}
 use Rattle.expr_code.specs.declared.visible.Slot.{Slot}
 use Rattle.expr_code.proofs.Coming.{acts, after_first, more, then_comes, steps}
-use Rattle.stmt_code.specs.Handling.{GoesBy, Handling}
-use Rattle.stmt_code.specs.Counting.{Bounds, GoesOn, IsCounted, IsTurnEnd, IsRange, bounds, in_turn, number_bounds, turn_first, turn_last, with_last, with_parameter}
-use Rattle.stmt_code.specs.Layout.{IsLaidOut}
-use Rattle.stmt_code.specs.Resting.{Framed, HeldWord, Knows, RestsWith}
-use Rattle.stmt_code.specs.Statements.{AreStatements, IsStatement, Numbers, Ways, within_loop}
-use Rattle.stmt_code.specs.Turns.{next_operation}
+use Rattle.part_code.specs.Handling.{GoesBy, Handling}
+use Rattle.part_code.specs.Counting.{Bounds, GoesOn, IsCounted, IsTurnEnd, IsRange, bounds, in_turn, number_bounds, turn_first, turn_last, with_last, with_parameter}
+use Rattle.part_code.specs.Layout.{IsLaidOut}
+use Rattle.part_code.specs.Resting.{Framed, HeldWord, Knows, RestsWith}
+use Rattle.part_code.specs.Statements.{AreStatements, IsStatement, Numbers, Ways, within_loop}
+use Rattle.part_code.specs.Turns.{next_operation}
 use Rattle.stmt_code.proofs.Parameters.{HoldsRange, both_swapped, inside, next_rests, null_rests, parameter_fits, parameter_shows, turn_rests, with_both, with_word, word_long}
-use Rattle.stmt_code.proofs.Walking.{Walks, behind, compares, jumps_if, loads_local, orders, puts, stores_local, then_step}
+use Rattle.part_code.proofs.Walking.{Walks, behind, compares, jumps_if, loads_local, orders, puts, stores_local, then_step}
 
 -- ---- the bounds
 

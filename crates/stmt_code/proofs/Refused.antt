@@ -1,194 +1,25 @@
 -- What refuses a part of a statement refuses the whole: needs of parts, and those of lists of statements, of parts of an `if`, of alternatives and of declarations.
-use Rattle.std.proofs.Common.{◌≡◌, ◌≤◌, ◌<◌, ◌+◌, ◌*◌, ◌∷◌, ◌++◌, ◌⊎◌, inl, inr, ℕ, zero, suc, List, [], length, map, take, Bool, true, false, ◌||◌, Option, Some, None, refl, sym, ap, ◌∙◌, subst, arith}
-use Rattle.std.specs.Prelude.{get_or, max, not, slice_get}
-use Rattle.std.proofs.Math.Nat.{le-max_left, le-max_right}
+use Rattle.std.proofs.Common.{◌≡◌, ◌≤◌, ◌<◌, ◌+◌, ◌∷◌, ◌++◌, ℕ, zero, suc, List, [], length, map, take, refl, sym, ap, ◌∙◌, subst, arith}
+use Rattle.std.specs.Prelude.{get_or}
 use Rattle.ada_tree.specs.declared.declaration.Declaration.{Declaration}
 use Rattle.ada_tree.specs.declared.statement.Alternative.{Alternative}
 use Rattle.ada_tree.specs.declared.statement.ElsifPart.{ElsifPart}
 use Rattle.ada_tree.specs.declared.statement.Stmt.{Stmt}
-use Rattle.ada_tree.specs.ExpressionTree.{ExprTree}
 use Rattle.ada_tree.specs.StatementTree.{DeclarationTree, alternative_tree, alternative_trees, alternatives_of, declaration_tree, elsif_tree, elsif_trees, elsifs_of, stmt_tree, stmt_trees}
-use Rattle.ada_tree.specs.Size.{expr_size}
-use Rattle.types.specs.declared.entity.Role.{Role}
-use Rattle.types.specs.declared.entity.Subtype.{Subtype}
-use Rattle.types.specs.declared.standing.Standing.TheVariants as standing
-use Rattle.types.specs.Entities.{Entity, Object}
-use Rattle.types.specs.Scopes.{Scope, entity_at, entity_of, number_of}
-use Rattle.types.specs.Shapes.{shape_of}
-use Rattle.types.specs.Standings.{stands_first, stands_for}
 use Rattle.declaring.specs.LocalRules.{locals_scope}
-use Rattle.well_typed.proofs.Positions.{same_some}
 use Rattle.expr_code.specs.Code.{here}
-use Rattle.expr_code.specs.Refusing.{HasUnfitObject, IsRefused, IsRefusedBeside, RefusesExpression, is_fit, is_outside, peak}
-use Rattle.expr_code.specs.declared.code.Code.{Code}
 use Rattle.expr_code.specs.declared.refusal.Refusal.{Refusal}
-use Rattle.expr_code.specs.declared.refusal.Refusal.TheVariants as refusal
 use Rattle.expr_code.specs.declared.visible.Visible.{Visible}
-use Rattle.expr_code.proofs.Refusals.{or_left, or_right, refused_beside}
-use Rattle.stmt_code.specs.Bounds.{alternatives_bound, declarations_bound, elsifs_bound, local_words, locals_words, stmt_bound, stmts_bound}
-use Rattle.stmt_code.specs.Refusing.{Around, HasManyLabels, IsNeeding, Needs, RefusesDeclarations, alternatives_needs, are_unfit, both, choices_needs, elsifs_needs, has_unfit, is_unfit, local_needs, local_visible, locals_needs, locals_visible, needs_above, nothing, stmt_needs, stmts_needs, value_needs}
+use Rattle.part_code.specs.Bounds.{alternatives_bound, declarations_bound, elsifs_bound, local_words, locals_words, stmt_bound, stmts_bound}
+use Rattle.stmt_code.specs.Refusing.{Standpoint, RefusesDeclarations, alternatives_needs, elsifs_needs, stmt_needs, stmts_needs}
+use Rattle.part_code.specs.Needs.{both, choices_needs, local_needs, local_visible, locals_needs, locals_visible, nothing, value_needs}
 use Rattle.stmt_code.specs.declared.draft.Draft.{Draft}
-use Rattle.stmt_code.proofs.Adding.{mapped_next}
-
--- ---- what a part needs
-
--- the whole needs as much at least
-pub record Within (m n : Needs) : Type 0 where
-  pub stack : m.stack ≤ n.stack
-  pub frame : m.frame ≤ n.frame
-  pub unfit : m.unfit ≡ true → n.unfit ≡ true
-  pub outside : m.outside ≡ true → n.outside ≡ true
-
-pub within_self : (n : Needs) → Within n n
-within_self n = record { stack = omega arith; frame = omega arith; unfit = λ h. h; outside = λ h. h }
-
-pub within_then : (a b c : Needs) → Within a b → Within b c → Within a c
-within_then a b c p q = record {
-  stack = (let x = p.stack in let y = q.stack in omega (arith, x, y));
-  frame = (let x = p.frame in let y = q.frame in omega (arith, x, y));
-  unfit = λ h. q.unfit (p.unfit h);
-  outside = λ h. q.outside (p.outside h);
-}
-
-pub in_left : (a b : Needs) → Within a (both a b)
-in_left a b = record { stack = le-max_left a.stack b.stack; frame = le-max_left a.frame b.frame; unfit = or_left a.unfit b.unfit; outside = or_left a.outside b.outside }
-
-pub in_right : (a b : Needs) → Within b (both a b)
-in_right a b = record { stack = le-max_right a.stack b.stack; frame = le-max_right a.frame b.frame; unfit = or_right a.unfit b.unfit; outside = or_right a.outside b.outside }
-
-pub of_left : (m a b : Needs) → Within m a → Within m (both a b)
-of_left m a b p = within_then m a (both a b) p (in_left a b)
-
-pub of_right : (m a b : Needs) → Within m b → Within m (both a b)
-of_right m a b p = within_then m b (both a b) p (in_right a b)
-
-never : (b : Bool) → false ≡ true → b ≡ true
-never b h = cc
-
-pub none_within : (n : Needs) → Within nothing n
-none_within n = record { stack = omega arith; frame = omega arith; unfit = never n.unfit; outside = never n.outside }
-
-either : (a b c : Bool) → (a ≡ true → c ≡ true) → (b ≡ true → c ≡ true) → (a || b) ≡ true → c ≡ true
-either true b c p q h = p refl
-either false b c p q h = q h
-
-larger : (a b n : ℕ) → a ≤ n → b ≤ n → max a b ≤ n
-larger a b n p q = omega (arith, p, q)
-
-pub both_within : (a b n : Needs) → Within a n → Within b n → Within (both a b) n
-both_within a b n p q = record {
-  stack = larger a.stack b.stack n.stack p.stack q.stack;
-  frame = larger a.frame b.frame n.frame p.frame q.frame;
-  unfit = either a.unfit b.unfit n.unfit p.unfit q.unfit;
-  outside = either a.outside b.outside n.outside p.outside q.outside;
-}
-
--- one part in front of others
-pub front_within : (a b rest : Needs) → Within (both a (both b nothing)) (both a (both b rest))
-front_within a b rest =
-    both_within a (both b nothing) (both a (both b rest)) (in_left a (both b rest))
-    (both_within b nothing (both a (both b rest)) (of_right b a (both b rest) (in_left b rest)) (none_within (both a (both b rest))))
-
--- ... behind them
-pub behind_within : (m a b rest : Needs) → Within m rest → Within m (both a (both b rest))
-behind_within m a b rest p = of_right m a (both b rest) (of_right m b rest p)
-
--- ---- objects that are unfit
-
-unfit_among : (s : Scope) (all : Scope) (n : ℕ) (r : Role) (t : Subtype) → entity_of (slice_get all n) ≡ Some (Object r t) → is_fit (shape_of s t) ≡ false
-    → are_unfit s all ≡ true
-unfit_among s [] n r t is h = cc
-unfit_among s (m ∷ all) zero r t is h = or_left (is_unfit s m.entity) (are_unfit s all) (same m.entity is)
-  where
-    same : (e : Entity) → Some e ≡ Some (Object r t) → is_unfit s e ≡ true
-    same e k = ap (is_unfit s) (same_some e (Object r t) k) ∙ ap not h
-unfit_among s (m ∷ all) (suc n) r t is h = or_right (is_unfit s m.entity) (are_unfit s all) (unfit_among s all n r t is h)
-
-object_first : (n : ℕ) (o : Option Entity) (r : Role) (t : Subtype) → stands_for n o ≡ standing.Part r t → o ≡ Some (Object r t)
-object_first n (Some (Object q u)) r t h = (let a : standing.Part q u ≡ standing.Part r t = h in cc)
-object_first n o r t h = cc
-
-pub unfit_there : (v : Visible) → HasUnfitObject v → has_unfit v ≡ true
-unfit_there v u = by_number (number_of v.scope u.name) refl
-  where
-    by_number : (o : Option ℕ) → number_of v.scope u.name ≡ o → has_unfit v ≡ true
-    by_number (Some n) is =
-        unfit_among v.scope v.scope n u.role u.subtype
-        (object_first n (entity_at v.scope n) u.role u.subtype (ap (stands_first v.scope) (sym is) ∙ u.stands)) u.unfit
-    by_number None is = (let never : standing.Doubtful ≡ standing.Part u.role u.subtype = ap (stands_first v.scope) (sym is) ∙ u.stands in cc)
-
--- ---- refusals of parts
-
-most_within : (a b : Needs) → Within a b → max a.stack a.frame ≤ max b.stack b.frame
-most_within a b p = each a.stack a.frame b.stack b.frame p.stack p.frame
-  where
-    each : (m n k l : ℕ) → m ≤ k → n ≤ l → max m n ≤ max k l
-    each m n k l p q = omega (arith, p, q)
-
-pub needing_refused : (m n : ℕ) (a b : Needs) → m ≤ n → Within a b → (why : Refusal) → IsNeeding m a why → IsNeeding n b why
-needing_refused m n a b up within refusal.Memory r = tt
-needing_refused m n a b up within refusal.Limit (inl r) = inl (omega (arith, r, up))
-needing_refused m n a b up within refusal.Limit (inr (inl r)) = inr (inl (let most = most_within a b within in omega (arith, r, most)))
-needing_refused m n a b up within refusal.Limit (inr (inr r)) = inr (inr (within.unfit r))
-needing_refused m n a b up within refusal.Outside r = within.outside r
-
--- ... and as many labels as the part are no more than those of the whole
-pub labelled : (few many : List (List ℕ)) → length few ≤ length many → (why : Refusal) → HasManyLabels few why → HasManyLabels many why
-labelled few many less refusal.Limit h = omega (arith, h, less)
-labelled few many less refusal.Memory h = h
-labelled few many less refusal.Outside h = h
-
-pub part_refused : (m n : ℕ) (a b : Needs) (few many : List (List ℕ)) (why : Refusal) → m ≤ n → Within a b → length few ≤ length many
-    → (IsNeeding m a why ⊎ HasManyLabels few why) → (IsNeeding n b why ⊎ HasManyLabels many why)
-part_refused m n a b few many why up within less (inl r) = inl (needing_refused m n a b up within why r)
-part_refused m n a b few many why up within less (inr h) = inr (labelled few many less why h)
-
--- of code that says what it needs in the words of expressions
-pub code_refused : (a : Type 0) (m n h : ℕ) (q : Bool) (b : Needs) → m ≤ n → h ≤ max b.stack b.frame → (a → b.unfit ≡ true) → (q ≡ true → b.outside ≡ true)
-    → (why : Refusal) → IsRefusedBeside a m h q why → IsNeeding n b why
-code_refused a m n h q b up high unfit outside why r = refused_beside m n h (max b.stack b.frame) q b.outside unfit up high outside why r
-
--- of instructions
-pub plain_needing : (m n h : ℕ) (b : Needs) (why : Refusal) → m ≤ n → h ≤ max b.stack b.frame → IsRefused m h false why → IsNeeding n b why
-plain_needing m n h b why up high r = code_refused ⊥ m n h false b up high (λ x. absurd x) (never b.outside) why r
-
-pub plain_refused : (m n h : ℕ) (b : Needs) (labels : List (List ℕ)) (why : Refusal) → m ≤ n → h ≤ max b.stack b.frame → IsRefused m h false why
-    → (IsNeeding n b why ⊎ HasManyLabels labels why)
-plain_refused m n h b labels why up high r = inl (plain_needing m n h b why up high r)
-
--- ... one behind another
-pub plain_more : (m n h k : ℕ) → m ≤ n → h ≤ k → (why : Refusal) → IsRefused m h false why → IsRefused n k false why
-plain_more m n h k up high why r = refused_beside m n h k false false (λ x. x) up high (λ e. e) why r
-
--- of a value
-pub value_needing : (v : Visible) (old : Code) (depth : ℕ) (e : ExprTree) (n : ℕ) (b : Needs) (why : Refusal)
-    → here old + 20 * expr_size e ≤ n → Within (needs_above depth v e) b → RefusesExpression v old depth e why → IsNeeding n b why
-value_needing v old depth e n b why up within r =
-    code_refused (HasUnfitObject v) (here old + 20 * expr_size e) n (depth + peak v.scope e) (is_outside v e) b up
-    (over (depth + peak v.scope e) b.stack b.frame within.stack) (λ u. within.unfit (unfit_there v u)) within.outside why r
-  where
-    over : (p k l : ℕ) → p ≤ k → p ≤ max k l
-    over p k l h = omega (arith, h)
-
-pub value_refused : (v : Visible) (old : Code) (depth : ℕ) (e : ExprTree) (n : ℕ) (b : Needs) (labels : List (List ℕ)) (why : Refusal)
-    → here old + 20 * expr_size e ≤ n → Within (needs_above depth v e) b → RefusesExpression v old depth e why → (IsNeeding n b why ⊎ HasManyLabels labels why)
-value_refused v old depth e n b labels why up within r = inl (value_needing v old depth e n b why up within r)
-
-pub stack_within : (h : ℕ) (b : Needs) → h ≤ b.stack → h ≤ max b.stack b.frame
-stack_within h b p = over h b.stack b.frame p
-  where
-    over : (p k l : ℕ) → p ≤ k → p ≤ max k l
-    over p k l h = omega (arith, h)
-
-pub frame_within : (h : ℕ) (b : Needs) → h ≤ b.frame → h ≤ max b.stack b.frame
-frame_within h b p = over h b.stack b.frame p
-  where
-    over : (p k l : ℕ) → p ≤ l → p ≤ max k l
-    over p k l h = omega (arith, h)
+use Rattle.part_code.proofs.Lists.{mapped_next}
+use Rattle.part_code.proofs.Within.{Within, in_left, of_right, none_within, both_within, front_within, behind_within, needing_refused}
 
 -- ---- one of a list
 
-module _ (a : Around) where
+module _ (a : Standpoint) where
   abbrev AmongStatements : List Stmt → (n : ℕ) → Stmt → Type 0
   AmongStatements all n x =
       (stmts_bound a.visible.scope (stmt_trees (take n all)) + stmt_bound a.visible.scope (stmt_tree x) ≤ stmts_bound a.visible.scope (stmt_trees all))

@@ -19,11 +19,14 @@ use Rattle.expr_code.specs.Flows.{AreKeptBetween}
 use Rattle.expr_code.specs.declared.visible.Visible.{Visible}
 use Rattle.expr_code.proofs.Flowing.{kept_then}
 use Rattle.expr_code.proofs.Growing.{added_extends, added_here, extends_trans, patched_extends, patched_here, patched_holds, patched_other}
-use Rattle.stmt_code.specs.Emitting.{Allows, AreLegalStatements, BeginsLoop, EmitsStatement, EmitsStatements, EndsLoop, HasLabels, IsLegalStatement, IsReachable, Serves}
-use Rattle.stmt_code.specs.Statements.{AreStatements, Ways, within_loop}
+use Rattle.stmt_code.specs.Emitting.{Allows, AreLegalStatements, EmitsStatement, EmitsStatements, HasLabels, IsLegalStatement, Serves}
+use Rattle.part_code.specs.Emitting.{BeginsLoop, EndsLoop, IsReachable}
+use Rattle.part_code.specs.Statements.{AreStatements, Ways, within_loop}
 use Rattle.stmt_code.specs.declared.draft.Draft.{Draft}
-use Rattle.stmt_code.proofs.Adding.{IsBeside, depth_there, jump_kept, labels_before, labels_beside, labels_then, most_beside, taken_beside}
-use Rattle.stmt_code.proofs.Opening.{added_is, patched_is, some_same}
+use Rattle.stmt_code.proofs.Adding.{IsBeside, labels_before, labels_beside, labels_then, most_beside, taken_beside}
+use Rattle.part_code.proofs.Jumps.{depth_there, jump_kept}
+use Rattle.part_code.proofs.Jumps.{added_is, patched_is}
+use Rattle.part_code.proofs.Lists.{some_same}
 use Rattle.stmt_code.proofs.RowsAdded.{Surrounds, finds_later, finds_patched, handled_inside, rows_around}
 
 -- in a loop the way out behind it is reached, where its jump stands with an empty operand stack

@@ -18,8 +18,8 @@ use Rattle.expr_code.specs.Code.{Extends, Patches, here}
 use Rattle.expr_code.specs.declared.code.Code.{Code}
 use Rattle.expr_code.proofs.Growing.{patched_other, patched_there}
 use Rattle.stmt_code.specs.Emitting.{AddsRows, FindsException, IsHandled}
-use Rattle.stmt_code.specs.Handling.{GoesBy, GoesByRows, Handling}
-use Rattle.stmt_code.specs.Rows.{LiesWithin}
+use Rattle.part_code.specs.Handling.{GoesBy, GoesByRows, Handling}
+use Rattle.part_code.specs.Rows.{LiesWithin}
 use Rattle.stmt_code.specs.declared.draft.Draft.{Draft}
 use Rattle.stmt_code.proofs.AddedRows.{rows_first, rows_none, rows_part, rows_second}
 

@@ -6,7 +6,7 @@ use Rattle.ada_tree.specs.declared.statement.ElsifPart.{ElsifPart}
 use Rattle.ada_tree.specs.declared.statement.Handler.{Handler}
 use Rattle.ada_tree.specs.declared.statement.Stmt.{Stmt}
 use Rattle.ada_tree.specs.StatementTree.{AlternativeTrees, Block, Case, ElsifTrees, HandlerTrees, If, Loop, MoreAlternatives, MoreElsifs, MoreHandlers, MoreStmts, NoAlternatives, NoElsifs, NoHandlers, NoStmts, StmtTree, StmtTrees, alternative_tree, alternative_trees, alternatives_of, elsif_tree, elsif_trees, elsifs_of, handler_tree, handler_trees, handlers_of, stmt_tree, stmt_trees}
-use Rattle.stmt_code.specs.Rows.{alternatives_rows, bodies_rows, choices_many, elsifs_rows, handlers_rows, stmt_rows, stmts_rows}
+use Rattle.part_code.specs.Rows.{alternatives_rows, bodies_rows, choices_many, elsifs_rows, handlers_rows, stmt_rows, stmts_rows}
 
 pub stmts_counted : (r : ℕ) (all : List Stmt) (n : ℕ) (x : Stmt) → n < length all → x ≡ get_or all n x
     → stmts_rows r (stmt_trees (take (n + 1) all)) ≡ stmt_rows (stmts_rows r (stmt_trees (take n all))) (stmt_tree x)

@@ -15,15 +15,18 @@ use Rattle.expr_code.specs.Flows.{AreKeptBetween}
 use Rattle.expr_code.specs.declared.visible.Visible.{Visible}
 use Rattle.expr_code.proofs.Flowing.{kept_then}
 use Rattle.expr_code.proofs.Growing.{added_extends, added_here, extends_trans, holds_before, patched_extends, patched_here, patched_holds, patched_other}
-use Rattle.stmt_code.specs.Handling.{GoesBy}
-use Rattle.stmt_code.specs.Bounds.{handlers_words, stmts_words}
+use Rattle.part_code.specs.Handling.{GoesBy}
+use Rattle.part_code.specs.Bounds.{handlers_words, stmts_words}
 use Rattle.stmt_code.specs.Covering.{EmitsSequence}
-use Rattle.stmt_code.specs.Emitting.{Allows, BeginsLoop, EmitsDeclarations, EmitsRun, HasLabels, IsReachable, Serves, seeing}
-use Rattle.stmt_code.specs.Statements.{IsSequence, Ways}
+use Rattle.stmt_code.specs.Emitting.{Allows, EmitsDeclarations, EmitsRun, HasLabels, Serves, seeing}
+use Rattle.part_code.specs.Emitting.{BeginsLoop, IsReachable}
+use Rattle.part_code.specs.Statements.{IsSequence, Ways}
 use Rattle.stmt_code.specs.declared.draft.Draft.{Draft}
-use Rattle.stmt_code.proofs.Adding.{IsBeside, depth_there, jump_kept, labels_before, labels_beside, labels_then, most_beside, taken_beside}
-use Rattle.stmt_code.proofs.Opening.{added_is, patched_is, some_same}
-use Rattle.stmt_code.proofs.Handling.{goes_within}
+use Rattle.stmt_code.proofs.Adding.{IsBeside, labels_before, labels_beside, labels_then, most_beside, taken_beside}
+use Rattle.part_code.proofs.Jumps.{depth_there, jump_kept}
+use Rattle.part_code.proofs.Jumps.{added_is, patched_is}
+use Rattle.part_code.proofs.Lists.{some_same}
+use Rattle.part_code.proofs.Handling.{goes_within}
 use Rattle.stmt_code.proofs.RowsAdded.{KeepsRows, Surrounds, finds_patched, goes_front, handled_inside, keeps_then, rows_around}
 
 -- a return leads to the way out, and there is no loop to leave

@@ -4,11 +4,11 @@ use Rattle.std.specs.Prelude.{max}
 use Rattle.expr_code.specs.Code.{IsShallow}
 use Rattle.expr_code.specs.declared.code.Code.{Code}
 use Rattle.expr_code.proofs.Shallow.{shallow_as, shallow_more, shallow_self, shallow_then}
-use Rattle.stmt_code.specs.Refusing.{Needs}
+use Rattle.part_code.specs.Needs.{Needs}
 use Rattle.stmt_code.specs.Staying.{Stays}
 use Rattle.stmt_code.specs.declared.draft.Draft.{Draft}
-use Rattle.stmt_code.specs.declared.draft.FrameWords.{FrameWords}
-use Rattle.stmt_code.proofs.Refused.{Within}
+use Rattle.part_code.specs.declared.frame_words.FrameWords.{FrameWords}
+use Rattle.part_code.proofs.Within.{Within}
 
 -- the draft with other code
 abbrev pub coded : Draft → Code → Draft

@@ -1,6 +1,6 @@
 -- Code of assignments that was added: the value of a whole object of one word, and what stores it.
-use Rattle.std.proofs.Common.{◌≡◌, ℕ, suc, ◌≤◌, ◌<◌, ◌⊎◌, inl, inr, List, length, true, false, not, Option, Some, None, refl, sym, ap, ◌∙◌, subst, arith, rules}
-use Rattle.std.specs.Prelude.{is_some, nat_lt}
+use Rattle.std.proofs.Common.{◌≡◌, ℕ, suc, ◌≤◌, ◌⊎◌, inl, inr, length, true, not, Some, None, refl, sym, ap, ◌∙◌, subst, arith}
+use Rattle.std.specs.Prelude.{is_some}
 use Rattle.ada_tree.specs.declared.expression.Identifier.{Identifier}
 use Rattle.ada_tree.specs.ExpressionTree.{ExprTree, MoreSelectors, Named, NameTree, NoSelectors, SelectorTrees, bare_name}
 use Rattle.ada_tree.specs.StatementTree as statements
@@ -13,15 +13,12 @@ use Rattle.image.specs.declared.instruction.Region.{Region}
 use Rattle.image.specs.declared.instruction.Region.TheVariants as regions
 use Rattle.image.specs.declared.subprograms.Subprogram.{Subprogram}
 use Rattle.types.specs.declared.entity.Role.{Role}
-use Rattle.types.specs.declared.entity.Role.TheVariants as role
 use Rattle.types.specs.declared.entity.Subtype.{Subtype}
 use Rattle.types.specs.declared.standing.Standing.TheVariants as standing
-use Rattle.types.specs.Entities as entity
-use Rattle.types.specs.Entities.{Entity}
 use Rattle.types.specs.Laws.{ValuesHaveWords}
 use Rattle.types.specs.Layouts.{words_of}
-use Rattle.types.specs.Scopes.{Scope, entity_at, number_of}
-use Rattle.types.specs.Standings.{select_all, standing_of, stands_first, stands_for}
+use Rattle.types.specs.Scopes.{Scope, number_of}
+use Rattle.types.specs.Standings.{select_all, standing_of, stands_first}
 use Rattle.expr_rules.specs.declared.own.Own.TheVariants.{Typed}
 use Rattle.expr_rules.specs.declared.own.Wanted.TheVariants.{Anything, OfType}
 use Rattle.expr_rules.specs.ExpressionRules.{faults_of, name_faults, target_faults}
@@ -41,45 +38,20 @@ use Rattle.expr_code.specs.declared.code.Code.{Code}
 use Rattle.expr_code.specs.declared.visible.Slot.{Slot}
 use Rattle.expr_code.specs.declared.visible.Visible.{Visible}
 use Rattle.expr_code.proofs.Growing.{added_at, added_extends, added_here, holds_before}
-use Rattle.stmt_code.specs.Emitting.{EmitsStatement, IsLegalStatement, store_operation, stored_in}
-use Rattle.stmt_code.specs.Layout.{IsLaidOut, IsVariable, NamesObject}
-use Rattle.stmt_code.specs.Suiting.{SuitsStatements}
-use Rattle.stmt_code.specs.Resting.{Framed}
-use Rattle.stmt_code.specs.Statements.{IsAssigned, Numbers, Ways}
+use Rattle.stmt_code.specs.Emitting.{EmitsStatement, IsLegalStatement}
+use Rattle.part_code.specs.Emitting.{store_operation, stored_in}
+use Rattle.part_code.specs.Layout.{IsLaidOut, IsVariable, NamesObject}
+use Rattle.part_code.specs.Suiting.{SuitsStatements}
+use Rattle.part_code.specs.Resting.{Framed}
+use Rattle.part_code.specs.Statements.{IsAssigned, Numbers, Ways}
 use Rattle.stmt_code.specs.declared.draft.Draft.{Draft}
 use Rattle.stmt_code.proofs.RowsAdded.{goes_kept, rows_kept}
 use Rattle.stmt_code.proofs.Adding.{IsBeside, labels_beside, most_beside, taken_beside, value_extends, value_kept}
-use Rattle.stmt_code.proofs.Assigning.{assigns_local_word, assigns_plain_word}
-use Rattle.stmt_code.proofs.Declaring.{IsTypedAs}
-
-pub less_true : (x y : ℕ) → x < y → nat_lt x y ≡ true
-less_true x y less = search rules
+use Rattle.part_code.proofs.Assigning.{assigns_local_word, assigns_plain_word}
+use Rattle.part_code.proofs.Declaring.{IsTypedAs}
+use Rattle.part_code.proofs.ObjectNames.{less_true, names_object, changeable}
 
 -- ---- objects
-
-pub names_object : (s : Scope) (name : List ℕ) (r : Role) (t : Subtype) → stands_first s (number_of s name) ≡ standing.Part r t → NamesObject s name r t
-names_object s name r t h = by_number (number_of s name) refl h
-  where
-    entity_is : (n : ℕ) (e : Option Entity) → stands_for n e ≡ standing.Part r t → e ≡ Some (entity.Object r t)
-    entity_is n (Some (entity.Object q u)) h = cc
-    entity_is n (Some (entity.OfType form u)) h = cc
-    entity_is n (Some (entity.OfSubtype u)) h = cc
-    entity_is n (Some (entity.Constant u v)) h = cc
-    entity_is n (Some (entity.Literal b)) h = cc
-    entity_is n (Some entity.Exception) h = cc
-    entity_is n (Some (entity.Subprogram p)) h = cc
-    entity_is n (Some (entity.Entry p)) h = cc
-    entity_is n (Some (entity.Predefined o p)) h = cc
-    entity_is n (Some entity.Put) h = cc
-    entity_is n (Some (entity.Task m)) h = cc
-    entity_is n (Some (entity.Protected o)) h = cc
-    entity_is n (Some entity.LibraryUnit) h = cc
-    entity_is n (Some entity.Doubtful) h = cc
-    entity_is n None h = cc
-
-    by_number : (o : Option ℕ) → number_of s name ≡ o → stands_first s o ≡ standing.Part r t → NamesObject s name r t
-    by_number (Some n) is k = record { number = n; numbered = is; stands = entity_is n (entity_at s n) k }
-    by_number None is k = cc
 
 -- a name without parts is its identifier
 pub record IsBare (first : Identifier) (selectors : SelectorTrees) (x : Identifier) : Type 0 where
@@ -91,17 +63,6 @@ bare_whole first NoSelectors x h = record { whole = refl; same = cc }
 bare_whole first (MoreSelectors y rest) x h = cc
 
 -- ---- what is legal
-
--- what is to be changed is a variable
-pub changeable : (q : Role) → not (is_changeable q) ≡ false → IsVariable q
-changeable role.Variable h = tt
-changeable role.Constant h = cc
-changeable role.LoopParameter h = cc
-changeable role.In h = cc
-changeable role.Out h = tt
-changeable role.InOut h = tt
-changeable role.Component h = tt
-changeable role.ReadOnlyComponent h = cc
 
 -- what a name without parts stands for
 pub whole_stands : (s : Scope) (name : NameTree) (r : Role) (t : Subtype) → name.selectors ≡ NoSelectors

@@ -25,10 +25,10 @@ use Rattle.sound_steps.specs.Fitting.{entity_named}
 use Rattle.expr_code.specs.Seeing.{IsCallable, NamesProfile, Suits, slot_of, subprogram_of, told_of}
 use Rattle.expr_code.specs.declared.visible.Slot.{Slot}
 use Rattle.expr_code.specs.declared.visible.Visible.{Visible}
-use Rattle.stmt_code.specs.Emitting.{HasEntries}
-use Rattle.stmt_code.specs.Suiting.{IsCallableProcedure, SuitsStatements, passed_width, returned_width}
+use Rattle.part_code.specs.Emitting.{HasEntries}
+use Rattle.part_code.specs.Suiting.{IsCallableProcedure, SuitsStatements, passed_width, returned_width}
 use Rattle.stmt_code.proofs.Laying.{known_inside}
-use Rattle.stmt_code.proofs.Names.{IsTold, WasTold, inside, is_told, same_name, told_again, told_of_more}
+use Rattle.part_code.proofs.Names.{IsTold, WasTold, inside, is_told, same_name, told_again, told_of_more}
 
 -- ---- names behind those that are visible
 

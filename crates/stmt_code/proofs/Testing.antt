@@ -18,13 +18,16 @@ use Rattle.expr_code.specs.declared.code.Code.{Code}
 use Rattle.expr_code.specs.declared.visible.Visible.{Visible}
 use Rattle.expr_code.proofs.Flowing.{kept_one, kept_then, widened}
 use Rattle.expr_code.proofs.Growing.{added_extends, added_here, extends_trans, patched_extends, patched_here, patched_other}
-use Rattle.stmt_code.specs.Emitting.{BeginsLoop, EmitsStatement, EmitsStatements, EndsLoop, HasLabels, IsReachable, Serves}
-use Rattle.stmt_code.specs.Statements.{AreStatements, Ways, within_loop}
+use Rattle.part_code.specs.Emitting.{BeginsLoop, EndsLoop, IsReachable}
+use Rattle.stmt_code.specs.Emitting.{EmitsStatement, EmitsStatements, HasLabels, Serves}
+use Rattle.part_code.specs.Statements.{AreStatements, Ways, within_loop}
 use Rattle.stmt_code.specs.declared.draft.Draft.{Draft}
-use Rattle.stmt_code.proofs.Adding.{IsBeside, depth_there, jump_kept, labels_before, labels_beside, labels_then, same_place}
-use Rattle.stmt_code.proofs.Opening.{added_is, patched_is, shorter}
+use Rattle.stmt_code.proofs.Adding.{IsBeside, labels_before, labels_beside, labels_then}
+use Rattle.part_code.proofs.Jumps.{depth_there, jump_kept, same_place}
+use Rattle.part_code.proofs.Jumps.{added_is, patched_is}
+use Rattle.part_code.proofs.Lists.{shorter}
 use Rattle.stmt_code.proofs.Repeating.{in_the_loop}
-use Rattle.stmt_code.proofs.Handling.{goes_within}
+use Rattle.part_code.proofs.Handling.{goes_within}
 use Rattle.stmt_code.proofs.RowsAdded.{Surrounds, finds_later, finds_patched, goes_front, handled_inside, keeps_then, rows_around}
 
 module _ (v : Visible) (w : Ways) where

@@ -11,11 +11,11 @@ use Rattle.expr_code.specs.Flows.{Flows}
 use Rattle.expr_code.specs.declared.code.Code.{Code}
 use Rattle.expr_code.proofs.Flowing.{Changes, flows_same, flows_then, instruction_flows}
 use Rattle.expr_code.proofs.Growing.{added_extends, added_here, added_there, extends_self, extends_trans, holds_before}
-use Rattle.stmt_code.specs.Turns.{AddsAll, bounds_compared, next_operation, value_counted, values_compared, word_of_first, word_of_last}
-use Rattle.stmt_code.specs.declared.range_loop.Turns.{Turns}
+use Rattle.part_code.specs.Turns.{AddsAll, bounds_compared, next_operation, value_counted, values_compared, word_of_first, word_of_last}
+use Rattle.part_code.specs.declared.turns.Turns.{Turns}
 use Rattle.stmt_code.proofs.Ranging.{Advances, Begins}
-use Rattle.stmt_code.proofs.Stored.{less_true}
-use Rattle.stmt_code.proofs.Walking.{behind}
+use Rattle.part_code.proofs.ObjectNames.{less_true}
+use Rattle.part_code.proofs.Walking.{behind}
 
 -- ---- where they stand
 

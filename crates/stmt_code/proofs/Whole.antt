@@ -18,13 +18,13 @@ use Rattle.expr_code.specs.Flows.{AreKeptBetween, KeepsInstructionRules}
 use Rattle.expr_code.specs.declared.visible.Visible.{Visible}
 use Rattle.stmt_code.specs.Emitting.{HasLabels}
 use Rattle.stmt_code.specs.Subprograms.{HasSubprogramWords, KeepsRules}
-use Rattle.stmt_code.specs.Suiting.{SuitsStatements}
+use Rattle.part_code.specs.Suiting.{SuitsStatements}
 use Rattle.stmt_code.specs.Whole.{AreAllKept, KeepsSubprogramRules, IsOutside, KeptCodePasses, PassesOnCode}
 use Rattle.stmt_code.specs.declared.draft.Draft.{Draft}
 use Rattle.stmt_code.specs.declared.subprogram.SubprogramWords.{SubprogramWords}
-use Rattle.stmt_code.proofs.FormalFlows.{both, equal, least}
-use Rattle.stmt_code.proofs.Names.{inside}
-use Rattle.stmt_code.proofs.Stored.{less_true}
+use Rattle.part_code.proofs.FormalFlows.{both, equal, least}
+use Rattle.part_code.proofs.Names.{inside}
+use Rattle.part_code.proofs.ObjectNames.{less_true}
 
 -- ---- tests of all
 

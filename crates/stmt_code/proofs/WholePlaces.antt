@@ -9,14 +9,14 @@ use Rattle.types.specs.Layouts.{words_of}
 use Rattle.types.specs.Scopes.{Scope}
 use Rattle.type_rules.specs.SubtypeNames.{subtype_of}
 use Rattle.expr_code.specs.declared.visible.Visible.{Visible}
-use Rattle.stmt_code.specs.Bounds.{words_if_any, words_named}
-use Rattle.stmt_code.specs.Formals.{PlacesFormals, StandInTurn, StandsAt, no_subprogram, passed_for, slot_for}
-use Rattle.stmt_code.specs.Refusing.{formals_frame, out_for}
+use Rattle.part_code.specs.Bounds.{words_if_any, words_named}
+use Rattle.part_code.specs.Formals.{PlacesFormals, StandInTurn, StandsAt, no_subprogram, passed_for, slot_for}
+use Rattle.part_code.specs.Needs.{formals_frame, out_for}
 use Rattle.stmt_code.specs.WholeRefusals.{formals_placed, formals_visible, from_behind, out_behind, placed_as, placed_formals, placed_if}
-use Rattle.stmt_code.specs.declared.draft.FrameWords.{FrameWords}
-use Rattle.stmt_code.specs.declared.formals.PlacedFormal.{PlacedFormal}
-use Rattle.stmt_code.specs.declared.formals.PlacedFormals.{PlacedFormals}
-use Rattle.stmt_code.proofs.FormalWords.{passed_placed}
+use Rattle.part_code.specs.declared.frame_words.FrameWords.{FrameWords}
+use Rattle.part_code.specs.declared.formals.PlacedFormal.{PlacedFormal}
+use Rattle.part_code.specs.declared.formals.PlacedFormals.{PlacedFormals}
+use Rattle.part_code.proofs.FormalWords.{passed_placed}
 
 -- ---- each one
 

@@ -1,32 +1,30 @@
 -- What refuses the code of whole procedures and functions: of their parameters, of their parts, and of a frame with its operand stack.
-use Rattle.std.proofs.Common.{◌≡◌, ◌≤◌, ◌<◌, ◌+◌, ◌*◌, ◌∷◌, inl, inr, ℕ, zero, suc, List, [], length, true, false, ◌||◌, not, None, refl, sym, ap, ◌∙◌, subst, arith}
-use Rattle.std.specs.Prelude.{get_or, max}
+use Rattle.std.proofs.Common.{◌≡◌, ◌≤◌, ◌+◌, ◌*◌, inl, inr, ℕ, suc, List, length, false, ◌||◌, not, sym, ap, ◌∙◌, subst, arith}
+use Rattle.std.specs.Prelude.{max}
 use Rattle.ada_tree.specs.declared.declaration.Formal.{Formal}
-use Rattle.ada_tree.specs.declared.declaration.Mode.{Mode}
-use Rattle.ada_tree.specs.declared.declaration.Mode.TheVariants as mode
 use Rattle.ada_tree.specs.ExpressionTree.{ExprTree}
 use Rattle.ada_tree.specs.ProgramTree.{BodyTree}
 use Rattle.ada_tree.specs.Size.{expr_size, total}
 use Rattle.types.specs.declared.entity.Subtype.{Subtype}
 use Rattle.declaring.specs.LocalRules.{locals_scope}
-use Rattle.meaning.specs.Calls.{is_out}
 use Rattle.expr_code.specs.Code.{IsShallow, here}
 use Rattle.expr_code.specs.Refusing.{HasUnfitObject, IsRefused, RefusesChecked, checked_peak, is_outside, is_passable, peak}
 use Rattle.expr_code.specs.declared.code.Code.{Code}
 use Rattle.expr_code.specs.declared.refusal.Refusal.{Refusal}
 use Rattle.expr_code.specs.declared.visible.Visible.{Visible}
-use Rattle.expr_code.proofs.Shallow.{shallow_as, shallow_more, shallow_next}
-use Rattle.stmt_code.specs.Bounds.{formals_words, function_bound, handlers_words, locals_words, procedure_bound, run_bound, stmts_words}
-use Rattle.stmt_code.specs.Formals.{PlacesFormals, placed_words}
-use Rattle.stmt_code.specs.Refusing.{Needs, RefusesFormals, RefusesOuts, RefusesReturned, RefusesRun, all_given, both, formals_frame, formals_needs, initial_needs, nothing, out_needs, outs_needs, run_needs, stacked}
+use Rattle.expr_code.proofs.Shallow.{shallow_more, shallow_next}
+use Rattle.part_code.specs.Bounds.{formals_words, function_bound, handlers_words, locals_words, procedure_bound, run_bound, stmts_words}
+use Rattle.part_code.specs.Formals.{PlacesFormals, placed_words}
+use Rattle.part_code.specs.Needs.{Needs, RefusesFormals, RefusesOuts, RefusesReturned, all_given, both, formals_frame, formals_needs, outs_needs, stacked}
+use Rattle.stmt_code.specs.Refusing.{RefusesRun, run_needs}
 use Rattle.stmt_code.specs.Staying.{StaysRun}
 use Rattle.stmt_code.specs.WholeRefusals.{RefusesFunction, RefusesProcedure, body_labels, formals_placed, formals_visible, function_needs, inside_needs, procedure_needs, returned_needs, together}
 use Rattle.stmt_code.specs.declared.draft.Draft.{Draft}
-use Rattle.stmt_code.specs.declared.draft.FrameWords.{FrameWords}
-use Rattle.stmt_code.specs.declared.formals.PlacedFormal.{PlacedFormal}
-use Rattle.stmt_code.specs.declared.formals.PlacedFormals.{PlacedFormals}
-use Rattle.stmt_code.proofs.FormalWords.{placed_long}
-use Rattle.stmt_code.proofs.Refused.{Within, code_refused, in_left, in_right, labelled, needing_refused, of_right, plain_needing, unfit_there, within_then}
+use Rattle.part_code.specs.declared.frame_words.FrameWords.{FrameWords}
+use Rattle.part_code.specs.declared.formals.PlacedFormal.{PlacedFormal}
+use Rattle.part_code.specs.declared.formals.PlacedFormals.{PlacedFormals}
+use Rattle.part_code.proofs.FormalWords.{placed_long}
+use Rattle.part_code.proofs.Within.{Within, code_refused, in_left, in_right, labelled, needing_refused, of_right, plain_needing, unfit_there, within_then}
 use Rattle.stmt_code.proofs.WholeBounds.{formals_total}
 use Rattle.stmt_code.proofs.WholePlaces.{items_are, later_is, taken_is}
 
@@ -273,34 +271,3 @@ module _ (v : Visible) (fs : List Formal) (t : Subtype) (e : ExprTree) (old : Dr
 
         deep : (a f m : ℕ) → a ≡ 0 → f ≤ max a m → f ≤ m
         deep a f m z h = omega (arith, z, h)
-
--- ---- `out` parameters and what is given back, on the operand stack
-
-outs_among : (v : Visible) (xs : List PlacedFormal) (n : ℕ) (x other : PlacedFormal) → n < length xs → x ≡ get_or xs n other
-    → (out_needs v x).stack ≤ (outs_needs v xs).stack
-outs_among v [] n x other less is = absurd (omega (arith, less))
-outs_among v (y ∷ xs) zero x other less is =
-    let same = ap (λ z. (out_needs v z).stack) is in
-    let up = (in_left (out_needs v y) (outs_needs v xs)).stack in
-    omega (arith, same, up)
-outs_among v (y ∷ xs) (suc n) x other less is =
-    let rest = outs_among v xs n x other (omega (arith, less)) is in
-    let up = (in_right (out_needs v y) (outs_needs v xs)).stack in
-    omega (arith, rest, up)
-
-abbrev out_by : Visible → Subtype → Mode → Needs
-out_by v t m = elim m [ mode.In ↦ nothing | mode.Out ↦ initial_needs v t None | mode.InOut ↦ nothing ]
-
-pub outs_shallow : (v : Visible) (xs : List PlacedFormal) (n : ℕ) (x other : PlacedFormal) (old now next : Code) → n < length xs → x ≡ get_or xs n other
-    → IsShallow old now (outs_needs v xs).stack → (is_out x.mode ≡ true → IsShallow now next (initial_needs v x.subtype None).stack)
-    → (is_out x.mode ≡ false → next ≡ now) → IsShallow old next (outs_needs v xs).stack
-outs_shallow v xs n x other old now next less is p out past = by_mode x.mode refl
-  where
-    by_mode : (m : Mode) → x.mode ≡ m → IsShallow old next (outs_needs v xs).stack
-    by_mode mode.In moded = shallow_as old now next (outs_needs v xs).stack (ap (λ c. c.deepest) (past (ap is_out moded))) p
-    by_mode mode.InOut moded = shallow_as old now next (outs_needs v xs).stack (ap (λ c. c.deepest) (past (ap is_out moded))) p
-    by_mode mode.Out moded =
-        let own : (initial_needs v x.subtype None).stack ≡ (out_needs v x).stack =
-        sym (ap (λ m. (out_by v x.subtype m).stack) moded) in
-        let up = outs_among v xs n x other less is in
-        shallow_next old now next (initial_needs v x.subtype None).stack (outs_needs v xs).stack (omega (arith, own, up)) p (out (ap is_out moded))

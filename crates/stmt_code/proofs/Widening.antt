@@ -12,8 +12,8 @@ use Rattle.well_typed.specs.Laws.{ScopesAreSound}
 use Rattle.well_typed.specs.SoundScopes.{IsSoundObject, SoundScope}
 use Rattle.well_typed.proofs.Positions.{entity_kept}
 use Rattle.expr_code.specs.declared.visible.Slot.{Slot}
-use Rattle.stmt_code.specs.Layout.{Widens}
-use Rattle.stmt_code.specs.Resting.{Framed}
+use Rattle.part_code.specs.Layout.{Widens}
+use Rattle.part_code.specs.Resting.{Framed}
 
 -- types stay where more is visible
 form_kept : (s more : Scope) (n : ℕ) → is_some (form_at s n) ≡ true → form_at (s ++ more) n ≡ form_at s n

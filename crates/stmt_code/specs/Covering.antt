@@ -1,6 +1,6 @@
 -- What methods that add the code of handlers promise (RM 11.2, 11.4; docs/CODEGEN.md).
 use Rattle.std.specs.List.{All}
-use Rattle.std.specs.Prelude.{◌≡◌, ◌+◌, ◌≤◌, ◌<◌, ℕ, true, List, [], ◌∷◌, ◌++◌, length, Option, Some, None, if◌then◌else◌, slice_get}
+use Rattle.std.specs.Prelude.{◌≡◌, ◌+◌, ◌≤◌, ◌<◌, ℕ, true, List, [], ◌∷◌, ◌++◌, length, Some, None, if◌then◌else◌, slice_get}
 use Rattle.ada_tree.specs.declared.statement.ExceptionChoice.{ExceptionChoice}
 use Rattle.ada_tree.specs.StatementTree.{HandlerTrees, MoreHandlers, StmtTrees, handlers_of}
 use Rattle.handlers.specs.Innermost.{handles}
@@ -18,26 +18,16 @@ use Rattle.expr_code.specs.Code.{Adds, Extends, StandsFrom, here}
 use Rattle.expr_code.specs.Flows.{KeepsInstructionRules}
 use Rattle.expr_code.specs.Seeing.{Package}
 use Rattle.expr_code.specs.declared.visible.Visible.{Visible}
-use Rattle.stmt_code.specs.Bounds.{handlers_bound, sequence_bound}
+use Rattle.part_code.specs.Bounds.{handlers_bound, sequence_bound}
 use Rattle.stmt_code.specs.Emitting.{AddsRows, Allows, Emits, EmitsStatements, FindsException, HasLabels, IsHandled, MeantTo, Serves}
-use Rattle.stmt_code.specs.Handling.{Handling, or_answer}
-use Rattle.stmt_code.specs.Raising.{choice_number}
-use Rattle.stmt_code.specs.Resting.{Framed}
-use Rattle.stmt_code.specs.Statements.{AreHandlers, IsSequence, Numbers, Ways}
-use Rattle.stmt_code.specs.Suiting.{SuitsStatements}
+use Rattle.part_code.specs.Handling.{Handling, or_answer}
+use Rattle.part_code.specs.Resting.{Framed}
+use Rattle.part_code.specs.Statements.{AreHandlers, IsSequence, Numbers, Ways}
+use Rattle.part_code.specs.Suiting.{SuitsStatements}
 use Rattle.stmt_code.specs.declared.draft.Draft.{Draft}
 use Rattle.stmt_code.specs.declared.handler.Cover.{Cover}
 
 -- ---- rows of handlers
-
--- the row of a choice, which covers and leads to what another row does
-abbrev pub row_for : Row → Option ℕ → Row
-row_for q None = q
-row_for q (Some exception) = record q { exception = exception }
-
-abbrev pub choice_rows : (exceptions : List (List ℕ)) → Row → List ExceptionChoice → List Row
-choice_rows exceptions q [] = []
-choice_rows exceptions q (c ∷ cs) = row_for q (choice_number exceptions c) ∷ choice_rows exceptions q cs
 
 -- where an exception goes on by rows of one region: where the first one leads that handles it
 abbrev pub first_for : List Row → Handling

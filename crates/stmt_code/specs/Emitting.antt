@@ -1,23 +1,18 @@
 -- What methods that add the code of statements promise.
 use Rattle.std.specs.List.{All}
-use Rattle.std.specs.Prelude.{◌≡◌, ℕ, ◌+◌, ◌≤◌, ◌<◌, ◌⊎◌, true, List, [], ◌∷◌, ◌++◌, cond, length, nat_eq, take, Option, Some, None, pos, slice_get, ⊤, ℤ}
+use Rattle.std.specs.Prelude.{◌≡◌, ℕ, ◌+◌, ◌≤◌, ◌<◌, true, List, [], ◌∷◌, ◌++◌, length, take, Some, None, slice_get}
 use Rattle.ada_tree.specs.ExpressionTree.{ExprTree}
 use Rattle.ada_tree.specs.StatementTree.{DeclarationTree, ElsifTrees, HandlerTrees, MoreElsifs, StmtTree, StmtTrees, elsifs_of}
 use Rattle.handlers.specs.Nesting.{all_nested}
 use Rattle.handlers.specs.declared.rows.Row.{Row}
 use Rattle.image.specs.Sections.{Sections}
-use Rattle.image.specs.Rules.{has_depth, is_block}
+use Rattle.image.specs.Rules.{has_depth}
 use Rattle.image.specs.declared.instruction.Operation.{Operation}
 use Rattle.image.specs.declared.instruction.Operation.TheVariants as op
-use Rattle.image.specs.declared.instruction.Region.{Region}
-use Rattle.image.specs.declared.instruction.Region.TheVariants as regions
 use Rattle.image.specs.declared.subprograms.Subprogram.{Subprogram}
-use Rattle.types.specs.declared.entity.Subtype.{Subtype}
-use Rattle.types.specs.Entities.{Booleans, Entity, Integers, TypeForm}
-use Rattle.types.specs.Layouts.{words_of}
+use Rattle.types.specs.Entities.{Entity}
 use Rattle.types.specs.Places.{Place, is_among}
-use Rattle.types.specs.Scopes.{Scope, form_at}
-use Rattle.types.specs.Shapes.{initial, value_words}
+use Rattle.types.specs.Scopes.{Scope}
 use Rattle.declaring.specs.LocalRules.{locals_faults, locals_scope}
 use Rattle.stmt_rules.specs.declared.around.Around.{Around}
 use Rattle.stmt_rules.specs.StatementRules.{elsifs_faults, more_handlers_faults, stmt_faults, stmts_faults}
@@ -27,24 +22,21 @@ use Rattle.meaning.specs.Calls.{procedure_here}
 use Rattle.meaning.specs.Programs.{Procedure, Program}
 use Rattle.sound_steps.specs.Fitting.{IsFound, entity_named}
 use Rattle.expr_code.specs.Branches.{Joins}
-use Rattle.expr_code.specs.Code.{Adds, Extends, Holds, Patches, StandsFrom, here}
-use Rattle.expr_code.specs.Emitting.{EmitsChecked, EmitsFitting, IsFit}
+use Rattle.expr_code.specs.Code.{Extends, Holds, StandsFrom, here}
 use Rattle.expr_code.specs.Flows.{AreKeptBetween}
 use Rattle.expr_code.specs.Seeing.{Package, subprogram_of}
 use Rattle.expr_code.specs.declared.code.Code.{Code}
-use Rattle.expr_code.specs.declared.visible.Slot.{Slot}
 use Rattle.expr_code.specs.declared.visible.Visible.{Visible}
-use Rattle.stmt_code.specs.Bounds.{declarations_bound, elsifs_bound, run_bound, stmt_bound, stmts_bound}
-use Rattle.stmt_code.specs.Layout.{EndsBelow, IsLaidOut}
-use Rattle.stmt_code.specs.Suiting.{SuitsStatements}
-use Rattle.stmt_code.specs.Resting.{Framed}
-use Rattle.stmt_code.specs.Handling.{GoesByRows, Handling, unhandled}
-use Rattle.stmt_code.specs.Raising.{AreNamed}
-use Rattle.stmt_code.specs.Rows.{LiesWithin}
-use Rattle.stmt_code.specs.Statements.{AreDeclared, AreStatements, IsOtherwise, IsRun, IsStatement, Numbers, Ways}
+use Rattle.part_code.specs.Bounds.{declarations_bound, elsifs_bound, run_bound, stmt_bound, stmts_bound}
+use Rattle.part_code.specs.Layout.{EndsBelow, IsLaidOut}
+use Rattle.part_code.specs.Suiting.{SuitsStatements}
+use Rattle.part_code.specs.Resting.{Framed}
+use Rattle.part_code.specs.Handling.{GoesByRows, Handling, unhandled}
+use Rattle.part_code.specs.Raising.{AreNamed}
+use Rattle.part_code.specs.Rows.{LiesWithin}
+use Rattle.part_code.specs.Statements.{AreDeclared, AreStatements, IsOtherwise, IsRun, IsStatement, Numbers, Ways}
 use Rattle.stmt_code.specs.declared.draft.Draft.{Draft}
-use Rattle.stmt_code.specs.declared.draft.FrameWords.{FrameWords}
-use Rattle.stmt_code.specs.declared.leaving.Leaving.{Leaving}
+use Rattle.part_code.specs.Emitting.{IsReachable, HasEntries}
 
 -- ---- what is asked
 
@@ -67,16 +59,6 @@ pub record AreLegalElsifs (s : Scope) (all : ElsifTrees) : Type 0 where
   pub around : Around
   pub unbroken : elsifs_faults s around all ≡ []
 
--- the ways out, as places of code
-abbrev pub ways_of : Leaving → Ways
-ways_of l = record { exit = l.exit; return = l.return_; handled = l.handled }
-
--- so many words of the frame more are taken
-pub record TakesWords (old : FrameWords) (many : ℕ) (new : FrameWords) : Type 0 where
-  pub taken : new.taken ≡ old.taken + many
-  pub grows : old.most ≤ new.most
-  pub most : new.taken ≤ new.most
-
 -- ---- what is known where the code stands
 
 -- the image has these labels at their numbers
@@ -96,12 +78,6 @@ pub record Serves (program : Program) (g : Package) (numbers : Numbers) (v : Fra
   pub laid : IsLaidOut g v
   pub ends : EndsBelow v taken
   pub below : (n : ℕ) → is_among v.reserved n ≡ true → n < taken
-
--- a place that may be gone to with an empty operand stack
-pub record IsReachable (i : Sections) (low high place : ℕ) : Type 0 where
-  pub down : low ≤ place
-  pub up : place ≤ high
-  pub empty : has_depth i place 0 ≡ true
 
 -- The ways out may be gone to, and the word that holds an exception is one of the frame.
 pub record Allows (i : Sections) (s : Subprogram) (low high : ℕ) (w : Ways) : Type 0 where
@@ -167,85 +143,7 @@ abbrev pub EmitsStatements : Visible → Ways → Draft → StmtTrees → Draft 
 EmitsStatements v w old body new =
     Emits (λ i program g numbers f handling from to. AreStatements i program g numbers f w handling from to body) v w old (stmts_bound v.scope body) new
 
--- ---- stores
-
--- what stores a word there
-abbrev pub stored_in : Region → (offset : ℕ) → Option Operation
-stored_in regions.Locals n = Some (op.StoreLocal n)
-stored_in regions.Plain n = Some (op.StorePlain n)
-stored_in regions.Object n = None
-
--- what stores so many words of a value there, at the address below them on the operand stack
-abbrev pub stored_at : Region → (words : ℕ) → Option Operation
-stored_at regions.Locals n = Some (cond (nat_eq n 1) (op.StoreIndexed regions.Locals) (op.StoreBlock regions.Locals n))
-stored_at regions.Plain n = Some (cond (nat_eq n 1) (op.StoreIndexed regions.Plain) (op.StoreBlock regions.Plain n))
-stored_at regions.Object n = None
-
-abbrev pub store_operation : Slot → Option Operation
-store_operation x = stored_in x.region x.offset
-
 -- ---- declarations
-
--- the word of an object of one word without initial value
-abbrev pub first_word : Option TypeForm → Subtype → Option ℤ
-first_word (Some Integers) t = Some t.first
-first_word (Some Booleans) t = Some (pos 0)
-first_word form t = None
-
--- an instruction was added that puts it on the operand stack
-pub record AddsInitial (v : Visible) (old : Code) (t : Subtype) (new : Code) : Type 0 where
-  pub word : ℤ
-  pub first : first_word (form_at v.scope t.type_number) t ≡ Some word
-  pub adds : Adds old 0 (op.Push word) new
-
--- the code of an initial value of one word was added: of the one that is given, checked, or of that of an object without
-abbrev pub EmitsInitial : Visible → (old : Code) → Subtype → Option ExprTree → (new : Code) → Type 0
-EmitsInitial v old t (Some e) new = EmitsChecked v old 0 t e new
-EmitsInitial v old t None new = AddsInitial v old t new
-
--- these words were put on the operand stack, one by one, above so many others
-abbrev pub Pushes : (old : Code) → (height : ℕ) → List ℤ → (new : Code) → Type 0
-Pushes old height [] new = old ≡ new
-Pushes old height (w ∷ ws) new = (next : Code) × Adds old height (op.Push w) next × Pushes next (height + 1) ws new
-
--- ... so many stand there then
-pub record HasPushed (old : Code) (height : ℕ) (ws : List ℤ) (new : Code) (top : ℕ) : Type 0 where
-  pub pushes : Pushes old height ws new
-  pub more : top ≡ height + length ws
-
--- the code of an initial value of several words was added, above their address: of the one that is given, checked, or of that of an object without
-abbrev pub EmitsInitialWords : Visible → (old : Code) → Subtype → Option ExprTree → (new : Code) → Type 0
-EmitsInitialWords v old t (Some e) new = EmitsFitting v old 1 t e new
-EmitsInitialWords v old t None new = Pushes old 1 (value_words (initial v.scope t)) new
-
--- the code of an initial value of one word was added, and what stores it at an offset of the frame
-pub record StoresWord (v : Visible) (old : Code) (offset : ℕ) (t : Subtype) (o : Option ExprTree) (new : Code) : Type 0 where
-  pub valued : Code
-  pub value : EmitsInitial v old t o valued
-  pub store : Adds valued 1 (op.StoreLocal offset) new
-
--- ... of several words, and what stores them from an offset on
-pub record StoresWords (v : Visible) (old : Code) (offset : ℕ) (t : Subtype) (o : Option ExprTree) (new : Code) : Type 0 where
-  pub placed : Code
-  pub valued : Code
-  pub block : is_block (words_of v.scope t) ≡ true
-  pub address : Adds old 0 (op.Push (pos offset)) placed
-  pub value : EmitsInitialWords v placed t o valued
-  pub store : Adds valued (1 + words_of v.scope t) (op.StoreBlock regions.Locals (words_of v.scope t)) new
-
--- ... of however many
-abbrev pub EmitsObject : Visible → (old : Code) → (offset : ℕ) → Subtype → Option ExprTree → (new : Code) → Type 0
-EmitsObject v old offset t o new = StoresWord v old offset t o new ⊎ StoresWords v old offset t o new
-
--- the value that is given, if any, is fit for the subtype
-abbrev pub FitsIfAny : Scope → Subtype → Option ExprTree → Type 0
-FitsIfAny s t (Some e) = IsFit s t e
-FitsIfAny s t None = ⊤
-
--- there is an entry for each name
-pub record HasEntries (v : Visible) : Type 0 where
-  pub slots : length v.slots ≡ length v.scope
-  pub subprograms : length v.subprograms ≡ length v.scope
 
 -- the same frame, where other names are visible
 abbrev pub seeing : Framed → Visible → Framed
@@ -319,20 +217,6 @@ pub record AddsParts (v : Visible) (w : Ways) (old : Draft) (all : List (ExprTre
   pub waiting : List ℕ
   pub after_is : after ≡ before ++ waiting
   pub emits : EmitsOpen (AreParts w all) v w 0 old (elsifs_bound v.scope (elsifs_of all)) waiting new
-
--- ---- loops
-
--- a jump over the way out, and the way out, whose place waits for the end
-pub record BeginsLoop (old : Code) (new : Code) : Type 0 where
-  pub skipped : Code
-  pub skips : Adds old 0 (op.Jump (here old + 2)) skipped
-  pub leaves : Adds skipped 0 (op.Jump 0) new
-
--- the jump back, and the way out leads behind it
-pub record EndsLoop (old : Code) (out back : ℕ) (new : Code) : Type 0 where
-  pub turned : Code
-  pub turns : Adds old 0 (op.Jump back) turned
-  pub patches : Patches turned out (op.Jump (here turned)) new
 
 -- ---- bodies
 

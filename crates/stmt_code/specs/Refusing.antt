@@ -1,109 +1,22 @@
 -- When code of statements isn't made: memory was refused, a limit of images would be passed, or a statement has what nothing is promised of yet.
-use Rattle.std.specs.Prelude.{◌≡◌, ℕ, suc, ◌+◌, ◌*◌, ◌<◌, max, Bool, true, false, ◌&&◌, ◌||◌, not, nat_eq, List, [], ◌∷◌, ◌++◌, length, Option, Some, None, is_none, is_some, ◌⊎◌}
-use Rattle.base.specs.declared.limits.TheConstants.{LABELS}
-use Rattle.ada_tree.specs.declared.declaration.Formal.{Formal}
-use Rattle.ada_tree.specs.declared.declaration.Mode.{Mode}
-use Rattle.ada_tree.specs.declared.declaration.Mode.TheVariants as mode
+use Rattle.std.specs.Prelude.{ℕ, ◌+◌, ◌*◌, Bool, true, false, not, List, Option, Some, None, is_none, is_some, ◌⊎◌}
 use Rattle.ada_tree.specs.declared.expression.Identifier.{Identifier}
-use Rattle.ada_tree.specs.declared.program.MainStatement.{MainStatement}
-use Rattle.ada_tree.specs.declared.program.MainStatement.TheVariants as main
 use Rattle.ada_tree.specs.declared.statement.ExceptionChoice.{ExceptionChoice}
-use Rattle.ada_tree.specs.ExpressionTree.{ArgumentTree, ArgumentTrees, Conditional, ElsifValueTrees, ExprTree, MoreArguments, MoreElsifValues, Named, NameTree, NoArguments, NoElsifValues, Parenthesized, SelectorTrees, Text, Value}
-use Rattle.ada_tree.specs.StatementTree.{AlternativeTrees, Assignment, Block, Call, Case, ChoicesTree, DeclarationTree, ElsifTrees, Exit, For, Forever, HandlerTrees, If, IterationTree, LocalObject, Loop, MoreAlternatives, MoreElsifs, MoreHandlers, MoreStmts, NoAlternatives, NoElsifs, NoHandlers, NoStmts, Null, OtherValues, RangeTree, Raise, Return, StmtTree, StmtTrees, Values, While}
-use Rattle.ada_tree.specs.Size.{elsif_values_size, expr_size, total}
-use Rattle.image.specs.declared.instruction.Region.TheVariants as regions
-use Rattle.types.specs.declared.entity.FormalParameter.{FormalParameter}
-use Rattle.types.specs.declared.entity.Subtype.{Subtype}
-use Rattle.types.specs.declared.standing.Standing.{Standing}
-use Rattle.types.specs.declared.standing.Standing.TheVariants as standing
-use Rattle.types.specs.Entities.{Booleans, Entity, Integers, Object, Profile, TypeForm}
-use Rattle.types.specs.Layouts.{words_of}
-use Rattle.types.specs.Scopes.{Scope, form_at, number_of}
-use Rattle.types.specs.Scopes as scopes
-use Rattle.types.specs.Shapes.{Grouped, Logical, MoreShapes, NoShapes, Ranged, Repeated, Shape, Shapeless, Shapes, Timed, shape_of}
-use Rattle.types.specs.Standings.{standing_of, stands_first}
-use Rattle.types.specs.Statics.{static_fault}
-use Rattle.type_rules.specs.SubtypeNames.{subtype_of}
+use Rattle.ada_tree.specs.ExpressionTree.{ExprTree}
+use Rattle.ada_tree.specs.StatementTree.{AlternativeTrees, Assignment, Block, Call, Case, DeclarationTree, ElsifTrees, Exit, For, Forever, HandlerTrees, If, IterationTree, Loop, MoreAlternatives, MoreElsifs, MoreHandlers, MoreStmts, NoAlternatives, NoElsifs, NoHandlers, NoStmts, Null, RangeTree, Raise, Return, StmtTree, StmtTrees, While}
+use Rattle.ada_tree.specs.Size.{expr_size}
 use Rattle.declaring.specs.BodyNames.{loop_scope}
-use Rattle.declaring.specs.LocalRules.{local_scope}
-use Rattle.sound_steps.specs.Fitting.{entity_named}
-use Rattle.expr_code.specs.Branches.{Branch}
 use Rattle.expr_code.specs.Code.{here}
-use Rattle.expr_code.specs.Emitting.{is_composite}
-use Rattle.expr_code.specs.Refusing.{IsRefused, IsRefusedBeside, IsUnfit, checked_peak, is_fit, is_outside, is_passable, peak, selectors_outside, selectors_peak}
-use Rattle.expr_code.specs.Seeing.{profile_named, slot_of, subprogram_of}
-use Rattle.expr_code.specs.declared.code.Code.{Code}
 use Rattle.expr_code.specs.declared.refusal.Refusal.{Refusal}
-use Rattle.expr_code.specs.declared.refusal.Refusal.TheVariants as refusal
-use Rattle.expr_code.specs.declared.visible.Slot.{Slot}
 use Rattle.expr_code.specs.declared.visible.Visible.{Visible}
-use Rattle.stmt_code.specs.Formals.{passed_for, placed_words, returned_more}
-use Rattle.stmt_code.specs.Bounds.{alternatives_bound, declarations_bound, elsifs_bound, handlers_bound, local_words, locals_words, run_bound, sequence_bound, stmt_bound, stmts_bound, words_named}
-use Rattle.stmt_code.specs.Labels.{alternatives_labels, elsifs_labels, handlers_labels, stmt_labels, stmts_labels}
-use Rattle.stmt_code.specs.Lines.{LabelledValue, is_put, line_of}
-use Rattle.stmt_code.specs.Moves.{alone}
-use Rattle.stmt_code.specs.Moving.{moves}
-use Rattle.stmt_code.specs.Passing.{actuals_behind, copied_width, holds_variables}
-use Rattle.stmt_code.specs.Raising.{are_numbered, number_among}
-use Rattle.stmt_code.specs.Statements.{Ways}
-use Rattle.stmt_code.specs.Suiting.{passed_width}
-use Rattle.stmt_code.specs.declared.call.Destination.{Destination}
+use Rattle.part_code.specs.Bounds.{alternatives_bound, declarations_bound, elsifs_bound, handlers_bound, locals_words, run_bound, sequence_bound, stmt_bound, stmts_bound}
+use Rattle.part_code.specs.Labels.{alternatives_labels, elsifs_labels, handlers_labels, stmt_labels, stmts_labels}
+use Rattle.part_code.specs.Raising.{are_numbered, number_among}
+use Rattle.part_code.specs.Statements.{Ways}
 use Rattle.stmt_code.specs.declared.draft.Draft.{Draft}
-use Rattle.stmt_code.specs.declared.formals.PlacedFormal.{PlacedFormal}
+use Rattle.part_code.specs.Needs.{Needs, nothing, beyond_if, beyond, framed, stacked_unless, both, needs_above, value_needs, with_object, locals_visible, locals_needs, assignment_needs, call_needs, choices_needs, IsNeeding, HasManyLabels}
 
 -- ---- what code needs
-
--- The words on the operand stack, and those of the frame with all that are taken in front of it, where they are most; whether a value of its expressions may have
--- words that no image has; and whether code isn't made for a part.
-pub record Needs : Type 0 where
-  pub stack : ℕ
-  pub frame : ℕ
-  pub unfit : Bool
-  pub outside : Bool
-
-abbrev pub nothing : Needs
-nothing = record { stack = 0; frame = 0; unfit = false; outside = false }
-
--- of what code isn't made for, where a test says so
-abbrev pub beyond_if : Bool → Needs
-beyond_if b = record { stack = 0; frame = 0; unfit = false; outside = b }
-
-abbrev pub beyond : Needs
-beyond = beyond_if true
-
--- so many words of the operand stack, or of the frame
-abbrev pub stacked : ℕ → Needs
-stacked n = record { stack = n; frame = 0; unfit = false; outside = false }
-
-abbrev pub framed : ℕ → Needs
-framed n = record { stack = 0; frame = n; unfit = false; outside = false }
-
--- so many words of the operand stack, where a test says whether code is made
-abbrev pub stacked_unless : Bool → ℕ → Needs
-stacked_unless b n = record { stack = n; frame = 0; unfit = false; outside = b }
-
--- the code of both, one behind the other or beside each other
-abbrev pub both : Needs → Needs → Needs
-both a b = record { stack = max a.stack b.stack; frame = max a.frame b.frame; unfit = a.unfit || b.unfit; outside = a.outside || b.outside }
-
--- an object that is visible takes no words, or more than an image may have, or a part of it does
-abbrev pub is_unfit : Scope → Entity → Bool
-is_unfit s (Object r t) = not (is_fit (shape_of s t))
-is_unfit s e = false
-
-abbrev pub are_unfit : Scope → List scopes.Named → Bool
-are_unfit s [] = false
-are_unfit s (n ∷ rest) = is_unfit s n.entity || are_unfit s rest
-
-abbrev pub has_unfit : Visible → Bool
-has_unfit v = are_unfit v.scope v.scope
-
--- of a value above so many words
-abbrev pub needs_above : (depth : ℕ) → Visible → ExprTree → Needs
-needs_above depth v e = record { stack = depth + peak v.scope e; frame = 0; unfit = has_unfit v; outside = is_outside v e }
-
-abbrev pub value_needs : Visible → ExprTree → Needs
-value_needs v e = needs_above 0 v e
 
 abbrev pub needs_if_any : Visible → Option ExprTree → Needs
 needs_if_any v None = nothing
@@ -113,7 +26,7 @@ needs_if_any v (Some e) = value_needs v e
 
 -- what is visible there, the words of the frame that are taken, whether a loop stands around it, whether a return may be left by, whether a handler stands around
 -- it, and the program's exceptions
-pub record Around : Type 0 where
+pub record Standpoint : Type 0 where
   pub visible : Visible
   pub taken : ℕ
   pub looped : Bool
@@ -121,7 +34,7 @@ pub record Around : Type 0 where
   pub handled : Bool
   pub exceptions : List (List ℕ)
 
-abbrev pub around : Visible → Ways → Draft → Around
+abbrev pub around : Visible → Ways → Draft → Standpoint
 around v w d =
     record {
       visible = v;
@@ -132,31 +45,14 @@ around v w d =
       exceptions = d.exceptions.items;
     }
 
-abbrev pub inside_loop : Around → Around
+abbrev pub inside_loop : Standpoint → Standpoint
 inside_loop a = record a { looped = true }
 
--- a name more is visible, of an object whose words are taken next
-abbrev pub with_object : Visible → Scope → (taken : ℕ) → Visible
-with_object v s taken =
-    record {
-      scope = s;
-      slots = v.slots ++ Some (record { region = regions.Locals; offset = taken }) ∷ [];
-      subprograms = v.subprograms ++ None ∷ [];
-    }
-
-abbrev pub local_visible : Visible → (taken : ℕ) → DeclarationTree → Visible
-local_visible v taken d = with_object v (local_scope v.scope d) taken
-
--- what is visible behind declarations
-abbrev pub locals_visible : Visible → (taken : ℕ) → List DeclarationTree → Visible
-locals_visible v taken [] = v
-locals_visible v taken (d ∷ ds) = locals_visible (local_visible v taken d) (taken + local_words v.scope d) ds
-
 -- in a loop over a range, which takes two words: those of its parameter and of the parameter's last value
-abbrev pub counted_visible : Around → Identifier → RangeTree → Visible
+abbrev pub counted_visible : Standpoint → Identifier → RangeTree → Visible
 counted_visible a parameter range = with_object a.visible (loop_scope a.visible.scope parameter range) a.taken
 
-abbrev pub inside_counted : Around → Identifier → RangeTree → Around
+abbrev pub inside_counted : Standpoint → Identifier → RangeTree → Standpoint
 inside_counted a parameter range =
     record {
       visible = counted_visible a parameter range;
@@ -167,7 +63,7 @@ inside_counted a parameter range =
       exceptions = a.exceptions;
     }
 
-abbrev pub behind_locals : Around → List DeclarationTree → Around
+abbrev pub behind_locals : Standpoint → List DeclarationTree → Standpoint
 behind_locals a ds =
     record {
       visible = locals_visible a.visible a.taken ds;
@@ -178,241 +74,7 @@ behind_locals a ds =
       exceptions = a.exceptions;
     }
 
--- ---- declarations
-
--- code has no word for the value of an object without initial value: one of times or spans, or what is no value
-abbrev mutual
-  pub lacks_word : Shape → Bool
-  lacks_word (Ranged first) = false
-  lacks_word Logical = false
-  lacks_word Timed = true
-  lacks_word (Repeated many x) = lacks_word x
-  lacks_word (Grouped parts) = lack_word parts
-  lacks_word Shapeless = true
-
-  pub lack_word : Shapes → Bool
-  lack_word NoShapes = false
-  lack_word (MoreShapes name x rest) = lacks_word x || lack_word rest
-
--- ... the single word of one that is neither an array nor a record
-abbrev pub lacks_single : Option TypeForm → Bool
-lacks_single (Some Integers) = false
-lacks_single (Some Booleans) = false
-lacks_single form = true
-
-abbrev pub single_needs : Visible → Subtype → Option ExprTree → Needs
-single_needs v t None = stacked_unless (lacks_single (form_at v.scope t.type_number)) 1
-single_needs v t (Some e) = record { stack = checked_peak (peak v.scope e); frame = 0; unfit = has_unfit v; outside = not (is_passable v.scope t) || is_outside v e }
-
--- That of an initial value of a subtype, above the place of several words.
-abbrev pub initial_needs : Visible → Subtype → Option ExprTree → Needs
-initial_needs v t None = stacked_unless (lacks_word (shape_of v.scope t) || nat_eq (words_of v.scope t) 0) (suc (words_of v.scope t))
-initial_needs v t (Some e) =
-    record {
-      stack = suc (max (words_of v.scope t) (checked_peak (peak v.scope e)));
-      frame = 0;
-      unfit = has_unfit v || not (is_fit (shape_of v.scope t));
-      outside = not (is_passable v.scope t || is_composite (form_at v.scope t.type_number)) || is_outside v e;
-    }
-
-abbrev pub object_needs : Visible → (taken : ℕ) → Option Subtype → Option ExprTree → Needs
-object_needs v taken None value = beyond
-object_needs v taken (Some t) value = both (framed (taken + words_of v.scope t)) (initial_needs v t value)
-
-abbrev pub local_needs : Visible → (taken : ℕ) → DeclarationTree → Needs
-local_needs v taken (LocalObject d) = object_needs v taken (subtype_of v.scope d.subtype) d.value
-local_needs v taken d = beyond
-
-abbrev pub locals_needs : Visible → (taken : ℕ) → List DeclarationTree → Needs
-locals_needs v taken [] = nothing
-locals_needs v taken (d ∷ ds) = both (local_needs v taken d) (locals_needs (local_visible v taken d) (taken + local_words v.scope d) ds)
-
--- ---- assignments
-
--- its words are those of a frame or of the package; to those of protected objects nothing is stored yet
-abbrev pub is_stored : Option Slot → Bool
-is_stored None = false
-is_stored (Some x) = holds_variables x.region
-
-abbrev pub is_object : Standing → Bool
-is_object (standing.Part r t) = true
-is_object w = false
-
--- of the address of a variable with this name, or of a part of it, above so many words
-abbrev pub address_needs : (depth : ℕ) → Visible → Identifier → SelectorTrees → Needs
-address_needs depth v first path =
-    record {
-      stack = depth + selectors_peak v.scope 1 path;
-      frame = 0;
-      unfit = has_unfit v;
-      outside = not (is_object (stands_first v.scope (number_of v.scope first.name)) && is_stored (slot_of v first.name)) || selectors_outside v path;
-    }
-
-abbrev pub words_at : Scope → Standing → ℕ
-words_at s (standing.Part r t) = words_of s t
-words_at s w = 0
-
--- code checks its values, or they need no check
-abbrev pub is_taken : Scope → Subtype → Bool
-is_taken s t = is_passable s t || is_composite (form_at s t.type_number)
-
-abbrev pub takes_value : Scope → Standing → Bool
-takes_value s (standing.Part r t) = is_taken s t
-takes_value s w = false
-
--- of the value, above the address of what it is assigned to
-abbrev pub assigned_needs : Visible → Standing → ExprTree → Needs
-assigned_needs v target e =
-    record {
-      stack = suc (max (words_at v.scope target) (checked_peak (peak v.scope e)));
-      frame = 0;
-      unfit = has_unfit v;
-      outside = not (takes_value v.scope target) || is_outside v e;
-    }
-
--- where the value stands on the operand stack
-abbrev pub stored_needs : Visible → NameTree → ExprTree → Needs
-stored_needs v name e = both (address_needs 0 v name.first name.selectors) (assigned_needs v (standing_of v.scope name.first name.selectors) e)
-
-abbrev mutual
-  -- of what moves a value, above the address of what it is assigned to: conditions, and the address of what is named
-  pub move_needs : Visible → ExprTree → Needs
-  move_needs v (Named first selectors) = address_needs 1 v first selectors
-  move_needs v (Parenthesized place e) = move_needs v e
-  move_needs v (Conditional place condition value elsifs last) =
-      both (needs_above 1 v condition) (both (move_needs v value) (both (moves_needs v elsifs) (move_needs v last)))
-  move_needs v e = beyond
-
-  pub moves_needs : Visible → ElsifValueTrees → Needs
-  moves_needs v NoElsifValues = nothing
-  moves_needs v (MoreElsifValues condition value rest) = both (needs_above 1 v condition) (both (move_needs v value) (moves_needs v rest))
-
--- where it is moved from other variables, or from parts of them
-abbrev pub moved_needs : Visible → NameTree → ExprTree → Needs
-moved_needs v name e = both (address_needs 0 v name.first name.selectors) (move_needs v e)
-
-abbrev pub needs_by : Visible → NameTree → ExprTree → (moved : Bool) → Needs
-needs_by v name e false = stored_needs v name e
-needs_by v name e true = moved_needs v name e
-
-abbrev pub assignment_needs : Visible → NameTree → ExprTree → Needs
-assignment_needs v name e = needs_by v name e (moves v name e)
-
--- ---- lines
-
--- of a line: its value
-abbrev pub line_needs : Visible → Option LabelledValue → Needs
-line_needs v None = beyond
-line_needs v (Some line) = value_needs v line.value
-
 -- ---- calls of procedures
-
--- of an actual parameter of mode `in`: its value, checked
-abbrev pub in_needs : (depth : ℕ) → Visible → Subtype → ExprTree → Needs
-in_needs depth v t e =
-    record {
-      stack = depth + max (words_of v.scope t) (checked_peak (peak v.scope e));
-      frame = 0;
-      unfit = has_unfit v || not (is_fit (shape_of v.scope t));
-      outside = not (is_taken v.scope t) || is_outside v e;
-    }
-
--- of one of mode `out`: the address of what it names
-abbrev pub target_needs : (depth : ℕ) → Visible → ExprTree → Needs
-target_needs depth v (Named first path) = address_needs depth v first path
-target_needs depth v e = beyond
-
--- a number is checked beside both bounds
-abbrev pub check_words : Option TypeForm → ℕ
-check_words (Some Integers) = 2
-check_words form = 0
-
--- of one of mode `in out` the value too, so many words above the address, which is checked against the subtype of the parameter
-abbrev pub copied_needs : (depth : ℕ) → Visible → (words : ℕ) → Subtype → Needs
-copied_needs depth v words t =
-    record {
-      stack = depth + suc (max 1 (words + check_words (form_at v.scope t.type_number)));
-      frame = 0;
-      unfit = has_unfit v;
-      outside = not (is_taken v.scope t);
-    }
-
-abbrev pub in_out_needs : (depth : ℕ) → Visible → Subtype → ExprTree → Needs
-in_out_needs depth v t (Named first path) = both (address_needs depth v first path) (copied_needs depth v (words_at v.scope (standing_of v.scope first path)) t)
-in_out_needs depth v t e = beyond
-
-abbrev pub moded_needs : (depth : ℕ) → Visible → FormalParameter → ExprTree → Needs
-moded_needs depth v f e =
-    elim f.mode [ mode.In ↦ in_needs depth v f.subtype e | mode.Out ↦ target_needs depth v e | mode.InOut ↦ in_out_needs depth v f.subtype e ]
-
-abbrev pub actual_needs : (depth : ℕ) → Visible → FormalParameter → ArgumentTree → Needs
-actual_needs depth v f (Value e) = moded_needs depth v f e
-actual_needs depth v f (Text label place) = beyond
-
--- from left to right, each above the words that are passed in front of it
-abbrev pub actuals_needs : (height : ℕ) → Visible → List FormalParameter → ArgumentTrees → Needs
-actuals_needs height v fs NoArguments = nothing
-actuals_needs height v [] (MoreArguments a rest) = beyond
-actuals_needs height v (f ∷ fs) (MoreArguments a rest) = both (actual_needs height v f a) (actuals_needs (height + passed_width v.scope f) v fs rest)
-
--- where they are copied back to
-abbrev pub destination_at : Option Slot → Standing → List Destination
-destination_at (Some x) (standing.Part r t) = record { region = x.region; subtype = t } ∷ []
-destination_at x w = []
-
-abbrev pub destinations_named : Visible → ExprTree → List Destination
-destinations_named v (Named first path) = destination_at (slot_of v first.name) (standing_of v.scope first path)
-destinations_named v e = []
-
-abbrev pub destinations_if : Visible → Mode → ExprTree → List Destination
-destinations_if v m e = elim m [ mode.In ↦ [] | mode.Out ↦ destinations_named v e | mode.InOut ↦ destinations_named v e ]
-
-abbrev pub destinations_for : Visible → FormalParameter → ArgumentTree → List Destination
-destinations_for v f (Value e) = destinations_if v f.mode e
-destinations_for v f (Text label place) = []
-
-abbrev pub destinations_of : Visible → List FormalParameter → ArgumentTrees → List Destination
-destinations_of v fs NoArguments = []
-destinations_of v [] (MoreArguments a rest) = []
-destinations_of v (f ∷ fs) (MoreArguments a rest) = destinations_for v f a ++ destinations_of v fs rest
-
--- of a copy back: the check of the value on top of so many words
-abbrev pub copy_needs : Visible → (height : ℕ) → Destination → Needs
-copy_needs v height d =
-    record {
-      stack = height + check_words (form_at v.scope d.subtype.type_number);
-      frame = 0;
-      unfit = has_unfit v;
-      outside = not (holds_variables d.region && is_taken v.scope d.subtype);
-    }
-
--- of all, from the first one on
-abbrev pub copies_needs : Visible → List Destination → Needs
-copies_needs v [] = nothing
-copies_needs v (d ∷ ds) = both (copy_needs v (total (copied_width v.scope) (d ∷ ds)) d) (copies_needs v ds)
-
--- wherever what it is copied back to is unfit, something that is visible is
-abbrev pub IsPartFit : Visible → Destination → Type 0
-IsPartFit v d = IsUnfit v.scope d.subtype → has_unfit v ≡ true
-
-abbrev pub passed_needs : Visible → List FormalParameter → Option ArgumentTrees → Needs
-passed_needs v fs None = beyond
-passed_needs v fs (Some all) =
-    both (actuals_needs 0 v fs all) (both (stacked (total (passed_width v.scope) fs)) (copies_needs v (destinations_of v fs all)))
-
-abbrev pub invoked_needs : Visible → NameTree → Profile → Needs
-invoked_needs v name profile =
-    both (beyond_if (is_none (subprogram_of v name.first.name))) (passed_needs v profile.formals (actuals_behind name.selectors))
-
-abbrev pub put_needs : Visible → NameTree → Needs
-put_needs v name = both (beyond_if (not (is_put (entity_named v.scope name.first.name)))) (line_needs v (line_of name))
-
-abbrev pub called_needs : Visible → NameTree → Option Profile → Needs
-called_needs v name (Some profile) = invoked_needs v name profile
-called_needs v name None = put_needs v name
-
-abbrev pub call_needs : Visible → NameTree → Needs
-call_needs v name = called_needs v name (profile_named v.scope name.first.name)
 
 -- a return of a value has no code yet
 abbrev pub return_needs : (returns : Bool) → Option ExprTree → Needs
@@ -420,41 +82,32 @@ return_needs returns None = beyond_if (not returns)
 return_needs returns (Some e) = beyond
 
 -- of a raise: its exception, which is one of the program, or that of a handler around
-abbrev pub raise_needs : Around → Option Identifier → Needs
+abbrev pub raise_needs : Standpoint → Option Identifier → Needs
 raise_needs a (Some name) = stacked_unless (is_none (number_among a.exceptions name.name)) 1
 raise_needs a None = stacked_unless (not a.handled) 1
 
 -- ---- statements
 
--- choices are static, and tested by three words
-abbrev pub choices_fault : Scope → List ExprTree → Bool
-choices_fault s [] = false
-choices_fault s (c ∷ cs) = is_some (static_fault s c) || choices_fault s cs
-
-abbrev pub choices_needs : Scope → ChoicesTree → Needs
-choices_needs s (Values cs) = stacked_unless (choices_fault s cs) 3
-choices_needs s (OtherValues place) = stacked 1
-
 -- of the head of a loop: its condition, or the bounds of its range, of which the second is evaluated above the first
-abbrev pub head_needs : Around → IterationTree → Needs
+abbrev pub head_needs : Standpoint → IterationTree → Needs
 head_needs a Forever = nothing
 head_needs a (While condition) = value_needs a.visible condition
 head_needs a (For parameter reversed range) =
     both (framed (a.taken + 2)) (both (value_needs a.visible range.first) (needs_above 1 a.visible range.last))
 
-abbrev pub in_loop : Around → IterationTree → Around
+abbrev pub in_loop : Standpoint → IterationTree → Standpoint
 in_loop a (For parameter reversed range) = inside_counted a parameter range
 in_loop a iteration = inside_loop a
 
 -- of a handler: the exception on the operand stack, and a word of the frame for it; each choice is one of the program's exceptions, or stands for all
-abbrev pub handler_needs : Around → List ExceptionChoice → Needs
+abbrev pub handler_needs : Standpoint → List ExceptionChoice → Needs
 handler_needs a choices = record { stack = 1; frame = a.taken + 1; unfit = false; outside = not (are_numbered a.exceptions choices) }
 
-abbrev pub inside_handler : Around → Around
+abbrev pub inside_handler : Standpoint → Standpoint
 inside_handler a = record a { taken = a.taken + 1; handled = true }
 
 abbrev mutual
-  pub stmt_needs : Around → StmtTree → Needs
+  pub stmt_needs : Standpoint → StmtTree → Needs
   stmt_needs a (Null place) = nothing
   stmt_needs a (Assignment target value) = assignment_needs a.visible target value
   stmt_needs a (Call name) = call_needs a.visible name
@@ -469,39 +122,29 @@ abbrev mutual
       both (locals_needs a.visible a.taken ds) (both (stmts_needs (behind_locals a ds) body) (handlers_needs (behind_locals a ds) all))
   stmt_needs a other = beyond
 
-  pub stmts_needs : Around → StmtTrees → Needs
+  pub stmts_needs : Standpoint → StmtTrees → Needs
   stmts_needs a NoStmts = nothing
   stmts_needs a (MoreStmts x rest) = both (stmt_needs a x) (stmts_needs a rest)
 
-  pub elsifs_needs : Around → ElsifTrees → Needs
+  pub elsifs_needs : Standpoint → ElsifTrees → Needs
   elsifs_needs a NoElsifs = nothing
   elsifs_needs a (MoreElsifs condition body rest) = both (value_needs a.visible condition) (both (stmts_needs a body) (elsifs_needs a rest))
 
-  pub alternatives_needs : Around → AlternativeTrees → Needs
+  pub alternatives_needs : Standpoint → AlternativeTrees → Needs
   alternatives_needs a NoAlternatives = nothing
   alternatives_needs a (MoreAlternatives place choices body rest) =
       both (choices_needs a.visible.scope choices) (both (stmts_needs a body) (alternatives_needs a rest))
 
-  pub handlers_needs : Around → HandlerTrees → Needs
+  pub handlers_needs : Standpoint → HandlerTrees → Needs
   handlers_needs a NoHandlers = nothing
   handlers_needs a (MoreHandlers choices body rest) =
       both (handler_needs a choices) (both (stmts_needs (inside_handler a) body) (handlers_needs a rest))
 
 -- of statements with their handlers
-abbrev pub sequence_needs : Around → StmtTrees → HandlerTrees → Needs
+abbrev pub sequence_needs : Standpoint → StmtTrees → HandlerTrees → Needs
 sequence_needs a body all = both (stmts_needs a body) (handlers_needs a all)
 
 -- ---- refusals
-
--- Why code is refused that would end behind so many instructions and needs this: memory may always be refused, and the words of the frame are as few as those of
--- the operand stack may be.
-abbrev pub IsNeeding : (instructions : ℕ) → Needs → Refusal → Type 0
-IsNeeding instructions n why = IsRefusedBeside (n.unfit ≡ true) instructions (max n.stack n.frame) n.outside why
-
--- There are too many labels.
-abbrev pub HasManyLabels : (labels : List (List ℕ)) → Refusal → Type 0
-HasManyLabels labels refusal.Limit = LABELS < length labels
-HasManyLabels labels why = ⊥
 
 -- Why code isn't added to a draft behind which there would be these labels.
 abbrev pub Refuses : (old : Draft) → (labels : List (List ℕ)) → (bound : ℕ) → Needs → Refusal → Type 0
@@ -537,37 +180,6 @@ RefusesDeclarations v old ds why = IsNeeding (here old.code + declarations_bound
 
 -- ---- code that is added by parts
 
--- what moves a value, or those of branches
-abbrev pub RefusesMove : Visible → (old : Code) → ExprTree → Refusal → Type 0
-RefusesMove v old e why = IsNeeding (here old + 20 * expr_size e) (move_needs v e) why
-
-abbrev pub RefusesMoves : Visible → (old : Code) → List Branch → Refusal → Type 0
-RefusesMoves v old all why = IsNeeding (here old + 20 * elsif_values_size (alone all)) (moves_needs v (alone all)) why
-
--- the instructions of an object's initial value, and so many more
-abbrev pub initial_bound : Scope → Subtype → Option ExprTree → ℕ
-initial_bound s t None = words_of s t
-initial_bound s t (Some e) = 3 + 20 * expr_size e
-
-abbrev pub RefusesInitial : Visible → (old : Code) → Subtype → Option ExprTree → (more : ℕ) → Refusal → Type 0
-RefusesInitial v old t value more why = IsNeeding (here old + (more + initial_bound v.scope t value)) (initial_needs v t value) why
-
--- ... of one of a single word
-abbrev pub single_bound : Option ExprTree → ℕ
-single_bound None = 1
-single_bound (Some e) = 3 + 20 * expr_size e
-
-abbrev pub RefusesSingle : Visible → (old : Code) → Subtype → Option ExprTree → (more : ℕ) → Refusal → Type 0
-RefusesSingle v old t value more why = IsNeeding (here old + (more + single_bound value)) (single_needs v t value) why
-
--- the words of an object without initial value, one by one, above so many others
-abbrev pub RefusesWords : Scope → (old : Code) → (height : ℕ) → Subtype → Refusal → Type 0
-RefusesWords s old height t why = IsNeeding (here old + words_of s t) (stacked_unless (lacks_word (shape_of s t)) (height + words_of s t)) why
-
--- choices of an alternative, by so many instructions
-abbrev pub RefusesChoices : Scope → (old : Code) → ChoicesTree → (bound : ℕ) → Refusal → Type 0
-RefusesChoices s old choices bound why = IsNeeding (here old + bound) (choices_needs s choices) why
-
 -- the head of a loop over a range
 abbrev pub RefusesRange : Visible → (old : Draft) → Identifier → (reversed : Bool) → RangeTree → Refusal → Type 0
 RefusesRange v old parameter reversed range why =
@@ -577,7 +189,7 @@ RefusesRange v old parameter reversed range why =
 -- ---- bodies
 
 -- the ways out of a body: a return alone
-abbrev pub in_body : Visible → (taken : ℕ) → (exceptions : List (List ℕ)) → Around
+abbrev pub in_body : Visible → (taken : ℕ) → (exceptions : List (List ℕ)) → Standpoint
 in_body v taken exceptions = record { visible = v; taken = taken; looped = false; returns = true; handled = false; exceptions = exceptions }
 
 abbrev pub run_needs : Visible → (taken : ℕ) → (exceptions : List (List ℕ)) → List DeclarationTree → StmtTrees → HandlerTrees → Needs
@@ -587,74 +199,3 @@ abbrev pub RefusesRun : Visible → (old : Draft) → List DeclarationTree → S
 RefusesRun v old ds body all why =
     Refuses old (handlers_labels (stmts_labels old.labels body) all) (run_bound v.scope ds body all)
     (run_needs v old.words.taken old.exceptions.items ds body all) why
-
--- ---- formal parameters
-
--- the word behind one, of those that are passed or of the others
-abbrev pub placed_end : Mode → (many from out : ℕ) → ℕ
-placed_end mode.In many from out = from + many
-placed_end mode.Out many from out = max (from + 1) (out + many)
-placed_end mode.InOut many from out = (from + 1) + many
-
--- The words that are passed for them, and those of values that are not copied in.
-abbrev pub out_for : Scope → Formal → ℕ
-out_for s f = elim f.mode [ mode.In ↦ 0 | mode.Out ↦ words_named s f.subtype | mode.InOut ↦ 0 ]
-
-abbrev pub formals_frame : Scope → List Formal → ℕ
-formals_frame s fs = total (passed_for s) fs + total (out_for s) fs
-
--- what is named as its subtype is none, or one whose values have no words
-abbrev pub is_wordless : Scope → Formal → Bool
-is_wordless s f = nat_eq (words_named s f.subtype) 0
-
-abbrev pub are_wordless : Scope → List Formal → Bool
-are_wordless s [] = false
-are_wordless s (f ∷ fs) = is_wordless s f || are_wordless s fs
-
-abbrev pub formals_needs : Scope → List Formal → Needs
-formals_needs s fs = record { stack = 0; frame = formals_frame s fs; unfit = false; outside = are_wordless s fs }
-
-abbrev pub RefusesFormals : Scope → List Formal → Refusal → Type 0
-RefusesFormals s fs why = IsNeeding 0 (formals_needs s fs) why
-
--- the first values of `out` parameters, placed in the frame
-abbrev pub out_needs : Visible → PlacedFormal → Needs
-out_needs v x = elim x.mode [ mode.In ↦ nothing | mode.Out ↦ initial_needs v x.subtype None | mode.InOut ↦ nothing ]
-
-abbrev pub outs_needs : Visible → List PlacedFormal → Needs
-outs_needs v [] = nothing
-outs_needs v (x ∷ xs) = both (out_needs v x) (outs_needs v xs)
-
-abbrev pub RefusesOut : Visible → (old : Code) → PlacedFormal → Refusal → Type 0
-RefusesOut v old x why = IsNeeding (here old + (2 + words_of v.scope x.subtype)) (out_needs v x) why
-
-abbrev pub RefusesOuts : Visible → (old : Code) → List PlacedFormal → Refusal → Type 0
-RefusesOuts v old xs why = IsNeeding (here old + (2 * length xs + total (placed_words v.scope) xs)) (outs_needs v xs) why
-
--- The address and the value that are given back, on the operand stack: a value has a word at least.
-abbrev pub given_back : Scope → PlacedFormal → ℕ
-given_back s x = suc (max 1 (words_of s x.subtype))
-
-abbrev pub given_if_any : Scope → PlacedFormal → ℕ
-given_if_any s x = returned_more x.address (max 1 (words_of s x.subtype)) 0
-
-abbrev pub all_given : Scope → List PlacedFormal → ℕ
-all_given s [] = 0
-all_given s (x ∷ xs) = given_if_any s x + all_given s xs
-
-abbrev pub RefusesReturned : Scope → (old : Code) → List PlacedFormal → Refusal → Type 0
-RefusesReturned s old xs why = IsRefused (here old + suc (3 * length xs)) (all_given s xs) false why
-
--- ---- main
-
--- a procedure that it calls has no number
-abbrev pub is_unknown : Visible → MainStatement → Bool
-is_unknown v (main.Null place) = false
-is_unknown v (main.Call package_ procedure) = is_none (subprogram_of v procedure.name)
-
-abbrev pub are_unknown : Visible → List MainStatement → Bool
-are_unknown v [] = false
-are_unknown v (x ∷ rest) = is_unknown v x || are_unknown v rest
-
-abbrev pub RefusesMain : Visible → (old : Code) → List MainStatement → (bound : ℕ) → Refusal → Type 0
-RefusesMain v old all bound why = IsNeeding (here old + bound) (beyond_if (are_unknown v all)) why

@@ -4,10 +4,11 @@ use Rattle.ada_tree.specs.declared.expression.Identifier.{Identifier}
 use Rattle.ada_tree.specs.StatementTree.{AlternativeTrees, DeclarationTree, ElsifTrees, For, HandlerTrees, RangeTree, StmtTree, StmtTrees}
 use Rattle.expr_code.specs.Code.{IsShallow}
 use Rattle.expr_code.specs.declared.visible.Visible.{Visible}
-use Rattle.stmt_code.specs.Labels.{alternatives_labels, elsifs_labels, handlers_labels, stmt_labels, stmts_labels}
-use Rattle.stmt_code.specs.Rows.{alternatives_rows, bodies_rows, elsifs_rows, handlers_rows, stmt_rows, stmts_rows}
-use Rattle.stmt_code.specs.Refusing.{Needs, alternatives_needs, around, elsifs_needs, handlers_needs, head_needs, locals_needs, run_needs, sequence_needs, stmt_needs, stmts_needs}
-use Rattle.stmt_code.specs.Statements.{Ways}
+use Rattle.part_code.specs.Labels.{alternatives_labels, elsifs_labels, handlers_labels, stmt_labels, stmts_labels}
+use Rattle.part_code.specs.Rows.{alternatives_rows, bodies_rows, elsifs_rows, handlers_rows, stmt_rows, stmts_rows}
+use Rattle.part_code.specs.Needs.{Needs, locals_needs}
+use Rattle.stmt_code.specs.Refusing.{alternatives_needs, around, elsifs_needs, handlers_needs, head_needs, run_needs, sequence_needs, stmt_needs, stmts_needs}
+use Rattle.part_code.specs.Statements.{Ways}
 use Rattle.stmt_code.specs.declared.draft.Draft.{Draft}
 
 -- the operand stack and the frame have no more words than they had and than this needs; these are the labels, and there are so many rows of handlers

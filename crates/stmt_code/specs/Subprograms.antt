@@ -1,16 +1,14 @@
 -- What methods promise that add the code of whole subprograms: of procedures and functions of a package, and of main (docs/CODEGEN.md).
-use Rattle.std.specs.Prelude.{◌≡◌, ℕ, suc, ◌+◌, ◌≤◌, List, [], ◌∷◌, length, map, None, Some, true, ⊤}
+use Rattle.std.specs.Prelude.{◌≡◌, ℕ, suc, ◌+◌, ◌≤◌, List, [], map, None, Some, ⊤}
 use Rattle.std.specs.List.{All}
 use Rattle.base.specs.declared.limits.TheConstants.{FRAME_WORDS, INSTRUCTIONS}
 use Rattle.ada_tree.specs.declared.declaration.Formal.{Formal}
-use Rattle.ada_tree.specs.declared.expression.Identifier.{Identifier}
 use Rattle.ada_tree.specs.declared.program.MainStatement.{MainStatement}
 use Rattle.ada_tree.specs.declared.program.MainStatement.TheVariants as main
 use Rattle.ada_tree.specs.ExpressionTree.{ExprTree}
 use Rattle.ada_tree.specs.ProgramTree.{BodyTree}
 use Rattle.ada_tree.specs.Size.{total}
 use Rattle.image.specs.Operations.{called}
-use Rattle.image.specs.Rules.{is_plain}
 use Rattle.image.specs.Sections.{Sections}
 use Rattle.image.specs.declared.instruction.Operation.TheVariants as op
 use Rattle.image.specs.declared.subprograms.Subprogram as code
@@ -24,19 +22,20 @@ use Rattle.well_typed.specs.Agreeing.{parameter_subtype}
 use Rattle.well_typed.specs.SoundScopes.{AreIn, IsKnown}
 use Rattle.expr_code.specs.Code.{Adds, Extends, Holds, StandsFrom, here}
 use Rattle.expr_code.specs.Emitting.{EmitsChecked}
-use Rattle.expr_code.specs.Flows.{AreKeptBetween, Flows}
-use Rattle.expr_code.specs.Seeing.{NamesProfile, subprogram_of}
+use Rattle.expr_code.specs.Flows.{AreKeptBetween}
+use Rattle.expr_code.specs.Seeing.{NamesProfile}
 use Rattle.expr_code.specs.Views.{At}
 use Rattle.expr_code.specs.declared.code.Code.{Code}
 use Rattle.expr_code.specs.declared.visible.Visible.{Visible}
-use Rattle.stmt_code.specs.Bounds.{function_bound, main_bound, procedure_bound}
+use Rattle.part_code.specs.Bounds.{function_bound, main_bound, procedure_bound}
 use Rattle.stmt_code.specs.Emitting.{AddsRows, EmitsRun, HasLabels}
-use Rattle.stmt_code.specs.Formals.{Initialises, PlacesFormals, Returns}
-use Rattle.stmt_code.specs.Suiting.{SuitsStatements, passed_width, returned_width}
+use Rattle.part_code.specs.Formals.{Initialises, PlacesFormals, Returns}
+use Rattle.part_code.specs.Suiting.{SuitsStatements, passed_width, returned_width}
 use Rattle.stmt_code.specs.declared.draft.Draft.{Draft}
-use Rattle.stmt_code.specs.declared.draft.FrameWords.{FrameWords}
-use Rattle.stmt_code.specs.declared.formals.PlacedFormals.{PlacedFormals}
+use Rattle.part_code.specs.declared.frame_words.FrameWords.{FrameWords}
+use Rattle.part_code.specs.declared.formals.PlacedFormals.{PlacedFormals}
 use Rattle.stmt_code.specs.declared.subprogram.SubprogramWords.{SubprogramWords}
+use Rattle.part_code.specs.MainCalls.{AddsCalls}
 
 -- code behind which a subprogram begins, of which nothing stood on the operand stack yet
 abbrev pub fresh : Code → Code
@@ -81,40 +80,6 @@ pub record AddsFunction (v : Visible) (old : Draft) (fs : List Formal) (result :
   pub locals : words.locals ≡ framed.most
   pub stack : words.stack ≡ new.code.deepest
   pub fits : words.locals + words.stack ≤ FRAME_WORDS
-
--- the calls of main, one behind the other
-abbrev pub AreCalls : Sections → Visible → (from to : ℕ) → List MainStatement → Type 0
-AreCalls i v from to [] = from ≡ to
-AreCalls i v from to (main.Null place ∷ rest) = AreCalls i v from to rest
-AreCalls i v from to (main.Call package_ procedure ∷ rest) =
-    (number : ℕ) × (subprogram_of v procedure.name ≡ Some number) × At i from (op.Call number) × AreCalls i v (suc from) to rest
-
--- the call of this procedure was added
-pub record AddsMainCall (v : Visible) (old : Code) (procedure : Identifier) (new : Code) : Type 0 where
-  pub number : ℕ
-  pub told : subprogram_of v procedure.name ≡ Some number
-  pub adds : Adds old 0 (op.Call number) new
-
--- the subprogram that is called by a number takes and gives nothing
-pub record IsBare (i : Sections) (number : ℕ) : Type 0 where
-  pub code : code.Subprogram
-  pub is : called i number ≡ Some code
-  pub plain : is_plain code.kind ≡ true
-  pub parameters : code.parameters ≡ 0
-  pub results : code.results ≡ 0
-
-abbrev pub CallsBare : Visible → Sections → MainStatement → Type 0
-CallsBare v i (main.Null place) = ⊤
-CallsBare v i (main.Call package_ procedure) = (number : ℕ) → subprogram_of v procedure.name ≡ Some number → IsBare i number
-
-abbrev pub CallBare : Visible → List MainStatement → Sections → code.Subprogram → Type 0
-CallBare v all i s = All (CallsBare v i) all
-
-pub record AddsCalls (v : Visible) (old : Code) (all : List MainStatement) (new : Code) : Type 0 where
-  pub extends : Extends old new
-  pub sized : here new ≤ here old + length all
-  pub stands : (i : Sections) → Holds i (here old) new → AreCalls i v (here old) (here new) all
-  pub flows : Flows (CallBare v all) old 0 new 0
 
 -- The code of main was added: its calls, and the return.
 pub record AddsMain (v : Visible) (old : Draft) (all : List MainStatement) (words : SubprogramWords) (new : Draft) : Type 0 where

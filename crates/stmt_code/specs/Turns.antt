@@ -1,59 +1,18 @@
 -- What methods that add parts of the code of loops over ranges promise (RM 5.5).
-use Rattle.std.specs.Prelude.{◌≡◌, ℕ, suc, pos, Bool, true, false, List, [], ◌∷◌, ◌++◌, Some, None, if◌then◌else◌}
+use Rattle.std.specs.Prelude.{◌≡◌, ℕ, suc, Bool, [], ◌∷◌, ◌++◌, Some, None}
 use Rattle.ada_tree.specs.declared.expression.Identifier.{Identifier}
 use Rattle.ada_tree.specs.StatementTree.{RangeTree}
-use Rattle.image.specs.declared.instruction.Instr.{Instr}
-use Rattle.image.specs.declared.instruction.Operation.{Operation}
-use Rattle.image.specs.declared.instruction.Operation.TheVariants as op
 use Rattle.image.specs.declared.instruction.Region.TheVariants as regions
 use Rattle.declaring.specs.BodyNames.{loop_scope}
-use Rattle.expr_code.specs.Code.{Adds, here}
 use Rattle.expr_code.specs.Emitting.{EmitsExpression}
 use Rattle.expr_code.specs.declared.code.Code.{Code}
 use Rattle.expr_code.specs.declared.visible.Visible.{Visible}
-use Rattle.stmt_code.specs.Emitting.{TakesWords}
+use Rattle.part_code.specs.Emitting.{TakesWords}
 use Rattle.stmt_code.specs.declared.draft.Draft.{Draft}
-use Rattle.stmt_code.specs.declared.range_loop.Turns.{Turns}
-
--- ---- instructions that were added, one behind another
-
-abbrev pub instruction : (depth : ℕ) → Operation → Instr
-instruction depth operation = record { depth = depth; operation = operation }
-
-abbrev pub AddsAll : (old : Code) → List Instr → (new : Code) → Type 0
-AddsAll old [] new = new ≡ old
-AddsAll old (x ∷ all) new = (next : Code) × Adds old x.depth x.operation next × AddsAll next all new
-
--- ---- the words of a loop
-
--- where each bound is kept: the parameter begins with the one, and ends with the other
-abbrev pub word_of_first : Turns → ℕ
-word_of_first t = if t.reversed then t.limit else t.counter
-
-abbrev pub word_of_last : Turns → ℕ
-word_of_last t = if t.reversed then t.counter else t.limit
-
--- what makes the next value
-abbrev pub next_operation : (reversed : Bool) → Operation
-next_operation true = op.Subtract
-next_operation false = op.Add
+use Rattle.part_code.specs.declared.turns.Turns.{Turns}
+use Rattle.part_code.specs.Turns.{BeginsTurns}
 
 -- ---- the first turn
-
--- both bounds are stored, and compared again
-abbrev pub bounds_compared : Turns → List Instr
-bounds_compared t =
-    instruction 2 (op.StoreLocal (word_of_last t)) ∷ instruction 1 (op.StoreLocal (word_of_first t)) ∷ instruction 0 (op.LoadLocal (word_of_last t))
-    ∷ instruction 1 (op.LoadLocal (word_of_first t))
-    ∷ instruction 2 op.Less
-    ∷ []
-
--- ... and then a jump where the last one is less, whose place waits
-pub record BeginsTurns (old : Code) (t : Turns) (null : ℕ) (new : Code) : Type 0 where
-  pub compared : Code
-  pub compares : AddsAll old (bounds_compared t) compared
-  pub place : null ≡ here compared
-  pub jumps : Adds compared 1 (op.JumpIfNotZero 0) new
 
 -- the bounds, the first turn's beginning, and the parameter with the first of two words that are taken
 pub record BeginsRange (v : Visible) (old : Draft) (parameter : Identifier) (reversed : Bool) (range : RangeTree) (t : Turns) (null : ℕ) (later : Visible)
@@ -73,25 +32,3 @@ pub record BeginsRange (v : Visible) (old : Draft) (parameter : Identifier) (rev
   pub scope : later.scope ≡ loop_scope v.scope parameter range
   pub slots : later.slots ≡ v.slots ++ Some (record { region = regions.Locals; offset = t.counter }) ∷ []
   pub subprograms : later.subprograms ≡ v.subprograms ++ None ∷ []
-
--- ---- the end of a turn
-
--- the parameter's value is compared with its last one
-abbrev pub values_compared : Turns → List Instr
-values_compared t = instruction 0 (op.LoadLocal t.counter) ∷ instruction 1 (op.LoadLocal t.limit) ∷ instruction 2 op.Equal ∷ []
-
--- the parameter has its next value
-abbrev pub value_counted : Turns → List Instr
-value_counted t =
-    instruction 0 (op.LoadLocal t.counter) ∷ instruction 1 (op.Push (pos 1)) ∷ instruction 2 (next_operation t.reversed)
-    ∷ instruction 1 (op.StoreLocal t.counter)
-    ∷ []
-
--- a jump where it has the last one, whose place waits, stands between the two
-pub record EndsTurn (old : Code) (t : Turns) (last : ℕ) (new : Code) : Type 0 where
-  pub compared : Code
-  pub compares : AddsAll old (values_compared t) compared
-  pub place : last ≡ here compared
-  pub tested : Code
-  pub jumps : Adds compared 1 (op.JumpIfNotZero 0) tested
-  pub counts : AddsAll tested (value_counted t) new

@@ -13,7 +13,7 @@ use Rattle.expr_code.specs.Views.{At}
 use Rattle.expr_code.specs.declared.visible.Visible.{Visible}
 use Rattle.stmt_code.specs.Emitting.{HasLabels}
 use Rattle.stmt_code.specs.Subprograms.{HasSubprogramWords, KeepsRules}
-use Rattle.stmt_code.specs.Suiting.{SuitsStatements}
+use Rattle.part_code.specs.Suiting.{SuitsStatements}
 use Rattle.stmt_code.specs.declared.draft.Draft.{Draft}
 use Rattle.stmt_code.specs.declared.subprogram.SubprogramWords.{SubprogramWords}
 

@@ -14,12 +14,13 @@ use Rattle.expr_code.specs.Code.{here}
 use Rattle.expr_code.specs.Refusing.{checked_peak, is_outside, is_passable, peak}
 use Rattle.expr_code.specs.declared.refusal.Refusal.{Refusal}
 use Rattle.expr_code.specs.declared.visible.Visible.{Visible}
-use Rattle.stmt_code.specs.Bounds.{function_bound, procedure_bound, words_named}
-use Rattle.stmt_code.specs.Formals.{no_subprogram, passed_for, slot_for}
-use Rattle.stmt_code.specs.Labels.{handlers_labels, stmts_labels}
-use Rattle.stmt_code.specs.Refusing.{HasManyLabels, IsNeeding, Needs, all_given, both, formals_frame, formals_needs, has_unfit, outs_needs, run_needs, stacked}
+use Rattle.part_code.specs.Bounds.{function_bound, procedure_bound, words_named}
+use Rattle.part_code.specs.Formals.{no_subprogram, passed_for, slot_for}
+use Rattle.part_code.specs.Labels.{handlers_labels, stmts_labels}
+use Rattle.part_code.specs.Needs.{HasManyLabels, IsNeeding, Needs, all_given, both, formals_frame, formals_needs, has_unfit, outs_needs, stacked}
+use Rattle.stmt_code.specs.Refusing.{run_needs}
 use Rattle.stmt_code.specs.declared.draft.Draft.{Draft}
-use Rattle.stmt_code.specs.declared.formals.PlacedFormal.{PlacedFormal}
+use Rattle.part_code.specs.declared.formals.PlacedFormal.{PlacedFormal}
 
 -- the words of a frame and of its operand stack stand together
 abbrev pub together : Needs → Needs

@@ -9,49 +9,22 @@ ghost use Rattle.types.specs.Scopes.{number_of};
 ghost use Rattle.types.specs.Standings.{stands_first};
 ghost use Rattle.expr_code.specs.Seeing.{slot_of};
 ghost use Rattle.stmt_code.specs.Staying.{Stays};
-ghost use Rattle.stmt_code.specs.Bounds.{stmt_bound};
-ghost use Rattle.stmt_code.specs.Emitting.{EmitsStatement, IsLegalStatement, store_operation, stored_at};
-ghost use Rattle.stmt_code.specs.Refusing.{assignment_needs, Refuses, stored_needs};
-ghost use Rattle.stmt_code.specs.Statements.{Ways};
+ghost use Rattle.part_code.specs.Bounds.{stmt_bound};
+ghost use Rattle.stmt_code.specs.Emitting.{EmitsStatement, IsLegalStatement};
+ghost use Rattle.part_code.specs.Emitting.{store_operation, stored_at};
+ghost use Rattle.part_code.specs.Needs.{assignment_needs, stored_needs};
+ghost use Rattle.stmt_code.specs.Refusing.{Refuses};
+ghost use Rattle.part_code.specs.Statements.{Ways};
 ghost use Rattle.well_typed.specs.SoundScopes.{SoundScope};
 
-use crate::call::holds_variables;
 use crate::draft::Draft;
-use crate::moving::{is_composite, names_composite};
 use ada_tree::{Expr, NameExpr};
 use expr_code::{Refusal, Slot, Visible, raised};
-use image::{Operation, Region};
 use kernel::laws::quiet_stays;
+use part_code::{holds_variables, is_composite, names_composite, store_operation, stored_at};
 use types::laws::values_have_words;
 use types::{Standing, Subtype};
 use well_typed::laws::{agreement_is_kept, calls_are_typed};
-
-/// What stores a word there, outside of protected objects.
-pub(crate) fn store_operation(slot: Slot) -> Option<Operation>
-    ensures { result ≡ store_operation slot }
-{
-    match slot.region {
-        Region::Locals => Some(Operation::StoreLocal(slot.offset)),
-        Region::Plain => Some(Operation::StorePlain(slot.offset)),
-        Region::Object => None,
-    }
-}
-
-/// What stores so many words of a value in a region, at the address below them on the operand stack, outside of protected objects.
-pub(crate) fn stored_at(region: Region, words: u16) -> Option<Operation>
-    ensures { result ≡ stored_at region words }
-{
-    let store = if words == 1 {
-        Operation::StoreIndexed(region)
-    } else {
-        Operation::StoreBlock { region, words }
-    };
-    match region {
-        Region::Locals => Some(store),
-        Region::Plain => Some(store),
-        Region::Object => None,
-    }
-}
 
 impl Draft {
     /// Adds the code of an assignment.

@@ -1,26 +1,23 @@
 //! The code of handlers (RM 11.2, 11.4), and of the statements that they cover.
-ghost use Rattle.std.specs.Prelude.{◌≡◌, ◌+◌, ◌<◌, ◌++◌, ◌∷◌, [], false, length, map, not, true, IfErr, IfOk, OnOk};
+ghost use Rattle.std.specs.Prelude.{◌≡◌, ◌+◌, ◌<◌, ◌∷◌, [], length, map, IfErr, IfOk, OnOk};
 ghost use Rattle.ada_tree.specs.StatementTree.{handler_tree, handler_trees, handlers_of, stmt_trees};
 ghost use Rattle.expr_code.specs.Code.{here};
-ghost use Rattle.expr_code.specs.Refusing.{IsRefused};
-ghost use Rattle.stmt_code.specs.Covering.{AddsCovered, AddsHandled, AddsHandlers, choice_rows, EmitsSequence};
-ghost use Rattle.stmt_code.specs.Emitting.{AreLegalStatements, AreLegalHandlers, HasEntries, ways_of};
-ghost use Rattle.stmt_code.specs.Raising.{are_numbered, choice_number};
-ghost use Rattle.stmt_code.specs.Refusing.{beyond_if, IsNeeding, RefusesCovered, RefusesHandlers, RefusesSequence};
-ghost use Rattle.stmt_code.specs.Rows.{choices_many};
+ghost use Rattle.stmt_code.specs.Covering.{AddsCovered, AddsHandled, AddsHandlers, EmitsSequence};
+ghost use Rattle.stmt_code.specs.Emitting.{AreLegalStatements, AreLegalHandlers};
+ghost use Rattle.part_code.specs.Emitting.{HasEntries, ways_of};
+ghost use Rattle.stmt_code.specs.Refusing.{RefusesCovered, RefusesHandlers, RefusesSequence};
+ghost use Rattle.part_code.specs.Rows.{choices_many};
 ghost use Rattle.stmt_code.specs.Staying.{StaysHandled, StaysHandlers, StaysSequence, StaysStatements};
 ghost use Rattle.well_typed.specs.SoundScopes.{SoundScope};
 
 use crate::draft::Draft;
-use crate::leaving::Leaving;
-use crate::raise::exception_number;
-use ada_tree::{ExceptionChoice, Handler, Stmt};
+use ada_tree::{Handler, Stmt};
 use expr_code::{Refusal, Visible};
 use handlers::Row;
 use handlers::laws::{rows_around, rows_inside};
 use image::Operation;
 use kernel::laws::quiet_stays;
-use lexer::Text;
+use part_code::{Leaving, add_choice_rows, add_rows};
 use types::laws::values_have_words;
 
 /// Statements that handlers cover: what their rows cover, and the place of the jump over the handlers, which is the last of it.
@@ -28,47 +25,6 @@ use types::laws::values_have_words;
 pub struct Cover {
     pub region: Row,
     pub jump: usize,
-}
-
-// The number for which a choice makes a row.
-fn choice_number(exceptions: &[Text], choice: &ExceptionChoice) -> Option<u16>
-    ensures { result ≡ choice_number exceptions.now choice.now }
-{
-    match choice {
-        ExceptionChoice::Exception(name) => exception_number(exceptions, &name.name),
-        ExceptionChoice::Others(_) => Some(0),
-    }
-}
-
-// Adds the rows of choices, which cover and lead to what a row does.
-fn add_choices(
-    rows: &mut Vec<Row>,
-    exceptions: &[Text],
-    row: Row,
-    choices: &[ExceptionChoice],
-) -> Result<(), Refusal>
-    ensures rows { OnOk result (rows.new.items ≡ rows.old.items ++ choice_rows exceptions.now row choices.now) }
-    ensures numbered { OnOk result (are_numbered exceptions.now choices.now ≡ true) }
-    ensures refused { IfErr result (λ why. IsNeeding 0 (beyond_if (not (are_numbered exceptions.now choices.now))) why) }
-{
-    for choice in choices {
-        let Some(exception) = choice_number(exceptions, choice) else {
-            return Err(Refusal::Outside);
-        };
-        rows.push(Row { exception, ..row })?;
-    }
-    Ok(())
-}
-
-// Adds rows behind others.
-fn add_rows(rows: &mut Vec<Row>, more: &[Row]) -> Result<(), Refusal>
-    ensures rows { OnOk result (rows.new.items ≡ rows.old.items ++ more.now) }
-    ensures refused { IfErr result (λ why. IsRefused 0 0 false why) }
-{
-    for row in more {
-        rows.push(*row)?;
-    }
-    Ok(())
 }
 
 impl Draft {
@@ -203,7 +159,7 @@ impl Draft {
         quiet_stays();
         values_have_words();
         let target = self.code.end()?;
-        add_choices(
+        add_choice_rows(
             own,
             &self.exceptions,
             Row { target, ..region },

@@ -1,62 +1,22 @@
 //! The code of lines (docs/LANGUAGE.md, `Put` of Control_IO).
-ghost use Rattle.std.specs.Prelude.{◌≡◌, length, option_map, IfErr, OnOk};
-ghost use Rattle.ada_tree.specs.ExpressionTree.{argument_trees, expr_tree, name_tree};
+ghost use Rattle.std.specs.Prelude.{length, IfErr, OnOk};
+ghost use Rattle.ada_tree.specs.ExpressionTree.{name_tree};
 ghost use Rattle.ada_tree.specs.StatementTree.{Call};
-ghost use Rattle.sound_steps.specs.Fitting.{entity_named};
-ghost use Rattle.stmt_code.specs.Labels.{stmt_labels};
+ghost use Rattle.part_code.specs.Labels.{stmt_labels};
 ghost use Rattle.stmt_code.specs.Staying.{Stays};
 ghost use Rattle.stmt_code.specs.Emitting.{EmitsStatement, IsLegalStatement};
-ghost use Rattle.stmt_code.specs.Lines.{is_put, line_in, line_of};
-ghost use Rattle.stmt_code.specs.Refusing.{put_needs, Refuses};
-ghost use Rattle.stmt_code.specs.Bounds.{stmt_bound};
-ghost use Rattle.stmt_code.specs.Statements.{Ways};
+ghost use Rattle.part_code.specs.Lines.{is_put, line_of};
+ghost use Rattle.part_code.specs.Needs.{put_needs};
+ghost use Rattle.stmt_code.specs.Refusing.{Refuses};
+ghost use Rattle.part_code.specs.Bounds.{stmt_bound};
+ghost use Rattle.part_code.specs.Statements.{Ways};
 ghost use Rattle.well_typed.specs.SoundScopes.{SoundScope};
 
 use crate::draft::Draft;
-use ada_tree::laws::arguments_by_parts;
-use ada_tree::{Argument, Expr, NameExpr, Selector};
+use ada_tree::NameExpr;
 use expr_code::{Refusal, Visible};
 use image::Operation;
-use lexer::Text;
-use types::Entity;
-
-// Whether the name stands for Put of Control_IO.
-fn is_put(visible: &Visible, name: &Text) -> bool
-    ensures { result ≡ is_put (entity_named visible.now.scope name.now) }
-{
-    match visible.scope.number_of(name) {
-        Some(number) => matches!(visible.scope.entity(number), Some(Entity::Put)),
-        None => false,
-    }
-}
-
-// The label and the value, where the arguments are both.
-fn line_in(arguments: &[Argument]) -> Option<(&Text, &Expr)>
-    ensures { option_map (λ line. record { label = line.0.now; value = expr_tree line.1.now }) result ≡ line_in (argument_trees arguments.now) }
-{
-    match arguments {
-        [Argument::Label(label, ..), Argument::Expr(value, ..)] => Some((label, value)),
-        [Argument::Label(..), Argument::Label(..)] => None,
-        [Argument::Expr(..), _] => None,
-        [] => None,
-        [_] => None,
-        [_, _, _, ..] => None,
-    }
-}
-
-// The label and the value, where a name has both behind it.
-fn line_of(name: &NameExpr) -> Option<(&Text, &Expr)>
-    ensures { option_map (λ line. record { label = line.0.now; value = expr_tree line.1.now }) result ≡ line_of (name_tree name.now) }
-{
-    arguments_by_parts();
-    match name.selectors.as_slice() {
-        [Selector::Arguments(arguments, ..)] => line_in(arguments),
-        [Selector::Component(..)] => None,
-        [Selector::Attribute(..)] => None,
-        [] => None,
-        [_, _, ..] => None,
-    }
-}
+use part_code::{is_put, line_of};
 
 impl Draft {
     /// Adds the code of a line: its value, and the instruction that writes it with the label.

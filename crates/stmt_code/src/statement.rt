@@ -3,21 +3,20 @@ ghost use Rattle.std.specs.Prelude.{◌≡◌, ◌∷◌, [], map, IfErr, OnOk};
 ghost use Rattle.ada_tree.specs.ExpressionTree.{expr_tree};
 ghost use Rattle.ada_tree.specs.StatementTree.{Block, declaration_tree, elsif_tree, elsif_trees, elsifs_of, Exit, iteration_tree, Loop, NoHandlers, optional_tree, Return, stmt_tree, stmt_trees};
 ghost use Rattle.stmt_code.specs.Staying.{StaysParts, StaysStatement, StaysStatements};
-ghost use Rattle.stmt_code.specs.Emitting.{AddsParts, AreLegalStatements, AreLegalElsifs, EmitsStatement, EmitsStatements, HasEntries, IsLegalStatement, ways_of};
+ghost use Rattle.stmt_code.specs.Emitting.{AddsParts, AreLegalStatements, AreLegalElsifs, EmitsStatement, EmitsStatements, IsLegalStatement};
+ghost use Rattle.part_code.specs.Emitting.{HasEntries, ways_of};
 ghost use Rattle.stmt_code.specs.Refusing.{RefusesParts, RefusesStatement, RefusesStatements};
 ghost use Rattle.stmt_rules.specs.SimpleRules.{condition_faults};
 ghost use Rattle.well_typed.specs.SoundScopes.{SoundScope};
 
 use crate::draft::Draft;
-use crate::extent::Extent;
-use crate::leaving::Leaving;
-use crate::looping::{begin_loop, end_loop};
 use ada_tree::laws::statements_by_parts;
 use ada_tree::{Declaration, ElsifPart, Expr, Iteration, Stmt};
 use declaring::laws::names_are_added;
 use expr_code::{Refusal, Visible};
 use handlers::laws::{rows_around, rows_inside};
 use image::Operation;
+use part_code::{Extent, Leaving, begin_loop, end_loop};
 
 impl Draft {
     // Adds the code of an exit from the innermost loop, where the condition holds, if there is one (RM 5.7).

@@ -1,28 +1,26 @@
 //! The code of whole subprograms: procedures and functions of a package (RM 6.3), and main (RM 10.2).
-ghost use Rattle.std.specs.Prelude.{◌≡◌, ◌≤◌, ◌+◌, false, is_none, length, IfErr, IfOk, OnOk};
+ghost use Rattle.std.specs.Prelude.{◌≡◌, ◌≤◌, ◌+◌, false, length, IfErr, IfOk, OnOk};
 ghost use Rattle.base.specs.declared.limits.TheConstants.{FRAME_WORDS};
 ghost use Rattle.ada_tree.specs.ExpressionTree.{expr_tree};
 ghost use Rattle.ada_tree.specs.ProgramTree.{body_tree};
 ghost use Rattle.declaring.specs.BodyNames.{formals_scope};
 ghost use Rattle.expr_code.specs.Emitting.{IsFit};
 ghost use Rattle.expr_code.specs.Refusing.{IsRefused};
-ghost use Rattle.expr_code.specs.Code.{here};
-ghost use Rattle.expr_code.specs.Seeing.{subprogram_of};
 ghost use Rattle.stmt_code.specs.WholeRefusals.{body_labels, RefusesFunction, RefusesProcedure};
-ghost use Rattle.stmt_code.specs.Bounds.{main_bound};
-ghost use Rattle.stmt_code.specs.Refusing.{beyond_if, IsNeeding, RefusesMain};
-ghost use Rattle.stmt_code.specs.Emitting.{HasEntries, IsLegalRun};
-ghost use Rattle.stmt_code.specs.Rows.{body_rows};
-ghost use Rattle.stmt_code.specs.Subprograms.{AddsCalls, AddsFunction, AddsMain, AddsMainCall, AddsProcedure, CallsProcedures, IsCalledFunction, IsCalledProcedure, KeepsRules};
+ghost use Rattle.part_code.specs.Bounds.{main_bound};
+ghost use Rattle.part_code.specs.Needs.{RefusesMain};
+ghost use Rattle.part_code.specs.Emitting.{HasEntries};
+ghost use Rattle.stmt_code.specs.Emitting.{IsLegalRun};
+ghost use Rattle.part_code.specs.Rows.{body_rows};
+ghost use Rattle.stmt_code.specs.Subprograms.{AddsFunction, AddsMain, AddsProcedure, CallsProcedures, IsCalledFunction, IsCalledProcedure, KeepsRules};
 ghost use Rattle.well_typed.specs.SoundScopes.{SoundScope};
 
-use crate::body::{initialise_all, return_all};
-use crate::draft::{Draft, behind};
-use crate::extent::Extent;
-use ada_tree::{Body, Expr, Formal, Identifier, MainStatement};
+use crate::draft::Draft;
+use ada_tree::{Body, Expr, Formal, MainStatement};
 use declaring::laws::names_are_added;
-use expr_code::{Code, Refusal, Visible};
+use expr_code::{Refusal, Visible};
 use image::Operation;
+use part_code::{Extent, add_calls, behind, initialise_all, return_all};
 use types::Subtype;
 use types::laws::shapes_stay;
 
@@ -45,38 +43,6 @@ impl SubprogramWords {
         behind(self.locals, self.stack)?;
         Ok(self)
     }
-}
-
-// Adds a call of main.
-fn add_call(code: &mut Code, visible: &Visible, procedure: &Identifier) -> Result<(), Refusal>
-    ensures adds { OnOk result (AddsMainCall visible.now code.old procedure.now code.new) }
-    ensures shallow { OnOk result (code.new.deepest ≡ code.old.deepest) }
-    ensures refused { IfErr result (λ why. IsNeeding (here code.old + 1) (beyond_if (is_none (subprogram_of visible.now procedure.now.name))) why) }
-{
-    let Some(number) = visible.subprogram(&procedure.name) else {
-        return Err(Refusal::Outside);
-    };
-    code.emit(0, Operation::Call(number))?;
-    Ok(())
-}
-
-// Adds all of them.
-fn add_calls(
-    code: &mut Code,
-    visible: &Visible,
-    statements: &[MainStatement],
-) -> Result<(), Refusal>
-    ensures calls { OnOk result (AddsCalls visible.now code.old statements.now code.new) }
-    ensures shallow { OnOk result (code.new.deepest ≡ code.old.deepest) }
-    ensures refused { IfErr result (λ why. RefusesMain visible.now code.old statements.now (length statements.now) why) }
-{
-    for statement in statements {
-        match statement {
-            MainStatement::Null(_) => {}
-            MainStatement::Call(_, procedure) => add_call(code, visible, procedure)?,
-        }
-    }
-    Ok(())
 }
 
 impl Draft {

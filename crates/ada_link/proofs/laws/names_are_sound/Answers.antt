@@ -1,4 +1,4 @@
-use Rattle.ada_link.proofs.Adding.{names_sound}
+use Rattle.package_code.proofs.Adding.{names_sound}
 use Rattle.ada_link.proofs.laws.names_are_sound.Goals as goal
 
 pub returns : goal.returns

@@ -1,4 +1,4 @@
-use Rattle.ada_link.proofs.Counted.{sections_are_bounded}
+use Rattle.package_code.proofs.Counted.{sections_are_bounded}
 use Rattle.ada_link.proofs.laws.sections_are_bounded.Goals as goal
 
 pub returns : goal.returns

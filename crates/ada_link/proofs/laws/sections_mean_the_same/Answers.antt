@@ -1,4 +1,4 @@
-use Rattle.ada_link.proofs.Linking.{sections_mean_the_same}
+use Rattle.package_code.proofs.Linking.{sections_mean_the_same}
 use Rattle.ada_link.proofs.laws.sections_mean_the_same.Goals as goal
 
 pub returns : goal.returns

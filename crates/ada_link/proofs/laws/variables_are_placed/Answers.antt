@@ -1,4 +1,4 @@
-use Rattle.ada_link.proofs.Placed.{variables_are_placed}
+use Rattle.package_code.proofs.Placed.{variables_are_placed}
 use Rattle.ada_link.proofs.laws.variables_are_placed.Goals as goal
 
 pub returns : goal.returns

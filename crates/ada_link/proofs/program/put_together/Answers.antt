@@ -8,12 +8,12 @@ use Rattle.well_typed.specs.SoundScopes.{SoundScope}
 use Rattle.sound_programs.specs.Fronts.{front}
 use Rattle.stmt_code.specs.Subprograms.{AddsMain, CallsProcedures}
 use Rattle.expr_code.specs.Code.{here}
-use Rattle.stmt_code.specs.Bounds.{main_bound}
-use Rattle.stmt_code.specs.Refusing.{RefusesMain}
+use Rattle.part_code.specs.Bounds.{main_bound}
+use Rattle.part_code.specs.Needs.{RefusesMain}
 use Rattle.expr_code.specs.declared.refusal.Refusal.TheVariants as refusal
-use Rattle.ada_link.specs.Refusing.{RefusesSections}
-use Rattle.ada_link.specs.Directory.{HaveBodyNumbers, HasManyBodies}
-use Rattle.ada_link.specs.Globals.{AreGlobals, RefusesGlobals}
+use Rattle.package_code.specs.Refusing.{RefusesSections}
+use Rattle.package_code.specs.Directory.{HaveBodyNumbers, HasManyBodies}
+use Rattle.package_code.specs.Globals.{AreGlobals, RefusesGlobals}
 use Rattle.ada_link.proofs.Refusals.{bodies_refused, code_refused, directory_told, globals_refused, labels_told, main_refused, plain_refused, protected_refused, row_refused, rows_told, task_refused}
 use Rattle.ada_link.proofs.program.put_together.Goals as goal
 

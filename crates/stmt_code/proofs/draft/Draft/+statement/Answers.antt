@@ -16,8 +16,10 @@ use Rattle.expr_code.specs.Code.{here}
 use Rattle.expr_code.proofs.Widths.{condition_width}
 use Rattle.stmt_code.specs.Refusing.{alternatives_needs, around, elsifs_needs}
 use Rattle.stmt_code.specs.Staying.{StaysAlternatives, StaysParts}
-use Rattle.stmt_code.specs.Alternatives.{AddsAlternatives, AreLegalChoices}
-use Rattle.stmt_code.specs.Emitting.{AddsParts, AreLegalStatements, EmitsStatement, EmitsStatements, EndsLoop, HasEntries, IsLegalStatement, ways_of}
+use Rattle.stmt_code.specs.Alternatives.{AddsAlternatives}
+use Rattle.part_code.specs.Choices.{AreLegalChoices}
+use Rattle.stmt_code.specs.Emitting.{AddsParts, AreLegalStatements, EmitsStatement, EmitsStatements, IsLegalStatement}
+use Rattle.part_code.specs.Emitting.{EndsLoop, HasEntries, ways_of}
 use Rattle.stmt_code.proofs.Adding.{block_body, block_declarations, block_emits, wanted_legal, without_handlers}
 use Rattle.stmt_code.proofs.Alternatives.{all_alternatives, alternative_closed, alternative_legal, alternatives_next, case_alternatives, case_emits, case_selecting, case_waiting, choices_waiting, no_alternatives, selecting_legal}
 use Rattle.stmt_code.proofs.Opening.{all_parts, branch_closed, no_parts, part_legal, parts_next}
@@ -26,7 +28,7 @@ use Rattle.stmt_code.proofs.Ranged.{range_emits}
 use Rattle.stmt_code.proofs.PartsStay.{alternatives_end, alternatives_stay, parts_end, parts_stay}
 use Rattle.stmt_code.proofs.Repeating.{forever_emits, while_body, while_condition}
 use Rattle.stmt_code.proofs.Staying.{stays_self}
-use Rattle.stmt_code.proofs.Selecting.{choices_select, selecting_width}
+use Rattle.part_code.proofs.Selecting.{choices_select, selecting_width}
 use Rattle.stmt_code.proofs.Testing.{while_emits}
 use Rattle.stmt_code.proofs.draft.Draft.+statement.Goals as goal
 use Rattle.stmt_code.proofs.draft.Draft.+statement.Answers.Added as added

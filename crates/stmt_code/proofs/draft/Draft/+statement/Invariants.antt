@@ -3,10 +3,11 @@ use Rattle.ada_tree.specs.ExpressionTree.{expr_tree}
 use Rattle.ada_tree.specs.StatementTree.{alternative_tree, alternative_trees, elsif_tree, elsif_trees, handler_tree, handler_trees, stmt_trees}
 use Rattle.stmt_code.specs.Alternatives.{AddsAlternatives}
 use Rattle.stmt_code.specs.Covering.{AddsHandlers}
-use Rattle.stmt_code.specs.Emitting.{AddsParts, EmitsStatements, ways_of}
-use Rattle.stmt_code.specs.Labels.{alternatives_labels, elsifs_labels, handlers_labels, stmts_labels}
+use Rattle.stmt_code.specs.Emitting.{AddsParts, EmitsStatements}
+use Rattle.part_code.specs.Emitting.{ways_of}
+use Rattle.part_code.specs.Labels.{alternatives_labels, elsifs_labels, handlers_labels, stmts_labels}
 use Rattle.stmt_code.specs.Refusing.{alternatives_needs, around, elsifs_needs, handlers_needs, stmts_needs}
-use Rattle.stmt_code.specs.Rows.{alternatives_rows, bodies_rows, choices_many, elsifs_rows, stmts_rows}
+use Rattle.part_code.specs.Rows.{alternatives_rows, bodies_rows, choices_many, elsifs_rows, stmts_rows}
 use Rattle.stmt_code.specs.Staying.{Stays}
 use Rattle.stmt_code.proofs.draft.Draft.+statement.Given as goal
 

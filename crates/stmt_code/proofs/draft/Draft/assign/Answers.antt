@@ -1,7 +1,7 @@
 use Rattle.std.proofs.Common.{◌∙◌, inl, rules}
 use Rattle.ada_tree.specs.ExpressionTree.{expr_tree, name_tree}
-use Rattle.stmt_code.proofs.AssignmentsRefused.{no_object, no_slot}
-use Rattle.stmt_code.proofs.MovesRefused.{needs_outside}
+use Rattle.part_code.proofs.AssignmentsRefused.{no_object, no_slot}
+use Rattle.part_code.proofs.MovesRefused.{needs_outside}
 use Rattle.stmt_code.proofs.draft.Draft.assign.Goals as goal
 
 pub returns-in_default-clause-refused : goal.returns-in_default-clause-refused

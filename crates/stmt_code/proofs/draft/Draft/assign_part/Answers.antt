@@ -5,7 +5,7 @@ use Rattle.expr_code.specs.Going.{EmitsAddress, EndsAt, IsLegalPath}
 use Rattle.expr_code.specs.Code.{IsShallow}
 use Rattle.expr_code.specs.Refusing.{RefusesAddress, selectors_peak}
 use Rattle.stmt_code.proofs.LeavesStay.{part_stays}
-use Rattle.stmt_code.proofs.AssignmentsRefused.{address_refuses, no_variable, none_stored_at, store_refuses, target_outside, value_refuses}
+use Rattle.part_code.proofs.AssignmentsRefused.{address_refuses, no_variable, none_stored_at, store_refuses, target_outside, value_refuses}
 use Rattle.stmt_code.proofs.Stored.{assigned_fit, assigned_variable}
 use Rattle.stmt_code.proofs.StoredParts.{assigned_part_emits, assigned_path, part_stands}
 use Rattle.stmt_code.proofs.draft.Draft.assign_part.Goals as goal

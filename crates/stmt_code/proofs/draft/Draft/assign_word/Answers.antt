@@ -3,7 +3,7 @@ use Rattle.std.proofs.lemmas.Result.{IfErr-weaker, on_ok_weaker}
 use Rattle.ada_tree.specs.ExpressionTree.{expr_tree, name_tree}
 use Rattle.expr_code.proofs.Fitting.{fitting_checked}
 use Rattle.stmt_code.proofs.LeavesStay.{word_stays}
-use Rattle.stmt_code.proofs.AssignmentsRefused.{no_variable, none_stored, store_refuses, target_outside, value_refuses}
+use Rattle.part_code.proofs.AssignmentsRefused.{no_variable, none_stored, store_refuses, target_outside, value_refuses}
 use Rattle.stmt_code.proofs.Stored.{assigned_emits, assigned_fit, assigned_variable, whole_stands}
 use Rattle.stmt_code.proofs.draft.Draft.assign_word.Goals as goal
 

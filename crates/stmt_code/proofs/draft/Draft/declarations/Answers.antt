@@ -2,9 +2,9 @@ use Rattle.std.proofs.Common.{◌+◌, ap, arith, map, refl, rules, sym, ◌∙�
 use Rattle.ada_tree.specs.StatementTree.{declaration_tree}
 use Rattle.declaring.specs.LocalRules.{local_faults}
 use Rattle.stmt_code.proofs.Declared.{all_declarations, declaration_legal, declarations_next, no_declarations}
-use Rattle.stmt_code.specs.Bounds.{local_words, locals_words}
-use Rattle.stmt_code.specs.Refusing.{local_visible, locals_needs, locals_visible}
-use Rattle.stmt_code.proofs.Adding.{take_all}
+use Rattle.part_code.specs.Bounds.{local_words, locals_words}
+use Rattle.part_code.specs.Needs.{local_visible, locals_needs, locals_visible}
+use Rattle.part_code.proofs.Lists.{take_all}
 use Rattle.stmt_code.proofs.LeavesStay.{locals_stay}
 use Rattle.stmt_code.proofs.Staying.{stays_self}
 use Rattle.stmt_code.proofs.Refused.{local_refuses, locals_next, words_next}

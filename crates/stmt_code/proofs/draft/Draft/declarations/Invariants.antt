@@ -1,8 +1,8 @@
 use Rattle.std.proofs.Common.{◌≡◌, ◌+◌, length, map, take}
 use Rattle.ada_tree.specs.StatementTree.{declaration_tree}
-use Rattle.stmt_code.specs.Bounds.{locals_words}
+use Rattle.part_code.specs.Bounds.{locals_words}
 use Rattle.stmt_code.specs.Emitting.{EmitsDeclarations}
-use Rattle.stmt_code.specs.Refusing.{locals_needs, locals_visible}
+use Rattle.part_code.specs.Needs.{locals_needs, locals_visible}
 use Rattle.stmt_code.specs.Staying.{Stays}
 use Rattle.stmt_code.proofs.draft.Draft.declarations.Given as goal
 

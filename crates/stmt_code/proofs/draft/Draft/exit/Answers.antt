@@ -2,7 +2,8 @@ use Rattle.std.proofs.Common.{refl, rules, sym, ap, subst}
 use Rattle.std.proofs.lemmas.Result.{on_ok_weaker}
 use Rattle.ada_tree.specs.ExpressionTree.{expr_tree}
 use Rattle.ada_tree.specs.StatementTree.{Exit, optional_tree}
-use Rattle.stmt_code.specs.Emitting.{EmitsStatement, ways_of}
+use Rattle.stmt_code.specs.Emitting.{EmitsStatement}
+use Rattle.part_code.specs.Emitting.{ways_of}
 use Rattle.expr_code.proofs.Widths.{condition_width}
 use Rattle.stmt_code.specs.Refusing.{RefusesStatement}
 use Rattle.stmt_code.specs.Staying.{StaysStatement}

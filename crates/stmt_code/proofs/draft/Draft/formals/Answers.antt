@@ -1,6 +1,6 @@
 use Rattle.std.proofs.Common.{◌≡◌, ◌++◌, ap, arith, map, subst, ◌∙◌}
-use Rattle.stmt_code.specs.Formals.{StandInTurn, no_subprogram, slot_for}
-use Rattle.stmt_code.proofs.FormalWords.{passed_placed}
+use Rattle.part_code.specs.Formals.{StandInTurn, no_subprogram, slot_for}
+use Rattle.part_code.proofs.FormalWords.{passed_placed}
 use Rattle.stmt_code.proofs.draft.Draft.formals.Goals as goal
 
 pub returns-clause-places : goal.returns-clause-places

@@ -2,21 +2,22 @@ use Rattle.std.proofs.Common.{◌≡◌, ◌+◌, ◌*◌, ◌++◌, ◌∙◌, 
 use Rattle.std.proofs.lemmas.Result.{IfErr-weaker, on_ok_weaker}
 use Rattle.std.specs.List.{All}
 use Rattle.ada_tree.specs.StatementTree.{Call}
-use Rattle.stmt_code.specs.Bounds.{stmt_bound}
+use Rattle.part_code.specs.Bounds.{stmt_bound}
 use Rattle.expr_code.specs.Code.{IsShallow, here}
-use Rattle.stmt_code.proofs.CallsStay.{call_stays, no_line}
-use Rattle.stmt_code.proofs.CallsRefused.{actuals_refuse, actuals_sized, call_refuses, copies_refuse}
+use Rattle.stmt_code.proofs.CallsStay.{call_stays}
+use Rattle.part_code.proofs.CallsShallow.{no_line}
+use Rattle.part_code.proofs.CallsRefused.{actuals_refuse, actuals_sized, call_refuses, copies_refuse}
 use Rattle.ada_tree.specs.ExpressionTree.{argument_tree, argument_trees, name_tree}
 use Rattle.ada_tree.specs.Size.{argument_size, total}
 use Rattle.types.specs.Entities as entity
 use Rattle.types.specs.Entities.{profile_value}
 use Rattle.well_typed.specs.SoundScopes.{AreKnown}
 use Rattle.expr_code.specs.Actuals.{ArePassedLegally}
-use Rattle.stmt_code.specs.Passing.{EmitsPassedActuals, EmitsCopies}
-use Rattle.stmt_code.specs.Refusing.{actuals_needs, copies_needs, destinations_of, IsNeeding, IsPartFit}
-use Rattle.stmt_code.specs.Suiting.{passed_width}
+use Rattle.part_code.specs.Passing.{EmitsPassedActuals, EmitsCopies}
+use Rattle.part_code.specs.Needs.{actuals_needs, copies_needs, destinations_of, IsNeeding, IsPartFit}
+use Rattle.part_code.specs.Suiting.{passed_width}
 use Rattle.expr_code.proofs.Growing.{added_here}
-use Rattle.stmt_code.proofs.Adding.{take_all}
+use Rattle.part_code.proofs.Lists.{take_all}
 use Rattle.stmt_code.proofs.CallsAdded.{call_counted, call_emits, call_legal}
 use Rattle.stmt_code.proofs.draft.Draft.invoke.Goals as goal
 

@@ -2,7 +2,8 @@ use Rattle.std.proofs.Common.{refl, sym, subst}
 use Rattle.std.proofs.lemmas.Result.{on_ok_weaker}
 use Rattle.ada_tree.specs.ExpressionTree.{expr_tree}
 use Rattle.ada_tree.specs.StatementTree.{Return, optional_tree}
-use Rattle.stmt_code.specs.Emitting.{EmitsStatement, ways_of}
+use Rattle.stmt_code.specs.Emitting.{EmitsStatement}
+use Rattle.part_code.specs.Emitting.{ways_of}
 use Rattle.stmt_code.specs.Staying.{StaysStatement}
 use Rattle.stmt_code.proofs.Adding.{return_emits}
 use Rattle.stmt_code.proofs.LeavesStay.{return_stays}

@@ -5,9 +5,10 @@ use Rattle.expr_code.specs.Code.{IsShallow}
 use Rattle.expr_code.specs.Going.{EmitsAddress, EndsAt, IsLegalPath}
 use Rattle.expr_code.specs.Refusing.{RefusesAddress, selectors_peak}
 use Rattle.expr_code.proofs.Checking.{fit_legal}
-use Rattle.stmt_code.specs.Moving.{names_composite}
+use Rattle.part_code.specs.Moving.{names_composite}
 use Rattle.stmt_code.proofs.Moved.{moved_emits}
-use Rattle.stmt_code.proofs.MovesRefused.{move_refuses, moved_stays, target_refuses, words_refuse}
+use Rattle.part_code.proofs.MovesRefused.{move_refuses, target_refuses, words_refuse}
+use Rattle.stmt_code.proofs.MovedStays.{moved_stays}
 use Rattle.stmt_code.proofs.Stored.{assigned_fit, assigned_variable}
 use Rattle.stmt_code.proofs.StoredParts.{assigned_path, part_stands}
 use Rattle.stmt_code.proofs.draft.Draft.move_words.Goals as goal

@@ -4,14 +4,15 @@ use Rattle.ada_tree.specs.ProgramTree.{body_tree}
 use Rattle.ada_tree.specs.StatementTree.{declaration_tree, handler_trees, stmt_trees}
 use Rattle.expr_code.specs.Code.{IsShallow, here}
 use Rattle.stmt_code.specs.Emitting.{EmitsRun}
-use Rattle.stmt_code.specs.Formals.{Initialises, Returns}
-use Rattle.stmt_code.specs.Refusing.{RefusesOuts, RefusesReturned, RefusesRun, all_given, outs_needs}
-use Rattle.stmt_code.specs.Rows.{body_rows}
+use Rattle.part_code.specs.Formals.{Initialises, Returns}
+use Rattle.part_code.specs.Needs.{RefusesOuts, RefusesReturned, all_given, outs_needs}
+use Rattle.stmt_code.specs.Refusing.{RefusesRun}
+use Rattle.part_code.specs.Rows.{body_rows}
 use Rattle.stmt_code.specs.Staying.{StaysRun}
 use Rattle.stmt_code.specs.Subprograms.{fresh}
 use Rattle.stmt_code.specs.WholeRefusals.{body_labels}
 use Rattle.stmt_code.specs.declared.draft.Draft.{Draft}
-use Rattle.stmt_code.proofs.FormalWords.{formals_entries}
+use Rattle.part_code.proofs.FormalWords.{formals_entries}
 use Rattle.stmt_code.proofs.Called.{procedure_called}
 use Rattle.stmt_code.proofs.Keeping.{procedure_keeps}
 use Rattle.stmt_code.proofs.Running.{body_parts}

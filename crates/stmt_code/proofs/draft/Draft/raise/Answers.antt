@@ -1,7 +1,7 @@
 use Rattle.std.proofs.Common.{◌∙◌, ap, refl, sym}
 use Rattle.std.proofs.lemmas.Result.{on_ok_weaker}
-use Rattle.stmt_code.specs.Emitting.{ways_of}
-use Rattle.stmt_code.specs.Raising.{raised_by}
+use Rattle.part_code.specs.Emitting.{ways_of}
+use Rattle.part_code.specs.Raising.{raised_by}
 use Rattle.stmt_code.specs.declared.draft.Draft.{Draft}
 use Rattle.stmt_code.proofs.RaisesAdded.{raise_emits}
 use Rattle.stmt_code.proofs.draft.Draft.raise.Goals as goal

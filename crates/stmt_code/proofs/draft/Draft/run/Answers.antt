@@ -3,7 +3,7 @@ use Rattle.ada_tree.specs.StatementTree.{declaration_tree, handler_trees, stmt_t
 use Rattle.image.specs.declared.instruction.Operation.TheVariants as op
 use Rattle.expr_code.specs.Code.{Patches}
 use Rattle.stmt_code.specs.declared.draft.Draft.{Draft}
-use Rattle.stmt_code.specs.Bounds.{sequence_bound}
+use Rattle.part_code.specs.Bounds.{sequence_bound}
 use Rattle.stmt_code.proofs.PartsRefused.{begun_here, run_body_refused, run_locals_refused, run_refused}
 use Rattle.stmt_code.proofs.PartsStay.{begun_shallow, run_stays}
 use Rattle.stmt_code.proofs.Running.{run_emits}

@@ -2,7 +2,7 @@ use Rattle.std.proofs.Common.{◌≡◌, ◌≤◌, [], length, map, rules, subs
 use Rattle.std.proofs.lemmas.Result.{IfErr-weaker, on_ok_weaker}
 use Rattle.ada_tree.specs.StatementTree.{handler_tree, handler_trees, stmt_trees}
 use Rattle.stmt_code.specs.Covering.{AddsHandled, EmitsSequence}
-use Rattle.stmt_code.specs.Emitting.{ways_of}
+use Rattle.part_code.specs.Emitting.{ways_of}
 use Rattle.stmt_code.specs.Refusing.{RefusesHandlers}
 use Rattle.stmt_code.proofs.Adding.{none_there, without_handlers}
 use Rattle.stmt_code.proofs.HandlersCovered.{cover_here, cover_like, handled_emits}

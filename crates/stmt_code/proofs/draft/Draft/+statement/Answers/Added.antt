@@ -7,7 +7,8 @@ use Rattle.ada_tree.specs.StatementTree.{Block, Case, Loop, NoHandlers, alternat
 use Rattle.well_typed.specs.SoundScopes.{SoundScope}
 use Rattle.stmt_code.specs.Refusing.{around, stmts_needs}
 use Rattle.stmt_code.specs.Staying.{StaysStatement}
-use Rattle.stmt_code.specs.Emitting.{AddsParts, AreLegalStatements, AreLegalElsifs, EmitsStatement, EmitsStatements, HasEntries, IsLegalStatement, ways_of}
+use Rattle.stmt_code.specs.Emitting.{AddsParts, AreLegalStatements, AreLegalElsifs, EmitsStatement, EmitsStatements, IsLegalStatement}
+use Rattle.part_code.specs.Emitting.{HasEntries, ways_of}
 use Rattle.stmt_code.proofs.Adding.{all_statements, no_statements, none_there, null_emits, statement_legal, statements_next}
 use Rattle.stmt_code.proofs.Opening.{if_body, if_condition, if_elsifs, if_emits, if_others, waiting_there}
 use Rattle.stmt_code.proofs.PartsStay.{statements_end, statements_stay}

@@ -8,16 +8,20 @@ use Rattle.handlers.specs.declared.rows.Row.{Row}
 use Rattle.well_typed.specs.SoundScopes.{SoundScope}
 use Rattle.expr_code.specs.Branches.{Rejoins}
 use Rattle.expr_code.specs.Code.{here}
-use Rattle.stmt_code.specs.Bounds.{locals_words}
-use Rattle.stmt_code.specs.Covering.{AddsCovered, AddsHandled, AddsHandlers, choice_rows}
-use Rattle.stmt_code.specs.Emitting.{AreLegalStatements, AreLegalHandlers, EmitsDeclarations, EmitsStatement, EmitsStatements, HasEntries, IsLegalStatement, ways_of}
-use Rattle.stmt_code.specs.Labels.{stmts_labels}
-use Rattle.stmt_code.specs.Raising.{are_numbered}
-use Rattle.stmt_code.specs.Refusing.{RefusesCovered, RefusesHandlers, RefusesStatement, around, handlers_needs, locals_visible}
-use Rattle.stmt_code.specs.Rows.{choices_many}
+use Rattle.part_code.specs.Bounds.{locals_words}
+use Rattle.stmt_code.specs.Covering.{AddsCovered, AddsHandled, AddsHandlers}
+use Rattle.part_code.specs.ChoiceRows.{choice_rows}
+use Rattle.stmt_code.specs.Emitting.{AreLegalStatements, AreLegalHandlers, EmitsDeclarations, EmitsStatement, EmitsStatements, IsLegalStatement}
+use Rattle.part_code.specs.Emitting.{HasEntries, ways_of}
+use Rattle.part_code.specs.Labels.{stmts_labels}
+use Rattle.part_code.specs.Raising.{are_numbered}
+use Rattle.stmt_code.specs.Refusing.{RefusesCovered, RefusesHandlers, RefusesStatement, around, handlers_needs}
+use Rattle.part_code.specs.Needs.{locals_visible}
+use Rattle.part_code.specs.Rows.{choices_many}
 use Rattle.stmt_code.specs.Staying.{StaysDeclarations, StaysHandled, StaysHandlers, StaysStatement, StaysStatements}
 use Rattle.stmt_code.specs.declared.draft.Draft.{Draft}
-use Rattle.stmt_code.proofs.Adding.{block_body, block_declarations, block_emits, block_handlers, take_all}
+use Rattle.stmt_code.proofs.Adding.{block_body, block_declarations, block_emits, block_handlers}
+use Rattle.part_code.proofs.Lists.{take_all}
 use Rattle.stmt_code.proofs.ChoiceRows.{choices_long}
 use Rattle.stmt_code.proofs.HandlersAdded.{all_handlers, handler_adds, handler_legal, handlers_next, no_handlers}
 use Rattle.stmt_code.proofs.HandlersCovered.{cover_here, cover_like, cover_there, handled_emits}
@@ -125,8 +129,8 @@ handler-returns-clause-adds t c =
     let begun : Draft = record c.args.self.now { code = c.emit.new.self; words = c.take.new.self } in
     let new : Draft = record c.statements.new.self { code = c.emit-2.new.self; words = c.release.new.self } in
     let numbered = subst (λ l. are_numbered l h.choices.items ≡ true) c.deref.ensures.value
-    (subst (λ l. are_numbered c.deref.result.now l ≡ true) c.deref-2.ensures.value c.in_ok-add_choices.ensures.numbered) in
-    let rows = c.in_ok-add_choices.ensures.rows
+    (subst (λ l. are_numbered c.deref.result.now l ≡ true) c.deref-2.ensures.value c.in_ok-add_choice_rows.ensures.numbered) in
+    let rows = c.in_ok-add_choice_rows.ensures.rows
     ∙ (λ j. c.args.own.now.items ++ choice_rows (c.deref.ensures.value j) row (c.deref-2.ensures.value j)) in
     let body = subst (λ x. EmitsStatements v x begun (stmt_trees h.statements.items) c.statements.new.self) c.in_handler.ensures
     (subst (λ l. EmitsStatements v (ways_of c.in_handler.result) begun (stmt_trees l) c.statements.new.self) c.deref-3.ensures.value
@@ -137,13 +141,13 @@ handler-returns-clause-adds t c =
     handler_adds v w c.args.region c.args.self.now begun c.statements.new.self new c.in_ok-word.word c.in_ok-target.target h.choices.items
     (stmt_trees h.statements.items) c.in_ok-target.ensures.end numbered c.in_ok-word.ensures.first c.in_ok-word.ensures.takes c.in_ok-emit.ensures.adds refl
     (refl, refl) body q refl c.release.ensures (refl, refl) c.quiet_stays.ensures c.values_have_words.ensures c.args.waiting.now.items c.push.new.self.items
-    c.args.own.now.items c.add_choices.new.rows.items waits rows)
+    c.args.own.now.items c.add_choice_rows.new.rows.items waits rows)
     c.emit-2.ensures.adds
 
 pub handler-returns-clause-many : goal.handler-returns-clause-many
 handler-returns-clause-many t c =
     let row : Row = record c.args.region { target = c.in_ok-target.target } in
-    let rows = c.in_ok-add_choices.ensures.rows in
+    let rows = c.in_ok-add_choice_rows.ensures.rows in
     let count = ap length rows ∙ length-append c.args.own.now.items (choice_rows c.deref.result.now row c.deref-2.result.now)
     ∙ ap (λ n. length c.args.own.now.items + n) (choices_long c.deref.result.now row c.deref-2.result.now ∙ ap length c.deref-2.ensures.value) in
     on_ok_weaker _ (λ q. count) c.emit-2.ensures.adds

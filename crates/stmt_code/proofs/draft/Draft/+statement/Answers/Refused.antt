@@ -7,14 +7,15 @@ use Rattle.stmt_code.specs.declared.draft.Draft.{Draft}
 use Rattle.expr_code.specs.declared.refusal.Refusal.TheVariants as refusal
 use Rattle.expr_code.proofs.Growing.{added_here}
 use Rattle.expr_code.proofs.Refusals.{peak_some}
-use Rattle.stmt_code.specs.Bounds.{stmts_bound}
-use Rattle.stmt_code.specs.Labels.{elsifs_labels}
+use Rattle.part_code.specs.Bounds.{stmts_bound}
+use Rattle.part_code.specs.Labels.{elsifs_labels}
 use Rattle.stmt_code.specs.Refusing.{RefusesAlternatives, RefusesParts, RefusesStatement, RefusesStatements, around}
 use Rattle.stmt_code.specs.Staying.{StaysParts}
-use Rattle.stmt_code.specs.Emitting.{AddsParts, EmitsStatements, ways_of}
+use Rattle.stmt_code.specs.Emitting.{AddsParts, EmitsStatements}
+use Rattle.part_code.specs.Emitting.{ways_of}
 use Rattle.stmt_code.proofs.Adding.{none_there}
 use Rattle.stmt_code.proofs.PartsRefused.{alternative_refuses, alternatives_refused, begun_here, block_body_refused, body_refused, choices_refused, chosen_refused, close_refused, condition_refused, counted_body, dropped_refused, elsifs_refuse, first_refuses, forever_body, instruction_refuses, leaving_refused, locals_refused, others_refuse, part_refuses, range_here, range_refused, range_seen, range_two, rejoin_refuses, selected_refused, statement_refuses, test_refused, turn_here, while_body_refused, while_condition_refused}
-use Rattle.stmt_code.proofs.Selecting.{choices_select}
+use Rattle.part_code.proofs.Selecting.{choices_select}
 use Rattle.stmt_code.proofs.draft.Draft.+statement.Goals as goal
 
 -- ---- refusals: parts of an `if`

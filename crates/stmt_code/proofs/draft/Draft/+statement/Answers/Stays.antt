@@ -6,7 +6,8 @@ use Rattle.ada_tree.specs.StatementTree.{Block, Case, Loop, NoHandlers, alternat
 use Rattle.stmt_code.specs.declared.draft.Draft.{Draft}
 use Rattle.expr_code.proofs.Shallow.{closed_shallow}
 use Rattle.stmt_code.specs.Staying.{StaysParts, StaysStatement, StaysStatements}
-use Rattle.stmt_code.specs.Emitting.{AddsParts, ways_of}
+use Rattle.stmt_code.specs.Emitting.{AddsParts}
+use Rattle.part_code.specs.Emitting.{ways_of}
 use Rattle.stmt_code.proofs.Adding.{none_there}
 use Rattle.stmt_code.proofs.PartsRefused.{range_seen}
 use Rattle.stmt_code.proofs.PartsStay.{alternative_stays, begun_shallow, block_stays, branch_stays, case_stays, choices_shallow, counted_stays, ended_shallow, forever_stays, if_stays, turn_shallow, while_stays}

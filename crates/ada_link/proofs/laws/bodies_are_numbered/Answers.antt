@@ -1,5 +1,0 @@
-use Rattle.ada_link.proofs.Numbered.{bodies_numbered}
-use Rattle.ada_link.proofs.laws.bodies_are_numbered.Goals as goal
-
-pub returns : goal.returns
-returns c = bodies_numbered c.premises_hold.ensures

@@ -1,9 +1,0 @@
-use Rattle.std.proofs.Common.{◌≡◌, ◌+◌}
-use Rattle.ada_tree.specs.ProgramTree.{program_tree}
-use Rattle.ada_link.specs.Walking.{IsAsTold, IsWalked}
-use Rattle.ada_link.proofs.walk.Walk.declarations.Given as goal
-
-abbrev pub invariant-loop-item : goal.invariant-loop-item
-invariant-loop-item l =
-    IsWalked (program_tree l.accepted) l.directory l.self
-    × (IsAsTold (program_tree l.accepted) l.self × (l.self.place ≡ l.fn.self.place + l.item-index))

@@ -1,0 +1,12 @@
+mod Going
+mod Sizes
+mod Catching
+mod Raising
+mod Sequences
+mod Scenes
+mod Turning
+mod Choosing
+mod Copying
+mod Calling
+mod Counting
+mod Matching

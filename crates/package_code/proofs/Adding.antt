@@ -1,0 +1,210 @@
+-- The names of an accepted program are sound, and what methods ask that add the code of a body is so of each body of its package (RM 6.1, 6.3).
+use Rattle.std.proofs.Common.{◌≡◌, ℕ, suc, ◌+◌, List, [], ◌∷◌, ◌++◌, length, map, cond, true, Some, None, refl, sym, ap, ◌∙◌, subst, arith}
+use Rattle.std.specs.Prelude.{is_some, slice_get}
+use Rattle.std.proofs.lemmas.Bool.{and_parts}
+use Rattle.std.proofs.lemmas.List.{length-map}
+use Rattle.ada_tree.specs.declared.expression.Identifier.{Identifier}
+use Rattle.ada_tree.specs.ExpressionTree.{ExprTree}
+use Rattle.ada_tree.specs.StatementTree.{DeclarationTree, MoreStmts, NoStmts, Return, StmtTrees, SubprogramTree}
+use Rattle.ada_tree.specs.ProgramTree.{BodyItemTree, BodyTree, ProgramTree, SubprogramBody}
+use Rattle.types.specs.declared.entity.Subtype.{Subtype}
+use Rattle.types.specs.Scopes.{Named, Scope, with_name}
+use Rattle.expr_rules.specs.declared.own.Wanted.TheVariants.{OfType}
+use Rattle.expr_rules.specs.ExpressionRules.{faults_of}
+use Rattle.expr_rules.proofs.TypedLaw.{back_empty, front_empty, judged, unbroken}
+use Rattle.type_rules.specs.ProfileRules.{formals_faults, profile_faults, result_faults}
+use Rattle.type_rules.specs.SubtypeNames.{subtype_of}
+use Rattle.declaring.specs.BodyNames.{formals_scope}
+use Rattle.declaring.specs.LocalRules.{locals_faults, locals_scope}
+use Rattle.stmt_rules.specs.declared.around.Around.{Around}
+use Rattle.stmt_rules.specs.declared.around.BodyKind.TheVariants as kind
+use Rattle.stmt_rules.specs.SimpleRules.{result_wanted}
+use Rattle.stmt_rules.specs.StatementRules.{handlers_faults, in_body, stmts_faults}
+use Rattle.legality.specs.BodyRules.{body_faults, function_body_faults, has_no_declarations, head_faults, is_function_body, kind_of, type_number}
+use Rattle.checking.specs.ProgramRules.{IsLegal}
+use Rattle.ravenscar.specs.ProgramRules.{IsRestricted}
+use Rattle.meaning.specs.Programs.{Parameter, Program, parameter, program_of, returned, subtype_named}
+use Rattle.well_typed.specs.Laws.{ScopesAreSound}
+use Rattle.well_typed.specs.SoundScopes.{SoundScope}
+use Rattle.well_typed.proofs.Positions.{same_some}
+use Rattle.sound_programs.specs.Fronts.{declared_in, front, scope_at, start_in}
+use Rattle.sound_programs.specs.BodyLaws.{NamesAreKnown, PremisesHold}
+use Rattle.sound_programs.proofs.Called.{head_legal}
+use Rattle.sound_programs.proofs.WiderScopes.{none_unseen, with_all}
+use Rattle.sound_programs.proofs.Formals.{AreNew, all_named, named_formal, new_behind, sound_all}
+use Rattle.sound_programs.proofs.BodyProfiles.{named_is, subtype_kept}
+use Rattle.sound_programs.proofs.Trees.{tree_package}
+use Rattle.sound_programs.proofs.Whole.{IsPackage, kept, known_subtype}
+use Rattle.expr_code.specs.Emitting.{IsFit}
+use Rattle.stmt_code.specs.Emitting.{IsLegalRun}
+use Rattle.package_code.proofs.NewParameters.{body_unbroken, formals_text, parameters_new}
+use Rattle.package_code.proofs.Reordered.{longer}
+use Rattle.package_code.specs.Laws.{BodiesMayBeAdded, MayBeAdded, NamesAreSound}
+
+pub names_sound : PremisesHold → NamesAreSound
+names_sound premises t legal = (premises t legal).sound
+
+-- ---- each new name is one more
+
+all_longer : (s : Scope) (fs : List Parameter) → AreNew s fs → length (with_all s (all_named fs)) ≡ length s + length fs
+all_longer s [] new = omega arith
+all_longer s (f ∷ fs) new =
+    let x : Named = named_formal f in
+    let next : Scope = with_name s f.name x.entity in
+    let one : length next ≡ suc (length s) = ap (λ b. length (cond b s (s ++ x ∷ []))) (none_unseen s f.name new.0) ∙ longer s x in
+    let rest : length (with_all next (all_named fs)) ≡ length next + length fs = all_longer next fs (new_behind s f fs new.1 new.3) in
+    omega (arith, one, rest)
+
+-- ---- what a body returns breaks no rule where its statements break none
+
+no_locals : (s : Scope) (ds : List DeclarationTree) → has_no_declarations ds ≡ true → locals_scope s ds ≡ s
+no_locals s [] h = refl
+no_locals s (d ∷ ds) h = cc
+
+value_unbroken : (s : Scope) (a : Around) (body : StmtTrees) (value : ExprTree) → returned body ≡ Some value → stmts_faults s a body ≡ []
+    → faults_of s (result_wanted a.kind) value ≡ []
+value_unbroken s a (MoreStmts (Return place (Some e)) NoStmts) value h k =
+    subst (λ x. faults_of s (result_wanted a.kind) x ≡ []) (same_some e value h) (back_empty _ (faults_of s (result_wanted a.kind) e) (front_empty _ [] k))
+value_unbroken s a (MoreStmts (Return place (Some e)) (MoreStmts y rest)) value h k = cc
+value_unbroken s a (MoreStmts (Return place None) NoStmts) value h k = cc
+value_unbroken s a (MoreStmts (Return place None) (MoreStmts y rest)) value h k = cc
+value_unbroken s a body value h k = cc
+
+-- ---- the body at a place of the package
+
+module _ (scopes : ScopesAreSound) (known : NamesAreKnown) (premises : PremisesHold) (t : ProgramTree) (legal : IsLegal t) (restricted : IsRestricted t)
+    (k : ℕ) (d : SubprogramTree) (b : BodyTree) (at : slice_get (declared_in t.package_) k ≡ Some (SubprogramBody d b)) where
+  abbrev program : Program
+  program = program_of t
+
+  abbrev start : Scope
+  start = start_in t.package_
+
+  abbrev all : List BodyItemTree
+  all = declared_in t.package_
+
+  abbrev before : Scope
+  before = scope_at start all k
+
+  -- behind its name, and behind its parameters
+  abbrev behind : Scope
+  behind = scope_at start all (suc k)
+
+  abbrev inside : Scope
+  inside = formals_scope behind d.formals
+
+  abbrev parameters : List Parameter
+  parameters = map (parameter program.scope) d.formals
+
+  w : IsPackage program start all
+  w = tree_package t legal restricted (premises t legal).sound
+
+  fronts : (n : ℕ) → SoundScope (scope_at start all n)
+  fronts = (known t legal restricted).fronts
+
+  new : AreNew behind parameters
+  new = parameters_new scopes program start all w fronts k d b at
+
+  text : inside ≡ with_all behind (all_named parameters)
+  text = formals_text scopes program start all w fronts k d b at
+
+  sound_inside : SoundScope inside
+  sound_inside = subst SoundScope (sym text) (sound_all scopes behind parameters (fronts (suc k)) new)
+
+  new_names : length inside ≡ length behind + length d.formals
+  new_names = ap length text ∙ all_longer behind parameters new ∙ ap (λ n. length behind + n) (length-map d.formals (parameter program.scope))
+
+  -- ---- it breaks no rule
+
+  abbrev later : Scope
+  later = locals_scope inside b.declarations
+
+  abbrev around : Around
+  around = in_body (kind_of before d.result)
+
+  pub body_legal : body_faults inside (kind_of before d.result) b ≡ []
+  body_legal = body_unbroken scopes program start all w fronts k d b at
+
+  declared : locals_faults inside b.declarations ≡ []
+  declared = front_empty (locals_faults inside b.declarations) _ body_legal
+
+  statements : stmts_faults later around b.statements ≡ []
+  statements =
+      front_empty (stmts_faults later around b.statements) (handlers_faults later around b.handlers)
+      (back_empty (locals_faults inside b.declarations) _ body_legal)
+
+  handled : handlers_faults later around b.handlers ≡ []
+  handled =
+      back_empty (stmts_faults later around b.statements) (handlers_faults later around b.handlers)
+      (back_empty (locals_faults inside b.declarations) _ body_legal)
+
+  legal_run : IsLegalRun inside b.declarations b.statements b.handlers
+  legal_run = record {
+    declared = declared;
+    statements = record { around = around; unbroken = statements };
+    handled = record { around = around; before = []; unbroken = handled };
+  }
+
+  -- ---- nor does the value of a function
+
+  head : head_faults before d b ≡ []
+  head = head_legal program start all w k d b at
+
+  profile_legal : profile_faults before d ≡ []
+  profile_legal = front_empty (profile_faults before d) _ (front_empty _ _ (front_empty _ _ head))
+
+  -- the subtype of its result is known
+  known_result : (r : Identifier) → d.result ≡ Some r → is_some (subtype_of program.scope r) ≡ true
+  known_result r some =
+      let told =
+      known_subtype program start all w k r
+      (subst (λ o. result_faults before o ≡ []) some
+      (back_empty (formals_faults before [] d.formals) (result_faults before d.result) (front_empty _ _ profile_legal))) in
+      ap is_some (subtype_kept before program.scope (kept program start all w k) r told.0 told.1)
+
+  module _ (r : Identifier) (value : ExprTree) (some : d.result ≡ Some r) (is : returned b.statements ≡ Some value) where
+    abbrev result : Subtype
+    result = subtype_named program.scope r
+
+    single : is_function_body b ≡ true
+    single = judged (is_some d.result) (is_function_body b) (unbroken _ d.name.place _ (back_empty _ (function_body_faults d b) head)) (ap is_some some)
+
+    no_more : later ≡ inside
+    no_more = no_locals inside b.declarations (and_parts (has_no_declarations b.declarations) _ single).0
+
+    told : (u : Subtype) × (subtype_of before r ≡ Some u)
+    told =
+        known_subtype program start all w k r
+        (subst (λ o. result_faults before o ≡ []) some
+        (back_empty (formals_faults before [] d.formals) (result_faults before d.result) (front_empty _ _ profile_legal)))
+
+    named : result ≡ told.0
+    named = named_is program.scope r told.0 (subtype_kept before program.scope (kept program start all w k) r told.0 told.1)
+
+    wanted : result_wanted (kind_of before d.result) ≡ OfType result.type_number
+    wanted =
+        ap (λ o. result_wanted (kind_of before o)) some
+        ∙ ap (λ o. result_wanted (kind.Function (type_number o))) told.1
+        ∙ ap (λ u. OfType u.type_number) (sym named)
+
+    pub value_legal : faults_of inside (OfType result.type_number) value ≡ []
+    value_legal =
+        subst (λ x. faults_of inside x value ≡ []) wanted
+        (subst (λ s. faults_of s (result_wanted (kind_of before d.result)) value ≡ []) no_more
+        (value_unbroken later around b.statements value is statements))
+
+    fit : IsFit inside result value
+    fit = record { wanted = OfType result.type_number; fits = refl; unbroken = value_legal }
+
+  pub body_added : MayBeAdded t (front t (suc k)) d b
+  body_added = record {
+    front = fronts (suc k);
+    sound = sound_inside;
+    new_names = new_names;
+    legal = legal_run;
+    fit = fit;
+    result = known_result;
+  }
+
+pub bodies_added : ScopesAreSound → NamesAreKnown → PremisesHold → BodiesMayBeAdded
+bodies_added scopes known premises t legal restricted place d b at = body_added scopes known premises t legal restricted place d b at

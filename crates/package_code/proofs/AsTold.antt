@@ -1,0 +1,205 @@
+-- The walk over a package goes as its text tells: what is visible, labels, the number of rows, the bound on instructions; why it stops is a reason to refuse the program.
+use Rattle.std.proofs.Common.{◌≡◌, ℕ, suc, ◌+◌, ◌≤◌, List, [], ◌∷◌, length, take, inl, inr, Some, true, refl, sym, ap, ◌∙◌, subst, arith, length-append}
+use Rattle.std.specs.Prelude.{not, nat_eq, slice_get}
+use Rattle.ada_tree.specs.declared.expression.Identifier.{Identifier}
+use Rattle.ada_tree.specs.StatementTree.{SubprogramTree}
+use Rattle.ada_tree.specs.ProgramTree.{BodyItemTree, BodyTree, ItemTree, OfItem, ProgramTree, SubprogramBody}
+use Rattle.types.specs.Layouts.{total}
+use Rattle.types.specs.Scopes.{Scope, number_of}
+use Rattle.type_rules.specs.ProfileRules.{subprogram_scope}
+use Rattle.declaring.specs.ItemRules.{item_scope}
+use Rattle.declaring.specs.ProtectedRules.{protected_count}
+use Rattle.legality.specs.MainRules.{item_name}
+use Rattle.meaning.specs.Programs.{program_of}
+use Rattle.sound_programs.specs.Fronts.{declared_in, front, start_in}
+use Rattle.sound_programs.proofs.Walked.{item_entity, own_profile, scope_next}
+use Rattle.type_rules.specs.ProfileRules.{profile_entity}
+use Rattle.expr_code.specs.Code.{here}
+use Rattle.expr_code.specs.Seeing.{told_of}
+use Rattle.expr_code.specs.declared.refusal.Refusal.{Refusal}
+use Rattle.expr_code.specs.declared.refusal.Refusal.TheVariants as refusal
+use Rattle.expr_code.specs.declared.visible.Visible.{Visible}
+use Rattle.part_code.specs.Bounds.{main_bound, procedure_bound}
+use Rattle.part_code.specs.Emitting.{HasEntries}
+use Rattle.part_code.specs.Needs.{HasManyLabels, IsNeeding, Needs, beyond_if}
+use Rattle.stmt_code.specs.declared.draft.Draft.{Draft}
+use Rattle.part_code.proofs.Within.{Within, needing_refused, of_right}
+use Rattle.package_code.specs.Counts.{bounds_from}
+use Rattle.package_code.specs.Directory.{IsDirectory, HasEntriesSoFar, TellsNext}
+use Rattle.package_code.specs.Refusing.{RefusesCode, item_needs, items_labels, items_needs, items_rows, number_in, program_bound, program_labels, program_needs, seen_at, subprogram_labels, subprogram_needs, subprogram_rows}
+use Rattle.package_code.specs.Walking.{AddsAsTold, AddsBody, BeginsWalk, IsAsTold, RefusesBody}
+use Rattle.package_code.specs.declared.directory.Directory.{Directory}
+use Rattle.package_code.specs.declared.walk.Walk.{Walk}
+use Rattle.package_code.proofs.Counted.{adds_few}
+use Rattle.package_code.proofs.ItemsTold.{bound_next, bound_within, bounds_next, labels_next, labels_within, needs_within, none_taken, rows_next}
+use Rattle.package_code.proofs.Seen.{known_name, seen_first, seen_next}
+use Rattle.package_code.proofs.Told.{Grows, item_grows, subprogram_grows}
+
+-- ---- entries for all names, or for all but one
+
+pub entries_next : (v mid : Visible) (name : List ℕ) → HasEntries v → Grows v.scope name mid.scope → mid.slots ≡ v.slots
+    → mid.subprograms ≡ v.subprograms → HasEntriesSoFar mid
+entries_next v mid name has (inl same) slots subprograms =
+    inl (ap length slots ∙ has.slots ∙ ap length (sym same), ap length subprograms ∙ has.subprograms ∙ ap length (sym same))
+entries_next v mid name has (inr grown) slots subprograms =
+    let long = ap length grown.1 ∙ length-append v.scope (record { name = name; entity = grown.0 } ∷ []) in
+    let a = ap length slots ∙ has.slots in
+    let b = ap length subprograms ∙ has.subprograms in
+    inr (one (length mid.slots) (length v.scope) (length mid.scope) a long, one (length mid.subprograms) (length v.scope) (length mid.scope) b long)
+  where
+    one : (n m k : ℕ) → n ≡ m → k ≡ m + 1 → suc n ≡ k
+    one n m k a b = omega (arith, a, b)
+
+module _ (t : ProgramTree) where
+  abbrev start : Scope
+  start = start_in t.package_
+
+  abbrev all : List BodyItemTree
+  all = declared_in t.package_
+
+  abbrev whole : Scope
+  whole = (program_of t).scope
+
+  -- in front of all
+  pub begins_told : (s : Scope) (names : List (List ℕ)) (w : Walk) → BeginsWalk s names w → s ≡ start → IsAsTold t w
+  begins_told s names w begins is = record {
+    seen = seen_first t s w.visible begins.visible is ∙ ap (seen_at t) (sym begins.place);
+    few = (let none : here w.draft.code ≡ 0 = ap length begins.instructions in omega (arith, none));
+    labels = begins.labels ∙ ap (items_labels []) (sym (ap (λ n. take n all) begins.place ∙ none_taken all));
+    rows = ap length begins.rows ∙ ap (items_rows 0) (sym (ap (λ n. take n all) begins.place ∙ none_taken all));
+  }
+
+  last_bound : (a b : ℕ) → a ≤ a + b
+  last_bound a b = omega arith
+
+  -- ---- behind a declaration
+
+  pub declared_told : (directory : Directory) → IsDirectory t directory → (old new : Walk) (i : ItemTree) (scope told_in : Scope) (name : Identifier)
+      (later : Visible) → IsAsTold t old → slice_get all old.place ≡ Some (OfItem i)
+      → scope ≡ item_scope old.visible.scope i → told_in ≡ whole → name ≡ item_name i
+      → TellsNext told_in directory (record old.visible { scope = scope }) name.name later
+      → new.visible ≡ later → new.place ≡ old.place + 1 → new.draft ≡ old.draft → IsAsTold t new
+  declared_told directory is old new i scope told_in name later told at goes whole_is named tells visible place draft = record {
+    seen = visible ∙ seen_next t directory is old.place (item_name i).name
+        (known_name t old.place (OfItem i) (item_name i).name (item_entity (front t old.place) i) at refl) old.visible later scope told.seen next_is
+        (subst (Grows (front t old.place) (item_name i).name) (sym (scope_next start all old.place (OfItem i) at)) (item_grows (front t old.place) i))
+        moved
+        ∙ ap (seen_at t) (sym next);
+    few = under (here old.draft.code) (here new.draft.code) (total (bounds_from t 0 (take old.place all))) (total (bounds_from t 0 (take new.place all)))
+        (ap (λ d. here d.code) draft) told.few (subst (λ n. total (bounds_from t 0 (take old.place all)) ≤ total (bounds_from t 0 (take n all))) (sym next)
+        (bounds_next t all old.place (OfItem i) at));
+    labels = ap (λ d. d.labels) draft ∙ told.labels ∙ sym (labels_next [] all old.place (OfItem i) at) ∙ ap (λ n. items_labels [] (take n all)) (sym next);
+    rows = ap (λ d. length d.rows.items) draft ∙ told.rows ∙ sym (rows_next 0 all old.place (OfItem i) at) ∙ ap (λ n. items_rows 0 (take n all)) (sym next);
+  }
+    where
+      next : new.place ≡ suc old.place
+      next = omega (arith, place)
+
+      next_is : scope ≡ front t (suc old.place)
+      next_is = goes ∙ ap (λ v. item_scope v.scope i) told.seen ∙ sym (scope_next start all old.place (OfItem i) at)
+
+      moved : TellsNext whole directory (record old.visible { scope = scope }) (item_name i).name later
+      moved =
+          subst (λ n. TellsNext whole directory (record old.visible { scope = scope }) n.name later) named
+          (subst (λ s. TellsNext s directory (record old.visible { scope = scope }) name.name later) whole_is tells)
+
+      under : (a b c d : ℕ) → b ≡ a → a ≤ c → c ≤ d → b ≤ d
+      under a b c d e h k = omega (arith, e, h, k)
+
+  -- ---- where a body is added
+
+  module _ (directory : Directory) (is : IsDirectory t directory) (old : Walk) (d : SubprogramTree) (b : BodyTree) (scope told_in : Scope) (later : Visible)
+      (told : IsAsTold t old) (at : slice_get all old.place ≡ Some (SubprogramBody d b)) (goes : scope ≡ subprogram_scope old.visible.scope d)
+      (whole_is : told_in ≡ whole) (tells : TellsNext told_in directory (record old.visible { scope = scope }) d.name.name later) where
+    known : (n : ℕ) × (number_of whole d.name.name ≡ Some n)
+    known = known_name t old.place (SubprogramBody d b) d.name.name (profile_entity (own_profile (front t old.place) d)) at refl
+
+    pub seen_there : later ≡ seen_at t (suc old.place)
+    seen_there =
+        seen_next t directory is old.place d.name.name known old.visible later scope told.seen
+        (goes ∙ ap (λ v. subprogram_scope v.scope d) told.seen ∙ sym (scope_next start all old.place (SubprogramBody d b) at))
+        (subst (Grows (front t old.place) d.name.name) (sym (scope_next start all old.place (SubprogramBody d b) at))
+        (subprogram_grows (front t old.place) d))
+        (subst (λ s. TellsNext s directory (record old.visible { scope = scope }) d.name.name later) whole_is tells)
+
+    pub number_there : (many : ℕ) → number_in t d.name.name ≡ Some many → told_of whole directory.numbers.items d.name.name ≡ Some many
+    number_there many numbered = is.numbers d.name.name known.0 known.1 ∙ numbered
+
+    pub body_told : (mid after new : Walk) → mid.visible ≡ later → mid.draft ≡ old.draft → AddsBody t directory d b mid after
+        → AddsAsTold mid.draft d b after.draft
+        → new.place ≡ old.place + 1 → new.draft ≡ after.draft → new.visible ≡ after.visible → IsAsTold t new
+    body_told mid after new visible draft adds told_there place new_draft new_visible = record {
+      seen = new_visible ∙ adds.visible ∙ visible ∙ seen_there ∙ ap (seen_at t) (sym next);
+      few = under (here old.draft.code) (here mid.draft.code) (here after.draft.code) (here new.draft.code) (procedure_bound mid.visible.scope d.formals b)
+          (procedure_bound (front t (suc old.place)) d.formals b)
+          (total (bounds_from t 0 (take old.place all))) (total (bounds_from t 0 (take (suc old.place) all))) (total (bounds_from t 0 (take new.place all)))
+          told.few (ap (λ z. here z.code) draft) (adds_few t d b mid.visible mid.draft adds.words after.draft adds.adds)
+          (ap (λ v. procedure_bound v.scope d.formals b) (visible ∙ seen_there))
+          (ap (λ z. here z.code) new_draft) (bound_next t all old.place d b at) (ap (λ n. total (bounds_from t 0 (take n all))) next);
+      labels = ap (λ z. z.labels) new_draft ∙ told_there.labels ∙ ap (λ z. subprogram_labels z.labels d b) draft
+          ∙ ap (λ l. subprogram_labels l d b) told.labels ∙ sym (labels_next [] all old.place (SubprogramBody d b) at)
+          ∙ ap (λ n. items_labels [] (take n all)) (sym next);
+      rows = ap (λ z. length z.rows.items) new_draft ∙ told_there.rows ∙ ap (λ z. subprogram_rows (length z.rows.items) d b) draft
+          ∙ ap (λ n. subprogram_rows n d b) told.rows ∙ sym (rows_next 0 all old.place (SubprogramBody d b) at)
+          ∙ ap (λ n. items_rows 0 (take n all)) (sym next);
+    }
+      where
+        next : new.place ≡ suc old.place
+        next = omega (arith, place)
+
+        under : (a m c n p q s x y : ℕ) → a ≤ s → m ≡ a → c ≤ m + p → p ≡ q → n ≡ c → s + q ≤ x → y ≡ x → n ≤ y
+        under a m c n p q s x y h e k f g up last = omega (arith, h, e, k, f, g, up, last)
+
+  -- ---- refusals
+
+  pub needs_refused : (m n : ℕ) (a : Needs) (why : Refusal) → m ≤ n → Within a (items_needs t 0 all) → n ≤ program_bound t
+      → IsNeeding m a why → RefusesCode t why
+  needs_refused m n a why up within low r =
+      inl (needing_refused m (program_bound t) a (program_needs t) (omega (arith, up, low))
+      (of_right a (beyond_if (not (nat_eq (protected_count whole) 0))) (items_needs t 0 all) within) why r)
+
+  pub item_within : (place : ℕ) (x : BodyItemTree) → slice_get all place ≡ Some x → Within (item_needs t place x) (items_needs t 0 all)
+  item_within place x at =
+      let none : 0 + place ≡ place = omega arith in
+      subst (λ n. Within (item_needs t n x) (items_needs t 0 all)) none (needs_within t all 0 place x at)
+
+  -- code isn't made of this item
+  pub item_refused : (place : ℕ) (x : BodyItemTree) → slice_get all place ≡ Some x → (item_needs t place x).outside ≡ true → RefusesCode t refusal.Outside
+  item_refused place x at outside =
+      inl
+      ((of_right (item_needs t place x) (beyond_if (not (nat_eq (protected_count whole) 0))) (items_needs t 0 all) (item_within place x at)).outside outside)
+
+  many_more : (a b : List (List ℕ)) (why : Refusal) → length a ≤ length b → HasManyLabels a why → HasManyLabels b why
+  many_more a b refusal.Limit up h = omega (arith, up, h)
+  many_more a b refusal.Memory up h = absurd h
+  many_more a b refusal.Outside up h = absurd h
+
+  pub body_refused : (old : Walk) (d : SubprogramTree) (b : BodyTree) (v : Visible) (draft : Draft) (why : Refusal) → IsAsTold t old
+      → old.draft.exceptions.items ≡ (program_of t).exceptions
+      → slice_get all old.place ≡ Some (SubprogramBody d b) → v ≡ seen_at t (suc old.place) → draft ≡ old.draft
+      → RefusesBody t v draft d b why → RefusesCode t why
+  body_refused old d b v draft why told exceptions at seen same r =
+      by_reason (subst (λ z. RefusesBody t (seen_at t (suc old.place)) z d b why) same (subst (λ u. RefusesBody t u draft d b why) seen r))
+    where
+      bounded : here old.draft.code + procedure_bound (front t (suc old.place)) d.formals b ≤ program_bound t
+      bounded =
+          up (here old.draft.code) (procedure_bound (front t (suc old.place)) d.formals b) (total (bounds_from t 0 (take old.place all)))
+          (total (bounds_from t 0 all)) (main_bound t.main.statements) told.few
+          (let none : 0 + old.place ≡ old.place = omega arith in
+          subst (λ n. total (bounds_from t 0 (take old.place all)) + procedure_bound (front t (suc n)) d.formals b ≤ total (bounds_from t 0 all)) none
+          (bound_within t all 0 old.place d b at))
+        where
+          up : (a p s x m : ℕ) → a ≤ s → s + p ≤ x → a + p ≤ x + m
+          up a p s x m h k = omega (arith, h, k)
+
+      by_reason : RefusesBody t (seen_at t (suc old.place)) old.draft d b why → RefusesCode t why
+      by_reason (inl n) =
+          needs_refused (here old.draft.code + procedure_bound (front t (suc old.place)) d.formals b)
+          (here old.draft.code + procedure_bound (front t (suc old.place)) d.formals b) (subprogram_needs t (seen_at t (suc old.place)) (program_of t).exceptions d b) why (omega arith)
+          (item_within old.place (SubprogramBody d b) at) bounded
+          (subst (λ l. IsNeeding (here old.draft.code + procedure_bound (front t (suc old.place)) d.formals b)
+          (subprogram_needs t (seen_at t (suc old.place)) l d b) why) exceptions n)
+      by_reason (inr h) =
+          inr (many_more (subprogram_labels old.draft.labels d b) (program_labels t) why
+          (subst (λ l. length (subprogram_labels l d b) ≤ length (program_labels t)) (sym told.labels)
+          (labels_within [] all old.place (SubprogramBody d b) at)) h)

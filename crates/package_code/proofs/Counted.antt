@@ -1,0 +1,214 @@
+-- Which body is that of a subprogram, by its number, and how many instructions the code of each has.
+use Rattle.std.proofs.Common.{◌≡◌, ◌⊎◌, inl, inr, ℕ, zero, suc, ◌+◌, ◌-◌, ◌<◌, ◌≤◌, List, [], ◌∷◌, ◌++◌, length, Option, Some, None, refl, sym, ap, ◌∙◌, subst, arith, length-append, take_all}
+use Rattle.std.specs.Prelude.{slice_get, take}
+use Rattle.std.proofs.lemmas.Option.{slice_get_within}
+use Rattle.ada_tree.specs.declared.declaration.Formal.{Formal}
+use Rattle.ada_tree.specs.declared.expression.Identifier.{Identifier}
+use Rattle.ada_tree.specs.ExpressionTree.{ExprTree}
+use Rattle.ada_tree.specs.StatementTree as tree
+use Rattle.ada_tree.specs.StatementTree.{MoreStmts, NoStmts, StmtTree, StmtTrees, SubprogramTree}
+use Rattle.ada_tree.specs.ProgramTree.{BodyItemTree, BodyTree, ProgramTree, SubprogramBody}
+use Rattle.ada_tree.specs.Size.{expr_size, size_if_any, stmts_size}
+use Rattle.types.specs.Scopes.{Scope}
+use Rattle.image.specs.Operations.{called}
+use Rattle.image.specs.Sections.{Sections, end_of, first_place}
+use Rattle.image.specs.declared.subprograms.Subprogram.{Subprogram}
+use Rattle.meaning.specs.Programs.{returned}
+use Rattle.sound_programs.specs.Fronts.{declared_in, front}
+use Rattle.sound_programs.proofs.Listing.{front_at, same_some}
+use Rattle.expr_code.specs.Code.{here}
+use Rattle.expr_code.specs.Coming.{size_of}
+use Rattle.expr_code.specs.declared.visible.Visible.{Visible}
+use Rattle.expr_code.proofs.Growing.{get_last}
+use Rattle.part_code.specs.Bounds.{function_bound, main_bound, procedure_bound}
+use Rattle.stmt_code.specs.Subprograms.{AddsProcedure}
+use Rattle.stmt_code.specs.declared.draft.Draft.{Draft}
+use Rattle.stmt_code.specs.declared.subprogram.SubprogramWords.{SubprogramWords}
+use Rattle.package_code.specs.Counts.{bodies_among, bodies_before, bounds_from, instructions_bound, or_zero}
+use Rattle.package_code.specs.Laws.{SectionsAreBounded}
+use Rattle.package_code.specs.Program.{HasProgram, main_row}
+use Rattle.package_code.specs.Walking.{AddsSubprogram, AddsValueFunction, HasBody, begins_at, row_of}
+use Rattle.package_code.specs.declared.directory.Directory.{Directory}
+use Rattle.package_code.specs.declared.walk.Walk.{Walk}
+use Rattle.package_code.proofs.Linking.{called_front, called_main, first_is, first_main}
+
+-- ---- bodies by their numbers
+
+-- the body with this number among items, and its place
+record IsNumbered (items : List BodyItemTree) (number : ℕ) : Type 0 where
+  place : ℕ
+  head : SubprogramTree
+  body : BodyTree
+  at : slice_get items place ≡ Some (SubprogramBody head body)
+  before : bodies_among (take place items) ≡ number
+
+body_numbered : (items : List BodyItemTree) (number : ℕ) → number < bodies_among items → IsNumbered items number
+body_numbered [] number less = absurd (omega (arith, less))
+body_numbered (SubprogramBody d b ∷ items) zero less = record { place = 0; head = d; body = b; at = refl; before = refl }
+body_numbered (SubprogramBody d b ∷ items) (suc number) less =
+    let h = body_numbered items number (omega (arith, less)) in
+    record { place = suc h.place; head = h.head; body = h.body; at = h.at; before = ap suc h.before }
+body_numbered (x ∷ items) number less =
+    let h = body_numbered items number less in
+    record { place = suc h.place; head = h.head; body = h.body; at = h.at; before = h.before }
+
+module _ (t : ProgramTree) where
+  same_place : (place n : ℕ) (fs : List Formal) (b : BodyTree)
+      → procedure_bound (front t (suc (suc place + n))) fs b ≡ procedure_bound (front t (suc (place + suc n))) fs b
+  same_place place n fs b = (let e : suc place + n ≡ place + suc n = omega arith in ap (λ k. procedure_bound (front t (suc k)) fs b) e)
+
+  -- the bound of a body stands at its number
+  bound_there : (items : List BodyItemTree) (place n : ℕ) (d : SubprogramTree) (b : BodyTree) → slice_get items n ≡ Some (SubprogramBody d b)
+      → slice_get (bounds_from t place items) (bodies_among (take n items)) ≡ Some (procedure_bound (front t (suc (place + n))) d.formals b)
+  bound_there [] place n d b h = cc
+  bound_there (x ∷ items) place zero d b h =
+      subst (λ y. slice_get (bounds_from t place (y ∷ items)) 0 ≡ Some (procedure_bound (front t (suc (place + 0))) d.formals b))
+      (sym (same_some x (SubprogramBody d b) h))
+      (let e : place ≡ place + 0 = omega arith in ap (λ k. Some (procedure_bound (front t (suc k)) d.formals b)) e)
+  bound_there (SubprogramBody c q ∷ items) place (suc n) d b h =
+      bound_there items (suc place) n d b h ∙ ap Some (same_place place n d.formals b)
+  bound_there (x ∷ items) place (suc n) d b h = bound_there items (suc place) n d b h ∙ ap Some (same_place place n d.formals b)
+
+  bounds_many : (items : List BodyItemTree) (place : ℕ) → length (bounds_from t place items) ≡ bodies_among items
+  bounds_many [] place = refl
+  bounds_many (SubprogramBody d b ∷ items) place = ap suc (bounds_many items (suc place))
+  bounds_many (x ∷ items) place = bounds_many items (suc place)
+
+  abbrev items : List BodyItemTree
+  items = declared_in t.package_
+
+  abbrev bounds : List ℕ
+  bounds = bounds_from t 0 items
+
+  bound_of_body : (place : ℕ) (d : SubprogramTree) (b : BodyTree) → slice_get items place ≡ Some (SubprogramBody d b)
+      → instructions_bound t (bodies_before t place) ≡ procedure_bound (front t (suc place)) d.formals b
+  bound_of_body place d b at =
+      ap or_zero (front_at bounds (main_bound t.main.statements ∷ []) (bodies_before t place) (procedure_bound (front t (suc place)) d.formals b)
+      (bound_there items 0 place d b at ∙ (let e : 0 + place ≡ place = omega arith in ap (λ k. Some (procedure_bound (front t (suc k)) d.formals b)) e)))
+
+  bound_of_main : instructions_bound t (bodies_among items) ≡ main_bound t.main.statements
+  bound_of_main =
+      ap (λ n. or_zero (slice_get (bounds ++ main_bound t.main.statements ∷ []) n)) (sym (bounds_many items 0))
+      ∙ ap or_zero (get_last bounds (main_bound t.main.statements))
+
+-- ---- the code of a body
+
+-- a function's body is its one return
+returned_within : (all : StmtTrees) (value : ExprTree) → returned all ≡ Some value → expr_size value ≤ stmts_size all
+returned_within (MoreStmts (tree.Return place e) NoStmts) value h = (let same = ap (size_if_any expr_size) h in omega (arith, same))
+returned_within all value h = absurd cc
+
+pub function_within : (s : Scope) (fs : List Formal) (b : BodyTree) (value : ExprTree) → returned b.statements ≡ Some value
+    → function_bound fs value ≤ procedure_bound s fs b
+function_within s fs b value h = (let up = returned_within b.statements value h in omega (arith, up))
+
+abbrev AddsAny : ProgramTree → SubprogramTree → BodyTree → Visible → (old : Draft) → SubprogramWords → (new : Draft) → Option Identifier → Type 0
+AddsAny t d b v old words new o = elim o [ None ↦ AddsProcedure v old d.formals b words new | Some r ↦ AddsValueFunction t d b r v old words new ]
+
+pub adds_few : (t : ProgramTree) (d : SubprogramTree) (b : BodyTree) (v : Visible) (old : Draft) (words : SubprogramWords) (new : Draft)
+    → AddsSubprogram t d b v old words new → here new.code ≤ here old.code + procedure_bound v.scope d.formals b
+adds_few t d b v old words new adds = by_result d.result adds
+  where
+    by_result : (o : Option Identifier) → AddsAny t d b v old words new o → here new.code ≤ here old.code + procedure_bound v.scope d.formals b
+    by_result None h = h.sized
+    by_result (Some r) h =
+        let few = h.adds.sized in
+        let up = function_within v.scope d.formals b h.value h.returns in
+        omega (arith, few, up)
+
+-- ---- the code of each subprogram
+
+-- the subprogram with this number is that of a body
+pub record IsOfBody (t : ProgramTree) (directory : Directory) (number : ℕ) (w : Walk) : Type 0 where
+  pub place : ℕ
+  pub d : SubprogramTree
+  pub b : BodyTree
+  pub at : slice_get (declared_in t.package_) place ≡ Some (SubprogramBody d b)
+  pub body : HasBody t directory place d b w
+  pub same : body.number ≡ number
+
+module _ (t : ProgramTree) (i : Sections) (h : HasProgram t i) where
+  abbrev all : List BodyItemTree
+  all = declared_in t.package_
+
+  abbrev rows : List Subprogram
+  rows = h.walk.subprograms.items
+
+  many : length rows ≡ bodies_among all
+  many = h.walked.many ∙ ap (bodies_before t) h.whole ∙ ap bodies_among (take_all (length all) all (omega arith))
+
+  size_is : (number first last : ℕ) (s : Subprogram) → called i number ≡ Some s → s.end_ ≡ last → first_place i number ≡ first
+      → size_of i number ≡ last - first
+  size_is number first last s there ends begins = (λ j. end_of (there j) - begins j) ∙ ap (λ n. n - first) ends
+
+  pub owner_of : (number : ℕ) → number < length rows → IsOfBody t h.directory number h.walk
+  owner_of number less =
+      let n : IsNumbered all number = body_numbered all number (omega (arith, less, many)) in
+      let within = slice_get_within all n.place (SubprogramBody n.head n.body) n.at in
+      let place : n.place < h.walk.place = (let w = h.whole in omega (arith, w, within)) in
+      let body : HasBody t h.directory n.place n.head n.body h.walk = h.walked.bodies n.place n.head n.body place n.at in
+      record { place = n.place; d = n.head; b = n.body; at = n.at; body = body; same = body.counted ∙ n.before }
+
+  size_body : (number : ℕ) → number < length rows → size_of i number ≤ instructions_bound t number
+  size_body number less =
+      let x = owner_of number less in
+      let body : HasBody t h.directory x.place x.d x.b h.walk = x.body in
+      let same : body.number ≡ number = x.same in
+      let row : Subprogram = row_of body.words (here body.new.code) in
+      let there : called i number ≡ Some row = called_front t i h number row (ap (slice_get rows) (sym same) ∙ body.there) in
+      let begins : first_place i number ≡ here body.old.code = first_is t i h number (omega (arith, less)) ∙ ap (begins_at rows) (sym same) ∙ body.begins in
+      let size = size_is number (here body.old.code) (here body.new.code) row there refl begins in
+      let few = adds_few t x.d x.b body.seen body.old body.words body.new body.adds in
+      let scope : procedure_bound body.seen.scope x.d.formals x.b ≡ procedure_bound (front t (suc x.place)) x.d.formals x.b =
+      ap (λ s. procedure_bound s x.d.formals x.b) body.scope in
+      let bound : instructions_bound t number ≡ procedure_bound (front t (suc x.place)) x.d.formals x.b =
+      ap (instructions_bound t) (sym same ∙ body.counted) ∙ bound_of_body t x.place x.d x.b x.at in
+      under (size_of i number) (here body.new.code) (here body.old.code) (procedure_bound body.seen.scope x.d.formals x.b)
+      (instructions_bound t number) size few (scope ∙ sym bound)
+    where
+      under : (size last first mid bound : ℕ) → size ≡ last - first → last ≤ first + mid → mid ≡ bound → size ≤ bound
+      under size last first mid bound is few same = omega (arith, is, few, same)
+
+  size_main : size_of i (length rows) ≤ instructions_bound t (length rows)
+  size_main =
+      let size : size_of i (length rows) ≡ here h.draft.code - here h.walk.draft.code =
+      size_is (length rows) (here h.walk.draft.code) (here h.draft.code) (main_row h.words (here h.draft.code)) (called_main t i h) refl (first_main t i h) in
+      let few = h.main.sized in
+      let bound = ap (instructions_bound t) many ∙ bound_of_main t in
+      under (size_of i (length rows)) (here h.draft.code) (here h.walk.draft.code) (main_bound t.main.statements)
+      (instructions_bound t (length rows)) size few (sym bound)
+    where
+      under : (size last first mid bound : ℕ) → size ≡ last - first → last ≤ first + mid → mid ≡ bound → size ≤ bound
+      under size last first mid bound is few same = omega (arith, is, few, same)
+
+  -- there is none with a greater number
+  size_none : (number : ℕ) → length rows < number → size_of i number ≤ instructions_bound t number
+  size_none number more =
+      let none : called i number ≡ None = past i.subprograms number (let long = ap length h.subprograms ∙ length-append rows (main_row h.words (here h.draft.code) ∷ []) in omega (arith, long, more)) in
+      (let e : size_of i number ≡ 0 = (λ j. end_of (none j) - first_place i number) ∙ nothing (first_place i number) in omega (arith, e))
+    where
+      nothing : (n : ℕ) → 0 - n ≡ 0
+      nothing n = omega arith
+
+      past : (xs : List Subprogram) (n : ℕ) → length xs ≤ n → slice_get xs n ≡ None
+      past [] n h = refl
+      past (x ∷ xs) zero h = absurd (omega (arith, h))
+      past (x ∷ xs) (suc n) h = past xs n (omega (arith, h))
+
+pub sections_are_bounded : SectionsAreBounded
+sections_are_bounded t i h number = by_order (order number (length h.walk.subprograms.items))
+  where
+    order : (m n : ℕ) → (m < n) ⊎ ((m ≡ n) ⊎ (n < m))
+    order zero zero = inr (inl refl)
+    order zero (suc n) = inl (omega arith)
+    order (suc m) zero = inr (inr (omega arith))
+    order (suc m) (suc n) = elim (order m n) [
+      | inl e ↦ inl (omega (arith, e))
+      | inr e ↦ elim e [ inl same ↦ inr (inl (ap suc same)) | inr more ↦ inr (inr (omega (arith, more))) ]
+    ]
+
+    by_order : (number < length h.walk.subprograms.items) ⊎ ((number ≡ length h.walk.subprograms.items) ⊎ (length h.walk.subprograms.items < number))
+        → size_of i number ≤ instructions_bound t number
+    by_order (inl less) = size_body t i h number less
+    by_order (inr (inl same)) = subst (λ n. size_of i n ≤ instructions_bound t n) (sym same) (size_main t i h)
+    by_order (inr (inr more)) = size_none t i h number more

@@ -1,0 +1,190 @@
+-- What bounds, needs, labels and rows of handlers of all items of a package have to do with those of one of them.
+use Rattle.std.proofs.Common.{◌≡◌, ℕ, zero, suc, ◌+◌, ◌≤◌, List, [], ◌∷◌, ◌++◌, length, take, Bool, true, false, Option, Some, None, refl, sym, ap, ◌∙◌, subst, arith, length-append}
+use Rattle.std.specs.Prelude.{slice_get}
+use Rattle.std.proofs.lemmas.List.{take-take}
+use Rattle.ada_tree.specs.declared.expression.Identifier.{Identifier}
+use Rattle.ada_tree.specs.StatementTree.{AlternativeTrees, Block, Call, Case, ElsifTrees, HandlerTrees, If, Loop, MoreAlternatives, MoreElsifs, MoreHandlers, MoreStmts, NoAlternatives, NoElsifs, NoHandlers, NoStmts, StmtTree, StmtTrees, SubprogramTree}
+use Rattle.ada_tree.specs.ProgramTree.{BodyItemTree, BodyTree, ProgramTree, SubprogramBody}
+use Rattle.types.specs.Layouts.{total}
+use Rattle.sound_programs.specs.Fronts.{front}
+use Rattle.sound_programs.proofs.Listing.{same_some, taken_at, taken_next}
+use Rattle.part_code.specs.Bounds.{procedure_bound}
+use Rattle.part_code.specs.Labels.{alternatives_labels, elsifs_labels, handlers_labels, is_label, stmt_labels, stmts_labels, with_label, with_line}
+use Rattle.part_code.specs.Lines.{LabelledValue, line_of}
+use Rattle.stmt_code.specs.WholeRefusals.{body_labels}
+use Rattle.part_code.proofs.Within.{Within, in_left, of_right}
+use Rattle.package_code.specs.Counts.{bounds_from}
+use Rattle.package_code.specs.Refusing.{item_labels, item_needs, item_rows, items_labels, items_needs, items_rows}
+
+-- ---- bounds
+
+first_of : (a b rest : ℕ) → a ≡ b → 0 + a ≤ b + rest
+first_of a b rest e = omega (arith, e)
+
+later_of : (p m a b rest : ℕ) → a ≡ b → m + a ≤ rest → (p + m) + b ≤ p + rest
+later_of p m a b rest e h = omega (arith, e, h)
+
+other_of : (m a b rest : ℕ) → a ≡ b → m + a ≤ rest → m + b ≤ rest
+other_of m a b rest e h = omega (arith, e, h)
+
+more_of : (p m n : ℕ) → m ≤ n → p + m ≤ p + n
+more_of p m n h = omega (arith, h)
+
+plus_none : (k : ℕ) → k + 0 ≡ k
+plus_none k = omega arith
+
+plus_next : (k n : ℕ) → suc k + n ≡ k + suc n
+plus_next k n = omega arith
+
+module _ (t : ProgramTree) where
+  abbrev bound_at : SubprogramTree → BodyTree → (place : ℕ) → ℕ
+  bound_at d b place = procedure_bound (front t (suc place)) d.formals b
+
+  pub bound_within : (items : List BodyItemTree) (k n : ℕ) (d : SubprogramTree) (b : BodyTree) → slice_get items n ≡ Some (SubprogramBody d b)
+      → total (bounds_from t k (take n items)) + bound_at d b (k + n) ≤ total (bounds_from t k items)
+  bound_within [] k n d b h = cc
+  bound_within (x ∷ items) k zero d b h =
+      subst (λ y. 0 + bound_at d b (k + 0) ≤ total (bounds_from t k (y ∷ items))) (sym (same_some x (SubprogramBody d b) h))
+      (first_of (bound_at d b (k + 0)) (bound_at d b k) (total (bounds_from t (suc k) items)) (ap (bound_at d b) (plus_none k)))
+  bound_within (SubprogramBody c q ∷ items) k (suc n) d b h =
+      later_of (bound_at c q k) (total (bounds_from t (suc k) (take n items))) (bound_at d b (suc k + n)) (bound_at d b (k + suc n))
+      (total (bounds_from t (suc k) items)) (ap (bound_at d b) (plus_next k n)) (bound_within items (suc k) n d b h)
+  bound_within (x ∷ items) k (suc n) d b h =
+      other_of (total (bounds_from t (suc k) (take n items))) (bound_at d b (suc k + n)) (bound_at d b (k + suc n))
+      (total (bounds_from t (suc k) items)) (ap (bound_at d b) (plus_next k n)) (bound_within items (suc k) n d b h)
+
+  bounds_more : (xs ys : List BodyItemTree) (k : ℕ) → total (bounds_from t k xs) ≤ total (bounds_from t k (xs ++ ys))
+  bounds_more [] ys k = omega arith
+  bounds_more (SubprogramBody d b ∷ xs) ys k =
+      more_of (bound_at d b k) (total (bounds_from t (suc k) xs)) (total (bounds_from t (suc k) (xs ++ ys))) (bounds_more xs ys (suc k))
+  bounds_more (x ∷ xs) ys k = bounds_more xs ys (suc k)
+
+  -- of items with one more
+  pub bounds_next : (items : List BodyItemTree) (n : ℕ) (x : BodyItemTree) → slice_get items n ≡ Some x
+      → total (bounds_from t 0 (take n items)) ≤ total (bounds_from t 0 (take (suc n) items))
+  bounds_next items n x h =
+      subst (λ l. total (bounds_from t 0 (take n items)) ≤ total (bounds_from t 0 l)) (sym (taken_next items n x h)) (bounds_more (take n items) (x ∷ []) 0)
+
+  pub bound_next : (items : List BodyItemTree) (n : ℕ) (d : SubprogramTree) (b : BodyTree) → slice_get items n ≡ Some (SubprogramBody d b)
+      → total (bounds_from t 0 (take n items)) + bound_at d b n ≤ total (bounds_from t 0 (take (suc n) items))
+  bound_next items n d b h =
+      let less : n ≤ suc n = omega arith in
+      let front : take n (take (suc n) items) ≡ take n items = take-take n (suc n) items less in
+      let none : 0 + n ≡ n = omega arith in
+      subst (λ l. total (bounds_from t 0 l) + bound_at d b n ≤ total (bounds_from t 0 (take (suc n) items))) front
+      (subst (λ m. total (bounds_from t 0 (take n (take (suc n) items))) + bound_at d b m ≤ total (bounds_from t 0 (take (suc n) items))) none
+      (bound_within (take (suc n) items) 0 n d b (taken_at items (suc n) n (SubprogramBody d b) (omega arith) h)))
+
+  -- ---- needs
+
+  pub needs_within : (items : List BodyItemTree) (k n : ℕ) (x : BodyItemTree) → slice_get items n ≡ Some x
+      → Within (item_needs t (k + n) x) (items_needs t k items)
+  needs_within [] k n x h = cc
+  needs_within (y ∷ items) k zero x h =
+      subst (λ j. Within (item_needs t j x) (items_needs t k (y ∷ items))) (sym (plus_none k))
+      (subst (λ z. Within (item_needs t k z) (items_needs t k (y ∷ items))) (same_some y x h) (in_left (item_needs t k y) (items_needs t (suc k) items)))
+  needs_within (y ∷ items) k (suc n) x h =
+      subst (λ j. Within (item_needs t j x) (items_needs t k (y ∷ items))) (plus_next k n)
+      (of_right (item_needs t (suc k + n) x) (item_needs t k y) (items_needs t (suc k) items) (needs_within items (suc k) n x h))
+
+-- ---- labels
+
+more_labels : (a b c : List (List ℕ)) → length a ≤ length b → length b ≤ length c → length a ≤ length c
+more_labels a b c h k = omega (arith, h, k)
+
+abbrev labels_with : List (List ℕ) → List ℕ → Bool → List (List ℕ)
+labels_with before text b = elim b [ true ↦ before | false ↦ before ++ text ∷ [] ]
+
+label_grows : (before : List (List ℕ)) (text : List ℕ) → length before ≤ length (with_label before text)
+label_grows before text = by_test (is_label before text)
+  where
+    by_test : (b : Bool) → length before ≤ length (labels_with before text b)
+    by_test true = omega arith
+    by_test false = (let e = length-append before (text ∷ []) in omega (arith, e))
+
+line_grows : (before : List (List ℕ)) (o : Option LabelledValue) → length before ≤ length (with_line before o)
+line_grows before None = omega arith
+line_grows before (Some line) = label_grows before line.label
+
+mutual
+  stmt_grows : (before : List (List ℕ)) (x : StmtTree) → length before ≤ length (stmt_labels before x)
+  stmt_grows before (Call name) = line_grows before (line_of name)
+  stmt_grows before (If place condition body elsifs others) =
+      let inside = stmts_labels before body in
+      let between = elsifs_labels inside elsifs in
+      more_labels before inside (stmts_labels between others) (stmts_grow before body)
+      (more_labels inside between (stmts_labels between others) (elsifs_grow inside elsifs) (stmts_grow between others))
+  stmt_grows before (Case place value all) = alternatives_grow before all
+  stmt_grows before (Loop place iteration body) = stmts_grow before body
+  stmt_grows before (Block place locals body all) =
+      more_labels before (stmts_labels before body) (handlers_labels (stmts_labels before body) all) (stmts_grow before body)
+      (handlers_grow (stmts_labels before body) all)
+  stmt_grows before simple = omega arith
+
+  pub stmts_grow : (before : List (List ℕ)) (body : StmtTrees) → length before ≤ length (stmts_labels before body)
+  stmts_grow before NoStmts = omega arith
+  stmts_grow before (MoreStmts x rest) =
+      more_labels before (stmt_labels before x) (stmts_labels (stmt_labels before x) rest) (stmt_grows before x) (stmts_grow (stmt_labels before x) rest)
+
+  elsifs_grow : (before : List (List ℕ)) (all : ElsifTrees) → length before ≤ length (elsifs_labels before all)
+  elsifs_grow before NoElsifs = omega arith
+  elsifs_grow before (MoreElsifs condition body rest) =
+      more_labels before (stmts_labels before body) (elsifs_labels (stmts_labels before body) rest) (stmts_grow before body)
+      (elsifs_grow (stmts_labels before body) rest)
+
+  alternatives_grow : (before : List (List ℕ)) (all : AlternativeTrees) → length before ≤ length (alternatives_labels before all)
+  alternatives_grow before NoAlternatives = omega arith
+  alternatives_grow before (MoreAlternatives place choices body rest) =
+      more_labels before (stmts_labels before body) (alternatives_labels (stmts_labels before body) rest) (stmts_grow before body)
+      (alternatives_grow (stmts_labels before body) rest)
+
+  handlers_grow : (before : List (List ℕ)) (all : HandlerTrees) → length before ≤ length (handlers_labels before all)
+  handlers_grow before NoHandlers = omega arith
+  handlers_grow before (MoreHandlers choices body rest) =
+      more_labels before (stmts_labels before body) (handlers_labels (stmts_labels before body) rest) (stmts_grow before body)
+      (handlers_grow (stmts_labels before body) rest)
+
+abbrev labels_by : (before : List (List ℕ)) → BodyTree → Option Identifier → List (List ℕ)
+labels_by before b o = elim o [ None ↦ body_labels before b | Some r ↦ before ]
+
+item_grows : (before : List (List ℕ)) (x : BodyItemTree) → length before ≤ length (item_labels before x)
+item_grows before (SubprogramBody d b) = by_result d.result
+  where
+    by_result : (o : Option Identifier) → length before ≤ length (labels_by before b o)
+    by_result None =
+        more_labels before (stmts_labels before b.statements) (handlers_labels (stmts_labels before b.statements) b.handlers)
+        (stmts_grow before b.statements) (handlers_grow (stmts_labels before b.statements) b.handlers)
+    by_result (Some r) = omega arith
+item_grows before x = omega arith
+
+items_grow : (before : List (List ℕ)) (items : List BodyItemTree) → length before ≤ length (items_labels before items)
+items_grow before [] = omega arith
+items_grow before (x ∷ items) =
+    more_labels before (item_labels before x) (items_labels (item_labels before x) items) (item_grows before x) (items_grow (item_labels before x) items)
+
+pub none_taken : {X : Type 0} (xs : List X) → take 0 xs ≡ []
+none_taken [] = refl
+none_taken (x ∷ xs) = refl
+
+-- those behind one item more
+pub labels_next : (before : List (List ℕ)) (items : List BodyItemTree) (n : ℕ) (x : BodyItemTree) → slice_get items n ≡ Some x
+    → items_labels before (take (suc n) items) ≡ item_labels (items_labels before (take n items)) x
+labels_next before [] n x h = cc
+labels_next before (y ∷ items) zero x h = ap (λ l. items_labels (item_labels before y) l) (none_taken items) ∙ ap (item_labels before) (same_some y x h)
+labels_next before (y ∷ items) (suc n) x h = labels_next (item_labels before y) items n x h
+
+pub labels_within : (before : List (List ℕ)) (items : List BodyItemTree) (n : ℕ) (x : BodyItemTree) → slice_get items n ≡ Some x
+    → length (item_labels (items_labels before (take n items)) x) ≤ length (items_labels before items)
+labels_within before [] n x h = cc
+labels_within before (y ∷ items) zero x h =
+    subst (λ z. length (item_labels before z) ≤ length (items_labels (item_labels before y) items)) (same_some y x h) (items_grow (item_labels before y) items)
+labels_within before (y ∷ items) (suc n) x h = labels_within (item_labels before y) items n x h
+
+-- ---- rows of handlers
+
+-- those behind one item more
+pub rows_next : (before : ℕ) (items : List BodyItemTree) (n : ℕ) (x : BodyItemTree) → slice_get items n ≡ Some x
+    → items_rows before (take (suc n) items) ≡ item_rows (items_rows before (take n items)) x
+rows_next before [] n x h = cc
+rows_next before (y ∷ items) zero x h = ap (λ l. items_rows (item_rows before y) l) (none_taken items) ∙ ap (item_rows before) (same_some y x h)
+rows_next before (y ∷ items) (suc n) x h = rows_next (item_rows before y) items n x h

@@ -1,0 +1,38 @@
+pub mod InFront
+mod FirstWords
+pub mod InOrder
+pub mod NewParameters
+mod HeldParameters
+mod Entered
+mod Ordered
+mod Reordered
+mod Building
+mod BodyFrames
+mod MadeFrames
+mod CodedBodies
+pub mod CodedPackage
+mod LinkedMain
+mod EmittedFormals
+mod EmittedParts
+mod EmittedFrames
+mod EmittedBodies
+mod EmittedFunctions
+mod EmittedMain
+pub mod Variables
+mod InitialWords
+pub mod Declared
+mod Told
+pub mod Walked
+mod BodyRows
+pub mod Adding
+pub mod Linking
+pub mod Counted
+pub mod Seen
+pub mod ItemsTold
+mod AsTold
+pub mod Numbered
+pub mod Placed
+mod NamedExceptions
+mod GlobalsRefused
+pub mod Differing
+mod BodyRefused

@@ -1,0 +1,401 @@
+-- A well-formed image that was put together from an accepted program has the program's code, and so its meaning.
+use Rattle.std.proofs.Common.{◌≡◌, ℕ, zero, suc, ◌+◌, ◌≤◌, List, [], ◌∷◌, ◌++◌, length, map, Bool, true, false, cond, ◌&&◌, inl, inr, Option, None, Some, refl, sym, ap, ◌∙◌, subst, arith, append-nil, append_assoc}
+use Rattle.std.specs.Prelude.{bytes_eq, slice_get}
+use Rattle.std.proofs.lemmas.List.Elements.{All-nil, All-weaker}
+use Rattle.std.proofs.lemmas.Option.{slice_get_within}
+use Rattle.kernel.specs.Laws.{QuietStays}
+use Rattle.ada_tree.specs.declared.expression.Identifier.{Identifier}
+use Rattle.ada_tree.specs.declared.program.MainStatement.{MainStatement}
+use Rattle.ada_tree.specs.declared.program.MainStatement.TheVariants as main
+use Rattle.ada_tree.specs.ExpressionTree.{ExprTree}
+use Rattle.ada_tree.specs.StatementTree.{SubprogramTree}
+use Rattle.ada_tree.specs.ProgramTree.{BodyTree, ProgramTree, SubprogramBody}
+use Rattle.handlers.specs.declared.rows.Row.{Row}
+use Rattle.image.specs.Operations.{called, results_of}
+use Rattle.image.specs.Rules.{IsWellFormed}
+use Rattle.image.specs.Sections.{Sections, first_place}
+use Rattle.image.specs.declared.subprograms.Subprogram.{Subprogram}
+use Rattle.image_laws.specs.Laws.{ImagesHaveSize}
+use Rattle.types.specs.Entities.{Entity, Protected}
+use Rattle.types.specs.Laws.{InitialValuesHaveShape}
+use Rattle.types.specs.Places.{ceiling_of, ceiling_or, is_of}
+use Rattle.types.specs.Scopes.{Scope}
+use Rattle.declaring.specs.ProtectedRules.{one_if_protected, protected_count}
+use Rattle.checking.specs.ProgramRules.{IsLegal}
+use Rattle.ravenscar.specs.ProgramRules.{IsRestricted}
+use Rattle.meaning.specs.Calls.{procedure_among, procedure_here}
+use Rattle.meaning.specs.Programs.{Procedure, Program, base_priority, main_task, package_bodies, program_of, returned}
+use Rattle.meaning.specs.Source.{initial_work, task_items}
+use Rattle.meaning.specs.Works.{DoesMain as DoesStatement, Store, TaskWork}
+use Rattle.sound_steps.specs.Holding.{IsSoundTask}
+use Rattle.sound_steps.specs.Judged.{IsReady, Judged}
+use Rattle.sound_steps.specs.Objects.{first_store}
+use Rattle.sound_programs.specs.Fronts.{declared_in, front}
+use Rattle.sound_programs.proofs.Callables.{function_by, procedure_by, subprogram_body}
+use Rattle.sound_programs.proofs.WiderScopes.{same_bytes}
+use Rattle.sound_programs.proofs.Listing.{front_at, or_else_some, same_some}
+use Rattle.expr_code.specs.Code.{Extends, Holds, here}
+use Rattle.expr_code.specs.Computing.{IsFunctionCode}
+use Rattle.expr_code.specs.Seeing.{Package, library_of, told_of}
+use Rattle.expr_code.specs.declared.visible.Visible.{Visible}
+use Rattle.expr_code.proofs.Growing.{added_extends, extends_trans, get_last}
+use Rattle.image.specs.declared.instruction.Operation.TheVariants as op
+use Rattle.stmt_code.specs.Emitting.{HasLabels, IsHandled}
+use Rattle.part_code.specs.Handling.{GoesBy, unhandled}
+use Rattle.part_code.specs.Raising.{AreNamed}
+use Rattle.met_steps.specs.Laws.{HasCode}
+use Rattle.part_code.specs.Resting.{Framed}
+use Rattle.part_code.specs.Statements.{IsProcedureCode, Numbers}
+use Rattle.stmt_code.specs.Subprograms.{AddsProcedure, fresh}
+use Rattle.stmt_code.specs.declared.draft.Draft.{Draft}
+use Rattle.stmt_code.specs.declared.subprogram.SubprogramWords.{SubprogramWords}
+use Rattle.package_code.specs.LinkLaws.{LinkedKeepsCount, LinkedMeansTheSame}
+use Rattle.package_code.specs.Linked.{IsLinkedProgram, IsSequential}
+use Rattle.package_code.specs.Package.{IsInFront, IsInOrder, IsPackageOf}
+use Rattle.package_code.proofs.NamedExceptions.{exceptions_are_named}
+use Rattle.package_code.proofs.CodedPackage.{HasBodies, ada_linkd}
+use Rattle.package_code.proofs.EmittedBodies.{procedure_emitted}
+use Rattle.package_code.proofs.EmittedFunctions.{function_emitted}
+use Rattle.package_code.proofs.EmittedMain.{AreMainCalls, main_emitted, main_returns, main_within}
+use Rattle.package_code.proofs.InFront.{LawsOfNames}
+use Rattle.package_code.proofs.InOrder.{package_in_order}
+use Rattle.package_code.proofs.LinkedMain.{DoesMain, main_linked}
+use Rattle.package_code.specs.Directory.{AreTold}
+use Rattle.package_code.specs.Laws.{SectionsMeanTheSame}
+use Rattle.package_code.specs.Program.{HasProgram, main_row}
+use Rattle.package_code.specs.Walking.{AddsSubprogram, AddsValueFunction, HasBody, LieInFront, begins_at, row_of}
+use Rattle.package_code.specs.declared.directory.Directory.{Directory}
+use Rattle.package_code.proofs.BodyRows.{goes_by_own, goes_past}
+use Rattle.package_code.proofs.Walked.{begins_kept, rows_in_front}
+
+-- ---- the package of code
+
+-- what is told, of what belongs to no protected object
+abbrev pub outside_only : (owner told : Option ℕ) → Option ℕ
+outside_only None told = told
+outside_only (Some o) told = None
+
+abbrev pub package_of : Program → Directory → Package
+package_of program d = record {
+  scope = program.scope;
+  slots = λ name. told_of program.scope d.slots.items name;
+  functions = program.functions;
+  subprograms = λ owner name. outside_only owner (told_of program.scope d.numbers.items name);
+}
+
+abbrev pub numbers_of : Program → Directory → Numbers
+numbers_of program d = λ q. outside_only q.object (told_of program.scope d.numbers.items q.name)
+
+-- ---- procedures by their names
+
+of_package : (o : Option ℕ) → is_of o None ≡ true → o ≡ None
+of_package (Some n) h = cc
+of_package None h = refl
+
+found_named : (all : List Procedure) (name : List ℕ) (q : Procedure) → procedure_among all None name ≡ Some q → (q.object ≡ None) × (q.name ≡ name)
+found_named [] name q h = cc
+found_named (p ∷ rest) name q h = by_tests (is_of p.object None) (bytes_eq p.name name) refl refl h (λ k. found_named rest name q k)
+  where
+    by_tests : (a b : Bool) → is_of p.object None ≡ a → bytes_eq p.name name ≡ b → cond (a && b) (Some p) (procedure_among rest None name) ≡ Some q
+        → (procedure_among rest None name ≡ Some q → (q.object ≡ None) × (q.name ≡ name))
+        → (q.object ≡ None) × (q.name ≡ name)
+    by_tests true true owned named k later =
+        let same = same_some p q k in
+        (ap (λ y. y.object) (sym same) ∙ of_package p.object owned, ap (λ y. y.name) (sym same) ∙ same_bytes p.name name named)
+    by_tests true false owned named k later = later k
+    by_tests false b owned named k later = later k
+
+-- the number of a procedure of the package is the one that is told of its name
+procedure_numbered : (program : Program) (d : Directory) (name : List ℕ) (q : Procedure) (n : ℕ) → procedure_here program None name ≡ Some q
+    → told_of program.scope d.numbers.items name ≡ Some n
+    → numbers_of program d q ≡ Some n
+procedure_numbered program d name q n found told =
+    let at : procedure_among program.procedures None name ≡ Some q =
+    elim (or_else_some (procedure_among program.procedures None name) (procedure_among program.procedures None name) q found) [ inl k ↦ k | inr k ↦ k.1 ] in
+    let x = found_named program.procedures name q at in
+    (λ j. outside_only (x.0 j) (told_of program.scope d.numbers.items (x.1 j))) ∙ told
+
+-- ---- what holds of a body by its result
+
+abbrev pub by_result : Type 0 → (Identifier → Type 0) → Option Identifier → Type 0
+by_result P V o = elim o [ None ↦ P | Some r ↦ V r ]
+
+pub without : (P : Type 0) (V : Identifier → Type 0) (o : Option Identifier) → by_result P V o → o ≡ None → P
+without P V None a e = a
+without P V (Some r) a e = cc
+
+pub with_one : (P : Type 0) (V : Identifier → Type 0) (o : Option Identifier) → by_result P V o → (r : Identifier) → o ≡ Some r → V r
+with_one P V None a r e = cc
+with_one P V (Some q) a r e = subst V (same_some q r e) a
+
+module _ (t : ProgramTree) (d : SubprogramTree) (b : BodyTree) (v : Visible) (old : Draft) (words : SubprogramWords) (new : Draft)
+    (a : AddsSubprogram t d b v old words new) where
+  as_procedure : d.result ≡ None → AddsProcedure v old d.formals b words new
+  as_procedure e = without (AddsProcedure v old d.formals b words new) (λ r. AddsValueFunction t d b r v old words new) d.result a e
+
+  as_function : (r : Identifier) → d.result ≡ Some r → AddsValueFunction t d b r v old words new
+  as_function r e = with_one (AddsProcedure v old d.formals b words new) (λ z. AddsValueFunction t d b z v old words new) d.result a r e
+
+-- ---- no protected object has a ceiling where there is none
+
+no_ceilings : (s : Scope) (o : ℕ) → protected_count s ≡ 0 → ceiling_of s o ≡ 0
+no_ceilings [] o h = refl
+no_ceilings (n ∷ rest) o h = by_entity n.entity h (λ k. no_ceilings rest o k)
+  where
+    by_entity : (e : Entity) → one_if_protected e + protected_count rest ≡ 0 → (protected_count rest ≡ 0 → ceiling_of rest o ≡ 0)
+        → ceiling_or o e (ceiling_of rest o) ≡ 0
+    by_entity (Protected p) k later = absurd (omega (arith, k))
+    by_entity e k later = later (omega (arith, k))
+
+-- ---- where subprograms begin
+
+pub first_begins : (i : Sections) (n : ℕ) → first_place i n ≡ begins_at i.subprograms n
+first_begins i zero = refl
+first_begins i (suc n) = refl
+
+-- ---- main's calls
+
+module _ (program : Program) (d : Directory) (v : Visible) (told : AreTold program.scope d v) (m : Store) (w : TaskWork) (task : IsSoundTask program m None w) where
+  calls_judged : (all : List MainStatement) → Judged program task.scope task.outer task.around (map DoesStatement all)
+      → AreMainCalls program (numbers_of program d) v all
+  calls_judged [] j = tt
+  calls_judged (main.Null place ∷ rest) j = calls_judged rest j.1
+  calls_judged (main.Call package_ procedure ∷ rest) j = (
+    record {
+      procedure = j.0.0;
+      found = j.0.1;
+      bare = j.0.2;
+      numbered = λ number there. procedure_numbered program d procedure.name j.0.0 number j.0.1 (told.calls procedure.name number there);
+    },
+    calls_judged rest j.1,
+  )
+
+  calls_ready : (all : List MainStatement) → IsReady program w.own task.scope task.outer task.around (map DoesStatement all)
+      → AreMainCalls program (numbers_of program d) v all
+  calls_ready [] r = tt
+  calls_ready (x ∷ rest) r = calls_judged (x ∷ rest) r
+
+-- ---- what the image holds
+
+module _ (t : ProgramTree) (i : Sections) (h : HasProgram t i) where
+  abbrev program : Program
+  program = program_of t
+
+  abbrev all : List Subprogram
+  all = h.walk.subprograms.items
+
+  abbrev g : Package
+  g = package_of program h.directory
+
+  abbrev numbers : Numbers
+  numbers = numbers_of program h.directory
+
+  pub ordered : IsInOrder t i g
+  ordered = record {
+    scope = refl;
+    functions = refl;
+    slots = λ name. ap (λ v. told_of program.scope v.items name) h.slots ∙ h.are.slots name;
+    words = h.plain_words ∙ h.are.words;
+  }
+
+  pub in_front : (v : Framed) (place : ℕ) → v.names.scope ≡ front t place → AreTold program.scope h.directory v.names → IsInFront t g v place
+  in_front v place scope told = record {
+    scope = scope;
+    slots = told.slots;
+    calls = told.calls;
+    many_slots = told.entries.slots;
+    many_subprograms = told.entries.subprograms;
+  }
+
+  pub called_front : (number : ℕ) (s : Subprogram) → slice_get all number ≡ Some s → called i number ≡ Some s
+  called_front number s there = ap (λ l. slice_get l number) h.subprograms ∙ front_at all (main_row h.words (here h.draft.code) ∷ []) number s there
+
+  pub called_main : called i (length all) ≡ Some (main_row h.words (here h.draft.code))
+  called_main = ap (λ l. slice_get l (length all)) h.subprograms ∙ get_last all (main_row h.words (here h.draft.code))
+
+  pub first_is : (number : ℕ) → number ≤ length all → first_place i number ≡ begins_at all number
+  first_is number up =
+      first_begins i number ∙ ap (λ l. begins_at l number) h.subprograms ∙ begins_kept all (main_row h.words (here h.draft.code) ∷ []) number up
+
+  pub first_main : first_place i (length all) ≡ here h.walk.draft.code
+  first_main = first_is (length all) (omega arith) ∙ h.walked.end
+
+  grows : Extends (fresh h.walk.draft.code) h.draft.code
+  grows =
+      extends_trans (fresh h.walk.draft.code) h.main.called h.draft.code h.main.calls.extends
+      (added_extends h.main.called h.draft.code 0 op.Return h.main.returns)
+
+  pub holds_main : Holds i (here h.walk.draft.code) h.draft.code
+  holds_main k x le e = ap (λ l. slice_get l k) h.instructions ∙ e
+
+  -- those of bodies: main has none
+  rows_are : i.rows ≡ h.walk.draft.rows.items
+  rows_are = h.rows ∙ ap (λ r. r.items) h.main.rows
+
+  -- ---- bodies
+
+  pub body_there : (place : ℕ) (d : SubprogramTree) (b : BodyTree) → slice_get (declared_in t.package_) place ≡ Some (SubprogramBody d b)
+      → HasBody t h.directory place d b h.walk
+  body_there place d b at =
+      let w = h.whole in
+      let up = slice_get_within (declared_in t.package_) place (SubprogramBody d b) at in
+      h.walked.bodies place d b (omega (arith, w, up)) at
+
+  module _ (place : ℕ) (d : SubprogramTree) (b : BodyTree) (body : HasBody t h.directory place d b h.walk) where
+    pub begins_there : first_place i body.number ≡ here body.old.code
+    begins_there =
+        let up = slice_get_within all body.number (row_of body.words (here body.new.code)) body.there in
+        first_is body.number (omega (arith, up)) ∙ body.begins
+
+    pub holds_there : Holds i (here body.old.code) body.new.code
+    holds_there k y le e =
+        ap (λ l. slice_get l k) h.instructions ∙ grows.instructions k y (omega arith) (body.kept.instructions k y (omega arith) e)
+
+    pub labels_there : HasLabels i body.new.labels
+    labels_there = record { labels = λ k y le e. ap (λ l. slice_get l k) (h.labels ∙ h.main.labels) ∙ body.kept.labels k y (omega arith) e }
+
+    rows_with : (own : List Row) → body.new.rows.items ≡ body.old.rows.items ++ own → i.rows ≡ body.old.rows.items ++ (own ++ body.kept.later)
+    rows_with own more =
+        rows_are ∙ body.kept.rows ∙ ap (λ l. l ++ body.kept.later) more ∙ append_assoc body.old.rows.items own body.kept.later
+
+    -- what a procedure raises goes on by the rows that were added with its code
+    handled_there : AreNamed program → (adds : AddsProcedure body.seen body.old d.formals b body.words body.new)
+        → IsHandled i program (record body.old { code = adds.initial; words = adds.framed }) adds.run adds.runs.rows unhandled
+    handled_there named adds = record {
+      named = named;
+      exceptions = sym h.walked.exceptions ∙ ap (λ e. e.items) (body.kept.exceptions ∙ adds.exceptions ∙ adds.runs.rows.exceptions);
+      goes = goes_by_own i body.old.rows.items adds.runs.rows.added body.kept.later (here adds.initial) (here adds.run.code)
+          (rows_with adds.runs.rows.added (ap (λ r. r.items) adds.rows ∙ adds.runs.rows.appended))
+          (All-weaker (λ q. q.end_ ≤ here body.old.code) (λ q. q.end_ ≤ here adds.initial)
+          (λ q up. let e = adds.initialises.extends.longer in omega (arith, e, up)) body.old.rows.items body.before)
+          (All-weaker (λ q. here body.new.code ≤ q.start) (λ q. here adds.run.code ≤ q.start)
+          (λ q up. let e = adds.returns.extends.longer in omega (arith, e, up)) body.kept.later body.kept.behind);
+    }
+
+    -- no row covers code that adds none
+    uncovered_there : body.new.rows ≡ body.old.rows → GoesBy i unhandled (here body.old.code) (here body.new.code)
+    uncovered_there same =
+        goes_past i body.old.rows.items body.kept.later (here body.old.code) (here body.new.code)
+        (rows_are ∙ body.kept.rows ∙ ap (λ r. r.items ++ body.kept.later) same) body.before body.kept.behind
+
+  module _ (laws : LawsOfNames) (quiet : QuietStays) (shaped : InitialValuesHaveShape) (legal : IsLegal t) (restricted : IsRestricted t)
+      (well_formed : IsWellFormed i) where
+    of_program : IsPackageOf t i g
+    of_program = package_in_order laws t legal restricted i g ordered
+
+    module _ (place : ℕ) (d : SubprogramTree) (b : BodyTree) (at : slice_get (declared_in t.package_) place ≡ Some (SubprogramBody d b)) where
+      abbrev body : HasBody t h.directory place d b h.walk
+      body = body_there place d b at
+
+      abbrev row : Subprogram
+      row = row_of body.words (here body.new.code)
+
+      there : called i body.number ≡ Some row
+      there = called_front body.number row body.there
+
+      first : first_place i body.number ≡ here body.old.code
+      first = begins_there place d b body
+
+      holds : Holds i (here body.old.code) body.new.code
+      holds = holds_there place d b body
+
+      labels : HasLabels i body.new.labels
+      labels = labels_there place d b body
+
+      procedure_there : d.result ≡ None → IsProcedureCode i program g numbers (procedure_by program.scope (subprogram_body None d b)) body.number
+      procedure_there none =
+          let adds = as_procedure t d b body.seen body.old body.words body.new body.adds none in
+          procedure_emitted laws quiet shaped t legal restricted i well_formed g of_program numbers place d b at body.seen body.old body.new body.words
+          adds body.number row there first refl refl (ap results_of there) refl holds labels (handled_there place d b body (exceptions_are_named laws.premises t legal restricted) adds)
+          (λ name q n found told. procedure_numbered program h.directory name q n found told)
+          (in_front _ (suc place) body.scope body.told)
+
+      function_there : (r : Identifier) → d.result ≡ Some r → (value : ExprTree) → returned b.statements ≡ Some value
+          → IsFunctionCode i (library_of g) (function_by program.scope (subprogram_body None d b) r value) body.number
+      function_there r some value returns =
+          let y = as_function t d b body.seen body.old body.words body.new body.adds r some in
+          subst (λ e. IsFunctionCode i (library_of g) (function_by program.scope (subprogram_body None d b) r e) body.number)
+          (same_some y.value value (sym y.returns ∙ returns))
+          (function_emitted laws shaped t legal restricted i well_formed g of_program numbers place d b at r some y.value y.result y.named body.seen body.old
+          body.new body.words y.adds body.number row there first refl refl refl refl holds (uncovered_there place d b body y.adds.rows)
+          (in_front _ (suc place) body.scope body.told))
+
+      -- the number is the one that is told of the name
+      numbered : (number : ℕ) → told_of program.scope h.directory.numbers.items d.name.name ≡ Some number → body.number ≡ number
+      numbered number e = same_some body.number number (sym body.numbered ∙ e)
+
+    bodies : HasBodies laws t legal restricted i g of_program numbers
+    bodies = record {
+      procedures =
+          λ place d b at none number e. subst
+          (IsProcedureCode i program g numbers (procedure_by program.scope (subprogram_body None d b))) (numbered place d b at number e)
+          (procedure_there place d b at none);
+      functions = λ place d b at r some value returns number e. subst
+          (IsFunctionCode i (library_of g) (function_by program.scope (subprogram_body None d b) r value)) (numbered place d b at number e)
+          (function_there place d b at r some value returns);
+      outside = λ o name. refl;
+    }
+
+    code : HasCode i program g numbers
+    code = ada_linkd laws t legal restricted i g of_program numbers bodies quiet (h.exceptions ∙ h.are.exceptions)
+
+    -- ---- main
+
+    abbrev priority : ℕ
+    priority = base_priority program.scope t.main.aspect
+
+    sequential : IsSequential t priority
+    sequential = record {
+      tasks = ap (λ l. l ++ main_task program.scope t ∷ []) (h.are.tasks (package_bodies t.package_));
+      objects = h.unprotected;
+      ceilings = λ o. no_ceilings program.scope o h.unprotected;
+    }
+
+    calls : AreMainCalls program numbers h.walk.visible t.main.statements
+    calls =
+        let task : IsSoundTask program (first_store program) None (initial_work program 0) = (laws.starts t legal restricted).works 0 in
+        calls_ready program h.directory h.walk.visible h.walked.told (first_store program) (initial_work program 0) task t.main.statements
+        (subst (λ l. IsReady program (initial_work program 0).own task.scope task.outer task.around (task_items (slice_get l 0))) sequential.tasks task.work)
+
+    does : DoesMain t i g numbers
+    does = record {
+      priority = priority;
+      sequential = sequential;
+      exceptions = h.exceptions ∙ h.are.exceptions;
+      objects = h.objects;
+      number = length all;
+      tasks = h.tasks;
+      s = main_row h.words (here h.draft.code);
+      there = called_main;
+      results = h.main.results;
+      stop = here h.main.called;
+      up = (let e = h.main.calls.extends.longer in omega (arith, first_main, e));
+      within =
+          let e =
+          main_within i program g numbers h.walk.visible h.walk.draft h.draft h.words t.main.statements h.main holds_main calls (length all) first_main in
+          omega (arith, e);
+      statements =
+          main_emitted i program g numbers h.walk.visible h.walk.draft h.draft h.words t.main.statements h.main holds_main calls (length all) first_main;
+      return = main_returns i program g numbers h.walk.visible h.walk.draft h.draft h.words t.main.statements h.main holds_main calls (length all) first_main;
+      uncovered = goes_past i h.walk.draft.rows.items [] (first_place i (length all)) (here h.main.called)
+          (rows_are ∙ sym (append-nil h.walk.draft.rows.items))
+          (subst (λ n. LieInFront n h.walk.draft.rows.items) (sym first_main) (rows_in_front all h.walk.draft h.walked.rows))
+          (All-nil (λ q. here h.main.called ≤ q.start));
+      code = code;
+    }
+
+    abbrev seen : Framed
+    seen = record { names = h.walk.visible; room = 0; reserved = [] }
+
+    pub sections_linked : ImagesHaveSize → IsLinkedProgram t i g numbers
+    sections_linked sizes =
+        main_linked laws sizes t legal restricted i well_formed g of_program numbers seen
+        (in_front seen (length (declared_in t.package_)) (h.walked.scope ∙ ap (front t) h.whole) h.walked.told) refl does (omega arith)
+
+pub sections_mean_the_same : LawsOfNames → QuietStays → InitialValuesHaveShape → ImagesHaveSize → LinkedMeansTheSame → LinkedKeepsCount → SectionsMeanTheSame
+sections_mean_the_same laws quiet shaped sizes means keeps t i legal restricted well_formed h =
+    let program = program_of t in
+    let linked = sections_linked t i h laws quiet shaped legal restricted well_formed sizes in (
+      means t i (package_of program h.directory) (numbers_of program h.directory) well_formed legal restricted linked,
+      keeps t i (package_of program h.directory) (numbers_of program h.directory) well_formed legal restricted linked,
+    )

@@ -1,0 +1,375 @@
+-- How far a walk over a package is: in front of it, behind a declaration, and behind a body, with the rows of handlers that it has.
+use Rattle.std.proofs.Common.{◌≡◌, ℕ, zero, suc, ◌+◌, ◌<◌, ◌≤◌, List, [], ◌∷◌, ◌++◌, length, ◌⊎◌, inl, inr, Option, Some, refl, sym, ap, ◌∙◌, subst, arith, append-nil, append_assoc, length-append}
+use Rattle.std.proofs.lemmas.List.Elements.{All-append, All-nil, All-weaker}
+use Rattle.std.proofs.lemmas.Option.{slice_get_within}
+use Rattle.std.specs.Prelude.{slice_get, take}
+use Rattle.ada_tree.specs.declared.expression.Identifier.{Identifier}
+use Rattle.ada_tree.specs.StatementTree.{SubprogramTree}
+use Rattle.ada_tree.specs.ProgramTree.{BodyItemTree, BodyTree, ItemTree, OfItem, ProgramTree, SubprogramBody}
+use Rattle.handlers.specs.declared.rows.Row.{Row}
+use Rattle.image.specs.Sections.{end_of}
+use Rattle.image.specs.declared.subprograms.Subprogram.{Subprogram}
+use Rattle.types.specs.Scopes.{Scope}
+use Rattle.type_rules.specs.ProfileRules.{subprogram_scope}
+use Rattle.declaring.specs.ItemRules.{item_scope}
+use Rattle.legality.specs.MainRules.{item_name}
+use Rattle.meaning.specs.Programs.{program_of}
+use Rattle.sound_programs.proofs.Listing.{same_some}
+use Rattle.sound_programs.proofs.Walked.{scope_next}
+use Rattle.sound_programs.specs.Fronts.{declared_in, front, start_in}
+use Rattle.well_typed.proofs.Positions.{item_kept}
+use Rattle.expr_code.proofs.Growing.{get_last}
+use Rattle.expr_code.specs.Code.{Extends, StandsFrom, here}
+use Rattle.expr_code.specs.declared.visible.Visible.{Visible}
+use Rattle.stmt_code.specs.Emitting.{AddsRows}
+use Rattle.part_code.specs.Rows.{LiesWithin}
+use Rattle.stmt_code.specs.Subprograms.{KeepsRules, fresh}
+use Rattle.stmt_code.specs.declared.draft.Draft.{Draft}
+use Rattle.stmt_code.proofs.RowsAdded.{rows_kept, rows_then}
+use Rattle.package_code.specs.Counts.{bodies_among, bodies_before}
+use Rattle.package_code.specs.Directory.{AreTold, TellsNext}
+use Rattle.package_code.specs.Laws.{MayBeAdded}
+use Rattle.package_code.specs.Walking.{AddsBody, AddsSubprogram, BeginsWalk, HasBody, HasRows, IsDraftKept, IsWalked, LieInFront, LiesInOne, begins_at, row_of}
+use Rattle.package_code.specs.declared.directory.Directory.{Directory}
+use Rattle.package_code.specs.declared.walk.Walk.{Walk}
+use Rattle.package_code.proofs.Seen.{first_front}
+use Rattle.package_code.proofs.Told.{Grows, item_grows, subprogram_grows, told_next, unseen_told}
+
+-- ---- what drafts keep
+
+stands_then : {X : Type 0} (a b c : List X) → StandsFrom 0 a b → StandsFrom 0 b c → StandsFrom 0 a c
+stands_then a b c h k n x up there = k n x up (h n x up there)
+
+pub kept_self : (a : Draft) → IsDraftKept a a
+kept_self a = record {
+  instructions = λ n x up there. there;
+  longer = omega arith;
+  labels = λ n x up there. there;
+  exceptions = refl;
+  later = [];
+  rows = sym (append-nil a.rows.items);
+  behind = All-nil (λ q. here a.code ≤ q.start);
+}
+
+pub kept_then : (a b c : Draft) → IsDraftKept a b → IsDraftKept b c → IsDraftKept a c
+kept_then a b c h k = record {
+  instructions = stands_then a.code.instructions.items b.code.instructions.items c.code.instructions.items h.instructions k.instructions;
+  longer = (let one = h.longer in let two = k.longer in omega (arith, one, two));
+  labels = stands_then a.labels b.labels c.labels h.labels k.labels;
+  exceptions = k.exceptions ∙ h.exceptions;
+  later = h.later ++ k.later;
+  rows = k.rows ∙ ap (λ l. l ++ k.later) h.rows ∙ append_assoc a.rows.items h.later k.later;
+  behind = All-append (λ q. here a.code ≤ q.start) h.later k.later h.behind
+      (All-weaker (λ q. here b.code ≤ q.start) (λ q. here a.code ≤ q.start) (λ q up. let one = h.longer in omega (arith, one, up)) k.later k.behind);
+}
+
+-- code that extends what is there, with these labels and rows
+kept_by : (old new : Draft) → Extends (fresh old.code) new.code → StandsFrom 0 old.labels new.labels → AddsRows old new → IsDraftKept old new
+kept_by old new extends labels rows = record {
+  instructions = extends.instructions;
+  longer = extends.longer;
+  labels = labels;
+  exceptions = rows.exceptions;
+  later = rows.added;
+  rows = rows.appended;
+  behind = All-weaker (LiesWithin (here old.code) (here new.code)) (λ q. here old.code ≤ q.start) (λ q within. within.start) rows.added rows.within;
+}
+
+-- ---- where subprograms begin
+
+get_front : {X : Type 0} (xs ys : List X) (n : ℕ) → n < length xs → slice_get (xs ++ ys) n ≡ slice_get xs n
+get_front [] ys n h = absurd (omega (arith, h))
+get_front (x ∷ xs) ys zero h = refl
+get_front (x ∷ xs) ys (suc n) h = get_front xs ys n (omega (arith, h))
+
+pub begins_kept : (all more : List Subprogram) (n : ℕ) → n ≤ length all → begins_at (all ++ more) n ≡ begins_at all n
+begins_kept all more zero h = refl
+begins_kept all more (suc n) h = ap end_of (get_front all more n (omega (arith, h)))
+
+begins_behind : (all : List Subprogram) (s : Subprogram) → begins_at (all ++ s ∷ []) (length (all ++ s ∷ [])) ≡ s.end_
+begins_behind all s =
+    let long : length (all ++ s ∷ []) ≡ suc (length all) = (let e = length-append all (s ∷ []) in omega (arith, e)) in
+    ap (begins_at (all ++ s ∷ [])) long ∙ ap end_of (get_last all s)
+
+-- ---- rows of handlers
+
+module _ (all : List Subprogram) (draft : Draft) where
+  pub rows_are : (has : HasRows all draft) → draft.rows.items ≡ has.rows.added
+  rows_are has = has.rows.appended ∙ ap (λ l. l ++ has.rows.added) has.none
+
+  pub rows_in_front : HasRows all draft → LieInFront (here draft.code) draft.rows.items
+  rows_in_front has =
+      subst (LieInFront (here draft.code)) (sym (rows_are has))
+      (All-weaker (LiesWithin (here has.begun.code) (here draft.code)) (λ q. q.end_ ≤ here draft.code) (λ q within. within.end) has.rows.added has.rows.within)
+
+  -- in front of all
+  rows_begin : draft.code.instructions.items ≡ [] → draft.rows.items ≡ [] → HasRows all draft
+  rows_begin bare none = record {
+    begun = draft;
+    bare = bare;
+    none = none;
+    rows = rows_kept draft draft (refl, refl);
+    inside = All-nil (LiesInOne all);
+  }
+
+-- behind the code of one subprogram more
+module _ (all : List Subprogram) (row : Subprogram) (old new : Draft) (has : HasRows all old) (adds : AddsRows old new)
+    (extends : Extends (fresh old.code) new.code) (begins : begins_at all (length all) ≡ here old.code) (ends : row.end_ ≡ here new.code) where
+  abbrev more : List Subprogram
+  more = all ++ row ∷ []
+
+  longer_by_one : length more ≡ suc (length all)
+  longer_by_one = let long = length-append all (row ∷ []) in omega (arith, long)
+
+  inside_before : (q : Row) → LiesInOne all q → LiesInOne more q
+  inside_before q x =
+      let less = x.there in
+      record {
+        number = x.number;
+        there = (let long = longer_by_one in omega (arith, less, long));
+        within = subst (λ a. LiesWithin a (begins_at more (suc x.number)) q) (sym (begins_kept all (row ∷ []) x.number (omega (arith, less))))
+            (subst (λ b. LiesWithin (begins_at all x.number) b q) (sym (begins_kept all (row ∷ []) (suc x.number) (omega (arith, less)))) x.within);
+      }
+
+  inside_last : (q : Row) → LiesWithin (here old.code) (here new.code) q → LiesInOne more q
+  inside_last q within = record {
+    number = length all;
+    there = (let long = longer_by_one in omega (arith, long));
+    within = subst (λ a. LiesWithin a (begins_at more (suc (length all))) q) (sym (begins_kept all (row ∷ []) (length all) (omega arith) ∙ begins))
+        (subst (λ b. LiesWithin (here old.code) b q) (sym (ap end_of (get_last all row) ∙ ends)) within);
+  }
+
+  rows_more : HasRows more new
+  rows_more = record {
+    begun = has.begun;
+    bare = has.bare;
+    none = has.none;
+    rows = rows_then has.begun old new has.rows adds (let none : here has.begun.code ≡ 0 = ap length has.bare in omega (arith, none)) extends.longer
+        (λ place h. record { operation = h.operation; there = extends.instructions place _ (omega arith) h.there });
+    inside = All-append (LiesInOne more) has.rows.added adds.added (All-weaker (LiesInOne all) (LiesInOne more) inside_before has.rows.added has.inside)
+        (All-weaker (LiesWithin (here old.code) (here new.code)) (LiesInOne more) inside_last adds.added adds.within);
+  }
+
+-- ---- how many bodies there are
+
+among_next : (items : List BodyItemTree) (n : ℕ) (x : BodyItemTree) → slice_get items n ≡ Some x
+    → bodies_among (take (suc n) items) ≡ bodies_among (take n items) + bodies_among (x ∷ [])
+among_next [] n x h = cc
+among_next (y ∷ items) zero x h = (let e = ap (λ z. bodies_among (z ∷ [])) (same_some y x h) in omega (arith, e))
+among_next (SubprogramBody d b ∷ items) (suc n) x h = (let more = among_next items n x h in omega (arith, more))
+among_next (y ∷ items) (suc n) x h = among_next items n x h
+
+-- ---- the walk
+
+abbrev head_of : SubprogramTree → Option BodyItemTree → SubprogramTree
+head_of other (Some (SubprogramBody d b)) = d
+head_of other o = other
+
+abbrev body_of : BodyTree → Option BodyItemTree → BodyTree
+body_of other (Some (SubprogramBody d b)) = b
+body_of other o = other
+
+same_body : (d e : SubprogramTree) (b c : BodyTree) → Some (SubprogramBody d b) ≡ Some (SubprogramBody e c) → (d ≡ e) × (b ≡ c)
+same_body d e b c h = (ap (head_of d) h, ap (body_of b) h)
+
+module _ (t : ProgramTree) (directory : Directory) where
+  abbrev all : List BodyItemTree
+  all = declared_in t.package_
+
+  abbrev whole : Scope
+  whole = (program_of t).scope
+
+  -- how many bodies stand in front of the next place
+  more_before : (place : ℕ) (x : BodyItemTree) → slice_get all place ≡ Some x → bodies_before t (suc place) ≡ bodies_before t place + bodies_among (x ∷ [])
+  more_before place x at = among_next all place x at
+
+  plus_none : (n : ℕ) → n + 0 ≡ n
+  plus_none n = omega arith
+
+  pub walk_begins : (s : Scope) (names : List (List ℕ)) (w : Walk) → BeginsWalk s names w → s ≡ start_in t.package_
+      → names ≡ (program_of t).exceptions → IsWalked t directory w
+  walk_begins s names w begins is known = record {
+    scope = begins.visible.scope ∙ is ∙ sym (ap (front t) begins.place ∙ first_front (start_in t.package_) all);
+    told = unseen_told whole directory s w.visible begins.visible;
+    bodies = λ n d b less at. absurd (let place = begins.place in omega (arith, less, place));
+    end = ap (λ l. begins_at l (length l)) begins.subprograms ∙ sym (ap length begins.instructions);
+    many = ap length begins.subprograms ∙ sym (ap (bodies_before t) begins.place);
+    exceptions = begins.exceptions ∙ known;
+    rows = rows_begin w.subprograms.items w.draft begins.instructions begins.rows;
+  }
+
+  -- what bodies have stays while more are added
+  moved : (old new : Walk) (place : ℕ) (d : SubprogramTree) (b : BodyTree) (more : List Subprogram) → IsDraftKept old.draft new.draft
+      → new.subprograms.items ≡ old.subprograms.items ++ more
+      → HasBody t directory place d b old → HasBody t directory place d b new
+  moved old new place d b more kept subprograms has =
+      let within = slice_get_within old.subprograms.items has.number (row_of has.words (here has.new.code)) has.there in
+      record {
+        seen = has.seen;
+        scope = has.scope;
+        told = has.told;
+        old = has.old;
+        new = has.new;
+        words = has.words;
+        adds = has.adds;
+        called = has.called;
+        keeps = has.keeps;
+        before = has.before;
+        number = has.number;
+        numbered = has.numbered;
+        counted = has.counted;
+        there = ap (λ l. slice_get l has.number) subprograms
+            ∙ item_kept old.subprograms.items more has.number (row_of has.words (here has.new.code)) has.there;
+        begins = ap (λ l. begins_at l has.number) subprograms ∙ begins_kept old.subprograms.items more has.number (omega (arith, within)) ∙ has.begins;
+        kept = kept_then has.new old.draft new.draft has.kept kept;
+      }
+
+  -- the last of the first places, or one in front of it
+  pub last_or_before : (n k : ℕ) → n < suc k → (n ≡ k) ⊎ (n < k)
+  last_or_before zero zero h = inl refl
+  last_or_before zero (suc k) h = inr (omega arith)
+  last_or_before (suc n) zero h = absurd (omega (arith, h))
+  last_or_before (suc n) (suc k) h = elim (last_or_before n k (omega (arith, h))) [ inl e ↦ inl (ap suc e) | inr e ↦ inr (omega (arith, e)) ]
+
+  -- behind a declaration: nothing was added
+  pub declared_next : (old new : Walk) (i : ItemTree) → IsWalked t directory old → slice_get all old.place ≡ Some (OfItem i)
+      → new.place ≡ old.place + 1 → new.draft ≡ old.draft → new.subprograms ≡ old.subprograms → new.visible.scope ≡ front t (suc old.place)
+      → AreTold whole directory new.visible → IsWalked t directory new
+  declared_next old new i walked at place draft subprograms scope told = record {
+    scope = scope ∙ ap (front t) (sym next);
+    told = told;
+    bodies = λ n d b less there. by_place n d b there (last_or_before n old.place (omega (arith, less, place)));
+    end = ap (λ l. begins_at l.items (length l.items)) subprograms ∙ walked.end ∙ ap (λ z. here z.code) (sym draft);
+    many = ap (λ l. length l.items) subprograms ∙ walked.many ∙ sym (ap (bodies_before t) next ∙ more_before old.place (OfItem i) at ∙ plus_none (bodies_before t old.place));
+    exceptions = ap (λ z. z.exceptions.items) draft ∙ walked.exceptions;
+    rows = subst (λ z. HasRows new.subprograms.items z) (sym draft) (subst (λ l. HasRows l.items old.draft) (sym subprograms) walked.rows);
+  }
+    where
+      next : new.place ≡ suc old.place
+      next = omega (arith, place)
+
+      by_place : (n : ℕ) (d : SubprogramTree) (b : BodyTree) → slice_get all n ≡ Some (SubprogramBody d b) → (n ≡ old.place) ⊎ (n < old.place)
+          → HasBody t directory n d b new
+      by_place n d b there (inl same) = absurd (let both = sym at ∙ ap (slice_get all) (sym same) ∙ there in cc)
+      by_place n d b there (inr less) =
+          moved old new n d b [] (subst (IsDraftKept old.draft) (sym draft) (kept_self old.draft)) (ap (λ l. l.items) subprograms ∙ sym (append-nil old.subprograms.items))
+          (walked.bodies n d b less there)
+
+  -- behind a body, whose code was added where its name is visible
+  pub body_next : (old mid after new : Walk) (d : SubprogramTree) (b : BodyTree) → IsWalked t directory old
+      → slice_get all old.place ≡ Some (SubprogramBody d b)
+      → mid.draft ≡ old.draft → mid.subprograms ≡ old.subprograms → mid.visible.scope ≡ front t (suc old.place) → AreTold whole directory mid.visible
+      → AddsBody t directory d b mid after
+      → new.place ≡ old.place + 1 → new.draft ≡ after.draft → new.subprograms ≡ after.subprograms → new.visible ≡ after.visible
+      → IsWalked t directory new
+  body_next old mid after new d b walked at draft subprograms scope told adds place new_draft new_subprograms new_visible = record {
+    scope = ap (λ v. v.scope) seen ∙ scope ∙ ap (front t) (sym next);
+    told = subst (AreTold whole directory) (sym seen) told;
+    bodies = λ n e c less there. by_place n e c there (last_or_before n old.place (omega (arith, less, place)));
+    end = ap (λ l. begins_at l (length l)) rows ∙ begins_behind old.subprograms.items row ∙ ap (λ z. here z.code) (sym new_draft);
+    many = ap length rows ∙ length-append old.subprograms.items (row ∷ []) ∙ ap (λ n. n + 1) walked.many
+        ∙ sym (ap (bodies_before t) next ∙ more_before old.place (SubprogramBody d b) at);
+    exceptions = ap (λ e. e.items) kept.exceptions ∙ walked.exceptions;
+    rows = subst (λ l. HasRows l new.draft) (sym rows)
+        (rows_more old.subprograms.items row old.draft new.draft walked.rows keeps.rows keeps.extends walked.end (ap (λ z. here z.code) (sym new_draft)));
+  }
+    where
+      next : new.place ≡ suc old.place
+      next = omega (arith, place)
+
+      seen : new.visible ≡ mid.visible
+      seen = new_visible ∙ adds.visible
+
+      row : Subprogram
+      row = row_of adds.words (here after.draft.code)
+
+      rows : new.subprograms.items ≡ old.subprograms.items ++ row ∷ []
+      rows = ap (λ l. l.items) new_subprograms ∙ adds.row ∙ ap (λ l. l.items ++ row ∷ []) subprograms
+
+      added : AddsSubprogram t d b mid.visible old.draft adds.words new.draft
+      added =
+          subst (AddsSubprogram t d b mid.visible old.draft adds.words) (sym new_draft)
+          (subst (λ z. AddsSubprogram t d b mid.visible z adds.words after.draft) draft adds.adds)
+
+      keeps : KeepsRules mid.visible old.draft adds.words new.draft
+      keeps =
+          subst (KeepsRules mid.visible old.draft adds.words) (sym new_draft)
+          (subst (λ z. KeepsRules mid.visible z adds.words after.draft) draft adds.keeps)
+
+      kept : IsDraftKept old.draft new.draft
+      kept = kept_by old.draft new.draft keeps.extends keeps.labels keeps.rows
+
+      this : HasBody t directory old.place d b new
+      this = record {
+        seen = mid.visible;
+        scope = scope;
+        told = told;
+        old = old.draft;
+        new = new.draft;
+        words = adds.words;
+        adds = added;
+        called = adds.called;
+        keeps = keeps;
+        before = rows_in_front old.subprograms.items old.draft walked.rows;
+        number = length old.subprograms.items;
+        numbered = adds.numbered ∙ ap (λ l. Some (length l.items)) subprograms;
+        counted = walked.many;
+        there = ap (λ l. slice_get l (length old.subprograms.items)) rows ∙ get_last old.subprograms.items row
+            ∙ ap (λ z. Some (row_of adds.words (here z.code))) (sym new_draft);
+        begins = ap (λ l. begins_at l (length old.subprograms.items)) rows
+            ∙ begins_kept old.subprograms.items (row ∷ []) (length old.subprograms.items) (omega arith) ∙ walked.end;
+        kept = kept_self new.draft;
+      }
+
+      by_place : (n : ℕ) (e : SubprogramTree) (c : BodyTree) → slice_get all n ≡ Some (SubprogramBody e c) → (n ≡ old.place) ⊎ (n < old.place)
+          → HasBody t directory n e c new
+      by_place n e c there (inl same) =
+          let both = same_body d e b c (sym at ∙ ap (slice_get all) (sym same) ∙ there) in
+          subst (λ k. HasBody t directory k e c new) (sym same)
+          (subst (λ z. HasBody t directory old.place z c new) both.0 (subst (λ z. HasBody t directory old.place d z new) both.1 this))
+      by_place n e c there (inr less) = moved old new n e c (row ∷ []) kept rows (walked.bodies n e c less there)
+
+  -- behind what code does there
+  pub declared_goes : (old new : Walk) (i : ItemTree) (scope told_in : Scope) (name : Identifier) (later : Visible) → IsWalked t directory old
+      → slice_get all old.place ≡ Some (OfItem i)
+      → scope ≡ item_scope old.visible.scope i → told_in ≡ whole → name ≡ item_name i
+      → TellsNext told_in directory (record old.visible { scope = scope }) name.name later
+      → new.visible ≡ later → new.place ≡ old.place + 1 → new.draft ≡ old.draft → new.subprograms ≡ old.subprograms
+      → IsWalked t directory new
+  declared_goes old new i scope told_in name later walked at goes whole_is named next visible place draft subprograms =
+      let seen : Visible = record old.visible { scope = scope } in
+      let tells : TellsNext whole directory seen (item_name i).name later =
+      subst (λ n. TellsNext whole directory seen n.name later) named (subst (λ s. TellsNext s directory seen name.name later) whole_is next) in
+      declared_next old new i walked at place draft subprograms
+      (ap (λ v. v.scope) visible ∙ tells.scope ∙ goes ∙ ap (λ s. item_scope s i) walked.scope
+      ∙ sym (scope_next (start_in t.package_) all old.place (OfItem i) at))
+      (subst (AreTold whole directory) (sym visible)
+      (told_next whole directory old.visible seen later (item_name i).name walked.told refl refl
+      (subst (Grows old.visible.scope (item_name i).name) (sym goes) (item_grows old.visible.scope i)) tells))
+
+  module _ (old : Walk) (d : SubprogramTree) (b : BodyTree) (scope told_in : Scope) (later : Visible) (walked : IsWalked t directory old)
+      (at : slice_get all old.place ≡ Some (SubprogramBody d b)) (goes : scope ≡ subprogram_scope old.visible.scope d) (whole_is : told_in ≡ whole)
+      (next : TellsNext told_in directory (record old.visible { scope = scope }) d.name.name later) where
+    abbrev seen : Visible
+    seen = record old.visible { scope = scope }
+
+    tells : TellsNext whole directory seen d.name.name later
+    tells = subst (λ s. TellsNext s directory seen d.name.name later) whole_is next
+
+    pub scope_there : later.scope ≡ front t (suc old.place)
+    scope_there =
+        tells.scope ∙ goes ∙ ap (λ s. subprogram_scope s d) walked.scope ∙ sym (scope_next (start_in t.package_) all old.place (SubprogramBody d b) at)
+
+    pub may_be_added : MayBeAdded t (front t (suc old.place)) d b → MayBeAdded t later.scope d b
+    may_be_added added = subst (λ s. MayBeAdded t s d b) (sym scope_there) added
+
+    pub body_goes : (mid after new : Walk) → mid.visible ≡ later → mid.draft ≡ old.draft → mid.subprograms ≡ old.subprograms
+        → AddsBody t directory d b mid after
+        → new.place ≡ old.place + 1 → new.draft ≡ after.draft → new.subprograms ≡ after.subprograms → new.visible ≡ after.visible
+        → IsWalked t directory new
+    body_goes mid after new visible draft subprograms adds place new_draft new_subprograms new_visible =
+        body_next old mid after new d b walked at draft subprograms (ap (λ v. v.scope) visible ∙ scope_there)
+        (subst (AreTold whole directory) (sym visible)
+        (told_next whole directory old.visible seen later d.name.name walked.told refl refl
+        (subst (Grows old.visible.scope d.name.name) (sym goes) (subprogram_grows old.visible.scope d)) tells))
+        adds place new_draft new_subprograms new_visible

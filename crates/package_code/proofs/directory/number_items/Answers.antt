@@ -1,0 +1,15 @@
+use Rattle.std.proofs.Common.{rules}
+use Rattle.package_code.proofs.Numbered.{items_numbered, items_refused}
+use Rattle.package_code.proofs.directory.number_items.Goals as goal
+
+pub returns-in_err-next-clause-refused : goal.returns-in_err-next-clause-refused
+returns-in_err-next-clause-refused c =
+    let whole = items_refused c.args.items.now c.loop-item.item-index c.item-item.result c.loop-item.next c.in_err-next.field-0.0 c.loop-item-test.true
+    c.item-item.is c.loop-item.invariant.1 c.in_err-next.ensures.refused in
+    search (rules, whole)
+
+pub loop-item-preserved : goal.loop-item-preserved
+loop-item-preserved c =
+    items_numbered c.args.scope.now c.args.items.now c.loop-item.item-index c.item-item.result c.loop-item.numbers.items c.number_item.new.numbers.items
+    c.loop-item.next c.in_ok-next.next c.loop-item-test.true c.item-item.is c.loop-item.invariant.0 c.loop-item.invariant.1 c.in_ok-next.ensures.numbers
+    c.in_ok-next.ensures.next

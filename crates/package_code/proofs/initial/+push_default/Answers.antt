@@ -1,0 +1,108 @@
+use Rattle.std.proofs.Common.{◌≡◌, ◌++◌, None, Some, arith, pos, refl, rules, sym, ap, ◌∙◌, subst}
+use Rattle.std.specs.Prelude.{option_map}
+use Rattle.std.proofs.lemmas.Result.{IfErr-weaker, on_ok_weaker}
+use Rattle.types.specs.Entities.{Booleans, Integers, Records, Spans, Times, form_value}
+use Rattle.types.specs.Shapes.{component_shapes, fields_words, initial, initial_fields, repeated, shape_of, shapes, values_words}
+use Rattle.part_code.proofs.Lists.{take_all}
+use Rattle.part_code.proofs.Initials.{earlier_component, earlier_element}
+use Rattle.part_code.proofs.Lacking.{lacking}
+use Rattle.part_code.specs.Needs.{lacks_word}
+use Rattle.package_code.proofs.GlobalsRefused.{component_lacks, element_lacks, plain_lacks}
+use Rattle.package_code.proofs.InitialWords.{array_words, elements_next, fields_next, record_words, scalar_words}
+use Rattle.package_code.proofs.initial.+push_default.Goals as goal
+
+pub push_default-requires : goal.push_default-requires
+push_default-requires t c =
+    let form = sym c.in-Some-Array.ensures ∙ ap (λ f. Some (form_value f)) c.in-Some-Array.field-0-is in
+    let less = earlier_element c.args.scope.now c.requires.sound c.args.subtype c.in-Some-Array.field-0-0 c.in-Some-Array.many
+    c.in-Some-Array.element form in
+    (omega (arith, less, c.decreases), c.requires.sound)
+
+pub loop-preserved : goal.loop-preserved
+loop-preserved t c =
+    elements_next c.args.words.now.items c.loop.words.items c.push_default.new.words.items c.loop.counter _ c.loop.invariant
+    c.in_ok-push_default-in-Some-Array.ensures.words
+
+pub push_default-requires-in-loop-component : goal.push_default-requires-in-loop-component
+push_default-requires-in-loop-component t c =
+    let form = sym c.in-Some-Record.ensures ∙ ap (λ f. Some (form_value f)) c.in-Some-Record.field-0-is
+    ∙ ap (λ l. Some (Records l)) (sym c.as_slice-component-items.ensures) in
+    let less = earlier_component c.args.scope.now c.requires.sound c.args.subtype c.as_slice-component-items.result.now c.loop-component.component-index
+    c.component-item.result form c.loop-component-test.true c.component-item.is in
+    (omega (arith, less, c.decreases), c.requires.sound)
+
+pub loop-component-preserved : goal.loop-component-preserved
+loop-component-preserved t c =
+    fields_next _ c.as_slice-component-items.result.now c.args.words.now.items c.loop-component.words.items c.push_default-in-loop-component.new.words.items
+    c.loop-component.component-index c.component-item.result c.loop-component-test.true c.component-item.is c.loop-component.invariant
+    c.in_ok-push_default-in-Some-Record.ensures.words
+
+pub returns-in-Some-Integer-clause-words : goal.returns-in-Some-Integer-clause-words
+returns-in-Some-Integer-clause-words t c = on_ok_weaker c.push_word.result
+    (λ p.
+    scalar_words c.args.scope.now c.args.subtype c.args.words.now.items c.push_word.new.words.items _ c.args.subtype.first (search rules)
+    (Some Integers) (sym c.in-Some-Integer.ensures ∙ ap (λ f. Some (form_value f)) c.in-Some-Integer.field-0-is) refl p) c.push_word.ensures.words
+
+pub returns-in-Some-Boolean-clause-words : goal.returns-in-Some-Boolean-clause-words
+returns-in-Some-Boolean-clause-words t c = on_ok_weaker c.push_word-in-Some-Boolean.result
+    (λ p.
+    scalar_words c.args.scope.now c.args.subtype c.args.words.now.items c.push_word-in-Some-Boolean.new.words.items _ (pos 0) (search rules)
+    (Some Booleans) (sym c.in-Some-Boolean.ensures ∙ ap (λ f. Some (form_value f)) c.in-Some-Boolean.field-0-is) refl p)
+    c.push_word-in-Some-Boolean.ensures.words
+
+pub returns-after-loop-clause-words : goal.returns-after-loop-clause-words
+returns-after-loop-clause-words t c =
+    let form = sym c.in-Some-Array.ensures ∙ ap (λ f. Some (form_value f)) c.in-Some-Array.field-0-is in
+    let s = c.args.scope.now in
+    array_words s c.args.subtype c.args.words.now.items c.loop.words.items c.requires.sound c.in-Some-Array.field-0-0 c.in-Some-Array.many
+    c.in-Some-Array.element form
+    (subst (λ n. c.loop.words.items ≡ c.args.words.now.items ++ values_words (repeated n (initial s c.in-Some-Array.element)))
+    (omega (arith, c.loop-test.false, c.loop.auto.counter-end)) c.loop.invariant)
+
+pub returns-after-loop-component-clause-words : goal.returns-after-loop-component-clause-words
+returns-after-loop-component-clause-words t c =
+    let form = sym c.in-Some-Record.ensures ∙ ap (λ f. Some (form_value f)) c.in-Some-Record.field-0-is
+    ∙ ap (λ l. Some (Records l)) (sym c.as_slice-component-items.ensures) in
+    let s = c.args.scope.now in
+    let items = c.as_slice-component-items.result.now in
+    record_words s c.args.subtype c.args.words.now.items c.loop-component.words.items c.requires.sound items form
+    (subst
+    (λ l. c.loop-component.words.items ≡ c.args.words.now.items ++ fields_words (initial_fields (component_shapes (shapes s) l)))
+    (take_all items c.loop-component.component-index c.loop-component-test.false) c.loop-component.invariant)
+
+pub returns-in_err-push_default-in-Some-Array-clause-refused : goal.returns-in_err-push_default-in-Some-Array-clause-refused
+returns-in_err-push_default-in-Some-Array-clause-refused t c =
+    let form = sym c.in-Some-Array.ensures ∙ ap (λ f. Some (form_value f)) c.in-Some-Array.field-0-is in
+    let whole = element_lacks c.args.scope.now c.requires.sound c.args.subtype c.in-Some-Array.field-0-0 c.in-Some-Array.many c.in-Some-Array.element form
+    c.in_err-push_default-in-Some-Array.field-0.0 c.in_err-push_default-in-Some-Array.ensures.refused in
+    search (rules, whole)
+
+pub returns-in_err-push_default-in-Some-Record-clause-refused : goal.returns-in_err-push_default-in-Some-Record-clause-refused
+returns-in_err-push_default-in-Some-Record-clause-refused t c =
+    let form = sym c.in-Some-Record.ensures ∙ ap (λ f. Some (form_value f)) c.in-Some-Record.field-0-is
+    ∙ ap (λ l. Some (Records l)) (sym c.as_slice-component-items.ensures) in
+    let whole = component_lacks c.args.scope.now c.requires.sound c.args.subtype c.as_slice-component-items.result.now c.loop-component.component-index
+    c.component-item.result form c.loop-component-test.true c.component-item.is c.in_err-push_default-in-Some-Record.field-0.0
+    c.in_err-push_default-in-Some-Record.ensures.refused in
+    search (rules, whole)
+
+pub returns-in-Some-Integer-clause-refused : goal.returns-in-Some-Integer-clause-refused
+returns-in-Some-Integer-clause-refused t c =
+    IfErr-weaker _ _ _ (λ why r. plain_lacks (lacks_word (shape_of c.args.scope.now c.args.subtype)) why r) c.push_word.ensures.refused
+
+pub returns-in-Some-Boolean-clause-refused : goal.returns-in-Some-Boolean-clause-refused
+returns-in-Some-Boolean-clause-refused t c =
+    IfErr-weaker _ _ _ (λ why r. plain_lacks (lacks_word (shape_of c.args.scope.now c.args.subtype)) why r) c.push_word-in-Some-Boolean.ensures.refused
+
+pub returns-in-Some-Time-clause-refused : goal.returns-in-Some-Time-clause-refused
+returns-in-Some-Time-clause-refused t c =
+    lacking c.args.scope.now c.args.subtype (Some Times) (sym c.in-Some-Time.ensures ∙ ap (λ f. Some (form_value f)) c.in-Some-Time.field-0-is) refl refl
+
+pub returns-in-Some-TimeSpan-clause-refused : goal.returns-in-Some-TimeSpan-clause-refused
+returns-in-Some-TimeSpan-clause-refused t c =
+    lacking c.args.scope.now c.args.subtype (Some Spans) (sym c.in-Some-TimeSpan.ensures ∙ ap (λ f. Some (form_value f)) c.in-Some-TimeSpan.field-0-is)
+    refl refl
+
+pub returns-in-None-clause-refused : goal.returns-in-None-clause-refused
+returns-in-None-clause-refused t c =
+    lacking c.args.scope.now c.args.subtype None (sym c.form.ensures ∙ ap (option_map (λ f. form_value f.now)) c.in-None.is) refl refl

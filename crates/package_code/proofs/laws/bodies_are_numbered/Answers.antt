@@ -1,0 +1,5 @@
+use Rattle.package_code.proofs.Numbered.{bodies_numbered}
+use Rattle.package_code.proofs.laws.bodies_are_numbered.Goals as goal
+
+pub returns : goal.returns
+returns c = bodies_numbered c.premises_hold.ensures

@@ -1,0 +1,32 @@
+use Rattle.std.proofs.Common.{Some, refl, ap, ◌∙◌}
+use Rattle.ada_tree.specs.ProgramTree.{body_item_tree, program_tree}
+use Rattle.sound_programs.specs.Fronts.{declared_in}
+use Rattle.package_code.proofs.AsTold.{item_refused}
+use Rattle.package_code.proofs.Declared.{stands_at}
+use Rattle.package_code.proofs.walk.Walk.bodies.Goals as goal
+
+pub declaration-requires-clause-at : goal.declaration-requires-clause-at
+declaration-requires-clause-at c =
+    stands_at (declared_in (program_tree c.args.accepted.now).package_) c.args.self.now.place c.loop-item.self.place body_item_tree c.args.items.now
+    c.loop-item.item-index c.item-item.result c.requires.at c.loop-item.invariant.1.1 c.loop-item-test.true c.item-item.is
+    ∙ ap (λ x. Some (body_item_tree x)) c.in-Item.is
+
+pub subprogram-requires-clause-at : goal.subprogram-requires-clause-at
+subprogram-requires-clause-at c =
+    stands_at (declared_in (program_tree c.args.accepted.now).package_) c.args.self.now.place c.loop-item.self.place body_item_tree c.args.items.now
+    c.loop-item.item-index c.item-item.result c.requires.at c.loop-item.invariant.1.1 c.loop-item-test.true c.item-item.is
+    ∙ ap (λ x. Some (body_item_tree x)) c.in-Subprogram.is
+
+pub returns-in-Task-clause-refused : goal.returns-in-Task-clause-refused
+returns-in-Task-clause-refused c =
+    item_refused (program_tree c.args.accepted.now) c.loop-item.self.place _
+    (stands_at (declared_in (program_tree c.args.accepted.now).package_) c.args.self.now.place c.loop-item.self.place body_item_tree c.args.items.now
+    c.loop-item.item-index c.item-item.result c.requires.at c.loop-item.invariant.1.1 c.loop-item-test.true c.item-item.is
+    ∙ ap (λ x. Some (body_item_tree x)) c.in-Task.is) refl
+
+pub returns-in-Protected-clause-refused : goal.returns-in-Protected-clause-refused
+returns-in-Protected-clause-refused c =
+    item_refused (program_tree c.args.accepted.now) c.loop-item.self.place _
+    (stands_at (declared_in (program_tree c.args.accepted.now).package_) c.args.self.now.place c.loop-item.self.place body_item_tree c.args.items.now
+    c.loop-item.item-index c.item-item.result c.requires.at c.loop-item.invariant.1.1 c.loop-item-test.true c.item-item.is
+    ∙ ap (λ x. Some (body_item_tree x)) c.in-Protected.is) refl

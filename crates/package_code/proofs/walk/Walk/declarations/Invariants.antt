@@ -1,0 +1,9 @@
+use Rattle.std.proofs.Common.{◌≡◌, ◌+◌}
+use Rattle.ada_tree.specs.ProgramTree.{program_tree}
+use Rattle.package_code.specs.Walking.{IsAsTold, IsWalked}
+use Rattle.package_code.proofs.walk.Walk.declarations.Given as goal
+
+abbrev pub invariant-loop-item : goal.invariant-loop-item
+invariant-loop-item l =
+    IsWalked (program_tree l.accepted) l.directory l.self
+    × (IsAsTold (program_tree l.accepted) l.self × (l.self.place ≡ l.fn.self.place + l.item-index))

@@ -1,0 +1,81 @@
+-- What bodies see of the package: the places of its variables and the subprograms of its bodies, each by the name.
+use Rattle.std.specs.Prelude.{◌≡◌, ◌<◌, ◌⊎◌, ℕ, suc, List, [], ◌∷◌, ◌++◌, length, Option, Some, None, replicate, slice_get, slice_set, ⊤}
+use Rattle.ada_tree.specs.ProgramTree.{BodyItemTree, ProgramTree, SubprogramBody}
+use Rattle.types.specs.Scopes.{Scope, number_of}
+use Rattle.meaning.specs.Programs.{program_of}
+use Rattle.expr_code.specs.Seeing.{slot_of, subprogram_of, told_of}
+use Rattle.expr_code.specs.declared.refusal.Refusal.{Refusal}
+use Rattle.expr_code.specs.declared.refusal.Refusal.TheVariants as refusal
+use Rattle.expr_code.specs.declared.visible.Slot.{Slot}
+use Rattle.expr_code.specs.declared.visible.Visible.{Visible}
+use Rattle.part_code.specs.Emitting.{HasEntries}
+use Rattle.package_code.specs.Counts.{bodies_among}
+use Rattle.package_code.specs.Refusing.{number_among, number_in, slot_in}
+use Rattle.package_code.specs.declared.directory.Directory.{Directory}
+
+-- these names are visible, and nothing is told of any
+pub record IsUnseen (s : Scope) (v : Visible) : Type 0 where
+  pub scope : v.scope ≡ s
+  pub slots : v.slots ≡ replicate (length s) None
+  pub subprograms : v.subprograms ≡ replicate (length s) None
+
+-- What is told of visible names is what the directory tells of them, by their numbers in `whole`, in which all of the package is visible.
+pub record AreTold (whole : Scope) (d : Directory) (v : Visible) : Type 0 where
+  pub slots : (name : List ℕ) (slot : Slot) → slot_of v name ≡ Some slot → told_of whole d.slots.items name ≡ Some slot
+  pub calls : (name : List ℕ) (number : ℕ) → subprogram_of v name ≡ Some number → told_of whole d.numbers.items name ≡ Some number
+  pub entries : HasEntries v
+
+-- an entry more was added: what the directory tells of this name
+pub record TellsMore (whole : Scope) (d : Directory) (old : Visible) (name : List ℕ) (new : Visible) : Type 0 where
+  pub slots : new.slots ≡ old.slots ++ told_of whole d.slots.items name ∷ []
+  pub subprograms : new.subprograms ≡ old.subprograms ++ told_of whole d.numbers.items name ∷ []
+
+-- behind a declaration of this name: where it made the name visible, an entry was added for it
+pub record TellsNext (whole : Scope) (d : Directory) (old : Visible) (name : List ℕ) (new : Visible) : Type 0 where
+  pub tells : (new ≡ old) ⊎ TellsMore whole d old name new
+  pub scope : new.scope ≡ old.scope
+  pub entries : HasEntries new
+
+-- There are entries for all names, or for all but the last one.
+abbrev pub HasEntriesSoFar : Visible → Type 0
+HasEntriesSoFar v =
+    ((length v.slots ≡ length v.scope) × (length v.subprograms ≡ length v.scope))
+    ⊎ ((suc (length v.slots) ≡ length v.scope) × (suc (length v.subprograms) ≡ length v.scope))
+
+-- ---- numbers
+
+-- the first that was told
+abbrev pub first_told : Option ℕ → (one : ℕ) → Option ℕ
+first_told (Some first) one = Some first
+first_told None one = Some one
+
+-- the name with this number has this one, where it had none
+abbrev pub numbered_once : List (Option ℕ) → (number : ℕ) → (one : ℕ) → Option (Option ℕ) → List (Option ℕ)
+numbered_once all number one (Some o) = slice_set all number (first_told o one)
+numbered_once all number one None = all
+
+abbrev pub numbered_with : List (Option ℕ) → Option ℕ → (one : ℕ) → List (Option ℕ)
+numbered_with all None one = all
+numbered_with all (Some number) one = numbered_once all number one (slice_get all number)
+
+-- a body has the next number
+abbrev pub numbered_item : Scope → List (Option ℕ) → (one : ℕ) → BodyItemTree → List (Option ℕ)
+numbered_item s all one (SubprogramBody d b) = numbered_with all (number_of s d.name.name) one
+numbered_item s all one item = all
+
+-- of each visible name is told which of these bodies has it
+pub record HaveBodyNumbers (s : Scope) (items : List BodyItemTree) (numbers : List (Option ℕ)) : Type 0 where
+  pub many : length numbers ≡ length s
+  pub told : (name : List ℕ) (n : ℕ) → number_of s name ≡ Some n → told_of s numbers name ≡ number_among 0 items name
+
+-- there are more of them than numbers
+abbrev pub HasManyBodies : List BodyItemTree → Refusal → Type 0
+HasManyBodies items refusal.Memory = ⊤
+HasManyBodies items refusal.Limit = 65535 < bodies_among items
+HasManyBodies items refusal.Outside = ⊥
+
+-- ---- what is told of the names of a program
+
+pub record IsDirectory (t : ProgramTree) (d : Directory) : Type 0 where
+  pub slots : (name : List ℕ) → told_of (program_of t).scope d.slots.items name ≡ slot_in t name
+  pub numbers : (name : List ℕ) (n : ℕ) → number_of (program_of t).scope name ≡ Some n → told_of (program_of t).scope d.numbers.items name ≡ number_in t name

@@ -1,0 +1,92 @@
+-- What is proved of code that is put together from a program, as statements; each is the contract of a public function.
+use Rattle.std.specs.Prelude.{◌≡◌, ◌+◌, ◌≤◌, ℕ, suc, [], length, true, false, Some, is_some, slice_get}
+use Rattle.base.specs.declared.limits.TheConstants.{EXCEPTIONS, LABELS, SUBPROGRAMS, WORDS}
+use Rattle.ada_tree.specs.declared.expression.Identifier.{Identifier}
+use Rattle.ada_tree.specs.ExpressionTree.{ExprTree}
+use Rattle.ada_tree.specs.StatementTree.{SubprogramTree}
+use Rattle.ada_tree.specs.ProgramTree.{BodyTree, ProgramTree, SubprogramBody}
+use Rattle.types.specs.Scopes.{Scope}
+use Rattle.image.specs.Rules.{IsWellFormed}
+use Rattle.image.specs.Sections.{Sections}
+use Rattle.declaring.specs.BodyNames.{formals_scope}
+use Rattle.checking.specs.ProgramRules.{IsLegal}
+use Rattle.ravenscar.specs.ProgramRules.{IsRestricted}
+use Rattle.type_rules.specs.SubtypeNames.{subtype_of}
+use Rattle.meaning.specs.Programs.{package_items, program_of, returned, subtype_named}
+use Rattle.meaning.specs.SameMeaning.{KeepsCount, SameMeaning}
+use Rattle.well_typed.specs.SoundScopes.{SoundScope}
+use Rattle.sound_programs.specs.Fronts.{declared_in, front}
+use Rattle.expr_code.specs.Coming.{most_steps, size_of}
+use Rattle.expr_code.specs.Emitting.{IsFit}
+use Rattle.stmt_code.specs.Emitting.{IsLegalRun}
+use Rattle.part_code.specs.Needs.{are_unknown}
+use Rattle.stmt_code.specs.Subprograms.{CallsProcedures}
+use Rattle.package_code.specs.Counts.{bodies_among, bodies_before, instructions_bound}
+use Rattle.package_code.specs.Globals.{refuses_items}
+use Rattle.package_code.specs.Package.{first_words_of}
+use Rattle.package_code.specs.Program.{HasProgram, KeepsTables}
+use Rattle.package_code.specs.Refusing.{number_in, program_labels, program_needs, seen_at}
+
+-- the names of an accepted program are sound
+abbrev pub NamesAreSound : Type 0
+NamesAreSound = (t : ProgramTree) → IsLegal t → SoundScope (program_of t).scope
+
+-- what methods ask that add the code of a body, where the names in front of its parameters are visible
+pub record MayBeAdded (t : ProgramTree) (s : Scope) (d : SubprogramTree) (b : BodyTree) : Type 0 where
+  pub front : SoundScope s
+  pub sound : SoundScope (formals_scope s d.formals)
+  pub new_names : length (formals_scope s d.formals) ≡ length s + length d.formals
+  pub legal : IsLegalRun (formals_scope s d.formals) b.declarations b.statements b.handlers
+  pub fit : (r : Identifier) (value : ExprTree) → d.result ≡ Some r → returned b.statements ≡ Some value
+      → IsFit (formals_scope s d.formals) (subtype_named (program_of t).scope r) value
+  pub result : (r : Identifier) → d.result ≡ Some r → is_some (subtype_of (program_of t).scope r) ≡ true
+
+-- that is so of each body of an accepted program
+abbrev pub BodiesMayBeAdded : Type 0
+BodiesMayBeAdded = (t : ProgramTree) → IsLegal t → IsRestricted t → (place : ℕ) (d : SubprogramTree) (b : BodyTree)
+    → slice_get (declared_in t.package_) place ≡ Some (SubprogramBody d b)
+    → MayBeAdded t (front t (suc place)) d b
+
+-- main calls procedures of the package without parameters
+abbrev pub MainMayBeAdded : Type 0
+MainMayBeAdded = (t : ProgramTree) → IsLegal t → IsRestricted t → CallsProcedures (front t (length (declared_in t.package_))) t.main.statements
+
+-- no two bodies of an accepted program have one name: each has the number of its name
+abbrev pub BodiesAreNumbered : Type 0
+BodiesAreNumbered = (t : ProgramTree) → IsLegal t → IsRestricted t → (place : ℕ) (d : SubprogramTree) (b : BodyTree)
+    → slice_get (declared_in t.package_) place ≡ Some (SubprogramBody d b)
+    → number_in t d.name.name ≡ Some (bodies_before t place)
+
+-- no two variables of an accepted program have one name: what is not told of its declarations has no code yet
+abbrev pub VariablesArePlaced : Type 0
+VariablesArePlaced = (t : ProgramTree) → IsLegal t → IsRestricted t → refuses_items (program_of t).scope [] (package_items t.package_) ≡ true
+    → (program_needs t).outside ≡ true
+
+-- a program has no more labels, subprograms, main's among them, and exceptions, and its variables no more words, than an image
+pub record HasFew (t : ProgramTree) : Type 0 where
+  pub labels : length (program_labels t) ≤ LABELS
+  pub words : length (first_words_of (program_of t).variables) ≤ WORDS
+  pub subprograms : suc (bodies_among (declared_in t.package_)) ≤ SUBPROGRAMS
+  pub exceptions : length (program_of t).exceptions ≤ EXCEPTIONS
+
+-- that is so of accepted ones
+abbrev pub TablesAreSmall : Type 0
+TablesAreSmall = (t : ProgramTree) → IsLegal t → IsRestricted t → HasFew t
+
+-- each procedure that main calls has a body, and so a number
+abbrev pub MainIsKnown : Type 0
+MainIsKnown = (t : ProgramTree) → IsLegal t → IsRestricted t → are_unknown (seen_at t (length (declared_in t.package_))) t.main.statements ≡ false
+
+-- a well-formed image that was put together from an accepted program has its meaning, and keeps the count: for one step of the program, or one call within it,
+-- each frame takes at most twice as many steps as its subprogram has instructions, and one
+abbrev pub SectionsMeanTheSame : Type 0
+SectionsMeanTheSame = (t : ProgramTree) (i : Sections) → IsLegal t → IsRestricted t → IsWellFormed i → HasProgram t i
+    → SameMeaning t i × KeepsCount t i (most_steps i)
+
+-- the code of each subprogram has at most as many instructions as its text tells
+abbrev pub SectionsAreBounded : Type 0
+SectionsAreBounded = (t : ProgramTree) (i : Sections) → HasProgram t i → (number : ℕ) → size_of i number ≤ instructions_bound t number
+
+-- what was put together from an accepted program, with such tables, is well-formed
+abbrev pub SectionsAreWellFormed : Type 0
+SectionsAreWellFormed = (t : ProgramTree) (i : Sections) → IsLegal t → IsRestricted t → HasProgram t i → KeepsTables i → IsWellFormed i

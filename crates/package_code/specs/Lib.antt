@@ -1,0 +1,10 @@
+pub mod Linked
+pub mod Package
+pub mod LinkLaws
+pub mod Counts
+pub mod Refusing
+pub mod Globals
+pub mod Directory
+pub mod Walking
+pub mod Program
+pub mod Laws

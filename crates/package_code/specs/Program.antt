@@ -1,0 +1,66 @@
+-- What the sections of an image have that was put together from a program.
+use Rattle.std.specs.Prelude.{◌≡◌, ℕ, [], ◌∷◌, ◌++◌, length, Bool, ◌&&◌, true, nat_le}
+use Rattle.std.specs.List.{list_all}
+use Rattle.base.specs.Names.{is_label, is_name}
+use Rattle.base.specs.declared.limits.TheConstants.{EXCEPTIONS, LABELS, ROWS, SUBPROGRAMS, WORDS}
+use Rattle.ada_tree.specs.ProgramTree.{ProgramTree}
+use Rattle.image.specs.Sections.{Sections}
+use Rattle.image.specs.declared.subprograms.Kind.TheVariants as kinds
+use Rattle.image.specs.declared.subprograms.Subprogram.{Subprogram}
+use Rattle.declaring.specs.ProtectedRules.{protected_count}
+use Rattle.meaning.specs.Programs.{base_priority, package_items, program_of}
+use Rattle.sound_programs.specs.Fronts.{declared_in}
+use Rattle.expr_code.specs.Code.{here}
+use Rattle.stmt_code.specs.Subprograms.{AddsMain, KeepsRules}
+use Rattle.stmt_code.specs.declared.draft.Draft.{Draft}
+use Rattle.stmt_code.specs.declared.subprogram.SubprogramWords.{SubprogramWords}
+use Rattle.package_code.specs.Globals.{AreGlobals}
+use Rattle.package_code.specs.Walking.{IsWalked, row_of}
+use Rattle.package_code.specs.declared.directory.Directory.{Directory}
+use Rattle.package_code.specs.declared.globals.Globals.{Globals}
+use Rattle.package_code.specs.declared.walk.Walk.{Walk}
+
+abbrev pub main_row : SubprogramWords → (end : ℕ) → Subprogram
+main_row words end = record (row_of words end) { kind = kinds.TaskBody }
+
+-- The variables, the bodies and main of the program have what they need there, main behind all others. No task, and no protected object, is declared.
+pub record HasProgram (t : ProgramTree) (i : Sections) : Type 0 where
+  pub globals : Globals
+  pub are : AreGlobals (program_of t).scope (package_items t.package_) globals
+  pub directory : Directory
+  pub slots : directory.slots ≡ globals.slots
+  pub walk : Walk
+  pub walked : IsWalked t directory walk
+  pub whole : walk.place ≡ length (declared_in t.package_)
+  pub draft : Draft
+  pub words : SubprogramWords
+  pub main : AddsMain walk.visible walk.draft t.main.statements words draft
+  pub keeps : KeepsRules walk.visible walk.draft words draft
+  pub unprotected : protected_count (program_of t).scope ≡ 0
+  pub exceptions : i.exceptions ≡ globals.exceptions.items
+  pub labels : i.labels ≡ draft.labels
+  pub plain_words : i.plain_words ≡ globals.words.items
+  pub objects : i.objects ≡ []
+  pub subprograms : i.subprograms ≡ walk.subprograms.items ++ main_row words (here draft.code) ∷ []
+  pub tasks : i.tasks ≡ record {
+    name = t.main.name.name;
+    priority = base_priority (program_of t).scope t.main.aspect;
+    subprogram = length walk.subprograms.items;
+  } ∷ []
+  pub rows : i.rows ≡ draft.rows.items
+  pub instructions : i.instructions ≡ draft.code.instructions.items
+
+-- texts are names and labels, as those of a source text are
+abbrev pub has_texts : Sections → Bool
+has_texts i = list_all is_name i.exceptions && (list_all is_label i.labels && list_all (λ t. is_name t.name) i.tasks)
+
+-- what a program has of its own is within the limits of images
+abbrev pub is_within_limits : Sections → Bool
+is_within_limits i =
+    nat_le (length i.subprograms) SUBPROGRAMS
+    && (nat_le (length i.exceptions) EXCEPTIONS
+    && (nat_le (length i.labels) LABELS && (nat_le (length i.plain_words) WORDS && nat_le (length i.rows) ROWS)))
+
+pub record KeepsTables (i : Sections) : Type 0 where
+  pub texts : has_texts i ≡ true
+  pub limits : is_within_limits i ≡ true

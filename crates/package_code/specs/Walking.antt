@@ -1,0 +1,178 @@
+-- What a walk over the declarations and bodies of a package adds: the code of each body, one behind another, each a subprogram, and the rows of its handlers.
+use Rattle.std.specs.Prelude.{◌≡◌, ◌+◌, ◌<◌, ◌≤◌, ◌⊎◌, ℕ, zero, suc, List, [], ◌∷◌, ◌++◌, length, Some, None, slice_get, take}
+use Rattle.std.specs.List.{All}
+use Rattle.ada_tree.specs.declared.expression.Identifier.{Identifier}
+use Rattle.ada_tree.specs.ExpressionTree.{ExprTree}
+use Rattle.ada_tree.specs.StatementTree.{SubprogramTree}
+use Rattle.ada_tree.specs.ProgramTree.{BodyItemTree, BodyTree, ProgramTree, SubprogramBody}
+use Rattle.handlers.specs.declared.rows.Row.{Row}
+use Rattle.image.specs.Sections.{end_of}
+use Rattle.image.specs.declared.subprograms.Kind.TheVariants as kinds
+use Rattle.image.specs.declared.subprograms.Subprogram.{Subprogram}
+use Rattle.types.specs.declared.entity.Subtype.{Subtype}
+use Rattle.types.specs.Layouts.{total}
+use Rattle.types.specs.Scopes.{Scope}
+use Rattle.meaning.specs.Programs.{program_of, returned, subtype_named}
+use Rattle.sound_programs.specs.Fronts.{declared_in, front}
+use Rattle.expr_code.specs.Code.{StandsFrom, here}
+use Rattle.expr_code.specs.Seeing.{told_of}
+use Rattle.expr_code.specs.declared.refusal.Refusal.{Refusal}
+use Rattle.expr_code.specs.declared.visible.Visible.{Visible}
+use Rattle.part_code.specs.Bounds.{procedure_bound}
+use Rattle.stmt_code.specs.Emitting.{AddsRows}
+use Rattle.part_code.specs.Needs.{HasManyLabels, IsNeeding}
+use Rattle.part_code.specs.Rows.{LiesWithin}
+use Rattle.stmt_code.specs.Subprograms.{AddsFunction, AddsProcedure, IsCalledFunction, IsCalledProcedure, KeepsRules}
+use Rattle.stmt_code.specs.declared.draft.Draft.{Draft}
+use Rattle.stmt_code.specs.declared.subprogram.SubprogramWords.{SubprogramWords}
+use Rattle.package_code.specs.Counts.{bodies_before, bounds_from}
+use Rattle.package_code.specs.Directory.{AreTold, IsUnseen}
+use Rattle.package_code.specs.Refusing.{items_labels, items_rows, seen_at, subprogram_labels, subprogram_needs, subprogram_rows}
+use Rattle.package_code.specs.declared.directory.Directory.{Directory}
+use Rattle.package_code.specs.declared.walk.Walk.{Walk}
+
+-- these stand one behind another in the whole, from a place on
+abbrev pub StandFrom : (whole : List BodyItemTree) (from : ℕ) (part : List BodyItemTree) → Type 0
+StandFrom whole from part = (n : ℕ) (item : BodyItemTree) → slice_get part n ≡ Some item → slice_get whole (from + n) ≡ Some item
+
+-- ---- one body
+
+-- the code of a function was added, which returns the value of one expression
+pub record AddsValueFunction (t : ProgramTree) (d : SubprogramTree) (b : BodyTree) (r : Identifier) (v : Visible) (old : Draft) (words : SubprogramWords) (new : Draft)
+    : Type 0 where
+  pub value : ExprTree
+  pub returns : returned b.statements ≡ Some value
+  pub result : Subtype
+  pub named : result ≡ subtype_named (program_of t).scope r
+  pub adds : AddsFunction v old d.formals result value words new
+
+-- the code of the procedure, or of the function, was added
+abbrev pub AddsSubprogram : ProgramTree → SubprogramTree → BodyTree → Visible → (old : Draft) → SubprogramWords → (new : Draft) → Type 0
+AddsSubprogram t d b v old words new =
+    elim d.result [ None ↦ AddsProcedure v old d.formals b words new | Some r ↦ AddsValueFunction t d b r v old words new ]
+
+-- the words that are passed to its code and come back are those of its calls
+abbrev pub IsCalledSubprogram : ProgramTree → SubprogramTree → Scope → SubprogramWords → Type 0
+IsCalledSubprogram t d s words =
+    elim d.result [ None ↦ IsCalledProcedure s d.formals words | Some r ↦ IsCalledFunction s d.formals (subtype_named (program_of t).scope r) words ]
+
+-- the subprogram with these words that ends there
+abbrev pub row_of : SubprogramWords → (end : ℕ) → Subprogram
+row_of words end = record {
+  kind = kinds.Plain;
+  end_ = end;
+  parameters = words.passed;
+  results = words.results;
+  locals = words.locals;
+  stack = words.stack;
+}
+
+-- The body was added, and is the next subprogram; its code keeps the rules of images. Its number is the one that the directory tells of its name.
+pub record AddsBody (t : ProgramTree) (directory : Directory) (d : SubprogramTree) (b : BodyTree) (old new : Walk) : Type 0 where
+  pub words : SubprogramWords
+  pub adds : AddsSubprogram t d b old.visible old.draft words new.draft
+  pub called : IsCalledSubprogram t d old.visible.scope words
+  pub keeps : KeepsRules old.visible old.draft words new.draft
+  pub numbered : told_of (program_of t).scope directory.numbers.items d.name.name ≡ Some (length old.subprograms.items)
+  pub row : new.subprograms.items ≡ old.subprograms.items ++ row_of words (here new.draft.code) ∷ []
+  pub visible : new.visible ≡ old.visible
+  pub place : new.place ≡ old.place
+
+-- ... with the labels of its lines, and as many rows as its handlers have choices
+pub record AddsAsTold (old : Draft) (d : SubprogramTree) (b : BodyTree) (new : Draft) : Type 0 where
+  pub labels : new.labels ≡ subprogram_labels old.labels d b
+  pub rows : length new.rows.items ≡ subprogram_rows (length old.rows.items) d b
+
+-- why the code of a body isn't made, where the names in front of its parameters are visible
+abbrev pub RefusesBody : ProgramTree → Visible → (old : Draft) → SubprogramTree → BodyTree → Refusal → Type 0
+RefusesBody t v old d b why =
+    IsNeeding (here old.code + procedure_bound v.scope d.formals b) (subprogram_needs t v old.exceptions.items d b) why
+    ⊎ HasManyLabels (subprogram_labels old.labels d b) why
+
+-- ---- all of them
+
+-- where the subprogram of this number begins
+abbrev pub begins_at : List Subprogram → ℕ → ℕ
+begins_at all zero = 0
+begins_at all (suc n) = end_of (slice_get all n)
+
+-- what one draft has, the other has too; its other rows of handlers are those of code behind
+pub record IsDraftKept (old new : Draft) : Type 0 where
+  pub instructions : StandsFrom 0 old.code.instructions.items new.code.instructions.items
+  pub longer : here old.code ≤ here new.code
+  pub labels : StandsFrom 0 old.labels new.labels
+  pub exceptions : new.exceptions ≡ old.exceptions
+  pub later : List Row
+  pub rows : new.rows.items ≡ old.rows.items ++ later
+  pub behind : All (λ q. here old.code ≤ q.start) later
+
+-- rows of handlers that lie in front of a place
+abbrev pub LieInFront : (place : ℕ) → List Row → Type 0
+LieInFront place rows = All (λ q. q.end_ ≤ place) rows
+
+-- the body at this place of the package has its code, and its subprogram; the rows in front of its own lie in front of its code
+pub record HasBody (t : ProgramTree) (directory : Directory) (place : ℕ) (d : SubprogramTree) (b : BodyTree) (w : Walk) : Type 0 where
+  pub seen : Visible
+  pub scope : seen.scope ≡ front t (suc place)
+  pub told : AreTold (program_of t).scope directory seen
+  pub old : Draft
+  pub new : Draft
+  pub words : SubprogramWords
+  pub adds : AddsSubprogram t d b seen old words new
+  pub called : IsCalledSubprogram t d seen.scope words
+  pub keeps : KeepsRules seen old words new
+  pub before : LieInFront (here old.code) old.rows.items
+  pub number : ℕ
+  pub numbered : told_of (program_of t).scope directory.numbers.items d.name.name ≡ Some number
+  pub counted : number ≡ bodies_before t place
+  pub there : slice_get w.subprograms.items number ≡ Some (row_of words (here new.code))
+  pub begins : begins_at w.subprograms.items number ≡ here old.code
+  pub kept : IsDraftKept new w.draft
+
+-- ---- rows of handlers
+
+-- the row covers places of one of these subprograms, and leads to one of it
+pub record LiesInOne (all : List Subprogram) (q : Row) : Type 0 where
+  pub number : ℕ
+  pub there : number < length all
+  pub within : LiesWithin (begins_at all number) (begins_at all (suc number)) q
+
+-- All rows of the draft were added to one that had neither code nor rows, and each lies in one of these subprograms.
+pub record HasRows (all : List Subprogram) (draft : Draft) : Type 0 where
+  pub begun : Draft
+  pub bare : begun.code.instructions.items ≡ []
+  pub none : begun.rows.items ≡ []
+  pub rows : AddsRows begun draft
+  pub inside : All (LiesInOne all) rows.added
+
+-- ---- the walk
+
+-- in front of all of them, where these names are visible, in a program with these exceptions
+pub record BeginsWalk (s : Scope) (names : List (List ℕ)) (w : Walk) : Type 0 where
+  pub visible : IsUnseen s w.visible
+  pub place : w.place ≡ 0
+  pub instructions : w.draft.code.instructions.items ≡ []
+  pub labels : w.draft.labels ≡ []
+  pub rows : w.draft.rows.items ≡ []
+  pub exceptions : w.draft.exceptions.items ≡ names
+  pub subprograms : w.subprograms.items ≡ []
+
+-- Each body in front of the place where the walk is has its code, and no others have; what is visible there is told by the directory; the program has the
+-- draft's exceptions, and the rows of handlers are rows of the bodies.
+pub record IsWalked (t : ProgramTree) (directory : Directory) (w : Walk) : Type 0 where
+  pub scope : w.visible.scope ≡ front t w.place
+  pub told : AreTold (program_of t).scope directory w.visible
+  pub bodies : (place : ℕ) (d : SubprogramTree) (b : BodyTree) → place < w.place
+      → slice_get (declared_in t.package_) place ≡ Some (SubprogramBody d b)
+      → HasBody t directory place d b w
+  pub end : begins_at w.subprograms.items (length w.subprograms.items) ≡ here w.draft.code
+  pub many : length w.subprograms.items ≡ bodies_before t w.place
+  pub exceptions : w.draft.exceptions.items ≡ (program_of t).exceptions
+  pub rows : HasRows w.subprograms.items w.draft
+
+-- What is visible where the walk is, the labels there, how many rows of handlers there are, and how many instructions at most, are told by the text alone.
+pub record IsAsTold (t : ProgramTree) (w : Walk) : Type 0 where
+  pub seen : w.visible ≡ seen_at t w.place
+  pub few : here w.draft.code ≤ total (bounds_from t 0 (take w.place (declared_in t.package_)))
+  pub labels : w.draft.labels ≡ items_labels [] (take w.place (declared_in t.package_))
+  pub rows : length w.draft.rows.items ≡ items_rows 0 (take w.place (declared_in t.package_))

@@ -1,0 +1,158 @@
+//! What bodies see of the package: the places of its variables, and the numbers of its subprograms, by their names.
+ghost use Rattle.std.specs.Prelude.{◌≡◌, ◌+◌, ◌∷◌, [], None, false, map, replicate, IfErr, IfOk, OnOk};
+ghost use Rattle.ada_tree.specs.StatementTree.{optional_tree};
+ghost use Rattle.ada_tree.specs.ProgramTree.{body_item_tree, package_tree};
+ghost use Rattle.meaning.specs.Programs.{package_bodies};
+ghost use Rattle.expr_code.specs.Refusing.{IsRefused};
+ghost use Rattle.expr_code.specs.Seeing.{told_of};
+ghost use Rattle.package_code.specs.Counts.{bodies_among};
+ghost use Rattle.package_code.specs.Directory.{HaveBodyNumbers, HasManyBodies, HasEntriesSoFar, IsUnseen, TellsNext, first_told, numbered_item, numbered_with};
+
+use ada_tree::{BodyItem, Package};
+use expr_code::{Entries, Refusal, Slot, Visible};
+use lexer::Text;
+use std::alloc::Global;
+use types::Scope;
+
+/// What is told of the names of a package, by their numbers: where variables stand, and which subprogram is that of a body.
+#[derive(Drop)]
+pub struct Directory {
+    pub slots: Vec<Option<Slot>>,
+    pub numbers: Vec<Option<u16>>,
+}
+
+// What is told of a name.
+fn entry<T: Copy>(scope: &Scope, entries: &Vec<Option<T>>, name: &Text) -> Option<T>
+    ensures { result ≡ told_of scope.now entries.now.items name.now }
+{
+    let number = scope.number_of(name)?;
+    match entries.get(number) {
+        Some(entry) => *entry,
+        None => None,
+    }
+}
+
+// Nothing is told of so many names.
+fn no_numbers(alloc: Global, many: usize) -> Result<Vec<Option<u16>>, Refusal>
+    ensures none { IfOk result (λ numbers. numbers.items ≡ replicate many None) }
+    ensures refused { IfErr result (λ why. IsRefused 0 0 false why) }
+{
+    let mut numbers = Vec::new(alloc);
+    for _ in 0..many {
+        numbers.push(None)?;
+    }
+    Ok(numbers)
+}
+
+// The number that was told first.
+fn first_told(entry: Option<u16>, number: u16) -> Option<u16>
+    ensures { result ≡ first_told entry number }
+{
+    match entry {
+        Some(first) => Some(first),
+        None => Some(number),
+    }
+}
+
+// Tells the number of a name that had none, if it is visible.
+fn set(numbers: &mut Vec<Option<u16>>, place: Option<usize>, number: u16)
+    ensures { numbers.new.items ≡ numbered_with numbers.old.items place number }
+{
+    if let Some(place) = place {
+        if let Some(entry) = numbers.get_mut(place) {
+            *entry = first_told(*entry, number);
+        }
+    }
+}
+
+// Goes on behind an item of a package's body, where this is the number of the next body.
+fn number_item(
+    scope: &Scope,
+    numbers: &mut Vec<Option<u16>>,
+    next: u16,
+    item: &BodyItem,
+) -> Result<u16, Refusal>
+    ensures numbers { OnOk result (numbers.new.items ≡ numbered_item scope.now numbers.old.items next (body_item_tree item.now)) }
+    ensures next { IfOk result (λ number. number ≡ next + bodies_among (body_item_tree item.now ∷ [])) }
+    ensures refused { IfErr result (λ why. IsRefused (next + bodies_among (body_item_tree item.now ∷ [])) 0 false why) }
+{
+    match item {
+        BodyItem::Subprogram(subprogram, _) => {
+            set(numbers, scope.number_of(&subprogram.name.name), next);
+            next.checked_add(1).ok_or(Refusal::Limit)
+        }
+        BodyItem::Item(_) => Ok(next),
+        BodyItem::Task(_, _) => Ok(next),
+        BodyItem::Protected(_, _, _) => Ok(next),
+    }
+}
+
+// The numbers of the bodies among some items, by their names.
+fn number_items(
+    alloc: Global,
+    scope: &Scope,
+    items: &[BodyItem],
+) -> Result<Vec<Option<u16>>, Refusal>
+    ensures numbered { IfOk result (λ numbers. HaveBodyNumbers scope.now (map body_item_tree items.now) numbers.items) }
+    ensures refused { IfErr result (λ why. HasManyBodies (map body_item_tree items.now) why) }
+{
+    let mut numbers = no_numbers(alloc, scope.len())?;
+    let mut next = 0;
+    for item in items {
+        next = number_item(scope, &mut numbers, next, item)?;
+    }
+    Ok(numbers)
+}
+
+/// The numbers of subprograms, by the names of their bodies: that of a body is how many others stand in front of it.
+pub fn number_bodies(
+    alloc: Global,
+    scope: &Scope,
+    package_: &Option<Package>,
+) -> Result<Vec<Option<u16>>, Refusal>
+    ensures numbered { IfOk result (λ numbers. HaveBodyNumbers scope.now (package_bodies (optional_tree package_tree package_.now)) numbers.items) }
+    ensures refused { IfErr result (λ why. HasManyBodies (package_bodies (optional_tree package_tree package_.now)) why) }
+{
+    match package_ {
+        None => number_items(alloc, scope, &[]),
+        Some(package_) => number_items(alloc, scope, &package_.body.items),
+    }
+}
+
+/// What is visible in front of all of a package, of which nothing is told.
+pub(crate) fn unseen(alloc: Global, scope: Scope) -> Result<Visible, Refusal>
+    ensures unseen { IfOk result (λ visible. IsUnseen scope visible) }
+    ensures refused { IfErr result (λ why. IsRefused 0 0 false why) }
+{
+    let mut slots = Entries::new(alloc);
+    let mut subprograms = Entries::new(alloc);
+    for _ in 0..scope.len() {
+        slots.push(None)?;
+        subprograms.push(None)?;
+    }
+    Ok(Visible {
+        scope,
+        slots,
+        subprograms,
+    })
+}
+
+impl Directory {
+    /// Tells what is known of a name that has become visible, if it is a new one.
+    pub(crate) fn tell(
+        &self,
+        whole: &Scope,
+        visible: &mut Visible,
+        name: &Text,
+    ) -> Result<(), Refusal>
+        requires next { HasEntriesSoFar visible.old }
+        ensures tells { OnOk result (TellsNext whole.now self.now visible.old name.now visible.new) }
+        ensures refused { IfErr result (λ why. IsRefused 0 0 false why) }
+    {
+        if visible.slots.len() != visible.scope.len() {
+            visible.slots.push(entry(whole, &self.slots, name))?;
+            visible.subprograms.push(entry(whole, &self.numbers, name))?;
+        }
+        Ok(())
+    }
+}

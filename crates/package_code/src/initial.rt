@@ -1,0 +1,72 @@
+//! The words with which variables of a package begin (RM 3.3.1).
+ghost use Rattle.std.specs.Prelude.{◌≡◌, ◌∷◌, ◌++◌, [], false, IfErr, OnOk};
+ghost use Rattle.ada_tree.specs.ExpressionTree.{expr_tree};
+ghost use Rattle.ada_tree.specs.StatementTree.{optional_tree};
+ghost use Rattle.types.specs.Shapes.{initial, shape_of, value_words};
+ghost use Rattle.meaning.specs.Programs.{initial_value};
+ghost use Rattle.well_typed.specs.SoundScopes.{SoundScope};
+ghost use Rattle.expr_code.specs.Refusing.{IsRefused};
+ghost use Rattle.part_code.specs.Needs.{lacks_word};
+ghost use Rattle.package_code.specs.Refusing.{lacks_first_words};
+
+use ada_tree::Expr;
+use expr_code::{Refusal, scalar_word};
+use types::laws::static_is_value;
+use types::{Scope, Subtype, TypeForm, static_value};
+
+// Adds a word.
+fn push_word(words: &mut Vec<i64>, word: i64) -> Result<(), Refusal>
+    ensures words { OnOk result (words.new.items ≡ words.old.items ++ word ∷ []) }
+    ensures refused { IfErr result (λ why. IsRefused 0 0 false why) }
+{
+    words.push(word)?;
+    Ok(())
+}
+
+// Adds the words of an object without initial value.
+fn push_default(words: &mut Vec<i64>, scope: &Scope, subtype: Subtype) -> Result<(), Refusal>
+    requires sound { SoundScope scope.now }
+    ensures words { OnOk result (words.new.items ≡ words.old.items ++ value_words (initial scope.now subtype)) }
+    ensures refused { IfErr result (λ why. IsRefused 0 0 (lacks_word (shape_of scope.now subtype)) why) }
+{
+    match scope.form(subtype.type_number) {
+        Some(TypeForm::Integer) => push_word(words, subtype.first),
+        Some(TypeForm::Boolean) => push_word(words, 0),
+        Some(TypeForm::Array(_, many, element)) => {
+            for _ in 0..*many {
+                push_default(words, scope, *element)?;
+            }
+            Ok(())
+        }
+        Some(TypeForm::Record(components)) => {
+            for component in components.as_slice() {
+                push_default(words, scope, component.subtype)?;
+            }
+            Ok(())
+        }
+        Some(TypeForm::Time) => Err(Refusal::Outside),
+        Some(TypeForm::TimeSpan) => Err(Refusal::Outside),
+        None => Err(Refusal::Outside),
+    }
+}
+
+/// Adds the words of the initial value of a variable of a package: of the static one that is given, or that of an object without.
+pub(crate) fn push_initial(
+    words: &mut Vec<i64>,
+    scope: &Scope,
+    subtype: Subtype,
+    value: &Option<Expr>,
+) -> Result<(), Refusal>
+    requires sound { SoundScope scope.now }
+    ensures words { OnOk result (words.new.items ≡ words.old.items ++ value_words (initial_value scope.now subtype (optional_tree expr_tree value.now))) }
+    ensures refused { IfErr result (λ why. IsRefused 0 0 (lacks_first_words scope.now subtype (optional_tree expr_tree value.now)) why) }
+{
+    static_is_value();
+    match value {
+        Some(value) => match static_value(scope, value) {
+            Ok(value) => push_word(words, scalar_word(value)),
+            Err(_) => Err(Refusal::Outside),
+        },
+        None => push_default(words, scope, subtype),
+    }
+}

@@ -1,0 +1,350 @@
+//! The walk over the declarations and bodies of a package in the order of the text, which adds the code of each body (RM 7.2).
+ghost use Rattle.std.specs.Prelude.{◌≡◌, ◌+◌, false, is_none, is_some, length, map, slice_get, true, None, Some, IfErr, IfOk, OnOk};
+ghost use Rattle.ada_tree.specs.ExpressionTree.{expr_tree};
+ghost use Rattle.ada_tree.specs.StatementTree.{MoreStmts, NoStmts, stmt_tree, stmt_trees, subprogram_tree};
+ghost use Rattle.ada_tree.specs.ProgramTree.{OfItem, SubprogramBody, body_item_tree, body_tree, item_tree, program_tree};
+ghost use Rattle.checking.specs.ProgramRules.{IsLegal};
+ghost use Rattle.ravenscar.specs.ProgramRules.{IsRestricted};
+ghost use Rattle.meaning.specs.Programs.{program_of, returned, subtype_named};
+ghost use Rattle.sound_programs.specs.Fronts.{declared_in};
+ghost use Rattle.type_rules.specs.SubtypeNames.{subtype_of};
+ghost use Rattle.expr_code.specs.Code.{here};
+ghost use Rattle.expr_code.specs.Refusing.{IsRefused};
+ghost use Rattle.expr_code.specs.Seeing.{told_of};
+ghost use Rattle.part_code.specs.Emitting.{HasEntries};
+ghost use Rattle.stmt_code.specs.Subprograms.{IsCalledFunction, KeepsRules};
+ghost use Rattle.package_code.specs.Directory.{IsDirectory};
+ghost use Rattle.package_code.specs.Laws.{MayBeAdded};
+ghost use Rattle.package_code.specs.Refusing.{RefusesCode};
+ghost use Rattle.package_code.specs.Walking.{AddsAsTold, AddsBody, AddsSubprogram, AddsValueFunction, BeginsWalk, IsAsTold, IsCalledSubprogram, IsWalked, RefusesBody, StandFrom, row_of};
+
+use crate::directory::{Directory, unseen};
+use crate::laws::{bodies_are_numbered, bodies_may_be_added};
+use ada_tree::{Body, BodyItem, Expr, Identifier, Item, Package, Stmt, Subprogram};
+use declaring::declare_item;
+use expr_code::{Refusal, Visible};
+use image::Kind;
+use legality::{inside_scope, item_name};
+use lexer::Text;
+use ravenscar::Accepted;
+use std::alloc::Global;
+use stmt_code::{Draft, SubprogramWords};
+use type_rules::{declare_subprogram, subtype_of};
+use types::{Scope, Subtype};
+
+/// How far the walk is: so many declarations and bodies of the package are behind it.
+#[derive(Drop)]
+pub struct Walk {
+    pub alloc: Global,
+    pub place: usize,
+    /// The code of the bodies behind it, one behind another.
+    pub draft: Draft,
+    /// What is visible where it is.
+    pub visible: Visible,
+    /// The subprograms of these bodies.
+    pub subprograms: Vec<image::Subprogram>,
+}
+
+// The value that a statement returns.
+fn returned_value(statement: &Stmt) -> Result<&Expr, Refusal>
+    ensures value { IfOk result (λ value. returned (MoreStmts (stmt_tree statement.now) NoStmts) ≡ Some (expr_tree value.now)) }
+    ensures refused { IfErr result (λ why. IsRefused 0 0 (is_none (returned (MoreStmts (stmt_tree statement.now) NoStmts))) why) }
+{
+    match statement {
+        Stmt::Return(_, Some(value)) => Ok(value),
+        _ => Err(Refusal::Outside),
+    }
+}
+
+// The one that a function's body returns, which is a single return (RM 6.3).
+fn returned(statements: &[Stmt]) -> Result<&Expr, Refusal>
+    ensures value { IfOk result (λ value. returned (stmt_trees statements.now) ≡ Some (expr_tree value.now)) }
+    ensures refused { IfErr result (λ why. IsRefused 0 0 (is_none (returned (stmt_trees statements.now))) why) }
+{
+    match statements {
+        [statement] => returned_value(statement),
+        [] => Err(Refusal::Outside),
+        [_, _, ..] => Err(Refusal::Outside),
+    }
+}
+
+// The subtype of a function's result.
+fn result_subtype(scope: &Scope, name: &Identifier) -> Subtype
+    requires { is_some (subtype_of scope.now name.now) ≡ true }
+    ensures { result ≡ subtype_named scope.now name.now }
+{
+    match subtype_of(scope, name) {
+        Some(subtype) => subtype,
+        None => unreachable!(),
+    }
+}
+
+/// The subprogram of the code that was added last, with these words.
+pub fn row(kind: Kind, words: SubprogramWords, draft: &Draft) -> Result<image::Subprogram, Refusal>
+    ensures row { IfOk result (λ row. row ≡ record (row_of words (here draft.now.code)) { kind = kind }) }
+    ensures refused { IfErr result (λ why. IsRefused (here draft.now.code) 0 false why) }
+{
+    let end_ = u16::try_from(draft.code.instructions.len()).map_err(|_| Refusal::Limit)?;
+    Ok(image::Subprogram {
+        kind,
+        end_,
+        parameters: words.passed,
+        results: words.results,
+        locals: words.locals,
+        stack: words.stack,
+    })
+}
+
+impl Walk {
+    // In front of all of them, where these names are visible, in a program with these exceptions.
+    fn new(alloc: Global, scope: Scope, exceptions: Vec<Text>) -> Result<Walk, Refusal>
+        ensures begins { IfOk result (λ walk. BeginsWalk scope exceptions.items walk) }
+        ensures refused { IfErr result (λ why. IsRefused 0 0 false why) }
+    {
+        Ok(Walk {
+            alloc,
+            place: 0,
+            draft: Draft::new(alloc, exceptions),
+            visible: unseen(alloc, scope)?,
+            subprograms: Vec::new(alloc),
+        })
+    }
+
+    // Adds the code of a function, which returns the value of one expression.
+    fn function(
+        &mut self,
+        accepted: &Accepted,
+        subprogram: &Subprogram,
+        body: &Body,
+        subtype: &Identifier,
+    ) -> Result<SubprogramWords, Refusal>
+        requires added { MayBeAdded (program_tree accepted.now) self.old.visible.scope (subprogram_tree subprogram.now) (body_tree body.now) }
+        requires entries { HasEntries self.old.visible }
+        requires subtype { (subprogram_tree subprogram.now).result ≡ Some subtype.now }
+        ensures adds { IfOk result (λ words. AddsValueFunction (program_tree accepted.now) (subprogram_tree subprogram.now) (body_tree body.now) subtype.now self.old.visible self.old.draft words self.new.draft) }
+        ensures called { IfOk result (λ words. IsCalledFunction self.old.visible.scope (subprogram_tree subprogram.now).formals (subtype_named (program_of (program_tree accepted.now)).scope subtype.now) words) }
+        ensures keeps { IfOk result (λ words. KeepsRules self.old.visible self.old.draft words self.new.draft) }
+        ensures visible { OnOk result (self.new.visible ≡ self.old.visible) }
+        ensures place { OnOk result (self.new.place ≡ self.old.place) }
+        ensures subprograms { OnOk result (self.new.subprograms ≡ self.old.subprograms) }
+        ensures told { OnOk result (AddsAsTold self.old.draft (subprogram_tree subprogram.now) (body_tree body.now) self.new.draft) }
+        ensures refused { IfErr result (λ why. RefusesBody (program_tree accepted.now) self.old.visible self.old.draft (subprogram_tree subprogram.now) (body_tree body.now) why) }
+    {
+        let value = returned(&body.statements)?;
+        let result = result_subtype(accepted.scope(), subtype);
+        self.draft
+            .function(&mut self.visible, &subprogram.formals, result, value)
+    }
+
+    // Adds the code of a procedure or a function.
+    fn code(
+        &mut self,
+        accepted: &Accepted,
+        subprogram: &Subprogram,
+        body: &Body,
+    ) -> Result<SubprogramWords, Refusal>
+        requires added { MayBeAdded (program_tree accepted.now) self.old.visible.scope (subprogram_tree subprogram.now) (body_tree body.now) }
+        requires entries { HasEntries self.old.visible }
+        ensures adds { IfOk result (λ words. AddsSubprogram (program_tree accepted.now) (subprogram_tree subprogram.now) (body_tree body.now) self.old.visible self.old.draft words self.new.draft) }
+        ensures called { IfOk result (λ words. IsCalledSubprogram (program_tree accepted.now) (subprogram_tree subprogram.now) self.old.visible.scope words) }
+        ensures keeps { IfOk result (λ words. KeepsRules self.old.visible self.old.draft words self.new.draft) }
+        ensures visible { OnOk result (self.new.visible ≡ self.old.visible) }
+        ensures place { OnOk result (self.new.place ≡ self.old.place) }
+        ensures subprograms { OnOk result (self.new.subprograms ≡ self.old.subprograms) }
+        ensures told { OnOk result (AddsAsTold self.old.draft (subprogram_tree subprogram.now) (body_tree body.now) self.new.draft) }
+        ensures refused { IfErr result (λ why. RefusesBody (program_tree accepted.now) self.old.visible self.old.draft (subprogram_tree subprogram.now) (body_tree body.now) why) }
+    {
+        match &subprogram.result {
+            Some(subtype) => self.function(accepted, subprogram, body, subtype),
+            None => self
+                .draft
+                .procedure(&mut self.visible, &subprogram.formals, body),
+        }
+    }
+
+    // Adds the body of a subprogram, whose name is visible, and has the number that the directory tells.
+    fn body(
+        &mut self,
+        accepted: &Accepted,
+        directory: &Directory,
+        subprogram: &Subprogram,
+        body: &Body,
+    ) -> Result<(), Refusal>
+        requires added { MayBeAdded (program_tree accepted.now) self.old.visible.scope (subprogram_tree subprogram.now) (body_tree body.now) }
+        requires entries { HasEntries self.old.visible }
+        requires numbered { told_of (program_of (program_tree accepted.now)).scope directory.now.numbers.items (subprogram_tree subprogram.now).name.name ≡ Some (length self.old.subprograms.items) }
+        ensures adds { OnOk result (AddsBody (program_tree accepted.now) directory.now (subprogram_tree subprogram.now) (body_tree body.now) self.old self.new) }
+        ensures told { OnOk result (AddsAsTold self.old.draft (subprogram_tree subprogram.now) (body_tree body.now) self.new.draft) }
+        ensures refused { IfErr result (λ why. RefusesBody (program_tree accepted.now) self.old.visible self.old.draft (subprogram_tree subprogram.now) (body_tree body.now) why) }
+    {
+        let words = self.code(accepted, subprogram, body)?;
+        self.subprograms
+            .push(row(Kind::Plain, words, &self.draft)?)?;
+        Ok(())
+    }
+
+    // Goes on behind a declaration.
+    fn declaration(
+        &mut self,
+        accepted: &Accepted,
+        directory: &Directory,
+        item: &Item,
+    ) -> Result<(), Refusal>
+        requires walked { IsWalked (program_tree accepted.now) directory.now self.old }
+        requires directory { IsDirectory (program_tree accepted.now) directory.now }
+        requires told { IsAsTold (program_tree accepted.now) self.old }
+        requires at { slice_get (declared_in (program_tree accepted.now).package_) self.old.place ≡ Some (OfItem (item_tree item.now)) }
+        ensures walked { OnOk result (IsWalked (program_tree accepted.now) directory.now self.new) }
+        ensures place { OnOk result (self.new.place ≡ self.old.place + 1) }
+        ensures told { OnOk result (IsAsTold (program_tree accepted.now) self.new) }
+        ensures refused { IfErr result (λ why. RefusesCode (program_tree accepted.now) why) }
+    {
+        declare_item(self.alloc, &mut self.visible.scope, item)?;
+        directory.tell(accepted.scope(), &mut self.visible, &item_name(item).name)?;
+        self.place += 1;
+        Ok(())
+    }
+
+    // Goes on behind the body of a subprogram.
+    fn subprogram(
+        &mut self,
+        accepted: &Accepted,
+        directory: &Directory,
+        subprogram: &Subprogram,
+        body: &Body,
+    ) -> Result<(), Refusal>
+        requires legal { IsLegal (program_tree accepted.now) }
+        requires restricted { IsRestricted (program_tree accepted.now) }
+        requires walked { IsWalked (program_tree accepted.now) directory.now self.old }
+        requires directory { IsDirectory (program_tree accepted.now) directory.now }
+        requires told { IsAsTold (program_tree accepted.now) self.old }
+        requires at { slice_get (declared_in (program_tree accepted.now).package_) self.old.place ≡ Some (SubprogramBody (subprogram_tree subprogram.now) (body_tree body.now)) }
+        ensures walked { OnOk result (IsWalked (program_tree accepted.now) directory.now self.new) }
+        ensures place { OnOk result (self.new.place ≡ self.old.place + 1) }
+        ensures told { OnOk result (IsAsTold (program_tree accepted.now) self.new) }
+        ensures refused { IfErr result (λ why. RefusesCode (program_tree accepted.now) why) }
+    {
+        bodies_are_numbered();
+        bodies_may_be_added();
+        declare_subprogram(self.alloc, &mut self.visible.scope, subprogram)?;
+        directory.tell(accepted.scope(), &mut self.visible, &subprogram.name.name)?;
+        self.body(accepted, directory, subprogram, body)?;
+        self.place += 1;
+        Ok(())
+    }
+
+    // Goes on behind declarations.
+    fn declarations(
+        &mut self,
+        accepted: &Accepted,
+        directory: &Directory,
+        items: &[Item],
+    ) -> Result<(), Refusal>
+        requires walked { IsWalked (program_tree accepted.now) directory.now self.old }
+        requires directory { IsDirectory (program_tree accepted.now) directory.now }
+        requires told { IsAsTold (program_tree accepted.now) self.old }
+        requires at { StandFrom (declared_in (program_tree accepted.now).package_) self.old.place (map OfItem (map item_tree items.now)) }
+        ensures walked { OnOk result (IsWalked (program_tree accepted.now) directory.now self.new) }
+        ensures place { OnOk result (self.new.place ≡ self.old.place + length items.now) }
+        ensures told { OnOk result (IsAsTold (program_tree accepted.now) self.new) }
+        ensures refused { IfErr result (λ why. RefusesCode (program_tree accepted.now) why) }
+    {
+        for item in items {
+            self.declaration(accepted, directory, item)?;
+        }
+        Ok(())
+    }
+
+    // Goes on behind declarations and bodies.
+    fn bodies(
+        &mut self,
+        accepted: &Accepted,
+        directory: &Directory,
+        items: &[BodyItem],
+    ) -> Result<(), Refusal>
+        requires legal { IsLegal (program_tree accepted.now) }
+        requires restricted { IsRestricted (program_tree accepted.now) }
+        requires walked { IsWalked (program_tree accepted.now) directory.now self.old }
+        requires directory { IsDirectory (program_tree accepted.now) directory.now }
+        requires told { IsAsTold (program_tree accepted.now) self.old }
+        requires at { StandFrom (declared_in (program_tree accepted.now).package_) self.old.place (map body_item_tree items.now) }
+        ensures walked { OnOk result (IsWalked (program_tree accepted.now) directory.now self.new) }
+        ensures place { OnOk result (self.new.place ≡ self.old.place + length items.now) }
+        ensures told { OnOk result (IsAsTold (program_tree accepted.now) self.new) }
+        ensures refused { IfErr result (λ why. RefusesCode (program_tree accepted.now) why) }
+    {
+        for item in items {
+            match item {
+                BodyItem::Item(item) => self.declaration(accepted, directory, item)?,
+                BodyItem::Subprogram(subprogram, body) => {
+                    self.subprogram(accepted, directory, subprogram, body)?;
+                }
+                BodyItem::Task(_, _) => return Err(Refusal::Outside),
+                BodyItem::Protected(_, _, _) => return Err(Refusal::Outside),
+            }
+        }
+        Ok(())
+    }
+}
+
+// The walk over a package.
+fn walk_package(
+    alloc: Global,
+    accepted: &Accepted,
+    directory: &Directory,
+    exceptions: Vec<Text>,
+    package_: &Package,
+) -> Result<Walk, Refusal>
+    requires legal { IsLegal (program_tree accepted.now) }
+    requires restricted { IsRestricted (program_tree accepted.now) }
+    requires is { accepted.now.package_ ≡ Some package_.now }
+    requires directory { IsDirectory (program_tree accepted.now) directory.now }
+    requires exceptions { exceptions.items ≡ (program_of (program_tree accepted.now)).exceptions }
+    ensures walked { IfOk result (λ walk. IsWalked (program_tree accepted.now) directory.now walk) }
+    ensures whole { IfOk result (λ walk. walk.place ≡ length (declared_in (program_tree accepted.now).package_)) }
+    ensures told { IfOk result (λ walk. IsAsTold (program_tree accepted.now) walk) }
+    ensures refused { IfErr result (λ why. RefusesCode (program_tree accepted.now) why) }
+{
+    let mut walk = Walk::new(alloc, inside_scope(alloc, package_)?, exceptions)?;
+    walk.declarations(accepted, directory, &package_.declaration.items)?;
+    walk.bodies(accepted, directory, &package_.body.items)?;
+    Ok(walk)
+}
+
+// That of a program without one.
+fn walk_nothing(
+    alloc: Global,
+    accepted: &Accepted,
+    directory: &Directory,
+    exceptions: Vec<Text>,
+) -> Result<Walk, Refusal>
+    requires is { accepted.now.package_ ≡ None }
+    requires exceptions { exceptions.items ≡ (program_of (program_tree accepted.now)).exceptions }
+    ensures walked { IfOk result (λ walk. IsWalked (program_tree accepted.now) directory.now walk) }
+    ensures whole { IfOk result (λ walk. walk.place ≡ length (declared_in (program_tree accepted.now).package_)) }
+    ensures told { IfOk result (λ walk. IsAsTold (program_tree accepted.now) walk) }
+    ensures refused { IfErr result (λ why. RefusesCode (program_tree accepted.now) why) }
+{
+    let walk = Walk::new(alloc, Scope::standard(alloc)?, exceptions)?;
+    Ok(walk)
+}
+
+/// The walk over all of a program's package, where these are the program's exceptions.
+pub fn walk_over(
+    alloc: Global,
+    accepted: &Accepted,
+    directory: &Directory,
+    exceptions: Vec<Text>,
+) -> Result<Walk, Refusal>
+    requires directory { IsDirectory (program_tree accepted.now) directory.now }
+    requires exceptions { exceptions.items ≡ (program_of (program_tree accepted.now)).exceptions }
+    ensures walked { IfOk result (λ walk. IsWalked (program_tree accepted.now) directory.now walk) }
+    ensures whole { IfOk result (λ walk. walk.place ≡ length (declared_in (program_tree accepted.now).package_)) }
+    ensures told { IfOk result (λ walk. IsAsTold (program_tree accepted.now) walk) }
+    ensures refused { IfErr result (λ why. RefusesCode (program_tree accepted.now) why) }
+{
+    match &accepted.program().package_ {
+        None => walk_nothing(alloc, accepted, directory, exceptions),
+        Some(package_) => walk_package(alloc, accepted, directory, exceptions, package_),
+    }
+}

@@ -1,0 +1,95 @@
+-- What legality tells of `case`: its expression comes to a number or a truth value, and its static choices to the same values wherever they are seen.
+use Rattle.std.proofs.Common.{◌≡◌, ℕ, ℤ, [], Bool, true, Option, Some, None, refl, sym, ap, ◌∙◌, subst, inl, inr}
+use Rattle.image.specs.Sections.{Sections}
+use Rattle.kernel.specs.Laws.{QuietStays}
+use Rattle.ada_tree.specs.ExpressionTree.{ExprTree}
+use Rattle.types.specs.declared.entity.Value.TheVariants as scalar
+use Rattle.types.specs.declared.standing.Standing.{Standing}
+use Rattle.types.specs.declared.standing.Standing.TheVariants as standing
+use Rattle.types.specs.declared.statics.StaticForm.TheVariants.{Static}
+use Rattle.types.specs.Evaluating.{call, fixed_name, fixed_value, val}
+use Rattle.types.specs.Evaluations.{Gives}
+use Rattle.types.specs.Places.{Place}
+use Rattle.types.specs.Scopes.{Scope, number_of}
+use Rattle.types.specs.Standings.{select_all, stands_first, stands_for}
+use Rattle.types.specs.Statics.{Keeps, StaticIsValue, static_form, static_value}
+use Rattle.types.specs.Values.{Number, Truth, Value}
+use Rattle.expr_rules.specs.declared.own.Wanted.{Wanted}
+use Rattle.expr_rules.specs.ExpressionRules.{faults_in}
+use Rattle.expr_rules.specs.Laws.{is_value_of, suits}
+use Rattle.expr_rules.specs.Typing.{is_boolean, is_integral, own_of}
+use Rattle.expr_rules.proofs.TypedLaw.{as_number, as_truth, integral_numeric}
+use Rattle.well_typed.specs.Agreeing.{Agrees}
+use Rattle.well_typed.specs.Laws.{CallsAreTyped}
+use Rattle.well_typed.proofs.Expressions.{first_here}
+use Rattle.well_typed.proofs.FixedNames.{all_valueless}
+use Rattle.well_typed.proofs.Positions.{entity_number}
+use Rattle.meaning.specs.Programs.{Program}
+use Rattle.expr_code.specs.Seeing.{Package, Sees}
+use Rattle.expr_code.specs.Views.{View}
+use Rattle.part_code.specs.Resting.{Framed}
+use Rattle.part_code.specs.Statements.{Numbers}
+use Rattle.part_code.proofs.Comparing.{AreAlike, IsScalar, IsSingle, IsStatic}
+
+-- a place that agrees with the visible names keeps the fixed values of names
+pub fixed_kept : (s : Scope) (p : Place) → Agrees s p → Keeps s p
+fixed_kept s p agrees first selectors v h = by_number (number_of s first.name) refl
+  where
+    nothing : (w : Standing) → fixed_value (select_all s w selectors) ≡ None → fixed_value (select_all s w selectors) ≡ Some v → ⊥
+    nothing w e k = let both = sym e ∙ k in cc
+
+    by_number : (o : Option ℕ) → number_of s first.name ≡ o → fixed_name p first selectors ≡ Some v
+    by_number (Some n) e =
+        let x = entity_number s first.name n e in
+        let w = stands_for n (Some x.0) in
+        let there : fixed_value (select_all s w selectors) ≡ Some v =
+        ap (λ k. fixed_value (select_all s (stands_for n k) selectors)) (sym x.1)
+        ∙ ap (λ k. fixed_value (select_all s (stands_first s k) selectors)) (sym e) ∙ h in
+        elim (first_here s p agrees first.name selectors n x.0 x.1 (agrees.names first.name n x.0 e x.1)) [
+          | inl none ↦ absurd (nothing w (all_valueless s selectors w none.1) there)
+          | inr here ↦ here.same ∙ there
+        ]
+    by_number None e =
+        absurd (nothing standing.Doubtful (all_valueless s selectors standing.Doubtful refl)
+        (ap (λ k. fixed_value (select_all s (stands_first s k) selectors)) (sym e) ∙ h))
+
+module _ (calls : CallsAreTyped) (statics : StaticIsValue) (quiet : QuietStays) (i : Sections) (program : Program) (g : Package) (numbers : Numbers) (v : Framed)
+    (e : ExprTree) (w : Wanted) (unbroken : faults_in v.names.scope w e ≡ []) where
+  abbrev s : Scope
+  s = v.names.scope
+
+  suited : (p : Place) (view : View) → Sees g v.names p view → (x : Value) → val p e ≡ Gives x → is_value_of s (own_of s e) x ≡ true
+  suited p view sees x is = ap (suits s (own_of s e)) (sym is) ∙ (calls.typed s p sees.names.agrees sees.unit.sound e w unbroken).suited
+
+  -- a static expression has the same value at each place that is seen
+  told : (c : ExprTree) (x : Value) → static_form s c ≡ Static → static_value s c ≡ Gives x → (p : Place) (view : View) → Sees g v.names p view
+      → val p c ≡ Gives x
+  told c x form value p view sees = statics s p (call p.frames_left) (fixed_kept s p sees.names.agrees) c form ∙ value
+
+  -- of an integer type
+  module _ (integral : is_integral s (own_of s e) ≡ true) where
+    pub number_scalar : IsScalar quiet i program g numbers v e
+    number_scalar p view sees x is =
+        let z = as_number s (own_of s e) x (integral_numeric s (own_of s e) integral) (suited p view sees x is) in subst IsSingle (sym z.1) tt
+
+    pub number_static : (c : ExprTree) (z : ℤ) → static_form s c ≡ Static → static_value s c ≡ Gives (Number z)
+        → IsStatic quiet i program g numbers v e c (scalar.Number z)
+    number_static c z form value = record {
+      told = told c (Number z) form value;
+      alike = λ p view sees x is.
+          (let y = as_number s (own_of s e) x (integral_numeric s (own_of s e) integral) (suited p view sees x is) in
+          subst (λ q. AreAlike q (scalar.Number z)) (sym y.1) tt);
+    }
+
+  -- Boolean
+  module _ (boolean : is_boolean s (own_of s e) ≡ true) where
+    pub truth_scalar : IsScalar quiet i program g numbers v e
+    truth_scalar p view sees x is = let b = as_truth s (own_of s e) x boolean (suited p view sees x is) in subst IsSingle (sym b.1) tt
+
+    pub truth_static : (c : ExprTree) (b : Bool) → static_form s c ≡ Static → static_value s c ≡ Gives (Truth b)
+        → IsStatic quiet i program g numbers v e c (scalar.Truth b)
+    truth_static c b form value = record {
+      told = told c (Truth b) form value;
+      alike = λ p view sees x is.
+          (let y = as_truth s (own_of s e) x boolean (suited p view sees x is) in subst (λ q. AreAlike q (scalar.Truth b)) (sym y.1) tt);
+    }

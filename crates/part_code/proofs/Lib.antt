@@ -1,0 +1,53 @@
+pub mod Handling
+pub mod Holding
+pub mod Words
+pub mod Names
+pub mod Placing
+mod Variables
+pub mod StoringCode
+pub mod Declaring
+pub mod Arriving
+pub mod Assigning
+pub mod Actuals
+pub mod Walking
+mod Comparing
+mod PartWords
+mod Targeting
+mod Deciding
+pub mod FormalFlows
+pub mod FormalWords
+mod PartValues
+pub mod StoringParts
+pub mod Pointing
+pub mod CopyingBack
+pub mod Loading
+mod PassingTargets
+pub mod PassingWell
+pub mod Initials
+pub mod Selecting
+mod InTurn
+mod ChecksAdded
+pub mod TargetsAdded
+pub mod Lacking
+mod FormalsRefused
+pub mod CallsRefused
+mod BodiesRefused
+mod Choosable
+mod Moves
+pub mod AssignmentsRefused
+mod TargetsRefused
+mod GivenStays
+pub mod MovesRefused
+pub mod CallsShallow
+mod InitialsStay
+pub mod Jumping
+pub mod Jumps
+pub mod Lists
+mod NumberedChoices
+mod ObjectBounds
+pub mod ObjectNames
+mod OutsShallow
+pub mod StoresAt
+pub mod Within
+pub mod WrittenActuals
+mod WrittenLines

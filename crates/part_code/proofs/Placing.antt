@@ -1,0 +1,296 @@
+-- What a frame knows once an object of the running activation is declared, or a value is stored in one.
+use Rattle.std.proofs.Common.{◌≡◌, ℕ, ◌≤◌, ◌⊎◌, inl, inr, ℤ, List, [], ◌∷◌, ◌++◌, length, cond, Option, Some, None, Bool, true, false, refl, sym, ap, ◌∙◌, subst, arith}
+use Rattle.std.specs.Prelude.{bytes_eq, is_some}
+use Rattle.image.specs.declared.instruction.Region.{Region}
+use Rattle.image.specs.declared.instruction.Region.TheVariants as regions
+use Rattle.types.specs.declared.entity.Role.{Role}
+use Rattle.types.specs.declared.entity.Role.TheVariants as role
+use Rattle.types.specs.declared.entity.Subtype.{Subtype}
+use Rattle.types.specs.Entities as entity
+use Rattle.types.specs.Laws.{ValuesHaveWords}
+use Rattle.types.specs.Layouts.{words_of}
+use Rattle.types.specs.Places.{Function, IsFunction, IsObject, Object, Place, meaning_of, object_of}
+use Rattle.types.specs.Scopes.{Named, Scope, base_range_of, integer, is_visible, number_of, with_name}
+use Rattle.types.specs.Shapes.{has_shape, shape_of, value_words}
+use Rattle.types.specs.Values.{Number, Value}
+use Rattle.well_typed.specs.Agreeing.{Agrees}
+use Rattle.well_typed.specs.Laws.{AgreementIsKept}
+use Rattle.well_typed.proofs.Positions.{same_some}
+use Rattle.meaning.specs.Works.{Activation}
+use Rattle.expr_code.specs.Naming.{Lies}
+use Rattle.expr_code.specs.Seeing.{IsCoded, Package, SeesPackage, slot_of, subprogram_of, told_of}
+use Rattle.expr_code.specs.Views.{View}
+use Rattle.expr_code.specs.declared.visible.Slot.{Slot}
+use Rattle.part_code.specs.Layout.{AreApart, IsLaidOut, IsLaidPackage, IsVariable, NamesObject, Widens}
+use Rattle.part_code.specs.Resting.{Framed, IsAtHome, Knows, Rests}
+use Rattle.part_code.proofs.Names.{WasTold, found_behind, found_first, meant_behind, meant_first, meant_width, name_is, object_value, same_name, single_number, told_of_more}
+use Rattle.part_code.proofs.Words.{IsWritten}
+
+-- ---- other words of the frame
+
+-- the words of the regions, with these of the frame
+abbrev pub with_locals : List ℤ → (Region → List ℤ) → Region → List ℤ
+with_locals l words regions.Locals = l
+with_locals l words regions.Plain = words regions.Plain
+with_locals l words regions.Object = words regions.Object
+
+abbrev pub framed_view : List ℤ → View → View
+framed_view l view = record view { words = with_locals l view.words }
+
+abbrev pub with_objects : List Object → Place → Place
+with_objects l p = record p { locals = l }
+
+-- what the package shows does not depend on the running activation and its words
+pub package_alone : (g : Package) → IsLaidPackage g → (p : Place) (view : View) (objects : List Object) (words : List ℤ) → length words ≤ 65536
+    → SeesPackage g p view → SeesPackage g (with_objects objects p) (framed_view words view)
+package_alone g laid p view objects words small h = record {
+  scope = h.scope;
+  functions = h.functions;
+  sound = h.sound;
+  names = record { agrees = h.names.agrees; objects = λ name slot t v there means. lies name slot t v there (h.names.objects name slot t v there means) };
+  now = h.now;
+  schedule = h.schedule;
+  small = few;
+}
+  where
+    lies : (name : List ℕ) (slot : Slot) (t : Subtype) (v : Value) → g.slots name ≡ Some slot → Lies (view.words slot.region) slot.offset v
+        → Lies (with_locals words view.words slot.region) slot.offset v
+    lies name slot t v there l =
+        let is = laid.plain name slot there in
+        subst (λ r. Lies (with_locals words view.words r) slot.offset v) (sym is) (subst (λ r. Lies (view.words r) slot.offset v) is l)
+
+    few : (r : Region) → length (with_locals words view.words r) ≤ 65536
+    few regions.Locals = small
+    few regions.Plain = h.small regions.Plain
+    few regions.Object = h.small regions.Object
+
+-- ---- an object of the activation with a new value, whose words were put among those of the frame
+
+module _ (kept : AgreementIsKept) (sized : ValuesHaveWords) (g : Package) (v : Framed) (laid : IsLaidOut g v) (a : Activation) (before after : List ℤ)
+    (rests : Rests g v a before) (x : Object) (offset : ℕ) (put : IsWritten before after offset x.value) where
+  abbrev now : Activation
+  now = record a { locals = x ∷ a.locals }
+
+  -- an object whose words stand apart from those that were put
+  apart_lies : (view : View) → view.words regions.Locals ≡ after → (slot : Slot) (u : Value)
+      → ((slot.region ≡ regions.Locals) → AreApart offset (length (value_words x.value)) slot.offset (length (value_words u)))
+      → Lies (with_locals before view.words slot.region) slot.offset u → Lies (view.words slot.region) slot.offset u
+  apart_lies view is slot u apart h = by_region slot.region apart h
+    where
+      by_region : (r : Region) → ((r ≡ regions.Locals) → AreApart offset (length (value_words x.value)) slot.offset (length (value_words u)))
+          → Lies (with_locals before view.words r) slot.offset u → Lies (view.words r) slot.offset u
+      by_region regions.Locals apart h = subst (λ l. Lies l slot.offset u) (sym is) (put.others slot.offset u (apart refl) h)
+      by_region regions.Plain apart h = h
+      by_region regions.Object apart h = h
+
+  module _ (p : Place) (view : View) (sees : SeesPackage g p view) (objects : p.locals ≡ x ∷ a.locals) (within : p.within ≡ a.within)
+      (words : view.words regions.Locals ≡ after) where
+    abbrev old_place : Place
+    old_place = with_objects a.locals p
+
+    abbrev old_view : View
+    old_view = framed_view before view
+
+    knew : Knows g v old_place old_view
+    knew = rests.sees old_place old_view (package_alone g laid.unit p view a.locals before rests.small sees) refl within refl
+
+    agreed : Agrees v.names.scope old_place
+    agreed = knew.sees.names.agrees
+
+    here : with_objects (x ∷ a.locals) p ≡ p
+    here = λ j. record p { locals = (sym objects) j }
+
+    behind : (name : List ℕ) → bytes_eq x.name name ≡ false → meaning_of p name ≡ meaning_of old_place name
+    behind name h = ap (λ q. meaning_of q name) (sym here) ∙ meant_behind p x a.locals name h
+
+    first : (name : List ℕ) → bytes_eq x.name name ≡ true → meaning_of p name ≡ IsObject x.subtype x.value
+    first name h = ap (λ q. meaning_of q name) (sym here) ∙ meant_first p x a.locals name h
+
+    -- the object itself
+    itself : (name : List ℕ) (slot : Slot) (t : Subtype) (u : Value) → bytes_eq x.name name ≡ true → slot.region ≡ regions.Locals → slot.offset ≡ offset
+        → meaning_of p name ≡ IsObject t u
+        → Lies (view.words slot.region) slot.offset u
+    itself name slot t u same region at h =
+        let is : x.value ≡ u = object_value (meaning_of p name) x.subtype t x.value u (first name same) h in
+        subst (λ w. Lies (view.words slot.region) slot.offset w) is
+        (subst (λ r. Lies (view.words r) slot.offset x.value) (sym region)
+        (subst (λ l. Lies l slot.offset x.value) (sym words) (subst (λ n. Lies after n x.value) (sym at) put.there)))
+
+    -- each other one
+    other : (name : List ℕ) (slot : Slot) (t : Subtype) (u : Value) → bytes_eq x.name name ≡ false → slot_of v.names name ≡ Some slot
+        → ((r : Role) (s : Subtype) → slot.region ≡ regions.Locals → NamesObject v.names.scope name r s
+        → AreApart offset (length (value_words x.value)) slot.offset (words_of v.names.scope s))
+        → meaning_of p name ≡ IsObject t u
+        → Lies (view.words slot.region) slot.offset u
+    other name slot t u differs there apart h =
+        let means = sym (behind name differs) ∙ h in
+        let named = laid.laid.objects name slot there in
+        let wide = meant_width sized v.names.scope old_place agreed name named.0 named.1 t u named.2 means in
+        apart_lies view words slot u
+        (λ region. subst (λ n. AreApart offset (length (value_words x.value)) slot.offset n) (sym wide) (apart named.0 named.1 region named.2))
+        (knew.sees.names.objects name slot t u there means)
+
+    room_kept : v.room ≤ length (view.words regions.Locals)
+    room_kept = let r = knew.room in let l = put.long in let e = ap length words in omega (arith, r, l, e)
+
+    -- ---- a value is stored in an object that is there
+    module _ (r : Role) (t : Subtype) (slot : Slot) (variable : IsVariable r) (there : slot_of v.names x.name ≡ Some slot)
+        (region : slot.region ≡ regions.Locals)
+        (at : slot.offset ≡ offset) (named : NamesObject v.names.scope x.name r t) (old : Object) (found : object_of a.locals x.name ≡ Some old)
+        (same : x.subtype ≡ old.subtype) (suited : has_shape (shape_of g.scope x.subtype) x.value ≡ true)
+        (wide : length (value_words x.value) ≡ words_of v.names.scope t) where
+      stored_agrees : Agrees v.names.scope p
+      stored_agrees = subst (Agrees v.names.scope) here
+          (kept.local v.names.scope old_place x agreed (record {
+            old = old;
+            found = found;
+            same = same;
+            suited = subst (λ s. has_shape (shape_of s x.subtype) x.value ≡ true) (sym sees.scope) suited;
+          }))
+
+      stored_object : (name : List ℕ) (s : Slot) (u : Subtype) (w : Value) → slot_of v.names name ≡ Some s → meaning_of p name ≡ IsObject u w
+          → Lies (view.words s.region) s.offset w
+      stored_object name s u w told h = by_test (bytes_eq x.name name) refl
+        where
+          apart : bytes_eq x.name name ≡ false → (q : Role) (y : Subtype) → s.region ≡ regions.Locals → NamesObject v.names.scope name q y
+              → AreApart offset (length (value_words x.value)) s.offset (words_of v.names.scope y)
+          apart e q y is n =
+              subst (λ k. AreApart offset k s.offset (words_of v.names.scope y)) (sym wide)
+              (subst (λ k. AreApart k (words_of v.names.scope t) s.offset (words_of v.names.scope y)) at
+              (laid.laid.apart x.name name slot s r q t y (λ k. let z = name_is x.name name k in cc) there told (region ∙ sym is) named n))
+
+          by_test : (b : Bool) → bytes_eq x.name name ≡ b → Lies (view.words s.region) s.offset w
+          by_test true e =
+              let one : s ≡ slot = same_some s slot (sym told ∙ ap (slot_of v.names) (sym (same_name x.name name e)) ∙ there) in
+              itself name s u w e (ap (λ y. y.region) one ∙ region) (ap (λ y. y.offset) one ∙ at) h
+          by_test false e = other name s u w e told (apart e) h
+
+      stored_home : (name : List ℕ) (s : Slot) → slot_of v.names name ≡ Some s → IsAtHome s.region (object_of p.locals name)
+      stored_home name s told = subst (λ l. IsAtHome s.region (object_of l name)) (sym objects) (by_test (bytes_eq x.name name) refl)
+        where
+          at_home : (z : Region) → z ≡ regions.Locals → IsAtHome z (Some x)
+          at_home regions.Locals e = refl
+          at_home regions.Plain e = cc
+          at_home regions.Object e = cc
+
+          by_test : (b : Bool) → bytes_eq x.name name ≡ b → IsAtHome s.region (object_of (x ∷ a.locals) name)
+          by_test true e =
+              let one : s ≡ slot = same_some s slot (sym told ∙ ap (slot_of v.names) (sym (same_name x.name name e)) ∙ there) in
+              subst (IsAtHome s.region) (sym (found_first x a.locals name e)) (at_home s.region (ap (λ y. y.region) one ∙ region))
+          by_test false e = subst (IsAtHome s.region) (sym (found_behind x a.locals name e)) (knew.homes name s told)
+
+      stored_function : (name : List ℕ) (number : ℕ) (f : Function) → subprogram_of v.names name ≡ Some number → meaning_of p name ≡ IsFunction f None
+          → IsCoded g f number
+      stored_function name number f told h = by_test (bytes_eq x.name name) refl
+        where
+          by_test : (b : Bool) → bytes_eq x.name name ≡ b → IsCoded g f number
+          by_test true e = let k = sym (first name e) ∙ h in cc
+          by_test false e = knew.sees.functions name number f told (sym (behind name e) ∙ h)
+
+      pub stored_knows : Knows g v p view
+      stored_knows = record {
+        sees = record { unit = sees; names = record { agrees = stored_agrees; objects = stored_object }; functions = stored_function };
+        room = room_kept;
+        homes = stored_home;
+      }
+
+    -- ---- one name more is visible, for the object in front
+    module _ (r : Role) (t : Subtype) (slot : Slot) (later : Framed) (widens : Widens v x.name r t slot later) (region : slot.region ≡ regions.Locals)
+        (at : slot.offset ≡ offset) (wide : length (value_words x.value) ≡ words_of v.names.scope t)
+        (agrees : Agrees (with_name v.names.scope x.name (entity.Object r t)) p) where
+      abbrev named : Named
+      named = record { name = x.name; entity = entity.Object r t }
+
+      abbrev wider : Scope
+      wider = v.names.scope ++ named ∷ []
+
+      scope_is : later.names.scope ≡ wider
+      scope_is = widens.scope ∙ ap (λ b. cond b v.names.scope wider) widens.hidden
+
+      -- a name that was visible is another one
+      differs : (name : List ℕ) (n : ℕ) → number_of v.names.scope name ≡ Some n → bytes_eq x.name name ≡ false
+      differs name n h = by_test (bytes_eq x.name name) refl
+        where
+          by_test : (b : Bool) → bytes_eq x.name name ≡ b → b ≡ false
+          by_test true e =
+              let seen : is_visible v.names.scope x.name ≡ true = ap (is_visible v.names.scope) (same_name x.name name e) ∙ ap is_some h in
+              sym seen ∙ widens.hidden
+          by_test false e = refl
+
+      slot_was : (name : List ℕ) (s : Slot) → slot_of later.names name ≡ Some s
+          → WasTold v.names.scope v.names.slots name s ⊎ ((bytes_eq name x.name ≡ true) × (Some slot ≡ Some s))
+      slot_was name s h =
+          told_of_more v.names.scope named v.names.slots (Some slot) name s laid.slots
+          (sym (ap (λ q. told_of q later.names.slots name) scope_is ∙ ap (λ l. told_of wider l name) widens.slots) ∙ h)
+
+      number_was : (name : List ℕ) (n : ℕ) → subprogram_of later.names name ≡ Some n
+          → WasTold v.names.scope v.names.subprograms name n ⊎ ((bytes_eq name x.name ≡ true) × ((let o : Option ℕ = None in o) ≡ Some n))
+      number_was name n h =
+          told_of_more v.names.scope named v.names.subprograms None name n laid.subprograms
+          (sym (ap (λ q. told_of q later.names.subprograms name) scope_is ∙ ap (λ l. told_of wider l name) widens.subprograms) ∙ h)
+
+      is_this : (name : List ℕ) → bytes_eq name x.name ≡ true → bytes_eq x.name name ≡ true
+      is_this name e = name_is x.name name (sym (same_name name x.name e))
+
+      wider_agrees : Agrees later.names.scope p
+      wider_agrees = subst (λ q. Agrees q p) (sym widens.scope) agrees
+
+      wider_object : (name : List ℕ) (s : Slot) (u : Subtype) (w : Value) → slot_of later.names name ≡ Some s → meaning_of p name ≡ IsObject u w
+          → Lies (view.words s.region) s.offset w
+      wider_object name s u w told h = elim (slot_was name s told) [
+        | inl e ↦ other name s u w (differs name e.number e.numbered) e.told
+            (λ q y is n.
+            subst (λ k. AreApart offset k s.offset (words_of v.names.scope y)) (sym wide)
+            (subst (λ k. AreApart k (words_of v.names.scope t) s.offset (words_of v.names.scope y)) at
+            (widens.apart name s q y e.told (is ∙ sym region) n))) h
+        | inr e ↦ (let one : slot ≡ s = same_some slot s e.1 in
+            itself name s u w (is_this name e.0) (ap (λ y. y.region) (sym one) ∙ region) (ap (λ y. y.offset) (sym one) ∙ at) h)
+      ]
+
+      wider_home : (name : List ℕ) (s : Slot) → slot_of later.names name ≡ Some s → IsAtHome s.region (object_of p.locals name)
+      wider_home name s told = subst (λ l. IsAtHome s.region (object_of l name)) (sym objects) (elim (slot_was name s told) [
+        | inl e ↦ subst (IsAtHome s.region) (sym (found_behind x a.locals name (differs name e.number e.numbered))) (knew.homes name s e.told)
+        | inr e ↦ subst (IsAtHome s.region) (sym (found_first x a.locals name (is_this name e.0)))
+            (at_home s.region (ap (λ y. y.region) (sym (same_some slot s e.1)) ∙ region))
+      ])
+        where
+          at_home : (z : Region) → z ≡ regions.Locals → IsAtHome z (Some x)
+          at_home regions.Locals e = refl
+          at_home regions.Plain e = cc
+          at_home regions.Object e = cc
+
+      wider_function : (name : List ℕ) (number : ℕ) (f : Function) → subprogram_of later.names name ≡ Some number → meaning_of p name ≡ IsFunction f None
+          → IsCoded g f number
+      wider_function name number f told h = elim (number_was name number told) [
+        | inl e ↦ knew.sees.functions name number f e.told (sym (behind name (differs name e.number e.numbered)) ∙ h)
+        | inr e ↦ (let k = e.1 in cc)
+      ]
+
+      pub wider_knows : Knows g later p view
+      wider_knows = record {
+        sees = record { unit = sees; names = record { agrees = wider_agrees; objects = wider_object }; functions = wider_function };
+        room = (let r = room_kept in let e = widens.room in omega (arith, r, e));
+        homes = wider_home;
+      }
+
+    -- an object is declared
+    pub declared_knows : (r : Role) (slot : Slot) (later : Framed) → Widens v x.name r x.subtype slot later → slot.region ≡ regions.Locals
+        → slot.offset ≡ offset
+        → has_shape (shape_of v.names.scope x.subtype) x.value ≡ true → Knows g later p view
+    declared_knows r slot later widens region at suited =
+        wider_knows r x.subtype slot later widens region at (sized (shape_of v.names.scope x.subtype) x.value suited).sized
+        (subst (Agrees (with_name v.names.scope x.name (entity.Object r x.subtype))) here
+        (kept.declared v.names.scope old_place x.name r x.subtype x.value agreed widens.hidden widens.sound suited))
+
+    -- a loop over a range has its parameter: in a run an object of subtype Integer, whatever the type of the range is
+    pub parameter_knows : (n : ℕ) (z : ℤ) → x.subtype ≡ integer → x.value ≡ Number z → (slot : Slot) (later : Framed)
+        → Widens v x.name role.LoopParameter (base_range_of n) slot later → slot.region ≡ regions.Locals → slot.offset ≡ offset → Knows g later p view
+    parameter_knows n z same number slot later widens region at =
+        wider_knows role.LoopParameter (base_range_of n) slot later widens region at
+        (ap (λ y. length (value_words y)) number ∙ sym (single_number sized v.names.scope (base_range_of n) widens.sound))
+        (subst (Agrees (with_name v.names.scope x.name (entity.Object role.LoopParameter (base_range_of n)))) here
+        (subst (λ y. Agrees (with_name v.names.scope x.name (entity.Object role.LoopParameter (base_range_of n))) (with_objects (y ∷ a.locals) p)) is_this_object
+        (kept.parameter v.names.scope old_place x.name n z agreed widens.hidden widens.sound)))
+      where
+        is_this_object : (let y : Object = record { name = x.name; subtype = integer; value = Number z } in y) ≡ x
+        is_this_object = λ j. record { name = x.name; subtype = sym same j; value = sym number j }

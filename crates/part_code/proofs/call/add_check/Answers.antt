@@ -1,0 +1,27 @@
+use Rattle.std.proofs.Common.{◌∙◌, ap, arith, refl, sym}
+use Rattle.std.specs.Prelude.{None, option_map, Some}
+use Rattle.std.proofs.lemmas.Result.{IfErr-weaker}
+use Rattle.types.specs.Entities.{form_value, Spans, Times}
+use Rattle.part_code.proofs.TargetsRefused.{check_refused, untaken}
+use Rattle.part_code.proofs.call.add_check.Goals as goal
+
+pub returns-in-Some-Integer-clause-refused : goal.returns-in-Some-Integer-clause-refused
+returns-in-Some-Integer-clause-refused c =
+    IfErr-weaker _ _ _
+    (λ why r.
+    check_refused c.args.visible.now.scope c.args.subtype _ _ c.args.depth why (omega arith)
+    (sym c.in-Some-Integer.ensures ∙ ap (λ f. Some (form_value f)) c.in-Some-Integer.field-0-is) r) c.add_range.ensures.refused
+
+pub returns-in-Some-Time-clause-refused : goal.returns-in-Some-Time-clause-refused
+returns-in-Some-Time-clause-refused c =
+    untaken c.args.visible.now.scope c.args.subtype (Some Times)
+    (sym c.in-Some-Time.ensures ∙ ap (λ f. Some (form_value f)) c.in-Some-Time.field-0-is) refl
+
+pub returns-in-Some-TimeSpan-clause-refused : goal.returns-in-Some-TimeSpan-clause-refused
+returns-in-Some-TimeSpan-clause-refused c =
+    untaken c.args.visible.now.scope c.args.subtype (Some Spans)
+    (sym c.in-Some-TimeSpan.ensures ∙ ap (λ f. Some (form_value f)) c.in-Some-TimeSpan.field-0-is) refl
+
+pub returns-in-None-clause-refused : goal.returns-in-None-clause-refused
+returns-in-None-clause-refused c =
+    untaken c.args.visible.now.scope c.args.subtype None (sym c.form.ensures ∙ ap (option_map (λ f. form_value f.now)) c.in-None.is) refl

@@ -1,0 +1,177 @@
+-- What code promises that passes actual parameters to a procedure and copies back (RM 6.4.1).
+use Rattle.std.specs.Prelude.{◌≡◌, ℕ, suc, ◌+◌, ◌*◌, ◌≤◌, List, ◌++◌, Bool, true, false, cond, length, map, nat_eq, Option, Some, None}
+use Rattle.ada_tree.specs.declared.expression.Identifier.{Identifier}
+use Rattle.ada_tree.specs.ExpressionTree.{ArgumentTree, ArgumentTrees, Arguments, ExprTree, MoreSelectors, Named, NoArguments, NoSelectors, SelectorTrees}
+use Rattle.ada_tree.specs.Size.{argument_size, total}
+use Rattle.image.specs.Sections.{Sections}
+use Rattle.image.specs.Rules.{is_block}
+use Rattle.image.specs.declared.instruction.Operation.{Operation}
+use Rattle.image.specs.declared.instruction.Operation.TheVariants as op
+use Rattle.image.specs.declared.instruction.Region.{Region}
+use Rattle.image.specs.declared.instruction.Region.TheVariants as regions
+use Rattle.types.specs.declared.entity.FormalParameter.{FormalParameter}
+use Rattle.types.specs.declared.entity.Role.{Role}
+use Rattle.types.specs.declared.entity.Subtype.{Subtype}
+use Rattle.types.specs.declared.standing.Standing.TheVariants as standing
+use Rattle.types.specs.Entities.{Arrays, Booleans, Integers, Records, TypeForm}
+use Rattle.types.specs.Evaluating.{Calls}
+use Rattle.types.specs.Evaluations.{Gives}
+use Rattle.types.specs.Layouts.{words_of}
+use Rattle.types.specs.Places.{Place}
+use Rattle.types.specs.Scopes.{Scope, form_at, number_of}
+use Rattle.types.specs.Shapes.{shape_of}
+use Rattle.types.specs.Standings.{stands_first}
+use Rattle.meaning.specs.Calls.{Actuals, results}
+use Rattle.meaning.specs.Programs.{Parameter, Program}
+use Rattle.sound_steps.specs.Fitting.{formal_of, taken_types}
+use Rattle.sound_steps.specs.Objects.{AreOf}
+use Rattle.expr_code.specs.Actuals.{arguments_in_front}
+use Rattle.expr_code.specs.Code.{Adds, Extends, Holds, here}
+use Rattle.expr_code.specs.Computing.{ArePassed, Everywhere}
+use Rattle.expr_code.specs.Flows.{Flows}
+use Rattle.expr_code.specs.Going.{EmitsAddress, EndsAt}
+use Rattle.expr_code.specs.Seeing.{Package, Sees, Suits, library_of, slot_of}
+use Rattle.expr_code.specs.Views.{View}
+use Rattle.expr_code.specs.declared.code.Code.{Code}
+use Rattle.expr_code.specs.declared.visible.Slot.{Slot}
+use Rattle.expr_code.specs.declared.visible.Visible.{Visible}
+use Rattle.part_code.specs.Copying.{AreCopies, ArePlaced, actuals_on, passed_actuals, taken}
+use Rattle.part_code.specs.Emitting.{stored_at}
+use Rattle.part_code.specs.Layout.{IsLaidOut}
+use Rattle.part_code.specs.Resting.{Framed, Knows}
+use Rattle.part_code.specs.Statements.{parameter_subtype}
+use Rattle.part_code.specs.Suiting.{passed_width, returned_width}
+use Rattle.part_code.specs.declared.call.Destination.{Destination}
+
+-- ---- actual parameters
+
+-- the words that come back for one that is copied back, with the address of its target
+abbrev pub copied_width : Scope → Destination → ℕ
+copied_width s d = suc (words_of s d.subtype)
+
+-- those behind the name of what is called
+abbrev pub actuals_behind : SelectorTrees → Option ArgumentTrees
+actuals_behind NoSelectors = Some NoArguments
+actuals_behind (MoreSelectors (Arguments a) NoSelectors) = Some a
+actuals_behind other = None
+
+module _ (i : Sections) (program : Program) (g : Package) (v : Framed) where
+  -- the code between two places computes them
+  abbrev pub ComputesActuals : (from to : ℕ) → List Parameter → ArgumentTrees → Type 0
+  ComputesActuals from to ps rest =
+      Everywhere i (library_of g) (Sees g v.names) from to (actuals_on v.names ps) (λ calls p. passed_actuals calls p ps rest)
+
+  -- outside of protected objects their values have the shapes and types of the parameters, and their targets are placed where it is copied back to
+  abbrev pub ArePassedAndPlaced : List Parameter → ArgumentTrees → List Destination → Type 0
+  ArePassedAndPlaced ps rest ds =
+      (calls : Calls) (p : Place) (view : View) (a : Actuals) → (library_of g).sound calls → Knows g v p view → p.within ≡ None
+      → passed_actuals calls p ps rest ≡ Gives a
+      → ArePassed (map (shape_of g.scope) (map parameter_subtype (taken ps))) a.values × AreOf program.scope (taken_types ps) a.values
+      × ArePlaced v.names ds a.targets
+
+  -- ... in front of others, whatever these are
+  pub record ArePassedInFront (from mid : ℕ) (ps : List Parameter) (all : List ArgumentTree) (ds : List Destination) : Type 0 where
+    pub computes : (to : ℕ) (qs : List Parameter) (rest : ArgumentTrees) → mid ≤ to → ComputesActuals mid to qs rest
+        → ComputesActuals from to (ps ++ qs) (arguments_in_front all rest)
+    pub passes : (qs : List Parameter) (rest : ArgumentTrees) (es : List Destination) → ArePassedAndPlaced qs rest es
+        → ArePassedAndPlaced (ps ++ qs) (arguments_in_front all rest) (ds ++ es)
+    pub many : length ds ≡ length (results ps)
+
+-- The code of actual parameters was added, from left to right. It leaves the words that are passed on the operand stack, and tells where it is copied back to;
+-- there is room for the code of these copies.
+pub record EmitsPassedActuals (v : Visible) (old : Code) (depth : ℕ) (fs : List FormalParameter) (all : List ArgumentTree) (ds : List Destination) (height : ℕ)
+    (new : Code) : Type 0 where
+  pub extends : Extends old new
+  pub sized : here new + 4 * length ds ≤ here old + 20 * total argument_size all
+  pub stands : (i : Sections) → Holds i (here old) new → (program : Program) (g : Package) (f : Framed) → f.names ≡ v → program.scope ≡ g.scope
+      → (ps : List Parameter) → map formal_of ps ≡ fs
+      → ArePassedInFront i program g f (here old) (here new) ps all ds
+  pub high : height ≡ depth + total (passed_width v.scope) fs
+  pub back : total (returned_width v.scope) fs ≡ total (copied_width v.scope) ds
+  pub flows : Flows (Suits v) old depth new height
+
+-- ... and what it is copied back to was added to a list
+pub record AddsActuals (v : Visible) (old : Code) (depth : ℕ) (fs : List FormalParameter) (all : List ArgumentTree) (before after : List Destination)
+    (height : ℕ) (new : Code) : Type 0 where
+  pub destinations : List Destination
+  pub after_is : after ≡ before ++ destinations
+  pub emits : EmitsPassedActuals v old depth fs all destinations height new
+
+-- ---- targets
+
+-- variables have their words there, in the frame or in the package
+abbrev pub holds_variables : Region → Bool
+holds_variables regions.Locals = true
+holds_variables regions.Plain = true
+holds_variables regions.Object = false
+
+-- what loads so many words from the address on top of the operand stack
+abbrev pub loaded_at : Region → (words : ℕ) → Operation
+loaded_at r n = cond (nat_eq n 1) (op.LoadIndexed r) (op.LoadBlock r n)
+
+-- the address of a variable, or of a part of one, was added, to which it is copied back
+pub record EmitsTarget (v : Visible) (old : Code) (depth : ℕ) (e : ExprTree) (d : Destination) (new : Code) : Type 0 where
+  pub first : Identifier
+  pub selectors : SelectorTrees
+  pub is : e ≡ Named first selectors
+  pub slot : Slot
+  pub there : slot_of v first.name ≡ Some slot
+  pub region : slot.region ≡ d.region
+  pub holds : holds_variables d.region ≡ true
+  pub role : Role
+  pub whole : Subtype
+  pub stands : stands_first v.scope (number_of v.scope first.name) ≡ standing.Part role whole
+  pub ends : EndsAt v.scope whole selectors d.subtype
+  pub emits : EmitsAddress v old depth slot.offset whole selectors d.subtype new
+
+-- ---- checks
+
+-- a check of the number on top of the operand stack, `depth` words high, against a subtype
+pub record AddsRange (old : Code) (depth : ℕ) (t : Subtype) (new : Code) : Type 0 where
+  pub one : Code
+  pub two : Code
+  pub first : Adds old depth (op.Push t.first) one
+  pub last : Adds one (depth + 1) (op.Push t.last) two
+  pub check : Adds two (depth + 2) op.CheckRange new
+
+-- ... of a value of such a type
+abbrev pub AddsCheck : Option TypeForm → (old : Code) → (depth : ℕ) → Subtype → (new : Code) → Type 0
+AddsCheck (Some Integers) old depth t new = AddsRange old depth t new
+AddsCheck (Some Booleans) old depth t new = new ≡ old
+AddsCheck (Some (Arrays index many element)) old depth t new = new ≡ old
+AddsCheck (Some (Records components)) old depth t new = new ≡ old
+AddsCheck form old depth t new = ⊥
+
+-- the value of a target was added above its address, and checked against the subtype of a parameter
+pub record AddsValue (v : Visible) (old : Code) (depth : ℕ) (d : Destination) (t : Subtype) (height : ℕ) (new : Code) : Type 0 where
+  pub words : ℕ
+  pub words_are : words ≡ words_of v.scope d.subtype
+  pub block : is_block words ≡ true
+  pub doubled : Code
+  pub loaded : Code
+  pub doubles : Adds old (depth + 1) op.Duplicate doubled
+  pub loads : Adds doubled (depth + 2) (loaded_at d.region words) loaded
+  pub high : height ≡ depth + 1 + words
+  pub checks : AddsCheck (form_at v.scope t.type_number) loaded height t new
+
+-- ---- copies
+
+-- The code of copies was added, from the first one on, whose value and address it finds on top of the others' and of the rest of the operand stack.
+pub record EmitsCopies (v : Visible) (old : Code) (ds : List Destination) (rest : ℕ) (new : Code) : Type 0 where
+  pub extends : Extends old new
+  pub sized : here new ≤ here old + 4 * length ds
+  pub stands : (i : Sections) → Holds i (here old) new → (program : Program) (g : Package) (f : Framed) → f.names ≡ v → IsLaidOut g f
+      → AreCopies i program g f (here old) (here new) ds
+  pub flows : Flows (Suits v) old (rest + total (copied_width v.scope) ds) new rest
+
+-- the copy of one was added: its check, and the instruction that stores it above so many words
+pub record AddsCopy (v : Visible) (old : Code) (depth : ℕ) (d : Destination) (rest : ℕ) (new : Code) : Type 0 where
+  pub words : ℕ
+  pub words_are : words ≡ words_of v.scope d.subtype
+  pub block : is_block words ≡ true
+  pub high : depth ≡ rest + suc words
+  pub checked : Code
+  pub checks : AddsCheck (form_at v.scope d.subtype.type_number) old depth d.subtype checked
+  pub operation : Operation
+  pub stored : stored_at d.region words ≡ Some operation
+  pub stores : Adds checked depth operation new

@@ -1,0 +1,53 @@
+//! The rows of choices of handlers (RM 11.2).
+ghost use Rattle.std.specs.Prelude.{◌≡◌, ◌+◌, ◌<◌, ◌++◌, false, not, true, IfErr, OnOk};
+ghost use Rattle.expr_code.specs.Refusing.{IsRefused};
+ghost use Rattle.part_code.specs.ChoiceRows.{choice_rows};
+ghost use Rattle.part_code.specs.Raising.{are_numbered, choice_number};
+ghost use Rattle.part_code.specs.Needs.{beyond_if, IsNeeding};
+
+use crate::exceptions::exception_number;
+use ada_tree::ExceptionChoice;
+use expr_code::Refusal;
+use handlers::Row;
+use lexer::Text;
+
+// The number for which a choice makes a row.
+fn choice_number(exceptions: &[Text], choice: &ExceptionChoice) -> Option<u16>
+    ensures { result ≡ choice_number exceptions.now choice.now }
+{
+    match choice {
+        ExceptionChoice::Exception(name) => exception_number(exceptions, &name.name),
+        ExceptionChoice::Others(_) => Some(0),
+    }
+}
+
+/// Adds the rows of choices, which cover and lead to what a row does.
+pub fn add_choice_rows(
+    rows: &mut Vec<Row>,
+    exceptions: &[Text],
+    row: Row,
+    choices: &[ExceptionChoice],
+) -> Result<(), Refusal>
+    ensures rows { OnOk result (rows.new.items ≡ rows.old.items ++ choice_rows exceptions.now row choices.now) }
+    ensures numbered { OnOk result (are_numbered exceptions.now choices.now ≡ true) }
+    ensures refused { IfErr result (λ why. IsNeeding 0 (beyond_if (not (are_numbered exceptions.now choices.now))) why) }
+{
+    for choice in choices {
+        let Some(exception) = choice_number(exceptions, choice) else {
+            return Err(Refusal::Outside);
+        };
+        rows.push(Row { exception, ..row })?;
+    }
+    Ok(())
+}
+
+/// Adds rows behind others.
+pub fn add_rows(rows: &mut Vec<Row>, more: &[Row]) -> Result<(), Refusal>
+    ensures rows { OnOk result (rows.new.items ≡ rows.old.items ++ more.now) }
+    ensures refused { IfErr result (λ why. IsRefused 0 0 false why) }
+{
+    for row in more {
+        rows.push(*row)?;
+    }
+    Ok(())
+}
