@@ -2,9 +2,11 @@ mod Forms
 mod Kept
 mod Refused
 mod Stack
-use Rattle.std.proofs.Common.{◌+◌, arith, length, ltb-true, map, take, rules, refl, sym, ap, ◌∙◌, ◌≤◌, ◌∷◌, [], subst, ◌≡◌}
+use Rattle.std.proofs.Common.{tests, ◌+◌, arith, length, ltb-true, map, take, rules, refl, sym, ap, ◌∙◌, ◌≤◌, ◌∷◌, [], subst, ◌≡◌}
 use Rattle.std.specs.Prelude.{IfErr, IfOk, OnOk}
+use Rattle.std.proofs.lemmas.Grind.{common_steps}
 use Rattle.std.proofs.lemmas.Result.{IfErr-weaker, IfOk-weaker, on_ok_weaker}
+use Rattle.ada_tree.specs.declared.expression.Argument.TheFolds as folds
 use Rattle.ada_tree.specs.declared.expression.Expr as expressions
 use Rattle.ada_tree.specs.ExpressionTree.{argument_tree, argument_trees, Arguments, expr_tree, MoreSelectors, Named, name_tree, NoSelectors, selector_tree, selector_trees}
 use Rattle.expr_code.specs.Emitting.{EmitsExpression, IsLegalExpression}
@@ -759,3 +761,35 @@ actuals-returns-in_err-actual-clause-kept = kept.actuals-returns-in_err-actual-c
 
 pub actuals-returns-in_err-height-clause-kept : goal.actuals-returns-in_err-height-clause-kept
 actuals-returns-in_err-height-clause-kept = kept.actuals-returns-in_err-height-clause-kept
+
+-- ---- found by the second and fourth of the searches that are tried where nothing is answered, each of which takes seconds before
+
+pub conversion-returns-in_default-clause-refused : goal.conversion-returns-in_default-clause-refused
+conversion-returns-in_default-clause-refused t c = search (tests, rules, folds.the_lemmas, common_steps)
+
+pub conversion-returns-in-Expr-clause-refused : goal.conversion-returns-in-Expr-clause-refused
+conversion-returns-in-Expr-clause-refused t c = search (tests, rules, folds.the_lemmas, common_steps)
+
+pub conversion-returns-in-Label-clause-refused : goal.conversion-returns-in-Label-clause-refused
+conversion-returns-in-Label-clause-refused t c = search (tests, rules, folds.the_lemmas, common_steps)
+
+pub converted-returns-in_default-clause-refused : goal.converted-returns-in_default-clause-refused
+converted-returns-in_default-clause-refused t c = search (tests, rules, folds.the_lemmas, common_steps)
+
+pub converted-returns-in-Component-clause-refused : goal.converted-returns-in-Component-clause-refused
+converted-returns-in-Component-clause-refused t c = search (tests, rules, folds.the_lemmas, common_steps)
+
+pub converted-returns-in-Component-2-clause-refused : goal.converted-returns-in-Component-2-clause-refused
+converted-returns-in-Component-2-clause-refused t c = search (tests, rules, folds.the_lemmas, common_steps)
+
+pub element-returns-in_default-clause-refused : goal.element-returns-in_default-clause-refused
+element-returns-in_default-clause-refused t c = search (tests, rules, folds.the_lemmas, common_steps)
+
+pub element-returns-in_default-argument-clause-refused : goal.element-returns-in_default-argument-clause-refused
+element-returns-in_default-argument-clause-refused t c = search (tests, rules, folds.the_lemmas, common_steps)
+
+pub path-returns-clause-stands : goal.path-returns-clause-stands
+path-returns-clause-stands t c = grind (arith, common_steps)
+
+pub path-returns-clause-emits : goal.path-returns-clause-emits
+path-returns-clause-emits t c = grind (arith, common_steps)
