@@ -17,8 +17,7 @@ use Rattle.expr_rules.proofs.TypedLaw.{back_empty, front_empty, unbroken}
 use Rattle.declaring.specs.ItemRules.{item_scope, items_scope}
 use Rattle.type_rules.specs.SubtypeNames.{declared_twice, named_entity}
 use Rattle.legality.specs.BodyRules.{body_name_faults, function_body_faults, is_subprogram}
-use Rattle.legality.specs.PackageBodyRules.{body_item_scope}
-use Rattle.legality.specs.PackageRules.{inside_scope, specified_scope}
+use Rattle.declaring.specs.PackageNames.{body_item_scope, inside_scope, specified_scope}
 use Rattle.checking.specs.ProgramRules.{IsLegal}
 use Rattle.ravenscar.specs.ProgramRules.{IsRestricted}
 use Rattle.size_rules.specs.declared.thing.Kind.TheVariants as kind
@@ -26,16 +25,16 @@ use Rattle.size_rules.specs.Limits.{Things, place_of_kind, places_of, words_faul
 use Rattle.size_rules.specs.PackageSizes.{body_item_things, body_items_things, frame_faults, item_things, items_things, package_inside, package_things}
 use Rattle.size_rules.specs.ProgramSizes.{declared_faults, exception_faults, label_faults, optional_size_faults, protected_object_faults, subprogram_faults, task_faults}
 use Rattle.meaning.specs.Programs.{Program, exceptions_among, items_among, package_items, program_of}
-use Rattle.sound_programs.specs.BodyLaws.{PremisesHold}
-use Rattle.sound_programs.specs.Fronts.{declared_in, front, scope_at, start_in}
-use Rattle.sound_programs.proofs.Called.{head_legal}
-use Rattle.sound_programs.proofs.Listing.{none_passes, same_some, taken_next}
-use Rattle.sound_programs.proofs.OneList.{is_subprogram_body, matched_at}
-use Rattle.sound_programs.proofs.Trees.{tree_package}
-use Rattle.sound_programs.proofs.Walked.{Origin, declared_one, declares, body_item_kind, origin}
-use Rattle.sound_programs.proofs.Walked as walked
-use Rattle.sound_programs.proofs.WiderScopes.{equal_bytes, same_bytes, seen_some, some_seen, stands}
-use Rattle.sound_programs.proofs.Whole.{IsPackage, kept, known_kind, no_doubt, subprogram_is, subprogram_item}
+use Rattle.program_soundness.specs.BodyLaws.{PremisesHold}
+use Rattle.program_soundness.specs.Fronts.{declared_in, front, scope_at, start_in}
+use Rattle.program_soundness.proofs.Called.{head_legal}
+use Rattle.program_soundness.proofs.Listing.{none_passes, same_some, taken_next}
+use Rattle.program_soundness.proofs.OneList.{is_subprogram_body, matched_at}
+use Rattle.program_soundness.proofs.Trees.{tree_package}
+use Rattle.program_soundness.proofs.Walked.{Origin, declared_one, declares, body_item_kind, origin}
+use Rattle.program_soundness.proofs.Walked as walked
+use Rattle.program_soundness.proofs.WiderScopes.{equal_bytes, same_bytes, seen_some, some_seen, stands}
+use Rattle.program_soundness.proofs.Whole.{IsPackage, kept, known_kind, no_doubt, subprogram_is, subprogram_item}
 use Rattle.package_code.specs.Counts.{bodies_among}
 use Rattle.package_code.proofs.Differing.{AreAmong, AreDiffering, differing_more, is_of, no_more_than}
 use Rattle.ada_link.proofs.LabelsFit.{within_limit}

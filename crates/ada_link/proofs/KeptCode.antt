@@ -10,7 +10,7 @@ use Rattle.image.specs.Sections.{Sections, end_of, first_place}
 use Rattle.image.specs.declared.subprograms.Subprogram.{Subprogram}
 use Rattle.checking.specs.ProgramRules.{IsLegal}
 use Rattle.ravenscar.specs.ProgramRules.{IsRestricted}
-use Rattle.sound_programs.proofs.Listing.{same_some}
+use Rattle.program_soundness.proofs.Listing.{same_some}
 use Rattle.expr_code.specs.Code.{here}
 use Rattle.stmt_code.specs.Emitting.{HasLabels}
 use Rattle.stmt_code.specs.Whole.{AreAllKept, KeepsSubprogramRules, KeptCodePasses, PassesOnCode}

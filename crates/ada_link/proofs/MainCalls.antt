@@ -15,20 +15,20 @@ use Rattle.checking.specs.ProgramRules.{IsLegal}
 use Rattle.ravenscar.specs.ProgramRules.{IsRestricted}
 use Rattle.meaning.specs.Calls.{procedure_among, procedure_here}
 use Rattle.meaning.specs.Programs.{Procedure, Program, program_of}
-use Rattle.sound_steps.specs.Fitting.{formal_of}
-use Rattle.sound_steps.specs.Judged.{IsMainStatement}
-use Rattle.sound_steps.specs.Objects.{first_store}
-use Rattle.sound_programs.specs.Fronts.{declared_in, start_in}
-use Rattle.sound_programs.proofs.Agreed.{OffersAll, same_twice}
-use Rattle.sound_programs.proofs.Assembled as assembled
-use Rattle.sound_programs.proofs.Callables.{at_map, bodies_among, found_procedure, procedures_are}
-use Rattle.sound_programs.proofs.Called.{body_entity}
-use Rattle.sound_programs.proofs.WiderScopes.{number_stands, stands}
-use Rattle.sound_programs.proofs.Listing.{front_at}
-use Rattle.sound_programs.proofs.PackageBodies.{AllMain, statements_legal}
-use Rattle.sound_programs.proofs.BodyProfiles.{parameters_are, profile_formals, profile_none}
-use Rattle.sound_programs.proofs.Trees.{main_legal}
-use Rattle.sound_programs.proofs.Whole.{IsPackage}
+use Rattle.step_soundness.specs.Fitting.{formal_of}
+use Rattle.step_soundness.specs.Judged.{IsMainStatement}
+use Rattle.step_soundness.specs.Objects.{first_store}
+use Rattle.program_soundness.specs.Fronts.{declared_in, start_in}
+use Rattle.program_soundness.proofs.Agreed.{OffersAll, same_twice}
+use Rattle.program_soundness.proofs.Assembled as assembled
+use Rattle.program_soundness.proofs.Callables.{at_map, bodies_among, found_procedure, procedures_are}
+use Rattle.program_soundness.proofs.Called.{body_entity}
+use Rattle.program_soundness.proofs.WiderScopes.{number_stands, stands}
+use Rattle.program_soundness.proofs.Listing.{front_at}
+use Rattle.program_soundness.proofs.PackageBodies.{AllMain, statements_legal}
+use Rattle.program_soundness.proofs.BodyProfiles.{parameters_are, profile_formals, profile_none}
+use Rattle.program_soundness.proofs.Trees.{main_legal}
+use Rattle.program_soundness.proofs.Whole.{IsPackage}
 use Rattle.stmt_code.specs.Subprograms.{CallsProcedures, NamesBare, NamesIfCalled}
 use Rattle.package_code.proofs.CodedPackage.{procedure_stands}
 use Rattle.package_code.proofs.InFront.{LawsOfNames, known, last_is, memory, names, whole}

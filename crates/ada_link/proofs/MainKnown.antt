@@ -10,15 +10,15 @@ use Rattle.checking.specs.ProgramRules.{IsLegal}
 use Rattle.ravenscar.specs.ProgramRules.{IsRestricted}
 use Rattle.meaning.specs.Calls.{procedure_among, procedure_here}
 use Rattle.meaning.specs.Programs.{Procedure, Program, program_of}
-use Rattle.sound_programs.specs.Fronts.{declared_in, front, start_in}
-use Rattle.sound_programs.proofs.Agreed.{same_twice}
-use Rattle.sound_programs.proofs.Callables.{bodies_among, found_procedure, procedures_are}
-use Rattle.sound_programs.proofs.Called.{body_entity}
-use Rattle.sound_programs.proofs.Listing.{same_some}
-use Rattle.sound_programs.proofs.Walked.{kept_all}
-use Rattle.sound_programs.proofs.WiderScopes.{number_stands, same_bytes, stands, stands_number}
-use Rattle.sound_programs.proofs.Whole.{IsPackage}
-use Rattle.well_typed.proofs.Positions.{entity_number, first_place, found_at, number_place, suc_of}
+use Rattle.program_soundness.specs.Fronts.{declared_in, front, start_in}
+use Rattle.program_soundness.proofs.Agreed.{same_twice}
+use Rattle.program_soundness.proofs.Callables.{bodies_among, found_procedure, procedures_are}
+use Rattle.program_soundness.proofs.Called.{body_entity}
+use Rattle.program_soundness.proofs.Listing.{same_some}
+use Rattle.program_soundness.proofs.Walked.{kept_all}
+use Rattle.program_soundness.proofs.WiderScopes.{number_stands, same_bytes, stands, stands_number}
+use Rattle.program_soundness.proofs.Whole.{IsPackage}
+use Rattle.expr_soundness.proofs.Positions.{entity_number, first_place, found_at, number_place, suc_of}
 use Rattle.expr_code.specs.Entries.{entry_at}
 use Rattle.expr_code.specs.Seeing.{subprogram_of, told_of}
 use Rattle.part_code.specs.Needs.{are_unknown}

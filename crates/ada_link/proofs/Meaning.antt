@@ -29,19 +29,19 @@ use Rattle.meaning.specs.Source.{initial_work, partition_of, source_behaviour, s
 use Rattle.meaning.specs.Programs.{OfMain, Program, Task, priority_or_zero, program_of, task_name}
 use Rattle.meaning.specs.SameMeaning.{KeepsCount, frames_of}
 use Rattle.meaning.specs.Compiling.{MeetsUnder, met_keeps_count}
-use Rattle.sound_steps.specs.Objects.{first_store}
-use Rattle.sound_steps.specs.Laws.{StoresAreAlike}
-use Rattle.sound_steps.specs.Starting.{IsSoundStart}
-use Rattle.sound_programs.specs.BodyLaws.{PremisesHold}
-use Rattle.sound_programs.specs.ProgramLaws.{StartsAreSound}
+use Rattle.step_soundness.specs.Objects.{first_store}
+use Rattle.step_soundness.specs.Laws.{StoresAreAlike}
+use Rattle.step_soundness.specs.Starting.{IsSoundStart}
+use Rattle.program_soundness.specs.BodyLaws.{PremisesHold}
+use Rattle.program_soundness.specs.ProgramLaws.{StartsAreSound}
 use Rattle.expr_code.specs.Coming.{most_steps}
 use Rattle.expr_code.specs.Seeing.{Package}
 use Rattle.part_code.specs.Handling.{unhandled}
-use Rattle.met_steps.specs.Laws.{StepsAreMet}
+use Rattle.step_simulation.specs.Laws.{StepsAreMet}
 use Rattle.part_code.specs.Resting.{Shows}
 use Rattle.part_code.specs.Statements.{Numbers}
 use Rattle.part_code.specs.Jumping.{Here}
-use Rattle.met_steps.specs.Standing.{Around, CodeStands, Follows, Going, Inside, Left, Shares, WorkStands, relation, work_size}
+use Rattle.step_simulation.specs.Standing.{Around, CodeStands, Follows, Going, Inside, Left, Shares, WorkStands, relation, work_size}
 use Rattle.part_code.proofs.Handling.{goes_within}
 use Rattle.package_code.specs.LinkLaws.{LinkedKeepsCount, LinkedMeansTheSame}
 use Rattle.package_code.specs.Linked.{AreMain, IsLinkedProgram}

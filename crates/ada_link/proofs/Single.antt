@@ -6,7 +6,7 @@ use Rattle.kernel.specs.Dispatching.{leaves, highest, unless_empty, preempts, ru
 use Rattle.kernel.specs.Clock.{clock, clock_from, time_moves}
 use Rattle.kernel.specs.Effects.{Effect, Quiet, Says, Delays, Opens, Views, Queues, Ends, Finishes, Dies, Breaks, activated, after, begin, blank, effect}
 use Rattle.kernel.specs.PutLaws.{by_put, put_other, put_same, same_or_not}
-use Rattle.met_steps.specs.Standing.{StaysAlone}
+use Rattle.step_simulation.specs.Standing.{StaysAlone}
 
 pub record Single (k : Kernel) : Type 0 where
   pub ready : (h : ℕ) → k.ready h ≡ []

@@ -20,16 +20,16 @@ use Rattle.type_rules.specs.ProfileRules.{formal_parameters, profile_with}
 use Rattle.type_rules.specs.SubtypeNames.{subtype_of}
 use Rattle.checking.specs.ProgramRules.{IsLegal}
 use Rattle.ravenscar.specs.ProgramRules.{IsRestricted}
-use Rattle.well_typed.specs.Agreeing.{parameter_subtype}
-use Rattle.well_typed.specs.SoundScopes.{AreIn, AreKnown, IsKnown, IsSoundProfile, IsSoundResult, SoundScope}
-use Rattle.well_typed.proofs.Widening.{subtype_known}
+use Rattle.expr_soundness.specs.Agreeing.{parameter_subtype}
+use Rattle.expr_soundness.specs.SoundScopes.{AreIn, AreKnown, IsKnown, IsSoundProfile, IsSoundResult, SoundScope}
+use Rattle.expr_soundness.proofs.Widening.{subtype_known}
 use Rattle.meaning.specs.Programs.{Program, program_of, subtype_named}
-use Rattle.sound_programs.specs.Fronts.{declared_in, front, start_in}
-use Rattle.sound_programs.proofs.BodyProfiles.{first_formal, named_is, parameters_are, profile_formals, profile_none, profile_some}
-use Rattle.sound_programs.proofs.Called as bodies
-use Rattle.sound_programs.proofs.Listing.{same_some}
-use Rattle.sound_programs.proofs.Whole.{IsPackage}
-use Rattle.sound_programs.proofs.WiderScopes.{stands, stands_number}
+use Rattle.program_soundness.specs.Fronts.{declared_in, front, start_in}
+use Rattle.program_soundness.proofs.BodyProfiles.{first_formal, named_is, parameters_are, profile_formals, profile_none, profile_some}
+use Rattle.program_soundness.proofs.Called as bodies
+use Rattle.program_soundness.proofs.Listing.{same_some}
+use Rattle.program_soundness.proofs.Whole.{IsPackage}
+use Rattle.program_soundness.proofs.WiderScopes.{stands, stands_number}
 use Rattle.expr_code.specs.Code.{here}
 use Rattle.expr_code.specs.Seeing.{IsCallable, NamesProfile, Package, Suits, slot_of, subprogram_of, told_of}
 use Rattle.expr_code.specs.declared.visible.Slot.{Slot}

@@ -17,7 +17,7 @@ use Rattle.expr_rules.specs.StaticRules.{static_scalar}
 use Rattle.expr_rules.specs.declared.own.Wanted.TheVariants as wanted
 use Rattle.declaring.specs.TaskRules.{default_priority, priority_of, priority_within}
 use Rattle.meaning.specs.Programs.{base_priority, exceptions_among, package_items, program_of}
-use Rattle.sound_programs.proofs.WiderScopes.{bytes_same}
+use Rattle.program_soundness.proofs.WiderScopes.{bytes_same}
 use Rattle.expr_code.specs.Code.{here}
 use Rattle.stmt_code.specs.Whole.{KeptCodePasses, PassesOnCode}
 use Rattle.package_code.specs.Laws.{SectionsAreWellFormed}

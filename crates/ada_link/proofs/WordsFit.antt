@@ -19,13 +19,13 @@ use Rattle.checking.specs.ProgramRules.{IsLegal}
 use Rattle.ravenscar.specs.ProgramRules.{IsRestricted}
 use Rattle.size_rules.specs.ProgramSizes.{size_faults}
 use Rattle.meaning.specs.Programs.{Program, items_among, object_named, program_of, variables_among}
-use Rattle.well_typed.proofs.Parts.{subtype_values}
-use Rattle.sound_steps.specs.Objects.{AreSoundObjects}
-use Rattle.sound_programs.specs.Fronts.{declared_in, front, start_in}
-use Rattle.sound_programs.proofs.BodyProfiles.{named_is, subtype_kept}
-use Rattle.sound_programs.proofs.Listing.{taken_next}
-use Rattle.sound_programs.proofs.Walked.{item_new, legal_at, scope_next}
-use Rattle.sound_programs.proofs.Whole.{IsPackage, kept, known_subtype}
+use Rattle.expr_soundness.proofs.Parts.{subtype_values}
+use Rattle.step_soundness.specs.Objects.{AreSoundObjects}
+use Rattle.program_soundness.specs.Fronts.{declared_in, front, start_in}
+use Rattle.program_soundness.proofs.BodyProfiles.{named_is, subtype_kept}
+use Rattle.program_soundness.proofs.Listing.{taken_next}
+use Rattle.program_soundness.proofs.Walked.{item_new, legal_at, scope_next}
+use Rattle.program_soundness.proofs.Whole.{IsPackage, kept, known_subtype}
 use Rattle.package_code.specs.Package.{first_words_of}
 use Rattle.package_code.proofs.Declared.{among_both}
 use Rattle.package_code.proofs.InFront.{LawsOfNames, last_is, memory, whole}

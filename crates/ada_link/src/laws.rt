@@ -5,11 +5,11 @@ use crate::link_laws::{linked_keeps_count, linked_means_the_same};
 use checking::laws::words_have_room;
 use image_laws::code_leads_on;
 use kernel::laws::quiet_stays;
-use sound_programs::body_laws::{fronts_fit, names_are_known, premises_hold};
-use sound_programs::program_laws::starts_are_sound;
+use program_soundness::body_laws::{fronts_fit, names_are_known, premises_hold};
+use program_soundness::program_laws::starts_are_sound;
 use stmt_code::laws::kept_code_passes;
 use types::laws::{initial_values_have_shape, shapes_stay, values_have_words};
-use well_typed::laws::scopes_are_sound;
+use expr_soundness::laws::scopes_are_sound;
 
 /// The names of an accepted program are sound.
 pub fn names_are_sound()

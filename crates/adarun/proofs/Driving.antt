@@ -7,12 +7,12 @@ use Rattle.machine.specs.declared.reports.Outcome.{Outcome}
 use Rattle.machine.specs.declared.reports.Outcome.TheVariants as outcomes
 use Rattle.clock.specs.Schedules as schedules
 use Rattle.clock.specs.declared.schedule.ScheduleFault.{ScheduleFault}
-use Rattle.compile_and_go.specs.Accepted.{RefusesText}
-use Rattle.compile_and_go.specs.Headline.{Runs}
-use Rattle.compile_and_go.specs.Stopping.{RefusesRunning}
+use Rattle.adarun.specs.Accepted.{RefusesText}
+use Rattle.adarun.specs.Headline.{Runs}
+use Rattle.adarun.specs.Stopping.{RefusesRunning}
 use Rattle.adarun.specs.Driving.{Contents, HasRun, HasRunImage, IsContentRead, KeepsSink, LeavesGo, LeavesRun, status_of}
-use Rattle.compile_and_go.specs.declared.going.GoFault.{GoFault}
-use Rattle.compile_and_go.specs.declared.going.GoFault.TheVariants as faults
+use Rattle.adarun.specs.declared.going.GoFault.{GoFault}
+use Rattle.adarun.specs.declared.going.GoFault.TheVariants as faults
 use Rattle.adarun.specs.declared.program.Status.{Status}
 use Rattle.adarun.specs.declared.program.Status.TheVariants.{Failed, SourceRefused, ScheduleRefused, NoMemory}
 

@@ -1,1 +1,3 @@
-pub mod Driving
+mod Compiling
+mod Running
+mod Driving

@@ -17,9 +17,9 @@ use Rattle.machine.specs.Stands.{EndsBy}
 use Rattle.machine.specs.Written.{AppendsBeginning}
 use Rattle.machine.specs.declared.reports.Outcome.{Outcome}
 use Rattle.machine.specs.declared.reports.Outcome.TheVariants as outcomes
-use Rattle.compile_and_go.specs.Accepted.{Compiles, RefusesText}
-use Rattle.compile_and_go.specs.Headline.{Runs, WritesBeginning}
-use Rattle.compile_and_go.specs.Stopping.{HasImage}
+use Rattle.adarun.specs.Accepted.{Compiles, RefusesText}
+use Rattle.adarun.specs.Headline.{Runs, WritesBeginning}
+use Rattle.adarun.specs.Stopping.{HasImage}
 use Rattle.adarun.specs.declared.files.ReadError.{ReadError}
 use Rattle.adarun.specs.declared.files.ReadError.TheVariants as errors
 use Rattle.adarun.specs.declared.program.Status.{Status}

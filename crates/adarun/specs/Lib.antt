@@ -1,1 +1,5 @@
+pub mod Accepted
+pub mod Headline
+pub mod Stopping
+pub mod Joined
 pub mod Driving

@@ -1,9 +1,13 @@
-//! The compiler and runtime: the program's work over any files and streams.
+//! The compiler and runtime: from a source text to its image, to the timed lines of its run, and the program's work over any files and streams.
 #![tactic(auto)]
 
+mod compilation;
 mod files;
+mod going;
+pub mod laws;
 mod program;
 
-pub use compile_and_go::{GoFault, compile, go};
+pub use compilation::compile;
 pub use files::{FileStore, ReadError, WriteError};
+pub use going::{GoFault, go};
 pub use program::{Status, drive};

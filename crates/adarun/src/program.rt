@@ -4,11 +4,12 @@ ghost use Rattle.base.specs.declared.faults.TheConstants.{MEMORY_REFUSED};
 ghost use Rattle.adarun.specs.Driving as driving;
 ghost use Rattle.adarun.specs.Driving.{AnswersStatus, KeepsSink, LeavesCompile, LeavesGo, LeavesList, LeavesRun};
 
+use crate::compilation::compile;
 use crate::files::{FileStore, ReadError, WriteError};
+use crate::going::{GoFault, go};
 use base::faults::MEMORY_REFUSED;
 use clock::{Schedule, ScheduleFault};
 use command_line::{Request, WordsError, request_of};
-use compile_and_go::{GoFault, compile, go};
 use image::ImageFault;
 use image_format::{encode, list};
 use image_loading::load;

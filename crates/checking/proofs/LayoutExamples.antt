@@ -7,7 +7,8 @@ use Rattle.ada_tree.specs.ExpressionTree.{ExprTree, Number}
 use Rattle.ada_tree.specs.StatementTree.{NoStmts, NoHandlers, OfSubprogram, ProtectedComponentTree, RangeTree, SubprogramTree}
 use Rattle.ada_tree.specs.ProgramTree.{Array, BodyItemTree, DefinitionTree, Integer, ItemTree, OfItem, OfObject, OfProtected, OfRange, OfType, PackageTree, ProgramTree, ProtectedBody, Record, SubprogramBody}
 use Rattle.types.specs.Scopes.{standard}
-use Rattle.checking.specs.ProgramLayouts.{object_layouts, placed, program_scope, variables_layout}
+use Rattle.declaring.specs.PackageNames.{program_scope}
+use Rattle.checking.specs.ProgramLayouts.{object_layouts, placed, variables_layout}
 
 abbrev identifier : List ℕ → Identifier
 identifier text = record { name = text; place = 0 }

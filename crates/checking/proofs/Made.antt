@@ -24,10 +24,7 @@ use Rattle.type_rules.specs.SubtypeNames.{entity_at_or_none, if_integer, subtype
 use Rattle.type_rules.specs.TypeRules.{array_entity, bounded, composite, definition_entity, index_subtype, integer_entity, narrowed, record_components, record_entity, short_length, static_whole, subtype_entity}
 use Rattle.expr_rules.specs.Typing.{is_integers}
 use Rattle.types.specs.Scopes.{form_at}
-use Rattle.legality.specs.PackageBodyRules.{body_item_scope, body_items_scope}
-use Rattle.legality.specs.PackageRules.{inside_scope, specified_scope}
-use Rattle.checking.specs.ProgramLayouts.{optional_scope}
-use Rattle.legality.specs.UnitRules.{clauses_scope, is_control_io, is_real_time}
+use Rattle.declaring.specs.PackageNames.{body_item_scope, body_items_scope, clauses_scope, inside_scope, is_control_io, is_real_time, optional_scope, specified_scope}
 
 -- ---- scopes whose entities are sound, each behind the names in front of it
 

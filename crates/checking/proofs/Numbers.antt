@@ -6,7 +6,8 @@ use Rattle.types.specs.Entities.{Entity, Object, Protected, ProtectedObject}
 use Rattle.types.specs.Layouts.{words_of}
 use Rattle.types.specs.Scopes.{Named, Scope, entity_of, protected_of}
 use Rattle.declaring.specs.ProtectedRules.{one_if_protected, protected_count}
-use Rattle.checking.specs.ProgramLayouts.{ObjectsStandAtTheirNumbers, VariablesStandInOrder, components_words, object_words, objects_words, program_scope, variable_words, variables_words}
+use Rattle.declaring.specs.PackageNames.{program_scope}
+use Rattle.checking.specs.ProgramLayouts.{ObjectsStandAtTheirNumbers, VariablesStandInOrder, components_words, object_words, objects_words, variable_words, variables_words}
 use Rattle.checking.proofs.Made.{IsMade, IsSound, optional_made}
 
 -- behind one entity, whatever it is, stands what stood at this position without it

@@ -25,16 +25,14 @@ use Rattle.type_rules.specs.SubtypeNames.{if_integer, subtype_of}
 use Rattle.declaring.specs.TaskRules.{default_priority, priority_of}
 use Rattle.type_rules.specs.TypeRules.{array_entity, composite, definition_entity, index_subtype, integer_entity, narrowed, range_subtype, record_components, record_entity, short_length, subtype_entity}
 use Rattle.expr_rules.specs.declared.own.Wanted.TheVariants as wanted
-use Rattle.legality.specs.PackageBodyRules.{body_item_scope, body_items_scope}
-use Rattle.legality.specs.PackageRules.{inside_scope, package_scope, specified_scope}
-use Rattle.legality.specs.UnitRules.{clauses_scope}
+use Rattle.declaring.specs.PackageNames.{body_item_scope, body_items_scope, clauses_scope, inside_scope, optional_scope, package_scope, specified_scope}
 use Rattle.size_rules.specs.BodySizes.{sized_object}
 use Rattle.size_rules.specs.Laws.{WordsAddUp, counted_words}
 use Rattle.size_rules.specs.Limits.{words_faults}
 use Rattle.size_rules.specs.PackageSizes.{body_item_things, body_items_things, components_things, item_things, items_things, object_things, operations_things, package_things}
 use Rattle.size_rules.specs.ProgramSizes.{declared_faults, exception_faults, label_faults, optional_size_faults, protected_object_faults, subprogram_faults, task_faults}
 use Rattle.size_rules.specs.PackageSizes.{frame_faults, package_inside}
-use Rattle.checking.specs.ProgramLayouts.{HaveRoom, WordsHaveRoom, components_words, object_words, objects_words, optional_scope, total_of_all, variable_words, variables_words}
+use Rattle.checking.specs.ProgramLayouts.{HaveRoom, WordsHaveRoom, components_words, object_words, objects_words, total_of_all, variable_words, variables_words}
 use Rattle.checking.proofs.Placing.{total_both, total_of_both}
 use Rattle.checking.proofs.Made.{IsBelow, IsMade, Units, NoUnits, Times, Io, TimesIo, IoTimes, clauses_seen, inside_made, item_made, body_item_made, seen, specified_made, subtype_below}
 

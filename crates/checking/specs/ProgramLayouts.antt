@@ -1,23 +1,15 @@
--- What is visible behind the package, and where its variables and the components of its protected objects stand (RM 8.3; docs/FORMATS.md).
-use Rattle.std.specs.Prelude.{◌≡◌, ◌≤◌, ◌+◌, ℕ, List, [], ◌∷◌, ◌++◌, length, map, slice_get, take, Option, Some, None}
+-- Where the variables of the package and the components of its protected objects stand (RM 8.3; docs/FORMATS.md).
+use Rattle.std.specs.Prelude.{◌≡◌, ◌≤◌, ◌+◌, ℕ, List, [], ◌∷◌, ◌++◌, length, map, slice_get, take, Option, Some}
 use Rattle.base.specs.declared.limits.TheConstants.{WORDS}
-use Rattle.ada_tree.specs.ProgramTree.{PackageTree, ProgramTree}
+use Rattle.ada_tree.specs.ProgramTree.{ProgramTree}
 use Rattle.types.specs.declared.entity.RecordComponent.{RecordComponent}
 use Rattle.types.specs.declared.entity.Role.TheVariants as role
 use Rattle.types.specs.declared.entity.Subtype.{Subtype}
 use Rattle.types.specs.Entities.{Entity, Object, Protected, ProtectedObject}
 use Rattle.types.specs.Layouts.{Objects, total, words_of}
-use Rattle.types.specs.Scopes.{Scope, entity_at, protected_at, standard}
-use Rattle.legality.specs.PackageRules.{package_scope}
+use Rattle.types.specs.Scopes.{Scope, entity_at, protected_at}
+use Rattle.declaring.specs.PackageNames.{program_scope}
 use Rattle.size_rules.specs.ProgramSizes.{size_faults}
-
--- the names that are visible behind the package: where there is none, those of Standard, which stand in front of it
-abbrev pub optional_scope : Scope → Option PackageTree → Scope
-optional_scope s (Some p) = package_scope s p
-optional_scope s None = s
-
-abbrev pub program_scope : ProgramTree → Scope
-program_scope t = optional_scope standard t.package_
 
 -- ---- words, where these names are visible
 

@@ -2,7 +2,8 @@
 ghost use Rattle.std.specs.Prelude.{◌≡◌, IfErr, IfOk, OnOk, option_map, slice_get};
 ghost use Rattle.ada_tree.specs.ProgramTree.{package_tree, program_tree};
 ghost use Rattle.expr_rules.specs.Faults.{least};
-ghost use Rattle.checking.specs.ProgramLayouts.{HaveRoom, object_layouts, optional_scope, program_scope, variables_layout};
+ghost use Rattle.declaring.specs.PackageNames.{optional_scope, program_scope};
+ghost use Rattle.checking.specs.ProgramLayouts.{HaveRoom, object_layouts, variables_layout};
 ghost use Rattle.checking.specs.ProgramRules.{IsLegal, RefusesProgram, package_part_faults, program_faults};
 
 use crate::laws::words_have_room;
@@ -32,7 +33,8 @@ impl Model for Checked {
     ghost use Rattle.std.specs.Prelude.{◌≡◌};
     ghost use Rattle.ada_tree.specs.declared.program.Program as declared;
     ghost use Rattle.ada_tree.specs.ProgramTree.{program_tree};
-    ghost use Rattle.checking.specs.ProgramLayouts.{object_layouts, program_scope, variables_layout};
+    ghost use Rattle.declaring.specs.PackageNames.{program_scope};
+    ghost use Rattle.checking.specs.ProgramLayouts.{object_layouts, variables_layout};
     ghost use Rattle.checking.specs.ProgramRules.{IsLegal};
     ghost use Rattle.ada_tree.specs.contracts.program.Program as contract;
     ghost use Rattle.std.specs.Coded.{codes};

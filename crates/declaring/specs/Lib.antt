@@ -6,4 +6,5 @@ pub mod ProtectedRules
 pub mod LocalRules
 pub mod ItemRules
 pub mod BodyNames
+pub mod PackageNames
 pub mod Laws

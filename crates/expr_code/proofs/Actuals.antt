@@ -34,9 +34,9 @@ use Rattle.expr_rules.specs.Faults.{rule}
 use Rattle.expr_rules.specs.NameRules.{call_slot, count_rule, end_rule, formal_slot, formal_slot_or, part_rule, profile_formals, slot_at, value_rule}
 use Rattle.expr_rules.specs.ExpressionRules.{argument_faults, arguments_faults, selectors_faults}
 use Rattle.expr_rules.proofs.TypedLaw.{back_empty, front_empty}
-use Rattle.well_typed.specs.Agreeing.{MeansFunction, parameter_subtype}
-use Rattle.well_typed.proofs.Applying.{one_count}
-use Rattle.well_typed.proofs.Parts.{same_values}
+use Rattle.expr_soundness.specs.Agreeing.{MeansFunction, parameter_subtype}
+use Rattle.expr_soundness.proofs.Applying.{one_count}
+use Rattle.expr_soundness.proofs.Parts.{same_values}
 use Rattle.expr_code.specs.Actuals.{AddsCall, ArePassedLegally, arguments_in_front, EmitsActual, EmitsActuals, IsPassedLegally, TakeShapes}
 use Rattle.expr_code.specs.Code.{here}
 use Rattle.expr_code.specs.Computing.{AlwaysNames, ArePassed, ArePassedWell, Computes, ComputesAll}

@@ -13,8 +13,8 @@ use Rattle.types.specs.Evaluating.{fixed_value}
 use Rattle.types.specs.Scopes.{entity_at, number_of, Scope}
 use Rattle.types.specs.Standings.{call_stands, result_stands, select_all, standing_of, stands_first}
 use Rattle.expr_rules.specs.NameRules.{value_rule}
-use Rattle.well_typed.specs.SoundScopes.{AreIn, SoundScope}
-use Rattle.well_typed.proofs.Positions.{same_some}
+use Rattle.expr_soundness.specs.SoundScopes.{AreIn, SoundScope}
+use Rattle.expr_soundness.proofs.Positions.{same_some}
 use Rattle.expr_code.specs.Code.{here}
 use Rattle.expr_code.specs.Emitting.{IsLegalExpression}
 use Rattle.expr_code.specs.Refusing.{are_passable, argument_outside, argument_peak, arguments_outside, arguments_peak, is_callable, is_called, is_made, is_passable, IsRefused, RefusesActual, RefusesActuals, RefusesAddress, RefusesExpression, RefusesPath, words_below}

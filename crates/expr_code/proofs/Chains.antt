@@ -11,7 +11,7 @@ use Rattle.ada_tree.specs.declared.expression.Operand.{Operand}
 use Rattle.ada_tree.specs.ExpressionTree as tree
 use Rattle.ada_tree.specs.ExpressionTree.{ExprTree, chain_tree, expr_tree}
 use Rattle.types.specs.Scopes.{Scope}
-use Rattle.well_typed.specs.Laws.{ExpressionsAreTyped}
+use Rattle.expr_soundness.specs.Laws.{ExpressionsAreTyped}
 use Rattle.expr_code.specs.Code.{Adds, here, Patches}
 use Rattle.expr_code.specs.Emitting.{AreLegalOperands, EmitsExpression, EmitsOperands, IsLegalExpression}
 use Rattle.expr_code.specs.OperatorCode.{binary_operation}

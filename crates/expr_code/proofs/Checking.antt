@@ -26,12 +26,12 @@ use Rattle.expr_rules.specs.NameRules.{mismatch}
 use Rattle.expr_rules.specs.Typing.{is_booleans, is_integers, own_of}
 use Rattle.expr_rules.proofs.TypeShapes.{boolean_value, numeric_value}
 use Rattle.expr_rules.proofs.TypedLaw.{as_number, as_truth, back_empty, front_empty, integral_numeric}
-use Rattle.well_typed.specs.Agreeing.{Agrees}
-use Rattle.well_typed.specs.Answers.{CallsAnswer}
-use Rattle.well_typed.specs.Laws.{ExpressionsAreTyped}
-use Rattle.well_typed.proofs.Arguments as arguments
-use Rattle.well_typed.proofs.Arguments.{slot_suits}
-use Rattle.well_typed.proofs.Parts.{subtype_values}
+use Rattle.expr_soundness.specs.Agreeing.{Agrees}
+use Rattle.expr_soundness.specs.Answers.{CallsAnswer}
+use Rattle.expr_soundness.specs.Laws.{ExpressionsAreTyped}
+use Rattle.expr_soundness.proofs.Arguments as arguments
+use Rattle.expr_soundness.proofs.Arguments.{slot_suits}
+use Rattle.expr_soundness.proofs.Parts.{subtype_values}
 use Rattle.expr_code.specs.Views.{At}
 use Rattle.expr_code.specs.Code.{Adds, here}
 use Rattle.expr_code.specs.Computing.{AlwaysPasses, ComputesChecked, ComesToNumber}

@@ -18,8 +18,8 @@ use Rattle.expr_rules.specs.ExpressionRules.{argument_faults, arguments_faults, 
 use Rattle.expr_rules.specs.Typing.{is_integers}
 use Rattle.expr_rules.specs.declared.own.Wanted.TheVariants.{AnyInteger}
 use Rattle.expr_rules.proofs.TypedLaw.{back_empty, front_empty, unbroken}
-use Rattle.well_typed.proofs.FixedNames.{same_form}
-use Rattle.well_typed.proofs.Expressions.{IsHere}
+use Rattle.expr_soundness.proofs.FixedNames.{same_form}
+use Rattle.expr_soundness.proofs.Expressions.{IsHere}
 use Rattle.expr_code.specs.Code.{here}
 use Rattle.expr_code.specs.Emitting.{EmitsChecked, EmitsExpression, IsFit, IsLegalExpression}
 use Rattle.expr_code.specs.Seeing.{library_of, Sees}

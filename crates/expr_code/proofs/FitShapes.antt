@@ -14,7 +14,7 @@ use Rattle.types.specs.Layouts.{capped, field_offset, further, words_of}
 use Rattle.types.specs.Scopes.{form_at, Scope}
 use Rattle.types.specs.Shapes.{component_shapes, Grouped, MoreShapes, NoShapes, Repeated, Shape, shape_among, shape_of, Shapes, shapes, words, words_of_parts}
 use Rattle.types.specs.Standings.{bound_stands, component_of, component_stands, element_stands, is_single, object_attribute, part_of}
-use Rattle.well_typed.specs.SoundScopes.{SoundScope}
+use Rattle.expr_soundness.specs.SoundScopes.{SoundScope}
 use Rattle.expr_code.specs.Going.{Selects}
 use Rattle.expr_code.specs.Locating.{shape_in}
 use Rattle.expr_code.specs.Refusing.{are_fit, is_fit, IsUnfit, KeepsFit}

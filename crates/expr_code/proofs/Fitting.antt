@@ -21,8 +21,8 @@ use Rattle.expr_rules.specs.ExpressionRules.{faults_in}
 use Rattle.expr_rules.specs.NameRules.{mismatch}
 use Rattle.expr_rules.specs.Typing.{is_integers, own_of}
 use Rattle.expr_rules.proofs.TypedLaw.{back_empty, front_empty, same_number}
-use Rattle.well_typed.specs.Laws.{ExpressionsAreTyped}
-use Rattle.well_typed.specs.SoundScopes.{SoundScope}
+use Rattle.expr_soundness.specs.Laws.{ExpressionsAreTyped}
+use Rattle.expr_soundness.specs.SoundScopes.{SoundScope}
 use Rattle.expr_code.specs.Code.{here}
 use Rattle.expr_code.specs.Computing.{AlwaysPasses}
 use Rattle.expr_code.specs.Emitting.{EmitsChecked, EmitsExpression, EmitsFitting, is_composite, IsFit, WantedFits}

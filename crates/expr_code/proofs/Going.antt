@@ -35,14 +35,14 @@ use Rattle.expr_rules.specs.Faults.{rule}
 use Rattle.expr_rules.specs.NameRules.{index_slot, part_rule, value_rule}
 use Rattle.expr_rules.specs.Typing.{is_integers}
 use Rattle.expr_rules.proofs.TypedLaw.{back_empty, front_empty}
-use Rattle.well_typed.specs.Laws.{ExpressionsAreTyped}
-use Rattle.well_typed.specs.SoundScopes.{AreEarlier, SoundScope}
-use Rattle.well_typed.proofs.Expressions.{IsHere}
-use Rattle.well_typed.proofs.FixedNames.{same_form}
-use Rattle.well_typed.proofs.Denoting.{MeansPart}
-use Rattle.well_typed.proofs.Goods.{no_integer_parts, part_unbroken, sound_form}
-use Rattle.well_typed.proofs.Parts.{before, part_shape, shape_by_form}
-use Rattle.well_typed.proofs.Positions.{same_some}
+use Rattle.expr_soundness.specs.Laws.{ExpressionsAreTyped}
+use Rattle.expr_soundness.specs.SoundScopes.{AreEarlier, SoundScope}
+use Rattle.expr_soundness.proofs.Expressions.{IsHere}
+use Rattle.expr_soundness.proofs.FixedNames.{same_form}
+use Rattle.expr_soundness.proofs.Denoting.{MeansPart}
+use Rattle.expr_soundness.proofs.Goods.{no_integer_parts, part_unbroken, sound_form}
+use Rattle.expr_soundness.proofs.Parts.{before, part_shape, shape_by_form}
+use Rattle.expr_soundness.proofs.Positions.{same_some}
 use Rattle.expr_code.specs.Views.{At}
 use Rattle.expr_code.specs.Code.{Adds, Extends, here, Holds}
 use Rattle.expr_code.specs.Computing.{Computes}

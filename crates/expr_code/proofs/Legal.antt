@@ -18,7 +18,7 @@ use Rattle.expr_rules.specs.Faults.{Faults}
 use Rattle.expr_rules.specs.Laws.{suits}
 use Rattle.expr_rules.proofs.TypedLaw.{as_truth, back_empty, front_empty, joined_boolean, judged_two, unbroken}
 use Rattle.base.specs.declared.faults.TheConstants.{NO_MEANING}
-use Rattle.well_typed.specs.Laws.{ExpressionsAreTyped}
+use Rattle.expr_soundness.specs.Laws.{ExpressionsAreTyped}
 use Rattle.expr_code.specs.Computing.{IsTruth}
 use Rattle.expr_code.specs.Branches.{AreLegalBranches, Branch, branch_of, in_front}
 use Rattle.expr_code.specs.Emitting.{AreLegalOperands, IsLegalExpression}

@@ -23,11 +23,11 @@ use Rattle.expr_rules.specs.ExpressionRules.{arguments_faults, selector_faults, 
 use Rattle.expr_rules.specs.Faults.{Faults, rule}
 use Rattle.expr_rules.specs.NameRules.{is_doubtful, part_rule, value_rule}
 use Rattle.expr_rules.proofs.TypedLaw.{back_empty, front_empty, same_number, unbroken}
-use Rattle.well_typed.specs.SoundScopes.{AreIn, IsSoundProfile, IsSoundResult, SoundScope}
-use Rattle.well_typed.proofs.Denoting.{empty_ends, is_empty}
-use Rattle.well_typed.proofs.Expressions.{not_false}
-use Rattle.well_typed.proofs.Goods.{Good, GoodCallee, good_first, good_select, part_unbroken}
-use Rattle.well_typed.proofs.Positions.{named, same_some}
+use Rattle.expr_soundness.specs.SoundScopes.{AreIn, IsSoundProfile, IsSoundResult, SoundScope}
+use Rattle.expr_soundness.proofs.Denoting.{empty_ends, is_empty}
+use Rattle.expr_soundness.proofs.Expressions.{not_false}
+use Rattle.expr_soundness.proofs.Goods.{Good, GoodCallee, good_first, good_select, part_unbroken}
+use Rattle.expr_soundness.proofs.Positions.{named, same_some}
 use Rattle.expr_code.specs.Emitting.{IsLegalExpression}
 use Rattle.expr_code.specs.Going.{IsLegalPart}
 use Rattle.expr_code.specs.Refusing.{is_made, selectors_outside}

@@ -28,12 +28,12 @@ use Rattle.expr_rules.specs.Faults.{rule}
 use Rattle.expr_rules.specs.NameRules.{value_rule}
 use Rattle.expr_rules.specs.ExpressionRules.{selectors_faults}
 use Rattle.expr_rules.proofs.TypedLaw.{back_empty, front_empty, unbroken}
-use Rattle.well_typed.specs.Agreeing.{Agrees}
-use Rattle.well_typed.proofs.Positions.{named}
-use Rattle.well_typed.proofs.Goods.{Good, good_first}
-use Rattle.well_typed.proofs.FixedNames.{all_valueless}
-use Rattle.well_typed.proofs.Denoting.{empty_ends, MeansPart}
-use Rattle.well_typed.proofs.Expressions.{first_here, IsHere, IsNone, not_false}
+use Rattle.expr_soundness.specs.Agreeing.{Agrees}
+use Rattle.expr_soundness.proofs.Positions.{named}
+use Rattle.expr_soundness.proofs.Goods.{Good, good_first}
+use Rattle.expr_soundness.proofs.FixedNames.{all_valueless}
+use Rattle.expr_soundness.proofs.Denoting.{empty_ends, MeansPart}
+use Rattle.expr_soundness.proofs.Expressions.{first_here, IsHere, IsNone, not_false}
 use Rattle.expr_code.specs.Views.{At}
 use Rattle.expr_code.specs.Code.{Adds, here}
 use Rattle.expr_code.specs.Computing.{Computes}

@@ -15,7 +15,7 @@ use Rattle.types.specs.declared.entity.Subtype.{Subtype}
 use Rattle.types.specs.declared.standing.Standing.TheVariants as standing
 use Rattle.types.specs.Scopes.{number_of}
 use Rattle.types.specs.Standings.{stands_first}
-use Rattle.well_typed.proofs.Positions.{same_some}
+use Rattle.expr_soundness.proofs.Positions.{same_some}
 use Rattle.expr_code.specs.Branches.{Branch, Closes, branch_of, in_front}
 use Rattle.expr_code.specs.Code.{IsShallow}
 use Rattle.expr_code.specs.Going.{AddsOffset}

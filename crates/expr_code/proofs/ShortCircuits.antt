@@ -15,7 +15,7 @@ use Rattle.image.specs.declared.subprograms.Subprogram.{Subprogram}
 use Rattle.expr_code.specs.Views.{At}
 use Rattle.expr_code.specs.Code.{Adds, Extends, here, Holds, Patches}
 use Rattle.expr_code.specs.Computing.{Computes}
-use Rattle.well_typed.specs.Laws.{ExpressionsAreTyped}
+use Rattle.expr_soundness.specs.Laws.{ExpressionsAreTyped}
 use Rattle.expr_code.specs.Emitting.{EmitsExpression, IsLegalExpression}
 use Rattle.expr_code.specs.Flows.{AreKeptBetween, Flows}
 use Rattle.expr_code.specs.Seeing.{library_of, Package, Sees, Suits}

@@ -35,10 +35,10 @@ use Rattle.expr_rules.specs.Typing.{own_of, own_of_standing, elsif_own_of, unary
 use Rattle.expr_rules.specs.ExpressionRules.{faults_in, faults_of, elsif_faults, selectors_faults, below, beside, unary_rule, binary_rule, parts_own, parts_wanted, conditional_wanted, first_typed, or_first}
 use Rattle.expr_rules.proofs.TypeShapes.{boolean_value, is_numeric, numeric_value}
 use Rattle.expr_rules.proofs.TypedLaw.{back_empty, front_empty, integral_numeric, judged, judged_two, same_number, span_numeric, time_numeric, unbroken}
-use Rattle.well_typed.specs.SoundScopes.{SoundScope}
-use Rattle.well_typed.proofs.Expressions.{not_false}
-use Rattle.well_typed.proofs.Goods.{Good, fixed_suits, good_all, good_first, known_all}
-use Rattle.well_typed.proofs.Positions.{named}
+use Rattle.expr_soundness.specs.SoundScopes.{SoundScope}
+use Rattle.expr_soundness.proofs.Expressions.{not_false}
+use Rattle.expr_soundness.proofs.Goods.{Good, fixed_suits, good_all, good_first, known_all}
+use Rattle.expr_soundness.proofs.Positions.{named}
 use Rattle.expr_rules.specs.Laws.{is_value_of}
 use Rattle.expr_code.specs.Branches.{Branch, branch_of, in_front}
 use Rattle.expr_code.specs.Emitting.{IsFit, IsLegalExpression, WantedFits}

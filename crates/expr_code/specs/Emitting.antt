@@ -17,8 +17,8 @@ use Rattle.expr_rules.specs.declared.own.Wanted.{Wanted}
 use Rattle.expr_rules.specs.declared.own.Wanted.TheVariants.{Anything, AnyInteger, OfType}
 use Rattle.expr_rules.specs.ExpressionRules.{faults_in, faults_of}
 use Rattle.expr_rules.specs.Typing.{is_integers}
-use Rattle.well_typed.specs.Agreeing.{Agrees}
-use Rattle.well_typed.specs.Answers.{CallsAnswer}
+use Rattle.expr_soundness.specs.Agreeing.{Agrees}
+use Rattle.expr_soundness.specs.Answers.{CallsAnswer}
 use Rattle.expr_code.specs.Code.{here, Extends, Holds}
 use Rattle.expr_code.specs.Computing.{Computes, ComputesChecked}
 use Rattle.expr_code.specs.Flows.{Flows}

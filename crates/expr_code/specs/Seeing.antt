@@ -15,8 +15,8 @@ use Rattle.types.specs.Evaluating.{formal_subtype}
 use Rattle.types.specs.Scopes.{Scope, entity_at, number_of}
 use Rattle.types.specs.Layouts.{words_of}
 use Rattle.types.specs.Shapes.{shape_of}
-use Rattle.well_typed.specs.Answers.{CallsAnswer, FunctionsAreSound}
-use Rattle.well_typed.specs.Agreeing.{Agrees, parameter_subtype}
+use Rattle.expr_soundness.specs.Answers.{CallsAnswer, FunctionsAreSound}
+use Rattle.expr_soundness.specs.Agreeing.{Agrees, parameter_subtype}
 use Rattle.expr_code.specs.Entries.{entry_at}
 use Rattle.expr_code.specs.Views.{View}
 use Rattle.expr_code.specs.Computing.{Library}

@@ -3,14 +3,14 @@ ghost use Rattle.std.specs.Prelude.{◌≡◌, ◌+◌, map, not, take, length, 
 ghost use Rattle.ada_tree.specs.ExpressionTree.{argument_tree, argument_trees, Arguments, MoreSelectors, Named, NoSelectors};
 ghost use Rattle.ada_tree.specs.declared.declaration.Mode.TheVariants.{In};
 ghost use Rattle.types.specs.Entities.{profile_value};
-ghost use Rattle.well_typed.specs.Agreeing.{parameter_subtype};
+ghost use Rattle.expr_soundness.specs.Agreeing.{parameter_subtype};
 ghost use Rattle.expr_code.specs.Emitting.{EmitsExpression, IsLegalExpression};
 ghost use Rattle.expr_code.specs.Actuals.{AddsCall, ArePassedLegally, EmitsActual, EmitsActuals, IsPassedLegally};
 ghost use Rattle.expr_code.specs.Code.{Extends, here, IsShallow};
 ghost use Rattle.expr_code.specs.Refusing.{is_called, IsRefused, RefusesActual, RefusesActuals, RefusesExpression, argument_peak, arguments_peak, peak};
 ghost use Rattle.expr_code.specs.Seeing.{NamesProfile, subprogram_of};
 ghost use Rattle.expr_code.specs.Widths.{width_of};
-ghost use Rattle.well_typed.specs.SoundScopes.{AreIn, SoundScope};
+ghost use Rattle.expr_soundness.specs.SoundScopes.{AreIn, SoundScope};
 
 use crate::code::{Code, above};
 use crate::refusal::Refusal;

@@ -7,7 +7,7 @@ ghost use Rattle.types.specs.Scopes.{form_at};
 ghost use Rattle.expr_code.specs.Emitting.{EmitsChecked, EmitsFitting, is_composite, IsFit};
 ghost use Rattle.expr_code.specs.Code.{Extends, IsShallow};
 ghost use Rattle.expr_code.specs.Refusing.{RefusesChecked, RefusesFitting, checked_peak, peak};
-ghost use Rattle.well_typed.specs.SoundScopes.{SoundScope};
+ghost use Rattle.expr_soundness.specs.SoundScopes.{SoundScope};
 
 use crate::code::{Code, above};
 use crate::refusal::Refusal;
@@ -18,7 +18,7 @@ use image::Operation;
 use kernel::laws::quiet_stays;
 use types::laws::values_have_words;
 use types::{Subtype, TypeForm};
-use well_typed::laws::expressions_are_typed;
+use expr_soundness::laws::expressions_are_typed;
 
 impl Code {
     /// Adds the code of an expression whose value is to lie in a subtype, and of the check that it does, where that is one of integers.

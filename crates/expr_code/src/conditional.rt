@@ -5,7 +5,7 @@ ghost use Rattle.expr_code.specs.Branches.{AddsBranches, AreLegalBranches, branc
 ghost use Rattle.expr_code.specs.Code.{Adds, Extends, here, IsShallow};
 ghost use Rattle.expr_code.specs.Refusing.{IsRefused, RefusesBranches, branches_peak};
 ghost use Rattle.expr_code.specs.Widths.{AreWide};
-ghost use Rattle.well_typed.specs.SoundScopes.{SoundScope};
+ghost use Rattle.expr_soundness.specs.SoundScopes.{SoundScope};
 ghost use Rattle.image.specs.declared.instruction.Operation.TheVariants.{JumpIfZero};
 
 use crate::code::{Code, above, raised};

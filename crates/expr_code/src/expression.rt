@@ -6,7 +6,7 @@ ghost use Rattle.expr_code.specs.OperatorCode.{binary_operation};
 ghost use Rattle.expr_code.specs.Code.{Extends, here, IsAsBefore, IsShallow};
 ghost use Rattle.expr_code.specs.Refusing.{operands_size, RefusesExpression, RefusesOperands, operands_peak, peak};
 ghost use Rattle.expr_code.specs.Widths.{AreSingle, width_of};
-ghost use Rattle.well_typed.specs.SoundScopes.{SoundScope};
+ghost use Rattle.expr_soundness.specs.SoundScopes.{SoundScope};
 
 use crate::code::{Code, above, raised};
 use crate::operation::{binary_operation, unary_operation};
@@ -16,7 +16,7 @@ use ada_tree::laws::{chains_by_parts, conditional_by_parts, names_by_parts};
 use ada_tree::{BinaryOperator, Expr, Operand};
 use image::Operation;
 use kernel::laws::quiet_stays;
-use well_typed::laws::expressions_are_typed;
+use expr_soundness::laws::expressions_are_typed;
 
 impl Code {
     /// Adds the code of an expression, and tells how many words its value takes, as its own type says. A refusal leaves what was added, behind what stood there.

@@ -15,7 +15,7 @@ ghost use Rattle.expr_code.specs.Naming.{load_operation, scalar_word};
 ghost use Rattle.expr_code.specs.Seeing.{slot_of};
 ghost use Rattle.expr_code.specs.Refusing.{IsRefusedBeside, RefusesExpression, peak};
 ghost use Rattle.expr_code.specs.Widths.{width_of};
-ghost use Rattle.well_typed.specs.SoundScopes.{SoundScope};
+ghost use Rattle.expr_soundness.specs.SoundScopes.{SoundScope};
 
 use crate::code::{Code, above};
 use crate::refusal::Refusal;

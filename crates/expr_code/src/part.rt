@@ -13,7 +13,7 @@ ghost use Rattle.expr_code.specs.Code.{Extends, here, IsShallow};
 ghost use Rattle.expr_code.specs.Refusing.{IsRefused, KeepsFit, RefusesAddress, RefusesExpression, RefusesPath, peak, selectors_peak};
 ghost use Rattle.expr_code.specs.Seeing.{slot_of};
 ghost use Rattle.expr_code.specs.Widths.{width_of};
-ghost use Rattle.well_typed.specs.SoundScopes.{SoundScope};
+ghost use Rattle.expr_soundness.specs.SoundScopes.{SoundScope};
 
 use crate::code::{Code, above};
 use crate::refusal::Refusal;
@@ -25,7 +25,7 @@ use image::Operation;
 use kernel::laws::quiet_stays;
 use types::laws::{parts_have_places, values_have_words};
 use types::{Subtype, TypeForm};
-use well_typed::laws::expressions_are_typed;
+use expr_soundness::laws::expressions_are_typed;
 
 impl Code {
     /// Adds the code of the address of an object that stands there and has this subtype, or of the part of it behind these selectors, and tells the part's subtype.

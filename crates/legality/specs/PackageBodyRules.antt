@@ -3,8 +3,8 @@ use Rattle.std.specs.Prelude.{List, [], ◌∷◌, ◌++◌}
 use Rattle.ada_tree.specs.ProgramTree.{BodyItemTree, OfItem, SubprogramBody, TaskBody, ProtectedBody}
 use Rattle.types.specs.Scopes.{Scope}
 use Rattle.expr_rules.specs.Faults.{Faults}
-use Rattle.type_rules.specs.ProfileRules.{subprogram_scope}
-use Rattle.declaring.specs.ItemRules.{item_faults, item_scope}
+use Rattle.declaring.specs.ItemRules.{item_faults}
+use Rattle.declaring.specs.PackageNames.{body_item_scope}
 use Rattle.legality.specs.BodyRules.{subprogram_body_faults, task_body_faults}
 use Rattle.legality.specs.ProtectedBodyRules.{protected_body_faults}
 
@@ -14,15 +14,6 @@ body_item_faults s (SubprogramBody d b) = subprogram_body_faults s d b
 body_item_faults s (TaskBody name b) = task_body_faults s name b
 body_item_faults s (ProtectedBody name items end_name) = protected_body_faults s name items end_name
 
-abbrev pub body_item_scope : Scope → BodyItemTree → Scope
-body_item_scope s (OfItem d) = item_scope s d
-body_item_scope s (SubprogramBody d b) = subprogram_scope s d
-body_item_scope s other = s
-
 abbrev pub body_items_faults : Scope → List BodyItemTree → Faults
 body_items_faults s [] = []
 body_items_faults s (i ∷ is) = body_item_faults s i ++ body_items_faults (body_item_scope s i) is
-
-abbrev pub body_items_scope : Scope → List BodyItemTree → Scope
-body_items_scope s [] = s
-body_items_scope s (i ∷ is) = body_items_scope (body_item_scope s i) is

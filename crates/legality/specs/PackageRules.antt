@@ -4,29 +4,14 @@ use Rattle.std.specs.List.{list_any}
 use Rattle.base.specs.declared.faults.TheConstants.{NAME_NOT_VISIBLE, UNMATCHED_BODY}
 use Rattle.ada_tree.specs.ProgramTree.{ItemTree, OfTask, OfProtected, PackageTree}
 use Rattle.ada_tree.specs.ProgramTree.{OfSubprogram as OfDeclared}
-use Rattle.types.specs.Entities.{LibraryUnit}
-use Rattle.types.specs.Scopes.{Scope, with_name}
+use Rattle.types.specs.Scopes.{Scope}
 use Rattle.expr_rules.specs.Faults.{Faults, rule}
 use Rattle.type_rules.specs.SubtypeNames.{declared_twice, end_rule}
-use Rattle.declaring.specs.ItemRules.{items_faults, items_scope}
+use Rattle.declaring.specs.ItemRules.{items_faults}
+use Rattle.declaring.specs.PackageNames.{inside_scope, specified_scope, units_scope}
 use Rattle.matching.specs.MatchingRules.{matching_faults, same_name}
-use Rattle.legality.specs.PackageBodyRules.{body_items_faults, body_items_scope}
-use Rattle.legality.specs.UnitRules.{clauses_faults, clauses_scope}
-
--- ---- what is visible: in the package its own name, behind the specification what it declares, behind the package all declarations of its body too; in front
--- of it these names
-
-abbrev pub units_scope : Scope → PackageTree → Scope
-units_scope s p = clauses_scope s p.clauses
-
-abbrev pub inside_scope : Scope → PackageTree → Scope
-inside_scope s p = with_name (units_scope s p) p.declaration.name.name LibraryUnit
-
-abbrev pub specified_scope : Scope → PackageTree → Scope
-specified_scope s p = items_scope (inside_scope s p) p.declaration.items
-
-abbrev pub package_scope : Scope → PackageTree → Scope
-package_scope s p = body_items_scope (specified_scope s p) p.body.items
+use Rattle.legality.specs.PackageBodyRules.{body_items_faults}
+use Rattle.legality.specs.UnitRules.{clauses_faults}
 
 -- ---- the specification
 

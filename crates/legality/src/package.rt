@@ -3,8 +3,8 @@ ghost use Rattle.std.specs.Prelude.{◌≡◌, IfOk, OnOk, map};
 ghost use Rattle.std.specs.List.{list_any};
 ghost use Rattle.ada_tree.specs.ProgramTree.{body_item_tree, item_tree, package_tree};
 ghost use Rattle.expr_rules.specs.Faults.{least};
-ghost use Rattle.legality.specs.PackageBodyRules.{body_items_scope};
-ghost use Rattle.legality.specs.PackageRules.{behind_faults, bodiless_rule, has_body, package_faults, package_scope, specification_faults, specified_scope};
+ghost use Rattle.declaring.specs.PackageNames.{body_items_scope, package_scope, specified_scope};
+ghost use Rattle.legality.specs.PackageRules.{behind_faults, bodiless_rule, has_body, package_faults, specification_faults};
 
 use crate::package_body::body_items_fault;
 use crate::units::{clauses_fault, see_units};

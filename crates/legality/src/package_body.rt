@@ -3,7 +3,8 @@ ghost use Rattle.std.specs.Prelude.{◌≡◌, IfOk, OnOk, map};
 ghost use Rattle.ada_tree.specs.ProgramTree.{body_item_tree, item_tree};
 ghost use Rattle.declaring.specs.ItemRules.{item_faults, item_scope};
 ghost use Rattle.expr_rules.specs.Faults.{least};
-ghost use Rattle.legality.specs.PackageBodyRules.{body_item_faults, body_item_scope, body_items_faults, body_items_scope};
+ghost use Rattle.declaring.specs.PackageNames.{body_item_scope, body_items_scope};
+ghost use Rattle.legality.specs.PackageBodyRules.{body_item_faults, body_items_faults};
 
 use crate::bodies::{subprogram_body_fault, task_body_fault};
 use crate::protected::protected_body_fault;

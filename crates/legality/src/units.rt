@@ -1,7 +1,8 @@
 //! The units that a package names (RM 10.1.2).
 ghost use Rattle.std.specs.Prelude.{◌≡◌, bytes_eq, IfOk, OnOk, option_map};
 ghost use Rattle.expr_rules.specs.Faults.{least};
-ghost use Rattle.legality.specs.UnitRules.{again_rule, clause_faults, clause_scope, clauses_behind, clauses_faults, clauses_scope, is_bare, is_control_io, is_named, is_real_time, is_same_unit, is_second};
+ghost use Rattle.declaring.specs.PackageNames.{clause_scope, clauses_scope, is_bare, is_control_io, is_named, is_real_time, is_second};
+ghost use Rattle.legality.specs.UnitRules.{again_rule, clause_faults, clauses_behind, clauses_faults, is_same_unit};
 
 use ada_tree::{Identifier, UnitClause, UnitName};
 use base::faults::{DECLARED_TWICE, NAME_NOT_VISIBLE};

@@ -2,8 +2,7 @@
 ghost use Rattle.std.specs.Prelude.{◌≡◌, IfOk, OnOk};
 ghost use Rattle.ada_tree.specs.ProgramTree.{body_item_tree, package_tree};
 ghost use Rattle.types.specs.Scopes.{standard};
-ghost use Rattle.legality.specs.PackageBodyRules.{body_item_scope};
-ghost use Rattle.legality.specs.PackageRules.{inside_scope};
+ghost use Rattle.declaring.specs.PackageNames.{body_item_scope, inside_scope};
 
 use crate::units::see_units;
 use ada_tree::{BodyItem, Package};

@@ -24,7 +24,7 @@ use Rattle.types.specs.Evaluating.{val}
 use Rattle.declaring.specs.ProtectedRules.{protected_count}
 use Rattle.type_rules.specs.SubtypeNames.{named_entity, subtype_of}
 use Rattle.declaring.specs.TaskRules.{default_priority, priority_of}
-use Rattle.checking.specs.ProgramLayouts.{program_scope}
+use Rattle.declaring.specs.PackageNames.{program_scope}
 
 -- a formal parameter (RM 6.1)
 pub record Parameter : Type 0 where

@@ -24,17 +24,17 @@ use Rattle.legality.specs.BodyRules.{body_faults, function_body_faults, has_no_d
 use Rattle.checking.specs.ProgramRules.{IsLegal}
 use Rattle.ravenscar.specs.ProgramRules.{IsRestricted}
 use Rattle.meaning.specs.Programs.{Parameter, Program, parameter, program_of, returned, subtype_named}
-use Rattle.well_typed.specs.Laws.{ScopesAreSound}
-use Rattle.well_typed.specs.SoundScopes.{SoundScope}
-use Rattle.well_typed.proofs.Positions.{same_some}
-use Rattle.sound_programs.specs.Fronts.{declared_in, front, scope_at, start_in}
-use Rattle.sound_programs.specs.BodyLaws.{NamesAreKnown, PremisesHold}
-use Rattle.sound_programs.proofs.Called.{head_legal}
-use Rattle.sound_programs.proofs.WiderScopes.{none_unseen, with_all}
-use Rattle.sound_programs.proofs.Formals.{AreNew, all_named, named_formal, new_behind, sound_all}
-use Rattle.sound_programs.proofs.BodyProfiles.{named_is, subtype_kept}
-use Rattle.sound_programs.proofs.Trees.{tree_package}
-use Rattle.sound_programs.proofs.Whole.{IsPackage, kept, known_subtype}
+use Rattle.expr_soundness.specs.Laws.{ScopesAreSound}
+use Rattle.expr_soundness.specs.SoundScopes.{SoundScope}
+use Rattle.expr_soundness.proofs.Positions.{same_some}
+use Rattle.program_soundness.specs.Fronts.{declared_in, front, scope_at, start_in}
+use Rattle.program_soundness.specs.BodyLaws.{NamesAreKnown, PremisesHold}
+use Rattle.program_soundness.proofs.Called.{head_legal}
+use Rattle.program_soundness.proofs.WiderScopes.{none_unseen, with_all}
+use Rattle.program_soundness.proofs.Formals.{AreNew, all_named, named_formal, new_behind, sound_all}
+use Rattle.program_soundness.proofs.BodyProfiles.{named_is, subtype_kept}
+use Rattle.program_soundness.proofs.Trees.{tree_package}
+use Rattle.program_soundness.proofs.Whole.{IsPackage, kept, known_subtype}
 use Rattle.expr_code.specs.Emitting.{IsFit}
 use Rattle.stmt_code.specs.Emitting.{IsLegalRun}
 use Rattle.package_code.proofs.NewParameters.{body_unbroken, formals_text, parameters_new}

@@ -11,8 +11,8 @@ use Rattle.declaring.specs.ItemRules.{item_scope}
 use Rattle.declaring.specs.ProtectedRules.{protected_count}
 use Rattle.legality.specs.MainRules.{item_name}
 use Rattle.meaning.specs.Programs.{program_of}
-use Rattle.sound_programs.specs.Fronts.{declared_in, front, start_in}
-use Rattle.sound_programs.proofs.Walked.{item_entity, own_profile, scope_next}
+use Rattle.program_soundness.specs.Fronts.{declared_in, front, start_in}
+use Rattle.program_soundness.proofs.Walked.{item_entity, own_profile, scope_next}
 use Rattle.type_rules.specs.ProfileRules.{profile_entity}
 use Rattle.expr_code.specs.Code.{here}
 use Rattle.expr_code.specs.Seeing.{told_of}

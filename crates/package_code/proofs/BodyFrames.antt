@@ -13,13 +13,13 @@ use Rattle.types.specs.Shapes.{has_shape, shape_of, words}
 use Rattle.types.specs.Places.{is_among}
 use Rattle.types.specs.Values.{Value}
 use Rattle.declaring.specs.BodyNames.{formal_role}
-use Rattle.well_typed.specs.Laws.{AgreementIsKept, ScopesAreSound}
-use Rattle.well_typed.specs.SoundScopes.{IsKnown, SoundScope}
+use Rattle.expr_soundness.specs.Laws.{AgreementIsKept, ScopesAreSound}
+use Rattle.expr_soundness.specs.SoundScopes.{IsKnown, SoundScope}
 use Rattle.meaning.specs.Calls.{is_out}
 use Rattle.meaning.specs.Programs.{Parameter, Program}
-use Rattle.sound_steps.specs.Objects.{IsOf}
-use Rattle.sound_programs.proofs.WiderScopes.{form_with}
-use Rattle.sound_programs.proofs.Formals.{AreNew, named_formal}
+use Rattle.step_soundness.specs.Objects.{IsOf}
+use Rattle.program_soundness.proofs.WiderScopes.{form_with}
+use Rattle.program_soundness.proofs.Formals.{AreNew, named_formal}
 use Rattle.expr_code.specs.Seeing.{Package}
 use Rattle.expr_code.specs.declared.visible.Slot.{Slot}
 use Rattle.part_code.specs.Layout.{IsLaidOut, Spares, Widens}

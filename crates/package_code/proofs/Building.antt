@@ -3,11 +3,11 @@ use Rattle.std.proofs.Common.{◌≡◌, ℕ, ◌⊎◌, inl, inr, List, [], ◌
 use Rattle.std.specs.Prelude.{bytes_eq, if◌then◌else◌, ⊤}
 use Rattle.types.specs.Places.{or_else}
 use Rattle.types.specs.Scopes.{Scope, with_name}
-use Rattle.well_typed.specs.SoundScopes.{IsKnown}
+use Rattle.expr_soundness.specs.SoundScopes.{IsKnown}
 use Rattle.meaning.specs.Calls.{is_out}
-use Rattle.sound_programs.proofs.WiderScopes.{bytes_same, found_in, same_bytes, stands}
-use Rattle.sound_programs.proofs.Formals.{AreNew, all_named, named_formal}
-use Rattle.sound_programs.proofs.Listing.{Has, has_back, has_either, has_front}
+use Rattle.program_soundness.proofs.WiderScopes.{bytes_same, found_in, same_bytes, stands}
+use Rattle.program_soundness.proofs.Formals.{AreNew, all_named, named_formal}
+use Rattle.program_soundness.proofs.Listing.{Has, has_back, has_either, has_front}
 use Rattle.part_code.specs.Resting.{Framed}
 use Rattle.part_code.specs.Formals.{AddsEach, AddsParameter, Placed, parameter_at}
 use Rattle.package_code.proofs.Reordered.{slot_at}

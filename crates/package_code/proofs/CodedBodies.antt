@@ -21,8 +21,8 @@ use Rattle.checking.specs.ProgramRules.{IsLegal}
 use Rattle.ravenscar.specs.ProgramRules.{IsRestricted}
 use Rattle.meaning.specs.Calls.{results}
 use Rattle.meaning.specs.Programs.{Parameter, Procedure, Program, parameter, program_of}
-use Rattle.sound_programs.specs.Fronts.{declared_in}
-use Rattle.sound_programs.proofs.Callables.{function_by, procedure_by, subprogram_body}
+use Rattle.program_soundness.specs.Fronts.{declared_in}
+use Rattle.program_soundness.proofs.Callables.{function_by, procedure_by, subprogram_body}
 use Rattle.expr_code.specs.Computing.{ComputesChecked, IsFunctionCode}
 use Rattle.expr_code.specs.Seeing.{Package, Sees, library_of}
 use Rattle.expr_code.specs.Views.{At, View}

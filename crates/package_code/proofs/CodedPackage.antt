@@ -14,15 +14,15 @@ use Rattle.checking.specs.ProgramRules.{IsLegal}
 use Rattle.ravenscar.specs.ProgramRules.{IsRestricted}
 use Rattle.meaning.specs.Calls.{procedure_among}
 use Rattle.meaning.specs.Programs.{Procedure, Program, exceptions_among, object_numbered, package_items, program_of, returned}
-use Rattle.sound_programs.specs.Fronts.{declared_in, start_in}
-use Rattle.sound_programs.proofs.Callables.{Bodied, InObject, InPackage, bodies_among, body_place, found_function, found_procedure, function_by, functions_are, operation_body, procedure_by, procedures_are, subprogram_body}
-use Rattle.sound_programs.proofs.Listing.{Has}
-use Rattle.sound_programs.proofs.ObjectBodies as bodies
-use Rattle.sound_programs.proofs.Whole.{IsPackage}
+use Rattle.program_soundness.specs.Fronts.{declared_in, start_in}
+use Rattle.program_soundness.proofs.Callables.{Bodied, InObject, InPackage, bodies_among, body_place, found_function, found_procedure, function_by, functions_are, operation_body, procedure_by, procedures_are, subprogram_body}
+use Rattle.program_soundness.proofs.Listing.{Has}
+use Rattle.program_soundness.proofs.ObjectBodies as bodies
+use Rattle.program_soundness.proofs.Whole.{IsPackage}
 use Rattle.expr_code.specs.Computing.{IsFunctionCode}
 use Rattle.expr_code.specs.Seeing.{IsCoded, Package, library_of}
 use Rattle.expr_code.proofs.Calling.{functions_answer}
-use Rattle.met_steps.specs.Laws.{HasCode}
+use Rattle.step_simulation.specs.Laws.{HasCode}
 use Rattle.part_code.specs.Statements.{HasProcedures, IsProcedureCode, Numbers}
 use Rattle.package_code.specs.Package.{IsPackageOf}
 use Rattle.package_code.proofs.InFront.{LawsOfNames, known, whole}

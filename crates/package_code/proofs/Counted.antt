@@ -14,8 +14,8 @@ use Rattle.image.specs.Operations.{called}
 use Rattle.image.specs.Sections.{Sections, end_of, first_place}
 use Rattle.image.specs.declared.subprograms.Subprogram.{Subprogram}
 use Rattle.meaning.specs.Programs.{returned}
-use Rattle.sound_programs.specs.Fronts.{declared_in, front}
-use Rattle.sound_programs.proofs.Listing.{front_at, same_some}
+use Rattle.program_soundness.specs.Fronts.{declared_in, front}
+use Rattle.program_soundness.proofs.Listing.{front_at, same_some}
 use Rattle.expr_code.specs.Code.{here}
 use Rattle.expr_code.specs.Coming.{size_of}
 use Rattle.expr_code.specs.declared.visible.Visible.{Visible}

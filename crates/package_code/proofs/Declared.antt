@@ -9,8 +9,8 @@ use Rattle.ada_tree.specs.declared.program.Package.{Package}
 use Rattle.ada_tree.specs.StatementTree.{optional_tree}
 use Rattle.ada_tree.specs.ProgramTree.{BodyItemTree, ItemTree, OfItem, body_item_tree, item_tree, package_tree}
 use Rattle.types.specs.Scopes.{Scope}
-use Rattle.well_typed.proofs.Positions.{item_kept, same_some}
-use Rattle.sound_programs.specs.Fronts.{declared_in}
+use Rattle.expr_soundness.proofs.Positions.{item_kept, same_some}
+use Rattle.program_soundness.specs.Fronts.{declared_in}
 use Rattle.meaning.specs.Programs.{items_among}
 use Rattle.part_code.proofs.Lists.{mapped_next}
 use Rattle.package_code.specs.Globals.{AddsItems, AreGlobals}

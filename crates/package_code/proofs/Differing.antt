@@ -3,8 +3,8 @@ use Rattle.std.proofs.Common.{◌≡◌, ℕ, suc, ◌≤◌, List, [], ◌∷�
 use Rattle.std.specs.List.{list_any}
 use Rattle.std.specs.Prelude.{bytes_eq, is_some, option_map, position, ⊤}
 use Rattle.std.proofs.lemmas.Bool.{or_parts}
-use Rattle.sound_programs.proofs.WiderScopes.{equal_bytes, same_bytes}
-use Rattle.well_typed.proofs.Positions.{first_place, place_is}
+use Rattle.program_soundness.proofs.WiderScopes.{equal_bytes, same_bytes}
+use Rattle.expr_soundness.proofs.Positions.{first_place, place_is}
 
 abbrev pub is_of : List (List ℕ) → List ℕ → Bool
 is_of texts text = list_any (bytes_eq text) texts

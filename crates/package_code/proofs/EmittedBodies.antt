@@ -15,12 +15,12 @@ use Rattle.types.specs.Scopes.{Scope, form_at}
 use Rattle.types.specs.Shapes.{initial, initial_of, shape_of, value_words}
 use Rattle.checking.specs.ProgramRules.{IsLegal}
 use Rattle.ravenscar.specs.ProgramRules.{IsRestricted}
-use Rattle.well_typed.specs.SoundScopes.{IsKnown}
+use Rattle.expr_soundness.specs.SoundScopes.{IsKnown}
 use Rattle.meaning.specs.Calls.{procedure_here, results}
 use Rattle.meaning.specs.Programs.{Procedure, Program, parameter, program_of}
-use Rattle.sound_programs.specs.Fronts.{declared_in}
-use Rattle.sound_programs.proofs.Callables.{procedure_by, subprogram_body}
-use Rattle.sound_programs.proofs.Formals.{AreNew}
+use Rattle.program_soundness.specs.Fronts.{declared_in}
+use Rattle.program_soundness.proofs.Callables.{procedure_by, subprogram_body}
+use Rattle.program_soundness.proofs.Formals.{AreNew}
 use Rattle.expr_code.specs.Code.{Extends, Holds, here}
 use Rattle.expr_code.specs.Seeing.{Package}
 use Rattle.expr_code.specs.declared.visible.Visible.{Visible}

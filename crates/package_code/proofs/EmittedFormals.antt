@@ -9,8 +9,8 @@ use Rattle.types.specs.Scopes.{Scope}
 use Rattle.type_rules.specs.SubtypeNames.{subtype_of}
 use Rattle.meaning.specs.Calls.{is_out}
 use Rattle.meaning.specs.Programs.{parameter, subtype_named}
-use Rattle.sound_programs.proofs.Listing.{Has}
-use Rattle.well_typed.proofs.Positions.{same_some}
+use Rattle.program_soundness.proofs.Listing.{Has}
+use Rattle.expr_soundness.proofs.Positions.{same_some}
 use Rattle.part_code.specs.Formals.{AreInTurn, Placed, StandInTurn, StandsAt, addresses_from, outs_end, parameter_at, passed_end}
 use Rattle.part_code.specs.declared.formals.PlacedFormal.{PlacedFormal}
 

@@ -19,16 +19,16 @@ use Rattle.type_rules.specs.SubtypeNames.{subtype_of}
 use Rattle.declaring.specs.BodyNames.{formal_role, formals_scope}
 use Rattle.checking.specs.ProgramRules.{IsLegal}
 use Rattle.ravenscar.specs.ProgramRules.{IsRestricted}
-use Rattle.well_typed.specs.Agreeing.{Agrees}
-use Rattle.well_typed.specs.Laws.{AgreementIsKept}
-use Rattle.well_typed.specs.SoundScopes.{IsKnown, IsSoundObject}
+use Rattle.expr_soundness.specs.Agreeing.{Agrees}
+use Rattle.expr_soundness.specs.Laws.{AgreementIsKept}
+use Rattle.expr_soundness.specs.SoundScopes.{IsKnown, IsSoundObject}
 use Rattle.meaning.specs.Programs.{Program, parameter, program_of, subtype_named}
-use Rattle.sound_steps.specs.Objects.{first_store}
-use Rattle.sound_programs.specs.Fronts.{declared_in, front, start_in}
-use Rattle.sound_programs.proofs.Beginning.{keeps_same}
-use Rattle.sound_programs.proofs.WiderScopes.{none_unseen, number_stands, stands}
-use Rattle.sound_programs.proofs.Formals.{AreNew}
-use Rattle.sound_programs.proofs.Listing.{Has}
+use Rattle.step_soundness.specs.Objects.{first_store}
+use Rattle.program_soundness.specs.Fronts.{declared_in, front, start_in}
+use Rattle.program_soundness.proofs.Beginning.{keeps_same}
+use Rattle.program_soundness.proofs.WiderScopes.{none_unseen, number_stands, stands}
+use Rattle.program_soundness.proofs.Formals.{AreNew}
+use Rattle.program_soundness.proofs.Listing.{Has}
 use Rattle.expr_code.specs.Seeing.{Package, slot_of}
 use Rattle.expr_code.specs.declared.visible.Visible.{Visible}
 use Rattle.part_code.specs.Emitting.{first_word}
@@ -37,7 +37,7 @@ use Rattle.part_code.specs.Resting.{Framed}
 use Rattle.part_code.specs.declared.formals.PlacedFormal.{PlacedFormal}
 use Rattle.part_code.specs.declared.formals.PlacedFormals.{PlacedFormals}
 use Rattle.part_code.specs.declared.frame_words.FrameWords.{FrameWords}
-use Rattle.sound_steps.specs.Holding.{inside}
+use Rattle.step_soundness.specs.Holding.{inside}
 use Rattle.part_code.proofs.Initials.{form_there, initial_word}
 use Rattle.package_code.specs.Package.{FindsNames, IsInFront}
 use Rattle.package_code.proofs.Building.{add_each}

@@ -20,10 +20,10 @@ use Rattle.types.specs.Shapes.{shape_of, value_words}
 use Rattle.types.specs.Values.{Value}
 use Rattle.checking.specs.ProgramRules.{IsLegal}
 use Rattle.ravenscar.specs.ProgramRules.{IsRestricted}
-use Rattle.well_typed.specs.Agreeing.{Agrees}
+use Rattle.expr_soundness.specs.Agreeing.{Agrees}
 use Rattle.meaning.specs.Programs.{Program, parameter, program_of, subtype_named}
-use Rattle.sound_programs.specs.Fronts.{declared_in, start_in}
-use Rattle.sound_programs.proofs.Callables.{function_by, subprogram_body}
+use Rattle.program_soundness.specs.Fronts.{declared_in, start_in}
+use Rattle.program_soundness.proofs.Callables.{function_by, subprogram_body}
 use Rattle.expr_code.specs.Code.{Extends, Holds, here}
 use Rattle.expr_code.specs.Computing.{ComputesChecked, IsFunctionCode}
 use Rattle.expr_code.specs.Seeing.{Package, Sees, library_of}

@@ -16,14 +16,14 @@ use Rattle.types.specs.Places.{is_among}
 use Rattle.types.specs.Scopes.{Scope, form_at}
 use Rattle.types.specs.Shapes.{initial, value_words}
 use Rattle.type_rules.specs.SubtypeNames.{subtype_of}
-use Rattle.well_typed.proofs.Positions.{same_some}
-use Rattle.well_typed.specs.Laws.{AgreementIsKept}
-use Rattle.well_typed.specs.SoundScopes.{IsKnown}
+use Rattle.expr_soundness.proofs.Positions.{same_some}
+use Rattle.expr_soundness.specs.Laws.{AgreementIsKept}
+use Rattle.expr_soundness.specs.SoundScopes.{IsKnown}
 use Rattle.declaring.specs.BodyNames.{formal_role}
 use Rattle.meaning.specs.Calls.{is_in, is_out, results}
 use Rattle.meaning.specs.Programs.{Parameter, Program, parameter, subtype_named}
-use Rattle.sound_programs.proofs.Formals.{AreNew}
-use Rattle.sound_programs.proofs.Listing.{Has}
+use Rattle.program_soundness.proofs.Formals.{AreNew}
+use Rattle.program_soundness.proofs.Listing.{Has}
 use Rattle.expr_code.specs.Seeing.{Package, slot_of}
 use Rattle.expr_code.specs.Views.{At}
 use Rattle.part_code.specs.Emitting.{first_word}

@@ -24,15 +24,15 @@ use Rattle.types.specs.Values.{Value}
 use Rattle.expr_rules.specs.Laws.{type_shape}
 use Rattle.checking.specs.ProgramRules.{IsLegal}
 use Rattle.ravenscar.specs.ProgramRules.{IsRestricted}
-use Rattle.well_typed.proofs.Parts.{subtype_values}
+use Rattle.expr_soundness.proofs.Parts.{subtype_values}
 use Rattle.meaning.specs.Calls.{activation_of, is_in, is_out, results}
 use Rattle.meaning.specs.Programs.{Parameter, Procedure, Program, formal, parameter, program_of}
-use Rattle.sound_steps.specs.Fitting.{taken_types}
-use Rattle.sound_steps.specs.Objects.{AreOf, IsOf}
-use Rattle.sound_programs.specs.Fronts.{declared_in, start_in}
-use Rattle.sound_programs.proofs.Callables.{function_by, procedure_by, subprogram_body}
-use Rattle.sound_programs.proofs.Formals.{AreNew}
-use Rattle.sound_programs.proofs.Same.{types_with_all}
+use Rattle.step_soundness.specs.Fitting.{taken_types}
+use Rattle.step_soundness.specs.Objects.{AreOf, IsOf}
+use Rattle.program_soundness.specs.Fronts.{declared_in, start_in}
+use Rattle.program_soundness.proofs.Callables.{function_by, procedure_by, subprogram_body}
+use Rattle.program_soundness.proofs.Formals.{AreNew}
+use Rattle.program_soundness.proofs.Same.{types_with_all}
 use Rattle.expr_code.specs.Coming.{all_words}
 use Rattle.expr_code.specs.Computing.{ArePassed}
 use Rattle.expr_code.specs.Seeing.{Package, Sees, SeesPackage, library_of}

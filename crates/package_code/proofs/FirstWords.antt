@@ -17,16 +17,16 @@ use Rattle.types.specs.Scopes.{number_of}
 use Rattle.types.specs.Values.{Value}
 use Rattle.checking.specs.ProgramRules.{IsLegal}
 use Rattle.ravenscar.specs.ProgramRules.{IsRestricted}
-use Rattle.well_typed.specs.Agreeing.{Agrees}
-use Rattle.well_typed.specs.Answers.{FunctionsAreSound}
-use Rattle.well_typed.proofs.Positions.{same_some}
+use Rattle.expr_soundness.specs.Agreeing.{Agrees}
+use Rattle.expr_soundness.specs.Answers.{FunctionsAreSound}
+use Rattle.expr_soundness.proofs.Positions.{same_some}
 use Rattle.meaning.specs.Programs.{Program, program_of}
 use Rattle.meaning.specs.Works.{Store}
-use Rattle.sound_steps.specs.Holding.{inside}
-use Rattle.sound_steps.specs.Objects.{first_store}
-use Rattle.sound_programs.specs.Fronts.{declared_in, front, start_in}
-use Rattle.sound_programs.proofs.WiderScopes.{stands, stands_number}
-use Rattle.sound_programs.proofs.Whole.{entity_variable}
+use Rattle.step_soundness.specs.Holding.{inside}
+use Rattle.step_soundness.specs.Objects.{first_store}
+use Rattle.program_soundness.specs.Fronts.{declared_in, front, start_in}
+use Rattle.program_soundness.proofs.WiderScopes.{stands, stands_number}
+use Rattle.program_soundness.proofs.Whole.{entity_variable}
 use Rattle.expr_code.specs.Naming.{Lies}
 use Rattle.expr_code.specs.Seeing.{Package, SeesPackage, outside}
 use Rattle.expr_code.specs.Views.{View}

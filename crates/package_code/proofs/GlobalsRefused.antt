@@ -15,8 +15,8 @@ use Rattle.types.specs.Scopes.{Scope, form_at, number_of}
 use Rattle.types.specs.Shapes.{component_shapes, shape_of, shapes, value_words}
 use Rattle.type_rules.specs.SubtypeNames.{subtype_of}
 use Rattle.meaning.specs.Programs.{initial_value, items_among, variables_among}
-use Rattle.well_typed.proofs.Positions.{found_at, number_place}
-use Rattle.well_typed.specs.SoundScopes.{SoundScope}
+use Rattle.expr_soundness.proofs.Positions.{found_at, number_place}
+use Rattle.expr_soundness.specs.SoundScopes.{SoundScope}
 use Rattle.expr_code.proofs.Going.{grouped_shape, repeated_shape}
 use Rattle.expr_code.proofs.Refusals.{or_left, or_right, refused_beside}
 use Rattle.expr_code.specs.Refusing.{IsRefused}

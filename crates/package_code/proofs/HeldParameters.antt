@@ -14,15 +14,15 @@ use Rattle.types.specs.Scopes.{Scope, with_name}
 use Rattle.types.specs.Shapes.{has_shape, shape_of, value_words}
 use Rattle.types.specs.Values.{Value}
 use Rattle.declaring.specs.BodyNames.{formal_role}
-use Rattle.well_typed.specs.Laws.{ScopesAreSound}
-use Rattle.well_typed.specs.SoundScopes.{IsKnown, SoundScope}
+use Rattle.expr_soundness.specs.Laws.{ScopesAreSound}
+use Rattle.expr_soundness.specs.SoundScopes.{IsKnown, SoundScope}
 use Rattle.meaning.specs.Calls.{is_in, is_out, results}
 use Rattle.meaning.specs.Programs.{Parameter, Program}
-use Rattle.sound_steps.specs.Fitting.{taken_types}
-use Rattle.sound_steps.specs.Objects.{AreOf, IsOf}
-use Rattle.sound_programs.proofs.WiderScopes.{none_unseen}
-use Rattle.sound_programs.proofs.Formals.{AreNew, formal_object, named_formal, new_behind}
-use Rattle.sound_programs.proofs.Same.{IsPlainRole, SameTypes, known_same, sound_with, types_then, types_turned, types_with_all, values_same}
+use Rattle.step_soundness.specs.Fitting.{taken_types}
+use Rattle.step_soundness.specs.Objects.{AreOf, IsOf}
+use Rattle.program_soundness.proofs.WiderScopes.{none_unseen}
+use Rattle.program_soundness.proofs.Formals.{AreNew, formal_object, named_formal, new_behind}
+use Rattle.program_soundness.proofs.Same.{IsPlainRole, SameTypes, known_same, sound_with, types_then, types_turned, types_with_all, values_same}
 use Rattle.expr_code.specs.Seeing.{Package}
 use Rattle.part_code.specs.Copying.{first_address, first_words, passed_words}
 use Rattle.part_code.specs.Layout.{AreApart, EndsBelow, IsFree, IsLaidOut, Spares, Widens}

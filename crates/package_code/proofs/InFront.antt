@@ -27,27 +27,27 @@ use Rattle.types.specs.Statics.{static_place}
 use Rattle.types.specs.Values.{Value}
 use Rattle.expr_rules.specs.Laws.{type_shape}
 use Rattle.declaring.specs.Laws.{StandsFirst}
-use Rattle.legality.specs.PackageBodyRules.{body_items_scope}
+use Rattle.declaring.specs.PackageNames.{body_items_scope}
 use Rattle.checking.specs.ProgramRules.{IsLegal}
 use Rattle.ravenscar.specs.ProgramRules.{IsRestricted}
-use Rattle.well_typed.specs.Laws.{ScopesAreSound}
-use Rattle.well_typed.specs.SoundScopes.{IsKnown, SoundScope}
-use Rattle.well_typed.proofs.Goods.{object_known}
-use Rattle.well_typed.proofs.Parts.{subtype_values}
-use Rattle.well_typed.proofs.Positions.{entity_number, same_some}
+use Rattle.expr_soundness.specs.Laws.{ScopesAreSound}
+use Rattle.expr_soundness.specs.SoundScopes.{IsKnown, SoundScope}
+use Rattle.expr_soundness.proofs.Goods.{object_known}
+use Rattle.expr_soundness.proofs.Parts.{subtype_values}
+use Rattle.expr_soundness.proofs.Positions.{entity_number, same_some}
 use Rattle.meaning.specs.Programs.{Program, program_of}
-use Rattle.sound_steps.specs.Fitting.{IsFound}
-use Rattle.sound_steps.specs.Laws.{Premises}
-use Rattle.sound_steps.specs.Objects.{IsOf, first_store}
-use Rattle.sound_programs.specs.Fronts.{declared_in, front, start_in}
-use Rattle.sound_programs.specs.BodyLaws.{FrontsFit, IsSoundMemory, BodyNamesAreSound, NamesAreKnown, PremisesHold}
-use Rattle.sound_programs.proofs.Assembled as assembled
-use Rattle.sound_programs.proofs.WiderScopes.{number_stands, one_named, stands, stands_number, stands_with}
-use Rattle.sound_programs.proofs.Listing.{or_else_some}
-use Rattle.sound_programs.proofs.PackageBodies.{front_first}
-use Rattle.sound_programs.proofs.Trees.{tree_package}
-use Rattle.sound_programs.proofs.Whole.{IsPackage, kept}
-use Rattle.sound_programs.specs.ProgramLaws.{StartsAreSound}
+use Rattle.step_soundness.specs.Fitting.{IsFound}
+use Rattle.step_soundness.specs.Laws.{Premises}
+use Rattle.step_soundness.specs.Objects.{IsOf, first_store}
+use Rattle.program_soundness.specs.Fronts.{declared_in, front, start_in}
+use Rattle.program_soundness.specs.BodyLaws.{FrontsFit, IsSoundMemory, BodyNamesAreSound, NamesAreKnown, PremisesHold}
+use Rattle.program_soundness.proofs.Assembled as assembled
+use Rattle.program_soundness.proofs.WiderScopes.{number_stands, one_named, stands, stands_number, stands_with}
+use Rattle.program_soundness.proofs.Listing.{or_else_some}
+use Rattle.program_soundness.proofs.PackageBodies.{front_first}
+use Rattle.program_soundness.proofs.Trees.{tree_package}
+use Rattle.program_soundness.proofs.Whole.{IsPackage, kept}
+use Rattle.program_soundness.specs.ProgramLaws.{StartsAreSound}
 use Rattle.expr_code.specs.Seeing.{Package, slot_of}
 use Rattle.expr_code.specs.declared.visible.Slot.{Slot}
 use Rattle.part_code.specs.Layout.{AreApart, AreFree, EndsBelow, IsLaid, IsLaidOut, NamesObject}

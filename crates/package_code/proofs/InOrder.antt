@@ -15,13 +15,13 @@ use Rattle.types.specs.Places.{Object, object_of}
 use Rattle.types.specs.Shapes.{shape_of, value_words}
 use Rattle.checking.specs.ProgramRules.{IsLegal}
 use Rattle.ravenscar.specs.ProgramRules.{IsRestricted}
-use Rattle.well_typed.proofs.Parts.{subtype_values}
-use Rattle.well_typed.proofs.Positions.{same_some}
+use Rattle.expr_soundness.proofs.Parts.{subtype_values}
+use Rattle.expr_soundness.proofs.Positions.{same_some}
 use Rattle.meaning.specs.Programs.{Program, program_of}
-use Rattle.sound_programs.specs.Fronts.{declared_in, start_in}
-use Rattle.sound_programs.proofs.Agreed.{sound_object}
-use Rattle.sound_programs.proofs.WiderScopes.{number_stands, same_bytes, stands, stands_number}
-use Rattle.sound_programs.proofs.Whole.{variable_entity}
+use Rattle.program_soundness.specs.Fronts.{declared_in, start_in}
+use Rattle.program_soundness.proofs.Agreed.{sound_object}
+use Rattle.program_soundness.proofs.WiderScopes.{number_stands, same_bytes, stands, stands_number}
+use Rattle.program_soundness.proofs.Whole.{variable_entity}
 use Rattle.expr_code.specs.Naming.{Lies}
 use Rattle.expr_code.specs.Seeing.{Package}
 use Rattle.expr_code.specs.declared.visible.Slot.{Slot}

@@ -7,7 +7,7 @@ use Rattle.types.specs.declared.entity.RecordComponent.{RecordComponent}
 use Rattle.types.specs.Shapes.{Shape, component_shapes, fields_words, initial, initial_fields, initial_of, repeated, shape_among, shapes, value_words, values_words}
 use Rattle.types.specs.Values.{Value}
 use Rattle.types.specs.declared.entity.Subtype.{Subtype}
-use Rattle.well_typed.specs.SoundScopes.{SoundScope}
+use Rattle.expr_soundness.specs.SoundScopes.{SoundScope}
 use Rattle.expr_code.proofs.Going.{grouped_shape, repeated_shape}
 use Rattle.part_code.proofs.Initials.{fields_more, initial_word, repeated_more}
 use Rattle.part_code.specs.Emitting.{first_word}

@@ -6,8 +6,8 @@ use Rattle.ada_tree.specs.declared.expression.Identifier.{Identifier}
 use Rattle.ada_tree.specs.StatementTree.{AlternativeTrees, Block, Call, Case, ElsifTrees, HandlerTrees, If, Loop, MoreAlternatives, MoreElsifs, MoreHandlers, MoreStmts, NoAlternatives, NoElsifs, NoHandlers, NoStmts, StmtTree, StmtTrees, SubprogramTree}
 use Rattle.ada_tree.specs.ProgramTree.{BodyItemTree, BodyTree, ProgramTree, SubprogramBody}
 use Rattle.types.specs.Layouts.{total}
-use Rattle.sound_programs.specs.Fronts.{front}
-use Rattle.sound_programs.proofs.Listing.{same_some, taken_at, taken_next}
+use Rattle.program_soundness.specs.Fronts.{front}
+use Rattle.program_soundness.proofs.Listing.{same_some, taken_at, taken_next}
 use Rattle.part_code.specs.Bounds.{procedure_bound}
 use Rattle.part_code.specs.Labels.{alternatives_labels, elsifs_labels, handlers_labels, is_label, stmt_labels, stmts_labels, with_label, with_line}
 use Rattle.part_code.specs.Lines.{LabelledValue, line_of}

@@ -10,11 +10,11 @@ use Rattle.image_laws.specs.Laws.{ImagesHaveSize}
 use Rattle.checking.specs.ProgramRules.{IsLegal}
 use Rattle.ravenscar.specs.ProgramRules.{IsRestricted}
 use Rattle.meaning.specs.Programs.{program_of}
-use Rattle.sound_programs.specs.Fronts.{declared_in}
+use Rattle.program_soundness.specs.Fronts.{declared_in}
 use Rattle.expr_code.specs.Seeing.{Package}
 use Rattle.expr_code.specs.Views.{At}
 use Rattle.part_code.specs.Handling.{GoesBy, unhandled}
-use Rattle.met_steps.specs.Laws.{HasCode}
+use Rattle.step_simulation.specs.Laws.{HasCode}
 use Rattle.part_code.specs.Resting.{Framed}
 use Rattle.part_code.specs.Statements.{Numbers}
 use Rattle.package_code.specs.Linked.{AreMain, IsLinkedProgram, IsSequential}

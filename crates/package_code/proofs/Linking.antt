@@ -27,13 +27,13 @@ use Rattle.meaning.specs.Calls.{procedure_among, procedure_here}
 use Rattle.meaning.specs.Programs.{Procedure, Program, base_priority, main_task, package_bodies, program_of, returned}
 use Rattle.meaning.specs.Source.{initial_work, task_items}
 use Rattle.meaning.specs.Works.{DoesMain as DoesStatement, Store, TaskWork}
-use Rattle.sound_steps.specs.Holding.{IsSoundTask}
-use Rattle.sound_steps.specs.Judged.{IsReady, Judged}
-use Rattle.sound_steps.specs.Objects.{first_store}
-use Rattle.sound_programs.specs.Fronts.{declared_in, front}
-use Rattle.sound_programs.proofs.Callables.{function_by, procedure_by, subprogram_body}
-use Rattle.sound_programs.proofs.WiderScopes.{same_bytes}
-use Rattle.sound_programs.proofs.Listing.{front_at, or_else_some, same_some}
+use Rattle.step_soundness.specs.Holding.{IsSoundTask}
+use Rattle.step_soundness.specs.Judged.{IsReady, Judged}
+use Rattle.step_soundness.specs.Objects.{first_store}
+use Rattle.program_soundness.specs.Fronts.{declared_in, front}
+use Rattle.program_soundness.proofs.Callables.{function_by, procedure_by, subprogram_body}
+use Rattle.program_soundness.proofs.WiderScopes.{same_bytes}
+use Rattle.program_soundness.proofs.Listing.{front_at, or_else_some, same_some}
 use Rattle.expr_code.specs.Code.{Extends, Holds, here}
 use Rattle.expr_code.specs.Computing.{IsFunctionCode}
 use Rattle.expr_code.specs.Seeing.{Package, library_of, told_of}
@@ -43,7 +43,7 @@ use Rattle.image.specs.declared.instruction.Operation.TheVariants as op
 use Rattle.stmt_code.specs.Emitting.{HasLabels, IsHandled}
 use Rattle.part_code.specs.Handling.{GoesBy, unhandled}
 use Rattle.part_code.specs.Raising.{AreNamed}
-use Rattle.met_steps.specs.Laws.{HasCode}
+use Rattle.step_simulation.specs.Laws.{HasCode}
 use Rattle.part_code.specs.Resting.{Framed}
 use Rattle.part_code.specs.Statements.{IsProcedureCode, Numbers}
 use Rattle.stmt_code.specs.Subprograms.{AddsProcedure, fresh}

@@ -15,15 +15,15 @@ use Rattle.types.specs.Layouts.{words_of}
 use Rattle.types.specs.Scopes.{Scope}
 use Rattle.checking.specs.ProgramRules.{IsLegal}
 use Rattle.ravenscar.specs.ProgramRules.{IsRestricted}
-use Rattle.well_typed.specs.SoundScopes.{IsKnown, SoundScope}
-use Rattle.well_typed.proofs.Goods.{object_known}
+use Rattle.expr_soundness.specs.SoundScopes.{IsKnown, SoundScope}
+use Rattle.expr_soundness.proofs.Goods.{object_known}
 use Rattle.meaning.specs.Calls.{is_out}
 use Rattle.meaning.specs.Programs.{Parameter, Program, parameter, program_of}
-use Rattle.sound_programs.specs.Fronts.{declared_in, front, start_in}
-use Rattle.sound_programs.proofs.WiderScopes.{number_stands, stands, stands_number, with_all}
-use Rattle.sound_programs.proofs.Formals.{AreNew, all_named, all_types}
-use Rattle.sound_programs.proofs.Listing.{Has}
-use Rattle.sound_programs.proofs.Same.{SameTypes, known_same, types_turned, types_with_all}
+use Rattle.program_soundness.specs.Fronts.{declared_in, front, start_in}
+use Rattle.program_soundness.proofs.WiderScopes.{number_stands, stands, stands_number, with_all}
+use Rattle.program_soundness.proofs.Formals.{AreNew, all_named, all_types}
+use Rattle.program_soundness.proofs.Listing.{Has}
+use Rattle.program_soundness.proofs.Same.{SameTypes, known_same, types_turned, types_with_all}
 use Rattle.expr_code.specs.Seeing.{Package, slot_of}
 use Rattle.expr_code.specs.declared.visible.Slot.{Slot}
 use Rattle.part_code.specs.Copying.{left_out}

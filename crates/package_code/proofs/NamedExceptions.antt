@@ -11,21 +11,20 @@ use Rattle.image.specs.Texts.{text_at}
 use Rattle.types.specs.Entities.{Exception, LibraryUnit}
 use Rattle.types.specs.Places.{or_else}
 use Rattle.types.specs.Scopes.{Scope, is_visible, standard}
-use Rattle.legality.specs.PackageBodyRules.{body_item_scope, body_items_scope}
-use Rattle.legality.specs.UnitRules.{clauses_scope}
+use Rattle.declaring.specs.PackageNames.{body_item_scope, body_items_scope, clauses_scope}
 use Rattle.checking.specs.ProgramRules.{IsLegal}
 use Rattle.checking.proofs.Made.{NoUnits, Times, Io, TimesIo, IoTimes, Units, clauses_seen, seen}
 use Rattle.ravenscar.specs.ProgramRules.{IsRestricted}
 use Rattle.meaning.specs.Programs.{exception_name, exception_number, exceptions_among, items_among, program_of}
-use Rattle.sound_steps.specs.Objects.{IsException}
+use Rattle.step_soundness.specs.Objects.{IsException}
 use Rattle.part_code.specs.Raising.{AreNamed}
-use Rattle.sound_programs.specs.BodyLaws.{PremisesHold}
-use Rattle.sound_programs.specs.Fronts.{declared_in, front, start_in}
-use Rattle.sound_programs.proofs.Trees.{tree_package}
-use Rattle.sound_programs.proofs.Listing.{first_some}
-use Rattle.sound_programs.proofs.Walked.{item_new, kept_all, legal_at, stands_next}
-use Rattle.sound_programs.proofs.WiderScopes.{bytes_same, one_named, same_bytes, some_seen, stands, stands_with}
-use Rattle.well_typed.proofs.Positions.{first_place, place_is}
+use Rattle.program_soundness.specs.BodyLaws.{PremisesHold}
+use Rattle.program_soundness.specs.Fronts.{declared_in, front, start_in}
+use Rattle.program_soundness.proofs.Trees.{tree_package}
+use Rattle.program_soundness.proofs.Listing.{first_some}
+use Rattle.program_soundness.proofs.Walked.{item_new, kept_all, legal_at, stands_next}
+use Rattle.program_soundness.proofs.WiderScopes.{bytes_same, one_named, same_bytes, some_seen, stands, stands_with}
+use Rattle.expr_soundness.proofs.Positions.{first_place, place_is}
 use Rattle.package_code.proofs.Differing.{AreDiffering, differing_more, is_of, of_both}
 use Rattle.package_code.proofs.Placed.{items_are}
 use Rattle.package_code.proofs.Seen.{either_some}

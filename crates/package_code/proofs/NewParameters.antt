@@ -17,20 +17,20 @@ use Rattle.type_rules.specs.SubtypeNames.{end_rule, named_entity, subtype_faults
 use Rattle.declaring.specs.BodyNames.{formal_role, formal_scope, formals_scope}
 use Rattle.type_rules.specs.ProfileRules.{formal_and, formal_faults, formal_parameters, formals_faults, function_faults, has_wrong_formal, is_in, is_wrong_formal, profile_faults, result_faults, subprogram_scope}
 use Rattle.legality.specs.BodyRules.{body_faults, head_faults, kind_of, own_name_faults}
-use Rattle.well_typed.specs.Laws.{ScopesAreSound}
-use Rattle.well_typed.specs.SoundScopes.{SoundScope}
+use Rattle.expr_soundness.specs.Laws.{ScopesAreSound}
+use Rattle.expr_soundness.specs.SoundScopes.{SoundScope}
 use Rattle.meaning.specs.Programs.{Parameter, Program, parameter, subtype_named}
-use Rattle.sound_steps.specs.Fitting.{formal_of}
-use Rattle.sound_programs.specs.Fronts.{scope_at}
-use Rattle.sound_programs.proofs.Beginning.{keeps_same, keeps_then, keeps_with}
-use Rattle.sound_programs.proofs.Called.{body_legal, head_legal}
-use Rattle.sound_programs.proofs.WiderScopes.{bytes_same, found_in, same_bytes, stands, with_all}
-use Rattle.sound_programs.proofs.FormalTrees.{new_formals, text_formals, unseen_first, unseen_own}
-use Rattle.sound_programs.proofs.Formals.{AreNew, all_named, named_formal}
-use Rattle.sound_programs.proofs.Listing.{Has}
-use Rattle.sound_programs.proofs.BodyProfiles.{Keeps, named_is, subtype_kept}
-use Rattle.sound_programs.proofs.Walked.{scope_next}
-use Rattle.sound_programs.proofs.Whole.{IsPackage, kept, legal_subtype, no_doubt}
+use Rattle.step_soundness.specs.Fitting.{formal_of}
+use Rattle.program_soundness.specs.Fronts.{scope_at}
+use Rattle.program_soundness.proofs.Beginning.{keeps_same, keeps_then, keeps_with}
+use Rattle.program_soundness.proofs.Called.{body_legal, head_legal}
+use Rattle.program_soundness.proofs.WiderScopes.{bytes_same, found_in, same_bytes, stands, with_all}
+use Rattle.program_soundness.proofs.FormalTrees.{new_formals, text_formals, unseen_first, unseen_own}
+use Rattle.program_soundness.proofs.Formals.{AreNew, all_named, named_formal}
+use Rattle.program_soundness.proofs.Listing.{Has}
+use Rattle.program_soundness.proofs.BodyProfiles.{Keeps, named_is, subtype_kept}
+use Rattle.program_soundness.proofs.Walked.{scope_next}
+use Rattle.program_soundness.proofs.Whole.{IsPackage, kept, legal_subtype, no_doubt}
 use Rattle.stmt_code.proofs.Bodies.{AreDistinct, IsOther}
 
 -- ---- names of parameters

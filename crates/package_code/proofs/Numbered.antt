@@ -11,13 +11,13 @@ use Rattle.ada_tree.specs.ProgramTree.{BodyItemTree, BodyTree, SubprogramBody, b
 use Rattle.types.specs.Places.{or_else}
 use Rattle.types.specs.Scopes.{Scope, number_of}
 use Rattle.expr_rules.proofs.TypedLaw.{unbroken}
-use Rattle.sound_programs.specs.Fronts.{declared_in, start_in}
-use Rattle.sound_programs.specs.BodyLaws.{PremisesHold}
-use Rattle.sound_programs.proofs.Listing.{or_else_none, same_some}
-use Rattle.sound_programs.proofs.OneList.{is_subprogram_body, matched_at}
-use Rattle.sound_programs.proofs.Trees.{tree_package}
-use Rattle.sound_programs.proofs.WiderScopes.{bytes_same, equal_bytes, same_bytes}
-use Rattle.well_typed.proofs.Positions.{found_at, number_place}
+use Rattle.program_soundness.specs.Fronts.{declared_in, start_in}
+use Rattle.program_soundness.specs.BodyLaws.{PremisesHold}
+use Rattle.program_soundness.proofs.Listing.{or_else_none, same_some}
+use Rattle.program_soundness.proofs.OneList.{is_subprogram_body, matched_at}
+use Rattle.program_soundness.proofs.Trees.{tree_package}
+use Rattle.program_soundness.proofs.WiderScopes.{bytes_same, equal_bytes, same_bytes}
+use Rattle.expr_soundness.proofs.Positions.{found_at, number_place}
 use Rattle.expr_code.specs.Refusing.{IsRefused}
 use Rattle.expr_code.specs.Seeing.{told_of}
 use Rattle.expr_code.specs.declared.refusal.Refusal.{Refusal}

@@ -4,11 +4,11 @@ use Rattle.types.specs.Entities.{Entity}
 use Rattle.types.specs.Entities as entity
 use Rattle.types.specs.Places.{Place}
 use Rattle.types.specs.Scopes.{Scope, entity_at}
-use Rattle.well_typed.specs.Agreeing.{Agrees, Means}
-use Rattle.well_typed.specs.SoundScopes.{SoundScope}
-use Rattle.well_typed.proofs.Goods.{object_known}
-use Rattle.sound_programs.proofs.WiderScopes.{number_stands, stands, stands_number}
-use Rattle.sound_programs.proofs.Same.{SameTypes, one_same}
+use Rattle.expr_soundness.specs.Agreeing.{Agrees, Means}
+use Rattle.expr_soundness.specs.SoundScopes.{SoundScope}
+use Rattle.expr_soundness.proofs.Goods.{object_known}
+use Rattle.program_soundness.proofs.WiderScopes.{number_stands, stands, stands_number}
+use Rattle.program_soundness.proofs.Same.{SameTypes, one_same}
 use Rattle.expr_code.specs.Seeing.{Package, slot_of, subprogram_of}
 use Rattle.part_code.specs.Resting.{Framed, NarrowsFrame, Shows}
 

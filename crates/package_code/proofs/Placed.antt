@@ -10,15 +10,15 @@ use Rattle.types.specs.Scopes.{Scope, is_visible, number_of}
 use Rattle.types.specs.Shapes.{value_words}
 use Rattle.type_rules.specs.SubtypeNames.{subtype_of}
 use Rattle.declaring.specs.ProtectedRules.{protected_count}
-use Rattle.legality.specs.PackageBodyRules.{body_item_scope, body_items_scope}
+use Rattle.declaring.specs.PackageNames.{body_item_scope, body_items_scope}
 use Rattle.checking.specs.ProgramRules.{IsLegal}
 use Rattle.ravenscar.specs.ProgramRules.{IsRestricted}
 use Rattle.meaning.specs.Programs.{items_among, object_named, package_items, program_of, variables_among}
-use Rattle.sound_programs.specs.Fronts.{declared_in, front, start_in}
-use Rattle.sound_programs.specs.BodyLaws.{PremisesHold}
-use Rattle.sound_programs.proofs.Trees.{tree_package}
-use Rattle.sound_programs.proofs.Walked.{item_entity, item_new, kept_all, legal_at, stands_next}
-use Rattle.sound_programs.proofs.WiderScopes.{bytes_same, same_bytes, some_seen, stands}
+use Rattle.program_soundness.specs.Fronts.{declared_in, front, start_in}
+use Rattle.program_soundness.specs.BodyLaws.{PremisesHold}
+use Rattle.program_soundness.proofs.Trees.{tree_package}
+use Rattle.program_soundness.proofs.Walked.{item_entity, item_new, kept_all, legal_at, stands_next}
+use Rattle.program_soundness.proofs.WiderScopes.{bytes_same, same_bytes, some_seen, stands}
 use Rattle.expr_code.specs.declared.visible.Slot.{Slot}
 use Rattle.expr_code.proofs.Refusals.{or_left, or_right}
 use Rattle.package_code.specs.Globals.{is_unplaced, refuses_item, refuses_items}

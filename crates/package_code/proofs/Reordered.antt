@@ -5,15 +5,15 @@ use Rattle.image.specs.declared.instruction.Region.TheVariants as regions
 use Rattle.types.specs.Entities.{Entity}
 use Rattle.types.specs.Places.{or_else}
 use Rattle.types.specs.Scopes.{Named, Scope, is_visible, number_of}
-use Rattle.well_typed.specs.Laws.{ScopesAreSound}
-use Rattle.well_typed.specs.SoundScopes.{SoundScope}
-use Rattle.well_typed.proofs.Positions.{item_added, number_added, same_some}
+use Rattle.expr_soundness.specs.Laws.{ScopesAreSound}
+use Rattle.expr_soundness.specs.SoundScopes.{SoundScope}
+use Rattle.expr_soundness.proofs.Positions.{item_added, number_added, same_some}
 use Rattle.declaring.specs.BodyNames.{formal_role}
 use Rattle.meaning.specs.Programs.{Parameter, Program}
-use Rattle.sound_programs.proofs.WiderScopes.{bytes_same, none_unseen, number_stands, one_named, same_bytes, stands, stands_with, with_all}
-use Rattle.sound_programs.proofs.Formals.{AreNew, all_named, all_types, named_formal, new_behind, sound_all}
-use Rattle.sound_programs.proofs.Listing.{Has, first_some, or_else_some}
-use Rattle.sound_programs.proofs.Same.{SameTypes, types_then, types_turned, types_with_all}
+use Rattle.program_soundness.proofs.WiderScopes.{bytes_same, none_unseen, number_stands, one_named, same_bytes, stands, stands_with, with_all}
+use Rattle.program_soundness.proofs.Formals.{AreNew, all_named, all_types, named_formal, new_behind, sound_all}
+use Rattle.program_soundness.proofs.Listing.{Has, first_some, or_else_some}
+use Rattle.program_soundness.proofs.Same.{SameTypes, types_then, types_turned, types_with_all}
 use Rattle.expr_code.specs.Seeing.{Package, slot_of, subprogram_of, told_of}
 use Rattle.expr_code.specs.declared.visible.Slot.{Slot}
 use Rattle.part_code.specs.Resting.{Framed, NarrowsFrame}

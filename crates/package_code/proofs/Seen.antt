@@ -6,14 +6,12 @@ use Rattle.types.specs.Entities.{Entity}
 use Rattle.types.specs.Places.{or_else}
 use Rattle.types.specs.Scopes.{Named, Scope, number_of, standard}
 use Rattle.legality.specs.MainRules.{item_name}
-use Rattle.legality.specs.PackageBodyRules.{body_item_scope, body_items_scope}
-use Rattle.legality.specs.PackageRules.{inside_scope}
-use Rattle.checking.specs.ProgramLayouts.{optional_scope}
+use Rattle.declaring.specs.PackageNames.{body_item_scope, body_items_scope, inside_scope, optional_scope}
 use Rattle.meaning.specs.Programs.{program_of}
-use Rattle.sound_programs.specs.Fronts.{declared_in, front, scope_at, start_in}
-use Rattle.sound_programs.proofs.OneList.{scope_joined}
-use Rattle.sound_programs.proofs.Walked.{declares, kept_at, one_of, scope_next, stands_next}
-use Rattle.sound_programs.proofs.WiderScopes.{bytes_same, number_stands, stands}
+use Rattle.program_soundness.specs.Fronts.{declared_in, front, scope_at, start_in}
+use Rattle.program_soundness.proofs.OneList.{scope_joined}
+use Rattle.program_soundness.proofs.Walked.{declares, kept_at, one_of, scope_next, stands_next}
+use Rattle.program_soundness.proofs.WiderScopes.{bytes_same, number_stands, stands}
 use Rattle.expr_code.specs.Seeing.{told_of}
 use Rattle.expr_code.specs.declared.visible.Visible.{Visible}
 use Rattle.package_code.specs.Directory.{IsDirectory, IsUnseen, TellsMore, TellsNext}

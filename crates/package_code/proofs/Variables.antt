@@ -11,7 +11,7 @@ use Rattle.types.specs.Places.{Object}
 use Rattle.types.specs.Scopes.{Scope, number_of}
 use Rattle.types.specs.Shapes.{value_words}
 use Rattle.meaning.specs.Programs.{exceptions_among, initial_value, object_named, subtype_or_integer, tasks_among, variables_among}
-use Rattle.well_typed.proofs.Positions.{found_at, number_place, same_some}
+use Rattle.expr_soundness.proofs.Positions.{found_at, number_place, same_some}
 use Rattle.expr_code.specs.Entries.{entry_at}
 use Rattle.expr_code.specs.Seeing.{told_of}
 use Rattle.expr_code.specs.declared.visible.Slot.{Slot}

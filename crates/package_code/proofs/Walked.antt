@@ -14,10 +14,10 @@ use Rattle.type_rules.specs.ProfileRules.{subprogram_scope}
 use Rattle.declaring.specs.ItemRules.{item_scope}
 use Rattle.legality.specs.MainRules.{item_name}
 use Rattle.meaning.specs.Programs.{program_of}
-use Rattle.sound_programs.proofs.Listing.{same_some}
-use Rattle.sound_programs.proofs.Walked.{scope_next}
-use Rattle.sound_programs.specs.Fronts.{declared_in, front, start_in}
-use Rattle.well_typed.proofs.Positions.{item_kept}
+use Rattle.program_soundness.proofs.Listing.{same_some}
+use Rattle.program_soundness.proofs.Walked.{scope_next}
+use Rattle.program_soundness.specs.Fronts.{declared_in, front, start_in}
+use Rattle.expr_soundness.proofs.Positions.{item_kept}
 use Rattle.expr_code.proofs.Growing.{get_last}
 use Rattle.expr_code.specs.Code.{Extends, StandsFrom, here}
 use Rattle.expr_code.specs.declared.visible.Visible.{Visible}

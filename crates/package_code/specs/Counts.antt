@@ -3,7 +3,7 @@
 use Rattle.std.specs.Prelude.{ℕ, suc, ◌*◌, List, [], ◌∷◌, ◌++◌, Option, Some, None, slice_get, take}
 use Rattle.ada_tree.specs.ProgramTree.{BodyItemTree, ProgramTree, SubprogramBody}
 use Rattle.image.specs.Frames.{TaskState}
-use Rattle.sound_programs.specs.Fronts.{declared_in, front}
+use Rattle.program_soundness.specs.Fronts.{declared_in, front}
 use Rattle.part_code.specs.Bounds.{main_bound, procedure_bound}
 
 -- how many of these are bodies of subprograms

@@ -14,8 +14,8 @@ use Rattle.ravenscar.specs.ProgramRules.{IsRestricted}
 use Rattle.type_rules.specs.SubtypeNames.{subtype_of}
 use Rattle.meaning.specs.Programs.{package_items, program_of, returned, subtype_named}
 use Rattle.meaning.specs.SameMeaning.{KeepsCount, SameMeaning}
-use Rattle.well_typed.specs.SoundScopes.{SoundScope}
-use Rattle.sound_programs.specs.Fronts.{declared_in, front}
+use Rattle.expr_soundness.specs.SoundScopes.{SoundScope}
+use Rattle.program_soundness.specs.Fronts.{declared_in, front}
 use Rattle.expr_code.specs.Coming.{most_steps, size_of}
 use Rattle.expr_code.specs.Emitting.{IsFit}
 use Rattle.stmt_code.specs.Emitting.{IsLegalRun}

@@ -9,11 +9,11 @@ use Rattle.image.specs.declared.instruction.Operation.TheVariants as op
 use Rattle.image.specs.declared.subprograms.Subprogram.{Subprogram}
 use Rattle.types.specs.Places.{ceiling_of}
 use Rattle.meaning.specs.Programs.{OfMain, Program, program_of}
-use Rattle.sound_steps.specs.Objects.{first_store}
+use Rattle.step_soundness.specs.Objects.{first_store}
 use Rattle.expr_code.specs.Seeing.{Package}
 use Rattle.expr_code.specs.Views.{At}
 use Rattle.part_code.specs.Handling.{GoesBy, unhandled}
-use Rattle.met_steps.specs.Laws.{HasCode}
+use Rattle.step_simulation.specs.Laws.{HasCode}
 use Rattle.part_code.specs.Resting.{Framed, RestsWith, StandsFor}
 use Rattle.part_code.specs.Statements.{IsMainStatementCode, Numbers}
 

@@ -11,8 +11,8 @@ use Rattle.types.specs.Places.{Object, object_of}
 use Rattle.types.specs.Shapes.{value_words}
 use Rattle.types.specs.Values.{Value}
 use Rattle.meaning.specs.Programs.{Parameter, Program, program_of}
-use Rattle.sound_programs.specs.Fronts.{front}
-use Rattle.sound_steps.specs.Fitting.{IsFound, entity_named}
+use Rattle.program_soundness.specs.Fronts.{front}
+use Rattle.step_soundness.specs.Fitting.{IsFound, entity_named}
 use Rattle.expr_code.specs.Naming.{Lies}
 use Rattle.expr_code.specs.Seeing.{Package, slot_of, subprogram_of}
 use Rattle.expr_code.specs.declared.visible.Slot.{Slot}

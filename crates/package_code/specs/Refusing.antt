@@ -15,7 +15,7 @@ use Rattle.types.specs.Statics.{static_fault}
 use Rattle.type_rules.specs.SubtypeNames.{subtype_of}
 use Rattle.declaring.specs.ProtectedRules.{protected_count}
 use Rattle.meaning.specs.Programs.{initial_value, program_of, returned, subtype_named}
-use Rattle.sound_programs.specs.Fronts.{declared_in, front, start_in}
+use Rattle.program_soundness.specs.Fronts.{declared_in, front, start_in}
 use Rattle.expr_code.specs.declared.refusal.Refusal.{Refusal}
 use Rattle.expr_code.specs.declared.refusal.Refusal.TheVariants as refusal
 use Rattle.expr_code.specs.declared.visible.Slot.{Slot}

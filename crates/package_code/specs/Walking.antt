@@ -13,7 +13,7 @@ use Rattle.types.specs.declared.entity.Subtype.{Subtype}
 use Rattle.types.specs.Layouts.{total}
 use Rattle.types.specs.Scopes.{Scope}
 use Rattle.meaning.specs.Programs.{program_of, returned, subtype_named}
-use Rattle.sound_programs.specs.Fronts.{declared_in, front}
+use Rattle.program_soundness.specs.Fronts.{declared_in, front}
 use Rattle.expr_code.specs.Code.{StandsFrom, here}
 use Rattle.expr_code.specs.Seeing.{told_of}
 use Rattle.expr_code.specs.declared.refusal.Refusal.{Refusal}

@@ -6,7 +6,7 @@ ghost use Rattle.ada_tree.specs.ProgramTree.{OfItem, SubprogramBody, body_item_t
 ghost use Rattle.checking.specs.ProgramRules.{IsLegal};
 ghost use Rattle.ravenscar.specs.ProgramRules.{IsRestricted};
 ghost use Rattle.meaning.specs.Programs.{program_of, returned, subtype_named};
-ghost use Rattle.sound_programs.specs.Fronts.{declared_in};
+ghost use Rattle.program_soundness.specs.Fronts.{declared_in};
 ghost use Rattle.type_rules.specs.SubtypeNames.{subtype_of};
 ghost use Rattle.expr_code.specs.Code.{here};
 ghost use Rattle.expr_code.specs.Refusing.{IsRefused};

@@ -19,10 +19,10 @@ use Rattle.types.specs.Layouts.{words_of}
 use Rattle.types.specs.Places.{IsObject, Object, Place, meaning_of, object_of}
 use Rattle.types.specs.Shapes.{has_shape, shape_of, value_words}
 use Rattle.types.specs.Values.{Value}
-use Rattle.well_typed.specs.Agreeing.{Agrees, MeansObject}
-use Rattle.well_typed.specs.Laws.{AgreementIsKept, CallsAreTyped}
-use Rattle.well_typed.proofs.Agreement.{place_values}
-use Rattle.well_typed.proofs.Positions.{same_some}
+use Rattle.expr_soundness.specs.Agreeing.{Agrees, MeansObject}
+use Rattle.expr_soundness.specs.Laws.{AgreementIsKept, CallsAreTyped}
+use Rattle.expr_soundness.proofs.Agreement.{place_values}
+use Rattle.expr_soundness.proofs.Positions.{same_some}
 use Rattle.meaning.specs.Programs.{Program}
 use Rattle.meaning.specs.Targets.{activation_with, object_named, store_with, stored_to, whole}
 use Rattle.meaning.specs.Works.{Activation, InActivation, InPackage, Store}

@@ -12,7 +12,7 @@ use Rattle.types.specs.Laws.{ValuesHaveWords}
 use Rattle.types.specs.Layouts.{words_of}
 use Rattle.types.specs.Scopes.{form_at}
 use Rattle.expr_rules.proofs.TypeShapes.{has_numbers}
-use Rattle.well_typed.specs.Laws.{AgreementIsKept}
+use Rattle.expr_soundness.specs.Laws.{AgreementIsKept}
 use Rattle.meaning.specs.Programs.{Program}
 use Rattle.expr_code.specs.Coming.{on}
 use Rattle.expr_code.specs.Code.{Adds, Extends, Holds, here}

@@ -24,8 +24,8 @@ use Rattle.expr_rules.specs.declared.own.Own.TheVariants.{Typed}
 use Rattle.expr_rules.specs.Typing.{is_booleans}
 use Rattle.expr_rules.proofs.TypeShapes.{boolean_value, has_numbers, numeric_value, shape_by_form}
 use Rattle.expr_rules.proofs.TypedLaw.{as_number}
-use Rattle.well_typed.specs.Laws.{AgreementIsKept}
-use Rattle.well_typed.proofs.Parts.{subtype_values}
+use Rattle.expr_soundness.specs.Laws.{AgreementIsKept}
+use Rattle.expr_soundness.proofs.Parts.{subtype_values}
 use Rattle.meaning.specs.Programs.{Program}
 use Rattle.meaning.specs.Targets.{activation_with, store_with}
 use Rattle.meaning.specs.Works.{Activation, Store, Target}

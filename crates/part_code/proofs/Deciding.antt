@@ -19,11 +19,11 @@ use Rattle.expr_rules.specs.ExpressionRules.{faults_in}
 use Rattle.expr_rules.specs.Laws.{is_value_of, suits}
 use Rattle.expr_rules.specs.Typing.{is_boolean, is_integral, own_of}
 use Rattle.expr_rules.proofs.TypedLaw.{as_number, as_truth, integral_numeric}
-use Rattle.well_typed.specs.Agreeing.{Agrees}
-use Rattle.well_typed.specs.Laws.{CallsAreTyped}
-use Rattle.well_typed.proofs.Expressions.{first_here}
-use Rattle.well_typed.proofs.FixedNames.{all_valueless}
-use Rattle.well_typed.proofs.Positions.{entity_number}
+use Rattle.expr_soundness.specs.Agreeing.{Agrees}
+use Rattle.expr_soundness.specs.Laws.{CallsAreTyped}
+use Rattle.expr_soundness.proofs.Expressions.{first_here}
+use Rattle.expr_soundness.proofs.FixedNames.{all_valueless}
+use Rattle.expr_soundness.proofs.Positions.{entity_number}
 use Rattle.meaning.specs.Programs.{Program}
 use Rattle.expr_code.specs.Seeing.{Package, Sees}
 use Rattle.expr_code.specs.Views.{View}

@@ -21,11 +21,11 @@ use Rattle.types.specs.Layouts.{words_of}
 use Rattle.types.specs.Places.{Object, Place}
 use Rattle.types.specs.Shapes.{has_shape, initial, shape_of, value_words}
 use Rattle.types.specs.Values.{Value}
-use Rattle.well_typed.specs.Agreeing.{Agrees}
-use Rattle.well_typed.specs.Answers.{CallsAnswer}
-use Rattle.well_typed.specs.Laws.{AgreementIsKept, CallsAreTyped}
-use Rattle.well_typed.specs.SoundScopes.{IsKnown}
-use Rattle.well_typed.proofs.Agreement.{place_values}
+use Rattle.expr_soundness.specs.Agreeing.{Agrees}
+use Rattle.expr_soundness.specs.Answers.{CallsAnswer}
+use Rattle.expr_soundness.specs.Laws.{AgreementIsKept, CallsAreTyped}
+use Rattle.expr_soundness.specs.SoundScopes.{IsKnown}
+use Rattle.expr_soundness.proofs.Agreement.{place_values}
 use Rattle.meaning.specs.Programs.{Program, subtype_named}
 use Rattle.meaning.specs.Works.{Activation, Store}
 use Rattle.meaning.specs.SameMeaning.{frames_of}

@@ -22,7 +22,7 @@ use Rattle.types.specs.Laws.{InitialValuesHaveShape, ValuesHaveWords}
 use Rattle.types.specs.Shapes.{initial, shape_of, value_words}
 use Rattle.type_rules.specs.SubtypeNames.{subtype_of}
 use Rattle.declaring.specs.BodyNames.{formals_scope}
-use Rattle.well_typed.proofs.Positions.{same_some}
+use Rattle.expr_soundness.proofs.Positions.{same_some}
 use Rattle.meaning.specs.Calls.{is_out}
 use Rattle.expr_code.specs.Code.{Adds, Extends, Holds, here}
 use Rattle.expr_code.specs.Flows.{AreKeptBetween, Flows}

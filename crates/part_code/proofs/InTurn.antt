@@ -14,7 +14,7 @@ use Rattle.types.specs.declared.entity.FormalParameter.{FormalParameter}
 use Rattle.types.specs.Layouts.{words_of}
 use Rattle.meaning.specs.Calls.{is_in, results}
 use Rattle.meaning.specs.Programs.{Parameter, Program}
-use Rattle.sound_steps.specs.Fitting.{formal_of}
+use Rattle.step_soundness.specs.Fitting.{formal_of}
 use Rattle.expr_code.specs.Actuals.{arguments_in_front}
 use Rattle.expr_code.specs.Code.{here}
 use Rattle.expr_code.specs.Computing.{ComputesChecked}

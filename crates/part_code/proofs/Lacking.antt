@@ -13,8 +13,8 @@ use Rattle.types.specs.Layouts.{words_of}
 use Rattle.types.specs.Scopes.{Named, Scope, base_range_of, entity_of, form_at, form_of}
 use Rattle.types.specs.Shapes.{Grouped, Logical, Ranged, Repeated, Shape, Shapeless, Shapes, Timed, component_shapes, entity_shape, fields_words, initial, initial_fields, initial_of, narrowed, repeated, shape_of, shape_or_none, shapes, shapes_after, value_words, values_words, words, words_of_parts}
 use Rattle.types.specs.Laws.{InitialValuesHaveShape, ValuesHaveWords}
-use Rattle.well_typed.proofs.Parts.{shape_by_form, shape_found}
-use Rattle.well_typed.specs.SoundScopes.{SoundScope}
+use Rattle.expr_soundness.proofs.Parts.{shape_by_form, shape_found}
+use Rattle.expr_soundness.specs.SoundScopes.{SoundScope}
 use Rattle.expr_code.specs.Code.{here}
 use Rattle.expr_code.specs.Refusing.{HasUnfitObject, IsRefused, IsUnfit, RefusesChecked, RefusesFitting, checked_peak, is_fit, is_outside, is_passable, peak}
 use Rattle.expr_code.specs.declared.code.Code.{Code}

@@ -16,10 +16,10 @@ use Rattle.expr_rules.specs.declared.own.Own.TheVariants.{Typed}
 use Rattle.expr_rules.specs.Typing.{is_integers}
 use Rattle.expr_rules.proofs.TypedLaw.{integral_numeric}
 use Rattle.expr_rules.proofs.TypeShapes.{numeric_value}
-use Rattle.well_typed.specs.Agreeing.{Agrees, MeansObject, MeansOne}
-use Rattle.well_typed.specs.SoundScopes.{IsSoundObject}
-use Rattle.well_typed.proofs.Parts.{subtype_values}
-use Rattle.well_typed.proofs.Positions.{found_at, item_added, item_kept, item_of_added, number_added, number_kept, number_place, same_some}
+use Rattle.expr_soundness.specs.Agreeing.{Agrees, MeansObject, MeansOne}
+use Rattle.expr_soundness.specs.SoundScopes.{IsSoundObject}
+use Rattle.expr_soundness.proofs.Parts.{subtype_values}
+use Rattle.expr_soundness.proofs.Positions.{found_at, item_added, item_kept, item_of_added, number_added, number_kept, number_place, same_some}
 use Rattle.expr_code.specs.Seeing.{told_of}
 use Rattle.part_code.specs.Layout.{IsVariable, NamesObject}
 

@@ -13,9 +13,9 @@ use Rattle.types.specs.Places.{Function, IsFunction, IsObject, Object, Place, me
 use Rattle.types.specs.Scopes.{Named, Scope, base_range_of, integer, is_visible, number_of, with_name}
 use Rattle.types.specs.Shapes.{has_shape, shape_of, value_words}
 use Rattle.types.specs.Values.{Number, Value}
-use Rattle.well_typed.specs.Agreeing.{Agrees}
-use Rattle.well_typed.specs.Laws.{AgreementIsKept}
-use Rattle.well_typed.proofs.Positions.{same_some}
+use Rattle.expr_soundness.specs.Agreeing.{Agrees}
+use Rattle.expr_soundness.specs.Laws.{AgreementIsKept}
+use Rattle.expr_soundness.proofs.Positions.{same_some}
 use Rattle.meaning.specs.Works.{Activation}
 use Rattle.expr_code.specs.Naming.{Lies}
 use Rattle.expr_code.specs.Seeing.{IsCoded, Package, SeesPackage, slot_of, subprogram_of, told_of}

@@ -21,9 +21,9 @@ use Rattle.types.specs.Places.{Function, IsObject, Meaning, Object, Place, meani
 use Rattle.types.specs.Scopes.{form_at, number_of}
 use Rattle.types.specs.Shapes.{Shape, has_shape, shape_of, words}
 use Rattle.types.specs.Values.{Value}
-use Rattle.well_typed.specs.Agreeing.{Agrees, MeansObject}
-use Rattle.well_typed.specs.SoundScopes.{SoundScope}
-use Rattle.well_typed.proofs.Positions.{same_some}
+use Rattle.expr_soundness.specs.Agreeing.{Agrees, MeansObject}
+use Rattle.expr_soundness.specs.SoundScopes.{SoundScope}
+use Rattle.expr_soundness.proofs.Positions.{same_some}
 use Rattle.meaning.specs.Targets.{all_selected, first_of, object_named, part_value, target_or_nothing, value_in, whole}
 use Rattle.meaning.specs.Works.{Home, InActivation, InPackage, Target}
 use Rattle.meaning.specs.SameMeaning.{frames_of}

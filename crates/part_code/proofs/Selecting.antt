@@ -32,9 +32,9 @@ use Rattle.expr_rules.specs.StaticRules.{form_rule, if_unbroken, static_faults, 
 use Rattle.expr_rules.specs.Typing.{is_boolean, is_integers, is_integral, is_known, own_of}
 use Rattle.expr_rules.proofs.TypedLaw.{as_number, as_truth, back_empty, front_empty, integral_numeric, unbroken}
 use Rattle.stmt_rules.specs.CaseRules.{choice_faults, choice_value, choices_wanted, chosen_with, discrete_rule, is_chosen, is_discrete, selecting_faults, values_faults}
-use Rattle.well_typed.specs.Laws.{CallsAreTyped}
-use Rattle.well_typed.specs.SoundScopes.{SoundScope}
-use Rattle.well_typed.proofs.Expressions.{not_false}
+use Rattle.expr_soundness.specs.Laws.{CallsAreTyped}
+use Rattle.expr_soundness.specs.SoundScopes.{SoundScope}
+use Rattle.expr_soundness.proofs.Expressions.{not_false}
 use Rattle.meaning.specs.Programs.{Program}
 use Rattle.expr_code.specs.Branches.{Joins}
 use Rattle.expr_code.specs.Code.{Extends, Holds, here}

@@ -25,7 +25,7 @@ use Rattle.types.specs.Entities.{Entity, OfSubtype, OfType, Predefined, Protecte
 use Rattle.types.specs.Places.{Function, IsObject, Meaning, Object, Place, function_meaning, meaning_in_scope, meaning_of, meaning_of_entity, meaning_or, object_meaning, object_of, or_else, own_components, own_function, package_function, package_object}
 use Rattle.types.specs.Scopes.{Scope, entity_at, number_of}
 use Rattle.types.specs.Evaluating.{Calls, passed}
-use Rattle.well_typed.proofs.Positions.{same_some}
+use Rattle.expr_soundness.proofs.Positions.{same_some}
 use Rattle.meaning.specs.Targets.{all_selected, first_of, object_named, own_component, target_or_nothing, whole}
 use Rattle.meaning.specs.Works.{Home, InActivation, InObject, InPackage, Target}
 use Rattle.meaning.specs.SameMeaning.{frames_of}

@@ -20,11 +20,11 @@ use Rattle.types.specs.Places.{IsObject, Object, Place, meaning_of, object_of}
 use Rattle.types.specs.Scopes.{Scope, entity_at}
 use Rattle.types.specs.Shapes.{Shape, Shapeless, has_shape, shape_of, value_words, words}
 use Rattle.types.specs.Values.{Value}
-use Rattle.well_typed.specs.Agreeing.{MeansObject}
-use Rattle.well_typed.specs.Laws.{AgreementIsKept}
-use Rattle.well_typed.specs.SoundScopes.{IsKnown}
-use Rattle.well_typed.proofs.Agreement.{place_values}
-use Rattle.well_typed.proofs.Goods.{object_known}
+use Rattle.expr_soundness.specs.Agreeing.{MeansObject}
+use Rattle.expr_soundness.specs.Laws.{AgreementIsKept}
+use Rattle.expr_soundness.specs.SoundScopes.{IsKnown}
+use Rattle.expr_soundness.proofs.Agreement.{place_values}
+use Rattle.expr_soundness.proofs.Goods.{object_known}
 use Rattle.meaning.specs.Programs.{Program}
 use Rattle.meaning.specs.Targets.{activation_with, store_with, stored_in, stored_to, with_part}
 use Rattle.meaning.specs.Works.{Activation, InActivation, InPackage, Store, Target}

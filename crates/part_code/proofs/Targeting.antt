@@ -27,8 +27,8 @@ use Rattle.types.specs.Scopes.{form_at}
 use Rattle.types.specs.Shapes.{Shape, Shapes, Repeated, Grouped, shape_or_none, words}
 use Rattle.types.specs.Standings.{component_of}
 use Rattle.types.specs.Values.{Value, Number}
-use Rattle.well_typed.specs.SoundScopes.{SoundScope}
-use Rattle.well_typed.proofs.Goods.{sound_form}
+use Rattle.expr_soundness.specs.SoundScopes.{SoundScope}
+use Rattle.expr_soundness.proofs.Goods.{sound_form}
 use Rattle.meaning.specs.SameMeaning.{frames_of}
 use Rattle.meaning.specs.Targets.{all_selected, element_of, part_of, selected}
 use Rattle.meaning.specs.Works.{Part, Element, Field, Target}

@@ -34,8 +34,8 @@ use Rattle.expr_rules.specs.ExpressionRules.{argument_faults, faults_in, selecto
 use Rattle.expr_rules.specs.Faults.{rule}
 use Rattle.expr_rules.specs.NameRules.{formal_slot, is_changeable, mismatch, value_rule, variable_rule}
 use Rattle.expr_rules.proofs.TypedLaw.{back_empty, front_empty, same_number, unbroken}
-use Rattle.well_typed.specs.SoundScopes.{AreKnown, IsKnown}
-use Rattle.well_typed.proofs.Goods.{not_empty}
+use Rattle.expr_soundness.specs.SoundScopes.{AreKnown, IsKnown}
+use Rattle.expr_soundness.proofs.Goods.{not_empty}
 use Rattle.meaning.specs.Calls.{is_in}
 use Rattle.expr_code.specs.Actuals.{IsPassedLegally}
 use Rattle.expr_code.specs.Code.{Extends, Holds, here}

@@ -14,10 +14,10 @@ use Rattle.types.specs.Places.{Function, IsObject, Meaning, Object, Place, funct
 use Rattle.types.specs.Scopes.{Scope, number_of}
 use Rattle.types.specs.Shapes.{has_shape, shape_of, value_words}
 use Rattle.types.specs.Values.{Number, Value}
-use Rattle.well_typed.specs.Agreeing.{Agrees, MeansOne}
-use Rattle.well_typed.specs.Answers.{FunctionsAreSound, are_actuals}
-use Rattle.well_typed.specs.Laws.{AgreementIsKept}
-use Rattle.well_typed.proofs.Positions.{same_some}
+use Rattle.expr_soundness.specs.Agreeing.{Agrees, MeansOne}
+use Rattle.expr_soundness.specs.Answers.{FunctionsAreSound, are_actuals}
+use Rattle.expr_soundness.specs.Laws.{AgreementIsKept}
+use Rattle.expr_soundness.proofs.Positions.{same_some}
 use Rattle.meaning.specs.Programs.{Program}
 use Rattle.meaning.specs.Works.{Store}
 use Rattle.expr_code.specs.Naming.{Lies}

@@ -11,7 +11,7 @@ use Rattle.types.specs.Entities.{Entity, Object}
 use Rattle.types.specs.Scopes.{Scope, entity_at, entity_of, number_of}
 use Rattle.types.specs.Shapes.{shape_of}
 use Rattle.types.specs.Standings.{stands_first, stands_for}
-use Rattle.well_typed.proofs.Positions.{same_some}
+use Rattle.expr_soundness.proofs.Positions.{same_some}
 use Rattle.expr_code.specs.Code.{here}
 use Rattle.expr_code.specs.Refusing.{HasUnfitObject, IsRefused, IsRefusedBeside, RefusesExpression, is_fit, is_outside, peak}
 use Rattle.expr_code.specs.declared.code.Code.{Code}

@@ -8,7 +8,7 @@ use Rattle.types.specs.Entities.{Object}
 use Rattle.types.specs.Layouts.{words_of}
 use Rattle.types.specs.Places.{is_among}
 use Rattle.types.specs.Scopes.{Scope, entity_at, is_visible, number_of, with_name}
-use Rattle.well_typed.specs.SoundScopes.{IsSoundObject}
+use Rattle.expr_soundness.specs.SoundScopes.{IsSoundObject}
 use Rattle.expr_code.specs.Seeing.{Package, slot_of}
 use Rattle.expr_code.specs.declared.visible.Slot.{Slot}
 use Rattle.part_code.specs.Resting.{Framed}

@@ -24,7 +24,7 @@ use Rattle.types.specs.Standings.{standing_of, stands_first}
 use Rattle.types.specs.Statics.{static_fault}
 use Rattle.type_rules.specs.SubtypeNames.{subtype_of}
 use Rattle.declaring.specs.LocalRules.{local_scope}
-use Rattle.sound_steps.specs.Fitting.{entity_named}
+use Rattle.step_soundness.specs.Fitting.{entity_named}
 use Rattle.expr_code.specs.Branches.{Branch}
 use Rattle.expr_code.specs.Code.{here}
 use Rattle.expr_code.specs.Emitting.{is_composite}

@@ -23,8 +23,8 @@ use Rattle.types.specs.Shapes.{shape_of}
 use Rattle.types.specs.Standings.{stands_first}
 use Rattle.meaning.specs.Calls.{Actuals, results}
 use Rattle.meaning.specs.Programs.{Parameter, Program}
-use Rattle.sound_steps.specs.Fitting.{formal_of, taken_types}
-use Rattle.sound_steps.specs.Objects.{AreOf}
+use Rattle.step_soundness.specs.Fitting.{formal_of, taken_types}
+use Rattle.step_soundness.specs.Objects.{AreOf}
 use Rattle.expr_code.specs.Actuals.{arguments_in_front}
 use Rattle.expr_code.specs.Code.{Adds, Extends, Holds, here}
 use Rattle.expr_code.specs.Computing.{ArePassed, Everywhere}

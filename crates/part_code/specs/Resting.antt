@@ -4,7 +4,7 @@ use Rattle.image.specs.Frames.{Words}
 use Rattle.image.specs.declared.instruction.Region.{Region}
 use Rattle.image.specs.declared.instruction.Region.TheVariants as regions
 use Rattle.types.specs.Places.{Object, Place, is_among, object_of}
-use Rattle.well_typed.specs.Answers.{FunctionsAreSound}
+use Rattle.expr_soundness.specs.Answers.{FunctionsAreSound}
 use Rattle.meaning.specs.Programs.{Program}
 use Rattle.meaning.specs.Works.{Activation, Store}
 use Rattle.expr_code.specs.Views.{View}

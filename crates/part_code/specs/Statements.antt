@@ -29,8 +29,8 @@ use Rattle.types.specs.Evaluating.{Calls, val}
 use Rattle.type_rules.specs.SubtypeNames.{named_entity}
 use Rattle.meaning.specs.Programs.{Parameter, Procedure, Program, exception_number}
 use Rattle.meaning.specs.Calls.{Actuals, Callee, activation_of, callee_by, procedure_here, results}
-use Rattle.sound_steps.specs.Fitting.{taken_types}
-use Rattle.sound_steps.specs.Objects.{AreOf, IsException}
+use Rattle.step_soundness.specs.Fitting.{taken_types}
+use Rattle.step_soundness.specs.Objects.{AreOf, IsException}
 use Rattle.expr_code.specs.Views.{At, View, in_frame, placed, view_of}
 use Rattle.expr_code.specs.Coming.{most_steps, on}
 use Rattle.expr_code.specs.Computing.{ArePassed, Computes, Everywhere}

@@ -10,7 +10,7 @@ ghost use Rattle.part_code.specs.Emitting.{EmitsObject};
 ghost use Rattle.part_code.specs.Formals.{AddsLoaded, AddsReturned, HasRoomAt, HasWord, Initialises, Returns, ReturnsOne};
 ghost use Rattle.part_code.specs.Needs.{given_back, given_if_any, RefusesOut, RefusesOuts, RefusesReturned, all_given, initial_needs, outs_needs};
 ghost use Rattle.types.specs.Layouts.{words_of};
-ghost use Rattle.well_typed.specs.SoundScopes.{SoundScope};
+ghost use Rattle.expr_soundness.specs.SoundScopes.{SoundScope};
 
 use crate::declaration::add_object;
 use crate::formals::PlacedFormal;

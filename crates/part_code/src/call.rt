@@ -12,7 +12,7 @@ ghost use Rattle.part_code.specs.Passing.{actuals_behind, AddsActuals, AddsCheck
 ghost use Rattle.part_code.specs.Needs.{actual_needs, actuals_needs, check_words, copied_needs, copies_needs, copy_needs, destinations_for, destinations_of, IsNeeding, IsPartFit, is_taken, target_needs};
 ghost use Rattle.types.specs.Layouts.{words_of};
 ghost use Rattle.types.specs.Scopes.{form_at};
-ghost use Rattle.well_typed.specs.SoundScopes.{AreKnown, IsKnown, SoundScope};
+ghost use Rattle.expr_soundness.specs.SoundScopes.{AreKnown, IsKnown, SoundScope};
 
 use crate::storing::stored_at;
 use ada_tree::laws::{arguments_by_parts, chains_by_parts, conditional_by_parts, names_by_parts};
@@ -23,7 +23,7 @@ use image::{Operation, Region};
 use kernel::laws::quiet_stays;
 use types::laws::values_have_words;
 use types::{FormalParameter, Standing, Subtype, TypeForm};
-use well_typed::laws::agreement_is_kept;
+use expr_soundness::laws::agreement_is_kept;
 
 /// Where a parameter is copied back to at the end of a call (RM 6.4.1): the region of the variable, and the subtype of the target.
 #[derive(Clone, Copy, PartialEq, Eq, Debug)]

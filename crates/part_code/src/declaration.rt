@@ -11,7 +11,7 @@ ghost use Rattle.types.specs.Scopes.{form_at};
 ghost use Rattle.types.specs.Shapes.{initial, value_words};
 ghost use Rattle.part_code.specs.Emitting.{EmitsInitial, EmitsInitialWords, EmitsObject, FitsIfAny, HasPushed, StoresWord, StoresWords};
 ghost use Rattle.part_code.specs.Needs.{RefusesInitial, RefusesSingle, RefusesWords, initial_needs, single_needs};
-ghost use Rattle.well_typed.specs.SoundScopes.{SoundScope};
+ghost use Rattle.expr_soundness.specs.SoundScopes.{SoundScope};
 
 use crate::moving::is_composite;
 use ada_tree::Expr;

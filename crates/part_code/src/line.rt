@@ -1,7 +1,7 @@
 //! The label and the value of a line.
 ghost use Rattle.std.specs.Prelude.{◌≡◌, option_map};
 ghost use Rattle.ada_tree.specs.ExpressionTree.{argument_trees, expr_tree, name_tree};
-ghost use Rattle.sound_steps.specs.Fitting.{entity_named};
+ghost use Rattle.step_soundness.specs.Fitting.{entity_named};
 ghost use Rattle.part_code.specs.Lines.{is_put, line_in, line_of};
 
 use ada_tree::laws::arguments_by_parts;

@@ -15,7 +15,7 @@ ghost use Rattle.part_code.specs.Moves.{AddsMoves, alone, EmitsMove};
 ghost use Rattle.part_code.specs.Moving.{are_moved, is_moved, names_composite, source_at, variable_at};
 ghost use Rattle.part_code.specs.Passing.{holds_variables};
 ghost use Rattle.part_code.specs.Needs.{move_needs, moves_needs, RefusesMove, RefusesMoves};
-ghost use Rattle.well_typed.specs.SoundScopes.{SoundScope};
+ghost use Rattle.expr_soundness.specs.SoundScopes.{SoundScope};
 
 use crate::call::holds_variables;
 use ada_tree::laws::{chains_by_parts, conditional_by_parts, names_by_parts};

@@ -1,4 +1,1 @@
-mod BodyExamples
-mod Parts
 mod ProgramExamples
-mod Sample

@@ -16,7 +16,7 @@ use Rattle.checking.specs.ProgramRules.{IsLegal}
 use Rattle.ravenscar.specs.PragmaRules.{pragma_faults}
 use Rattle.ravenscar.specs.TaskingRules.{aspect_faults, entries_faults, task_faults}
 use Rattle.ravenscar.specs.ProgramRules.{IsRestricted, restriction_faults}
-use Rattle.ravenscar.proofs.Sample.{aspect, entry, fault, identifier, named, number, object, pragma_of, priority, procedure, task}
+use Rattle.body_restrictions.proofs.Sample.{aspect, entry, fault, identifier, named, number, object, pragma_of, priority, procedure, task}
 
 -- ---- priorities: `Top : constant Integer := 30;` is visible
 

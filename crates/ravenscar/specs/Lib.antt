@@ -1,5 +1,4 @@
 pub use Rattle.expr_rules.specs.Faults
 pub mod PragmaRules
 pub mod TaskingRules
-pub mod BodyRules
 pub mod ProgramRules

@@ -13,11 +13,10 @@ use Rattle.expr_rules.specs.Faults.{Faults, IsLeast}
 use Rattle.declaring.specs.ItemRules.{item_scope}
 use Rattle.type_rules.specs.SubtypeNames.{named_entity}
 use Rattle.legality.specs.MainRules.{main_scope}
-use Rattle.legality.specs.PackageBodyRules.{body_item_scope}
-use Rattle.legality.specs.PackageRules.{inside_scope, specified_scope}
+use Rattle.declaring.specs.PackageNames.{body_item_scope, inside_scope, specified_scope}
 use Rattle.ravenscar.specs.PragmaRules.{pragma_faults}
 use Rattle.ravenscar.specs.TaskingRules.{aspect_faults, protected_faults, task_faults}
-use Rattle.ravenscar.specs.BodyRules.{body_faults, operations_faults}
+use Rattle.body_restrictions.specs.BodyRules.{body_faults, operations_faults}
 
 -- ---- the package, in the order of its declarations and bodies
 

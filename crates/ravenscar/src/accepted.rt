@@ -1,7 +1,8 @@
 //! Programs that are legal and break no restriction of the profile.
 ghost use Rattle.std.specs.Prelude.{◌≡◌, IfErr, IfOk, OnOk, option_map, slice_get};
 ghost use Rattle.ada_tree.specs.ProgramTree.{main_tree, package_tree, program_tree};
-ghost use Rattle.checking.specs.ProgramLayouts.{object_layouts, program_scope, variables_layout};
+ghost use Rattle.declaring.specs.PackageNames.{program_scope};
+ghost use Rattle.checking.specs.ProgramLayouts.{object_layouts, variables_layout};
 ghost use Rattle.checking.specs.ProgramRules.{IsLegal};
 ghost use Rattle.expr_rules.specs.Faults.{least};
 ghost use Rattle.legality.specs.MainRules.{main_scope};

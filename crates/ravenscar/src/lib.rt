@@ -2,7 +2,6 @@
 #![tactic(auto)]
 
 mod accepted;
-mod bodies;
 mod package;
 mod pragmas;
 mod tasking;

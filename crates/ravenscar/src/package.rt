@@ -4,10 +4,10 @@ ghost use Rattle.ada_tree.specs.ProgramTree.{body_item_tree, item_tree, package_
 ghost use Rattle.declaring.specs.ItemRules.{items_scope};
 ghost use Rattle.expr_rules.specs.Faults.{least};
 ghost use Rattle.types.specs.Entities.{entity_value};
-ghost use Rattle.ravenscar.specs.BodyRules.{operations_faults};
+ghost use Rattle.body_restrictions.specs.BodyRules.{operations_faults};
 ghost use Rattle.ravenscar.specs.ProgramRules.{body_item_faults, body_items_faults, components_in, components_named, item_faults, items_faults, package_faults, package_part_faults};
 
-use crate::bodies::{body_fault, operations_fault};
+use body_restrictions::{body_fault, operations_fault};
 use crate::tasking::{protected_fault, task_fault};
 use ada_tree::{BodyItem, Identifier, Item, Package, ProtectedBodyItem};
 use declaring::declare_item;

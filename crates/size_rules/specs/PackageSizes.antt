@@ -10,8 +10,7 @@ use Rattle.types.specs.Scopes.{Scope, is_visible, protected_of, standard}
 use Rattle.expr_rules.specs.Faults.{Faults}
 use Rattle.declaring.specs.ItemRules.{item_scope}
 use Rattle.type_rules.specs.SubtypeNames.{named_entity}
-use Rattle.legality.specs.PackageBodyRules.{body_item_scope}
-use Rattle.legality.specs.PackageRules.{inside_scope, specified_scope}
+use Rattle.declaring.specs.PackageNames.{body_item_scope, inside_scope, specified_scope}
 use Rattle.size_rules.specs.declared.thing.Kind.TheVariants as kind
 use Rattle.size_rules.specs.declared.thing.Thing.TheVariants.{Counted}
 use Rattle.size_rules.specs.Limits.{Things}

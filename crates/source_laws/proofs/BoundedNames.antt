@@ -22,11 +22,10 @@ use Rattle.type_rules.specs.SubtypeNames.{if_integer, subtype_of}
 use Rattle.type_rules.specs.TypeRules.{array_entity, component_and, composite, definition_entity, index_subtype, integer_entity, narrowed, record_components, record_entity, short_length, subtype_entity}
 use Rattle.declaring.specs.ProtectedRules.{object_components, object_operations, object_with, protected_entity}
 use Rattle.declaring.specs.TaskRules.{default_priority, priority_of}
-use Rattle.legality.specs.PackageBodyRules.{body_item_scope}
-use Rattle.legality.specs.UnitRules.{clauses_scope}
-use Rattle.sound_programs.specs.Fronts.{scope_at, start_in}
-use Rattle.sound_programs.proofs.Listing.{same_some}
-use Rattle.sound_programs.proofs.Walked.{own_profile}
+use Rattle.declaring.specs.PackageNames.{body_item_scope, clauses_scope}
+use Rattle.program_soundness.specs.Fronts.{scope_at, start_in}
+use Rattle.program_soundness.proofs.Listing.{same_some}
+use Rattle.program_soundness.proofs.Walked.{own_profile}
 use Rattle.source_laws.proofs.WholeItems.{has_components, is_whole_body_item}
 use Rattle.source_laws.proofs.UnitClauses.{clauses_keep}
 

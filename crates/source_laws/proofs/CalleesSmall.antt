@@ -22,17 +22,17 @@ use Rattle.checking.specs.ProgramLayouts.{WordsHaveRoom}
 use Rattle.checking.specs.ProgramRules.{IsLegal}
 use Rattle.ravenscar.specs.ProgramRules.{IsRestricted}
 use Rattle.meaning.specs.Programs.{program_of}
-use Rattle.well_typed.specs.Laws.{ScopesAreSound}
-use Rattle.well_typed.specs.SoundScopes.{AreKnown, IsKnown, SoundScope}
-use Rattle.sound_programs.specs.BodyLaws.{NamesAreKnown, PremisesHold}
-use Rattle.sound_programs.specs.Fronts.{declared_in, front, start_in}
-use Rattle.sound_programs.proofs.BodyProfiles.{Keeps, first_formal, profile_formals, subtype_kept}
-use Rattle.sound_programs.proofs.Called.{head_legal, subprogram_there}
-use Rattle.sound_programs.proofs.Listing.{same_some}
-use Rattle.sound_programs.proofs.Trees.{tree_package}
-use Rattle.sound_programs.proofs.Walked.{kept_next, scope_next}
-use Rattle.sound_programs.proofs.WiderScopes.{stands, stands_number}
-use Rattle.sound_programs.proofs.Whole.{IsPackage, kept, known_subtype}
+use Rattle.expr_soundness.specs.Laws.{ScopesAreSound}
+use Rattle.expr_soundness.specs.SoundScopes.{AreKnown, IsKnown, SoundScope}
+use Rattle.program_soundness.specs.BodyLaws.{NamesAreKnown, PremisesHold}
+use Rattle.program_soundness.specs.Fronts.{declared_in, front, start_in}
+use Rattle.program_soundness.proofs.BodyProfiles.{Keeps, first_formal, profile_formals, subtype_kept}
+use Rattle.program_soundness.proofs.Called.{head_legal, subprogram_there}
+use Rattle.program_soundness.proofs.Listing.{same_some}
+use Rattle.program_soundness.proofs.Trees.{tree_package}
+use Rattle.program_soundness.proofs.Walked.{kept_next, scope_next}
+use Rattle.program_soundness.proofs.WiderScopes.{stands, stands_number}
+use Rattle.program_soundness.proofs.Whole.{IsPackage, kept, known_subtype}
 use Rattle.expr_code.specs.Seeing.{NamesProfile, profile_named, subprogram_profile}
 use Rattle.part_code.specs.Bounds.{body_words, formals_words, words_if_any}
 use Rattle.package_code.proofs.InFront.{known_inside}

@@ -9,7 +9,7 @@ use Rattle.ada_tree.specs.Laws.{SizeWithinTokens}
 use Rattle.ada_tree.specs.Size.{aspect_size, body_item_size, body_size, package_size, size, size_if_any, total}
 use Rattle.types.specs.Layouts as layouts
 use Rattle.declaring.specs.BodyNames.{formals_scope}
-use Rattle.sound_programs.specs.Fronts.{declared_in, front}
+use Rattle.program_soundness.specs.Fronts.{declared_in, front}
 use Rattle.part_code.specs.Bounds.{body_words, formals_words, main_bound}
 use Rattle.package_code.specs.Counts.{bodies_among, bounds_from}
 use Rattle.package_code.specs.Laws.{TablesAreSmall}

@@ -28,15 +28,15 @@ use Rattle.type_rules.specs.TypeRules.{definition_entity}
 use Rattle.declaring.specs.ProtectedRules.{object_components, object_operations, object_with, operation_and, operation_faults, operation_profile, operation_profile_faults, operations_faults, parts_faults, protected_entity}
 use Rattle.declaring.specs.TaskRules.{aspect_faults, default_priority, priority_of}
 use Rattle.legality.specs.BodyRules.{body_name_faults, function_body_faults, head_faults, own_name_faults}
-use Rattle.legality.specs.PackageBodyRules.{body_item_faults, body_item_scope, body_items_faults}
-use Rattle.legality.specs.UnitRules.{clauses_scope}
-use Rattle.well_typed.specs.Laws.{ScopesAreSound}
-use Rattle.well_typed.specs.SoundScopes.{SoundScope}
-use Rattle.well_typed.proofs.Growing.{grown, test_kept}
-use Rattle.sound_programs.specs.Fronts.{scope_at, start_in}
-use Rattle.sound_programs.proofs.BodyProfiles.{first_formal, profile_formals, profile_none}
-use Rattle.sound_programs.proofs.Listing.{same_some}
-use Rattle.sound_programs.proofs.Walked.{Constants, Entries, IsOne, Kind, Others, ProtectedOnes, Subprograms, Types, Variables, declared_one, own_profile}
+use Rattle.declaring.specs.PackageNames.{body_item_scope, clauses_scope}
+use Rattle.legality.specs.PackageBodyRules.{body_item_faults, body_items_faults}
+use Rattle.expr_soundness.specs.Laws.{ScopesAreSound}
+use Rattle.expr_soundness.specs.SoundScopes.{SoundScope}
+use Rattle.expr_soundness.proofs.Growing.{grown, test_kept}
+use Rattle.program_soundness.specs.Fronts.{scope_at, start_in}
+use Rattle.program_soundness.proofs.BodyProfiles.{first_formal, profile_formals, profile_none}
+use Rattle.program_soundness.proofs.Listing.{same_some}
+use Rattle.program_soundness.proofs.Walked.{Constants, Entries, IsOne, Kind, Others, ProtectedOnes, Subprograms, Types, Variables, declared_one, own_profile}
 use Rattle.source_laws.specs.Depths.{AreScalar, FewFormals, HasFewFormals, is_scalar_form}
 use Rattle.source_laws.proofs.UnitClauses.{clauses_keep}
 

@@ -23,8 +23,7 @@ use Rattle.type_rules.specs.ProfileRules.{formal_parameters, profile_entity}
 use Rattle.type_rules.specs.SubtypeNames.{subtype_in, subtype_of}
 use Rattle.declaring.specs.BodyNames.{formals_scope}
 use Rattle.declaring.specs.ItemRules.{item_scope, items_scope}
-use Rattle.legality.specs.PackageBodyRules.{body_item_scope}
-use Rattle.legality.specs.PackageRules.{inside_scope}
+use Rattle.declaring.specs.PackageNames.{body_item_scope, inside_scope}
 use Rattle.size_rules.specs.BodySizes.{body_things, formals_things, handlers_things, locals_things, stmts_things}
 use Rattle.size_rules.specs.BodySizes as size
 use Rattle.size_rules.specs.Laws.{WordsAddUp, counted_words}
@@ -36,19 +35,19 @@ use Rattle.checking.specs.ProgramLayouts.{WordsHaveRoom}
 use Rattle.checking.specs.ProgramRules.{IsLegal}
 use Rattle.ravenscar.specs.ProgramRules.{IsRestricted}
 use Rattle.meaning.specs.Programs.{program_of, returned, subtype_named}
-use Rattle.well_typed.specs.Laws.{ScopesAreSound}
-use Rattle.well_typed.specs.SoundScopes.{AreKnown, IsKnown, SoundScope}
-use Rattle.well_typed.proofs.Goods.{object_known}
-use Rattle.well_typed.proofs.Growing.{grown, test_kept}
-use Rattle.sound_programs.specs.BodyLaws.{NamesAreKnown, PremisesHold}
-use Rattle.sound_programs.specs.Fronts.{declared_in, front, scope_at, start_in}
-use Rattle.sound_programs.proofs.BodyProfiles.{first_formal, profile_formals, subtype_kept}
-use Rattle.sound_programs.proofs.Called.{subprogram_there}
-use Rattle.sound_programs.proofs.Listing.{same_some}
-use Rattle.sound_programs.proofs.Trees.{tree_package}
-use Rattle.sound_programs.proofs.Walked.{declares, one_of, own_profile, scope_next, stands_next}
-use Rattle.sound_programs.proofs.WiderScopes.{number_stands, stands}
-use Rattle.sound_programs.proofs.Whole.{IsPackage, kept}
+use Rattle.expr_soundness.specs.Laws.{ScopesAreSound}
+use Rattle.expr_soundness.specs.SoundScopes.{AreKnown, IsKnown, SoundScope}
+use Rattle.expr_soundness.proofs.Goods.{object_known}
+use Rattle.expr_soundness.proofs.Growing.{grown, test_kept}
+use Rattle.program_soundness.specs.BodyLaws.{NamesAreKnown, PremisesHold}
+use Rattle.program_soundness.specs.Fronts.{declared_in, front, scope_at, start_in}
+use Rattle.program_soundness.proofs.BodyProfiles.{first_formal, profile_formals, subtype_kept}
+use Rattle.program_soundness.proofs.Called.{subprogram_there}
+use Rattle.program_soundness.proofs.Listing.{same_some}
+use Rattle.program_soundness.proofs.Trees.{tree_package}
+use Rattle.program_soundness.proofs.Walked.{declares, one_of, own_profile, scope_next, stands_next}
+use Rattle.program_soundness.proofs.WiderScopes.{number_stands, stands}
+use Rattle.program_soundness.proofs.Whole.{IsPackage, kept}
 use Rattle.expr_code.specs.declared.visible.Visible.{Visible}
 use Rattle.stmt_code.specs.Refusing.{behind_locals, handlers_needs, in_body, run_needs, sequence_needs, stmts_needs}
 use Rattle.part_code.specs.Needs.{formals_frame, locals_needs, out_needs, outs_needs}

@@ -16,7 +16,7 @@ use Rattle.type_rules.specs.SubtypeNames.{subtype_of}
 use Rattle.declaring.specs.LocalRules.{locals_scope}
 use Rattle.size_rules.specs.Laws.{WordsAddUp}
 use Rattle.size_rules.specs.BodySizes.{alternatives_things, elsifs_things, handlers_things, local_things, locals_things, stmt_things, stmts_things}
-use Rattle.sound_programs.proofs.WiderScopes.{stands_number}
+use Rattle.program_soundness.proofs.WiderScopes.{stands_number}
 use Rattle.expr_code.specs.Refusing.{is_fit}
 use Rattle.expr_code.specs.Seeing.{profile_named}
 use Rattle.expr_code.specs.declared.visible.Visible.{Visible}

@@ -27,11 +27,11 @@ use Rattle.size_rules.specs.BodySizes as size
 use Rattle.size_rules.specs.BodySizes.{formals_things, local_things, locals_things}
 use Rattle.size_rules.specs.Laws.{WordsAddUp, counted_words}
 use Rattle.size_rules.specs.Limits.{Things}
-use Rattle.well_typed.specs.SoundScopes.{IsKnown}
-use Rattle.well_typed.proofs.Parts.{shape_by_form}
-use Rattle.well_typed.proofs.Positions.{entity_added}
-use Rattle.sound_programs.proofs.Listing.{same_some}
-use Rattle.sound_programs.proofs.WiderScopes.{form_with, stands, stands_with}
+use Rattle.expr_soundness.specs.SoundScopes.{IsKnown}
+use Rattle.expr_soundness.proofs.Parts.{shape_by_form}
+use Rattle.expr_soundness.proofs.Positions.{entity_added}
+use Rattle.program_soundness.proofs.Listing.{same_some}
+use Rattle.program_soundness.proofs.WiderScopes.{form_with, stands, stands_with}
 use Rattle.expr_code.specs.Refusing.{is_fit}
 use Rattle.part_code.specs.Needs.{are_unfit, is_unfit}
 use Rattle.package_code.proofs.InFront.{known_inside}

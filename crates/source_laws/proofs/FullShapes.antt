@@ -11,9 +11,9 @@ use Rattle.types.specs.Entities.{Arrays, Booleans, Integers, OfType, Records, Sp
 use Rattle.types.specs.Scopes.{Scope, base_range_of, entity_at, form_at}
 use Rattle.types.specs.Shapes.{Grouped, Logical, MoreShapes, NoShapes, Ranged, Repeated, Shape, Shapeless, Shapes, Timed, component_shapes, form_shape, narrowed, shape_of, shape_or_none, shapes, words, words_of_parts}
 use Rattle.expr_rules.proofs.TypeShapes.{type_entity}
-use Rattle.well_typed.specs.SoundScopes.{AreEarlier, IsKnown, SoundScope}
-use Rattle.well_typed.proofs.Goods.{sound_form}
-use Rattle.well_typed.proofs.Parts.{before, shape_by_form}
+use Rattle.expr_soundness.specs.SoundScopes.{AreEarlier, IsKnown, SoundScope}
+use Rattle.expr_soundness.proofs.Goods.{sound_form}
+use Rattle.expr_soundness.proofs.Parts.{before, shape_by_form}
 use Rattle.expr_code.specs.Refusing.{are_fit, is_fit}
 use Rattle.expr_code.proofs.Going.{grouped_shape, repeated_shape}
 use Rattle.source_laws.specs.Depths.{are_full, is_full}

@@ -14,7 +14,7 @@ use Rattle.declaring.specs.LocalRules.{locals_faults, locals_scope}
 use Rattle.stmt_rules.specs.declared.around.BodyKind.{BodyKind}
 use Rattle.stmt_rules.specs.StatementRules.{in_body, more_handlers_faults, stmts_faults}
 use Rattle.legality.specs.BodyRules.{body_faults}
-use Rattle.well_typed.proofs.Expressions.{not_false}
+use Rattle.expr_soundness.proofs.Expressions.{not_false}
 use Rattle.expr_code.specs.Refusing.{is_outside, is_passable}
 use Rattle.expr_code.specs.declared.visible.Visible.{Visible}
 use Rattle.expr_code.proofs.Widths.{fit_width}

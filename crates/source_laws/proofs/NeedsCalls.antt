@@ -33,9 +33,9 @@ use Rattle.expr_rules.specs.Faults.{rule}
 use Rattle.expr_rules.specs.Typing.{is_integers}
 use Rattle.expr_rules.proofs.TypedLaw.{back_empty, front_empty, same_number, unbroken}
 use Rattle.type_rules.specs.SubtypeNames.{entity_at_or_none}
-use Rattle.well_typed.specs.SoundScopes.{AreKnown}
-use Rattle.well_typed.proofs.Expressions.{not_false}
-use Rattle.sound_steps.specs.Fitting.{entity_named}
+use Rattle.expr_soundness.specs.SoundScopes.{AreKnown}
+use Rattle.expr_soundness.proofs.Expressions.{not_false}
+use Rattle.step_soundness.specs.Fitting.{entity_named}
 use Rattle.expr_code.specs.Emitting.{IsLegalExpression}
 use Rattle.expr_code.specs.Refusing.{is_fit}
 use Rattle.expr_code.specs.Seeing.{NamesProfile, profile_named, slot_of, subprogram_of}

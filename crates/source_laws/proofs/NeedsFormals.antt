@@ -15,9 +15,9 @@ use Rattle.types.specs.Scopes.{Named, Scope, is_visible, with_name}
 use Rattle.type_rules.specs.ObjectRules.{object_entity}
 use Rattle.type_rules.specs.SubtypeNames.{subtype_of}
 use Rattle.declaring.specs.BodyNames.{formal_role, formal_scope, formals_scope}
-use Rattle.well_typed.specs.SoundScopes.{IsKnown, IsSoundObject}
-use Rattle.well_typed.proofs.Growing.{object_named}
-use Rattle.well_typed.proofs.Widening.{subtype_known}
+use Rattle.expr_soundness.specs.SoundScopes.{IsKnown, IsSoundObject}
+use Rattle.expr_soundness.proofs.Growing.{object_named}
+use Rattle.expr_soundness.proofs.Widening.{subtype_known}
 use Rattle.expr_code.specs.declared.visible.Visible.{Visible}
 use Rattle.part_code.specs.Bounds.{formals_words, words_if_any, words_named}
 use Rattle.part_code.specs.Formals.{slot_for}

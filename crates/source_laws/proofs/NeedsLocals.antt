@@ -20,7 +20,7 @@ use Rattle.expr_rules.proofs.TypedLaw.{back_empty, front_empty}
 use Rattle.type_rules.specs.ObjectRules.{local_initial_faults, local_object_faults}
 use Rattle.type_rules.specs.SubtypeNames.{declared_twice, subtype_faults, subtype_of, wanted_by}
 use Rattle.declaring.specs.LocalRules.{local_faults, local_scope, locals_faults}
-use Rattle.well_typed.proofs.Widening.{subtype_known}
+use Rattle.expr_soundness.proofs.Widening.{subtype_known}
 use Rattle.expr_code.specs.Refusing.{is_fit, peak}
 use Rattle.expr_code.specs.declared.visible.Visible.{Visible}
 use Rattle.part_code.specs.Bounds.{local_words, locals_words, words_if_any}

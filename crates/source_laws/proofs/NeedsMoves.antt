@@ -21,9 +21,9 @@ use Rattle.expr_rules.specs.NameRules.{component_rule, is_doubtful, part_rule, v
 use Rattle.expr_rules.specs.Typing.{boolean_wanted, is_booleans, is_integers, own_of_standing, typed_wanted}
 use Rattle.expr_rules.proofs.TypedLaw.{back_empty, front_empty, unbroken}
 use Rattle.stmt_rules.specs.SimpleRules.{assigned_wanted, assignment_faults}
-use Rattle.well_typed.specs.SoundScopes.{SoundScope}
-use Rattle.well_typed.proofs.Expressions.{not_false}
-use Rattle.well_typed.proofs.Goods.{part_unbroken}
+use Rattle.expr_soundness.specs.SoundScopes.{SoundScope}
+use Rattle.expr_soundness.proofs.Expressions.{not_false}
+use Rattle.expr_soundness.proofs.Goods.{part_unbroken}
 use Rattle.expr_code.specs.Emitting.{IsLegalExpression, is_composite}
 use Rattle.expr_code.specs.Refusing.{elsifs_outside, is_outside, selectors_outside}
 use Rattle.expr_code.specs.Seeing.{slot_of}

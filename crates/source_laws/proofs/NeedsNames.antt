@@ -24,10 +24,10 @@ use Rattle.expr_rules.specs.NameRules.{value_rule}
 use Rattle.expr_rules.specs.Typing.{is_integers, own_of_standing}
 use Rattle.expr_rules.specs.declared.own.Own.TheVariants.{Typed}
 use Rattle.expr_rules.proofs.TypedLaw.{front_empty, same_number, unbroken}
-use Rattle.well_typed.specs.SoundScopes.{IsSoundConstant, SoundScope}
-use Rattle.well_typed.proofs.Expressions.{not_false}
-use Rattle.well_typed.proofs.Goods.{no_constant_parts, no_integer_parts, part_unbroken}
-use Rattle.well_typed.proofs.Positions.{IsNamed, named}
+use Rattle.expr_soundness.specs.SoundScopes.{IsSoundConstant, SoundScope}
+use Rattle.expr_soundness.proofs.Expressions.{not_false}
+use Rattle.expr_soundness.proofs.Goods.{no_constant_parts, no_integer_parts, part_unbroken}
+use Rattle.expr_soundness.proofs.Positions.{IsNamed, named}
 use Rattle.expr_code.specs.Emitting.{IsLegalExpression}
 use Rattle.expr_code.specs.Entries.{entry_at}
 use Rattle.expr_code.specs.Refusing.{are_passable, is_callable, is_called, is_made, is_outside, selectors_outside}

@@ -27,11 +27,11 @@ use Rattle.expr_rules.proofs.TypedLaw.{back_empty, front_empty}
 use Rattle.type_rules.specs.ObjectRules.{local_object_scope, object_entity, role_of}
 use Rattle.type_rules.specs.SubtypeNames.{declared_twice, entity_at_or_none, subtype_in, subtype_of}
 use Rattle.declaring.specs.BodyNames.{bounds_type, if_integers, last_rule, loop_faults, loop_scope, loop_type, parameter_entity}
-use Rattle.well_typed.specs.SoundScopes.{AreKnown, IsKnown, IsSoundObject, IsSoundProfile, SoundScope}
-use Rattle.well_typed.proofs.Goods.{not_empty, object_known}
-use Rattle.well_typed.proofs.Growing.{form_before, grown, object_named, sound_with_object, test_kept}
-use Rattle.well_typed.proofs.Positions.{entity_added, entity_kept, item_added, number_added, number_kept}
-use Rattle.well_typed.proofs.Widening.{subtype_known}
+use Rattle.expr_soundness.specs.SoundScopes.{AreKnown, IsKnown, IsSoundObject, IsSoundProfile, SoundScope}
+use Rattle.expr_soundness.proofs.Goods.{not_empty, object_known}
+use Rattle.expr_soundness.proofs.Growing.{form_before, grown, object_named, sound_with_object, test_kept}
+use Rattle.expr_soundness.proofs.Positions.{entity_added, entity_kept, item_added, number_added, number_kept}
+use Rattle.expr_soundness.proofs.Widening.{subtype_known}
 use Rattle.expr_code.specs.Seeing.{NamesProfile, profile_named, subprogram_profile}
 use Rattle.expr_code.proofs.Widths.{fits, integral_one, known, words_by_type}
 use Rattle.expr_code.specs.declared.visible.Slot.{Slot}

@@ -9,8 +9,8 @@ use Rattle.types.specs.Entities.{Entity, Object}
 use Rattle.types.specs.Layouts.{words_of}
 use Rattle.types.specs.Scopes.{Scope, base_range_of, entity_at, form_at}
 use Rattle.types.specs.Shapes.{shape_of, shape_or_none, shapes}
-use Rattle.well_typed.specs.SoundScopes.{IsKnown}
-use Rattle.well_typed.proofs.Goods.{not_empty, object_known}
+use Rattle.expr_soundness.specs.SoundScopes.{IsKnown}
+use Rattle.expr_soundness.proofs.Goods.{not_empty, object_known}
 use Rattle.expr_code.specs.Refusing.{is_fit}
 use Rattle.expr_code.specs.declared.visible.Visible.{Visible}
 use Rattle.part_code.specs.Needs.{are_unfit, has_unfit, is_unfit}

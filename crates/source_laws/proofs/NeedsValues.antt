@@ -18,7 +18,7 @@ use Rattle.expr_rules.specs.Typing.{is_boolean, is_integral, own_of}
 use Rattle.expr_rules.proofs.TypedLaw.{back_empty, front_empty, same_number, unbroken}
 use Rattle.stmt_rules.specs.CaseRules.{discrete_rule, is_discrete, selecting_faults}
 use Rattle.stmt_rules.specs.SimpleRules.{condition_faults}
-use Rattle.well_typed.proofs.Expressions.{not_false}
+use Rattle.expr_soundness.proofs.Expressions.{not_false}
 use Rattle.expr_code.specs.Emitting.{IsLegalExpression}
 use Rattle.expr_code.specs.Refusing.{peak}
 use Rattle.expr_code.specs.Widths.{own_words, width_of}

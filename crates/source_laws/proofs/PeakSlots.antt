@@ -28,10 +28,10 @@ use Rattle.expr_rules.specs.NameRules.{call_slot, conversion_slot, count_rule, f
 use Rattle.expr_rules.specs.ExpressionRules.{argument_faults, arguments_faults, faults_in, name_faults, selector_faults, selectors_faults}
 use Rattle.expr_rules.specs.Typing.{is_booleans, is_integers, is_spans, is_times, own_of}
 use Rattle.expr_rules.proofs.TypedLaw.{back_empty, front_empty, same_number, span_numeric, time_numeric, unbroken}
-use Rattle.well_typed.specs.SoundScopes.{AreIn, IsSoundResult, SoundScope}
-use Rattle.well_typed.proofs.Expressions.{not_false}
-use Rattle.well_typed.proofs.Goods.{Good, GoodCallee, good_first, good_select, no_constant_parts, part_unbroken, sound_form}
-use Rattle.well_typed.proofs.Positions.{named}
+use Rattle.expr_soundness.specs.SoundScopes.{AreIn, IsSoundResult, SoundScope}
+use Rattle.expr_soundness.proofs.Expressions.{not_false}
+use Rattle.expr_soundness.proofs.Goods.{Good, GoodCallee, good_first, good_select, no_constant_parts, part_unbroken, sound_form}
+use Rattle.expr_soundness.proofs.Positions.{named}
 use Rattle.expr_code.specs.Emitting.{IsLegalExpression}
 use Rattle.expr_code.specs.Refusing.{words_below}
 use Rattle.expr_code.specs.Widths.{own_words, width_of}

@@ -21,7 +21,7 @@ use Rattle.expr_rules.specs.NameRules.{mismatch, slot_at}
 use Rattle.expr_rules.specs.ExpressionRules.{argument_faults, arguments_faults, below, conditional_wanted, elsif_faults, faults_in, faults_of}
 use Rattle.expr_rules.specs.Typing.{boolean_wanted, own_of}
 use Rattle.expr_rules.proofs.TypedLaw.{back_empty, front_empty}
-use Rattle.well_typed.specs.SoundScopes.{SoundScope}
+use Rattle.expr_soundness.specs.SoundScopes.{SoundScope}
 use Rattle.expr_code.specs.Branches.{Branch, in_front}
 use Rattle.expr_code.specs.Emitting.{IsLegalExpression}
 use Rattle.expr_code.specs.OperatorCode.{binary_operation}

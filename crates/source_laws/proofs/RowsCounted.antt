@@ -4,7 +4,7 @@ use Rattle.ada_tree.specs.declared.expression.Identifier.{Identifier}
 use Rattle.ada_tree.specs.StatementTree.{AlternativeTrees, Block, Case, ElsifTrees, HandlerTrees, If, Loop, MoreAlternatives, MoreElsifs, MoreHandlers, MoreStmts, NoAlternatives, NoElsifs, NoHandlers, NoStmts, StmtTree, StmtTrees, SubprogramTree}
 use Rattle.ada_tree.specs.ProgramTree.{BodyItemTree, BodyTree, ItemTree, OfItem, PackageTree, ProgramTree, SubprogramBody}
 use Rattle.ada_tree.specs.Size.{alternatives_size, body_item_size, body_size, elsifs_size, handlers_size, item_size, package_size, size, size_if_any, stmt_size, stmts_size, total}
-use Rattle.sound_programs.specs.Fronts.{declared_in}
+use Rattle.program_soundness.specs.Fronts.{declared_in}
 use Rattle.part_code.specs.Rows.{alternatives_rows, body_rows, elsifs_rows, handlers_rows, stmt_rows, stmts_rows}
 use Rattle.package_code.specs.Refusing.{item_rows, items_rows, program_rows}
 

@@ -25,12 +25,12 @@ use Rattle.legality.specs.BodyRules.{body_name_faults, function_body_faults, kin
 use Rattle.checking.specs.ProgramRules.{IsLegal}
 use Rattle.ravenscar.specs.ProgramRules.{IsRestricted}
 use Rattle.meaning.specs.Programs.{program_of, returned, subtype_named}
-use Rattle.well_typed.specs.Laws.{ScopesAreSound}
-use Rattle.sound_programs.specs.BodyLaws.{NamesAreKnown, PremisesHold}
-use Rattle.sound_programs.specs.Fronts.{declared_in, front, start_in}
-use Rattle.sound_programs.proofs.Called.{head_legal}
-use Rattle.sound_programs.proofs.Listing.{same_some}
-use Rattle.sound_programs.proofs.Trees.{tree_package}
+use Rattle.expr_soundness.specs.Laws.{ScopesAreSound}
+use Rattle.program_soundness.specs.BodyLaws.{NamesAreKnown, PremisesHold}
+use Rattle.program_soundness.specs.Fronts.{declared_in, front, start_in}
+use Rattle.program_soundness.proofs.Called.{head_legal}
+use Rattle.program_soundness.proofs.Listing.{same_some}
+use Rattle.program_soundness.proofs.Trees.{tree_package}
 use Rattle.expr_code.specs.declared.refusal.Refusal.TheVariants as refusal
 use Rattle.part_code.specs.Bounds.{body_words, formals_words}
 use Rattle.part_code.specs.Needs.{Needs, beyond_if, both}

@@ -10,7 +10,7 @@ use Rattle.ada_tree.specs.ProgramTree.{BodyItemTree, BodyTree, ItemTree, OfExcep
 use Rattle.ada_tree.specs.Language.{Limit, each, optional}
 use Rattle.ada_tree.specs.ProgramGrammar.{body, body_item, item, package_part, program}
 use Rattle.meaning.specs.Programs.{exceptions_among, items_among, package_items}
-use Rattle.sound_programs.specs.Fronts.{declared_in}
+use Rattle.program_soundness.specs.Fronts.{declared_in}
 use Rattle.stmt_code.specs.WholeRefusals.{body_labels}
 use Rattle.package_code.specs.Refusing.{is_spelled, item_labels, items_labels, program_labels}
 use Rattle.package_code.proofs.Variables.{exceptions_both}

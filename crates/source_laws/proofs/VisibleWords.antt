@@ -12,21 +12,21 @@ use Rattle.types.specs.Layouts.{total, words_of}
 use Rattle.types.specs.Scopes.{Scope, entity_at}
 use Rattle.types.specs.Shapes.{shape_of, words}
 use Rattle.expr_rules.proofs.TypedLaw.{back_empty}
-use Rattle.legality.specs.PackageBodyRules.{body_items_scope}
+use Rattle.declaring.specs.PackageNames.{body_items_scope}
 use Rattle.checking.specs.ProgramLayouts.{WordsHaveRoom, objects_words, total_of_all, variable_words, variables_words}
 use Rattle.checking.specs.ProgramRules.{IsLegal}
 use Rattle.ravenscar.specs.ProgramRules.{IsRestricted}
 use Rattle.size_rules.specs.ProgramSizes.{size_faults}
-use Rattle.well_typed.specs.SoundScopes.{IsKnown, SoundScope}
-use Rattle.well_typed.proofs.Goods.{object_known}
-use Rattle.well_typed.proofs.Positions.{entity_kept}
+use Rattle.expr_soundness.specs.SoundScopes.{IsKnown, SoundScope}
+use Rattle.expr_soundness.proofs.Goods.{object_known}
+use Rattle.expr_soundness.proofs.Positions.{entity_kept}
 use Rattle.meaning.specs.Programs.{program_of}
-use Rattle.sound_programs.specs.BodyLaws.{NamesAreKnown, PremisesHold}
-use Rattle.sound_programs.specs.Fronts.{declared_in, front, start_in}
-use Rattle.sound_programs.proofs.Listing.{same_some}
-use Rattle.sound_programs.proofs.Trees.{tree_package}
-use Rattle.sound_programs.proofs.Walked.{scope_behind}
-use Rattle.sound_programs.proofs.Whole.{IsPackage}
+use Rattle.program_soundness.specs.BodyLaws.{NamesAreKnown, PremisesHold}
+use Rattle.program_soundness.specs.Fronts.{declared_in, front, start_in}
+use Rattle.program_soundness.proofs.Listing.{same_some}
+use Rattle.program_soundness.proofs.Trees.{tree_package}
+use Rattle.program_soundness.proofs.Walked.{scope_behind}
+use Rattle.program_soundness.proofs.Whole.{IsPackage}
 use Rattle.package_code.proofs.InFront.{known_inside}
 use Rattle.package_code.proofs.Seen.{all_behind}
 use Rattle.source_laws.specs.Visible.{FrontsKeepLimits, KeepsLimits}

@@ -6,7 +6,7 @@ use Rattle.std.proofs.lemmas.List.Folds.{list_all-append}
 use Rattle.ada_tree.specs.ProgramTree.{BodyItemTree, DefinitionTree, ItemTree, OfItem, OfType, PackageTree, ProgramTree, Record}
 use Rattle.ada_tree.specs.Language.{Limit, Tokens, each, optional}
 use Rattle.ada_tree.specs.ProgramGrammar.{body_item, item, package_part, program, type_declaration}
-use Rattle.sound_programs.specs.Fronts.{declared_in}
+use Rattle.program_soundness.specs.Fronts.{declared_in}
 
 abbrev pub has_components : DefinitionTree → Bool
 has_components (Record []) = false

@@ -24,7 +24,7 @@ use Rattle.expr_rules.specs.Laws.{type_shape}
 use Rattle.declaring.specs.BodyNames.{formals_scope}
 use Rattle.stmt_rules.specs.declared.around.BodyKind.{BodyKind}
 use Rattle.legality.specs.BodyRules.{body_faults}
-use Rattle.well_typed.specs.SoundScopes.{SoundScope}
+use Rattle.expr_soundness.specs.SoundScopes.{SoundScope}
 use Rattle.expr_code.specs.Emitting.{IsLegalExpression}
 use Rattle.expr_code.specs.Refusing.{peak}
 use Rattle.expr_code.specs.Seeing.{profile_named}

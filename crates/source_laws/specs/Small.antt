@@ -11,7 +11,7 @@ use Rattle.types.specs.Scopes.{Scope}
 use Rattle.declaring.specs.BodyNames.{formals_scope}
 use Rattle.checking.specs.ProgramRules.{IsLegal}
 use Rattle.ravenscar.specs.ProgramRules.{IsRestricted}
-use Rattle.sound_programs.specs.Fronts.{declared_in, front}
+use Rattle.program_soundness.specs.Fronts.{declared_in, front}
 use Rattle.part_code.specs.Bounds.{body_words, formals_words}
 use Rattle.package_code.specs.Refusing.{program_bound, program_rows}
 

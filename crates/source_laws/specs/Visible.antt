@@ -13,8 +13,8 @@ use Rattle.types.specs.Scopes.{Scope, entity_at}
 use Rattle.types.specs.Shapes.{shape_of}
 use Rattle.checking.specs.ProgramRules.{IsLegal}
 use Rattle.ravenscar.specs.ProgramRules.{IsRestricted}
-use Rattle.well_typed.specs.SoundScopes.{IsKnown}
-use Rattle.sound_programs.specs.Fronts.{front}
+use Rattle.expr_soundness.specs.SoundScopes.{IsKnown}
+use Rattle.program_soundness.specs.Fronts.{front}
 use Rattle.expr_code.specs.Refusing.{is_fit}
 use Rattle.package_code.specs.Refusing.{program_needs}
 use Rattle.source_laws.specs.Depths.{FewFormals, IsSmallScope, is_full}

@@ -9,9 +9,9 @@ use ada_link::laws::tables_are_small;
 use ada_tree::laws::size_within_tokens;
 use checking::laws::words_have_room;
 use size_rules::laws::words_add_up;
-use sound_programs::body_laws::{names_are_known, premises_hold};
+use program_soundness::body_laws::{names_are_known, premises_hold};
 use types::laws::shapes_stay;
-use well_typed::laws::scopes_are_sound;
+use expr_soundness::laws::scopes_are_sound;
 
 /// The names and labels in the tree of a text are spelled as such (docs/LANGUAGE.md, "Lexical elements").
 pub fn texts_are_spelled()

@@ -19,8 +19,8 @@ use Rattle.types.specs.Layouts.{words_of}
 use Rattle.types.specs.Places.{Place}
 use Rattle.types.specs.Scopes.{form_at}
 use Rattle.types.specs.Shapes.{Shape, shape_of}
-use Rattle.well_typed.specs.Laws.{AgreementIsKept, CallsAreTyped}
-use Rattle.well_typed.specs.SoundScopes.{IsKnown}
+use Rattle.expr_soundness.specs.Laws.{AgreementIsKept, CallsAreTyped}
+use Rattle.expr_soundness.specs.SoundScopes.{IsKnown}
 use Rattle.meaning.specs.Programs.{Program}
 use Rattle.meaning.specs.Targets.{activation_with, store_with}
 use Rattle.meaning.specs.Works.{Activation, Store, Target}

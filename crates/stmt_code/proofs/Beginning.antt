@@ -12,11 +12,11 @@ use Rattle.types.specs.Layouts.{words_of}
 use Rattle.types.specs.Places.{Object}
 use Rattle.types.specs.Shapes.{has_shape, shape_of, value_words}
 use Rattle.types.specs.Values.{Value}
-use Rattle.well_typed.specs.Laws.{AgreementIsKept}
+use Rattle.expr_soundness.specs.Laws.{AgreementIsKept}
 use Rattle.meaning.specs.Calls.{is_in, is_out, results, with_first}
 use Rattle.meaning.specs.Programs.{Parameter, Program}
-use Rattle.sound_steps.specs.Fitting.{taken_types}
-use Rattle.sound_steps.specs.Objects.{AreOf, IsOf}
+use Rattle.step_soundness.specs.Fitting.{taken_types}
+use Rattle.step_soundness.specs.Objects.{AreOf, IsOf}
 use Rattle.expr_code.specs.Naming.{Lies}
 use Rattle.expr_code.specs.Seeing.{Package}
 use Rattle.expr_code.specs.declared.visible.Slot.{Slot}

@@ -8,11 +8,11 @@ use Rattle.types.specs.Laws.{ValuesHaveWords}
 use Rattle.types.specs.Layouts.{words_of}
 use Rattle.types.specs.Places.{Object, object_of, or_else}
 use Rattle.types.specs.Values.{Value}
-use Rattle.well_typed.specs.Laws.{AgreementIsKept}
+use Rattle.expr_soundness.specs.Laws.{AgreementIsKept}
 use Rattle.meaning.specs.Calls.{activation_of, bound, is_in, is_out, results, with_first}
 use Rattle.meaning.specs.Programs.{Parameter, Procedure, Program}
-use Rattle.sound_steps.specs.Fitting.{taken_types}
-use Rattle.sound_steps.specs.Objects.{AreOf}
+use Rattle.step_soundness.specs.Fitting.{taken_types}
+use Rattle.step_soundness.specs.Objects.{AreOf}
 use Rattle.expr_code.specs.Seeing.{Package}
 use Rattle.part_code.specs.Copying.{held_at, passed_words}
 use Rattle.part_code.specs.Layout.{IsLaidPackage}

@@ -29,12 +29,12 @@ use Rattle.expr_rules.proofs.TypedLaw.{back_empty, front_empty, judged, unbroken
 use Rattle.type_rules.specs.SubtypeNames.{declared_twice}
 use Rattle.declaring.specs.BodyNames.{bounds_type, if_integers, last_rule, loop_faults, loop_scope, loop_type, parameter_entity}
 use Rattle.stmt_rules.specs.StatementRules.{in_loop, stmts_faults}
-use Rattle.well_typed.specs.Agreeing.{Agrees}
-use Rattle.well_typed.specs.Laws.{AgreementIsKept, ScopesAreSound}
-use Rattle.well_typed.specs.SoundScopes.{SoundScope}
+use Rattle.expr_soundness.specs.Agreeing.{Agrees}
+use Rattle.expr_soundness.specs.Laws.{AgreementIsKept, ScopesAreSound}
+use Rattle.expr_soundness.specs.SoundScopes.{SoundScope}
 use Rattle.meaning.specs.Calls.{procedure_here}
 use Rattle.meaning.specs.Programs.{Procedure, Program}
-use Rattle.sound_steps.specs.Fitting.{IsFound, entity_named}
+use Rattle.step_soundness.specs.Fitting.{IsFound, entity_named}
 use Rattle.expr_code.specs.Emitting as expressions
 use Rattle.expr_code.specs.Seeing.{Package, subprogram_of}
 use Rattle.expr_code.specs.Widths.{width_of}

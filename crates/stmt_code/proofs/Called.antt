@@ -14,10 +14,10 @@ use Rattle.types.specs.Scopes.{Scope}
 use Rattle.type_rules.specs.ProfileRules.{formal_and, formal_parameters}
 use Rattle.type_rules.specs.SubtypeNames.{subtype_of}
 use Rattle.declaring.specs.Laws.{NamesAreAdded}
-use Rattle.well_typed.specs.Agreeing.{parameter_subtype}
-use Rattle.well_typed.specs.SoundScopes.{AreIn, IsKnown, SoundScope}
-use Rattle.well_typed.proofs.Positions.{same_some}
-use Rattle.well_typed.proofs.Widening.{subtype_known}
+use Rattle.expr_soundness.specs.Agreeing.{parameter_subtype}
+use Rattle.expr_soundness.specs.SoundScopes.{AreIn, IsKnown, SoundScope}
+use Rattle.expr_soundness.proofs.Positions.{same_some}
+use Rattle.expr_soundness.proofs.Widening.{subtype_known}
 use Rattle.expr_code.specs.declared.visible.Visible.{Visible}
 use Rattle.part_code.specs.Emitting.{HasEntries}
 use Rattle.part_code.specs.Formals.{StandInTurn, StandsAt, passed_for, returned_more, words_returned}

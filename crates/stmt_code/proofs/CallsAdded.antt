@@ -26,9 +26,9 @@ use Rattle.expr_rules.proofs.TypedLaw.{back_empty, front_empty}
 use Rattle.type_rules.specs.SubtypeNames.{entity_at_or_none}
 use Rattle.meaning.specs.Calls.{Callee, callee_by, callee_with, procedure_here}
 use Rattle.meaning.specs.Programs.{Parameter, Program}
-use Rattle.sound_steps.specs.Fitting as fitting
-use Rattle.sound_steps.specs.Fitting.{IsProcedure, entity_named}
-use Rattle.sound_steps.proofs.Naming.{HasArguments, IsCall, called_with}
+use Rattle.step_soundness.specs.Fitting as fitting
+use Rattle.step_soundness.specs.Fitting.{IsProcedure, entity_named}
+use Rattle.step_soundness.proofs.Naming.{HasArguments, IsCall, called_with}
 use Rattle.expr_code.specs.Actuals.{ArePassedLegally, arguments_in_front}
 use Rattle.expr_code.specs.Code.{Adds, Extends, Holds, here}
 use Rattle.expr_code.specs.Flows.{Flows}

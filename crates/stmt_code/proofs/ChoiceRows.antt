@@ -16,7 +16,7 @@ use Rattle.image.specs.Texts.{text_or_none}
 use Rattle.meaning.specs.Programs.{Program, exception_name, exception_number}
 use Rattle.meaning.specs.SourceSteps as source
 use Rattle.meaning.specs.SourceSteps.{some_covers}
-use Rattle.sound_steps.specs.Objects.{IsException}
+use Rattle.step_soundness.specs.Objects.{IsException}
 use Rattle.part_code.specs.ChoiceRows.{choice_rows, row_for}
 use Rattle.stmt_code.specs.Covering.{first_for}
 use Rattle.part_code.specs.Handling.{CoverJust, or_answer}

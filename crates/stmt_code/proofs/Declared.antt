@@ -28,15 +28,15 @@ use Rattle.expr_rules.proofs.TypedLaw.{back_empty, front_empty, unbroken}
 use Rattle.type_rules.specs.ObjectRules.{local_initial_faults, local_object_faults, local_object_scope, object_entity, role_of}
 use Rattle.type_rules.specs.SubtypeNames.{declared_twice, subtype_faults, subtype_of, wanted_by}
 use Rattle.declaring.specs.LocalRules.{local_faults, local_scope, locals_faults, locals_scope}
-use Rattle.well_typed.specs.Agreeing.{Agrees}
-use Rattle.well_typed.specs.Laws.{AgreementIsKept, CallsAreTyped, ScopesAreSound}
-use Rattle.well_typed.specs.SoundScopes.{IsKnown, IsSoundObject, SoundScope}
-use Rattle.well_typed.proofs.Positions.{same_some}
-use Rattle.well_typed.proofs.Widening.{subtype_known}
+use Rattle.expr_soundness.specs.Agreeing.{Agrees}
+use Rattle.expr_soundness.specs.Laws.{AgreementIsKept, CallsAreTyped, ScopesAreSound}
+use Rattle.expr_soundness.specs.SoundScopes.{IsKnown, IsSoundObject, SoundScope}
+use Rattle.expr_soundness.proofs.Positions.{same_some}
+use Rattle.expr_soundness.proofs.Widening.{subtype_known}
 use Rattle.meaning.specs.Calls.{procedure_here}
 use Rattle.meaning.specs.Programs.{Procedure, Program, subtype_named}
-use Rattle.sound_steps.specs.Fitting.{IsFound, entity_named}
-use Rattle.sound_steps.proofs.Elaborating.{declared_subtype}
+use Rattle.step_soundness.specs.Fitting.{IsFound, entity_named}
+use Rattle.step_soundness.proofs.Elaborating.{declared_subtype}
 use Rattle.expr_code.specs.Views.{At}
 use Rattle.expr_code.specs.Code.{Adds, Extends, Holds, here}
 use Rattle.expr_code.specs.Computing.{ComputesChecked}

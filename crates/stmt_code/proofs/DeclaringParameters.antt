@@ -11,8 +11,8 @@ use Rattle.types.specs.Laws.{InitialValuesHaveShape, ValuesHaveWords}
 use Rattle.types.specs.Layouts.{words_of}
 use Rattle.types.specs.Shapes.{initial, value_words}
 use Rattle.types.specs.Values.{Value}
-use Rattle.well_typed.specs.Laws.{AgreementIsKept}
-use Rattle.well_typed.specs.SoundScopes.{IsKnown}
+use Rattle.expr_soundness.specs.Laws.{AgreementIsKept}
+use Rattle.expr_soundness.specs.SoundScopes.{IsKnown}
 use Rattle.meaning.specs.Programs.{Parameter, Program}
 use Rattle.expr_code.specs.Coming.{on}
 use Rattle.expr_code.specs.Computing.{Everywhere}

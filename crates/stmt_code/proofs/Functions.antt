@@ -12,10 +12,10 @@ use Rattle.types.specs.Shapes.{has_shape, shape_of, value_words}
 use Rattle.types.specs.Values.{Value}
 use Rattle.types.specs.declared.entity.Subtype.{Subtype}
 use Rattle.expr_rules.specs.Laws.{type_shape}
-use Rattle.well_typed.specs.Laws.{AgreementIsKept}
-use Rattle.well_typed.proofs.Parts.{subtype_values}
+use Rattle.expr_soundness.specs.Laws.{AgreementIsKept}
+use Rattle.expr_soundness.proofs.Parts.{subtype_values}
 use Rattle.meaning.specs.Programs.{Parameter, Program}
-use Rattle.sound_steps.specs.Objects.{IsOf}
+use Rattle.step_soundness.specs.Objects.{IsOf}
 use Rattle.expr_code.specs.Coming.{all_words}
 use Rattle.expr_code.specs.Computing.{ArePassed}
 use Rattle.expr_code.specs.Naming.{Lies}

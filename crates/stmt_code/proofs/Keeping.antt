@@ -24,9 +24,9 @@ use Rattle.types.specs.Scopes.{Scope}
 use Rattle.type_rules.specs.SubtypeNames.{subtype_of}
 use Rattle.declaring.specs.BodyNames.{formals_scope}
 use Rattle.declaring.specs.Laws.{NamesAreAdded}
-use Rattle.well_typed.specs.SoundScopes.{IsKnown, SoundScope}
-use Rattle.well_typed.proofs.Positions.{same_some}
-use Rattle.well_typed.proofs.Widening.{subtype_known}
+use Rattle.expr_soundness.specs.SoundScopes.{IsKnown, SoundScope}
+use Rattle.expr_soundness.proofs.Positions.{same_some}
+use Rattle.expr_soundness.proofs.Widening.{subtype_known}
 use Rattle.expr_code.specs.Code.{Holds, StandsFrom, here}
 use Rattle.expr_code.specs.Flows.{AreKeptBetween}
 use Rattle.expr_code.specs.declared.visible.Slot.{Slot}

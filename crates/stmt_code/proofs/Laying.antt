@@ -10,9 +10,9 @@ use Rattle.types.specs.Laws.{ShapesStay}
 use Rattle.types.specs.Layouts.{words_of}
 use Rattle.types.specs.Scopes.{Named, Scope, entity_at, entity_of, form_of, is_visible, number_of, with_name}
 use Rattle.types.specs.Shapes.{words}
-use Rattle.well_typed.specs.SoundScopes.{IsKnown, IsSoundObject, SoundScope}
-use Rattle.well_typed.proofs.Goods.{object_known}
-use Rattle.well_typed.proofs.Positions.{entity_kept, entity_number, item_added, number_added, number_kept, same_some}
+use Rattle.expr_soundness.specs.SoundScopes.{IsKnown, IsSoundObject, SoundScope}
+use Rattle.expr_soundness.proofs.Goods.{object_known}
+use Rattle.expr_soundness.proofs.Positions.{entity_kept, entity_number, item_added, number_added, number_kept, same_some}
 use Rattle.expr_code.specs.Seeing.{Package, slot_of, told_of}
 use Rattle.expr_code.specs.declared.visible.Slot.{Slot}
 use Rattle.part_code.specs.Layout.{AreApart, EndsBelow, IsLaid, IsLaidOut, NamesObject, Widens, AreFree, IsFree, IsVariable, Spares}

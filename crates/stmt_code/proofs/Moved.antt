@@ -17,8 +17,8 @@ use Rattle.types.specs.Scopes.{form_at, number_of}
 use Rattle.types.specs.Shapes.{has_shape, shape_of}
 use Rattle.types.specs.Standings.{stands_first}
 use Rattle.types.specs.Values.{Value}
-use Rattle.well_typed.specs.Laws.{AgreementIsKept, CallsAreTyped, ExpressionsAreTyped}
-use Rattle.well_typed.specs.SoundScopes.{SoundScope}
+use Rattle.expr_soundness.specs.Laws.{AgreementIsKept, CallsAreTyped, ExpressionsAreTyped}
+use Rattle.expr_soundness.specs.SoundScopes.{SoundScope}
 use Rattle.meaning.specs.Programs.{Program}
 use Rattle.expr_code.specs.Code.{Holds, here}
 use Rattle.expr_code.specs.Emitting.{IsFit, is_composite}

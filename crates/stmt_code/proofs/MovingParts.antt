@@ -27,7 +27,7 @@ use Rattle.types.specs.Places.{IsObject, Meaning, Place}
 use Rattle.types.specs.Scopes.{form_at}
 use Rattle.types.specs.Shapes.{has_shape, shape_of, value_words}
 use Rattle.types.specs.Values.{Array, Number, Record, Truth, Value}
-use Rattle.well_typed.specs.Laws.{AgreementIsKept, CallsAreTyped}
+use Rattle.expr_soundness.specs.Laws.{AgreementIsKept, CallsAreTyped}
 use Rattle.meaning.specs.MeetingLaws.{spends_takes, takes_more}
 use Rattle.meaning.specs.Programs.{Program}
 use Rattle.meaning.specs.SameMeaning.{frames_of}

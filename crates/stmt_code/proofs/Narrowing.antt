@@ -7,8 +7,8 @@ use Rattle.types.specs.declared.entity.Subtype.{Subtype}
 use Rattle.types.specs.Entities as entity
 use Rattle.types.specs.Scopes.{Named}
 use Rattle.declaring.specs.Laws.{StandsFirst}
-use Rattle.well_typed.specs.Laws.{AgreementIsKept}
-use Rattle.well_typed.specs.SoundScopes.{SoundScope}
+use Rattle.expr_soundness.specs.Laws.{AgreementIsKept}
+use Rattle.expr_soundness.specs.SoundScopes.{SoundScope}
 use Rattle.expr_code.specs.Seeing.{Package, slot_of, subprogram_of, told_of}
 use Rattle.expr_code.specs.declared.visible.Slot.{Slot}
 use Rattle.part_code.specs.Layout.{Widens}

@@ -12,8 +12,8 @@ use Rattle.types.specs.Places.{IsObject, Place, is_among, meaning_of}
 use Rattle.types.specs.Scopes.{base_range_of, integer}
 use Rattle.types.specs.Shapes.{value_words}
 use Rattle.types.specs.Values.{Number, Value}
-use Rattle.well_typed.specs.Laws.{AgreementIsKept}
-use Rattle.well_typed.specs.SoundScopes.{SoundScope}
+use Rattle.expr_soundness.specs.Laws.{AgreementIsKept}
+use Rattle.expr_soundness.specs.SoundScopes.{SoundScope}
 use Rattle.meaning.specs.Works.{Activation}
 use Rattle.expr_code.specs.Naming.{Lies}
 use Rattle.expr_code.specs.Seeing.{Package, SeesPackage, slot_of}

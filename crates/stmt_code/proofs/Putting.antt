@@ -18,14 +18,14 @@ use Rattle.expr_rules.specs.ExpressionRules.{faults_of, name_faults, selectors_f
 use Rattle.type_rules.specs.SubtypeNames.{entity_at_or_none}
 use Rattle.meaning.specs.Calls.{callee_by, callee_with}
 use Rattle.meaning.specs.Programs.{Program}
-use Rattle.sound_steps.specs.Fitting.{entity_named}
-use Rattle.sound_steps.proofs.Naming.{put_called}
+use Rattle.step_soundness.specs.Fitting.{entity_named}
+use Rattle.step_soundness.proofs.Naming.{put_called}
 use Rattle.expr_code.specs.Code.{Adds, Holds, StandsFrom, here}
 use Rattle.expr_code.specs.Computing.{Computes}
 use Rattle.expr_code.specs.Emitting.{EmitsExpression}
 use Rattle.expr_code.specs.Seeing.{Package, Sees, library_of}
 use Rattle.expr_code.specs.Widths.{width_of}
-use Rattle.well_typed.specs.SoundScopes.{SoundScope}
+use Rattle.expr_soundness.specs.SoundScopes.{SoundScope}
 use Rattle.expr_code.proofs.Widths.{integers_fit_width}
 use Rattle.expr_code.specs.declared.code.Code.{Code}
 use Rattle.expr_code.specs.declared.visible.Visible.{Visible}

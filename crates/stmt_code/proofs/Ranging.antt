@@ -27,8 +27,8 @@ use Rattle.types.specs.Laws.{ValuesHaveWords}
 use Rattle.types.specs.Operators.{are_same}
 use Rattle.types.specs.Places.{Place}
 use Rattle.types.specs.Values.{Value}
-use Rattle.well_typed.specs.Laws.{AgreementIsKept}
-use Rattle.well_typed.specs.SoundScopes.{SoundScope}
+use Rattle.expr_soundness.specs.Laws.{AgreementIsKept}
+use Rattle.expr_soundness.specs.SoundScopes.{SoundScope}
 use Rattle.expr_code.specs.Coming.{Comes, most_steps, on}
 use Rattle.expr_code.specs.Computing.{Computes, Everywhere}
 use Rattle.expr_code.specs.Seeing.{library_of, Package, Sees}

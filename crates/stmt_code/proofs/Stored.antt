@@ -26,7 +26,7 @@ use Rattle.expr_rules.specs.NameRules.{is_changeable, mismatch, variable_rule}
 use Rattle.expr_rules.specs.Typing.{own_of_standing, typed_wanted}
 use Rattle.expr_rules.proofs.TypedLaw.{back_empty, front_empty, unbroken}
 use Rattle.stmt_rules.specs.SimpleRules.{assigned_wanted}
-use Rattle.well_typed.specs.Laws.{AgreementIsKept, CallsAreTyped}
+use Rattle.expr_soundness.specs.Laws.{AgreementIsKept, CallsAreTyped}
 use Rattle.meaning.specs.Programs.{Program}
 use Rattle.expr_code.specs.Views.{At}
 use Rattle.expr_code.specs.Code.{Adds, Holds, here}

@@ -22,9 +22,9 @@ use Rattle.expr_rules.specs.NameRules.{variable_rule}
 use Rattle.expr_rules.specs.declared.own.Wanted.TheVariants.{Anything}
 use Rattle.expr_rules.proofs.TypedLaw.{back_empty, front_empty}
 use Rattle.stmt_rules.specs.SimpleRules.{assigned_wanted}
-use Rattle.well_typed.specs.Laws.{AgreementIsKept, CallsAreTyped}
-use Rattle.well_typed.specs.SoundScopes.{IsKnown, SoundScope}
-use Rattle.well_typed.proofs.Goods.{object_known}
+use Rattle.expr_soundness.specs.Laws.{AgreementIsKept, CallsAreTyped}
+use Rattle.expr_soundness.specs.SoundScopes.{IsKnown, SoundScope}
+use Rattle.expr_soundness.proofs.Goods.{object_known}
 use Rattle.meaning.specs.Programs.{Program}
 use Rattle.expr_code.specs.Views.{At}
 use Rattle.expr_code.specs.Code.{Adds, Extends, Holds, here}

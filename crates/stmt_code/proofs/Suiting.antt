@@ -18,10 +18,10 @@ use Rattle.types.specs.Layouts.{words_of}
 use Rattle.types.specs.Scopes.{Named, Scope, entity_at, entity_of, is_visible, number_of, with_name}
 use Rattle.types.specs.Shapes.{words}
 use Rattle.type_rules.specs.SubtypeNames.{entity_at_or_none}
-use Rattle.well_typed.specs.Agreeing.{parameter_subtype}
-use Rattle.well_typed.specs.SoundScopes.{AreKnown, IsKnown, IsSoundResult, SoundScope}
-use Rattle.well_typed.proofs.Positions.{entity_kept, entity_number, first_place, item_added, number_added, number_kept, number_place, same_some, suc_of}
-use Rattle.sound_steps.specs.Fitting.{entity_named}
+use Rattle.expr_soundness.specs.Agreeing.{parameter_subtype}
+use Rattle.expr_soundness.specs.SoundScopes.{AreKnown, IsKnown, IsSoundResult, SoundScope}
+use Rattle.expr_soundness.proofs.Positions.{entity_kept, entity_number, first_place, item_added, number_added, number_kept, number_place, same_some, suc_of}
+use Rattle.step_soundness.specs.Fitting.{entity_named}
 use Rattle.expr_code.specs.Seeing.{IsCallable, NamesProfile, Suits, slot_of, subprogram_of, told_of}
 use Rattle.expr_code.specs.declared.visible.Slot.{Slot}
 use Rattle.expr_code.specs.declared.visible.Visible.{Visible}

@@ -12,7 +12,7 @@ use Rattle.image.specs.declared.instruction.Instr.{Instr}
 use Rattle.image.specs.declared.subprograms.Kind.{Kind}
 use Rattle.image.specs.declared.subprograms.Kind.TheVariants as kinds
 use Rattle.image.specs.declared.subprograms.Subprogram.{Subprogram}
-use Rattle.well_typed.proofs.Positions.{first_place, place_is}
+use Rattle.expr_soundness.proofs.Positions.{first_place, place_is}
 use Rattle.expr_code.specs.Code.{Holds, here}
 use Rattle.expr_code.specs.Flows.{AreKeptBetween, KeepsInstructionRules}
 use Rattle.expr_code.specs.declared.visible.Visible.{Visible}

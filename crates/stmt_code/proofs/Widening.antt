@@ -8,9 +8,9 @@ use Rattle.types.specs.Entities as entity
 use Rattle.types.specs.Entities.{Entity, TypeForm}
 use Rattle.types.specs.Scopes.{Named, Scope, entity_at, form_at, form_of, is_visible, with_name}
 use Rattle.expr_rules.specs.Typing.{is_integers}
-use Rattle.well_typed.specs.Laws.{ScopesAreSound}
-use Rattle.well_typed.specs.SoundScopes.{IsSoundObject, SoundScope}
-use Rattle.well_typed.proofs.Positions.{entity_kept}
+use Rattle.expr_soundness.specs.Laws.{ScopesAreSound}
+use Rattle.expr_soundness.specs.SoundScopes.{IsSoundObject, SoundScope}
+use Rattle.expr_soundness.proofs.Positions.{entity_kept}
 use Rattle.expr_code.specs.declared.visible.Slot.{Slot}
 use Rattle.part_code.specs.Layout.{Widens}
 use Rattle.part_code.specs.Resting.{Framed}

@@ -18,8 +18,8 @@ use Rattle.types.specs.Entities.{Profile}
 use Rattle.types.specs.Layouts.{words_of}
 use Rattle.types.specs.Scopes.{Scope}
 use Rattle.type_rules.specs.ProfileRules.{formal_parameters}
-use Rattle.well_typed.specs.Agreeing.{parameter_subtype}
-use Rattle.well_typed.specs.SoundScopes.{AreIn, IsKnown}
+use Rattle.expr_soundness.specs.Agreeing.{parameter_subtype}
+use Rattle.expr_soundness.specs.SoundScopes.{AreIn, IsKnown}
 use Rattle.expr_code.specs.Code.{Adds, Extends, Holds, StandsFrom, here}
 use Rattle.expr_code.specs.Emitting.{EmitsChecked}
 use Rattle.expr_code.specs.Flows.{AreKeptBetween}

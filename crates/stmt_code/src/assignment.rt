@@ -15,7 +15,7 @@ ghost use Rattle.part_code.specs.Emitting.{store_operation, stored_at};
 ghost use Rattle.part_code.specs.Needs.{assignment_needs, stored_needs};
 ghost use Rattle.stmt_code.specs.Refusing.{Refuses};
 ghost use Rattle.part_code.specs.Statements.{Ways};
-ghost use Rattle.well_typed.specs.SoundScopes.{SoundScope};
+ghost use Rattle.expr_soundness.specs.SoundScopes.{SoundScope};
 
 use crate::draft::Draft;
 use ada_tree::{Expr, NameExpr};
@@ -24,7 +24,7 @@ use kernel::laws::quiet_stays;
 use part_code::{holds_variables, is_composite, names_composite, store_operation, stored_at};
 use types::laws::values_have_words;
 use types::{Standing, Subtype};
-use well_typed::laws::{agreement_is_kept, calls_are_typed};
+use expr_soundness::laws::{agreement_is_kept, calls_are_typed};
 
 impl Draft {
     /// Adds the code of an assignment.

@@ -5,7 +5,7 @@ ghost use Rattle.stmt_code.specs.Staying.{StaysRun};
 ghost use Rattle.part_code.specs.Emitting.{HasEntries};
 ghost use Rattle.stmt_code.specs.Emitting.{EmitsRun, IsLegalRun};
 ghost use Rattle.stmt_code.specs.Refusing.{RefusesRun};
-ghost use Rattle.well_typed.specs.SoundScopes.{SoundScope};
+ghost use Rattle.expr_soundness.specs.SoundScopes.{SoundScope};
 
 use crate::draft::Draft;
 use ada_tree::{Declaration, Handler, Stmt};

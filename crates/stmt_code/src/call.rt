@@ -11,7 +11,7 @@ ghost use Rattle.part_code.specs.Needs.{call_needs, invoked_needs};
 ghost use Rattle.stmt_code.specs.Refusing.{Refuses};
 ghost use Rattle.part_code.specs.Statements.{Ways};
 ghost use Rattle.types.specs.Entities.{profile_value};
-ghost use Rattle.well_typed.specs.SoundScopes.{SoundScope};
+ghost use Rattle.expr_soundness.specs.SoundScopes.{SoundScope};
 
 use crate::draft::Draft;
 use ada_tree::NameExpr;

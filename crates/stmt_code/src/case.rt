@@ -9,7 +9,7 @@ ghost use Rattle.stmt_code.specs.Emitting.{AreLegalStatements, EmitsStatement, I
 ghost use Rattle.part_code.specs.Emitting.{HasEntries, ways_of};
 ghost use Rattle.stmt_code.specs.Refusing.{RefusesAlternatives, RefusesStatement};
 ghost use Rattle.stmt_rules.specs.CaseRules.{selecting_faults};
-ghost use Rattle.well_typed.specs.SoundScopes.{SoundScope};
+ghost use Rattle.expr_soundness.specs.SoundScopes.{SoundScope};
 
 use crate::draft::Draft;
 use ada_tree::{Alternative, Expr};
@@ -18,7 +18,7 @@ use image::Operation;
 use kernel::laws::quiet_stays;
 use part_code::{Leaving, add_choices};
 use types::laws::static_is_value;
-use well_typed::laws::calls_are_typed;
+use expr_soundness::laws::calls_are_typed;
 
 impl Draft {
     /// Adds the code of a case statement: its value, its alternatives one behind another, and what drops a value that is left, which legal choices never leave.

@@ -9,7 +9,7 @@ ghost use Rattle.part_code.specs.Emitting.{HasEntries};
 ghost use Rattle.part_code.specs.Bounds.{local_words, locals_words};
 ghost use Rattle.part_code.specs.Needs.{local_visible, locals_visible};
 ghost use Rattle.stmt_code.specs.Refusing.{RefusesDeclarations};
-ghost use Rattle.well_typed.specs.SoundScopes.{SoundScope};
+ghost use Rattle.expr_soundness.specs.SoundScopes.{SoundScope};
 
 use crate::draft::Draft;
 use ada_tree::{Declaration, ObjectDeclaration};
@@ -19,7 +19,7 @@ use kernel::laws::quiet_stays;
 use part_code::add_object;
 use type_rules::{declare_local_object, subtype_of};
 use types::laws::{initial_values_have_shape, shapes_stay, values_have_words};
-use well_typed::laws::{agreement_is_kept, calls_are_typed, scopes_are_sound};
+use expr_soundness::laws::{agreement_is_kept, calls_are_typed, scopes_are_sound};
 
 impl Draft {
     /// Adds the code of declarations, one behind another, and makes their names visible, each behind its own.

@@ -8,7 +8,7 @@ ghost use Rattle.part_code.specs.Emitting.{HasEntries, ways_of};
 ghost use Rattle.stmt_code.specs.Refusing.{RefusesCovered, RefusesHandlers, RefusesSequence};
 ghost use Rattle.part_code.specs.Rows.{choices_many};
 ghost use Rattle.stmt_code.specs.Staying.{StaysHandled, StaysHandlers, StaysSequence, StaysStatements};
-ghost use Rattle.well_typed.specs.SoundScopes.{SoundScope};
+ghost use Rattle.expr_soundness.specs.SoundScopes.{SoundScope};
 
 use crate::draft::Draft;
 use ada_tree::{Handler, Stmt};

@@ -16,7 +16,7 @@ ghost use Rattle.part_code.specs.Needs.{assignment_needs, moved_needs};
 ghost use Rattle.stmt_code.specs.Refusing.{Refuses};
 ghost use Rattle.stmt_code.specs.Staying.{Stays};
 ghost use Rattle.part_code.specs.Statements.{Ways};
-ghost use Rattle.well_typed.specs.SoundScopes.{SoundScope};
+ghost use Rattle.expr_soundness.specs.SoundScopes.{SoundScope};
 
 use crate::draft::Draft;
 use ada_tree::{Expr, NameExpr};
@@ -27,7 +27,7 @@ use part_code::{
 };
 use types::laws::{parts_have_places, values_have_words};
 use types::{Role, Subtype};
-use well_typed::laws::{agreement_is_kept, calls_are_typed, expressions_are_typed};
+use expr_soundness::laws::{agreement_is_kept, calls_are_typed, expressions_are_typed};
 
 impl Draft {
     /// Adds the code of an assignment to an array or a record, or to a part that is one.

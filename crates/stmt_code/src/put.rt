@@ -10,7 +10,7 @@ ghost use Rattle.part_code.specs.Needs.{put_needs};
 ghost use Rattle.stmt_code.specs.Refusing.{Refuses};
 ghost use Rattle.part_code.specs.Bounds.{stmt_bound};
 ghost use Rattle.part_code.specs.Statements.{Ways};
-ghost use Rattle.well_typed.specs.SoundScopes.{SoundScope};
+ghost use Rattle.expr_soundness.specs.SoundScopes.{SoundScope};
 
 use crate::draft::Draft;
 use ada_tree::NameExpr;

@@ -7,7 +7,7 @@ ghost use Rattle.stmt_code.specs.Emitting.{EmitsStatement, IsLegalStatement};
 ghost use Rattle.part_code.specs.Emitting.{HasEntries, ways_of};
 ghost use Rattle.stmt_code.specs.Refusing.{RefusesRange, RefusesStatement};
 ghost use Rattle.stmt_code.specs.Turns.{BeginsRange};
-ghost use Rattle.well_typed.specs.SoundScopes.{SoundScope};
+ghost use Rattle.expr_soundness.specs.SoundScopes.{SoundScope};
 
 use crate::draft::Draft;
 use ada_tree::{Identifier, Range, Stmt};
@@ -18,7 +18,7 @@ use image::{Operation, Region};
 use kernel::laws::quiet_stays;
 use part_code::{Extent, Head, Leaving, Turns, begin_loop, end_loop};
 use types::laws::{shapes_stay, values_have_words};
-use well_typed::laws::{agreement_is_kept, scopes_are_sound};
+use expr_soundness::laws::{agreement_is_kept, scopes_are_sound};
 
 impl Draft {
     // Adds the bounds, and what begins the first turn, in whose statements the parameter is visible; the place of the jump where the range is null is told.

@@ -7,7 +7,7 @@ ghost use Rattle.stmt_code.specs.Emitting.{AddsParts, AreLegalStatements, AreLeg
 ghost use Rattle.part_code.specs.Emitting.{HasEntries, ways_of};
 ghost use Rattle.stmt_code.specs.Refusing.{RefusesParts, RefusesStatement, RefusesStatements};
 ghost use Rattle.stmt_rules.specs.SimpleRules.{condition_faults};
-ghost use Rattle.well_typed.specs.SoundScopes.{SoundScope};
+ghost use Rattle.expr_soundness.specs.SoundScopes.{SoundScope};
 
 use crate::draft::Draft;
 use ada_tree::laws::statements_by_parts;

@@ -13,7 +13,7 @@ ghost use Rattle.part_code.specs.Emitting.{HasEntries};
 ghost use Rattle.stmt_code.specs.Emitting.{IsLegalRun};
 ghost use Rattle.part_code.specs.Rows.{body_rows};
 ghost use Rattle.stmt_code.specs.Subprograms.{AddsFunction, AddsMain, AddsProcedure, CallsProcedures, IsCalledFunction, IsCalledProcedure, KeepsRules};
-ghost use Rattle.well_typed.specs.SoundScopes.{SoundScope};
+ghost use Rattle.expr_soundness.specs.SoundScopes.{SoundScope};
 
 use crate::draft::Draft;
 use ada_tree::{Body, Expr, Formal, MainStatement};

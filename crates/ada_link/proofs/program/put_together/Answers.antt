@@ -4,8 +4,8 @@ use Rattle.ada_tree.specs.ProgramTree.{package_tree, program_tree}
 use Rattle.image.specs.declared.tasks.Task.{Task}
 use Rattle.declaring.specs.ProtectedRules.{protected_count}
 use Rattle.meaning.specs.Programs.{base_priority, package_bodies, package_items, program_of}
-use Rattle.well_typed.specs.SoundScopes.{SoundScope}
-use Rattle.sound_programs.specs.Fronts.{front}
+use Rattle.expr_soundness.specs.SoundScopes.{SoundScope}
+use Rattle.program_soundness.specs.Fronts.{front}
 use Rattle.stmt_code.specs.Subprograms.{AddsMain, CallsProcedures}
 use Rattle.expr_code.specs.Code.{here}
 use Rattle.part_code.specs.Bounds.{main_bound}

@@ -1,7 +1,7 @@
 use Rattle.std.proofs.Common.{Err, ap, inr, subst, sym, ◌∙◌}
 use Rattle.adarun.specs.Driving.{IsContentRead}
-use Rattle.compile_and_go.specs.Stopping.{RefusesRunning}
-use Rattle.compile_and_go.specs.declared.going.GoFault.TheVariants as faults
+use Rattle.adarun.specs.Stopping.{RefusesRunning}
+use Rattle.adarun.specs.declared.going.GoFault.TheVariants as faults
 use Rattle.adarun.proofs.Driving.{failed_keeps, refused_leaves, run_leaves, schedule_leaves}
 use Rattle.adarun.proofs.program.drive_go.Goals as goal
 

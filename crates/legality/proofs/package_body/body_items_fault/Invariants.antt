@@ -1,7 +1,8 @@
 use Rattle.std.proofs.Common.{◌≡◌, drop, map}
 use Rattle.ada_tree.specs.ProgramTree.{body_item_tree}
 use Rattle.expr_rules.specs.Faults.{least, sooner}
-use Rattle.legality.specs.PackageBodyRules.{body_items_faults, body_items_scope}
+use Rattle.declaring.specs.PackageNames.{body_items_scope}
+use Rattle.legality.specs.PackageBodyRules.{body_items_faults}
 use Rattle.legality.proofs.package_body.body_items_fault.Given as goal
 
 abbrev pub invariant-loop-item : goal.invariant-loop-item

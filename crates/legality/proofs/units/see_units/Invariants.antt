@@ -1,5 +1,5 @@
 use Rattle.std.proofs.Common.{◌≡◌, drop}
-use Rattle.legality.specs.UnitRules.{clauses_scope}
+use Rattle.declaring.specs.PackageNames.{clauses_scope}
 use Rattle.legality.proofs.units.see_units.Given as goal
 
 abbrev pub invariant-loop-clause : goal.invariant-loop-clause

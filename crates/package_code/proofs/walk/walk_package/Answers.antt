@@ -1,7 +1,7 @@
 use Rattle.std.proofs.Common.{sym, ap, ◌∙◌}
 use Rattle.ada_tree.specs.StatementTree.{optional_tree}
 use Rattle.ada_tree.specs.ProgramTree.{package_tree, program_tree}
-use Rattle.sound_programs.specs.Fronts.{start_in}
+use Rattle.program_soundness.specs.Fronts.{start_in}
 use Rattle.package_code.proofs.AsTold.{begins_told}
 use Rattle.package_code.proofs.Declared.{body_stands, declared_many, specification_stands}
 use Rattle.package_code.proofs.Walked.{walk_begins}

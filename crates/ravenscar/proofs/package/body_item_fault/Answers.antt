@@ -1,7 +1,7 @@
 use Rattle.std.proofs.Common.{ap, ◌∙◌, map, sym}
 use Rattle.ada_tree.specs.ProgramTree.{body_item_tree, protected_item_tree}
 use Rattle.expr_rules.specs.Faults.{least}
-use Rattle.ravenscar.specs.BodyRules.{operations_faults}
+use Rattle.body_restrictions.specs.BodyRules.{operations_faults}
 use Rattle.ravenscar.specs.ProgramRules.{body_item_faults, components_named}
 use Rattle.ravenscar.proofs.package.body_item_fault.Goals as goal
 

@@ -19,14 +19,14 @@ use Rattle.types.specs.Evaluating.{fixed_value}
 use Rattle.expr_code.proofs.Conversions.{conversion_emits}
 use Rattle.expr_code.proofs.Names.{fixed_emits}
 use Rattle.expr_code.proofs.Going.{block_words, drop_at, element_goes, first_part, further_path, goes_next, one_argument, part_emits, uncapped_words, whole_path}
-use Rattle.well_typed.specs.Agreeing.{parameter_subtype}
+use Rattle.expr_soundness.specs.Agreeing.{parameter_subtype}
 use Rattle.expr_code.specs.Actuals.{ArePassedLegally, EmitsActuals}
 use Rattle.expr_code.proofs.Actuals.{actuals_next, all_actuals, all_legal, as_many, call_emits, got, mapped, sizes_are}
 use Rattle.expr_code.proofs.CallsRefused.{actual_refused, call_ins, call_refused, counted_high, word_passed}
 use Rattle.expr_code.proofs.FitShapes.{selected_keeps}
 use Rattle.expr_code.proofs.Growing.{cut_back, extends_self}
 use Rattle.expr_code.proofs.LegalNames.{in_at}
-use Rattle.well_typed.specs.SoundScopes.{AreIn}
+use Rattle.expr_soundness.specs.SoundScopes.{AreIn}
 use Rattle.expr_code.specs.Widths.{width_of}
 use Rattle.expr_code.specs.Code.{IsShallow}
 use Rattle.expr_code.specs.Refusing.{peak, RefusesExpression}

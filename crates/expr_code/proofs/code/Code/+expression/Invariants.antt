@@ -1,7 +1,7 @@
 use Rattle.std.proofs.Common.{drop, map, take, ◌≡◌, ◌≤◌, ◌+◌, ◌*◌}
 use Rattle.std.specs.Prelude.{max}
 use Rattle.ada_tree.specs.ExpressionTree.{argument_tree, argument_trees, selector_tree, selector_trees}
-use Rattle.well_typed.specs.Agreeing.{parameter_subtype}
+use Rattle.expr_soundness.specs.Agreeing.{parameter_subtype}
 use Rattle.expr_code.specs.Actuals.{EmitsActuals}
 use Rattle.expr_code.specs.Branches.{AddsBranches, branch_of}
 use Rattle.expr_code.specs.Code.{Extends, IsShallow, here}

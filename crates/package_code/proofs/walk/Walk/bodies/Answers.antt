@@ -1,6 +1,6 @@
 use Rattle.std.proofs.Common.{Some, refl, ap, ◌∙◌}
 use Rattle.ada_tree.specs.ProgramTree.{body_item_tree, program_tree}
-use Rattle.sound_programs.specs.Fronts.{declared_in}
+use Rattle.program_soundness.specs.Fronts.{declared_in}
 use Rattle.package_code.proofs.AsTold.{item_refused}
 use Rattle.package_code.proofs.Declared.{stands_at}
 use Rattle.package_code.proofs.walk.Walk.bodies.Goals as goal

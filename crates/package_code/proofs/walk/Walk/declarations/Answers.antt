@@ -1,5 +1,5 @@
 use Rattle.ada_tree.specs.ProgramTree.{program_tree}
-use Rattle.sound_programs.specs.Fronts.{declared_in}
+use Rattle.program_soundness.specs.Fronts.{declared_in}
 use Rattle.package_code.proofs.Declared.{declaration_at}
 use Rattle.package_code.proofs.walk.Walk.declarations.Goals as goal
 

@@ -10,7 +10,7 @@ use Rattle.ada_tree.specs.StatementTree.{Loop, NoHandlers, alternative_tree, alt
 use Rattle.expr_rules.specs.Typing.{boolean_wanted}
 use Rattle.stmt_rules.specs.CaseRules.{selecting_faults}
 use Rattle.stmt_rules.specs.SimpleRules.{condition_faults}
-use Rattle.well_typed.specs.SoundScopes.{SoundScope}
+use Rattle.expr_soundness.specs.SoundScopes.{SoundScope}
 use Rattle.stmt_code.specs.declared.draft.Draft.{Draft}
 use Rattle.expr_code.specs.Code.{here}
 use Rattle.expr_code.proofs.Widths.{condition_width}

@@ -11,7 +11,7 @@ use Rattle.ada_tree.specs.ExpressionTree.{argument_tree, argument_trees, name_tr
 use Rattle.ada_tree.specs.Size.{argument_size, total}
 use Rattle.types.specs.Entities as entity
 use Rattle.types.specs.Entities.{profile_value}
-use Rattle.well_typed.specs.SoundScopes.{AreKnown}
+use Rattle.expr_soundness.specs.SoundScopes.{AreKnown}
 use Rattle.expr_code.specs.Actuals.{ArePassedLegally}
 use Rattle.part_code.specs.Passing.{EmitsPassedActuals, EmitsCopies}
 use Rattle.part_code.specs.Needs.{actuals_needs, copies_needs, destinations_of, IsNeeding, IsPartFit}

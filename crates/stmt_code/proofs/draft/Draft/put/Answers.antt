@@ -6,7 +6,7 @@ use Rattle.std.proofs.lemmas.Result.{IfErr-weaker, on_ok_weaker}
 use Rattle.ada_tree.specs.ExpressionTree.{expr_tree, name_tree}
 use Rattle.types.specs.Scopes.{integer_type}
 use Rattle.expr_rules.specs.declared.own.Wanted.TheVariants.{OfType}
-use Rattle.sound_steps.specs.Fitting.{entity_named}
+use Rattle.step_soundness.specs.Fitting.{entity_named}
 use Rattle.stmt_code.proofs.Adding.{wanted_legal}
 use Rattle.stmt_code.proofs.Putting.{line_faults, line_wide, put_emits, put_is}
 use Rattle.stmt_code.proofs.draft.Draft.put.Goals as goal

@@ -4,7 +4,7 @@ use Rattle.std.proofs.lemmas.Result.{on_ok_weaker}
 use Rattle.ada_tree.specs.declared.statement.Stmt as statements
 use Rattle.ada_tree.specs.ExpressionTree.{expr_tree}
 use Rattle.ada_tree.specs.StatementTree.{Block, Case, Loop, NoHandlers, alternative_trees, declaration_tree, elsif_tree, elsif_trees, handler_trees, iteration_tree, stmt_tree, stmt_trees}
-use Rattle.well_typed.specs.SoundScopes.{SoundScope}
+use Rattle.expr_soundness.specs.SoundScopes.{SoundScope}
 use Rattle.stmt_code.specs.Refusing.{around, stmts_needs}
 use Rattle.stmt_code.specs.Staying.{StaysStatement}
 use Rattle.stmt_code.specs.Emitting.{AddsParts, AreLegalStatements, AreLegalElsifs, EmitsStatement, EmitsStatements, IsLegalStatement}

@@ -5,7 +5,7 @@ use Rattle.ada_tree.specs.declared.statement.Stmt as statements
 use Rattle.ada_tree.specs.StatementTree.{declaration_tree, handler_tree, handler_trees, handlers_of, stmt_tree, stmt_trees}
 use Rattle.declaring.specs.LocalRules.{locals_faults}
 use Rattle.handlers.specs.declared.rows.Row.{Row}
-use Rattle.well_typed.specs.SoundScopes.{SoundScope}
+use Rattle.expr_soundness.specs.SoundScopes.{SoundScope}
 use Rattle.expr_code.specs.Branches.{Rejoins}
 use Rattle.expr_code.specs.Code.{here}
 use Rattle.part_code.specs.Bounds.{locals_words}

@@ -1,0 +1,186 @@
+-- The layers of compiling, one behind another.
+use Rattle.std.proofs.Common.{◌≡◌, ◌<◌, arith, ℕ, Bool, true, false, List, [], None, Result, Ok, Err, ap, inl, inr, refl, subst, sym}
+use Rattle.std.proofs.lemmas.List.Elements.{All-contains}
+use Rattle.std.specs.List.{Contains}
+use Rattle.std.specs.Prelude.{IfOk, IfErr}
+use Rattle.base.specs.declared.faults.TheConstants.{LIMIT_PASSED, LOCAL_TASKING, NAME_NOT_VISIBLE, WRONG_PRAGMAS}
+use Rattle.lexer.specs.Spelling.{Spells}
+use Rattle.lexer.specs.declared.fault.Fault.{Fault}
+use Rattle.lexer.specs.declared.token.Token.{Token}
+use Rattle.parser.specs.Parsing.{Derives}
+use Rattle.image.specs.Sections.{Sections}
+use Rattle.image.specs.Rules.{IsWellFormed}
+use Rattle.ada_tree.specs.declared.program.Program.{Program}
+use Rattle.ada_tree.specs.ProgramTree.{ProgramTree, program_tree}
+use Rattle.expr_rules.specs.Faults.{Faults, IsLeast}
+use Rattle.checking.specs.ProgramRules.{IsLegal, RefusesProgram, program_faults}
+use Rattle.ravenscar.specs.ProgramRules.{IsRestricted, RefusesUnrestricted, restriction_faults}
+use Rattle.fault_numbers.specs.Numbers.{AreNumberedWithin, GrammarNumbers, IsNumbered, LegalityNumbers, RestrictionNumbers, SpellingNumbers}
+use Rattle.meaning.specs.SameMeaning.{KeepsCount, SameMeaning}
+use Rattle.expr_code.specs.Coming.{most_steps}
+use Rattle.ada_link.specs.Compiled.{IsBounded, RefusesTree}
+use Rattle.package_code.specs.Refusing.{program_needs}
+use Rattle.source_laws.specs.Limits.{SmallIsUnlimited}
+use Rattle.source_laws.specs.Spelled.{OutsideIsTold}
+use Rattle.adarun.specs.Accepted.{Compiles, IsAccepted, CompilesAccepted, IsJudged, IsLeftOut, IsTreeOf, RefusesAccepted, RefusesText}
+
+-- the program that was read is the one that was checked
+pub compiles : {E : Type 0} (r : Result Sections E) (text : List ℕ) (tokens list : List Token) (read : Program)
+    → Spells text tokens → list ≡ tokens → Derives (program_tree read) list
+    → (checked : Program) → checked ≡ read → IsLegal (program_tree checked) → IsRestricted (program_tree checked)
+    → IfOk r (λ i. SameMeaning (program_tree checked) i)
+    → IfOk r (λ i. KeepsCount (program_tree checked) i (most_steps i))
+    → IfOk r (λ i. IsBounded (program_tree checked) i)
+    → IfOk r (λ i. IsWellFormed i)
+    → IfOk r (λ i. Compiles text i)
+compiles (Ok i) text tokens list read spells same derives checked is legal restricted means counted bounded well_formed =
+    let derived = subst (λ p. Derives (program_tree p) tokens) (sym is) (subst (Derives (program_tree read)) same derives) in
+    record {
+      tree = program_tree checked;
+      accepted = record { is_tree = record { tokens = tokens; spells = spells; derives = derived }; legal = legal; restricted = restricted };
+      means = means;
+      counted = counted;
+      bounded = bounded;
+      well_formed = well_formed;
+    }
+compiles (Err e) text tokens list read spells same derives checked is legal restricted means counted bounded well_formed = tt
+
+-- what is told of an accepted text where its tree is refused, by the laws of source texts
+abbrev Tells : List ℕ → ProgramTree → Type 0
+Tells text tree = (fault : Fault) → RefusesTree tree fault → RefusesAccepted text tree fault
+
+pub tells : OutsideIsTold → SmallIsUnlimited → (text : List ℕ) (tree : ProgramTree) → IsTreeOf tree text → IsLegal tree → IsRestricted tree → Tells text tree
+tells outside unlimited text tree is_tree legal restricted fault (inl memory) = inl memory
+tells outside unlimited text tree is_tree legal restricted fault (inr (inl beyond)) =
+    inr (inl (beyond.0, outside text is_tree.tokens tree (record { limit = None; spelled = is_tree.spells; tree = is_tree.derives.derives }) beyond.1))
+tells outside unlimited text tree is_tree legal restricted fault (inr (inr large)) =
+    inr (inr (
+      large.0,
+      (
+        large.1,
+        λ it. not_false (program_needs tree).outside
+            (λ none. unlimited None tree it.is_tree.tokens it.is_tree.derives.derives legal restricted it.small none large.1),
+      ),
+    ))
+  where
+    not_false : (b : Bool) → (b ≡ false → ⊥) → b ≡ true
+    not_false true h = refl
+    not_false false h = absurd (h refl)
+
+pub given : (r : Result Sections Fault) (text : List ℕ) (tree made : ProgramTree) → Tells text tree → made ≡ tree → IfOk r (λ i. SameMeaning made i)
+    → IfErr r (λ f. RefusesTree made f)
+    → CompilesAccepted text tree r
+given (Ok i) text tree made told same means refused = subst (λ t. SameMeaning t i) same means
+given (Err f) text tree made told same means refused = told f (subst (λ t. RefusesTree t f) same refused)
+
+-- ---- where nothing is broken nothing is the least
+
+nothing_least : (faults : Faults) (fault : Fault) → faults ≡ [] → IsLeast faults fault → ⊥
+nothing_least faults fault none least =
+    let there : Contains [] fault = subst (λ fs. Contains fs fault) none least.listed in
+    let no : there.0 < 0 = there.1 in
+    omega (arith, no)
+
+-- what is legal is not refused by the check but for want of memory, and what is restricted not by the restrictions
+
+pub legal_given : (text : List ℕ) (tree made : ProgramTree) (fault : Fault) → made ≡ tree → IsLegal tree → RefusesProgram made fault
+    → CompilesAccepted text tree (Err fault)
+legal_given text tree made fault same legal (inl memory) = inl memory
+legal_given text tree made fault same legal (inr least) = absurd (nothing_least (program_faults tree) fault legal (subst (λ t. IsLeast (program_faults t) fault) same least))
+
+pub restricted_given : (text : List ℕ) (tree made : ProgramTree) (fault : Fault) → made ≡ tree → IsRestricted tree → RefusesUnrestricted made fault
+    → CompilesAccepted text tree (Err fault)
+restricted_given text tree made fault same restricted (inl memory) = inl memory
+restricted_given text tree made fault same restricted (inr least) =
+    absurd (nothing_least (restriction_faults tree) fault restricted (subst (λ t. IsLeast (restriction_faults t) fault) same least))
+
+-- ---- how a tree is judged
+
+-- what the check refuses
+pub judged : (text : List ℕ) (tree made : ProgramTree) (fault : Fault) → made ≡ tree → RefusesProgram made fault → IsJudged text tree (Err fault)
+judged text tree made fault same (inl memory) = inl memory
+judged text tree made fault same (inr least) = inr (inl (subst (λ t. IsLeast (program_faults t) fault) same least))
+
+-- what is legal and refused by a restriction
+pub judged_legal : (text : List ℕ) (tree made : ProgramTree) (fault : Fault) → made ≡ tree → IsLegal made → RefusesUnrestricted made fault
+    → IsJudged text tree (Err fault)
+judged_legal text tree made fault same legal (inl memory) = inl memory
+judged_legal text tree made fault same legal (inr least) = inr (inr (inl (subst IsLegal same legal, subst (λ t. IsLeast (restriction_faults t) fault) same least)))
+
+-- what breaks no rule
+pub judged_accepted : OutsideIsTold → SmallIsUnlimited → (r : Result Sections Fault) (text : List ℕ) (tree made : ProgramTree) → IsTreeOf tree text → made ≡ tree
+    → IsLegal made → IsRestricted made → IfErr r (λ f. RefusesTree made f) → IsJudged text tree r
+judged_accepted outside unlimited (Ok i) text tree made is_tree same legal restricted refused = (subst IsLegal same legal, subst IsRestricted same restricted)
+judged_accepted outside unlimited (Err fault) text tree made is_tree same legal restricted refused =
+    let fine = subst IsLegal same legal in
+    let held = subst IsRestricted same restricted in
+    inr (inr (inr (fine, (held, tells outside unlimited text tree is_tree fine held fault (subst (λ t. RefusesTree t fault) same refused)))))
+
+-- ---- texts that are not compiled
+
+-- the tree of the program that was read, of which another one is a copy
+read_tree : (text : List ℕ) (tokens list : List Token) (read copy : Program)
+    → Spells text tokens → list ≡ tokens → Derives (program_tree read) list → copy ≡ read → IsTreeOf (program_tree copy) text
+read_tree text tokens list read copy spells same derives is = record {
+  tokens = tokens;
+  spells = spells;
+  derives = subst (λ p. Derives (program_tree p) tokens) (sym is) (subst (Derives (program_tree read)) same derives);
+}
+
+-- its legal tree breaks a restriction
+pub unrestricted_text : (text : List ℕ) (tokens list : List Token) (read checked : Program) (fault : Fault)
+    → Spells text tokens → list ≡ tokens → Derives (program_tree read) list → checked ≡ read → IsLegal (program_tree read)
+    → RefusesUnrestricted (program_tree checked) fault
+    → RefusesText text fault
+unrestricted_text text tokens list read checked fault spells same derives is legal (inl memory) = inl memory
+unrestricted_text text tokens list read checked fault spells same derives is legal (inr least) =
+    inr (inr (inr (inr (inl (record {
+      tree = program_tree checked;
+      is_tree = read_tree text tokens list read checked spells same derives is;
+      legal = subst (λ p. IsLegal (program_tree p)) (sym is) legal;
+      least = least;
+    })))))
+
+-- it is accepted
+pub refused_text : {A : Type 0} → OutsideIsTold → SmallIsUnlimited → (r : Result A Fault) (text : List ℕ) (tokens list : List Token) (read checked : Program)
+    → Spells text tokens → list ≡ tokens → Derives (program_tree read) list → checked ≡ read
+    → IsLegal (program_tree checked) → IsRestricted (program_tree checked)
+    → IfErr r (λ f. RefusesTree (program_tree checked) f)
+    → IfErr r (λ f. RefusesText text f)
+refused_text outside unlimited (Ok a) text tokens list read checked spells same derives is legal restricted refused = tt
+refused_text outside unlimited (Err fault) text tokens list read checked spells same derives is legal restricted refused =
+    let is_tree = read_tree text tokens list read checked spells same derives is in
+    inr (inr (inr (inr (inr (record {
+      tree = program_tree checked;
+      accepted = record { is_tree = is_tree; legal = legal; restricted = restricted };
+      refused = tells outside unlimited text (program_tree checked) is_tree legal restricted fault refused;
+    })))))
+
+-- ---- what is refused as outside the language of today
+
+module _ (spelling : SpellingNumbers) (grammar : GrammarNumbers) (legality : LegalityNumbers) (restrictions : RestrictionNumbers) where
+  among : (first last : ℕ) (faults : Faults) (fault : Fault) → AreNumberedWithin first last faults → IsLeast faults fault → IsNumbered first last fault
+  among first last faults fault all least = All-contains (IsNumbered first last) faults fault all least.listed
+
+  of_tree : (text : List ℕ) (tree : ProgramTree) (fault : Fault) → IsAccepted tree text → RefusesAccepted text tree fault → IsLeftOut text fault
+  of_tree text tree fault accepted (inl memory) = λ is. let n = ap (λ f. f.number) memory in absurd (omega (arith, n, is))
+  of_tree text tree fault accepted (inr (inl out)) = λ is. (out.0, (tree, (accepted, out.1)))
+  of_tree text tree fault accepted (inr (inr large)) = λ is. let n = ap (λ f. f.number) large.0 in absurd (omega (arith, n, is))
+
+  left_out : (text : List ℕ) (fault : Fault) → RefusesText text fault → IsLeftOut text fault
+  left_out text fault (inl memory) = λ is. let n = ap (λ f. f.number) memory in absurd (omega (arith, n, is))
+  left_out text fault (inr (inl broken)) = λ is. let n = (spelling text fault broken).1 in absurd (omega (arith, n, is))
+  left_out text fault (inr (inr (inl none))) = λ is. let n = (grammar none.tokens fault none.faulty).1 in absurd (omega (arith, n, is))
+  left_out text fault (inr (inr (inr (inl illegal)))) =
+      λ is.
+      let n = (among NAME_NOT_VISIBLE LIMIT_PASSED (program_faults illegal.tree) fault (legality illegal.tree) illegal.least).1 in
+      absurd (omega (arith, n, is))
+  left_out text fault (inr (inr (inr (inr (inl broken))))) =
+      λ is.
+      let n = (among LOCAL_TASKING WRONG_PRAGMAS (restriction_faults broken.tree) fault (restrictions broken.tree) broken.least).1 in
+      absurd (omega (arith, n, is))
+  left_out text fault (inr (inr (inr (inr (inr refused))))) = of_tree text refused.tree fault refused.accepted refused.refused
+
+  pub refused_left_out : {A : Type 0} (r : Result A Fault) (text : List ℕ) → IfErr r (λ f. RefusesText text f) → IfErr r (λ f. IsLeftOut text f)
+  refused_left_out (Ok a) text refused = tt
+  refused_left_out (Err fault) text refused = left_out text fault refused

@@ -1,0 +1,109 @@
+use Rattle.std.proofs.Common.{◌≡◌, Err, ap, inl, rules, subst, sym, ◌∙◌}
+use Rattle.std.specs.Prelude.{IfErr}
+use Rattle.ada_tree.specs.ProgramTree.{program_tree}
+use Rattle.checking.specs.ProgramRules.{IsLegal}
+use Rattle.parser.specs.Parsing.{Derives}
+use Rattle.adarun.specs.Accepted.{CompilesAccepted, IsJudged, RefusesText}
+use Rattle.adarun.proofs.Compiling.{compiles, given, judged, judged_accepted, judged_legal, legal_given, refused_left_out, refused_text, restricted_given, tells, unrestricted_text}
+use Rattle.adarun.proofs.compilation.compile.Goals as goal
+
+pub returns-in_err-program-clause-judged : goal.returns-in_err-program-clause-judged
+returns-in_err-program-clause-judged c = λ tree is_tree.
+    let same = c.deref.ensures.value ∙ c.in_ok-list.ensures.complete is_tree.tokens is_tree.spells in
+    let memory = c.in_err-program.ensures.only tree (subst (Derives tree) (sym same) is_tree.derives) in
+    let is : c.from_residual-in_err-program.result ≡ Err c.in_err-program.field-0.0 = search rules in
+    subst (IsJudged c.args.source.now tree) (sym is) (inl memory)
+
+pub returns-in_err-checked-clause-judged : goal.returns-in_err-checked-clause-judged
+returns-in_err-checked-clause-judged c = λ tree is_tree.
+    let same = c.deref.ensures.value ∙ c.in_ok-list.ensures.complete is_tree.tokens is_tree.spells in
+    let only = c.in_ok-program.ensures.only tree (subst (Derives tree) (sym same) is_tree.derives) in
+    let is : c.from_residual-in_err-checked.result ≡ Err c.in_err-checked.field-0.0 = search rules in
+    subst (IsJudged c.args.source.now tree) (sym is) (judged _ _ _ _ only c.in_err-checked.ensures.refused)
+
+pub returns-in_err-accepted-clause-judged : goal.returns-in_err-accepted-clause-judged
+returns-in_err-accepted-clause-judged c = λ tree is_tree.
+    let same = c.deref.ensures.value ∙ c.in_ok-list.ensures.complete is_tree.tokens is_tree.spells in
+    let only = c.in_ok-program.ensures.only tree (subst (Derives tree) (sym same) is_tree.derives) in
+    let checked = c.in_ok-checked.ensures.same in
+    let is : c.from_residual-in_err-accepted.result ≡ Err c.in_err-accepted.field-0.0 = search rules in
+    subst (IsJudged c.args.source.now tree) (sym is)
+    (judged_legal _ _ _ _ (ap program_tree checked ∙ only) (subst (λ p. IsLegal (program_tree p)) (sym checked) c.in_ok-checked.ensures.legal)
+    c.in_err-accepted.ensures.refused)
+
+pub returns-clause-judged : goal.returns-clause-judged
+returns-clause-judged c = λ tree is_tree.
+    let same = c.deref.ensures.value ∙ c.in_ok-list.ensures.complete is_tree.tokens is_tree.spells in
+    let lent = ap program_tree (c.in_ok-accepted.ensures.same ∙ c.in_ok-checked.ensures.same) in
+    judged_accepted c.outside_is_told.ensures c.small_is_unlimited.ensures _ _ _ _ is_tree (lent ∙ c.in_ok-program.ensures.only tree (subst (Derives tree) (sym same) is_tree.derives))
+    c.compile_tree.ensures.legal
+    c.compile_tree.ensures.restricted
+    c.compile_tree.ensures.refused
+
+pub returns-clause-means : goal.returns-clause-means
+returns-clause-means c =
+    compiles _ _ _ _ _ c.in_ok-list.ensures.sound c.deref.ensures.value c.in_ok-program.ensures.found _
+    (c.in_ok-accepted.ensures.same ∙ c.in_ok-checked.ensures.same)
+    c.compile_tree.ensures.legal
+    c.compile_tree.ensures.restricted
+    c.compile_tree.ensures.means
+    c.compile_tree.ensures.counted
+    c.compile_tree.ensures.bounded
+    c.compile_tree.ensures.well_formed
+
+pub returns-in_err-checked-clause-accepted : goal.returns-in_err-checked-clause-accepted
+returns-in_err-checked-clause-accepted c = λ tree given_tree.
+    let is_tree = given_tree.is_tree in
+    let same = c.deref.ensures.value ∙ c.in_ok-list.ensures.complete is_tree.tokens is_tree.spells in
+    let only = c.in_ok-program.ensures.only tree (subst (Derives tree) (sym same) is_tree.derives) in
+    let is : c.from_residual-in_err-checked.result ≡ Err c.in_err-checked.field-0.0 = search rules in
+    subst (CompilesAccepted c.args.source.now tree) (sym is) (legal_given _ _ _ _ only given_tree.legal c.in_err-checked.ensures.refused)
+
+pub returns-in_err-accepted-clause-accepted : goal.returns-in_err-accepted-clause-accepted
+returns-in_err-accepted-clause-accepted c = λ tree given_tree.
+    let is_tree = given_tree.is_tree in
+    let same = c.deref.ensures.value ∙ c.in_ok-list.ensures.complete is_tree.tokens is_tree.spells in
+    let only = c.in_ok-program.ensures.only tree (subst (Derives tree) (sym same) is_tree.derives) in
+    let is : c.from_residual-in_err-accepted.result ≡ Err c.in_err-accepted.field-0.0 = search rules in
+    subst (CompilesAccepted c.args.source.now tree) (sym is)
+    (restricted_given _ _ _ _ (ap program_tree c.in_ok-checked.ensures.same ∙ only) given_tree.restricted c.in_err-accepted.ensures.refused)
+
+pub returns-clause-accepted : goal.returns-clause-accepted
+returns-clause-accepted c = λ tree given_tree.
+    let is_tree = given_tree.is_tree in
+    let same = c.deref.ensures.value ∙ c.in_ok-list.ensures.complete is_tree.tokens is_tree.spells in
+    let lent = ap program_tree (c.in_ok-accepted.ensures.same ∙ c.in_ok-checked.ensures.same) in
+    let told = tells c.outside_is_told.ensures c.small_is_unlimited.ensures c.args.source.now tree is_tree given_tree.legal given_tree.restricted in
+    given _ _ _ _ told (lent ∙ c.in_ok-program.ensures.only tree (subst (Derives tree) (sym same) is_tree.derives))
+    c.compile_tree.ensures.means
+    c.compile_tree.ensures.refused
+
+pub returns-in_err-accepted-clause-refused : goal.returns-in_err-accepted-clause-refused
+returns-in_err-accepted-clause-refused c =
+    let is : c.from_residual-in_err-accepted.result ≡ Err c.in_err-accepted.field-0.0 = search rules in
+    subst (λ r. IfErr r (λ f. RefusesText c.args.source.now f)) (sym is)
+    (unrestricted_text _ _ _ _ _ _ c.in_ok-list.ensures.sound c.deref.ensures.value c.in_ok-program.ensures.found
+    c.in_ok-checked.ensures.same c.in_ok-checked.ensures.legal c.in_err-accepted.ensures.refused)
+
+pub returns-clause-refused : goal.returns-clause-refused
+returns-clause-refused c =
+    refused_text c.outside_is_told.ensures c.small_is_unlimited.ensures _ _ _ _ _ _ c.in_ok-list.ensures.sound c.deref.ensures.value c.in_ok-program.ensures.found
+    (c.in_ok-accepted.ensures.same ∙ c.in_ok-checked.ensures.same)
+    c.compile_tree.ensures.legal
+    c.compile_tree.ensures.restricted
+    c.compile_tree.ensures.refused
+
+pub returns-in_err-checked-clause-left_out : goal.returns-in_err-checked-clause-left_out
+returns-in_err-checked-clause-left_out c =
+    let refused : IfErr c.from_residual-in_err-checked.result (λ fault. RefusesText c.args.source.now fault) = search rules in
+    refused_left_out c.spelling_numbers.ensures c.grammar_numbers.ensures c.legality_numbers.ensures c.restriction_numbers.ensures _ c.args.source.now refused
+
+pub returns-in_err-accepted-clause-left_out : goal.returns-in_err-accepted-clause-left_out
+returns-in_err-accepted-clause-left_out c =
+    refused_left_out c.spelling_numbers.ensures c.grammar_numbers.ensures c.legality_numbers.ensures c.restriction_numbers.ensures _ c.args.source.now
+    (returns-in_err-accepted-clause-refused c)
+
+pub returns-clause-left_out : goal.returns-clause-left_out
+returns-clause-left_out c =
+    refused_left_out c.spelling_numbers.ensures c.grammar_numbers.ensures c.legality_numbers.ensures c.restriction_numbers.ensures _ c.args.source.now
+    (returns-clause-refused c)

@@ -1,0 +1,15 @@
+//! The law that joins compiling, files of images and running: it is what a function without work ensures.
+ghost use Rattle.adarun.specs.Joined.{RunsAsItsSource};
+
+use image::Image;
+use image_laws::outcome_stays;
+use image_loading::laws::comes_back;
+
+/// What is loaded from the bytes of an image that a source compiles to runs as the source does: what `run` writes of it under a schedule
+/// within a limit is what `go` writes of the source.
+pub fn loaded_image_runs_as_its_source(image: &Image)
+    ensures { RunsAsItsSource image.now }
+{
+    outcome_stays();
+    comes_back(image);
+}

@@ -1,0 +1,3 @@
+mod BodyExamples
+mod Parts
+pub mod Sample

@@ -1,0 +1,2 @@
+pub use Rattle.expr_rules.specs.Faults
+pub mod BodyRules

@@ -1,0 +1,6 @@
+//! The restrictions of the Ravenscar profile on what stands in bodies (docs/LANGUAGE.md, "Rules of the profile").
+#![tactic(auto)]
+
+mod bodies;
+
+pub use bodies::{body_fault, operations_fault};

@@ -1,2 +1,0 @@
-pub mod Compiling
-pub mod Running

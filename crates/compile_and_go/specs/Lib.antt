@@ -1,4 +1,0 @@
-pub mod Accepted
-pub mod Headline
-pub mod Stopping
-pub mod Joined

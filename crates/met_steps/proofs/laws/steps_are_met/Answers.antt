@@ -1,5 +1,0 @@
-use Rattle.met_steps.proofs.Matching.{steps_are_met}
-use Rattle.met_steps.proofs.laws.steps_are_met.Goals as goal
-
-pub returns : goal.returns
-returns c = steps_are_met c.quiet_stays.ensures c.steps_are_sound.ensures c.stores_are_alike.ensures

@@ -1,0 +1,12 @@
+pub use Rattle.checking.specs.ProgramRules
+pub use Rattle.expr_soundness.specs.SoundScopes
+pub use Rattle.step_soundness.specs.Starting
+pub use Rattle.expr_soundness.specs.Answers
+pub mod Points
+pub mod ScopeLaws
+pub mod SoundWorlds
+pub mod RunLaws
+pub mod Fronts
+pub mod BodyLaws
+pub mod FunctionLaws
+pub mod ProgramLaws

@@ -1,0 +1,37 @@
+//! The laws of the runs of an accepted program, each what a function without work ensures.
+ghost use Rattle.program_soundness.specs.RunLaws.{RunsAreSound, RunsHaveMeaning};
+
+use declaring::laws::names_are_added;
+use kernel::laws::{begins_kept, four_statements_hold, kept_by_every_effect, left_unmoved};
+use step_soundness::laws::{
+    callers_go_on, effects_pass, others_stay_sound, servers_are_sound, steps_are_sound,
+};
+use types::laws::initial_values_have_shape;
+use expr_soundness::laws::{agreement_is_kept, calls_are_typed, targets_are_variables};
+
+/// Every world of a run is sound, where the start of the program is.
+pub fn runs_are_sound()
+    ensures { RunsAreSound }
+{
+    begins_kept();
+    kept_by_every_effect();
+    left_unmoved();
+    four_statements_hold();
+    initial_values_have_shape();
+    names_are_added();
+    agreement_is_kept();
+    calls_are_typed();
+    targets_are_variables();
+    steps_are_sound();
+    others_stay_sound();
+    servers_are_sound();
+    callers_go_on();
+    effects_pass();
+}
+
+/// No run ends by the exception that is none, where the start of the program is sound (RM 11.4.1).
+pub fn runs_have_meaning()
+    ensures { RunsHaveMeaning }
+{
+    runs_are_sound();
+}

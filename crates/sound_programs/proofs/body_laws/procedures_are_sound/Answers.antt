@@ -1,5 +1,0 @@
-use Rattle.sound_programs.proofs.Assembled.{procedures_are_sound}
-use Rattle.sound_programs.proofs.body_laws.procedures_are_sound.Goals as goal
-
-pub returns : goal.returns
-returns c = procedures_are_sound c.scopes_are_sound.ensures c.names_are_known.ensures c.premises_hold.ensures

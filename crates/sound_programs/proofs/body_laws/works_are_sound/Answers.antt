@@ -1,5 +1,0 @@
-use Rattle.sound_programs.proofs.Assembled.{works_are_sound}
-use Rattle.sound_programs.proofs.body_laws.works_are_sound.Goals as goal
-
-pub returns : goal.returns
-returns c = works_are_sound c.scopes_are_sound.ensures c.names_are_known.ensures c.premises_hold.ensures

@@ -1,5 +1,0 @@
-use Rattle.sound_programs.proofs.Starts.{programs_have_meaning}
-use Rattle.sound_programs.proofs.program_laws.programs_have_meaning.Goals as goal
-
-pub returns : goal.returns
-returns c = programs_have_meaning c.runs_have_meaning.ensures c.starts_are_sound.ensures

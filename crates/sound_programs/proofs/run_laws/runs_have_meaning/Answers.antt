@@ -1,5 +1,0 @@
-use Rattle.sound_programs.proofs.Runs.{runs_have_meaning}
-use Rattle.sound_programs.proofs.run_laws.runs_have_meaning.Goals as goal
-
-pub returns : goal.returns
-returns c = runs_have_meaning c.runs_are_sound.ensures

@@ -1,5 +1,0 @@
-use Rattle.sound_programs.proofs.Walks.{scopes_are_sound}
-use Rattle.sound_programs.proofs.scope_laws.scopes_are_sound.Goals as goal
-
-pub returns : goal.returns
-returns c = scopes_are_sound

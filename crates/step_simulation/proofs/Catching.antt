@@ -1,0 +1,390 @@
+-- Where exceptions go on that a frame raises, told by the items that its code follows.
+use Rattle.std.proofs.Common.{◌≡◌, ℕ, suc, ◌≤◌, ℤ, List, [], ◌∷◌, map, length, Option, Some, None, Bool, true, false, refl, sym, ap, ◌∙◌, subst, arith}
+use Rattle.std.specs.Prelude.{if◌then◌else◌, pos, slice_get}
+use Rattle.std.proofs.lemmas.Option.{none-some, same_Some}
+use Rattle.handlers.specs.Innermost.{handler_of}
+use Rattle.image.specs.Sections.{Sections}
+use Rattle.image.specs.Frames.{Frame}
+use Rattle.ada_tree.specs.declared.statement.ExceptionChoice.{ExceptionChoice}
+use Rattle.ada_tree.specs.StatementTree.{HandlerTrees, NoHandlers, MoreHandlers, StmtTrees}
+use Rattle.meaning.specs.Programs.{Program}
+use Rattle.meaning.specs.SourceSteps.{handled_exception, handler_for, some_covers}
+use Rattle.meaning.specs.Works.{Item, Declares, DeclaresParameter, Sequence, Does, DoesMain, Repeats, RepeatsWhile, RepeatsFor, Handles, EndsHandler, EndsCall, Activation, ends_of_calls}
+use Rattle.step_soundness.specs.Objects.{IsException}
+use Rattle.expr_code.specs.Seeing.{Package}
+use Rattle.part_code.specs.Resting.{AreHeld, Framed, Rests, RestsWith, Shows, held_offset}
+use Rattle.part_code.specs.Handling.{Handling, exception_in}
+use Rattle.part_code.specs.Counting.{in_turn}
+use Rattle.part_code.specs.Statements.{AreHandlers, Numbers, Ways}
+use Rattle.part_code.specs.Jumping.{Here, There}
+use Rattle.step_simulation.specs.Standing.{AreInner, Around, Catches, CaughtIf, Follows, Inside, IsCaught, LeadsOver, in_handler, with_visible}
+use Rattle.step_simulation.proofs.Going.{before_ends, before_follows, rest_of}
+
+-- whether a handler has a choice for the exception: it goes to the handler, or on
+by_choice : {P : Type 0} (b : Bool) (inner next : Option ℕ) (from : ℕ) (own : StmtTrees) (rest found : Option StmtTrees)
+    → inner ≡ (if b then Some from else next) → (if b then Some own else rest) ≡ found
+    → (inner ≡ Some from → Some own ≡ found → P)
+    → (inner ≡ next → rest ≡ found → P)
+    → P
+by_choice true inner next from own rest found there is taken other = taken there is
+by_choice false inner next from own rest found there is taken other = other there is
+
+module _ (i : Sections) (program : Program) (g : Package) (numbers : Numbers) where
+  abbrev Setting : Type 0
+  Setting = Around i program g numbers
+
+  abbrev seeing : Framed → Setting → Setting
+  seeing v a = with_visible i program g numbers v a
+
+  abbrev In : ℕ → ℕ → Type 0
+  In n place = Inside i program g numbers n place
+
+  abbrev Follow : Setting → (n from : ℕ) → List Item → List Frame → List Activation → Type 0
+  Follow a n from items fs os = Follows i program g numbers a n from items fs os
+
+  abbrev Caught : (x : ℕ) (f : Frame) (fs : List Frame) (own : Activation) (os : List Activation) → List Item → Type 0
+  Caught x f fs own os items = Catches i program g numbers x f fs own os items
+
+  abbrev Removable : Frame → List Frame → Type 0
+  Removable f fs = AreInner i program g numbers f fs
+
+  pub shown : (a b : Framed) (own : Activation) (locals : List ℤ) → Shows g a b → Rests g a own locals → Rests g b own locals
+  shown a b own locals shows rests = record {
+    small = rests.small;
+    sees = λ p view shared one two three. shows p view (rests.sees p view shared one two three);
+  }
+
+  -- ---- the handler for an exception, among those of a sequence
+
+  -- the exception goes to the handler with these statements, in front of others
+  record IsTaking (v : Framed) (w : Ways) (r : Handling) (answer : Option ℕ) (from to : ℕ) (body : StmtTrees) : Type 0 where
+    target : ℕ
+    taken : answer ≡ Some target
+    down : from ≤ target
+    inner : Handling
+    choices : List ExceptionChoice
+    rest : HandlerTrees
+    code : AreHandlers i program g numbers v w r inner target to (MoreHandlers choices body rest)
+
+  -- the handler that stands first
+  first : (v : Framed) (w : Ways) (r inner : Handling) (from to : ℕ) (choices : List ExceptionChoice) (own body : StmtTrees) (rest : HandlerTrees)
+      (answer : Option ℕ)
+      → answer ≡ Some from → AreHandlers i program g numbers v w r inner from to (MoreHandlers choices own rest) → own ≡ body
+      → IsTaking v w r answer from to body
+  first v w r inner from to choices own body rest answer there code same = record {
+    target = from;
+    taken = there;
+    down = omega arith;
+    inner = inner;
+    choices = choices;
+    rest = rest;
+    code = subst (λ q. AreHandlers i program g numbers v w r inner from to (MoreHandlers choices q rest)) same code;
+  }
+
+  -- behind a handler for others
+  further : (v : Framed) (w : Ways) (r : Handling) (answer other : Option ℕ) (from mid to : ℕ) (body : StmtTrees) → answer ≡ other → from ≤ mid
+      → IsTaking v w r other (suc mid) to body → IsTaking v w r answer from to body
+  further v w r answer other from mid to body there up h =
+      let below = h.down in record {
+        target = h.target;
+        taken = there ∙ h.taken;
+        down = omega (arith, below, up);
+        inner = h.inner;
+        choices = h.choices;
+        rest = h.rest;
+        code = h.code;
+      }
+
+  taking : (hs : HandlerTrees) (v : Framed) (w : Ways) (r inner : Handling) (from to x : ℕ) (body : StmtTrees)
+      → AreHandlers i program g numbers v w r inner from to hs → IsException program x → handler_for program x hs ≡ Some body
+      → IsTaking v w r (inner x) from to body
+  taking NoHandlers v w r inner from to x body code known is = absurd (none-some body is)
+  taking (MoreHandlers choices own rest) v w r inner from to x body code known is =
+      let up = code.2.up in
+      by_choice (some_covers program x choices) (inner x) (code.0 x) from own (handler_for program x rest) (Some body) (code.2.goes x known) is
+      (λ there same. first v w r inner from to choices own body rest (inner x) there code (same_Some own body same))
+      (λ there found. further v w r (inner x) (code.0 x) from code.1 to body there (omega (arith, up))
+      (taking rest v w r code.0 (suc code.1) to x body code.3 known found))
+
+  -- an exception without handler goes on as around the sequence
+  passing : (hs : HandlerTrees) (v : Framed) (w : Ways) (r inner : Handling) (from to x : ℕ) → AreHandlers i program g numbers v w r inner from to hs
+      → IsException program x → handler_for program x hs ≡ None → inner x ≡ r x
+  passing NoHandlers v w r inner from to x code known is = code x known
+  passing (MoreHandlers choices own rest) v w r inner from to x code known is =
+      by_choice (some_covers program x choices) (inner x) (code.0 x) from own (handler_for program x rest) None (code.2.goes x known) is
+      (λ there same. absurd cc)
+      (λ there found. there ∙ passing rest v w r code.0 (suc code.1) to x code.3 known found)
+
+  -- ---- what is known of a frame that raises
+
+  pub record IsRaising (a : Setting) (x : ℕ) (f : Frame) (fs : List Frame) (own : Activation) (items : List Item) : Type 0 where
+    pub known : IsException program x
+    pub goes : handler_of i.rows f.place x ≡ a.raised x
+    pub rests : Rests g a.handling own f.locals
+    pub held : AreHeld f.locals a.held
+    pub apart : map held_offset a.held ≡ a.visible.reserved
+    pub outside : own.within ≡ None
+    pub depth : length fs ≡ ends_of_calls items
+    pub inner : Removable f fs
+
+  -- what begins behind is dropped: this leaves the same words alone
+  drop_seeing : (a : Setting) (v : Framed) (x : ℕ) (f : Frame) (fs : List Frame) (own : Activation) (i' : Item) (items : List Item)
+      → a.visible.reserved ≡ v.reserved → ends_of_calls (i' ∷ items) ≡ ends_of_calls items
+      → IsRaising a x f fs own (i' ∷ items) → IsRaising (seeing v a) x f fs own items
+  drop_seeing a v x f fs own i' items same ends h = record {
+    known = h.known;
+    goes = h.goes;
+    rests = h.rests;
+    held = h.held;
+    apart = h.apart ∙ same;
+    outside = h.outside;
+    depth = h.depth ∙ ends;
+    inner = h.inner;
+  }
+
+  -- what is under way is dropped
+  drop_outer : (a outer : Setting) (x : ℕ) (f : Frame) (fs : List Frame) (own : Activation) (i' : Item) (items : List Item)
+      → a.raised x ≡ outer.raised x → Shows g a.handling outer.handling → (AreHeld f.locals a.held → AreHeld f.locals outer.held)
+      → (map held_offset a.held ≡ a.visible.reserved → map held_offset outer.held ≡ outer.visible.reserved)
+      → ends_of_calls (i' ∷ items) ≡ ends_of_calls items
+      → IsRaising a x f fs own (i' ∷ items) → IsRaising outer x f fs own items
+  drop_outer a outer x f fs own i' items same shows held apart ends h = record {
+    known = h.known;
+    goes = h.goes ∙ same;
+    rests = shown a.handling outer.handling own f.locals shows h.rests;
+    held = held h.held;
+    apart = apart h.apart;
+    outside = h.outside;
+    depth = h.depth ∙ ends;
+    inner = h.inner;
+  }
+
+  shows_as : (one other : Framed) → one ≡ other → Shows g one other
+  shows_as one other e = subst (λ q. Shows g one q) e (λ p view h. h)
+
+  -- ---- a handler takes the exception
+
+  inner_at : (f : Frame) (fs : List Frame) (place : ℕ) (locals stack : List ℤ) → Removable f fs
+      → Removable (record f { place = place; locals = locals; stack = stack }) fs
+  inner_at f [] place locals stack h = tt
+  inner_at f (c ∷ fs) place locals stack h = h
+
+  -- a frame has the words of its own that it ought to have
+  abbrev pub HasRoom : Type 0
+  HasRoom = (v : Framed) (a : Activation) (locals : List ℤ) → Rests g v a locals → v.room ≤ length locals
+
+  caught : HasRoom → (a : Setting) (from at to : ℕ) (outer : Setting) (x : ℕ) (f : Frame) (fs : List Frame) (own : Activation) (os : List Activation)
+      (hs : HandlerTrees)
+      (body : StmtTrees) (items : List Item)
+      → LeadsOver i program g numbers a f.subprogram from at to outer → Follow outer f.subprogram to items fs os
+      → IsRaising a x f fs own (Handles hs ∷ items)
+      → IsTaking outer.visible outer.ways outer.raised (a.raised x) at to body → IsCaught i program g numbers x f fs own os body items
+  caught room a from at to outer x f fs own os hs body items over follows h t =
+      let code = t.code.2 in
+      let mid = t.code.1 in
+      let word = code.word in
+      let later = code.later in
+      let around = in_handler i program g numbers word x later outer in
+      let held : a.held ≡ outer.held = ap (λ q. q.held) over.sequence in
+      let resting : RestsWith g outer.visible outer.held own f.locals = record {
+        rests = subst (λ q. Rests g q own f.locals) (ap (λ q. q.handling) over.sequence) h.rests;
+        held = subst (λ q. AreHeld f.locals q) held h.held;
+        apart = ap (λ q. map held_offset q) (sym held) ∙ h.apart ∙ over.narrows.reserved;
+      } in
+      let kept = code.keeps.keeps f outer.held own x (room outer.visible own f.locals resting.rests) resting in
+      let l = over.at_inside in
+      let u = over.to_inside in
+      let one = t.down in
+      let two = code.up in
+      let three = code.over in
+      let start_in : In f.subprogram (suc t.target) = (omega (arith, l.0, one), omega (arith, u.1, two, three)) in
+      let mid_in : In f.subprogram mid = (omega (arith, l.0, one, two), omega (arith, u.1, three)) in
+      let shows = code.keeps.shows in
+      record {
+        target = t.target;
+        taken = h.goes ∙ t.taken;
+        catching = record {
+          inside = (omega (arith, l.0, one), omega (arith, u.1, two, three));
+          place = suc t.target;
+          locals = kept.locals;
+          acts = λ schedule k t' m. kept.acts schedule k t' m fs;
+          going = record {
+            around = around;
+            follows = before_follows i program g numbers body around later f.subprogram (suc t.target) mid
+                (EndsHandler x ∷ items) fs os code.statements two start_in
+                mid_in (
+                  (λ p view z. over.reaches.0 p view (shows p view z)),
+                  (λ p view z. over.reaches.1 p view (shows p view z)),
+                  (λ p view z. over.reaches.2 p view (shows p view z)),
+                ) (
+                  to,
+                  word,
+                  outer,
+                  record {
+                    jumps = There code.jump three Here;
+                    handler = refl;
+                    shows = shows;
+                    reserved = code.keeps.reserved;
+                    from_inside = mid_in;
+                    to_inside = u;
+                  },
+                  follows,
+                );
+            rests = kept.rests;
+            outside = h.outside;
+            stack = refl;
+            going = refl;
+            depth = h.depth ∙ sym (before_ends i program g numbers body (EndsHandler x ∷ items));
+            inner = inner_at f fs (suc t.target) kept.locals [] h.inner;
+          };
+        };
+      }
+
+  -- ... or none, and then it goes on behind
+  by_handler : HasRoom → (a : Setting) (from at to : ℕ) (outer : Setting) (x : ℕ) (f : Frame) (fs : List Frame) (own : Activation) (os : List Activation)
+      (hs : HandlerTrees) (items : List Item)
+      → LeadsOver i program g numbers a f.subprogram from at to outer → Follow outer f.subprogram to items fs os
+      → AreHandlers i program g numbers outer.visible outer.ways outer.raised a.raised at to hs
+      → IsRaising a x f fs own (Handles hs ∷ items)
+      → (o : Option StmtTrees) → handler_for program x hs ≡ o
+      → (handler_for program x hs ≡ None → Caught x f fs own os items)
+      → CaughtIf i program g numbers x f fs own os items o (Caught x f fs own os items)
+  by_handler room a from at to outer x f fs own os hs items over follows code h (Some body) found later =
+      caught room a from at to outer x f fs own os hs body items over follows h
+      (taking hs outer.visible outer.ways outer.raised a.raised at to x body code h.known found)
+  by_handler room a from at to outer x f fs own os hs items over follows code h None found later = later found
+
+  -- ---- all items
+
+  pub catches : HasRoom → (items : List Item) (a : Setting) (from x : ℕ) (f : Frame) (fs : List Frame) (own : Activation) (os : List Activation)
+      → Follow a f.subprogram from items fs os → IsRaising a x f fs own items → Caught x f fs own os items
+  catches room [] a from x f fs own os follows h = (h.goes ∙ follows.0.outermost.raised x, follows.2)
+  catches room (Declares d ∷ items) a from x f fs own os follows h =
+      catches room items (seeing follows.3 a) follows.1 x f fs own os follows.7
+      (drop_seeing a follows.3 x f fs own (Declares d) items (follows.4.narrows.reserved ∙ sym follows.5.reserved) refl h)
+  catches room (DeclaresParameter d ∷ items) a from x f fs own os follows h =
+      catches room items (seeing follows.3 a) follows.1 x f fs own os follows.7
+      (drop_seeing a follows.3 x f fs own (DeclaresParameter d) items (follows.4.narrows.reserved ∙ sym follows.5.reserved) refl h)
+  catches room (Sequence body hs ∷ items) a from x f fs own os follows h =
+      catches room items (seeing follows.2 a) follows.1 x f fs own os follows.5
+      (drop_seeing a follows.2 x f fs own (Sequence body hs) items follows.3.narrows.reserved refl h)
+  catches room (Does s ∷ items) a from x f fs own os follows h =
+      catches room items (seeing follows.2 a) follows.1 x f fs own os follows.5 (drop_seeing a follows.2 x f fs own
+      (Does s) items follows.3.narrows.reserved refl h)
+  catches room (DoesMain s ∷ items) a from x f fs own os follows h =
+      catches room items (seeing follows.2 a) follows.1 x f fs own os follows.5
+      (drop_seeing a follows.2 x f fs own (DoesMain s) items follows.3.narrows.reserved refl h)
+  catches room (Handles NoHandlers ∷ items) a from x f fs own os follows h =
+      catches room items a from x f fs own os follows
+      (record { known = h.known; goes = h.goes; rests = h.rests; held = h.held; apart = h.apart; outside = h.outside; depth = h.depth; inner = h.inner })
+  catches room (Handles (MoreHandlers choices own_body rest) ∷ items) a from x f fs own os follows h =
+      let hs = MoreHandlers choices own_body rest in
+      let outer = follows.2 in
+      let held : a.held ≡ outer.held = ap (λ q. q.held) follows.3.sequence in
+      by_handler room a from follows.0 follows.1 outer x f fs own os hs items follows.3 follows.5 follows.4 h (handler_for program x hs) refl
+      (λ found. catches room items outer follows.1 x f fs own os follows.5
+      (drop_outer a outer x f fs own (Handles hs) items
+      (passing hs outer.visible outer.ways outer.raised a.raised follows.0 follows.1 x follows.4 h.known found)
+      (subst (λ q. Shows g q outer.handling) (sym (ap (λ q. q.handling) follows.3.sequence)) follows.3.reaches.2)
+      (λ z. subst (λ q. AreHeld f.locals q) held z)
+      (λ z. ap (λ q. map held_offset q) (sym held) ∙ z ∙ follows.3.narrows.reserved) refl h))
+  catches room (EndsHandler y ∷ items) a from x f fs own os follows h =
+      let outer = follows.2 in
+      let held : a.held ≡ exception_in follows.1 y ∷ outer.held = ap (λ q. q.held) follows.3.handler in
+      catches room items outer follows.0 x f fs own os follows.4
+      (drop_outer a outer x f fs own (EndsHandler y) items (ap (λ q. q.raised x) follows.3.handler)
+      (shows_as a.handling outer.handling (ap (λ q. q.handling) follows.3.handler))
+      (λ z. (subst (λ q. AreHeld f.locals q) held z).1)
+      (λ z. ap (λ l. rest_of l) (ap (λ q. map held_offset q) (sym held) ∙ z ∙ follows.3.reserved)) refl h)
+  catches room (Repeats body ∷ items) a from x f fs own os follows h =
+      let outer = follows.2 in
+      let held : a.held ≡ outer.held = ap (λ q. q.held) follows.3.loop in
+      catches room items outer follows.1 x f fs own os follows.5
+      (drop_outer a outer x f fs own (Repeats body) items (ap (λ q. q.raised x) follows.3.loop)
+      (shows_as a.handling outer.handling (ap (λ q. q.handling) follows.3.loop))
+      (λ z. subst (λ q. AreHeld f.locals q) held z)
+      (λ z. ap (λ q. map held_offset q) (sym held) ∙ z ∙ follows.3.narrows.reserved) refl h)
+  catches room (RepeatsWhile e body ∷ items) a from x f fs own os follows h =
+      let outer = follows.2 in
+      let held : a.held ≡ outer.held = ap (λ q. q.held) follows.3.loop in
+      catches room items outer follows.1 x f fs own os follows.5
+      (drop_outer a outer x f fs own (RepeatsWhile e body) items (ap (λ q. q.raised x) follows.3.loop)
+      (shows_as a.handling outer.handling (ap (λ q. q.handling) follows.3.loop))
+      (λ z. subst (λ q. AreHeld f.locals q) held z)
+      (λ z. ap (λ q. map held_offset q) (sym held) ∙ z ∙ follows.3.narrows.reserved) refl h)
+  catches room (RepeatsFor parameter reversed now last body ∷ items) a from x f fs own os follows h =
+      let outer = follows.2 in
+      let c = follows.3 in
+      let held : a.held ≡ in_turn c.counter c.limit now last outer.held = ap (λ q. q.held) follows.4.loop in
+      catches room items outer follows.1 x f fs own os follows.6
+      (drop_outer a outer x f fs own (RepeatsFor parameter reversed now last body) items (ap (λ q. q.raised x) follows.4.loop)
+      (shows_as a.handling outer.handling (ap (λ q. q.handling) follows.4.loop))
+      (λ z. (subst (λ q. AreHeld f.locals q) held z).1.1)
+      (λ z. ap (λ l. rest_of (rest_of l)) (ap (λ q. map held_offset q) (sym held) ∙ z ∙ follows.4.narrows.reserved ∙ c.reserved)) refl h)
+  catches room (EndsCall names opened xs ∷ items) a from x f fs own os follows h =
+      let c = follows.1 in
+      let below = follows.2 in
+      let outer = follows.5 in
+      let waits = follows.15 in
+      let over = follows.18 in
+      let l = ap length follows.13 in
+      let d = h.depth in
+      let inner : Removable f (c ∷ below) = subst (λ q. Removable f q) follows.13 h.inner in (
+        c,
+        below,
+        follows.3,
+        follows.4,
+        follows.8,
+        h.goes ∙ follows.9.outermost.raised x,
+        follows.13,
+        follows.14,
+        catches room items outer follows.7 x c below follows.3 follows.4 follows.21
+            (record {
+              known = h.known;
+              goes = follows.22 c.place x (omega arith) (omega (arith, over));
+              rests = shown outer.visible outer.handling follows.3 c.locals waits.handles waits.rests.rests;
+              held = waits.rests.held;
+              apart = waits.rests.apart;
+              outside = waits.outside;
+              depth = omega (arith, d, l);
+              inner = inner.1;
+            }),
+      )
+  catches room (i' ∷ items) a from x f fs own os follows h = absurd follows
+
+  -- ---- the exception that a handler holds
+
+  pub handling_here : (items : List Item) (a : Setting) (n from word : ℕ) (locals : List ℤ) (fs : List Frame) (os : List Activation)
+      → Follow a n from items fs os
+      → a.ways.handled ≡ Some word → AreHeld locals a.held
+      → (x : ℕ) × (handled_exception items ≡ Some x) × (slice_get locals word ≡ Some (pos x))
+  handling_here [] a n from word locals fs os follows is held = let none = follows.0.outermost.handled in absurd cc
+  handling_here (Declares d ∷ items) a n from word locals fs os follows is held =
+      handling_here items (seeing follows.3 a) n follows.1 word locals fs os follows.7 is held
+  handling_here (DeclaresParameter d ∷ items) a n from word locals fs os follows is held =
+      handling_here items (seeing follows.3 a) n follows.1 word locals fs os follows.7 is held
+  handling_here (Sequence body hs ∷ items) a n from word locals fs os follows is held =
+      handling_here items (seeing follows.2 a) n follows.1 word locals fs os follows.5 is held
+  handling_here (Does s ∷ items) a n from word locals fs os follows is held =
+      handling_here items (seeing follows.2 a) n follows.1 word locals fs os follows.5 is held
+  handling_here (DoesMain s ∷ items) a n from word locals fs os follows is held =
+      handling_here items (seeing follows.2 a) n follows.1 word locals fs os follows.5 is held
+  handling_here (Handles NoHandlers ∷ items) a n from word locals fs os follows is held = handling_here items a n from word locals fs os follows is held
+  handling_here (Handles (MoreHandlers choices body rest) ∷ items) a n from word locals fs os follows is held =
+      handling_here items follows.2 n follows.1 word locals fs os follows.5 (sym (ap (λ q. q.ways.handled) follows.3.sequence) ∙ is)
+      (subst (λ q. AreHeld locals q) (ap (λ q. q.held) follows.3.sequence) held)
+  handling_here (EndsHandler x ∷ items) a n from word locals fs os follows is held =
+      let e : Some follows.1 ≡ Some word = sym (ap (λ q. q.ways.handled) follows.3.handler) ∙ is in
+      let there = subst (λ q. AreHeld locals q) (ap (λ q. q.held) follows.3.handler) held in
+      (x, refl, subst (λ q. slice_get locals q ≡ Some (pos x)) (same_Some follows.1 word e) there.0)
+  handling_here (Repeats body ∷ items) a n from word locals fs os follows is held =
+      handling_here items follows.2 n follows.1 word locals fs os follows.5 (sym (ap (λ q. q.ways.handled) follows.3.loop) ∙ is)
+      (subst (λ q. AreHeld locals q) (ap (λ q. q.held) follows.3.loop) held)
+  handling_here (RepeatsWhile e body ∷ items) a n from word locals fs os follows is held =
+      handling_here items follows.2 n follows.1 word locals fs os follows.5 (sym (ap (λ q. q.ways.handled) follows.3.loop) ∙ is)
+      (subst (λ q. AreHeld locals q) (ap (λ q. q.held) follows.3.loop) held)
+  handling_here (RepeatsFor parameter reversed now last body ∷ items) a n from word locals fs os follows is held =
+      handling_here items follows.2 n follows.1 word locals fs os follows.6 (sym (ap (λ q. q.ways.handled) follows.4.loop) ∙ is)
+      (subst (λ q. AreHeld locals q) (ap (λ q. q.held) follows.4.loop) held).1.1
+  handling_here (EndsCall names opened xs ∷ items) a n from word locals fs os follows is held = let none = follows.9.outermost.handled in absurd cc
+  handling_here (i' ∷ items) a n from word locals fs os follows is held = absurd follows

@@ -1,0 +1,279 @@
+-- Results of a call on their way to their targets: each is checked and stored.
+use Rattle.std.proofs.Common.{◌≡◌, ℕ, suc, ◌-◌, ◌<◌, ◌≤◌, ℤ, pos, List, [], ◌∷◌, length, None, Bool, true, false, refl, sym, ap, ◌∙◌, subst, arith}
+use Rattle.std.specs.Prelude.{if◌then◌else◌, is_some}
+use Rattle.base.specs.declared.exceptions.PredefinedException.TheVariants.{ConstraintError}
+use Rattle.base.specs.declared.schedule.ScheduleLine.{ScheduleLine}
+use Rattle.kernel.specs.State.{Kernel}
+use Rattle.kernel.specs.Effects.{Quiet, after}
+use Rattle.kernel.specs.Calm.{Calm}
+use Rattle.kernel.specs.Counting.{Done}
+use Rattle.kernel.specs.Laws.{QuietStays}
+use Rattle.image.specs.Sections.{Sections}
+use Rattle.image.specs.Frames.{Words, Frame, TaskState}
+use Rattle.image.specs.Steps as steps
+use Rattle.image.specs.Steps.{act}
+use Rattle.types.specs.declared.entity.Subtype.{Subtype}
+use Rattle.types.specs.Evaluations.{Gives, raise}
+use Rattle.types.specs.Evaluating.{passed}
+use Rattle.types.specs.Shapes.{has_shape, shape_of}
+use Rattle.types.specs.Values.{Value, fits}
+use Rattle.expr_rules.specs.Laws.{type_shape}
+use Rattle.expr_soundness.proofs.Agreement.{place_values}
+use Rattle.expr_soundness.proofs.Parts.{subtype_values}
+use Rattle.meaning.specs.Programs.{Program}
+use Rattle.meaning.specs.Targets.{activation_with, stored_in}
+use Rattle.meaning.specs.SourceSteps as source
+use Rattle.meaning.specs.SourceSteps.{place_of, work_step}
+use Rattle.meaning.specs.Works.{Item, Copies, Activation, Home, InActivation, InObject, InPackage, Store, Target, TaskWork, ends_of_calls}
+use Rattle.step_soundness.specs.Judged.{IsWorkOf}
+use Rattle.step_soundness.specs.Objects.{AreOf, AreTargets}
+use Rattle.expr_code.specs.Views.{in_frame, placed}
+use Rattle.expr_code.specs.Coming.{Comes, on}
+use Rattle.expr_code.specs.Seeing.{Package}
+use Rattle.expr_code.specs.declared.visible.Visible.{Visible}
+use Rattle.part_code.specs.Resting.{RestsWith, Shows}
+use Rattle.part_code.specs.Copying.{AreCopies, ArePlaced, address_of, addresses_of, copies_on}
+use Rattle.part_code.specs.declared.call.Destination.{Destination}
+use Rattle.part_code.specs.Handling.{GoesBy}
+use Rattle.part_code.specs.Statements.{Numbers}
+use Rattle.step_simulation.specs.Standing.{CodeStands, Copying, Going, IsCopying, Shares, items_size, work_size}
+use Rattle.part_code.proofs.Holding.{held_kept}
+use Rattle.part_code.proofs.Handling.{goes_within}
+use Rattle.step_simulation.proofs.Scenes.{Scene}
+use Rattle.step_simulation.proofs.Scenes as scene
+
+passed_is : (t : Subtype) (v y : Value) → passed t v ≡ Gives y → v ≡ y
+passed_is t v y e = by (fits t v) e
+  where
+    by : (b : Bool) → (if b then Gives v else raise ConstraintError) ≡ Gives y → v ≡ y
+    by true e = cc
+    by false e = cc
+
+pub placed_many : (v : Visible) (ds : List Destination) (xs : List Target) → ArePlaced v ds xs → length (addresses_of v xs) ≡ length ds
+placed_many v [] [] h = refl
+placed_many v (d ∷ ds) (x ∷ xs) h = ap suc (placed_many v ds xs h.1)
+placed_many v [] (x ∷ xs) h = absurd h
+placed_many v (d ∷ ds) [] h = absurd h
+
+pub same_within : (x : Target) (v : Value) (a : Activation) → (activation_with x v a).within ≡ a.within
+same_within x v a = of_home x.home
+  where
+    of_home : (home : Home)
+        → (let y : Activation = elim home [ InActivation ↦ record a { locals = stored_in a.locals x v } | InPackage ↦ a | InObject o ↦ a ] in
+        y).within ≡ a.within
+    of_home InActivation = refl
+    of_home InPackage = refl
+    of_home (InObject o) = refl
+
+module _ (this : Scene) where
+  abbrev quiet : QuietStays
+  quiet = this.quiet
+
+  abbrev i : Sections
+  i = this.i
+
+  abbrev program : Program
+  program = this.program
+
+  abbrev g : Package
+  g = this.g
+
+  abbrev numbers : Numbers
+  numbers = this.numbers
+
+  abbrev schedule : List ScheduleLine
+  schedule = this.schedule
+
+  abbrev k : Kernel
+  k = this.k
+
+  abbrev t : ℕ
+  t = this.t
+
+  abbrev calm : Calm k t
+  calm = this.calm
+
+  abbrev store : Store
+  store = this.store
+
+  abbrev m : Words
+  m = this.m
+
+  abbrev shares : Shares i program g numbers store m
+  shares = this.shares
+
+  abbrev w : TaskWork
+  w = this.w
+
+  abbrev now : source.Here
+  now = scene.now this
+
+  abbrev Meet : TaskState → Type 0
+  Meet s = scene.Meet this s
+
+  abbrev Meets : source.SourceStepped → steps.Stepped → Type 0
+  Meets x y = scene.Meets this x y
+
+  abbrev Setting : Type 0
+  Setting = scene.Setting this
+
+  abbrev In : ℕ → ℕ → Type 0
+  In n place = scene.In this n place
+
+  abbrev Follow : Setting → (n from : ℕ) → List Item → List Frame → List Activation → Type 0
+  Follow a n from items above waiting = scene.Follow this a n from items above waiting
+
+  abbrev Removable : Frame → List Frame → Type 0
+  Removable above fs = scene.Removable this above fs
+
+  -- what is still to be copied back is on the operand stack, if there is any
+  pub copying_stands : (vs : List Value) (xs : List Target) (items : List Item) (own : Activation) (os : List Activation) (k' : Kernel) (f' : Frame)
+      (above : List Frame) (a : Setting) (ds : List Destination) (to : ℕ)
+      → ArePlaced a.visible.names ds xs → length vs ≡ length xs → f'.place ≤ to → AreCopies i program g a.visible f'.place to ds
+      → In f'.subprogram f'.place → In f'.subprogram to → Follow a f'.subprogram to items above os
+      → RestsWith g a.visible a.held own f'.locals → own.within ≡ None
+      → f'.stack ≡ copies_on vs (addresses_of a.visible.names xs) []
+      → length above ≡ ends_of_calls items → Removable f' above → GoesBy i a.raised f'.place to → Shows g a.visible a.handling
+      → CodeStands i program g numbers k' (record { work = source.copying vs xs items; own = own; callers = os })
+      (record { frame = f'; callers = above; raising = None })
+  copying_stands [] [] items own os k' f' above a [] to places many up copies x y follows rests outside stack depth inner goes handles =
+      Going items refl (record {
+        around = a;
+        follows = subst (λ q. Follow a f'.subprogram q items above os) (sym copies) follows;
+        rests = rests;
+        outside = outside;
+        stack = stack;
+        going = refl;
+        depth = depth;
+        inner = inner;
+      })
+  copying_stands [] [] items own os k' f' above a (d ∷ ds) to places many up copies x y follows rests outside stack depth inner goes handles = absurd places
+  copying_stands [] (z ∷ xs) items own os k' f' above a ds to places many up copies x y follows rests outside stack depth inner goes handles =
+      absurd (omega (arith, many))
+  copying_stands (v ∷ vs) [] items own os k' f' above a ds to places many up copies x y follows rests outside stack depth inner goes handles =
+      absurd (omega (arith, many))
+  copying_stands (v ∷ vs) (z ∷ xs) items own os k' f' above a ds to places many up copies x y follows rests outside stack depth inner goes handles =
+      Copying (v ∷ vs) (z ∷ xs) items refl (record {
+        around = a;
+        destinations = ds;
+        to = to;
+        placed = places;
+        many = many;
+        up = up;
+        copies = copies;
+        from_inside = x;
+        to_inside = y;
+        follows = follows;
+        rests = rests;
+        outside = outside;
+        stack = stack;
+        going = refl;
+        depth = depth;
+        inner = inner;
+        goes = goes;
+        handles = handles;
+      })
+
+  module _ (s : TaskState) where
+    abbrev f : Frame
+    f = s.frame
+
+    abbrev fs : List Frame
+    fs = s.callers
+
+    stands_is : (base : List ℤ) → s.frame.stack ≡ base → s.raising ≡ None → s ≡ (in_frame m (placed s.frame s.frame.place base) s.callers).task
+    stands_is base stack going = λ j. record { frame = placed s.frame s.frame.place (stack j); callers = s.callers; raising = going j }
+
+    typed : (types : List ℕ) (v : Value) (vs : List Value) (x : Target) (xs : List Target) (d : Destination)
+        → AreOf program.scope types (v ∷ vs) → AreTargets program w.own types (x ∷ xs) → x.subtype ≡ d.subtype
+        → has_shape (type_shape program.scope d.subtype.type_number) v ≡ true
+    typed [] v vs x xs d h k e = absurd h
+    typed (n ∷ ns) v vs x xs d h k e = subst (λ q. has_shape (type_shape program.scope q) v ≡ true) (sym k.0 ∙ ap (λ u. u.type_number) e) h.0
+
+    pub met_copies : (vs : List Value) (xs : List Target) (items : List Item) → w.work ≡ Copies vs xs items
+        → IsCopying i program g numbers vs xs items w.own w.callers s → Meet s
+    met_copies [] [] items is h =
+        scene.met_still this s (source.goes now items) (ap (λ q. work_step now q) is) refl refl
+        (subst (λ q. CodeStands i program g numbers k (record { work = source.copying [] [] items; own = w.own; callers = w.callers }) q)
+        (sym (stands_is [] h.stack h.going))
+        (copying_stands [] [] items w.own w.callers k (placed f f.place []) fs h.around h.destinations h.to h.placed h.many h.up h.copies h.from_inside
+        h.to_inside h.follows h.rests h.outside refl h.depth (scene.inner_placed this f fs f.place [] h.inner) h.goes h.handles))
+        (subst (λ q. suc (items_size items) < work_size q) (sym is) (omega arith))
+    met_copies [] (x ∷ xs) items is h = let e = h.many in absurd (omega (arith, e))
+    met_copies (v ∷ vs) [] items is h = let e = h.many in absurd (omega (arith, e))
+    met_copies (v ∷ vs) (x ∷ xs) items is h = by_places h.destinations h.placed h.copies
+      where
+        a : Setting
+        a = h.around
+
+        rest : List ℤ
+        rest = copies_on vs (addresses_of a.visible.names xs) []
+
+        at : ℕ
+        at = address_of a.visible.names x
+
+        go : Value → source.SourceStepped
+        go y = source.stores now x y (source.copying vs xs items)
+
+        shaped : (d : Destination) → ArePlaced a.visible.names (d ∷ []) (x ∷ []) → has_shape (shape_of a.visible.names.scope d.subtype) v ≡ true
+        shaped d p =
+            let task = this.sound store shares.sound in
+            let sound = subst (λ q. IsWorkOf program None w.own task.scope task.outer task.around q) is task.work in
+            let knows = scene.sees_here this a.visible items f fs h.rests in
+            let known = ap is_some p.0.known.1 in
+            sym (place_values a.visible.names.scope (place_of now items) knows.sees.names.agrees d.subtype v known)
+            ∙ subtype_values program.scope d.subtype v
+            ∙ typed sound.0 v vs x xs d sound.1 sound.2 p.0.subtype
+
+        inner_next : (above : List Frame) (locals stack : List ℤ) (place : ℕ) → Removable f above
+            → Removable (record { subprogram = f.subprogram; place = place; locals = locals; stack = stack; role = f.role }) above
+        inner_next [] locals stack place h = tt
+        inner_next (c ∷ above) locals stack place h = h
+
+        by_places : (ds : List Destination) → ArePlaced a.visible.names ds (x ∷ xs) → AreCopies i program g a.visible f.place h.to ds → Meet s
+        by_places [] p c = absurd p
+        by_places (d ∷ ds) p c =
+            let copy = c.3 in
+            let up = copy.up in
+            let end = copy.end in
+            let le = c.2 in
+            let l = h.from_inside in
+            let r = h.to_inside in
+            let fit = shaped d (p.0, tt) in
+            let start = on (pos at ∷ rest) v in
+            let next_in : In f.subprogram c.0 = (omega (arith, l.0, up, end), omega (arith, r.1, le)) in
+            subst Meet (sym (stands_is start h.stack h.going))
+            (scene.met_comes_on this start start f fs 0 f.place (copy.mid - f.place) copy.mid (on (pos at ∷ rest)) (passed x.subtype v) items go
+            Done
+            (subst (λ u. Comes i schedule k t m (placed f f.place start) fs (copy.mid - f.place) copy.mid (on (pos at ∷ rest)) (passed u v)) (sym p.0.subtype)
+            (copy.checks schedule k t m f fs (pos at ∷ rest) v calm fit))
+            (omega (arith, l.0, r.1, up, end, le))
+            (ap (λ q. work_step now q) is)
+            (subst (λ q. items_size items < work_size q) (sym is) (omega arith)) h.inner
+            (scene.handled_by this s a a.visible h.to items (passed x.subtype v) f.place copy.mid h.follows
+            (goes_within i a.raised f.place f.place copy.mid h.to h.goes (omega arith) (omega (arith, end, le))) h.rests refl h.handles h.outside h.depth h.inner)
+            (λ y ey.
+            let same = passed_is x.subtype v y ey in
+            let put = copy.puts schedule k t m f fs store w.own (place_of now items) x y rest
+            (record { scope = refl; functions = refl; variables = refl; components = refl }) refl refl shares.stands h.rests.rests
+            (scene.sees_here this a.visible items f fs h.rests) h.outside p.0
+            (subst (λ q. has_shape (shape_of a.visible.names.scope d.subtype) q ≡ true) same fit) in
+            let next : ℕ → Frame = λ q. record { subprogram = f.subprogram; place = q; locals = put.locals; stack = rest; role = f.role } in (
+              steps.does Quiet put.words (next c.0) fs None None,
+              put.acts ∙ ap (λ q. steps.does Quiet put.words (next q) fs None None) (sym end),
+              record {
+                effect = refl;
+                waits = refl;
+                alone = tt;
+                code = copying_stands vs xs items (activation_with x y w.own) w.callers (after t Quiet k) (next c.0) fs a ds h.to p.1 (let e = h.many in omega (arith, e)) le c.4
+                    next_in r h.follows
+                    (record {
+                      rests = put.rests;
+                      held = held_kept a.held a.visible.reserved f.locals put.locals h.rests.apart put.keeps h.rests.held;
+                      apart = h.rests.apart;
+                    })
+                    (same_within x y w.own ∙ h.outside) refl h.depth (inner_next fs put.locals rest c.0 h.inner)
+                    (goes_within i a.raised f.place c.0 h.to h.to h.goes (omega (arith, up, end)) (omega arith)) h.handles;
+                words = put.shared;
+              },
+            )))

@@ -1,0 +1,435 @@
+-- Steps of loops over ranges: the range and the first turn, and the end of each turn.
+use Rattle.std.proofs.Common.{◌≡◌, ℕ, suc, ◌+◌, ◌-◌, ◌<◌, ◌≤◌, ℤ, List, [], ◌∷◌, length, None, Bool, true, false, refl, sym, ap, ◌∙◌, subst, arith}
+use Rattle.std.specs.Prelude.{if◌then◌else◌, int_lt, ⊤}
+use Rattle.base.specs.declared.schedule.ScheduleLine.{ScheduleLine}
+use Rattle.kernel.specs.State.{Kernel}
+use Rattle.kernel.specs.Effects.{Quiet}
+use Rattle.kernel.specs.Calm.{Calm}
+use Rattle.kernel.specs.Counting.{Spends}
+use Rattle.kernel.specs.Laws.{QuietStays}
+use Rattle.image.specs.Sections.{Sections}
+use Rattle.image.specs.Frames.{Words, Frame, TaskState}
+use Rattle.image.specs.Steps as steps
+use Rattle.image.specs.Steps.{behaviour}
+use Rattle.image.specs.declared.instruction.Operation.TheVariants as op
+use Rattle.ada_tree.specs.declared.expression.Identifier.{Identifier}
+use Rattle.ada_tree.specs.StatementTree.{For, Loop, RangeTree, StmtTrees}
+use Rattle.types.specs.Evaluations.{Val, Gives, Raises, Meaningless, and_then}
+use Rattle.types.specs.Evaluating.{call, val}
+use Rattle.types.specs.Operators.{are_same}
+use Rattle.types.specs.Places.{Place}
+use Rattle.types.specs.Values.{Value, Number, Truth, Array, Record}
+use Rattle.meaning.specs.Meeting.{Last}
+use Rattle.meaning.specs.MeetingLaws.{spends_takes}
+use Rattle.meaning.specs.Programs.{Program}
+use Rattle.meaning.specs.SameMeaning.{frames_of}
+use Rattle.meaning.specs.SourceSteps as source
+use Rattle.meaning.specs.SourceSteps.{place_of, program_behaviour, with_value, work_step}
+use Rattle.meaning.specs.Works.{Item, Does, RepeatsFor, Goes, Activation, Store, TaskWork, ends_of_calls, frames_left}
+use Rattle.expr_code.specs.Views.{in_frame, placed}
+use Rattle.expr_code.specs.Coming.{most_steps}
+use Rattle.expr_code.specs.Seeing.{Package}
+use Rattle.expr_code.proofs.Coming.{acts}
+use Rattle.part_code.specs.Resting.{Framed, RestsWith}
+use Rattle.part_code.specs.Counting.{Bounds, GoesOn, IsCounted, IsRange, bounds, in_turn, number_bounds, turn_first, turn_last, with_last, with_parameter}
+use Rattle.part_code.specs.Statements.{Numbers}
+use Rattle.part_code.specs.Jumping.{Here}
+use Rattle.step_simulation.specs.Standing.{CodeStands, Going, Shares, in_range, items_size, work_size}
+use Rattle.step_simulation.proofs.Going.{before_ends, before_follows, jumps_up, narrows_same, rest_of}
+use Rattle.step_simulation.proofs.Sizes.{before_size, item_counts}
+use Rattle.step_simulation.proofs.Turning as turn
+use Rattle.part_code.proofs.Handling.{goes_within}
+use Rattle.step_simulation.proofs.Scenes.{Scene}
+use Rattle.step_simulation.proofs.Scenes as scene
+
+module _ (this : Scene) where
+  abbrev quiet : QuietStays
+  quiet = this.quiet
+
+  abbrev i : Sections
+  i = this.i
+
+  abbrev program : Program
+  program = this.program
+
+  abbrev g : Package
+  g = this.g
+
+  abbrev numbers : Numbers
+  numbers = this.numbers
+
+  abbrev schedule : List ScheduleLine
+  schedule = this.schedule
+
+  abbrev k : Kernel
+  k = this.k
+
+  abbrev t : ℕ
+  t = this.t
+
+  abbrev calm : Calm k t
+  calm = this.calm
+
+  abbrev store : Store
+  store = this.store
+
+  abbrev m : Words
+  m = this.m
+
+  abbrev shares : Shares i program g numbers store m
+  shares = this.shares
+
+  abbrev w : TaskWork
+  w = this.w
+
+  abbrev now : source.Here
+  now = scene.now this
+
+  abbrev Meet : TaskState → Type 0
+  Meet s = scene.Meet this s
+
+  abbrev Meets : source.SourceStepped → steps.Stepped → Type 0
+  Meets x y = scene.Meets this x y
+
+  abbrev Setting : Type 0
+  Setting = scene.Setting this
+
+  abbrev seeing : Framed → Setting → Setting
+  seeing v a = scene.seeing this v a
+
+  abbrev In : ℕ → ℕ → Type 0
+  In n place = scene.In this n place
+
+  abbrev Follow : Setting → (n from : ℕ) → List Item → List Frame → List Activation → Type 0
+  Follow a n from items above waiting = scene.Follow this a n from items above waiting
+
+  abbrev Removable : Frame → List Frame → Type 0
+  Removable above fs = scene.Removable this above fs
+
+  abbrev Reaching : Frame → List Frame → (n from to : ℕ) → Type 0
+  Reaching above fs n from to = scene.Reaching this above fs n from to
+
+  abbrev goes_at : Frame → ℕ → List ℤ → Frame
+  goes_at above place locals = scene.goes_at this above place locals
+
+  module _ (s : TaskState) where
+    abbrev f : Frame
+    f = s.frame
+
+    abbrev fs : List Frame
+    fs = s.callers
+
+    abbrev IsAtItems : List Item → Type 0
+    IsAtItems items = scene.IsAtItems this s items
+
+    abbrev Spent : ℕ → Frame → Frame → Type 0
+    Spent n from to = Spends (behaviour i schedule) t frames_of (most_steps i) (suc (length fs)) n k (in_frame m from fs) k (in_frame m to fs)
+
+    -- the step leaves the task with these items and this activation, and changes nothing else
+    abbrev left_with : Activation → List Item → source.SourceStepped
+    left_with own items = record {
+      effect = Quiet;
+      solo = record { memory = store; task = record { work = Goes items; own = own; callers = w.callers } };
+      given = None;
+    }
+
+    -- the frame goes on elsewhere, by steps that no other task notices
+    met_goes_on : (n n' mid target : ℕ) (start locals : List ℤ) (items : List Item) (own : Activation) (a : Setting)
+        → work_step now w.work ≡ left_with own items
+        → Spent n (placed f f.place []) (placed f mid start)
+        → Spent n' (placed f mid start) (goes_at f target locals)
+        → n + (n' + 1) < most_steps i (in_frame m f fs).task
+        → Follow a f.subprogram target items fs w.callers
+        → RestsWith g a.visible a.held own locals
+        → own.within ≡ None
+        → length fs ≡ ends_of_calls items
+        → Removable f fs
+        → suc (items_size items) < work_size w.work
+        → Meet (in_frame m (placed f f.place []) fs).task
+    met_goes_on n n' mid target start locals items own a is first second low follows rests outside depth inner less =
+        let end = in_frame m (goes_at f target locals) fs in
+        scene.met_quiet this f fs (n + (n' + 1)) end.task (left_with own items) is refl refl
+        (spends_takes (behaviour i schedule) t frames_of (most_steps i) (n' + 1) k end first
+        (spends_takes (behaviour i schedule) t frames_of (most_steps i) 1 k end second (Last refl)))
+        low
+        (λ other e. record {
+          sound = scene.task_after this (left_with own items) is refl;
+          code = subst (λ q. CodeStands i program g numbers k (left_with own items).solo.task q) (sym e)
+              (Going items refl (scene.goes_on this s items own a target locals follows rests outside depth inner));
+        })
+        less
+
+    -- ---- the range
+
+    range_is : (range : RangeTree) (go : Value → Value → source.SourceStepped) (items : List Item) (p : Place)
+        → with_value now (val p range.first) items (λ v. with_value now (val p range.last) items (go v))
+        ≡ with_value now (bounds range (call p.frames_left) p) items (λ b. go b.first b.last)
+    range_is range go items p = by_first (val p range.first)
+      where
+        by_last : (v : Value) (u : Val Value) → with_value now u items (go v) ≡ with_value now (and_then u (with_last v)) items (λ b. go b.first b.last)
+        by_last v (Gives u) = refl
+        by_last v (Raises x) = refl
+        by_last v Meaningless = refl
+
+        by_first : (v : Val Value) → with_value now v items (λ v. with_value now (val p range.last) items (go v))
+            ≡ with_value now (and_then v (λ a. and_then (val p range.last) (with_last a))) items (λ b. go b.first b.last)
+        by_first (Gives v) = by_last v (val p range.last)
+        by_first (Raises x) = refl
+        by_first Meaningless = refl
+
+    pub met_for : (place : ℕ) (parameter : Identifier) (reversed : Bool) (range : RangeTree) (body : StmtTrees) (items : List Item)
+        → w.work ≡ Goes (Does (Loop place (For parameter reversed range) body) ∷ items) → (h : IsAtItems (Does (Loop place (For parameter reversed range) body) ∷ items))
+        → Meet s
+    met_for place parameter reversed range body items is h =
+        let u1 = c.up in
+        let u2 = c.over in
+        let u3 = c.on in
+        let u4 = c.end in
+        let u5 = begin.up in
+        let u6 = begin.over in
+        let x = r.3.from_inside in
+        let y = r.3.to_inside in
+        let up = jumps_up i program g numbers f.place r.0 r.3.jumps in
+        let p = place_of now items in
+        subst Meet (sym (scene.going_is this s h.stack h.going))
+        (scene.met_value this f fs ((r.0 - f.place) + 1) (r.0 + 2) (begin.mid - (r.0 + 2)) begin.mid (begin.stack []) (bounds range (call (frames_left items)) p)
+        items
+        (λ b. source.for_range now parameter reversed body items b.first b.last)
+        (turn.reaches_head this s r.0 r.0 r.3.jumps c.skip)
+        (scene.evaluates this r.2 (r.0 + 2) begin.mid begin.stack (bounds range) items f fs begin.computes here h.depth)
+        (omega (arith, x.0, y.1, up, u1, u2, u3, u4, u5, u6))
+        (ap (λ q. work_step now q) is ∙ range_is range (source.for_range now parameter reversed body items) items p)
+        (subst (λ q. items_size items < work_size q) (sym is)
+        (let e = item_counts (Does (Loop place (For parameter reversed range) body)) items in omega (arith, e)))
+        h.inner
+        (scene.handled_by this s outer r.2 r.1 items (bounds range (call (frames_left items)) p) (r.0 + 2) begin.mid r.5
+        (goes_within i outer.raised (r.0 + 2) (r.0 + 2) begin.mid c.start r.4.3 (omega arith) u6) here refl r.3.reaches.2 h.outside h.depth h.inner)
+        (λ b eb there spends. by_bounds b.first b.last eb there spends))
+      where
+        r : Follow h.around f.subprogram f.place (Does (Loop place (For parameter reversed range) body) ∷ items) fs w.callers
+        r = h.follows
+
+        outer : Setting
+        outer = seeing r.2 h.around
+
+        c : IsCounted i g r.2 r.0 r.1 parameter.name reversed
+        c = r.4.0
+
+        begin : IsRange i g r.2 c.inner c.counter c.limit (r.0 + 2) c.start r.1 parameter.name reversed range
+        begin = r.4.1
+
+        here : RestsWith g r.2 h.around.held w.own f.locals
+        here = scene.narrowed this s h.around.visible r.2 w.own f.locals r.3.narrows h.rests
+
+        inside : (place : ℕ) → r.0 ≤ place → place ≤ r.1 → In f.subprogram place
+        inside place low high =
+            let x = r.3.from_inside in
+            let y = r.3.to_inside in
+            let up = jumps_up i program g numbers f.place r.0 r.3.jumps in
+            (omega (arith, x.0, up, low), omega (arith, y.1, high))
+
+        few : ⊤ → (((r.0 - f.place) + 1) + (begin.mid - (r.0 + 2))) + ((c.start - begin.mid) + 1) < most_steps i (in_frame m f fs).task
+        few u =
+            let x = r.3.from_inside in
+            let y = r.3.to_inside in
+            let up = jumps_up i program g numbers f.place r.0 r.3.jumps in
+            let u1 = c.up in
+            let u2 = c.over in
+            let u3 = c.on in
+            let u4 = c.end in
+            let u5 = begin.up in
+            let u6 = begin.over in
+            omega (arith, x.0, y.1, up, u1, u2, u3, u4, u5, u6)
+
+        ComesTo : Bounds → Type 0
+        ComesTo b = Spent (((r.0 - f.place) + 1) + (begin.mid - (r.0 + 2))) (placed f f.place []) (placed f begin.mid (begin.stack [] b))
+
+        -- the first turn
+        turns : (now' last : ℤ) (b : Bounds) → work_step now w.work ≡ source.for_turn now parameter.name reversed now' last body items → ComesTo b
+            → GoesOn i g schedule k t m (placed f begin.mid (begin.stack [] b)) fs (c.start - begin.mid) c.start c.inner
+            (in_turn c.counter c.limit now' last h.around.held) (with_parameter parameter.name now' w.own)
+            → Meet (in_frame m (placed f f.place []) fs).task
+        turns now' last b there spends on =
+            let u1 = c.up in
+            let u2 = c.over in
+            let u3 = c.on in
+            let u4 = c.end in
+            let loop = RepeatsFor parameter.name reversed now' last body ∷ items in
+            let turn_setting = in_range i program g numbers (r.0 + 1) c.counter c.limit now' last c.inner outer in
+            let start_in = inside c.start (omega (arith, u1)) (omega (arith, u2, u3, u4)) in
+            let back_in = inside c.back (omega (arith, u1, u2)) (omega (arith, u3, u4)) in
+            let head_in = inside r.0 (omega arith) (omega (arith, u1, u2, u3, u4)) in
+            let total = before_size body loop in
+            met_goes_on (((r.0 - f.place) + 1) + (begin.mid - (r.0 + 2))) (c.start - begin.mid) begin.mid c.start (begin.stack [] b) on.locals
+            (source.before body loop) (with_parameter parameter.name now' w.own) turn_setting there spends on.spends (few tt)
+            (before_follows i program g numbers body turn_setting c.inner f.subprogram c.start c.back loop fs w.callers r.4.2 u2 start_in back_in
+            (c.shows, (λ q view z. r.3.reaches.1 q view (c.shows q view z)), λ q view z. r.3.reaches.2 q view (c.shows q view z)) (
+              r.0,
+              r.1,
+              outer,
+              c,
+              record {
+                jumps = Here;
+                loop = refl;
+                narrows = narrows_same g c.inner;
+                reaches = r.3.reaches.1;
+                handles = r.3.reaches.2;
+                from_inside = back_in;
+                head_inside = head_in;
+                to_inside = r.3.to_inside;
+              },
+              r.4.2,
+              r.5,
+              r.4.4,
+            ))
+            on.rests h.outside (h.depth ∙ sym (before_ends i program g numbers body loop)) h.inner
+            (subst (λ q. suc (items_size (source.before body loop)) < work_size q) (sym is) (omega (arith, total)))
+
+        of_numbers : (x y : ℤ) → bounds range (call (frames_left items)) (place_of now items) ≡ Gives (number_bounds x y)
+            → work_step now w.work ≡ source.for_range now parameter reversed body items (Number x) (Number y)
+            → ComesTo (number_bounds x y) → Meet (in_frame m (placed f f.place []) fs).task
+        of_numbers x y eb there spends = by_null (int_lt y x) refl
+          where
+            by_null : (b : Bool) → int_lt y x ≡ b → Meet (in_frame m (placed f f.place []) fs).task
+            by_null true null =
+                let on = begin.null schedule k t m f fs h.around.held w.own (place_of now items) x y calm refl (scene.sees_here this r.2 items f fs here) here eb null in
+                met_goes_on (((r.0 - f.place) + 1) + (begin.mid - (r.0 + 2))) (c.start - begin.mid) begin.mid r.1 (begin.stack [] (number_bounds x y)) on.locals
+                items w.own outer (there ∙ ap (λ q. if q then source.goes now items else started) null) spends on.spends (few tt) r.5 on.rests h.outside h.depth
+                h.inner
+                (subst (λ q. suc (items_size items) < work_size q) (sym is)
+                (let e = item_counts (Does (Loop place (For parameter reversed range) body)) items in omega (arith, e)))
+              where
+                started : source.SourceStepped
+                started = if reversed then source.for_turn now parameter.name true y x body items else source.for_turn now parameter.name false x y body items
+            by_null false full =
+                turns (turn_first reversed x y) (turn_last reversed x y) (number_bounds x y)
+                (there ∙ ap (λ q. if q then source.goes now items else (if reversed then source.for_turn now parameter.name true y x body items
+                else source.for_turn now parameter.name false x y body items)) full ∙ directed reversed)
+                spends
+                (begin.begins schedule k t m f fs h.around.held w.own (place_of now items) x y calm refl (scene.sees_here this r.2 items f fs here) here eb full)
+              where
+                directed : (d : Bool) → (if d then source.for_turn now parameter.name true y x body items else source.for_turn now parameter.name false x y body items)
+                    ≡ source.for_turn now parameter.name d (turn_first d x y) (turn_last d x y) body items
+                directed true = refl
+                directed false = refl
+
+        by_bounds : (first last : Value) → bounds range (call (frames_left items)) (place_of now items) ≡ Gives (record { first = first; last = last })
+            → work_step now w.work ≡ source.for_range now parameter reversed body items first last
+            → ComesTo (record { first = first; last = last }) → Meet (in_frame m (placed f f.place []) fs).task
+        by_bounds (Number x) (Number y) eb there spends = of_numbers x y eb there spends
+        by_bounds (Number x) (Truth b) eb there spends = absurd (scene.has_meaning this items there)
+        by_bounds (Number x) (Array vs) eb there spends = absurd (scene.has_meaning this items there)
+        by_bounds (Number x) (Record vs) eb there spends = absurd (scene.has_meaning this items there)
+        by_bounds (Truth b) last eb there spends = absurd (scene.has_meaning this items there)
+        by_bounds (Array vs) last eb there spends = absurd (scene.has_meaning this items there)
+        by_bounds (Record vs) last eb there spends = absurd (scene.has_meaning this items there)
+
+    -- ---- the end of a turn
+
+    pub met_next : (parameter : List ℕ) (reversed : Bool) (now' last : ℤ) (body : StmtTrees) (items : List Item)
+        → w.work ≡ Goes (RepeatsFor parameter reversed now' last body ∷ items) → (h : IsAtItems (RepeatsFor parameter reversed now' last body ∷ items)) → Meet s
+    met_next parameter reversed now' last body items is h = subst Meet (sym (scene.going_is this s h.stack h.going)) (by_end (are_same now' last) refl)
+      where
+        r : Follow h.around f.subprogram f.place (RepeatsFor parameter reversed now' last body ∷ items) fs w.callers
+        r = h.follows
+
+        outer : Setting
+        outer = r.2
+
+        c : IsCounted i g outer.visible r.0 r.1 parameter reversed
+        c = r.3
+
+        here : RestsWith g c.inner (in_turn c.counter c.limit now' last outer.held) w.own f.locals
+        here = subst (λ q. RestsWith g c.inner q w.own f.locals) (ap (λ q. q.held) r.4.loop)
+            (scene.narrowed this s h.around.visible c.inner w.own f.locals r.4.narrows h.rests)
+
+        -- what rests behind the loop
+        behind : (locals : List ℤ) → RestsWith g c.inner (in_turn c.counter c.limit now' last outer.held) w.own locals
+            → RestsWith g outer.visible outer.held w.own locals
+        behind locals rests = record {
+          rests = scene.shown this s c.inner outer.visible w.own locals c.shows rests.rests;
+          held = rests.held.1.1;
+          apart = ap (λ l. rest_of (rest_of l)) (rests.apart ∙ c.reserved);
+        }
+
+        step : work_step now w.work ≡ source.next_turn now parameter reversed now' last body items
+        step = ap (λ q. work_step now q) is
+
+        go : ℤ → source.SourceStepped
+        go next = source.for_turn now parameter reversed next last body items
+
+        by_end : (b : Bool) → are_same now' last ≡ b → Meet (in_frame m (placed f f.place []) fs).task
+        by_end true same =
+            let on = c.next.ends schedule k t m f fs outer.held w.own now' last calm here same in
+            let x = r.4.from_inside in
+            let y = r.4.to_inside in
+            let up = jumps_up i program g numbers f.place c.back r.4.jumps in
+            let u3 = c.on in
+            let u4 = c.end in
+            met_goes_on (c.back - f.place) (c.turn - c.back) c.back r.1 [] on.locals items w.own outer
+            (step ∙ ap (λ q. if q then source.goes now items else with_value now (source.next_number now reversed now') items go) same)
+            (scene.jumps_spend this f fs f.place c.back r.4.jumps) on.spends (omega (arith, x.0, y.1, up, u3, u4)) r.6 (behind on.locals on.rests) h.outside h.depth
+            h.inner (subst (λ q. suc (items_size items) < work_size q) (sym is) (omega arith))
+        by_end false other =
+            let x = r.4.from_inside in
+            let y = r.4.to_inside in
+            let up = jumps_up i program g numbers f.place c.back r.4.jumps in
+            let u1 = c.up in
+            let u2 = c.over in
+            let u3 = c.on in
+            let u4 = c.end in
+            let u5 = c.next.up in
+            let u6 = c.next.over in
+            scene.met_value this f fs (c.back - f.place) c.back (c.next.mid - c.back) c.next.mid c.next.stack (source.next_number now reversed now') items go
+            (scene.jumps_spend this f fs f.place c.back r.4.jumps)
+            (c.next.counts schedule k t m f fs outer.held w.own now' last calm here other)
+            (omega (arith, x.0, y.1, up, u3, u4, u5, u6))
+            (step ∙ ap (λ q. if q then source.goes now items else with_value now (source.next_number now reversed now') items go) other)
+            (subst (λ q. items_size items < work_size q) (sym is) (omega arith)) h.inner
+            (scene.handled_by this s outer outer.visible r.1 items (source.next_number now reversed now') c.back c.next.mid r.6
+            (goes_within i outer.raised c.back c.back c.next.mid r.1 r.7 (omega arith) (omega (arith, u4, u6))) (behind f.locals here) refl r.4.handles h.outside
+            h.depth h.inner)
+            (λ next ez there spends.
+            let on = c.next.goes schedule k t m f fs outer.held w.own now' last next calm here in
+            let own' = with_parameter parameter next w.own in
+            let loop = RepeatsFor parameter reversed next last body ∷ items in
+            let turn_setting = in_range i program g numbers (r.0 + 1) c.counter c.limit next last c.inner outer in
+            let z = r.4.head_inside in
+            let start_in : In f.subprogram c.start = (omega (arith, z.0, u1), omega (arith, y.1, u2, u3, u4)) in
+            let back_in : In f.subprogram c.back = (omega (arith, z.0, u1, u2), omega (arith, y.1, u3, u4)) in
+            let last_frame = goes_at f c.turn on.locals in
+            let y' : steps.Stepped = steps.does Quiet m (goes_at f c.start on.locals) fs None None in
+            scene.moves_from this (in_frame m (placed f f.place []) fs).task (((c.back - f.place) + (c.next.mid - c.back)) + ((c.turn - c.next.mid) + 1))
+            (in_frame m last_frame fs) (go next) y' there
+            (acts quiet i c.turn (op.Jump c.start) c.jump schedule k t m last_frame fs [])
+            (spends_takes (behaviour i schedule) t frames_of (most_steps i) ((c.turn - c.next.mid) + 1) k (in_frame m last_frame fs) spends
+            (spends_takes (behaviour i schedule) t frames_of (most_steps i) 1 k (in_frame m last_frame fs) on.spends (Last refl)))
+            (omega (arith, x.0, y.1, up, u3, u4, u5, u6), λ some. omega (arith, x.0, y.1, up, u3, u4, u5, u6))
+            (record {
+              effect = refl;
+              waits = refl;
+              alone = tt;
+              code = Going (source.before body loop) refl (scene.goes_on this s (source.before body loop) own' turn_setting c.start on.locals
+                  (before_follows i program g numbers body turn_setting c.inner f.subprogram c.start c.back loop fs w.callers r.5 u2 start_in back_in
+                  (c.shows, (λ q view z. r.4.reaches q view (c.shows q view z)), λ q view z. r.4.handles q view (c.shows q view z)) (
+                    r.0,
+                    r.1,
+                    outer,
+                    c,
+                    record {
+                      jumps = Here;
+                      loop = refl;
+                      narrows = narrows_same g c.inner;
+                      reaches = r.4.reaches;
+                      handles = r.4.handles;
+                      from_inside = back_in;
+                      head_inside = r.4.head_inside;
+                      to_inside = r.4.to_inside;
+                    },
+                    r.5,
+                    r.6,
+                    r.7,
+                  ))
+                  on.rests h.outside (h.depth ∙ sym (before_ends i program g numbers body loop)) h.inner);
+              words = shares.stands;
+            }))

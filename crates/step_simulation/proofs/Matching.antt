@@ -1,0 +1,220 @@
+-- Each step of a task is met by code.
+use Rattle.std.proofs.Common.{◌≡◌, ℕ, suc, ◌<◌, ℤ, List, [], ◌∷◌, Option, Some, None, refl, sym, ap, ◌∙◌, subst, arith}
+use Rattle.base.specs.declared.schedule.ScheduleLine.{ScheduleLine}
+use Rattle.kernel.specs.State.{Kernel}
+use Rattle.kernel.specs.Calm.{Calm}
+use Rattle.kernel.specs.Laws.{QuietStays}
+use Rattle.image.specs.Sections.{Sections}
+use Rattle.image.specs.Frames.{Words, Frame, TaskState}
+use Rattle.image.specs.Steps as steps
+use Rattle.image.specs.Steps.{act, behaviour, caught, does_operation, removed, unwind}
+use Rattle.ada_tree.specs.StatementTree.{ObjectTree, DeclarationTree, LocalObject, LocalTask, LocalProtected, StmtTree, Null, Assignment, Exit, Return, Raise, Delay, DelayUntil, If, Case, Loop, Block, Abort, Requeue, Accept, Select, StmtTrees, NoStmts, MoreStmts, ElsifTrees, NoElsifs, MoreElsifs, Forever, While, For, HandlerTrees, NoHandlers}
+use Rattle.ada_tree.specs.declared.program.MainStatement.{MainStatement}
+use Rattle.ada_tree.specs.declared.program.MainStatement.TheVariants as main
+use Rattle.ada_tree.specs.ExpressionTree.{ArgumentTrees, Arguments, ExprTree, MoreArguments, MoreSelectors, NameTree, NoArguments, NoSelectors, SelectorTrees, Text}
+use Rattle.types.specs.Entities.{Put}
+use Rattle.ada_tree.specs.ExpressionTree as expressions
+use Rattle.ada_tree.specs.StatementTree as tree
+use Rattle.meaning.specs.Calls.{Callee, callee_by}
+use Rattle.meaning.specs.Programs.{Program}
+use Rattle.meaning.specs.SourceSteps as source
+use Rattle.meaning.specs.SourceSteps.{here_of, place_of, program_behaviour, with_value, work_step}
+use Rattle.meaning.specs.Works.{Item, Declares, DeclaresParameter, Sequence, Does, DoesMain, Repeats, RepeatsWhile, RepeatsFor, Handles, EndsHandler, EndsCall, Goes, Activation, Store, TaskWork}
+use Rattle.step_soundness.specs.Laws.{StepsAreSound, StoresAreAlike}
+use Rattle.expr_code.specs.Seeing.{Package}
+use Rattle.part_code.specs.Resting.{Framed}
+use Rattle.part_code.specs.Statements.{IsCalleeCode, IsPutCode, Numbers}
+use Rattle.step_simulation.specs.Standing.{Catching, CodeStands, Copying, Going, IsCatching, Over as Ended, Raised, Shares, items_size, work_size}
+use Rattle.step_simulation.specs.Laws.{HasCode, StepsAreMet}
+use Rattle.step_simulation.proofs.Scenes.{AtOnce, Keeping, Scene}
+use Rattle.step_simulation.proofs.Scenes as scene
+use Rattle.step_simulation.proofs.Turning as turn
+use Rattle.step_simulation.proofs.Choosing as choose
+use Rattle.step_simulation.proofs.Copying as copy
+use Rattle.step_simulation.proofs.Calling as calls
+use Rattle.step_simulation.proofs.Counting as count
+use Rattle.step_simulation.proofs.Raising as raising
+use Rattle.step_simulation.proofs.Sequences as sequences
+
+module _ (this : Scene) where
+  abbrev quiet : QuietStays
+  quiet = this.quiet
+
+  abbrev i : Sections
+  i = this.i
+
+  abbrev program : Program
+  program = this.program
+
+  abbrev g : Package
+  g = this.g
+
+  abbrev numbers : Numbers
+  numbers = this.numbers
+
+  abbrev has : HasCode i program g numbers
+  has = this.has
+
+  abbrev schedule : List ScheduleLine
+  schedule = this.schedule
+
+  abbrev k : Kernel
+  k = this.k
+
+  abbrev t : ℕ
+  t = this.t
+
+  abbrev calm : Calm k t
+  calm = this.calm
+
+  abbrev store : Store
+  store = this.store
+
+  abbrev m : Words
+  m = this.m
+
+  abbrev shares : Shares i program g numbers store m
+  shares = this.shares
+
+  abbrev w : TaskWork
+  w = this.w
+
+  abbrev now : source.Here
+  now = scene.now this
+
+  abbrev Meet : TaskState → Type 0
+  Meet s = scene.Meet this s
+
+  abbrev Meets : source.SourceStepped → steps.Stepped → Type 0
+  Meets x y = scene.Meets this x y
+
+  abbrev Setting : Type 0
+  Setting = scene.Setting this
+
+  abbrev seeing : Framed → Setting → Setting
+  seeing v a = scene.seeing this v a
+
+  abbrev In : ℕ → ℕ → Type 0
+  In n place = scene.In this n place
+
+  abbrev Follow : Setting → (n from : ℕ) → List Item → List Frame → List Activation → Type 0
+  Follow a n from items above waiting = scene.Follow this a n from items above waiting
+
+  abbrev Removable : Frame → List Frame → Type 0
+  Removable above fs = scene.Removable this above fs
+
+  abbrev Reaching : Frame → List Frame → (n from to : ℕ) → Type 0
+  Reaching above fs n from to = scene.Reaching this above fs n from to
+
+  abbrev goes_at : Frame → ℕ → List ℤ → Frame
+  goes_at above place locals = scene.goes_at this above place locals
+
+  module _ (s : TaskState) where
+    abbrev f : Frame
+    f = s.frame
+
+    abbrev fs : List Frame
+    fs = s.callers
+
+    abbrev IsAtItems : List Item → Type 0
+    IsAtItems items = scene.IsAtItems this s items
+
+    met_main : (st : MainStatement) (items : List Item) → w.work ≡ Goes (DoesMain st ∷ items) → (h : IsAtItems (DoesMain st ∷ items)) → Meet s
+    met_main (main.Null place) items is h =
+        let r = h.follows in
+        scene.met_items this s (source.goes now items) items (ap (λ q. work_step now q) is)
+        (subst (λ q. suc (items_size items) < work_size q) (sym is) (omega arith)) h.stack h.going
+        (seeing h.around.visible h.around)
+        (scene.reached this s h.around f.place r.0 r.1 r.2 items r.3
+        (subst (λ q. Follow (seeing r.2 h.around) f.subprogram q items fs w.callers) (sym r.4) r.5))
+        h.rests h.outside h.depth h.inner
+    met_main (main.Call package_ procedure) items is h = calls.met_main_call this s package_ procedure items is h
+
+    -- ---- all
+
+    met_called : (name : NameTree) (items : List Item) → w.work ≡ Goes (Does (tree.Call name) ∷ items) → (h : IsAtItems (Does (tree.Call name) ∷ items))
+        → (o : Option Callee) → callee_by program None name.first name.selectors ≡ o
+        → (let r = h.follows in IsCalleeCode i program g numbers r.2 r.0 r.1 name o) → Meet s
+    met_called name items is h (Some c) e code =
+        calls.met_call this s name c items is h e (ap (λ q. source.call_or_put now name (callee_by program q name.first name.selectors) items) h.outside ∙ ap
+        (λ q. source.call_or_put now name q items) e) code
+    met_called name items is h None e code =
+        by_selectors name.selectors code.1
+        (ap (λ q. source.call_or_put now name (callee_by program q name.first name.selectors) items) h.outside ∙ ap (λ q. source.call_or_put now name q items) e
+        ∙ ap (λ q. source.put_call now q name.selectors items) code.0)
+      where
+        by_selectors : (selectors : SelectorTrees) → (let r = h.follows in IsPutCode i program g numbers r.2 r.0 r.1 selectors)
+            → source.item_step now (Does (tree.Call name)) items ≡ source.put_call now (Some Put) selectors items → Meet s
+        by_selectors (MoreSelectors (Arguments (MoreArguments (Text label at) (MoreArguments (expressions.Value v) NoArguments))) NoSelectors) put same =
+            turn.met_put this s name label at v items is h same put
+        by_selectors other put same = absurd put
+
+    met_statement : (st : StmtTree) (items : List Item) → w.work ≡ Goes (Does st ∷ items) → (h : IsAtItems (Does st ∷ items)) → Meet s
+    met_statement (Null place) items is h = scene.met_null this s place items is h
+    met_statement (Assignment name e) items is h = turn.met_assignment this s name e items is h
+    met_statement (tree.Call name) items is h = met_called name items is h (callee_by program None name.first name.selectors) refl h.follows.4.0
+    met_statement (Exit place None) items is h = scene.met_exit this s place items is h
+    met_statement (Exit place (Some e)) items is h = turn.met_exit_when this s place e items is h
+    met_statement (Return place None) items is h = scene.met_return this s place items is h
+    met_statement (Raise place name) items is h = raising.met_raise this s place name items is h
+    met_statement (If place e body elsifs others) items is h = turn.met_if this s place e body elsifs others items is h
+    met_statement (Case place e all) items is h = choose.met_case this s place e all items is h
+    met_statement (Loop place Forever body) items is h = turn.met_forever this s place body items is h
+    met_statement (Loop place (While e) body) items is h = turn.met_while this s place e body items is h
+    met_statement (Loop place (For parameter reversed range) body) items is h = count.met_for this s place parameter reversed range body items is h
+    met_statement (Block place ds body hs) items is h = sequences.met_block this s place ds body hs items is h
+    met_statement other items is h = absurd h.follows.4
+
+    met_going : (all : List Item) → w.work ≡ Goes all → IsAtItems all → Meet s
+    met_going [] is h = scene.met_end this s is h
+    met_going (Declares (LocalObject d) ∷ items) is h = turn.met_declares this s d items is h
+    met_going (Sequence body hs ∷ items) is h = sequences.met_sequence this s body hs items is h
+    met_going (Does st ∷ items) is h = met_statement st items is h
+    met_going (DoesMain st ∷ items) is h = met_main st items is h
+    met_going (Handles hs ∷ items) is h = sequences.met_handles this s hs items is h
+    met_going (EndsHandler x ∷ items) is h = sequences.met_ends_handler this s x items is h
+    met_going (Repeats body ∷ items) is h = turn.met_repeats this s body items is h
+    met_going (RepeatsWhile e body ∷ items) is h = turn.met_repeats_while this s e body items is h
+    met_going (DeclaresParameter p ∷ items) is h = turn.met_parameter this s p items is h
+    met_going (RepeatsFor parameter reversed now' last body ∷ items) is h = count.met_next this s parameter reversed now' last body items is h
+    met_going (EndsCall names opened xs ∷ items) is h = calls.met_ends this s names opened xs items is h
+    met_going (Declares (LocalTask d) ∷ items) is h = absurd h.follows.6
+    met_going (Declares (LocalProtected d) ∷ items) is h = absurd h.follows.6
+    met_going (other ∷ items) is h = absurd h.follows
+
+  -- the instruction that keeps the exception, and then the step
+  met_catching : (s : TaskState) (items : List Item) → w.work ≡ Goes items → IsCatching i program g numbers items w.own w.callers s → scene.MetFrom this s
+  met_catching s items is h =
+      let inside = h.inside in
+      let kept : TaskState = record { frame = record s.frame { place = h.place; locals = h.locals; stack = [] }; callers = s.callers; raising = None } in
+      met_going kept items is h.going s (Keeping (h.acts schedule k t m) refl refl refl (omega (arith, inside.0, inside.1)))
+
+  pub met_by : (s : TaskState) → CodeStands i program g numbers k w s → scene.MetFrom this s
+  met_by s (Going items is h) = met_going s items is h s (AtOnce refl)
+  met_by s (Copying vs xs items is h) = copy.met_copies this s vs xs items is h s (AtOnce refl)
+  met_by s (Catching items is h) = met_catching s items is h
+  met_by s (Raised x items g' gs is throws inner caught) = raising.met_raised this s x items g' gs is throws inner caught
+  met_by s (Ended o h) = let e = calm.runs.on in absurd cc
+
+pub steps_are_met : QuietStays → StepsAreSound → StoresAreAlike → StepsAreMet
+steps_are_met quiet step_soundness alike i program g numbers has premises schedule k t calm store m w s shares stands =
+    met_by (record {
+      quiet = quiet;
+      step_soundness = step_soundness;
+      i = i;
+      program = program;
+      g = g;
+      numbers = numbers;
+      has = has;
+      premises = premises;
+      alike = alike;
+      schedule = schedule;
+      k = k;
+      t = t;
+      calm = calm;
+      store = store;
+      m = m;
+      shares = shares;
+      w = w;
+      sound = stands.sound;
+    }) s stands.code

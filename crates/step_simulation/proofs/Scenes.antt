@@ -1,0 +1,677 @@
+-- A step of a task and the frame that stands for its work: how steps meet, exceptions on their way, items without code, ways out.
+use Rattle.std.proofs.Common.{◌≡◌, ℕ, suc, ◌+◌, ◌-◌, ◌<◌, ◌≤◌, ◌⊎◌, inl, inr, ⊎_elim, ℤ, List, [], ◌∷◌, length, Option, Some, None, refl, sym, ap, ◌∙◌, subst, arith}
+use Rattle.base.specs.declared.schedule.ScheduleLine.{ScheduleLine}
+use Rattle.base.specs.declared.limits.TheConstants.{FRAMES}
+use Rattle.kernel.specs.State.{Kernel}
+use Rattle.kernel.specs.Effects.{Quiet, Finishes, after}
+use Rattle.kernel.specs.Worlds.{Solo}
+use Rattle.kernel.specs.Calm.{Calm}
+use Rattle.kernel.specs.Counting.{Spends, Done}
+use Rattle.kernel.specs.Laws.{QuietStays}
+use Rattle.kernel.specs.RunLaws.{spends_trans, spends_more}
+use Rattle.image.specs.Sections.{Sections}
+use Rattle.image.specs.Frames.{Inner, Words, Frame, TaskState, object_words, own_object}
+use Rattle.image.specs.Steps as steps
+use Rattle.image.specs.Steps.{act, behaviour, does_operation}
+use Rattle.image.specs.declared.instruction.Operation.{Operation}
+use Rattle.image.specs.declared.instruction.Operation.TheVariants as op
+use Rattle.image.specs.declared.instruction.Region.TheVariants as regions
+use Rattle.ada_tree.specs.StatementTree.{Null, Exit, Return}
+use Rattle.types.specs.Evaluations.{Val, Gives, Raises, Meaningless}
+use Rattle.types.specs.Evaluating.{Calls, call}
+use Rattle.types.specs.Places.{Place}
+use Rattle.meaning.specs.Meeting.{Takes, Last, OwnStep, Over, Within, taken, spent, Met}
+use Rattle.meaning.specs.MeetingLaws.{spends_takes, still_by, moves_by, walks_by, quiet_takes}
+use Rattle.meaning.specs.Lifting.{taken_unseen}
+use Rattle.meaning.specs.Programs.{Program}
+use Rattle.meaning.specs.SameMeaning.{frames_of}
+use Rattle.meaning.specs.SourceSteps as source
+use Rattle.meaning.specs.SourceSteps.{here_of, place_of, program_behaviour, with_value, work_step}
+use Rattle.meaning.specs.Works.{Item, Does, Goes, Activation, Store, TaskWork, ends_of_calls, frames_left}
+use Rattle.step_soundness.specs.Holding.{IsSoundStep, IsSoundStore, IsSoundTask, waits_after}
+use Rattle.step_soundness.specs.Laws.{Premises, StepsAreSound, StoresAreAlike}
+use Rattle.step_soundness.specs.Objects.{IsException}
+use Rattle.step_soundness.specs.Opened.{opened_in}
+use Rattle.expr_code.specs.Views.{At, in_frame, placed, view_of}
+use Rattle.expr_code.specs.Coming.{Comes, Throws, most_steps, size_of}
+use Rattle.expr_code.specs.Computing.{Everywhere}
+use Rattle.expr_code.specs.Seeing.{Package, Sees, SeesPackage, library_of}
+use Rattle.expr_code.proofs.Coming.{acts}
+use Rattle.expr_code.proofs.Coming as coming
+use Rattle.part_code.specs.Resting.{Framed, HeldWord, IsAddressable, Knows, NarrowsFrame, Rests, RestsWith, Shows, StandsFor}
+use Rattle.part_code.specs.Handling.{GoesBy}
+use Rattle.part_code.specs.Statements.{Numbers}
+use Rattle.part_code.specs.Jumping.{Here, Jumps, There}
+use Rattle.step_simulation.specs.Standing.{AreInner, Around, Catches, CodeStands, Follows, Going, Inside, IsGoingOn, IsSoundWork, LeadsByWays, with_visible, Raised, Shares, StaysAlone, WorkStands, items_size, relation, work_size}
+use Rattle.step_simulation.specs.Laws.{HasCode}
+use Rattle.step_simulation.proofs.Going.{Drops, earlier, jumps_up, shows_then, way_back, way_out}
+use Rattle.step_simulation.proofs.Catching.{catches}
+
+-- what is known where a task takes a step: of the image, of the program, and of both sides
+pub record Scene : Type 0 where
+  pub quiet : QuietStays
+  pub step_soundness : StepsAreSound
+  pub i : Sections
+  pub program : Program
+  pub g : Package
+  pub numbers : Numbers
+  pub has : HasCode i program g numbers
+  pub premises : Premises program
+  pub alike : StoresAreAlike
+  pub schedule : List ScheduleLine
+  pub k : Kernel
+  pub t : ℕ
+  pub calm : Calm k t
+  pub store : Store
+  pub m : Words
+  pub shares : Shares i program g numbers store m
+  pub w : TaskWork
+  pub sound : IsSoundWork i program g numbers w
+
+module _ (this : Scene) where
+  abbrev quiet : QuietStays
+  quiet = this.quiet
+
+  abbrev step_soundness : StepsAreSound
+  step_soundness = this.step_soundness
+
+  abbrev i : Sections
+  i = this.i
+
+  abbrev program : Program
+  program = this.program
+
+  abbrev g : Package
+  g = this.g
+
+  abbrev numbers : Numbers
+  numbers = this.numbers
+
+  abbrev has : HasCode i program g numbers
+  has = this.has
+
+  abbrev premises : Premises program
+  premises = this.premises
+
+  abbrev alike : StoresAreAlike
+  alike = this.alike
+
+  abbrev schedule : List ScheduleLine
+  schedule = this.schedule
+
+  abbrev k : Kernel
+  k = this.k
+
+  abbrev t : ℕ
+  t = this.t
+
+  abbrev calm : Calm k t
+  calm = this.calm
+
+  abbrev store : Store
+  store = this.store
+
+  abbrev m : Words
+  m = this.m
+
+  abbrev shares : Shares i program g numbers store m
+  shares = this.shares
+
+  abbrev w : TaskWork
+  w = this.w
+
+  abbrev sound : IsSoundWork i program g numbers w
+  sound = this.sound
+
+  abbrev pub now : source.Here
+  now = here_of program schedule k t (record { memory = store; task = w })
+
+  -- the next step of the task is met from this state of the frames
+  abbrev pub MetFrom : TaskState → Type 0
+  MetFrom s = Met (program_behaviour program schedule) (behaviour i schedule) (relation i program g numbers) frames_of (most_steps i) k t
+      (record { memory = store; task = w }) (record { memory = m; task = s })
+
+  -- at once, or by one instruction of the same subprogram, with which the code of a handler begins
+  pub data ComesTo (b s : TaskState) : Type 0 where
+    AtOnce : b ≡ s → ComesTo b s
+    Keeping : act i schedule k t (record { memory = m; task = b }) ≡ steps.does Quiet m s.frame s.callers None None → s.raising ≡ None
+        → b.callers ≡ s.callers → b.frame.subprogram ≡ s.frame.subprogram → 0 < size_of i s.frame.subprogram
+        → ComesTo b s
+
+  -- ... from each state that comes to this one
+  abbrev pub Meet : TaskState → Type 0
+  Meet s = (b : TaskState) → ComesTo b s → MetFrom b
+
+  abbrev pub Setting : Type 0
+  Setting = Around i program g numbers
+
+  abbrev pub seeing : Framed → Setting → Setting
+  seeing v a = with_visible i program g numbers v a
+
+  abbrev pub In : ℕ → ℕ → Type 0
+  In n place = Inside i program g numbers n place
+
+  abbrev pub Follow : Setting → (n from : ℕ) → List Item → List Frame → List Activation → Type 0
+  Follow a n from items above waiting = Follows i program g numbers a n from items above waiting
+
+  abbrev pub Removable : Frame → List Frame → Type 0
+  Removable f fs = AreInner i program g numbers f fs
+
+  -- ---- the step of the source is sound
+
+  pub step_sound : IsSoundStep now (opened_in (source.items_of w.work)) (work_step now w.work)
+  step_sound = step_soundness program schedule k t (record { memory = store; task = w }) premises shares.sound (sound store shares.sound)
+
+  module _ (x : source.SourceStepped) (is : work_step now w.work ≡ x) where
+    step_is : IsSoundStep now (opened_in (source.items_of w.work)) x
+    step_is = subst (λ y. IsSoundStep now (opened_in (source.items_of w.work)) y) is step_sound
+
+    pub store_after : IsSoundStore program x.solo.memory
+    store_after = step_is.store.sound
+
+    pub task_after : waits_after x.effect ≡ None → IsSoundWork i program g numbers x.solo.task
+    task_after none m' s' = alike program None x.solo.memory m' x.solo.task store_after s'
+        (subst (λ q. IsSoundTask program x.solo.memory q x.solo.task) none step_is.task)
+
+  -- what is raised is an exception
+  pub raises_known : (x : ℕ) (items : List Item) → work_step now w.work ≡ source.raises now x items → IsException program x
+  raises_known x items is = (task_after (source.raises now x items) is refl store shares.sound).work.0
+
+  -- no step of a sound task is without meaning
+  pub has_meaning : (items : List Item) → work_step now w.work ≡ source.means_nothing now items → ⊥
+  has_meaning items is = let e = (step_is (source.means_nothing now items) is).effect.3 in omega (arith, e)
+
+  -- ---- what is seen
+
+  pub is_small : (f : Frame) → length f.locals ≤ 65536 → (fs : List Frame) → IsAddressable (view_of i schedule k m f fs)
+  is_small f small fs regions.Locals = small
+  is_small f small fs regions.Plain = shares.stands.plain
+  is_small f small fs regions.Object = of_object (own_object i f)
+    where
+      of_object : (o : Option ℕ) → length (object_words o m) ≤ 65536
+      of_object None = omega arith
+      of_object (Some o) = shares.stands.objects o
+
+  pub sees_package : (items : List Item) (f : Frame) (fs : List Frame) → length f.locals ≤ 65536
+      → SeesPackage g (place_of now items) (view_of i schedule k m f fs)
+  sees_package items f fs small =
+      shares.stands.shared (place_of now items) (view_of i schedule k m f fs)
+      (record { scope = refl; functions = refl; variables = refl; components = refl }) refl refl refl refl (is_small f small fs)
+      (shares.sound.functions (place_of now items))
+
+  -- a frame has the words of its own that it ought to have
+  has_room : (v : Framed) (a : Activation) (locals : List ℤ) → Rests g v a locals → v.room ≤ length locals
+  has_room v a locals rests =
+      let f : Frame = record { subprogram = 0; place = 0; locals = locals; stack = []; role = Inner } in
+      let p : Place = record (place_of now []) { locals = a.locals; within = a.within } in
+      let view = view_of i schedule k m f [] in
+      (rests.sees p view
+      (shares.stands.shared p view (record { scope = refl; functions = refl; variables = refl; components = refl }) refl refl refl refl
+      (is_small f rests.small []) (shares.sound.functions p)) refl refl refl).room
+
+  pub sees_here : {held : List HeldWord} (v : Framed) (items : List Item) (f : Frame) (fs : List Frame) → RestsWith g v held w.own f.locals
+      → Knows g v (place_of now items) (view_of i schedule k m f fs)
+  sees_here v items f fs rests =
+      rests.rests.sees (place_of now items) (view_of i schedule k m f fs) (sees_package items f fs rests.rests.small) refl refl refl
+
+  -- what code computes, the frame comes to
+  pub evaluates : {A : Type 0} {held : List HeldWord} (v : Framed) (from to : ℕ) (stack : List ℤ → A → List ℤ) (value : Calls → Place
+      → Val A) (items : List Item) (f : Frame) (fs : List Frame)
+      → Everywhere i (library_of g) (Sees g v.names) from to stack value → RestsWith g v held w.own f.locals → length fs ≡ ends_of_calls items
+      → Comes i schedule k t m (placed f from []) fs (to - from) to (stack []) (value (call (frames_left items)) (place_of now items))
+  evaluates v from to stack value items f fs h rests depth =
+      h (call (frames_left items)) (frames_left items) (has.functions (frames_left items)) schedule k t m f fs (place_of now items) [] calm
+      (sees_here v items f fs rests).sees
+      (ap (λ n. FRAMES - suc n) (sym depth))
+
+  -- ---- steps of code
+
+  -- steps up to one that is to be taken: none before it, or some
+  pub begun : {d n : ℕ} {k' l : Kernel} {s r : Solo Words TaskState} (x : Takes (behaviour i schedule) t frames_of (most_steps i) d n k' s l r)
+      → (s ≡ r) ⊎ ((j : ℕ) × (taken (behaviour i schedule) t frames_of (most_steps i) x ≡ suc (suc j)))
+  begun (Last here) = inl refl
+  begun (OwnStep alone here rest) = let x = taken_unseen (behaviour i schedule) t frames_of (most_steps i) rest in inr (x.0, ap suc x.1)
+  begun (Over alone here above low rest) =
+      let x = taken_unseen (behaviour i schedule) t frames_of (most_steps i) rest in
+      let j = spent (behaviour i schedule) t frames_of (most_steps i) above in
+      let e = x.1 in
+      inr (j + x.0, ap suc (plus j (taken (behaviour i schedule) t frames_of (most_steps i) rest) x.0 e))
+    where
+      plus : (j a b : ℕ) → a ≡ suc b → j + a ≡ suc (j + b)
+      plus j a b e = omega (arith, e)
+  begun (Within alone here above low) = let x = taken_unseen (behaviour i schedule) t frames_of (most_steps i) above in inr (x.0, ap suc x.1)
+
+  -- forward jumps, and then what comes
+  pub jumps_spend : (f : Frame) (fs : List Frame) (a b : ℕ) → Jumps i a b
+      → Spends (behaviour i schedule) t frames_of (most_steps i) (suc (length fs)) (b - a) k (in_frame m (placed f a []) fs) k (in_frame m (placed f b []) fs)
+  jumps_spend f fs a b Here = Done
+  jumps_spend f fs a b (There {b = c} here le rest) =
+      let up = jumps_up i program g numbers c b rest in
+      let e : 1 + (b - c) ≤ b - a = omega (arith, le, up) in
+      spends_more (behaviour i schedule) t frames_of (most_steps i) (b - a) e
+      (spends_trans (behaviour i schedule) t frames_of (most_steps i) (b - c) k (in_frame m (placed f b []) fs)
+      (coming.steps quiet i schedule k t m calm (placed f a []) (placed f c []) fs (acts quiet i a (op.Jump c) here schedule k t m f fs []))
+      (jumps_spend f fs c b rest))
+
+  -- jumps, one of which may lead back to the head of a loop
+  abbrev pub Reaching : Frame → List Frame → (n from to : ℕ) → Type 0
+  Reaching f fs n from to = Spends (behaviour i schedule) t frames_of (most_steps i) (suc (length fs)) n k (in_frame m (placed f from []) fs) k
+      (in_frame m (placed f to []) fs)
+
+  -- ---- how steps meet
+
+  -- what code stands for after a step of the source with this effect
+  pub record Meets (x : source.SourceStepped) (y : steps.Stepped) : Type 0 where
+    pub effect : y.effect ≡ x.effect
+    pub waits : waits_after x.effect ≡ None
+    pub alone : StaysAlone x.effect
+    pub code : CodeStands i program g numbers (after t x.effect k) x.solo.task y.solo.task
+    pub words : StandsFor program g x.solo.memory y.solo.memory
+
+  pub inner_placed : (f : Frame) (fs : List Frame) (place : ℕ) (stack : List ℤ) → Removable f fs → Removable (placed f place stack) fs
+  inner_placed f [] place stack h = tt
+  inner_placed f (c ∷ fs) place stack h = h
+
+  -- no more steps than a frame may take, and fewer where its subprogram has code
+  abbrev pub IsLow : TaskState → ℕ → Type 0
+  IsLow s n = (n ≤ most_steps i s) × (0 < size_of i s.frame.subprogram → n < most_steps i s)
+
+  -- as many as it may take: the first of them may be one that leads there
+  abbrev Led : TaskState → Solo Words TaskState → Type 0
+  Led b c = (n : ℕ) × Takes (behaviour i schedule) t frames_of (most_steps i) (frames_of b) n k (record { memory = m; task = b }) k c × (n ≤ most_steps i b)
+
+  led : (b s : TaskState) (n : ℕ) (c : Solo Words TaskState) → ComesTo b s
+      → Takes (behaviour i schedule) t frames_of (most_steps i) (frames_of s) n k (record { memory = m; task = s }) k c → IsLow s n → Led b c
+  led b s n c (AtOnce e) all low = subst (λ q. Led q c) (sym e) (n, all, low.0)
+  led b s n c (Keeping there going callers subprogram some) all low =
+      let frames : frames_of s ≡ frames_of b = ap (λ l. suc (length l)) (sym callers) in
+      let most : most_steps i s ≡ most_steps i b = ap (λ p. suc (size_of i p + size_of i p)) (sym subprogram) in
+      let here : (act i schedule k t (record { memory = m; task = b })).solo ≡ record { memory = m; task = s } =
+      ap (λ y. y.solo) there ∙ (λ j. record { memory = m; task = record { frame = s.frame; callers = s.callers; raising = (sym going) j } }) in (
+        suc n,
+        quiet_takes (behaviour i schedule) t frames_of (most_steps i) quiet k calm (record { memory = m; task = b }) (record { memory = m; task = s })
+            (ap (λ y. y.effect) there) here refl
+            (subst (λ d. Takes (behaviour i schedule) t frames_of (most_steps i) d n k (record { memory = m; task = s }) k c) frames all),
+        (let less = low.1 some in omega (arith, less, most)),
+      )
+
+  -- a quiet step, met by steps up to one that is still to be taken, if there are any
+  pub quiet_from : (s : TaskState) (n : ℕ) (c : TaskState) (x : source.SourceStepped) → work_step now w.work ≡ x → x.effect ≡ Quiet → x.solo.memory ≡ store
+      → Takes (behaviour i schedule) t frames_of (most_steps i) (frames_of s) n k (record { memory = m; task = s }) k (record { memory = m; task = c })
+      → IsLow s n
+      → ((s' : TaskState) → s' ≡ c → WorkStands i program g numbers k x.solo.task s')
+      → work_size x.solo.task.work < work_size w.work
+      → Meet s
+  quiet_from s n c x is e same all low stands less = λ b from.
+      let sh : Shares i program g numbers x.solo.memory m = record
+      { sound = store_after x is; stands = subst (λ q. StandsFor program g q m) (sym same) shares.stands } in
+      let l = led b s n (record { memory = m; task = c }) from all low in
+      ⊎_elim
+      (λ stays. still_by (program_behaviour program schedule) (behaviour i schedule) (relation i program g numbers) frames_of (most_steps i) k t
+      (record { memory = store; task = w }) (record { memory = m; task = b })
+      x is e sh (stands b (ap (λ q. q.task) stays)) less)
+      (λ j. walks_by (program_behaviour program schedule) (behaviour i schedule) (relation i program g numbers) frames_of (most_steps i) k t
+      (record { memory = store; task = w }) (record { memory = m; task = b })
+      j.0 l.0 (record { memory = m; task = c }) x is l.1 j.1 l.2 e sh (stands c refl))
+      (begun l.1)
+
+  -- a step that is met by the last of some steps
+  pub moves_from : (s : TaskState) (n : ℕ) (c : Solo Words TaskState) (x : source.SourceStepped) (y : steps.Stepped) → work_step now w.work ≡ x
+      → act i schedule k t c ≡ y
+      → Takes (behaviour i schedule) t frames_of (most_steps i) (frames_of s) n k (record { memory = m; task = s }) k c
+      → IsLow s n
+      → Meets x y
+      → Meet s
+  moves_from s n c x y is there all low meets = λ b from.
+      let l = led b s n c from all low in
+      moves_by (program_behaviour program schedule) (behaviour i schedule) (relation i program g numbers) frames_of (most_steps i) k t
+      (record { memory = store; task = w }) (record { memory = m; task = b })
+      l.0 c x y is there l.1 l.2 meets.effect
+      (record { sound = store_after x is; stands = meets.words })
+      (record { alone = meets.alone; stands = record { sound = task_after x is meets.waits; code = meets.code } })
+
+  pub met_quiet_on : (base : List ℤ) (f : Frame) (fs : List Frame) (n : ℕ) (c : TaskState) (x : source.SourceStepped) → work_step now w.work ≡ x → x.effect ≡ Quiet
+      → x.solo.memory ≡ store
+      → (all : Takes (behaviour i schedule) t frames_of (most_steps i) (suc (length fs)) n k (in_frame m (placed f f.place base) fs) k
+      (record { memory = m; task = c }))
+      → n < most_steps i (in_frame m f fs).task
+      → ((s : TaskState) → s ≡ c → WorkStands i program g numbers k x.solo.task s)
+      → work_size x.solo.task.work < work_size w.work
+      → Meet (in_frame m (placed f f.place base) fs).task
+  met_quiet_on base f fs n c x is e same all low stands less =
+      quiet_from (in_frame m (placed f f.place base) fs).task n c x is e same all (omega (arith, low), λ some. low) stands less
+
+  -- wherever in this part of the code the value is raised, there is what takes it
+  abbrev pub Handled : {A : Type 0} → Frame → List Frame → Val A → List Item → (from to : ℕ) → Type 0
+  Handled f fs v items from to =
+      (x place : ℕ) (left : List ℤ) → IsException program x → v ≡ Raises x → from ≤ place → place < to → Catches i program g numbers x
+      (placed f place left) fs w.own w.callers items
+
+  -- a step of the source that evaluates: what raises is met, and what has no meaning is excluded
+  pub met_value_on : {A : Type 0} (base start : List ℤ) (f : Frame) (fs : List Frame) (n from n' to : ℕ) (stack : A → List ℤ) (v : Val A)
+      (items : List Item) (go : A → source.SourceStepped)
+      → Spends (behaviour i schedule) t frames_of (most_steps i) (suc (length fs)) n k (in_frame m (placed f f.place base) fs) k
+      (in_frame m (placed f from start) fs)
+      → Comes i schedule k t m (placed f from start) fs n' to stack v
+      → n + n' < size_of i f.subprogram + size_of i f.subprogram
+      → work_step now w.work ≡ with_value now v items go
+      → items_size items < work_size w.work
+      → Removable f fs
+      → Handled f fs v items from to
+      → ((x : A) → v ≡ Gives x → work_step now w.work ≡ go x
+      → Spends (behaviour i schedule) t frames_of (most_steps i) (suc (length fs)) (n + n') k (in_frame m (placed f f.place base) fs) k
+      (in_frame m (placed f to (stack x)) fs)
+      → Meet (in_frame m (placed f f.place base) fs).task)
+      → Meet (in_frame m (placed f f.place base) fs).task
+  met_value_on base start f fs n from n' to stack (Gives x) items go first comes low is less inner handled last =
+      last x refl is (spends_trans (behaviour i schedule) t frames_of (most_steps i) n' k (in_frame m (placed f to (stack x)) fs) first comes)
+  met_value_on base start f fs n from n' to stack (Raises x) items go first comes low is less inner handled last =
+      let place = comes.1 in
+      let left = comes.2 in
+      let f' = placed f place left in
+      let raised = source.raises now x items in
+      let all = spends_takes (behaviour i schedule) t frames_of (most_steps i) n' k (record { memory = m; task = comes.0 }) first comes.3 in
+      let stands : (s : TaskState) → Throws i x s f' fs → WorkStands i program g numbers k raised.solo.task s =
+      λ s throws. record {
+        sound = task_after raised is refl;
+        code = Raised x items f' fs refl throws (inner_placed f fs place left inner)
+            (handled x place left (raises_known x items is) refl comes.4 comes.5);
+      } in
+      met_quiet_on base f fs (n + n') comes.0 raised is refl refl all (omega (arith, low)) (λ s e. stands s (subst (λ q. Throws i x q f' fs)
+      (sym e) comes.6)) less
+  met_value_on base start f fs n from n' to stack Meaningless items go first comes low is less inner handled last = absurd (has_meaning items is)
+
+  -- ... and is then met by the code's last instruction
+  pub met_comes_on : {A : Type 0} (base start : List ℤ) (f : Frame) (fs : List Frame) (n from n' to : ℕ) (stack : A → List ℤ) (v : Val A)
+      (items : List Item) (go : A → source.SourceStepped)
+      → Spends (behaviour i schedule) t frames_of (most_steps i) (suc (length fs)) n k (in_frame m (placed f f.place base) fs) k
+      (in_frame m (placed f from start) fs)
+      → Comes i schedule k t m (placed f from start) fs n' to stack v
+      → n + n' < size_of i f.subprogram + size_of i f.subprogram
+      → work_step now w.work ≡ with_value now v items go
+      → items_size items < work_size w.work
+      → Removable f fs
+      → Handled f fs v items from to
+      → ((x : A) → v ≡ Gives x → (y : steps.Stepped) × (act i schedule k t (in_frame m (placed f to (stack x)) fs) ≡ y) × Meets (go x) y)
+      → Meet (in_frame m (placed f f.place base) fs).task
+  met_comes_on base start f fs n from n' to stack v items go first comes low is less inner handled last =
+      met_value_on base start f fs n from n' to stack v items go first comes low is less inner handled
+      (λ x ev there spends.
+      let y = last x ev in
+      moves_from (in_frame m (placed f f.place base) fs).task ((n + n') + 1) (in_frame m (placed f to (stack x)) fs) (go x) y.0 there y.1
+      (spends_takes (behaviour i schedule) t frames_of (most_steps i) 1 k (in_frame m (placed f to (stack x)) fs) spends (Last refl))
+      (omega (arith, low), λ some. omega (arith, low)) y.2)
+
+  -- ... from an empty operand stack
+  pub met_quiet : (f : Frame) (fs : List Frame) (n : ℕ) (c : TaskState) (x : source.SourceStepped) → work_step now w.work ≡ x → x.effect ≡ Quiet
+      → x.solo.memory ≡ store
+      → (all : Takes (behaviour i schedule) t frames_of (most_steps i) (suc (length fs)) n k (in_frame m (placed f f.place []) fs) k
+      (record { memory = m; task = c }))
+      → n < most_steps i (in_frame m f fs).task
+      → ((s : TaskState) → s ≡ c → WorkStands i program g numbers k x.solo.task s)
+      → work_size x.solo.task.work < work_size w.work
+      → Meet (in_frame m (placed f f.place []) fs).task
+  met_quiet f fs n c x = met_quiet_on [] f fs n c x
+
+  pub met_value : {A : Type 0} (f : Frame) (fs : List Frame) (n from n' to : ℕ) (stack : A → List ℤ) (v : Val A) (items : List Item) (go : A → source.SourceStepped)
+      → Reaching f fs n f.place from
+      → Comes i schedule k t m (placed f from []) fs n' to stack v
+      → n + n' < size_of i f.subprogram + size_of i f.subprogram
+      → work_step now w.work ≡ with_value now v items go
+      → items_size items < work_size w.work
+      → Removable f fs
+      → Handled f fs v items from to
+      → ((x : A) → v ≡ Gives x → work_step now w.work ≡ go x
+      → Spends (behaviour i schedule) t frames_of (most_steps i) (suc (length fs)) (n + n') k (in_frame m (placed f f.place []) fs) k
+      (in_frame m (placed f to (stack x)) fs)
+      → Meet (in_frame m (placed f f.place []) fs).task)
+      → Meet (in_frame m (placed f f.place []) fs).task
+  met_value f fs n from n' to stack v items go = met_value_on [] [] f fs n from n' to stack v items go
+
+  pub met_comes : {A : Type 0} (f : Frame) (fs : List Frame) (n from n' to : ℕ) (stack : A → List ℤ) (v : Val A) (items : List Item) (go : A → source.SourceStepped)
+      → Reaching f fs n f.place from
+      → Comes i schedule k t m (placed f from []) fs n' to stack v
+      → n + n' < size_of i f.subprogram + size_of i f.subprogram
+      → work_step now w.work ≡ with_value now v items go
+      → items_size items < work_size w.work
+      → Removable f fs
+      → Handled f fs v items from to
+      → ((x : A) → v ≡ Gives x → (y : steps.Stepped) × (act i schedule k t (in_frame m (placed f to (stack x)) fs) ≡ y) × Meets (go x) y)
+      → Meet (in_frame m (placed f f.place []) fs).task
+  met_comes f fs n from n' to stack v items go = met_comes_on [] [] f fs n from n' to stack v items go
+
+  -- no step of code, and what is left to do is less
+  pub met_still : (s : TaskState) (x : source.SourceStepped) → work_step now w.work ≡ x → x.effect ≡ Quiet → x.solo.memory ≡ store
+      → CodeStands i program g numbers k x.solo.task s
+      → work_size x.solo.task.work < work_size w.work
+      → Meet s
+  met_still s x is e same stands less =
+      quiet_from s 1 s x is e same (Last refl) (omega arith, λ some. omega (arith, some))
+      (λ s' there. record { sound = task_after x is (ap waits_after e); code = subst (λ q. CodeStands i program g numbers k x.solo.task q) (sym there) stands })
+      less
+
+  -- ---- going on
+
+  pub going_is : (s : TaskState) → s.frame.stack ≡ [] → s.raising ≡ None → s ≡ (in_frame m (placed s.frame s.frame.place []) s.callers).task
+  going_is s stack going = λ j. record { frame = placed s.frame s.frame.place (stack j); callers = s.callers; raising = going j }
+
+  -- the frame at another place with these locals
+  abbrev pub goes_at : Frame → ℕ → List ℤ → Frame
+  goes_at f place locals = record { subprogram = f.subprogram; place = place; locals = locals; stack = []; role = f.role }
+
+  pub inner_at : (f : Frame) (fs : List Frame) (place : ℕ) (locals : List ℤ) → Removable f fs → Removable (goes_at f place locals) fs
+  inner_at f [] place locals h = tt
+  inner_at f (c ∷ fs) place locals h = h
+
+  module _ (s : TaskState) where
+    abbrev pub f : Frame
+    f = s.frame
+
+    abbrev pub fs : List Frame
+    fs = s.callers
+
+    abbrev pub IsAtItems : List Item → Type 0
+    IsAtItems items = IsGoingOn i program g numbers items w.own w.callers s
+
+    -- the same frame goes on elsewhere
+    pub goes_on : (items : List Item) (own : Activation) (a : Setting) (place : ℕ) (locals : List ℤ) → Follow a f.subprogram place items fs w.callers
+        → RestsWith g a.visible a.held own locals
+        → own.within ≡ None → length fs ≡ ends_of_calls items → Removable f fs
+        → IsGoingOn i program g numbers items own w.callers (record { frame = goes_at f place locals; callers = fs; raising = None })
+    goes_on items own a place locals follows rests outside depth inner =
+        record {
+          around = a;
+          follows = follows;
+          rests = rests;
+          outside = outside;
+          stack = refl;
+          going = refl;
+          depth = depth;
+          inner = inner_at f fs place locals inner;
+        }
+
+    pub shown : (a b : Framed) (own : Activation) (locals : List ℤ) → Shows g a b → Rests g a own locals → Rests g b own locals
+    shown a b own locals shows rests = record {
+      small = rests.small;
+      sees = λ p view shared one two three. shows p view
+          (rests.sees p view shared one two three);
+    }
+
+    pub narrowed : {held : List HeldWord} (a b : Framed) (own : Activation) (locals : List ℤ) → NarrowsFrame g a b → RestsWith g a held own locals
+        → RestsWith g b held own locals
+    narrowed a b own locals nar rests = record {
+      rests = shown a b own locals nar.shows rests.rests;
+      held = rests.held;
+      apart = rests.apart ∙ nar.reserved;
+    }
+
+    -- what takes the exceptions of these places, where the items follow
+    pub handled_by : {A : Type 0} (a : Setting) (now' : Framed) (to : ℕ) (items : List Item) (v : Val A) (from' to' : ℕ)
+        → Follow a f.subprogram to items fs w.callers
+        → GoesBy i a.raised from' to' → RestsWith g now' a.held w.own f.locals → now'.reserved ≡ a.visible.reserved → Shows g now' a.handling
+        → w.own.within ≡ None
+        → length fs ≡ ends_of_calls items → Removable f fs → Handled f fs v items from' to'
+    handled_by a now' to items v from' to' follows goes rests same shows outside depth inner = λ x place left known is low high.
+        catches i program g numbers has_room items a to x (placed f place left) fs w.own w.callers follows
+        (record {
+          known = known;
+          goes = goes place x low high;
+          rests = shown now' a.handling w.own f.locals shows rests.rests;
+          held = rests.held;
+          apart = rests.apart ∙ same;
+          outside = outside;
+          depth = depth;
+          inner = inner_placed f fs place left inner;
+        })
+
+    -- a step without a value: jumps, and one instruction
+    pub met_plain : (o : Operation) (x : source.SourceStepped) (y : steps.Stepped) (at : ℕ) (items : List Item) → work_step now w.work ≡ x → s.frame.stack ≡ []
+        → s.raising ≡ None
+        → Jumps i f.place at → In f.subprogram f.place → In f.subprogram at
+        → At i at o
+        → does_operation i schedule k t m (placed f at []) fs o ≡ y
+        → Meets x y
+        → Meet s
+    met_plain o x y at items is stack going jumps a b here there meets =
+        let up = jumps_up i program g numbers f.place at jumps in
+        subst Meet (sym (going_is s stack going))
+        (moves_from (in_frame m (placed f f.place []) fs).task ((at - f.place) + 1) (in_frame m (placed f at []) fs) x y is
+        (acts quiet i at o here schedule k t m f fs [] ∙ there)
+        (spends_takes (behaviour i schedule) t frames_of (most_steps i) 1 k (in_frame m (placed f at []) fs) (jumps_spend f fs f.place at jumps) (Last refl))
+        (omega (arith, a.0, b.1, up), λ some. omega (arith, a.0, b.1, up)) meets)
+
+    -- it goes on with other items at a place, and nothing else changes
+    pub goes_to : (items : List Item) (a : Setting) (place : ℕ) → Follow a f.subprogram place items fs w.callers
+        → RestsWith g a.visible a.held w.own f.locals → w.own.within ≡ None → length fs ≡ ends_of_calls items → Removable f fs
+        → Meets (source.goes now items) (steps.does Quiet m (goes_at f place f.locals) fs None None)
+    goes_to items a place follows rests outside depth inner = record {
+      effect = refl;
+      waits = refl;
+      alone = tt;
+      code = Going items refl (goes_on items w.own a place f.locals follows rests outside depth inner);
+      words = shares.stands;
+    }
+
+    pub met_end : w.work ≡ Goes [] → (h : IsAtItems []) → Meet s
+    met_end is h =
+        let r = h.follows in
+        let out = r.0 in
+        let at = out.at in
+        let up = jumps_up i program g numbers f.place at out.jumps in
+        let x = out.from_inside in
+        let y = out.to_inside in
+        met_plain op.Return (source.works now Finishes (Goes [])) (steps.does Finishes m (goes_at f at f.locals) [] None None) at []
+        (ap (λ q. work_step now q) is) h.stack h.going out.jumps x y out.return
+        (ap (λ n. steps.returns i schedule k t m (placed f at []) fs n) out.results ∙ ap
+        (λ q. steps.returns_to i schedule k t m (placed f at []) q q f.role []) r.2)
+        (record {
+          effect = refl;
+          waits = refl;
+          alone = tt;
+          code = Going [] refl (record {
+            around = h.around;
+            follows = (
+              (record {
+                at = at;
+                jumps = Here;
+                return = out.return;
+                results = out.results;
+                outermost = out.outermost;
+                from_inside = (omega (arith, x.0, up), omega (arith, y.1));
+                to_inside = y;
+              }),
+              r.1,
+              refl,
+            );
+            rests = h.rests;
+            outside = h.outside;
+            stack = refl;
+            going = refl;
+            depth = refl;
+            inner = tt;
+          });
+          words = shares.stands;
+        })
+
+    -- the code of the next items is reached by jumps
+    pub reached : (a : Setting) (from at to : ℕ) (now' : Framed) (items : List Item) → LeadsByWays i program g numbers a f.subprogram from at to now'
+        → Follow (seeing now' a) f.subprogram at items fs w.callers
+        → Follow (seeing a.visible a) f.subprogram from items fs w.callers
+    reached a from at to now' items leads follows = earlier i program g numbers items (seeing now' a) a.visible f.subprogram from at fs w.callers
+        leads.jumps leads.narrows leads.from_inside follows
+
+    -- nothing but what is left to do changes
+    pub met_items : (x : source.SourceStepped) (items : List Item) → work_step now w.work ≡ source.goes now items → suc (items_size items) < work_size w.work
+        → s.frame.stack ≡ [] → s.raising ≡ None
+        → (a : Setting) → Follow a f.subprogram f.place items fs w.callers → RestsWith g a.visible a.held w.own f.locals → w.own.within ≡ None
+        → length fs ≡ ends_of_calls items
+        → Removable f fs → Meet s
+    met_items x items is less stack going a follows rests outside depth inner =
+        met_still s (source.goes now items) is refl refl
+        (Going items refl (record {
+          around = a;
+          follows = follows;
+          rests = rests;
+          outside = outside;
+          stack = stack;
+          going = going;
+          depth = depth;
+          inner = inner;
+        })) less
+
+    pub met_null : (place : ℕ) (items : List Item) → w.work ≡ Goes (Does (Null place) ∷ items) → (h : IsAtItems (Does (Null place) ∷ items)) → Meet s
+    met_null place items is h =
+        let r = h.follows in
+        met_items (source.goes now items) items (ap (λ q. work_step now q) is) (subst (λ q. suc (items_size items) < work_size q) (sym is) (omega arith))
+        h.stack h.going
+        (seeing h.around.visible h.around)
+        (reached h.around f.place r.0 r.1 r.2 items r.3 (subst (λ q. Follow (seeing r.2 h.around) f.subprogram q items fs w.callers) (sym r.4) r.5))
+        h.rests h.outside h.depth h.inner
+
+    -- ---- ways out
+
+    -- what is visible at a way out, and what is held there, where the frame goes on there
+    pub way_rests : (a outer : Setting) (now' last : Framed) → RestsWith g a.visible a.held w.own f.locals → NarrowsFrame g a.visible now' → Shows g now' last
+        → last ≡ outer.visible → Drops i program g numbers (seeing now' a) outer → RestsWith g outer.visible outer.held w.own f.locals
+    way_rests a outer now' last rests one two e drops = record {
+      rests = subst (λ q. Rests g q w.own f.locals) e (shown a.visible last w.own f.locals (shows_then g a.visible now' last one two) rests.rests);
+      held = drops.held f.locals rests.held;
+      apart = drops.apart (rests.apart ∙ one.reserved);
+    }
+
+    pub met_exit : (place : ℕ) (items : List Item) → w.work ≡ Goes (Does (Exit place None) ∷ items) → (h : IsAtItems (Does (Exit place None) ∷ items)) → Meet s
+    met_exit place items is h =
+        let r = h.follows in
+        let leads = r.3 in
+        let code = r.4 in
+        let e = code.0 in
+        let out = way_out i program g numbers items (seeing r.2 h.around) f.subprogram r.1 e fs w.callers r.5 code.1 in
+        let x = leads.from_inside in
+        let y = leads.to_inside in
+        let up = jumps_up i program g numbers f.place r.0 leads.jumps in
+        let end = code.3 in
+        met_plain (op.Jump e) (source.goes now (source.behind_loop items)) (steps.does Quiet m (goes_at f e f.locals) fs None None) r.0 items
+        (ap (λ q. work_step now q) is) h.stack h.going
+        leads.jumps x (omega (arith, x.0, up), omega (arith, y.1, end)) code.2 refl
+        (goes_to (source.behind_loop items) out.outer e out.follows
+        (way_rests h.around out.outer r.2 h.around.behind h.rests leads.narrows leads.reaches.0 out.visible out.drops) h.outside
+        (h.depth ∙ sym out.ends) h.inner)
+
+    pub met_return : (place : ℕ) (items : List Item) → w.work ≡ Goes (Does (Return place None) ∷ items) → (h : IsAtItems (Does (Return place None) ∷ items))
+        → Meet s
+    met_return place items is h =
+        let r = h.follows in
+        let leads = r.3 in
+        let code = r.4 in
+        let e = code.0 in
+        let out = way_back i program g numbers items (seeing r.2 h.around) f.subprogram r.1 e fs w.callers r.5 code.1 in
+        let x = leads.from_inside in
+        let y = leads.to_inside in
+        let up = jumps_up i program g numbers f.place r.0 leads.jumps in
+        let end = code.3 in
+        met_plain (op.Jump e) (source.goes now (source.end_of_body items)) (steps.does Quiet m (goes_at f e f.locals) fs None None) r.0 items
+        (ap (λ q. work_step now q) is) h.stack h.going
+        leads.jumps x (omega (arith, x.0, up), omega (arith, y.1, end)) code.2 refl
+        (goes_to (source.end_of_body items) out.end e out.follows
+        (way_rests h.around out.end r.2 h.around.ending h.rests leads.narrows leads.reaches.1 out.visible out.drops) h.outside
+        (h.depth ∙ sym out.ends) h.inner)

@@ -1,0 +1,37 @@
+-- What is proved of code that stands for work, as a statement; it is the contract of a public function.
+use Rattle.std.specs.Prelude.{◌≡◌, ◌≤◌, ℕ, List, length}
+use Rattle.base.specs.declared.schedule.ScheduleLine.{ScheduleLine}
+use Rattle.kernel.specs.State.{Kernel}
+use Rattle.kernel.specs.Calm.{Calm}
+use Rattle.image.specs.Sections.{Sections}
+use Rattle.image.specs.Frames.{TaskState, Words}
+use Rattle.image.specs.Steps.{behaviour}
+use Rattle.types.specs.Evaluating.{call}
+use Rattle.meaning.specs.Meeting.{Met}
+use Rattle.meaning.specs.Programs.{Program}
+use Rattle.meaning.specs.SameMeaning.{frames_of}
+use Rattle.meaning.specs.SourceSteps.{program_behaviour}
+use Rattle.meaning.specs.Works.{Store, TaskWork}
+use Rattle.step_soundness.specs.Laws.{Premises}
+use Rattle.expr_code.specs.Coming.{most_steps}
+use Rattle.expr_code.specs.Computing.{Answers}
+use Rattle.expr_code.specs.Seeing.{library_of, Package}
+use Rattle.part_code.specs.Statements.{HasProcedures, Numbers}
+use Rattle.step_simulation.specs.Standing.{Shares, WorkStands, relation}
+
+-- an image that has the exceptions of a program, the predefined ones among them, and the code of its functions and procedures
+pub record HasCode (i : Sections) (program : Program) (g : Package) (numbers : Numbers) : Type 0 where
+  pub exceptions : i.exceptions ≡ program.exceptions
+  pub predefined : 4 ≤ length program.exceptions
+  pub functions : (left : ℕ) → Answers i (library_of g) (call left) left
+  pub procedures : HasProcedures i program g numbers
+
+-- Each step of a task is met by the frames that stand for its work.
+abbrev pub StepsAreMet : Type 0
+StepsAreMet =
+    (i : Sections) (program : Program) (g : Package) (numbers : Numbers) → HasCode i program g numbers → Premises program
+    → (schedule : List ScheduleLine) (k : Kernel) (t : ℕ) → Calm k t → (store : Store) (m : Words) (w : TaskWork) (s : TaskState)
+    → Shares i program g numbers store m
+    → WorkStands i program g numbers k w s
+    → Met (program_behaviour program schedule) (behaviour i schedule) (relation i program g numbers) frames_of (most_steps i) k t
+    (record { memory = store; task = w }) (record { memory = m; task = s })

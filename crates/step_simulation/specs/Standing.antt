@@ -1,0 +1,365 @@
+-- Which frames of code stand for which work of a task.
+use Rattle.std.specs.Prelude.{◌≡◌, ◌≤◌, ℕ, suc, ◌+◌, ◌*◌, ℤ, pos, List, [], ◌∷◌, length, Option, Some, None, ◌<◌, ⊤}
+use Rattle.ada_tree.specs.Size.{declaration_size, stmt_size, stmts_size}
+use Rattle.ada_tree.specs.StatementTree.{NoHandlers, MoreHandlers, StmtTrees}
+use Rattle.base.specs.declared.schedule.ScheduleLine.{ScheduleLine}
+use Rattle.handlers.specs.Innermost.{handler_of}
+use Rattle.kernel.specs.State.{Kernel, Outcome}
+use Rattle.kernel.specs.Effects.{Effect, Quiet, Says, Finishes, Dies, after}
+use Rattle.image.specs.Sections.{Sections, first_place}
+use Rattle.image.specs.Operations.{called, results_of}
+use Rattle.image.specs.Frames.{Inner, Frame, TaskState, Words}
+use Rattle.image.specs.Steps as steps
+use Rattle.image.specs.declared.instruction.Operation.TheVariants as op
+use Rattle.types.specs.Values.{Value}
+use Rattle.meaning.specs.Meeting.{Relation}
+use Rattle.meaning.specs.Programs.{Program}
+use Rattle.meaning.specs.Works.{Item, Declares, DeclaresParameter, Sequence, Does, DoesMain, Repeats, RepeatsWhile, RepeatsFor, Handles, EndsHandler, EndsCall, EndsServed, Work, Goes, Copies, Raising, Activation, GivenToCaller, Store, Target, TaskWork, ends_of_calls}
+use Rattle.meaning.specs.SourceSteps.{before, handler_for}
+use Rattle.step_soundness.specs.Holding.{IsSoundStore, IsSoundTask}
+use Rattle.expr_code.specs.Views.{At, placed}
+use Rattle.expr_code.specs.Coming.{Throws, size_of}
+use Rattle.expr_code.specs.Seeing.{Package}
+use Rattle.part_code.specs.Resting.{Framed, HeldWord, NarrowsFrame, RestsWith, Shows, StandsFor}
+use Rattle.part_code.specs.Handling.{GoesBy, Handling, exception_in}
+use Rattle.part_code.specs.Copying.{AreCopies, ArePlaced, GivesBack, addresses_of, copies_on, held_at}
+use Rattle.part_code.specs.declared.call.Destination.{Destination}
+use Rattle.part_code.specs.Counting.{IsCounted, in_turn}
+use Rattle.part_code.specs.Jumping.{Jumps}
+use Rattle.part_code.specs.Statements.{AreHandlers, AreStatements, IsDeclared, IsForever, IsMainStatementCode, IsParameterDeclared, IsSequence, IsStatement, IsWhile, Numbers, Ways, within_handler, within_loop}
+
+-- ---- what is left to do, as a size that falls where no code is run
+
+abbrev item_size : Item → ℕ
+item_size (Declares d) = 4 * declaration_size d
+item_size (Sequence body hs) = 4 * stmts_size body + 2
+item_size (Does s) = 4 * stmt_size s
+item_size i = 1
+
+abbrev pub items_size : List Item → ℕ
+items_size [] = 0
+items_size (i ∷ items) = item_size i + items_size items
+
+abbrev pub work_size : Work → ℕ
+work_size (Goes items) = suc (items_size items)
+work_size (Copies vs xs items) = suc (suc (items_size items))
+work_size (Raising x items) = items_size items
+
+-- what a task does alone, so that no other task, queue or action notices it
+abbrev pub StaysAlone : Effect → Type 0
+StaysAlone Quiet = ⊤
+StaysAlone (Says label value) = ⊤
+StaysAlone Finishes = ⊤
+StaysAlone (Dies x) = ⊤
+StaysAlone e = ⊥
+
+module _ (i : Sections) (program : Program) (g : Package) (numbers : Numbers) where
+  -- places of the subprogram's code
+  abbrev pub Inside : ℕ → ℕ → Type 0
+  Inside n place = (first_place i n ≤ place) × (place < first_place i n + size_of i n)
+
+  -- What is visible now, the ways out, where exceptions go on, the words that are held, and what is visible behind the innermost loop, at the end of the body,
+  -- and at the handlers of the innermost sequence that has some.
+  pub record Around : Type 0 where
+    pub visible : Framed
+    pub ways : Ways
+    pub raised : Handling
+    pub held : List HeldWord
+    pub behind : Framed
+    pub ending : Framed
+    pub handling : Framed
+
+  abbrev pub with_visible : Framed → Around → Around
+  with_visible v a = record a { visible = v }
+
+  -- in the statements of a loop with this way out, of which this is around
+  abbrev pub in_loop : ℕ → Framed → Around → Around
+  in_loop exit v outer = record outer { visible = v; ways = within_loop exit outer.ways; behind = outer.visible }
+
+  -- ... in those of a turn of a loop over a range
+  abbrev pub in_range : (exit counter limit : ℕ) → (now last : ℤ) → Framed → Around → Around
+  in_range exit counter limit now last v outer = record outer {
+    visible = v;
+    ways = within_loop exit outer.ways;
+    held = in_turn counter limit now last outer.held;
+    behind = outer.visible;
+  }
+
+  -- in statements that have handlers
+  abbrev pub in_sequence : Handling → Framed → Around → Around
+  in_sequence inner v outer = record outer { visible = v; raised = inner; handling = outer.visible }
+
+  -- in those of a handler, which holds its exception
+  abbrev pub in_handler : (word exception : ℕ) → Framed → Around → Around
+  in_handler word exception v outer = record outer {
+    visible = v;
+    ways = within_handler word outer.ways;
+    held = exception_in word exception ∷ outer.held;
+  }
+
+  -- what is visible at the ways out, and at the handlers, is visible here
+  abbrev pub ReachesWays : Around → Framed → Type 0
+  ReachesWays a v = Shows g v a.behind × Shows g v a.ending × Shows g v a.handling
+
+  -- the part of the subprogram's code between two places, to which forward jumps lead, in front of all statements
+  pub record LeadsInto (v : Framed) (n from at to : ℕ) (now : Framed) : Type 0 where
+    pub jumps : Jumps i from at
+    pub narrows : NarrowsFrame g v now
+    pub from_inside : Inside n from
+    pub up : at ≤ to
+    pub to_inside : Inside n to
+
+  -- ... from which ways out may lead
+  pub record LeadsByWays (a : Around) (n from at to : ℕ) (now : Framed) : Type 0 where
+    pub jumps : Jumps i from at
+    pub narrows : NarrowsFrame g a.visible now
+    pub reaches : ReachesWays a now
+    pub from_inside : Inside n from
+    pub up : at ≤ to
+    pub to_inside : Inside n to
+
+  -- the jump back to the head of a loop, whose code ends behind it
+  pub record LeadsBack (a : Around) (n from head to : ℕ) (outer : Around) : Type 0 where
+    pub back : ℕ
+    pub jumps : Jumps i from back
+    pub jump : At i back (op.Jump (head + 2))
+    pub end : to ≡ suc back
+    pub up : head ≤ back
+    pub loop : a ≡ in_loop (head + 1) a.visible outer
+    pub narrows : NarrowsFrame g a.visible outer.visible
+    pub reaches : Shows g outer.visible outer.ending
+    pub handles : Shows g outer.visible outer.handling
+    pub from_inside : Inside n from
+    pub head_inside : Inside n head
+    pub to_inside : Inside n to
+
+  -- forward jumps to the end of a turn of a loop over a range
+  pub record LeadsNext (a : Around) (n from head to back counter limit : ℕ) (now last : ℤ) (inner : Framed) (outer : Around) : Type 0 where
+    pub jumps : Jumps i from back
+    pub loop : a ≡ in_range (head + 1) counter limit now last a.visible outer
+    pub narrows : NarrowsFrame g a.visible inner
+    pub reaches : Shows g outer.visible outer.ending
+    pub handles : Shows g outer.visible outer.handling
+    pub from_inside : Inside n from
+    pub head_inside : Inside n head
+    pub to_inside : Inside n to
+
+  -- forward jumps over the handlers of a sequence, which stand in front of its end
+  pub record LeadsOver (a : Around) (n from at to : ℕ) (outer : Around) : Type 0 where
+    pub jumps : Jumps i from to
+    pub sequence : a ≡ in_sequence a.raised a.visible outer
+    pub narrows : NarrowsFrame g a.visible outer.visible
+    pub reaches : ReachesWays outer outer.visible
+    pub from_inside : Inside n from
+    pub at_inside : Inside n at
+    pub to_inside : Inside n to
+
+  -- forward jumps from the end of a handler to the end of its sequence
+  pub record LeadsBehind (a : Around) (n from to word exception : ℕ) (outer : Around) : Type 0 where
+    pub jumps : Jumps i from to
+    pub handler : a ≡ in_handler word exception a.visible outer
+    pub shows : Shows g a.visible outer.visible
+    pub reserved : a.visible.reserved ≡ word ∷ outer.visible.reserved
+    pub from_inside : Inside n from
+    pub to_inside : Inside n to
+
+  -- at the end of a body no loop and no handler is left, and what is raised goes on at the call
+  pub record IsOutermost (a : Around) : Type 0 where
+    pub exit : a.ways.exit ≡ None
+    pub handled : a.ways.handled ≡ None
+    pub raised : (x : ℕ) → a.raised x ≡ None
+
+  -- the return of a body without results
+  pub record LeadsOut (a : Around) (n from : ℕ) : Type 0 where
+    pub at : ℕ
+    pub jumps : Jumps i from at
+    pub return : At i at op.Return
+    pub results : results_of (called i n) ≡ 0
+    pub outermost : IsOutermost a
+    pub from_inside : Inside n from
+    pub to_inside : Inside n at
+
+  -- the end of a body that gives back the values of these objects, each with one of these addresses, which are held meanwhile
+  pub record LeadsEnd (a : Around) (n from : ℕ) (now : Framed) (names : List (List ℕ)) (addresses : List ℕ) : Type 0 where
+    pub at : ℕ
+    pub last : Framed
+    pub jumps : Jumps i from at
+    pub narrows : NarrowsFrame g now last
+    pub gives : GivesBack i program g last names n at
+    pub held : a.held ≡ held_at last.reserved addresses
+    pub outermost : IsOutermost a
+    pub from_inside : Inside n from
+    pub to_inside : Inside n gives.back
+
+  -- the frame and the activation that wait for the end of the call, and go on behind it
+  pub record WaitsFor (outer : Around) (c : Frame) (o : Activation) : Type 0 where
+    pub outside : o.within ≡ None
+    pub rests : RestsWith g outer.visible outer.held o c.locals
+    pub stack : c.stack ≡ []
+    pub here : Inside c.subprogram c.place
+    pub next : Inside c.subprogram (suc c.place)
+    pub handles : Shows g outer.visible outer.handling
+
+  -- The code at a place of the subprogram goes on with the items, above these frames and activations.
+  abbrev pub Follows : Around → (n from : ℕ) → List Item → List Frame → List Activation → Type 0
+  Follows a n from [] fs os = LeadsOut a n from × (a.ways.return ≡ None) × (fs ≡ [])
+  Follows a n from (Declares d ∷ items) fs os =
+      (at : ℕ) × (to : ℕ) × (now : Framed) × (later : Framed) × LeadsByWays a n from at to now × NarrowsFrame g later now
+      × IsDeclared i program g numbers now at to later d
+      × Follows (with_visible later a) n to items fs os
+      × GoesBy i a.raised at to
+  Follows a n from (DeclaresParameter f ∷ items) fs os =
+      (at : ℕ) × (to : ℕ) × (now : Framed) × (later : Framed) × LeadsInto a.visible n from at to now × NarrowsFrame g later now
+      × IsParameterDeclared i program g numbers now at to later f
+      × Follows (with_visible later a) n to items fs os
+  Follows a n from (Sequence body hs ∷ items) fs os =
+      (at : ℕ) × (to : ℕ) × (now : Framed) × LeadsByWays a n from at to now
+      × IsSequence i program g numbers now a.ways a.raised at to body hs
+      × Follows (with_visible now a) n to items fs os
+  Follows a n from (Does s ∷ items) fs os =
+      (at : ℕ) × (to : ℕ) × (now : Framed) × LeadsByWays a n from at to now
+      × IsStatement i program g numbers now a.ways a.raised at to s
+      × Follows (with_visible now a) n to items fs os
+  Follows a n from (DoesMain s ∷ items) fs os =
+      (at : ℕ) × (to : ℕ) × (now : Framed) × LeadsByWays a n from at to now
+      × IsMainStatementCode i program g numbers at to s
+      × Follows (with_visible now a) n to items fs os
+      × GoesBy i a.raised at to
+  Follows a n from (Handles NoHandlers ∷ items) fs os = Follows a n from items fs os
+  Follows a n from (Handles (MoreHandlers choices body rest) ∷ items) fs os =
+      (at : ℕ) × (to : ℕ) × (outer : Around) × LeadsOver a n from at to outer
+      × AreHandlers i program g numbers outer.visible outer.ways outer.raised a.raised at to (MoreHandlers choices body rest)
+      × Follows outer n to items fs os
+  Follows a n from (EndsHandler x ∷ items) fs os =
+      (to : ℕ) × (word : ℕ) × (outer : Around) × LeadsBehind a n from to word x outer × Follows outer n to items fs os
+  Follows a n from (Repeats body ∷ items) fs os =
+      (head : ℕ) × (to : ℕ) × (outer : Around) × LeadsBack a n from head to outer
+      × IsForever i program g numbers head to (λ exit x y. AreStatements i program g numbers outer.visible (within_loop exit outer.ways) outer.raised x y body)
+      × Follows outer n to items fs os
+  Follows a n from (RepeatsWhile e body ∷ items) fs os =
+      (head : ℕ) × (to : ℕ) × (outer : Around) × LeadsBack a n from head to outer
+      × IsWhile i program g numbers outer.visible outer.raised head to e
+      (λ exit x y. AreStatements i program g numbers outer.visible (within_loop exit outer.ways) outer.raised x y body)
+      × Follows outer n to items fs os
+  Follows a n from (RepeatsFor parameter reversed now last body ∷ items) fs os =
+      (head : ℕ) × (to : ℕ) × (outer : Around) × (c : IsCounted i g outer.visible head to parameter reversed)
+      × LeadsNext a n from head to c.back c.counter c.limit now last c.inner outer
+      × AreStatements i program g numbers c.inner (within_loop (head + 1) outer.ways) outer.raised c.start c.back body
+      × Follows outer n to items fs os
+      × GoesBy i outer.raised c.back to
+  Follows a n from (EndsCall names opened xs ∷ items) fs os =
+      (ret : ℕ) × (c : Frame) × (below : List Frame) × (o : Activation) × (older : List Activation) × (outer : Around) × (ds : List Destination) × (to : ℕ)
+      × (opened ≡ None)
+      × LeadsEnd a n from a.visible names (addresses_of outer.visible.names xs)
+      × (a.ways.return ≡ Some ret) × (a.visible.reserved ≡ a.ending.reserved)
+      × LeadsEnd a n ret a.ending names (addresses_of outer.visible.names xs)
+      × (fs ≡ c ∷ below) × (os ≡ o ∷ older) × WaitsFor outer c o
+      × (length ds ≡ length names) × ArePlaced outer.visible.names ds xs
+      × (suc c.place ≤ to) × Inside c.subprogram to × AreCopies i program g outer.visible (suc c.place) to ds
+      × Follows outer c.subprogram to items below older
+      × GoesBy i outer.raised c.place to
+  Follows a n from (i ∷ items) fs os = ⊥
+
+  -- frames that an exception removes one by one
+  abbrev pub AreInner : Frame → List Frame → Type 0
+  AreInner f [] = Unit {0}
+  AreInner f (c ∷ fs) = (f.role ≡ Inner) × AreInner c fs
+
+  pub record IsGoingOn (items : List Item) (own : Activation) (os : List Activation) (s : TaskState) : Type 0 where
+    pub around : Around
+    pub follows : Follows around s.frame.subprogram s.frame.place items s.callers os
+    pub rests : RestsWith g around.visible around.held own s.frame.locals
+    pub outside : own.within ≡ None
+    pub stack : s.frame.stack ≡ []
+    pub going : s.raising ≡ None
+    pub depth : length s.callers ≡ ends_of_calls items
+    pub inner : AreInner s.frame s.callers
+
+  -- The results of a call stand on the operand stack, each above its address; the code stores them, and goes on with the items.
+  pub record IsCopying (vs : List Value) (xs : List Target) (items : List Item) (own : Activation) (os : List Activation) (s : TaskState) : Type 0 where
+    pub around : Around
+    pub destinations : List Destination
+    pub to : ℕ
+    pub placed : ArePlaced around.visible.names destinations xs
+    pub many : length vs ≡ length xs
+    pub up : s.frame.place ≤ to
+    pub copies : AreCopies i program g around.visible s.frame.place to destinations
+    pub from_inside : Inside s.frame.subprogram s.frame.place
+    pub to_inside : Inside s.frame.subprogram to
+    pub follows : Follows around s.frame.subprogram to items s.callers os
+    pub rests : RestsWith g around.visible around.held own s.frame.locals
+    pub outside : own.within ≡ None
+    pub stack : s.frame.stack ≡ copies_on vs (addresses_of around.visible.names xs) []
+    pub going : s.raising ≡ None
+    pub depth : length s.callers ≡ ends_of_calls items
+    pub inner : AreInner s.frame s.callers
+    pub goes : GoesBy i around.raised s.frame.place to
+    pub handles : Shows g around.visible around.handling
+
+  -- The frame has come to a handler with the exception on its operand stack; its next instruction keeps it, and then the code goes on with the items.
+  pub record IsCatching (items : List Item) (own : Activation) (os : List Activation) (s : TaskState) : Type 0 where
+    pub inside : Inside s.frame.subprogram s.frame.place
+    pub place : ℕ
+    pub locals : List ℤ
+    pub acts : (schedule : List ScheduleLine) (k : Kernel) (t : ℕ) (m : Words)
+        → steps.act i schedule k t (record { memory = m; task = s })
+        ≡ steps.does Quiet m (record s.frame { place = place; locals = locals; stack = [] }) s.callers None None
+    pub going : IsGoingOn items own os (record { frame = record s.frame { place = place; locals = locals; stack = [] }; callers = s.callers; raising = None })
+
+  -- The exception goes on in the frame at a handler, which keeps it there and has these statements.
+  pub record IsCaught (x : ℕ) (f : Frame) (fs : List Frame) (own : Activation) (os : List Activation) (body : StmtTrees) (items : List Item) : Type 0 where
+    pub target : ℕ
+    pub taken : handler_of i.rows f.place x ≡ Some target
+    pub catching : IsCatching (before body (EndsHandler x ∷ items)) own os (record { frame = placed f target (pos x ∷ []); callers = fs; raising = None })
+
+  abbrev pub CaughtIf : (x : ℕ) (f : Frame) (fs : List Frame) (own : Activation) (os : List Activation) (items : List Item) → Option StmtTrees →
+      (other : Type 0)
+      → Type 0
+  CaughtIf x f fs own os items (Some body) other = IsCaught x f fs own os body items
+  CaughtIf x f fs own os items None other = other
+
+  -- Where the exception goes on that is raised in the frame, above these frames and activations: at the first handler for it, or it ends the task.
+  abbrev pub Catches : (x : ℕ) (f : Frame) (fs : List Frame) (own : Activation) (os : List Activation) → List Item → Type 0
+  Catches x f fs own os [] = (handler_of i.rows f.place x ≡ None) × (fs ≡ [])
+  Catches x f fs own os (Handles hs ∷ items) = CaughtIf x f fs own os items (handler_for program x hs) (Catches x f fs own os items)
+  Catches x f fs own os (EndsCall names opened xs ∷ items) =
+      (c : Frame) × (below : List Frame) × (o : Activation) × (older : List Activation)
+      × (opened ≡ None) × (handler_of i.rows f.place x ≡ None) × (fs ≡ c ∷ below) × (os ≡ o ∷ older)
+      × Catches x c below o older items
+  Catches x f fs own os (EndsServed o names completion ∷ items) = ⊥
+  Catches x f fs own os (i ∷ items) = Catches x f fs own os items
+
+  pub data CodeStands (k : Kernel) (w : TaskWork) (s : TaskState) : Type 0 where
+    Going : (items : List Item) → w.work ≡ Goes items → IsGoingOn items w.own w.callers s → CodeStands k w s
+    Copying : (vs : List Value) (xs : List Target) (items : List Item) → w.work ≡ Copies vs xs items → IsCopying vs xs items w.own w.callers s
+        → CodeStands k w s
+    Catching : (items : List Item) → w.work ≡ Goes items → IsCatching items w.own w.callers s → CodeStands k w s
+    Raised : (x : ℕ) (items : List Item) (f : Frame) (fs : List Frame) → w.work ≡ Raising x items → Throws i x s f fs → AreInner f fs
+        → Catches x f fs w.own w.callers items
+        → CodeStands k w s
+    Over : (o : Outcome) → k.outcome ≡ Some o → CodeStands k w s
+
+  -- the task's work breaks no rule, whatever the store is
+  abbrev pub IsSoundWork : TaskWork → Type 0
+  IsSoundWork w = (m : Store) → IsSoundStore program m → IsSoundTask program m None w
+
+  pub record WorkStands (k : Kernel) (w : TaskWork) (s : TaskState) : Type 0 where
+    pub sound : IsSoundWork w
+    pub code : CodeStands k w s
+
+  pub record Left (k : Kernel) (e : Effect) (w : TaskWork) (s : TaskState) : Type 0 where
+    pub alone : StaysAlone e
+    pub stands : WorkStands k w s
+
+  pub record Shares (store : Store) (m : Words) : Type 0 where
+    pub sound : IsSoundStore program store
+    pub stands : StandsFor program g store m
+
+  abbrev pub relation : Relation Store TaskWork GivenToCaller Words TaskState steps.Given
+  relation = record {
+    shares = Shares;
+    stands = λ k t w s. WorkStands k w s;
+    leaves = λ k t e w s p q. Left (after t e k) e w s;
+    size = λ w. work_size
+        w.work;
+  }
