@@ -1,10 +1,11 @@
 -- The layers of compiling, one behind another.
-use Rattle.std.proofs.Common.{◌≡◌, ◌<◌, arith, ℕ, Bool, true, false, List, [], None, Result, Ok, Err, ap, inl, inr, refl, subst, sym}
+use Rattle.std.proofs.Common.{◌≡◌, ◌<◌, ◌⊎◌, arith, ℕ, Bool, true, false, List, [], None, Result, Ok, Err, ap, inl, inr, refl, subst, sym}
 use Rattle.std.proofs.lemmas.List.Elements.{All-contains}
 use Rattle.std.specs.List.{Contains}
 use Rattle.std.specs.Prelude.{IfOk, IfErr}
 use Rattle.base.specs.declared.faults.TheConstants.{LIMIT_PASSED, LOCAL_TASKING, NAME_NOT_VISIBLE, WRONG_PRAGMAS}
-use Rattle.lexer.specs.Spelling.{Spells}
+use Rattle.lexer.specs.Fault.{memory_fault}
+use Rattle.lexer.specs.Spelling.{IsBroken, IsRefusedForMemory, Spells}
 use Rattle.lexer.specs.declared.fault.Fault.{Fault}
 use Rattle.lexer.specs.declared.token.Token.{Token}
 use Rattle.parser.specs.Parsing.{Derives}
@@ -118,6 +119,20 @@ judged_accepted outside unlimited (Err fault) text tree made is_tree same legal 
 
 -- ---- texts that are not compiled
 
+-- what has no tokens: what is told for want of memory is no rule of spelling
+pub misspelled : SpellingNumbers → (text : List ℕ) (fault : Fault) → IsBroken text fault ⊎ IsRefusedForMemory text fault
+    → ((other : Fault) → IsBroken text other → (fault ≡ memory_fault) ⊎ ((fault.place < other.place) ⊎ (fault ≡ other)))
+    → RefusesText text fault
+misspelled numbers text fault (inr refused) least = inl refused.memory
+misspelled numbers text fault (inl broken) least =
+    inr (inl (record {
+      broken = broken;
+      first = λ other is. elim least other is [
+        | inl memory ↦ let n = ap (λ f. f.number) memory in let range = (numbers text fault broken).1 in absurd (omega (arith, n, range))
+        | inr first ↦ first
+      ];
+    }))
+
 -- the tree of the program that was read, of which another one is a copy
 read_tree : (text : List ℕ) (tokens list : List Token) (read copy : Program)
     → Spells text tokens → list ≡ tokens → Derives (program_tree read) list → copy ≡ read → IsTreeOf (program_tree copy) text
@@ -169,7 +184,7 @@ module _ (spelling : SpellingNumbers) (grammar : GrammarNumbers) (legality : Leg
 
   left_out : (text : List ℕ) (fault : Fault) → RefusesText text fault → IsLeftOut text fault
   left_out text fault (inl memory) = λ is. let n = ap (λ f. f.number) memory in absurd (omega (arith, n, is))
-  left_out text fault (inr (inl broken)) = λ is. let n = (spelling text fault broken).1 in absurd (omega (arith, n, is))
+  left_out text fault (inr (inl broken)) = λ is. let n = (spelling text fault broken.broken).1 in absurd (omega (arith, n, is))
   left_out text fault (inr (inr (inl none))) = λ is. let n = (grammar none.tokens fault none.faulty).1 in absurd (omega (arith, n, is))
   left_out text fault (inr (inr (inr (inl illegal)))) =
       λ is.

@@ -95,4 +95,4 @@ module _ (contents : Contents) (name schedule : List ℕ) (limit : ℕ) (old new
 
 -- the status of a sink's failure
 pub failed_keeps : (status : Status) (Same : Type 0) (before after : ℕ) → status ≡ Failed → before < after → KeepsSink status Same before after
-failed_keeps status Same before after is less = subst (λ s. KeepsSink s Same before after) (sym is) (λ e. cc, (λ e. cc, (λ e. cc, (λ e. inr less, λ e. cc))))
+failed_keeps status Same before after is less = subst (λ s. KeepsSink s Same before after) (sym is) (λ e. cc, (λ e. cc, (λ e. cc, (λ e. inr less, λ not. absurd (not refl)))))

@@ -1,5 +1,5 @@
 -- Which texts are programs, which of these are accepted, and which are compiled.
-use Rattle.std.specs.Prelude.{◌≡◌, ◌⊎◌, ℕ, true, List, Result, Ok, Err}
+use Rattle.std.specs.Prelude.{◌≡◌, ◌⊎◌, ◌<◌, ℕ, true, List, Result, Ok, Err}
 use Rattle.base.specs.declared.faults.TheConstants.{OUTSIDE_LANGUAGE}
 use Rattle.lexer.specs.Fault.{memory_fault}
 use Rattle.lexer.specs.Spelling.{Spells, IsBroken}
@@ -60,6 +60,11 @@ pub record Compiles (text : List ℕ) (image : Sections) : Type 0 where
   pub bounded : IsBounded tree image
   pub well_formed : IsWellFormed image
 
+-- the text breaks this rule from 1 to 5, and no other one at this place or in front of it: so no tokens spell it
+pub record IsMisspelled (text : List ℕ) (fault : Fault) : Type 0 where
+  pub broken : IsBroken text fault
+  pub first : (other : Fault) → IsBroken text other → (fault.place < other.place) ⊎ (fault ≡ other)
+
 -- the tokens that spell the text have no tree
 pub record HasNoTree (text : List ℕ) (fault : Fault) : Type 0 where
   pub tokens : List Token
@@ -85,12 +90,12 @@ pub record HasRefusedTree (text : List ℕ) (fault : Fault) : Type 0 where
   pub accepted : IsAccepted tree text
   pub refused : RefusesAccepted text tree fault
 
--- memory was refused; no tokens spell the text; they have no tree; the tree is illegal; it is legal and breaks a restriction; or the text is accepted and not
+-- memory was refused; the text breaks a rule of spelling, and this is the first; its tokens have no tree; the tree is illegal; it is legal and breaks a restriction; or the text is accepted and not
 -- compiled
 abbrev pub RefusesText : List ℕ → Fault → Type 0
 RefusesText text fault =
     (fault ≡ memory_fault)
-    ⊎ (IsBroken text fault ⊎ (HasNoTree text fault ⊎ (HasIllegalTree text fault ⊎ (HasUnrestrictedTree text fault ⊎ HasRefusedTree text fault))))
+    ⊎ (IsMisspelled text fault ⊎ (HasNoTree text fault ⊎ (HasIllegalTree text fault ⊎ (HasUnrestrictedTree text fault ⊎ HasRefusedTree text fault))))
 
 -- What is outside the language of today is an accepted text that has what no code is made of, refused by this number at byte 0. No other text is.
 abbrev pub IsLeftOut : List ℕ → Fault → Type 0

@@ -48,12 +48,12 @@ unread errors.Memory = NoMemory
 unread errors.Unreadable = Failed
 
 -- what becomes of a sink, by the exit status: it was given nothing where a text or a schedule was refused or memory was; where the work
--- failed it was given nothing, or a write failed; where it is done none failed
+-- failed it was given nothing, or a write failed; wherever it did not fail no write did
 abbrev pub KeepsSink : Status → Type 0 → ℕ → ℕ → Type 0
 KeepsSink status Same before after =
     (status ≡ SourceRefused → Same)
     × ((status ≡ ScheduleRefused → Same)
-    × ((status ≡ NoMemory → Same) × ((status ≡ Failed → Same ⊎ (before < after)) × (status ≡ Done → after ≡ before))))
+    × ((status ≡ NoMemory → Same) × ((status ≡ Failed → Same ⊎ (before < after)) × (status ≢ Failed → after ≡ before))))
 
 -- both files were read, and the run of the source under the schedule had an outcome of this status
 pub record HasRun (contents : Contents) (source schedule : List ℕ) (limit : ℕ) (status : Status) (old new : Option (List ℕ)) : Type 0 where
@@ -202,11 +202,22 @@ pub record HasCompiled (before after : Contents) (source name : List ℕ) : Type
   pub compiles : Compiles text image
   pub written : IsContentRead (after name) (bytes_of image)
 
+-- the source was read, and compiles to an image, whose bytes were there to be written
+pub record HasBytesToWrite (before : Contents) (source : List ℕ) : Type 0 where
+  pub text : List ℕ
+  pub source_read : IsContentRead (before source) text
+  pub image : Sections
+  pub compiles : Compiles text image
+
+-- Each file has the content that it had; of the image's file nothing is told where its bytes were there and writing them failed.
+abbrev pub AreKeptUntilWritten : Contents → Contents → List ℕ → List ℕ → Type 0
+AreKeptUntilWritten before after source name = AreFilesKept before after ⊎ (HasBytesToWrite before source × OthersAreKept name before after)
+
 abbrev pub LeavesCompile : Contents → Contents → List ℕ → List ℕ → Status → Option (List ℕ) → Option (List ℕ) → Type 0
 LeavesCompile before after source name Done old new = (new ≡ old) × (OthersAreKept name before after × HasCompiled before after source name)
 LeavesCompile before after source name SourceRefused old new = AreFilesKept before after × HasRefusedSource before source old new
-LeavesCompile before after source name NoMemory old new = (new ≡ old) × OthersAreKept name before after
-LeavesCompile before after source name Failed old new = (new ≡ old) × OthersAreKept name before after
+LeavesCompile before after source name NoMemory old new = (new ≡ old) × AreKeptUntilWritten before after source name
+LeavesCompile before after source name Failed old new = (new ≡ old) × AreKeptUntilWritten before after source name
 LeavesCompile before after source name status old new = ⊥
 
 -- ---- all

@@ -1,5 +1,5 @@
 //! The program's work over any files and streams.
-ghost use Rattle.std.specs.Prelude.{◌≡◌, ◌<◌, ◌⊎◌, ℕ, List, Option, nat_eq, if◌then◌else◌};
+ghost use Rattle.std.specs.Prelude.{◌≡◌, ◌≢◌, ◌<◌, ◌⊎◌, ℕ, List, Option, nat_eq, if◌then◌else◌};
 ghost use Rattle.base.specs.declared.faults.TheConstants.{MEMORY_REFUSED};
 ghost use Rattle.adarun.specs.Driving as driving;
 ghost use Rattle.adarun.specs.Driving.{AnswersStatus, KeepsSink, LeavesCompile, LeavesGo, LeavesList, LeavesRun};
@@ -33,10 +33,10 @@ pub enum Status {
 }
 
 /// Does what the words, without the program's name, ask for: reads files, writes one of them or to `out`, and where it stops early one
-/// line to `err`. It answers the exit status. Where a run came to an outcome, `out` was given its text (`go`, `run`), and no write to it
-/// failed; where an image was listed, its listing. Where a text, an image or a schedule was refused or memory was wanting, nothing was
+/// line to `err`. It answers the exit status. Where a run came to an outcome, `out` was given its text (`go`, `run`); where an image was
+/// listed, its listing; and no write to `out` failed under any status but 1. Where a text, an image or a schedule was refused or memory was wanting, nothing was
 /// written; where a write to `out` failed, a beginning of what was to be written. `compile` writes the image's file, and nothing to `out`:
-/// the file stays as it was where the source is refused.
+/// that file stays as it was unless the bytes of the source's image were there to be written, and no other file changes.
 pub fn drive<F: FileStore, O: Sink, E: Sink>(
     alloc: Global,
     words: &[&str],
@@ -49,7 +49,7 @@ pub fn drive<F: FileStore, O: Sink, E: Sink>(
     ensures schedule { result ≡ 7 → out.new ≡ out.old }
     ensures memory { result ≡ 8 → out.new ≡ out.old }
     ensures failed { result ≡ 1 → (out.new ≡ out.old) ⊎ (O.failures out.old < O.failures out.new) }
-    ensures done { result ≡ 0 → O.failures out.new ≡ O.failures out.old }
+    ensures kept { result ≢ 1 → O.failures out.new ≡ O.failures out.old }
 {
     let status = match request_of(alloc, words) {
         Ok(Request::Compile { source, image }) => drive_compile(alloc, files, source, image, err),

@@ -4,8 +4,14 @@ use Rattle.ada_tree.specs.ProgramTree.{program_tree}
 use Rattle.checking.specs.ProgramRules.{IsLegal}
 use Rattle.parser.specs.Parsing.{Derives}
 use Rattle.adarun.specs.Accepted.{CompilesAccepted, IsJudged, RefusesText}
-use Rattle.adarun.proofs.Compiling.{compiles, given, judged, judged_accepted, judged_legal, legal_given, refused_left_out, refused_text, restricted_given, tells, unrestricted_text}
+use Rattle.adarun.proofs.Compiling.{compiles, given, judged, judged_accepted, judged_legal, legal_given, refused_left_out, misspelled, refused_text, restricted_given, tells, unrestricted_text}
 use Rattle.adarun.proofs.compilation.compile.Goals as goal
+
+pub returns-in_err-list-clause-refused : goal.returns-in_err-list-clause-refused
+returns-in_err-list-clause-refused c =
+    let is : c.from_residual-in_err-list.result ≡ Err c.in_err-list.field-0.0 = search rules in
+    subst (λ r. IfErr r (λ f. RefusesText c.args.source.now f)) (sym is)
+    (misspelled c.spelling_numbers.ensures c.args.source.now _ c.in_err-list.ensures.fault c.in_err-list.ensures.least)
 
 pub returns-in_err-program-clause-judged : goal.returns-in_err-program-clause-judged
 returns-in_err-program-clause-judged c = λ tree is_tree.
