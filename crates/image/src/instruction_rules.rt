@@ -175,7 +175,37 @@ impl Parts {
             },
             Operation::EntryCall(object) => self.entry_called(*object).is_some(),
             Operation::PutLine(label) => usize::from(*label) < self.labels.len(),
-            _ => true,
+            Operation::Push(_)
+            | Operation::Drop
+            | Operation::Duplicate
+            | Operation::Negate
+            | Operation::Absolute
+            | Operation::Add
+            | Operation::Subtract
+            | Operation::Multiply
+            | Operation::Divide
+            | Operation::Modulo
+            | Operation::Remainder
+            | Operation::CheckRange
+            | Operation::Equal
+            | Operation::NotEqual
+            | Operation::Less
+            | Operation::LessOrEqual
+            | Operation::Greater
+            | Operation::GreaterOrEqual
+            | Operation::And
+            | Operation::Or
+            | Operation::ExclusiveOr
+            | Operation::Not
+            | Operation::Jump(_)
+            | Operation::JumpIfZero(_)
+            | Operation::JumpIfNotZero(_)
+            | Operation::Return
+            | Operation::Raise
+            | Operation::CheckBlocking
+            | Operation::DelayUntil
+            | Operation::ReadInput
+            | Operation::Clock => true,
         }
     }
 
@@ -238,7 +268,49 @@ impl Parts {
                 self.called(*number).is_some()
             }
             Operation::EntryCall(object) => self.entry_called(*object).is_some(),
-            _ => true,
+            Operation::Push(_)
+            | Operation::Drop
+            | Operation::Duplicate
+            | Operation::LoadLocal(_)
+            | Operation::StoreLocal(_)
+            | Operation::LoadPlain(_)
+            | Operation::StorePlain(_)
+            | Operation::LoadObject(_)
+            | Operation::StoreObject(_)
+            | Operation::LoadIndexed(_)
+            | Operation::StoreIndexed(_)
+            | Operation::LoadBlock { .. }
+            | Operation::StoreBlock { .. }
+            | Operation::Copy { .. }
+            | Operation::Negate
+            | Operation::Absolute
+            | Operation::Add
+            | Operation::Subtract
+            | Operation::Multiply
+            | Operation::Divide
+            | Operation::Modulo
+            | Operation::Remainder
+            | Operation::CheckRange
+            | Operation::Equal
+            | Operation::NotEqual
+            | Operation::Less
+            | Operation::LessOrEqual
+            | Operation::Greater
+            | Operation::GreaterOrEqual
+            | Operation::And
+            | Operation::Or
+            | Operation::ExclusiveOr
+            | Operation::Not
+            | Operation::Jump(_)
+            | Operation::JumpIfZero(_)
+            | Operation::JumpIfNotZero(_)
+            | Operation::Return
+            | Operation::Raise
+            | Operation::CheckBlocking
+            | Operation::DelayUntil
+            | Operation::PutLine(_)
+            | Operation::ReadInput
+            | Operation::Clock => true,
         }
     }
 

@@ -15,7 +15,49 @@ impl Operation {
             Operation::LoadBlock { words, .. }
             | Operation::StoreBlock { words, .. }
             | Operation::Copy { words, .. } => is_block(*words),
-            _ => true,
+            Operation::Push(_)
+            | Operation::Drop
+            | Operation::Duplicate
+            | Operation::LoadLocal(_)
+            | Operation::StoreLocal(_)
+            | Operation::LoadPlain(_)
+            | Operation::StorePlain(_)
+            | Operation::LoadObject(_)
+            | Operation::StoreObject(_)
+            | Operation::LoadIndexed(_)
+            | Operation::StoreIndexed(_)
+            | Operation::Negate
+            | Operation::Absolute
+            | Operation::Add
+            | Operation::Subtract
+            | Operation::Multiply
+            | Operation::Divide
+            | Operation::Modulo
+            | Operation::Remainder
+            | Operation::CheckRange
+            | Operation::Equal
+            | Operation::NotEqual
+            | Operation::Less
+            | Operation::LessOrEqual
+            | Operation::Greater
+            | Operation::GreaterOrEqual
+            | Operation::And
+            | Operation::Or
+            | Operation::ExclusiveOr
+            | Operation::Not
+            | Operation::Jump(_)
+            | Operation::JumpIfZero(_)
+            | Operation::JumpIfNotZero(_)
+            | Operation::Call(_)
+            | Operation::ProtectedCall(_)
+            | Operation::EntryCall(_)
+            | Operation::Return
+            | Operation::Raise
+            | Operation::CheckBlocking
+            | Operation::DelayUntil
+            | Operation::PutLine(_)
+            | Operation::ReadInput
+            | Operation::Clock => true,
         }
     }
 
@@ -23,10 +65,52 @@ impl Operation {
     pub fn goes_on(&self) -> bool
         ensures { result ≡ goes_on self.now }
     {
-        !matches!(
-            self,
-            Operation::Jump(_) | Operation::Return | Operation::Raise
-        )
+        match self {
+            Operation::Jump(_) | Operation::Return | Operation::Raise => false,
+            Operation::Push(_)
+            | Operation::Drop
+            | Operation::Duplicate
+            | Operation::LoadLocal(_)
+            | Operation::StoreLocal(_)
+            | Operation::LoadPlain(_)
+            | Operation::StorePlain(_)
+            | Operation::LoadObject(_)
+            | Operation::StoreObject(_)
+            | Operation::LoadIndexed(_)
+            | Operation::StoreIndexed(_)
+            | Operation::LoadBlock { .. }
+            | Operation::StoreBlock { .. }
+            | Operation::Copy { .. }
+            | Operation::Negate
+            | Operation::Absolute
+            | Operation::Add
+            | Operation::Subtract
+            | Operation::Multiply
+            | Operation::Divide
+            | Operation::Modulo
+            | Operation::Remainder
+            | Operation::CheckRange
+            | Operation::Equal
+            | Operation::NotEqual
+            | Operation::Less
+            | Operation::LessOrEqual
+            | Operation::Greater
+            | Operation::GreaterOrEqual
+            | Operation::And
+            | Operation::Or
+            | Operation::ExclusiveOr
+            | Operation::Not
+            | Operation::JumpIfZero(_)
+            | Operation::JumpIfNotZero(_)
+            | Operation::Call(_)
+            | Operation::ProtectedCall(_)
+            | Operation::EntryCall(_)
+            | Operation::CheckBlocking
+            | Operation::DelayUntil
+            | Operation::PutLine(_)
+            | Operation::ReadInput
+            | Operation::Clock => true,
+        }
     }
 
     /// Whether it is a return.
@@ -44,7 +128,49 @@ impl Operation {
             Operation::Jump(target)
             | Operation::JumpIfZero(target)
             | Operation::JumpIfNotZero(target) => Some(*target),
-            _ => None,
+            Operation::Push(_)
+            | Operation::Drop
+            | Operation::Duplicate
+            | Operation::LoadLocal(_)
+            | Operation::StoreLocal(_)
+            | Operation::LoadPlain(_)
+            | Operation::StorePlain(_)
+            | Operation::LoadObject(_)
+            | Operation::StoreObject(_)
+            | Operation::LoadIndexed(_)
+            | Operation::StoreIndexed(_)
+            | Operation::LoadBlock { .. }
+            | Operation::StoreBlock { .. }
+            | Operation::Copy { .. }
+            | Operation::Negate
+            | Operation::Absolute
+            | Operation::Add
+            | Operation::Subtract
+            | Operation::Multiply
+            | Operation::Divide
+            | Operation::Modulo
+            | Operation::Remainder
+            | Operation::CheckRange
+            | Operation::Equal
+            | Operation::NotEqual
+            | Operation::Less
+            | Operation::LessOrEqual
+            | Operation::Greater
+            | Operation::GreaterOrEqual
+            | Operation::And
+            | Operation::Or
+            | Operation::ExclusiveOr
+            | Operation::Not
+            | Operation::Call(_)
+            | Operation::ProtectedCall(_)
+            | Operation::EntryCall(_)
+            | Operation::Return
+            | Operation::Raise
+            | Operation::CheckBlocking
+            | Operation::DelayUntil
+            | Operation::PutLine(_)
+            | Operation::ReadInput
+            | Operation::Clock => None,
         }
     }
 }

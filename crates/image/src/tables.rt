@@ -71,6 +71,23 @@ impl Parts {
             | Operation::DelayUntil
             | Operation::PutLine(_)
             | Operation::ReadInput => 1,
+            Operation::StoreIndexed(_)
+            | Operation::Copy { .. }
+            | Operation::Add
+            | Operation::Subtract
+            | Operation::Multiply
+            | Operation::Divide
+            | Operation::Modulo
+            | Operation::Remainder
+            | Operation::Equal
+            | Operation::NotEqual
+            | Operation::Less
+            | Operation::LessOrEqual
+            | Operation::Greater
+            | Operation::GreaterOrEqual
+            | Operation::And
+            | Operation::Or
+            | Operation::ExclusiveOr => 2,
             Operation::StoreBlock { words, .. } => usize::from(*words) + 1,
             Operation::CheckRange => 3,
             Operation::Call(number) | Operation::ProtectedCall(number) => {
@@ -78,7 +95,6 @@ impl Parts {
             }
             Operation::EntryCall(object) => parameters_of(self.entry_called(*object)),
             Operation::Return => usize::from(results),
-            _ => 2,
         }
     }
 
@@ -109,7 +125,32 @@ impl Parts {
                 results_of(self.called(*number))
             }
             Operation::EntryCall(object) => results_of(self.entry_called(*object)),
-            _ => 1,
+            Operation::Push(_)
+            | Operation::LoadLocal(_)
+            | Operation::LoadPlain(_)
+            | Operation::LoadObject(_)
+            | Operation::LoadIndexed(_)
+            | Operation::Negate
+            | Operation::Absolute
+            | Operation::Add
+            | Operation::Subtract
+            | Operation::Multiply
+            | Operation::Divide
+            | Operation::Modulo
+            | Operation::Remainder
+            | Operation::CheckRange
+            | Operation::Equal
+            | Operation::NotEqual
+            | Operation::Less
+            | Operation::LessOrEqual
+            | Operation::Greater
+            | Operation::GreaterOrEqual
+            | Operation::And
+            | Operation::Or
+            | Operation::ExclusiveOr
+            | Operation::Not
+            | Operation::ReadInput
+            | Operation::Clock => 1,
         }
     }
 }

@@ -1,7 +1,6 @@
-use Rattle.std.proofs.Common.{◌≡◌, Option, Some, None, refl, ap, ◌∙◌, slice_get, ℕ, List}
+use Rattle.std.proofs.Common.{◌≡◌, Option, Some, None, refl, ap, ◌∙◌, slice_get, ℕ}
 use Rattle.image.specs.Laws.{FoundByEnds}
 use Rattle.image.specs.Sections.{holder, holder_number}
-use Rattle.image.specs.declared.subprograms.Subprogram.{Subprogram}
 use Rattle.image.proofs.Holder.{held_none, held_some}
 use Rattle.image.proofs.RowTables.{holder_by_ends}
 use Rattle.image.proofs.laws.found_by_ends.Goals as goal
