@@ -13,17 +13,17 @@ use Rattle.ada_tree.specs.ProgramTree.{BodyItemTree, BodyTree, ItemTree, OfExcep
 use Rattle.image.specs.RuleLaws.{slice_get_inside}
 use Rattle.types.specs.Entities.{Doubtful, Entity, Profile, Subprogram}
 use Rattle.types.specs.Scopes.{Scope, is_visible, standard}
-use Rattle.expr_rules.proofs.TypedLaw.{back_empty, front_empty, unbroken}
+use Rattle.meaning.specs.expr_rules.proofs.TypedLaw.{back_empty, front_empty, unbroken}
 use Rattle.declaring.specs.ItemRules.{item_scope, items_scope}
-use Rattle.type_rules.specs.SubtypeNames.{declared_twice, named_entity}
-use Rattle.legality.specs.BodyRules.{body_name_faults, function_body_faults, is_subprogram}
+use Rattle.meaning.specs.type_rules.specs.SubtypeNames.{declared_twice, named_entity}
+use Rattle.program_soundness.specs.legality.specs.BodyRules.{body_name_faults, function_body_faults, is_subprogram}
 use Rattle.declaring.specs.PackageNames.{body_item_scope, inside_scope, specified_scope}
 use Rattle.checking.specs.ProgramRules.{IsLegal}
 use Rattle.ravenscar.specs.ProgramRules.{IsRestricted}
-use Rattle.size_rules.specs.declared.thing.Kind.TheVariants as kind
-use Rattle.size_rules.specs.Limits.{Things, place_of_kind, places_of, words_faults}
-use Rattle.size_rules.specs.PackageSizes.{body_item_things, body_items_things, frame_faults, item_things, items_things, package_inside, package_things}
-use Rattle.size_rules.specs.ProgramSizes.{declared_faults, exception_faults, label_faults, optional_size_faults, protected_object_faults, subprogram_faults, task_faults}
+use Rattle.program_soundness.specs.size_rules.specs.declared.thing.Kind.TheVariants as kind
+use Rattle.program_soundness.specs.size_rules.specs.Limits.{Things, place_of_kind, places_of, words_faults}
+use Rattle.program_soundness.specs.size_rules.specs.PackageSizes.{body_item_things, body_items_things, frame_faults, item_things, items_things, package_inside, package_things}
+use Rattle.program_soundness.specs.size_rules.specs.ProgramSizes.{declared_faults, exception_faults, label_faults, optional_size_faults, protected_object_faults, subprogram_faults, task_faults}
 use Rattle.meaning.specs.Programs.{Program, exceptions_among, items_among, package_items, program_of}
 use Rattle.program_soundness.specs.BodyLaws.{PremisesHold}
 use Rattle.program_soundness.specs.Fronts.{declared_in, front, scope_at, start_in}

@@ -8,15 +8,15 @@ use Rattle.ada_tree.specs.ExpressionTree.{ArgumentTrees, Arguments, Attribute, C
 use Rattle.ada_tree.specs.StatementTree.{AlternativeTrees, Block, Call, Case, DeclarationTree, ElsifTrees, HandlerTrees, If, LocalObject, Loop, MoreAlternatives, MoreElsifs, MoreHandlers, MoreStmts, NoAlternatives, NoElsifs, NoHandlers, NoStmts, StmtTree, StmtTrees}
 use Rattle.ada_tree.specs.ProgramTree.{BodyItemTree, BodyTree, EntryBody, ItemTree, OfItem, OperationBody, PackageTree, ProtectedBody, ProtectedItemTree, SubprogramBody, TaskBody}
 use Rattle.types.specs.Scopes.{Scope, standard}
-use Rattle.expr_rules.proofs.TypedLaw.{back_empty, front_empty}
+use Rattle.meaning.specs.expr_rules.proofs.TypedLaw.{back_empty, front_empty}
 use Rattle.declaring.specs.PackageNames.{body_item_scope, specified_scope}
-use Rattle.size_rules.specs.BodySizes.{alternatives_things, body_things, call_things, elsifs_things, first_argument, formals_things, handlers_things, locals_things, sized_object, stmt_things, stmts_things}
-use Rattle.size_rules.specs.Limits.{Things, first_use, first_uses, is_among, over, used_with}
-use Rattle.size_rules.specs.PackageSizes.{body_item_inside, body_items_inside, frame_faults, operations_inside, package_inside, package_things}
-use Rattle.size_rules.specs.ProgramSizes.{declared_faults, label_faults, optional_size_faults}
+use Rattle.program_soundness.specs.size_rules.specs.BodySizes.{alternatives_things, body_things, call_things, elsifs_things, first_argument, formals_things, handlers_things, locals_things, sized_object, stmt_things, stmts_things}
+use Rattle.program_soundness.specs.size_rules.specs.Limits.{Things, first_use, first_uses, is_among, over, used_with}
+use Rattle.program_soundness.specs.size_rules.specs.PackageSizes.{body_item_inside, body_items_inside, frame_faults, operations_inside, package_inside, package_things}
+use Rattle.program_soundness.specs.size_rules.specs.ProgramSizes.{declared_faults, label_faults, optional_size_faults}
 use Rattle.program_soundness.specs.Fronts.{declared_in}
-use Rattle.part_code.specs.Labels.{alternatives_labels, elsifs_labels, handlers_labels, is_label, stmt_labels, stmts_labels, with_label, with_line}
-use Rattle.part_code.specs.Lines.{line_behind}
+use Rattle.step_simulation.specs.part_code.specs.Labels.{alternatives_labels, elsifs_labels, handlers_labels, is_label, stmt_labels, stmts_labels, with_label, with_line}
+use Rattle.step_simulation.specs.part_code.specs.Lines.{line_behind}
 use Rattle.stmt_code.specs.WholeRefusals.{body_labels}
 use Rattle.package_code.specs.Refusing.{item_labels, items_labels}
 use Rattle.package_code.proofs.Differing.{AreAmong, AreDiffering, differing_more, is_of, no_more_than, of_either, of_front, of_last, position_is}

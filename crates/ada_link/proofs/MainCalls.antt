@@ -7,10 +7,10 @@ use Rattle.ada_tree.specs.declared.program.MainStatement.TheVariants as main
 use Rattle.ada_tree.specs.ProgramTree.{BodyItemTree, ItemTree, OfItem, PackageTree, ProgramTree}
 use Rattle.types.specs.Entities.{LibraryUnit, Protected, ProtectedObject, Subprogram}
 use Rattle.types.specs.Scopes.{Scope, with_name}
-use Rattle.expr_rules.proofs.TypedLaw.{back_empty, front_empty}
-use Rattle.type_rules.specs.ProfileRules.{formal_parameters, profile_with}
-use Rattle.type_rules.specs.SubtypeNames.{end_rule}
-use Rattle.legality.specs.MainRules.{main_scope, main_statements_faults}
+use Rattle.meaning.specs.expr_rules.proofs.TypedLaw.{back_empty, front_empty}
+use Rattle.meaning.specs.type_rules.specs.ProfileRules.{formal_parameters, profile_with}
+use Rattle.meaning.specs.type_rules.specs.SubtypeNames.{end_rule}
+use Rattle.program_soundness.specs.legality.specs.MainRules.{main_scope, main_statements_faults}
 use Rattle.checking.specs.ProgramRules.{IsLegal}
 use Rattle.ravenscar.specs.ProgramRules.{IsRestricted}
 use Rattle.meaning.specs.Calls.{procedure_among, procedure_here}

@@ -21,7 +21,7 @@ use Rattle.program_soundness.proofs.Whole.{IsPackage}
 use Rattle.expr_soundness.proofs.Positions.{entity_number, first_place, found_at, number_place, suc_of}
 use Rattle.expr_code.specs.Entries.{entry_at}
 use Rattle.expr_code.specs.Seeing.{subprogram_of, told_of}
-use Rattle.part_code.specs.Needs.{are_unknown}
+use Rattle.step_simulation.specs.part_code.specs.Needs.{are_unknown}
 use Rattle.package_code.specs.Laws.{MainIsKnown}
 use Rattle.package_code.specs.Refusing.{number_in, seen_at, told_behind}
 use Rattle.package_code.proofs.CodedPackage.{procedure_stands}

@@ -36,13 +36,13 @@ use Rattle.program_soundness.specs.BodyLaws.{PremisesHold}
 use Rattle.program_soundness.specs.ProgramLaws.{StartsAreSound}
 use Rattle.expr_code.specs.Coming.{most_steps}
 use Rattle.expr_code.specs.Seeing.{Package}
-use Rattle.part_code.specs.Handling.{unhandled}
+use Rattle.step_simulation.specs.part_code.specs.Handling.{unhandled}
 use Rattle.step_simulation.specs.Laws.{StepsAreMet}
-use Rattle.part_code.specs.Resting.{Shows}
-use Rattle.part_code.specs.Statements.{Numbers}
-use Rattle.part_code.specs.Jumping.{Here}
+use Rattle.step_simulation.specs.part_code.specs.Resting.{Shows}
+use Rattle.step_simulation.specs.part_code.specs.Statements.{Numbers}
+use Rattle.step_simulation.specs.part_code.specs.Jumping.{Here}
 use Rattle.step_simulation.specs.Standing.{Around, CodeStands, Follows, Going, Inside, Left, Shares, WorkStands, relation, work_size}
-use Rattle.part_code.proofs.Handling.{goes_within}
+use Rattle.step_simulation.specs.part_code.proofs.Handling.{goes_within}
 use Rattle.package_code.specs.LinkLaws.{LinkedKeepsCount, LinkedMeansTheSame}
 use Rattle.package_code.specs.Linked.{AreMain, IsLinkedProgram}
 use Rattle.ada_link.proofs.Single.{Single, begins_single, single_after}

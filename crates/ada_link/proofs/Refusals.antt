@@ -18,9 +18,9 @@ use Rattle.expr_code.specs.Seeing.{told_of}
 use Rattle.expr_code.specs.declared.refusal.Refusal.{Refusal}
 use Rattle.expr_code.specs.declared.refusal.Refusal.TheVariants as refusal
 use Rattle.expr_code.proofs.Refusals.{or_left}
-use Rattle.part_code.specs.Bounds.{main_bound}
-use Rattle.part_code.specs.Needs.{RefusesMain, are_unknown, beyond_if}
-use Rattle.part_code.proofs.Within.{needing_refused}
+use Rattle.step_simulation.specs.part_code.specs.Bounds.{main_bound}
+use Rattle.step_simulation.specs.part_code.specs.Needs.{RefusesMain, are_unknown, beyond_if}
+use Rattle.step_simulation.specs.part_code.proofs.Within.{needing_refused}
 use Rattle.package_code.specs.Counts.{bodies_among, bodies_before, bounds_from}
 use Rattle.package_code.specs.Directory.{HaveBodyNumbers, HasManyBodies, IsDirectory}
 use Rattle.package_code.specs.Globals.{AreGlobals, RefusesGlobals, refuses_items}

@@ -6,15 +6,15 @@ use Rattle.std.proofs.lemmas.List.Sums.{list_all-from_AllPass}
 use Rattle.std.specs.List.{All, list_all}
 use Rattle.std.specs.Prelude.{nat_eq, nat_le, slice_get}
 use Rattle.ada_tree.specs.ProgramTree.{ProgramTree}
-use Rattle.handlers.specs.Nesting.{all_nested}
-use Rattle.handlers.specs.declared.rows.Row.{Row}
+use Rattle.image_laws.specs.handlers.specs.Nesting.{all_nested}
+use Rattle.image_laws.specs.handlers.specs.declared.rows.Row.{Row}
 use Rattle.image.specs.RuleLaws.{begin_of, begin_of-next, rises}
 use Rattle.image.specs.Rules.{all_begun, covers_places, has_depth, has_ends, is_row_within, none_or, same_number}
 use Rattle.image.specs.Sections.{Sections, end_of, holder_number}
 use Rattle.image.specs.declared.subprograms.Subprogram.{Subprogram}
 use Rattle.expr_code.specs.Code.{here}
 use Rattle.stmt_code.specs.Emitting.{FindsException}
-use Rattle.part_code.specs.Rows.{LiesWithin}
+use Rattle.step_simulation.specs.part_code.specs.Rows.{LiesWithin}
 use Rattle.stmt_code.proofs.Whole.{number_here, number_later}
 use Rattle.package_code.specs.Program.{HasProgram, main_row}
 use Rattle.package_code.specs.Walking.{HasRows, LiesInOne, begins_at}

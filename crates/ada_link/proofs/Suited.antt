@@ -16,8 +16,8 @@ use Rattle.types.specs.Entities.{Profile}
 use Rattle.types.specs.Entities as entity
 use Rattle.types.specs.Layouts.{words_of}
 use Rattle.types.specs.Scopes.{Scope}
-use Rattle.type_rules.specs.ProfileRules.{formal_parameters, profile_with}
-use Rattle.type_rules.specs.SubtypeNames.{subtype_of}
+use Rattle.meaning.specs.type_rules.specs.ProfileRules.{formal_parameters, profile_with}
+use Rattle.meaning.specs.type_rules.specs.SubtypeNames.{subtype_of}
 use Rattle.checking.specs.ProgramRules.{IsLegal}
 use Rattle.ravenscar.specs.ProgramRules.{IsRestricted}
 use Rattle.expr_soundness.specs.Agreeing.{parameter_subtype}
@@ -34,9 +34,9 @@ use Rattle.expr_code.specs.Code.{here}
 use Rattle.expr_code.specs.Seeing.{IsCallable, NamesProfile, Package, Suits, slot_of, subprogram_of, told_of}
 use Rattle.expr_code.specs.declared.visible.Slot.{Slot}
 use Rattle.expr_code.specs.declared.visible.Visible.{Visible}
-use Rattle.part_code.specs.Resting.{Framed}
+use Rattle.step_simulation.specs.part_code.specs.Resting.{Framed}
 use Rattle.stmt_code.specs.Subprograms.{IsCalledFunction, IsCalledProcedure}
-use Rattle.part_code.specs.Suiting.{IsCallableProcedure, SuitsStatements, passed_width, returned_width}
+use Rattle.step_simulation.specs.part_code.specs.Suiting.{IsCallableProcedure, SuitsStatements, passed_width, returned_width}
 use Rattle.package_code.specs.Directory.{AreTold}
 use Rattle.package_code.specs.Package.{IsPackageOf}
 use Rattle.package_code.specs.Program.{HasProgram}

@@ -1,10 +1,10 @@
 -- An accepted program has no more labels, subprograms and exceptions, and its variables no more words, than an image.
 use Rattle.std.proofs.Common.{◌≡◌, []}
-use Rattle.expr_rules.proofs.TypedLaw.{back_empty}
+use Rattle.meaning.specs.expr_rules.proofs.TypedLaw.{back_empty}
 use Rattle.ada_tree.specs.ProgramTree.{ProgramTree}
 use Rattle.checking.specs.ProgramLayouts.{WordsHaveRoom}
 use Rattle.checking.specs.ProgramRules.{IsLegal}
-use Rattle.size_rules.specs.ProgramSizes.{size_faults}
+use Rattle.program_soundness.specs.size_rules.specs.ProgramSizes.{size_faults}
 use Rattle.package_code.specs.Laws.{TablesAreSmall}
 use Rattle.ada_link.proofs.CountsFit.{exceptions_few, subprograms_few}
 use Rattle.package_code.proofs.InFront.{LawsOfNames}

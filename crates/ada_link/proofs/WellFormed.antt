@@ -13,8 +13,8 @@ use Rattle.image.specs.Sections.{Sections}
 use Rattle.image.specs.declared.tasks.Task.{Task}
 use Rattle.types.specs.Scopes.{Scope, integer_type}
 use Rattle.types.specs.Values.{Array, Number, Record, Truth, Value}
-use Rattle.expr_rules.specs.StaticRules.{static_scalar}
-use Rattle.expr_rules.specs.declared.own.Wanted.TheVariants as wanted
+use Rattle.meaning.specs.expr_rules.specs.StaticRules.{static_scalar}
+use Rattle.meaning.specs.expr_rules.specs.declared.own.Wanted.TheVariants as wanted
 use Rattle.declaring.specs.TaskRules.{default_priority, priority_of, priority_within}
 use Rattle.meaning.specs.Programs.{base_priority, exceptions_among, package_items, program_of}
 use Rattle.program_soundness.proofs.WiderScopes.{bytes_same}

@@ -11,13 +11,13 @@ use Rattle.types.specs.Layouts.{total, words_of}
 use Rattle.types.specs.Places.{Object}
 use Rattle.types.specs.Scopes.{Scope}
 use Rattle.types.specs.Shapes.{shape_of, value_words}
-use Rattle.expr_rules.proofs.TypedLaw.{front_empty}
-use Rattle.type_rules.specs.ObjectRules.{constant_entity, initial_scalar, object_entity, package_object_entity}
-use Rattle.type_rules.specs.SubtypeNames.{declared_twice, subtype_faults, subtype_of}
+use Rattle.meaning.specs.expr_rules.proofs.TypedLaw.{front_empty}
+use Rattle.meaning.specs.type_rules.specs.ObjectRules.{constant_entity, initial_scalar, object_entity, package_object_entity}
+use Rattle.meaning.specs.type_rules.specs.SubtypeNames.{declared_twice, subtype_faults, subtype_of}
 use Rattle.checking.specs.ProgramLayouts.{WordsHaveRoom, objects_words, total_of_all, variable_words, variables_words}
 use Rattle.checking.specs.ProgramRules.{IsLegal}
 use Rattle.ravenscar.specs.ProgramRules.{IsRestricted}
-use Rattle.size_rules.specs.ProgramSizes.{size_faults}
+use Rattle.program_soundness.specs.size_rules.specs.ProgramSizes.{size_faults}
 use Rattle.meaning.specs.Programs.{Program, items_among, object_named, program_of, variables_among}
 use Rattle.expr_soundness.proofs.Parts.{subtype_values}
 use Rattle.step_soundness.specs.Objects.{AreSoundObjects}

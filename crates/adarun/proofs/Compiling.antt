@@ -11,16 +11,16 @@ use Rattle.lexer.specs.declared.token.Token.{Token}
 use Rattle.parser.specs.Parsing.{Derives}
 use Rattle.image.specs.Sections.{Sections}
 use Rattle.image.specs.Rules.{IsWellFormed}
-use Rattle.ada_tree.specs.declared.program.Program.{Program}
-use Rattle.ada_tree.specs.ProgramTree.{ProgramTree, program_tree}
-use Rattle.expr_rules.specs.Faults.{Faults, IsLeast}
+use Rattle.ada_link.specs.ada_tree.specs.declared.program.Program.{Program}
+use Rattle.ada_link.specs.ada_tree.specs.ProgramTree.{ProgramTree, program_tree}
+use Rattle.ada_link.specs.expr_rules.specs.Faults.{Faults, IsLeast}
 use Rattle.checking.specs.ProgramRules.{IsLegal, RefusesProgram, program_faults}
 use Rattle.ravenscar.specs.ProgramRules.{IsRestricted, RefusesUnrestricted, restriction_faults}
 use Rattle.fault_numbers.specs.Numbers.{AreNumberedWithin, GrammarNumbers, IsNumbered, LegalityNumbers, RestrictionNumbers, SpellingNumbers}
-use Rattle.meaning.specs.SameMeaning.{KeepsCount, SameMeaning}
-use Rattle.expr_code.specs.Coming.{most_steps}
+use Rattle.ada_link.specs.meaning.specs.SameMeaning.{KeepsCount, SameMeaning}
+use Rattle.ada_link.specs.expr_code.specs.Coming.{most_steps}
 use Rattle.ada_link.specs.Compiled.{IsBounded, RefusesTree}
-use Rattle.package_code.specs.Refusing.{program_needs}
+use Rattle.ada_link.specs.package_code.specs.Refusing.{program_needs}
 use Rattle.source_laws.specs.Limits.{SmallIsUnlimited}
 use Rattle.source_laws.specs.Spelled.{OutsideIsTold}
 use Rattle.adarun.specs.Accepted.{Compiles, IsAccepted, CompilesAccepted, IsJudged, IsLeftOut, IsTreeOf, RefusesAccepted, RefusesText}

@@ -4,16 +4,16 @@ use Rattle.std.specs.Io.KnownBytes.{Appends}
 use Rattle.base.specs.Schedule.{is_schedule}
 use Rattle.base.specs.declared.schedule.ScheduleLine.{ScheduleLine}
 use Rattle.clock.specs.Schedules.{IsScheduleText}
-use Rattle.kernel.specs.State.{Kernel, Line, Outcome}
-use Rattle.kernel.specs.Text.{Names, line_text, lines_text, last_line, text}
+use Rattle.image_laws.specs.kernel.specs.State.{Kernel, Line, Outcome}
+use Rattle.image_laws.specs.kernel.specs.Text.{Names, line_text, lines_text, last_line, text}
 use Rattle.image.specs.Sections.{Sections}
 use Rattle.image.specs.Texts.{names_of}
 use Rattle.image.specs.Code.{code, code_text}
 use Rattle.image_laws.specs.Laws.{OutcomeStays}
-use Rattle.ada_tree.specs.ProgramTree.{ProgramTree}
-use Rattle.meaning.specs.Same.{Ends}
-use Rattle.meaning.specs.SameMeaning.{SameMeaning}
-use Rattle.meaning.specs.Source.{source, source_names}
+use Rattle.ada_link.specs.ada_tree.specs.ProgramTree.{ProgramTree}
+use Rattle.ada_link.specs.meaning.specs.Same.{Ends}
+use Rattle.ada_link.specs.meaning.specs.SameMeaning.{SameMeaning}
+use Rattle.ada_link.specs.meaning.specs.Source.{source, source_names}
 use Rattle.machine.specs.Outcomes.{ending_of}
 use Rattle.machine.specs.Stands.{EndsBy}
 use Rattle.machine.specs.declared.reports.Outcome as machine

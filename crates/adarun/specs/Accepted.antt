@@ -9,16 +9,16 @@ use Rattle.parser.specs.Parsing.{Derives, IsFaulty}
 use Rattle.image.specs.Sections.{Sections}
 use Rattle.image.specs.Rules.{IsWellFormed}
 use Rattle.image.specs.declared.building.Image.{Image}
-use Rattle.ada_tree.specs.ProgramTree.{ProgramTree}
-use Rattle.expr_rules.specs.Faults.{IsLeast}
+use Rattle.ada_link.specs.ada_tree.specs.ProgramTree.{ProgramTree}
+use Rattle.ada_link.specs.expr_rules.specs.Faults.{IsLeast}
 use Rattle.checking.specs.ProgramRules.{IsLegal, program_faults}
 use Rattle.ravenscar.specs.ProgramRules.{IsRestricted, restriction_faults}
-use Rattle.meaning.specs.SameMeaning.{KeepsCount, SameMeaning}
-use Rattle.expr_code.specs.Coming.{most_steps}
-use Rattle.expr_code.specs.declared.refusal.Refusal.TheVariants as refusal
+use Rattle.ada_link.specs.meaning.specs.SameMeaning.{KeepsCount, SameMeaning}
+use Rattle.ada_link.specs.expr_code.specs.Coming.{most_steps}
+use Rattle.ada_link.specs.expr_code.specs.declared.refusal.Refusal.TheVariants as refusal
 use Rattle.ada_link.specs.Compiled.{IsBounded, outside, too_large}
-use Rattle.package_code.specs.Refusing.{program_needs}
-use Rattle.package_code.specs.Refusing as sections
+use Rattle.ada_link.specs.package_code.specs.Refusing.{program_needs}
+use Rattle.ada_link.specs.package_code.specs.Refusing as sections
 use Rattle.source_laws.specs.Small.{IsSmall}
 
 -- the tree is what the text spells

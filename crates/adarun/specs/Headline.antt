@@ -3,19 +3,19 @@ use Rattle.std.specs.Prelude.{◌≡◌, ℕ, ◌≤◌, List, ◌++◌, Option,
 use Rattle.std.specs.Io.KnownBytes.{Appends}
 use Rattle.base.specs.declared.schedule.ScheduleLine.{ScheduleLine}
 use Rattle.clock.specs.Schedules.{IsScheduleText}
-use Rattle.kernel.specs.State.{Outcome}
-use Rattle.kernel.specs.Text.{last_line, lines_text}
+use Rattle.image_laws.specs.kernel.specs.State.{Outcome}
+use Rattle.image_laws.specs.kernel.specs.Text.{last_line, lines_text}
 use Rattle.image.specs.Sections.{Sections}
 use Rattle.image.specs.Rules.{IsWellFormed}
 use Rattle.image.specs.Code.{code, code_text}
-use Rattle.ada_tree.specs.ProgramTree.{ProgramTree}
-use Rattle.meaning.specs.SameMeaning.{KeepsCount, SameMeaning}
-use Rattle.meaning.specs.Source.{source, source_names, source_text}
+use Rattle.ada_link.specs.ada_tree.specs.ProgramTree.{ProgramTree}
+use Rattle.ada_link.specs.meaning.specs.SameMeaning.{KeepsCount, SameMeaning}
+use Rattle.ada_link.specs.meaning.specs.Source.{source, source_names, source_text}
 use Rattle.machine.specs.Outcomes.{ending_of, time_of}
 use Rattle.machine.specs.Stands.{EndsBy}
 use Rattle.machine.specs.Written.{AppendsBeginning}
 use Rattle.machine.specs.declared.reports.Outcome as machine
-use Rattle.expr_code.specs.Coming.{most_steps}
+use Rattle.ada_link.specs.expr_code.specs.Coming.{most_steps}
 use Rattle.ada_link.specs.Compiled.{IsBounded}
 use Rattle.adarun.specs.Accepted.{Compiles, IsAccepted}
 

@@ -1,6 +1,6 @@
 //! From a source text to an image.
 ghost use Rattle.std.specs.Prelude.{IfErr, IfOk};
-ghost use Rattle.ada_tree.specs.ProgramTree.{ProgramTree};
+ghost use Rattle.ada_link.specs.ada_tree.specs.ProgramTree.{ProgramTree};
 ghost use Rattle.adarun.specs.Accepted.{Compiles, IsAccepted, CompilesAccepted, IsJudged, IsLeftOut, IsTreeOf, RefusesText};
 
 use ada_link::compile_tree;

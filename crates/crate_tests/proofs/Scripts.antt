@@ -4,7 +4,7 @@ use Rattle.std.proofs.Common.{ap, ◌∙◌, subst, ⊎_elim, arith, is_some}
 use Rattle.std.specs.List.{list_all}
 use Rattle.std.specs.Prelude.{nat_lt}
 use Rattle.std.proofs.lemmas.Bool.{and_parts, ltb-true}
-use Rattle.base.specs.declared.limits.TheConstants.{PRIORITIES}
+use Rattle.image_format.specs.base.specs.declared.limits.TheConstants.{PRIORITIES}
 use Rattle.protected.specs.declared.refusal.Refusal.{Refusal as Refused}
 use Rattle.kernel.specs.State.{Kernel, Action, Reads, Writes, Serves, put}
 use Rattle.kernel.specs.Effects.{Effect, Ends, Refusal, SameObject, AboveCeiling, after}

@@ -1,6 +1,6 @@
 //! A script of steps over each keeper of ready and of sleeping tasks; who runs when stands here as the rules of the manual have it.
 ghost use Rattle.std.specs.Prelude.{◌≡◌, ◌≤◌, ℕ, false, length};
-ghost use Rattle.base.specs.declared.limits.TheConstants.{OBJECTS, TASKS};
+ghost use Rattle.image_format.specs.base.specs.declared.limits.TheConstants.{OBJECTS, TASKS};
 ghost use Rattle.kernel.specs.Invariant.{Fits, Kept};
 ghost use Rattle.tasking.specs.Held.{kernel_of, partition_of};
 

@@ -30,10 +30,10 @@ use Rattle.types.specs.Shapes.{has_shape, shape_of}
 use Rattle.types.specs.Standings.{call_stands, count, result_stands, select, select_all, standing_of, stands_first, stands_for}
 use Rattle.types.specs.Values as values
 use Rattle.types.specs.Values.{fits}
-use Rattle.expr_rules.specs.Faults.{rule}
-use Rattle.expr_rules.specs.NameRules.{call_slot, count_rule, end_rule, formal_slot, formal_slot_or, part_rule, profile_formals, slot_at, value_rule}
-use Rattle.expr_rules.specs.ExpressionRules.{argument_faults, arguments_faults, selectors_faults}
-use Rattle.expr_rules.proofs.TypedLaw.{back_empty, front_empty}
+use Rattle.expr_soundness.specs.expr_rules.specs.Faults.{rule}
+use Rattle.expr_soundness.specs.expr_rules.specs.NameRules.{call_slot, count_rule, end_rule, formal_slot, formal_slot_or, part_rule, profile_formals, slot_at, value_rule}
+use Rattle.expr_soundness.specs.expr_rules.specs.ExpressionRules.{argument_faults, arguments_faults, selectors_faults}
+use Rattle.expr_soundness.specs.expr_rules.proofs.TypedLaw.{back_empty, front_empty}
 use Rattle.expr_soundness.specs.Agreeing.{MeansFunction, parameter_subtype}
 use Rattle.expr_soundness.proofs.Applying.{one_count}
 use Rattle.expr_soundness.proofs.Parts.{same_values}

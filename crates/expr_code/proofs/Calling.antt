@@ -25,9 +25,9 @@ use Rattle.types.specs.Shapes.{value_words}
 use Rattle.types.specs.Evaluations.{Val, Gives, Raises, Meaningless, and_then}
 use Rattle.types.specs.Places.{Function}
 use Rattle.types.specs.Evaluating.{call, entered, passed, value_with}
-use Rattle.meaning.specs.Meeting.{Last}
-use Rattle.meaning.specs.MeetingLaws.{quiet_spends, call_spends, call_takes, takes_more}
-use Rattle.meaning.specs.SameMeaning.{frames_of}
+use Rattle.expr_soundness.specs.meaning.specs.Meeting.{Last}
+use Rattle.expr_soundness.specs.meaning.specs.MeetingLaws.{quiet_spends, call_spends, call_takes, takes_more}
+use Rattle.expr_soundness.specs.meaning.specs.SameMeaning.{frames_of}
 use Rattle.expr_code.specs.Views.{At, in_frame, placed, view_of}
 use Rattle.expr_code.specs.Coming.{all_on, all_words, Comes, most_steps, on, size_of}
 use Rattle.expr_code.specs.Computing.{Answers, IsFunctionCode, Library}

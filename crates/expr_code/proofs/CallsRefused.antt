@@ -12,7 +12,7 @@ use Rattle.types.specs.Entities.{Profile}
 use Rattle.types.specs.Evaluating.{fixed_value}
 use Rattle.types.specs.Scopes.{entity_at, number_of, Scope}
 use Rattle.types.specs.Standings.{call_stands, result_stands, select_all, standing_of, stands_first}
-use Rattle.expr_rules.specs.NameRules.{value_rule}
+use Rattle.expr_soundness.specs.expr_rules.specs.NameRules.{value_rule}
 use Rattle.expr_soundness.specs.SoundScopes.{AreIn, SoundScope}
 use Rattle.expr_soundness.proofs.Positions.{same_some}
 use Rattle.expr_code.specs.Code.{here}

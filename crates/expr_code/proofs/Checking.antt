@@ -16,16 +16,16 @@ use Rattle.types.specs.Scopes.{form_at, Scope}
 use Rattle.types.specs.Shapes.{has_shape, shape_of}
 use Rattle.types.specs.Statics.{start_of}
 use Rattle.types.specs.Values.{Number, Truth, Value}
-use Rattle.expr_rules.specs.declared.own.Own.TheVariants.{Typed}
-use Rattle.expr_rules.specs.declared.own.Wanted.{Wanted}
-use Rattle.expr_rules.specs.declared.own.Wanted.TheVariants.{Anything, AnyInteger, OfType}
-use Rattle.expr_rules.specs.declared.names.Slot.TheVariants.{Expects}
-use Rattle.expr_rules.specs.ExpressionRules.{faults_in}
-use Rattle.expr_rules.specs.Laws.{suits}
-use Rattle.expr_rules.specs.NameRules.{mismatch}
-use Rattle.expr_rules.specs.Typing.{is_booleans, is_integers, own_of}
-use Rattle.expr_rules.proofs.TypeShapes.{boolean_value, numeric_value}
-use Rattle.expr_rules.proofs.TypedLaw.{as_number, as_truth, back_empty, front_empty, integral_numeric}
+use Rattle.expr_soundness.specs.expr_rules.specs.declared.own.Own.TheVariants.{Typed}
+use Rattle.expr_soundness.specs.expr_rules.specs.declared.own.Wanted.{Wanted}
+use Rattle.expr_soundness.specs.expr_rules.specs.declared.own.Wanted.TheVariants.{Anything, AnyInteger, OfType}
+use Rattle.expr_soundness.specs.expr_rules.specs.declared.names.Slot.TheVariants.{Expects}
+use Rattle.expr_soundness.specs.expr_rules.specs.ExpressionRules.{faults_in}
+use Rattle.expr_soundness.specs.expr_rules.specs.Laws.{suits}
+use Rattle.expr_soundness.specs.expr_rules.specs.NameRules.{mismatch}
+use Rattle.expr_soundness.specs.expr_rules.specs.Typing.{is_booleans, is_integers, own_of}
+use Rattle.expr_soundness.specs.expr_rules.proofs.TypeShapes.{boolean_value, numeric_value}
+use Rattle.expr_soundness.specs.expr_rules.proofs.TypedLaw.{as_number, as_truth, back_empty, front_empty, integral_numeric}
 use Rattle.expr_soundness.specs.Agreeing.{Agrees}
 use Rattle.expr_soundness.specs.Answers.{CallsAnswer}
 use Rattle.expr_soundness.specs.Laws.{ExpressionsAreTyped}

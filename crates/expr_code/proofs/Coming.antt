@@ -15,9 +15,9 @@ use Rattle.image.specs.declared.instruction.Operation.{Operation}
 use Rattle.image.specs.declared.instruction.Operation.TheVariants as op
 use Rattle.types.specs.Values.{Value}
 use Rattle.types.specs.Evaluations.{Val, Gives, Raises, Meaningless, and_then}
-use Rattle.meaning.specs.Meeting.{Last}
-use Rattle.meaning.specs.MeetingLaws.{quiet_spends, spends_takes, takes_more}
-use Rattle.meaning.specs.SameMeaning.{frames_of}
+use Rattle.expr_soundness.specs.meaning.specs.Meeting.{Last}
+use Rattle.expr_soundness.specs.meaning.specs.MeetingLaws.{quiet_spends, spends_takes, takes_more}
+use Rattle.expr_soundness.specs.meaning.specs.SameMeaning.{frames_of}
 use Rattle.expr_code.specs.Views.{At, in_frame, placed}
 use Rattle.expr_code.specs.Coming.{Comes, most_steps, on}
 use Rattle.expr_code.specs.OperatorCode.{IsWordOf}

@@ -12,12 +12,12 @@ use Rattle.types.specs.Entities.{Integers, TypeForm}
 use Rattle.types.specs.Evaluating.{fixed_value}
 use Rattle.types.specs.Scopes.{form_at, is_visible, number_of, Scope}
 use Rattle.types.specs.Standings.{conversion_stands, select, select_all, standing_of, stands_first}
-use Rattle.expr_rules.specs.Faults.{rule}
-use Rattle.expr_rules.specs.NameRules.{conversion_slot, end_rule, is_doubtful, part_rule, value_rule}
-use Rattle.expr_rules.specs.ExpressionRules.{argument_faults, arguments_faults, selectors_faults}
-use Rattle.expr_rules.specs.Typing.{is_integers}
-use Rattle.expr_rules.specs.declared.own.Wanted.TheVariants.{AnyInteger}
-use Rattle.expr_rules.proofs.TypedLaw.{back_empty, front_empty, unbroken}
+use Rattle.expr_soundness.specs.expr_rules.specs.Faults.{rule}
+use Rattle.expr_soundness.specs.expr_rules.specs.NameRules.{conversion_slot, end_rule, is_doubtful, part_rule, value_rule}
+use Rattle.expr_soundness.specs.expr_rules.specs.ExpressionRules.{argument_faults, arguments_faults, selectors_faults}
+use Rattle.expr_soundness.specs.expr_rules.specs.Typing.{is_integers}
+use Rattle.expr_soundness.specs.expr_rules.specs.declared.own.Wanted.TheVariants.{AnyInteger}
+use Rattle.expr_soundness.specs.expr_rules.proofs.TypedLaw.{back_empty, front_empty, unbroken}
 use Rattle.expr_soundness.proofs.FixedNames.{same_form}
 use Rattle.expr_soundness.proofs.Expressions.{IsHere}
 use Rattle.expr_code.specs.Code.{here}

@@ -23,8 +23,8 @@ use Rattle.types.specs.Evaluations.{Val, Gives, Raises, Meaningless, and_then}
 use Rattle.types.specs.Operators.{binary_value, unary_value, is_decided}
 use Rattle.types.specs.Places.{Place}
 use Rattle.types.specs.Evaluating.{Calls, elsif_with, truth_of, value_with}
-use Rattle.meaning.specs.MeetingLaws.{takes_more}
-use Rattle.meaning.specs.SameMeaning.{frames_of}
+use Rattle.expr_soundness.specs.meaning.specs.MeetingLaws.{takes_more}
+use Rattle.expr_soundness.specs.meaning.specs.SameMeaning.{frames_of}
 use Rattle.expr_code.specs.Views.{At, in_frame, placed, Sight, view_of}
 use Rattle.expr_code.specs.Coming.{Comes, most_steps, on}
 use Rattle.expr_code.specs.OperatorCode.{binary_operation, binary_words, Has, unary_operation, unary_words}

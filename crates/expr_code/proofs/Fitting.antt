@@ -12,15 +12,15 @@ use Rattle.types.specs.Scopes.{form_at, Scope}
 use Rattle.types.specs.Shapes.{component_shapes, has_shape, shape_of, shapes}
 use Rattle.types.specs.Statics.{start_of}
 use Rattle.types.specs.Values.{Value}
-use Rattle.expr_rules.specs.Faults.{Faults}
-use Rattle.expr_rules.specs.declared.own.Own.{Own}
-use Rattle.expr_rules.specs.declared.own.Own.TheVariants.{Typed, Universal, Unknown}
-use Rattle.expr_rules.specs.declared.own.Wanted.{Wanted}
-use Rattle.expr_rules.specs.declared.own.Wanted.TheVariants.{Anything, AnyInteger, OfType}
-use Rattle.expr_rules.specs.ExpressionRules.{faults_in}
-use Rattle.expr_rules.specs.NameRules.{mismatch}
-use Rattle.expr_rules.specs.Typing.{is_integers, own_of}
-use Rattle.expr_rules.proofs.TypedLaw.{back_empty, front_empty, same_number}
+use Rattle.expr_soundness.specs.expr_rules.specs.Faults.{Faults}
+use Rattle.expr_soundness.specs.expr_rules.specs.declared.own.Own.{Own}
+use Rattle.expr_soundness.specs.expr_rules.specs.declared.own.Own.TheVariants.{Typed, Universal, Unknown}
+use Rattle.expr_soundness.specs.expr_rules.specs.declared.own.Wanted.{Wanted}
+use Rattle.expr_soundness.specs.expr_rules.specs.declared.own.Wanted.TheVariants.{Anything, AnyInteger, OfType}
+use Rattle.expr_soundness.specs.expr_rules.specs.ExpressionRules.{faults_in}
+use Rattle.expr_soundness.specs.expr_rules.specs.NameRules.{mismatch}
+use Rattle.expr_soundness.specs.expr_rules.specs.Typing.{is_integers, own_of}
+use Rattle.expr_soundness.specs.expr_rules.proofs.TypedLaw.{back_empty, front_empty, same_number}
 use Rattle.expr_soundness.specs.Laws.{ExpressionsAreTyped}
 use Rattle.expr_soundness.specs.SoundScopes.{SoundScope}
 use Rattle.expr_code.specs.Code.{here}

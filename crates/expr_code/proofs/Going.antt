@@ -29,12 +29,12 @@ use Rattle.types.specs.Layouts.{capped, field_offset, words_of}
 use Rattle.types.specs.Scopes.{Scope, base_range_of, form_at, is_visible, number_of}
 use Rattle.types.specs.Shapes.{Shape, Shapes, MoreShapes, Ranged, Logical, Timed, Repeated, Grouped, Shapeless, component_shapes, has_shape, narrowed, shape_among, shape_of, shape_or_none, shapes}
 use Rattle.types.specs.Standings.{component_of, select, select_all, standing_of, stands_first}
-use Rattle.expr_rules.specs.declared.own.Wanted.TheVariants.{OfType}
-use Rattle.expr_rules.specs.ExpressionRules.{argument_faults, arguments_faults, selector_faults, selectors_faults}
-use Rattle.expr_rules.specs.Faults.{rule}
-use Rattle.expr_rules.specs.NameRules.{index_slot, part_rule, value_rule}
-use Rattle.expr_rules.specs.Typing.{is_integers}
-use Rattle.expr_rules.proofs.TypedLaw.{back_empty, front_empty}
+use Rattle.expr_soundness.specs.expr_rules.specs.declared.own.Wanted.TheVariants.{OfType}
+use Rattle.expr_soundness.specs.expr_rules.specs.ExpressionRules.{argument_faults, arguments_faults, selector_faults, selectors_faults}
+use Rattle.expr_soundness.specs.expr_rules.specs.Faults.{rule}
+use Rattle.expr_soundness.specs.expr_rules.specs.NameRules.{index_slot, part_rule, value_rule}
+use Rattle.expr_soundness.specs.expr_rules.specs.Typing.{is_integers}
+use Rattle.expr_soundness.specs.expr_rules.proofs.TypedLaw.{back_empty, front_empty}
 use Rattle.expr_soundness.specs.Laws.{ExpressionsAreTyped}
 use Rattle.expr_soundness.specs.SoundScopes.{AreEarlier, SoundScope}
 use Rattle.expr_soundness.proofs.Expressions.{IsHere}

@@ -10,13 +10,13 @@ use Rattle.ada_tree.specs.ExpressionTree.{ExprTree, ElsifValueTrees, NoElsifValu
 use Rattle.image.specs.Sections.{Sections}
 use Rattle.types.specs.Scopes.{Scope}
 use Rattle.types.specs.Statics.{start_of}
-use Rattle.expr_rules.specs.Typing.{boolean_wanted, own_of, has_binary, is_boolean, is_known, is_logical, join}
-use Rattle.expr_rules.specs.ExpressionRules.{below, beside, binary_rule, conditional_wanted, elsif_faults, faults_in, faults_of, unary_rule}
-use Rattle.expr_rules.specs.NameRules.{mismatch}
-use Rattle.expr_rules.specs.declared.own.Wanted.{Wanted}
-use Rattle.expr_rules.specs.Faults.{Faults}
-use Rattle.expr_rules.specs.Laws.{suits}
-use Rattle.expr_rules.proofs.TypedLaw.{as_truth, back_empty, front_empty, joined_boolean, judged_two, unbroken}
+use Rattle.expr_soundness.specs.expr_rules.specs.Typing.{boolean_wanted, own_of, has_binary, is_boolean, is_known, is_logical, join}
+use Rattle.expr_soundness.specs.expr_rules.specs.ExpressionRules.{below, beside, binary_rule, conditional_wanted, elsif_faults, faults_in, faults_of, unary_rule}
+use Rattle.expr_soundness.specs.expr_rules.specs.NameRules.{mismatch}
+use Rattle.expr_soundness.specs.expr_rules.specs.declared.own.Wanted.{Wanted}
+use Rattle.expr_soundness.specs.expr_rules.specs.Faults.{Faults}
+use Rattle.expr_soundness.specs.expr_rules.specs.Laws.{suits}
+use Rattle.expr_soundness.specs.expr_rules.proofs.TypedLaw.{as_truth, back_empty, front_empty, joined_boolean, judged_two, unbroken}
 use Rattle.base.specs.declared.faults.TheConstants.{NO_MEANING}
 use Rattle.expr_soundness.specs.Laws.{ExpressionsAreTyped}
 use Rattle.expr_code.specs.Computing.{IsTruth}

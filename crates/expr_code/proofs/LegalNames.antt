@@ -18,11 +18,11 @@ use Rattle.types.specs.Entities.{Arrays, Constant, Doubtful, Entity, Entry, Exce
 use Rattle.types.specs.Evaluating.{fixed_value}
 use Rattle.types.specs.Scopes.{form_at, is_visible, number_of, Scope}
 use Rattle.types.specs.Standings.{call_stands, callee_profile, conversion_stands, count, element_stands, is_single, result_stands, select, select_all, standing_of, stands_first, stands_for}
-use Rattle.expr_rules.specs.declared.own.Wanted.TheVariants.{OfType}
-use Rattle.expr_rules.specs.ExpressionRules.{arguments_faults, selector_faults, selectors_faults}
-use Rattle.expr_rules.specs.Faults.{Faults, rule}
-use Rattle.expr_rules.specs.NameRules.{is_doubtful, part_rule, value_rule}
-use Rattle.expr_rules.proofs.TypedLaw.{back_empty, front_empty, same_number, unbroken}
+use Rattle.expr_soundness.specs.expr_rules.specs.declared.own.Wanted.TheVariants.{OfType}
+use Rattle.expr_soundness.specs.expr_rules.specs.ExpressionRules.{arguments_faults, selector_faults, selectors_faults}
+use Rattle.expr_soundness.specs.expr_rules.specs.Faults.{Faults, rule}
+use Rattle.expr_soundness.specs.expr_rules.specs.NameRules.{is_doubtful, part_rule, value_rule}
+use Rattle.expr_soundness.specs.expr_rules.proofs.TypedLaw.{back_empty, front_empty, same_number, unbroken}
 use Rattle.expr_soundness.specs.SoundScopes.{AreIn, IsSoundProfile, IsSoundResult, SoundScope}
 use Rattle.expr_soundness.proofs.Denoting.{empty_ends, is_empty}
 use Rattle.expr_soundness.proofs.Expressions.{not_false}

@@ -33,8 +33,8 @@ use Rattle.types.specs.Scopes.{form_at}
 use Rattle.types.specs.Evaluating.{Calls, actuals_with, applied, element_meaning, field_meaning, object_or_nothing, part_with, passed, value_with, wanted_by_index}
 use Rattle.types.specs.Places.{IsObject, Meaning, Place}
 use Rattle.types.specs.Values.{Value, Values, NoValues, MoreValues, Fields, NoFields, MoreFields, Array, Record, Number, element_at, field_of}
-use Rattle.meaning.specs.MeetingLaws.{takes_more}
-use Rattle.meaning.specs.SameMeaning.{frames_of}
+use Rattle.expr_soundness.specs.meaning.specs.MeetingLaws.{takes_more}
+use Rattle.expr_soundness.specs.meaning.specs.SameMeaning.{frames_of}
 use Rattle.expr_code.specs.Views.{At, frames_above, in_frame, placed, Sight, view_of}
 use Rattle.expr_code.specs.Coming.{Comes, most_steps, on}
 use Rattle.expr_code.specs.Computing.{Answers, ComputesChecked, ComesToNumber, Library}

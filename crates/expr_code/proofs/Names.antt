@@ -24,10 +24,10 @@ use Rattle.types.specs.Scopes.{is_visible, number_of, Scope}
 use Rattle.types.specs.Shapes.{shape_of, value_words}
 use Rattle.types.specs.Standings.{select_all, standing_of, stands_first, stands_for}
 use Rattle.types.specs.Evaluating.{fixed_value, name_with, value_with}
-use Rattle.expr_rules.specs.Faults.{rule}
-use Rattle.expr_rules.specs.NameRules.{value_rule}
-use Rattle.expr_rules.specs.ExpressionRules.{selectors_faults}
-use Rattle.expr_rules.proofs.TypedLaw.{back_empty, front_empty, unbroken}
+use Rattle.expr_soundness.specs.expr_rules.specs.Faults.{rule}
+use Rattle.expr_soundness.specs.expr_rules.specs.NameRules.{value_rule}
+use Rattle.expr_soundness.specs.expr_rules.specs.ExpressionRules.{selectors_faults}
+use Rattle.expr_soundness.specs.expr_rules.proofs.TypedLaw.{back_empty, front_empty, unbroken}
 use Rattle.expr_soundness.specs.Agreeing.{Agrees}
 use Rattle.expr_soundness.proofs.Positions.{named}
 use Rattle.expr_soundness.proofs.Goods.{Good, good_first}

@@ -16,7 +16,7 @@ use Rattle.types.specs.Evaluating.{fixed_value}
 use Rattle.types.specs.Layouts.{capped, words_of}
 use Rattle.types.specs.Scopes.{form_at, number_of}
 use Rattle.types.specs.Standings.{standing_of, stands_first}
-use Rattle.expr_rules.specs.Typing.{is_booleans, is_integers}
+use Rattle.expr_soundness.specs.expr_rules.specs.Typing.{is_booleans, is_integers}
 use Rattle.image.specs.Rules.{is_block}
 use Rattle.expr_code.specs.Code.{here}
 use Rattle.expr_code.specs.Going.{path_size}

@@ -32,7 +32,7 @@ use Rattle.types.specs.Shapes.{value_words}
 use Rattle.types.specs.Evaluations.{Val, Gives, Raises, Meaningless, and_then, raise}
 use Rattle.types.specs.Places.{IsPredefined, IsSubtype, Meaning, Place, meaning_of}
 use Rattle.types.specs.Evaluating.{Calls, actuals_with, applied, channels, ended, name_with, passed, predefined_value, value_with, wanted, wanted_by_conversion}
-use Rattle.meaning.specs.SameMeaning.{frames_of}
+use Rattle.expr_soundness.specs.meaning.specs.SameMeaning.{frames_of}
 use Rattle.expr_code.specs.Views.{At, in_frame, placed, Sight, View, view_of}
 use Rattle.expr_code.specs.Coming.{Comes, most_steps, on}
 use Rattle.expr_code.specs.Computing.{Computes, ComputesChecked, ComesToNumber, Library}

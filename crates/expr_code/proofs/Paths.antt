@@ -29,8 +29,8 @@ use Rattle.types.specs.Scopes.{form_at}
 use Rattle.types.specs.Evaluating.{Calls, ended, fixed_name, name_with, part_with}
 use Rattle.types.specs.Places.{IsObject, Meaning, Place, meaning_of}
 use Rattle.types.specs.Values.{Value, Values, Fields, Array, Record, Number, Truth}
-use Rattle.meaning.specs.MeetingLaws.{takes_more}
-use Rattle.meaning.specs.SameMeaning.{frames_of}
+use Rattle.expr_soundness.specs.meaning.specs.MeetingLaws.{takes_more}
+use Rattle.expr_soundness.specs.meaning.specs.SameMeaning.{frames_of}
 use Rattle.image.specs.Frames.{words_at}
 use Rattle.expr_code.specs.Views.{At, frames_above, in_frame, placed, Sight, View, view_of}
 use Rattle.expr_code.specs.Coming.{Comes, most_steps, on}

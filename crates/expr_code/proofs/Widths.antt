@@ -25,21 +25,21 @@ use Rattle.types.specs.Shapes.{Shape, Ranged, Logical, Timed, Repeated, Grouped,
 use Rattle.types.specs.Standings.{call_stands, callee_profile, conversion_stands, result_stands, select_all, standing_of, stands_first, stands_for}
 use Rattle.types.specs.Statics.{start_of}
 use Rattle.types.specs.Values.{Number, Truth, value_of}
-use Rattle.expr_rules.specs.declared.own.Own.{Own}
-use Rattle.expr_rules.specs.declared.own.Own.TheVariants.{Unknown, Universal, Typed}
-use Rattle.expr_rules.specs.declared.own.Wanted.{Wanted}
-use Rattle.expr_rules.specs.declared.own.Wanted.TheVariants.{Anything, AnyInteger, OfType}
-use Rattle.expr_rules.specs.Faults.{Faults, rule}
-use Rattle.expr_rules.specs.NameRules.{mismatch, value_rule}
-use Rattle.expr_rules.specs.Typing.{own_of, own_of_standing, elsif_own_of, unary_own, binary_own, arithmetic_own, time_own, integral_or_unknown, join, has_unary, has_binary, is_integers, is_times, is_spans, is_booleans, is_integral, is_boolean, is_time, is_span, is_scalar, is_known, is_logical, is_relation, is_wanted, boolean_wanted, typed_wanted}
-use Rattle.expr_rules.specs.ExpressionRules.{faults_in, faults_of, elsif_faults, selectors_faults, below, beside, unary_rule, binary_rule, parts_own, parts_wanted, conditional_wanted, first_typed, or_first}
-use Rattle.expr_rules.proofs.TypeShapes.{boolean_value, is_numeric, numeric_value}
-use Rattle.expr_rules.proofs.TypedLaw.{back_empty, front_empty, integral_numeric, judged, judged_two, same_number, span_numeric, time_numeric, unbroken}
+use Rattle.expr_soundness.specs.expr_rules.specs.declared.own.Own.{Own}
+use Rattle.expr_soundness.specs.expr_rules.specs.declared.own.Own.TheVariants.{Unknown, Universal, Typed}
+use Rattle.expr_soundness.specs.expr_rules.specs.declared.own.Wanted.{Wanted}
+use Rattle.expr_soundness.specs.expr_rules.specs.declared.own.Wanted.TheVariants.{Anything, AnyInteger, OfType}
+use Rattle.expr_soundness.specs.expr_rules.specs.Faults.{Faults, rule}
+use Rattle.expr_soundness.specs.expr_rules.specs.NameRules.{mismatch, value_rule}
+use Rattle.expr_soundness.specs.expr_rules.specs.Typing.{own_of, own_of_standing, elsif_own_of, unary_own, binary_own, arithmetic_own, time_own, integral_or_unknown, join, has_unary, has_binary, is_integers, is_times, is_spans, is_booleans, is_integral, is_boolean, is_time, is_span, is_scalar, is_known, is_logical, is_relation, is_wanted, boolean_wanted, typed_wanted}
+use Rattle.expr_soundness.specs.expr_rules.specs.ExpressionRules.{faults_in, faults_of, elsif_faults, selectors_faults, below, beside, unary_rule, binary_rule, parts_own, parts_wanted, conditional_wanted, first_typed, or_first}
+use Rattle.expr_soundness.specs.expr_rules.proofs.TypeShapes.{boolean_value, is_numeric, numeric_value}
+use Rattle.expr_soundness.specs.expr_rules.proofs.TypedLaw.{back_empty, front_empty, integral_numeric, judged, judged_two, same_number, span_numeric, time_numeric, unbroken}
 use Rattle.expr_soundness.specs.SoundScopes.{SoundScope}
 use Rattle.expr_soundness.proofs.Expressions.{not_false}
 use Rattle.expr_soundness.proofs.Goods.{Good, fixed_suits, good_all, good_first, known_all}
 use Rattle.expr_soundness.proofs.Positions.{named}
-use Rattle.expr_rules.specs.Laws.{is_value_of}
+use Rattle.expr_soundness.specs.expr_rules.specs.Laws.{is_value_of}
 use Rattle.expr_code.specs.Branches.{Branch, branch_of, in_front}
 use Rattle.expr_code.specs.Emitting.{IsFit, IsLegalExpression, WantedFits}
 use Rattle.expr_code.specs.Seeing.{NamesProfile}

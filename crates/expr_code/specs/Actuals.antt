@@ -13,8 +13,8 @@ use Rattle.types.specs.Layouts.{words_of}
 use Rattle.types.specs.Shapes.{Shape, shape_of}
 use Rattle.types.specs.Places.{Place}
 use Rattle.types.specs.Scopes.{Scope}
-use Rattle.expr_rules.specs.ExpressionRules.{argument_faults}
-use Rattle.expr_rules.specs.NameRules.{formal_slot}
+use Rattle.expr_soundness.specs.expr_rules.specs.ExpressionRules.{argument_faults}
+use Rattle.expr_soundness.specs.expr_rules.specs.NameRules.{formal_slot}
 use Rattle.expr_code.specs.Code.{Adds, here, Extends, Holds}
 use Rattle.expr_code.specs.Computing.{ArePassed, ComputesAll}
 use Rattle.expr_code.specs.Emitting.{EmitsChecked}

@@ -10,8 +10,8 @@ use Rattle.image.specs.Steps.{act, behaviour, unwind}
 use Rattle.types.specs.Values.{Value}
 use Rattle.types.specs.Shapes.{value_words}
 use Rattle.types.specs.Evaluations.{Val, Gives, Raises, Meaningless}
-use Rattle.meaning.specs.Meeting.{Takes}
-use Rattle.meaning.specs.SameMeaning.{frames_of}
+use Rattle.expr_soundness.specs.meaning.specs.Meeting.{Takes}
+use Rattle.expr_soundness.specs.meaning.specs.SameMeaning.{frames_of}
 use Rattle.expr_code.specs.Views.{in_frame, placed}
 
 -- the words of a value on an operand stack, the last one on top

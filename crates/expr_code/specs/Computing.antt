@@ -3,7 +3,7 @@ use Rattle.std.specs.Prelude.{◌≡◌, ℕ, suc, ◌-◌, ◌+◌, ◌≤◌, 
 use Rattle.base.specs.declared.schedule.ScheduleLine.{ScheduleLine}
 use Rattle.kernel.specs.State.{Kernel}
 use Rattle.kernel.specs.Calm.{Calm}
-use Rattle.handlers.specs.Innermost.{handler_of}
+use Rattle.expr_soundness.specs.handlers.specs.Innermost.{handler_of}
 use Rattle.ada_tree.specs.declared.expression.Identifier.{Identifier}
 use Rattle.ada_tree.specs.ExpressionTree.{ExprTree, ArgumentTrees, SelectorTrees, ElsifValueTrees, NoElsifValues, MoreElsifValues}
 use Rattle.image.specs.Sections.{Sections, first_place, object_of}

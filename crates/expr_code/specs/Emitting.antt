@@ -13,10 +13,10 @@ use Rattle.types.specs.Places.{Place}
 use Rattle.types.specs.Scopes.{form_at, Scope}
 use Rattle.types.specs.Shapes.{has_shape, shape_of}
 use Rattle.types.specs.Values.{Value}
-use Rattle.expr_rules.specs.declared.own.Wanted.{Wanted}
-use Rattle.expr_rules.specs.declared.own.Wanted.TheVariants.{Anything, AnyInteger, OfType}
-use Rattle.expr_rules.specs.ExpressionRules.{faults_in, faults_of}
-use Rattle.expr_rules.specs.Typing.{is_integers}
+use Rattle.expr_soundness.specs.expr_rules.specs.declared.own.Wanted.{Wanted}
+use Rattle.expr_soundness.specs.expr_rules.specs.declared.own.Wanted.TheVariants.{Anything, AnyInteger, OfType}
+use Rattle.expr_soundness.specs.expr_rules.specs.ExpressionRules.{faults_in, faults_of}
+use Rattle.expr_soundness.specs.expr_rules.specs.Typing.{is_integers}
 use Rattle.expr_soundness.specs.Agreeing.{Agrees}
 use Rattle.expr_soundness.specs.Answers.{CallsAnswer}
 use Rattle.expr_code.specs.Code.{here, Extends, Holds}

@@ -10,7 +10,7 @@ use Rattle.types.specs.declared.standing.Standing.TheVariants as standing
 use Rattle.types.specs.Scopes.{Scope}
 use Rattle.types.specs.Shapes.{Shape, shape_of}
 use Rattle.types.specs.Standings.{object_select, select_all}
-use Rattle.expr_rules.specs.ExpressionRules.{selector_faults, selectors_faults}
+use Rattle.expr_soundness.specs.expr_rules.specs.ExpressionRules.{selector_faults, selectors_faults}
 use Rattle.expr_code.specs.Code.{Adds, here, Extends, Holds}
 use Rattle.expr_code.specs.Flows.{Flows}
 use Rattle.expr_code.specs.Locating.{IsPath}

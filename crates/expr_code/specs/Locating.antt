@@ -19,7 +19,7 @@ use Rattle.types.specs.Shapes.{Shape, Shapes, NoShapes, MoreShapes, Repeated, Gr
 use Rattle.types.specs.Evaluations.{Val, Gives, Raises, Meaningless, and_then}
 use Rattle.types.specs.Places.{Meaning, IsObject, Place}
 use Rattle.types.specs.Evaluating.{Calls, part_with}
-use Rattle.meaning.specs.SameMeaning.{frames_of}
+use Rattle.expr_soundness.specs.meaning.specs.SameMeaning.{frames_of}
 use Rattle.expr_code.specs.Views.{At, in_frame, placed, Sight, View}
 use Rattle.expr_code.specs.Coming.{Comes, most_steps}
 use Rattle.expr_code.specs.Computing.{ComputesChecked, ComesToNumber, Library}

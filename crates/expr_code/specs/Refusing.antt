@@ -18,7 +18,7 @@ use Rattle.types.specs.Layouts.{words_of}
 use Rattle.types.specs.Scopes.{form_at, number_of, Scope}
 use Rattle.types.specs.Shapes.{Shape, Shapes, Repeated, Grouped, NoShapes, MoreShapes, shape_of, words}
 use Rattle.types.specs.Standings.{standing_of, stands_first}
-use Rattle.expr_rules.specs.Typing.{is_booleans, is_integers}
+use Rattle.expr_soundness.specs.expr_rules.specs.Typing.{is_booleans, is_integers}
 use Rattle.expr_code.specs.Branches.{Branch, branches_size}
 use Rattle.expr_code.specs.Code.{here}
 use Rattle.expr_code.specs.Emitting.{is_composite}

@@ -4,9 +4,9 @@ use Rattle.ada_tree.specs.declared.expression.Operand.{Operand}
 use Rattle.ada_tree.specs.ExpressionTree.{expr_tree, ExprTree}
 use Rattle.types.specs.Layouts.{words_of}
 use Rattle.types.specs.Scopes.{base_range_of, Scope}
-use Rattle.expr_rules.specs.declared.own.Own.{Own}
-use Rattle.expr_rules.specs.declared.own.Own.TheVariants.{Typed}
-use Rattle.expr_rules.specs.Typing.{own_of}
+use Rattle.expr_soundness.specs.expr_rules.specs.declared.own.Own.{Own}
+use Rattle.expr_soundness.specs.expr_rules.specs.declared.own.Own.TheVariants.{Typed}
+use Rattle.expr_soundness.specs.expr_rules.specs.Typing.{own_of}
 use Rattle.expr_code.specs.Branches.{Branch}
 
 -- the words of the values of a type; what has no type by itself is a number

@@ -3,23 +3,23 @@ use Rattle.std.proofs.Common.{◌≡◌, ◌≢◌, ℕ, ℤ, ◌++◌, drop, le
 use Rattle.std.specs.Prelude.{bytes_eq, cond, is_some, nat_eq, slice_get}
 use Rattle.std.proofs.lemmas.List.{take-append-drop}
 use Rattle.std.proofs.lemmas.Slice.Eq.{bytes_eq-Decides}
-use Rattle.base.specs.declared.schedule.ScheduleLine.{ScheduleLine}
-use Rattle.types.specs.declared.entity.Subtype.{Subtype}
-use Rattle.types.specs.declared.entity.Role.{Role}
-use Rattle.types.specs.declared.entity.Role.TheVariants as role
-use Rattle.types.specs.declared.standing.Standing.{Standing}
-use Rattle.types.specs.declared.standing.Standing.TheVariants as standing
-use Rattle.types.specs.Entities.{TypeForm, Integers, Profile, ProtectedObject, Entity, OfType, OfSubtype, Constant, Literal, Exception, Subprogram, Entry, Predefined, Put, Task, Protected, LibraryUnit, Doubtful}
-use Rattle.types.specs.Entities as entity
-use Rattle.types.specs.Scopes.{Scope, Named, base_range_of, entity_at, entity_of, form_at, integer, integer_type, is_visible, number_of, with_name}
-use Rattle.types.specs.Values.{Value, Number}
-use Rattle.types.specs.Shapes.{has_shape, shape_of}
-use Rattle.types.specs.Standings.{stands_first}
-use Rattle.types.specs.Places.{Object, Function, Place, Meaning, IsObject, IsPredefined, IsProtected, IsSubtype, function_meaning, function_stands, meaning_in_scope, meaning_of, meaning_or, object_meaning, object_of, object_stands, or_else, own_components, own_function, own_object, package_function, package_object, stands_here}
-use Rattle.expr_rules.specs.declared.own.Own.TheVariants.{Typed}
-use Rattle.expr_rules.specs.Typing.{is_integers}
-use Rattle.expr_rules.proofs.TypedLaw.{as_number, integral_numeric}
-use Rattle.declaring.specs.Laws.{StandsFirst}
+use Rattle.meaning.specs.base.specs.declared.schedule.ScheduleLine.{ScheduleLine}
+use Rattle.meaning.specs.types.specs.declared.entity.Subtype.{Subtype}
+use Rattle.meaning.specs.types.specs.declared.entity.Role.{Role}
+use Rattle.meaning.specs.types.specs.declared.entity.Role.TheVariants as role
+use Rattle.meaning.specs.types.specs.declared.standing.Standing.{Standing}
+use Rattle.meaning.specs.types.specs.declared.standing.Standing.TheVariants as standing
+use Rattle.meaning.specs.types.specs.Entities.{TypeForm, Integers, Profile, ProtectedObject, Entity, OfType, OfSubtype, Constant, Literal, Exception, Subprogram, Entry, Predefined, Put, Task, Protected, LibraryUnit, Doubtful}
+use Rattle.meaning.specs.types.specs.Entities as entity
+use Rattle.meaning.specs.types.specs.Scopes.{Scope, Named, base_range_of, entity_at, entity_of, form_at, integer, integer_type, is_visible, number_of, with_name}
+use Rattle.meaning.specs.types.specs.Values.{Value, Number}
+use Rattle.meaning.specs.types.specs.Shapes.{has_shape, shape_of}
+use Rattle.meaning.specs.types.specs.Standings.{stands_first}
+use Rattle.meaning.specs.types.specs.Places.{Object, Function, Place, Meaning, IsObject, IsPredefined, IsProtected, IsSubtype, function_meaning, function_stands, meaning_in_scope, meaning_of, meaning_or, object_meaning, object_of, object_stands, or_else, own_components, own_function, own_object, package_function, package_object, stands_here}
+use Rattle.meaning.specs.expr_rules.specs.declared.own.Own.TheVariants.{Typed}
+use Rattle.meaning.specs.expr_rules.specs.Typing.{is_integers}
+use Rattle.meaning.specs.expr_rules.proofs.TypedLaw.{as_number, integral_numeric}
+use Rattle.meaning.specs.declaring.specs.Laws.{StandsFirst}
 use Rattle.expr_soundness.specs.SoundScopes.{IsKnown, IsSoundObject, SoundScope}
 use Rattle.expr_soundness.specs.Agreeing.{Agrees, Means, MeansFunction, MeansNumber, MeansObject, MeansOne}
 use Rattle.expr_soundness.specs.Laws.{AgreementIsKept, HasComponent, Replaces}

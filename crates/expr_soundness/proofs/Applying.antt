@@ -1,30 +1,30 @@
 -- Calls, components and conversions with values in their parentheses: they come to what the name stands for with this part more.
 use Rattle.std.proofs.Common.{◌≡◌, ℕ, suc, List, [], ◌∷◌, map, Bool, true, false, not, ◌&&◌, inl, inr, Option, Some, None, refl, sym, ap, ◌∙◌, subst, arith}
 use Rattle.std.specs.Prelude.{⊤, bytes_eq, cond, is_none, length, nat_eq, nat_le, position, ℤ}
-use Rattle.ada_tree.specs.declared.expression.Identifier.{Identifier}
-use Rattle.ada_tree.specs.ExpressionTree.{Component}
-use Rattle.types.specs.declared.entity.Subtype.{Subtype}
-use Rattle.types.specs.declared.entity.Role.{Role}
-use Rattle.types.specs.declared.entity.FormalParameter.{FormalParameter}
-use Rattle.types.specs.declared.entity.PredefinedOperation.{PredefinedOperation}
-use Rattle.types.specs.declared.entity.PredefinedOperation.TheVariants as predefined
-use Rattle.types.specs.declared.standing.Callee.TheVariants as callee
-use Rattle.types.specs.declared.standing.Standing.{Standing}
-use Rattle.types.specs.declared.standing.Standing.TheVariants as standing
-use Rattle.types.specs.Entities.{TypeForm, Records, Profile, ProtectedObject}
-use Rattle.types.specs.Scopes.{Scope, form_at, integer_type, protected_at}
-use Rattle.types.specs.Values.{Value, Number, Record, Fields, field_of}
-use Rattle.types.specs.Shapes.{has_shape, shape_of}
-use Rattle.types.specs.Standings.{call_stands, called_operation, callee_profile, component_of, component_stands, operation_profile, operation_stands, part_of, profile_among, result_stands, select, settle}
-use Rattle.base.specs.declared.exceptions.PredefinedException.TheVariants.{ProgramError}
-use Rattle.types.specs.Evaluations.{Val, Gives, Raises, Meaningless, raise}
-use Rattle.types.specs.Places.{Formal, Function, Place, Meaning, IsObject, active_priority, function_of, is_among}
-use Rattle.types.specs.Evaluating.{Calls, called, chosen, ended, external_call, field_meaning, formal_subtype, function_through, object_or_nothing, predefined_value, wanted_by_operation}
-use Rattle.expr_rules.specs.declared.own.Own.TheVariants.{Typed}
-use Rattle.expr_rules.specs.Typing.{is_integers, own_of_standing}
-use Rattle.expr_rules.specs.NameRules.{component_rule, count_rule, end_rule, operation_rule, part_rule, profile_formals, value_rule}
-use Rattle.expr_rules.specs.Laws.{suits, type_shape}
-use Rattle.expr_rules.proofs.TypedLaw.{as_number, integral_numeric, span_numeric, suits_computed, suits_number, time_numeric, unbroken}
+use Rattle.meaning.specs.ada_tree.specs.declared.expression.Identifier.{Identifier}
+use Rattle.meaning.specs.ada_tree.specs.ExpressionTree.{Component}
+use Rattle.meaning.specs.types.specs.declared.entity.Subtype.{Subtype}
+use Rattle.meaning.specs.types.specs.declared.entity.Role.{Role}
+use Rattle.meaning.specs.types.specs.declared.entity.FormalParameter.{FormalParameter}
+use Rattle.meaning.specs.types.specs.declared.entity.PredefinedOperation.{PredefinedOperation}
+use Rattle.meaning.specs.types.specs.declared.entity.PredefinedOperation.TheVariants as predefined
+use Rattle.meaning.specs.types.specs.declared.standing.Callee.TheVariants as callee
+use Rattle.meaning.specs.types.specs.declared.standing.Standing.{Standing}
+use Rattle.meaning.specs.types.specs.declared.standing.Standing.TheVariants as standing
+use Rattle.meaning.specs.types.specs.Entities.{TypeForm, Records, Profile, ProtectedObject}
+use Rattle.meaning.specs.types.specs.Scopes.{Scope, form_at, integer_type, protected_at}
+use Rattle.meaning.specs.types.specs.Values.{Value, Number, Record, Fields, field_of}
+use Rattle.meaning.specs.types.specs.Shapes.{has_shape, shape_of}
+use Rattle.meaning.specs.types.specs.Standings.{call_stands, called_operation, callee_profile, component_of, component_stands, operation_profile, operation_stands, part_of, profile_among, result_stands, select, settle}
+use Rattle.meaning.specs.base.specs.declared.exceptions.PredefinedException.TheVariants.{ProgramError}
+use Rattle.meaning.specs.types.specs.Evaluations.{Val, Gives, Raises, Meaningless, raise}
+use Rattle.meaning.specs.types.specs.Places.{Formal, Function, Place, Meaning, IsObject, active_priority, function_of, is_among}
+use Rattle.meaning.specs.types.specs.Evaluating.{Calls, called, chosen, ended, external_call, field_meaning, formal_subtype, function_through, object_or_nothing, predefined_value, wanted_by_operation}
+use Rattle.meaning.specs.expr_rules.specs.declared.own.Own.TheVariants.{Typed}
+use Rattle.meaning.specs.expr_rules.specs.Typing.{is_integers, own_of_standing}
+use Rattle.meaning.specs.expr_rules.specs.NameRules.{component_rule, count_rule, end_rule, operation_rule, part_rule, profile_formals, value_rule}
+use Rattle.meaning.specs.expr_rules.specs.Laws.{suits, type_shape}
+use Rattle.meaning.specs.expr_rules.proofs.TypedLaw.{as_number, integral_numeric, span_numeric, suits_computed, suits_number, time_numeric, unbroken}
 use Rattle.expr_soundness.specs.SoundScopes.{HasOperation, IsKnown, IsSoundPredefined, IsSoundProfile, IsSoundResult}
 use Rattle.expr_soundness.specs.Agreeing.{Agrees, HasProfile, MeansProtected, OffersFunction, parameter_subtype}
 use Rattle.expr_soundness.specs.Answers.{CallsAnswer, are_actuals}

@@ -1,36 +1,36 @@
 -- What stands in the parentheses of a legal name: values of the subtypes that are expected there, and what the name comes to with them.
 use Rattle.std.proofs.Common.{◌≡◌, ℕ, zero, suc, List, [], ◌∷◌, map, Bool, true, false, inl, inr, Option, Some, None, refl, sym, ap, ◌∙◌, subst, arith}
 use Rattle.std.specs.Prelude.{⊤, cond, length, nat_eq, slice_get}
-use Rattle.base.specs.declared.exceptions.PredefinedException.TheVariants.{ConstraintError}
-use Rattle.ada_tree.specs.declared.declaration.Mode.{Mode}
-use Rattle.ada_tree.specs.declared.declaration.Mode.TheVariants as mode
-use Rattle.ada_tree.specs.ExpressionTree.{ExprTree, Arguments, ArgumentTrees}
-use Rattle.types.specs.declared.entity.Subtype.{Subtype}
-use Rattle.types.specs.declared.entity.Role.{Role}
-use Rattle.types.specs.declared.entity.FormalParameter.{FormalParameter}
-use Rattle.types.specs.declared.entity.PredefinedOperation.{PredefinedOperation}
-use Rattle.types.specs.declared.entity.PredefinedOperation.TheVariants as predefined
-use Rattle.types.specs.declared.standing.Standing.{Standing}
-use Rattle.types.specs.declared.standing.Standing.TheVariants as standing
-use Rattle.types.specs.Entities.{TypeForm, Integers, Arrays, Profile}
-use Rattle.types.specs.Scopes.{Scope, form_at}
-use Rattle.types.specs.Values.{Value, Number, fits}
-use Rattle.types.specs.Shapes.{has_shape, shape_of}
-use Rattle.types.specs.Standings.{call_stands, callee_profile, conversion_stands, count, element_stands, is_single, result_stands, select}
-use Rattle.types.specs.Statics.{start_of}
-use Rattle.types.specs.Evaluations.{Val, Gives, Raises, Meaningless, and_then, raise}
-use Rattle.types.specs.Places.{Place, Meaning, IsObject, IsFunction, IsPredefined, IsSubtype}
-use Rattle.types.specs.Evaluating.{Calls, actuals_with, applied, as_value, called, element_meaning, formal_subtype, object_or_nothing, part_with, passed, predefined_value, wanted, wanted_by_conversion, wanted_by_index, wanted_by_operation}
-use Rattle.expr_rules.specs.declared.own.Own.{Own}
-use Rattle.expr_rules.specs.declared.own.Own.TheVariants.{Unknown, Universal, Typed}
-use Rattle.expr_rules.specs.declared.own.Wanted.{Wanted}
-use Rattle.expr_rules.specs.declared.own.Wanted.TheVariants.{Anything, AnyInteger, OfType}
-use Rattle.expr_rules.specs.declared.names.Slot.{Slot}
-use Rattle.expr_rules.specs.declared.names.Slot.TheVariants.{Expects, Takes, TakesLabel}
-use Rattle.expr_rules.specs.Typing.{is_integers, is_integral}
-use Rattle.expr_rules.specs.NameRules.{call_slot, conversion_slot, count_rule, formal_slot, formal_slot_or, index_slot, is_doubtful, part_rule, profile_formals, slot_at, slot_rule}
-use Rattle.expr_rules.specs.Laws.{IsTyped, suits, type_shape}
-use Rattle.expr_rules.proofs.TypedLaw.{Expected, as_number, expected, integral_numeric, same_number, suits_number, unbroken}
+use Rattle.meaning.specs.base.specs.declared.exceptions.PredefinedException.TheVariants.{ConstraintError}
+use Rattle.meaning.specs.ada_tree.specs.declared.declaration.Mode.{Mode}
+use Rattle.meaning.specs.ada_tree.specs.declared.declaration.Mode.TheVariants as mode
+use Rattle.meaning.specs.ada_tree.specs.ExpressionTree.{ExprTree, Arguments, ArgumentTrees}
+use Rattle.meaning.specs.types.specs.declared.entity.Subtype.{Subtype}
+use Rattle.meaning.specs.types.specs.declared.entity.Role.{Role}
+use Rattle.meaning.specs.types.specs.declared.entity.FormalParameter.{FormalParameter}
+use Rattle.meaning.specs.types.specs.declared.entity.PredefinedOperation.{PredefinedOperation}
+use Rattle.meaning.specs.types.specs.declared.entity.PredefinedOperation.TheVariants as predefined
+use Rattle.meaning.specs.types.specs.declared.standing.Standing.{Standing}
+use Rattle.meaning.specs.types.specs.declared.standing.Standing.TheVariants as standing
+use Rattle.meaning.specs.types.specs.Entities.{TypeForm, Integers, Arrays, Profile}
+use Rattle.meaning.specs.types.specs.Scopes.{Scope, form_at}
+use Rattle.meaning.specs.types.specs.Values.{Value, Number, fits}
+use Rattle.meaning.specs.types.specs.Shapes.{has_shape, shape_of}
+use Rattle.meaning.specs.types.specs.Standings.{call_stands, callee_profile, conversion_stands, count, element_stands, is_single, result_stands, select}
+use Rattle.meaning.specs.types.specs.Statics.{start_of}
+use Rattle.meaning.specs.types.specs.Evaluations.{Val, Gives, Raises, Meaningless, and_then, raise}
+use Rattle.meaning.specs.types.specs.Places.{Place, Meaning, IsObject, IsFunction, IsPredefined, IsSubtype}
+use Rattle.meaning.specs.types.specs.Evaluating.{Calls, actuals_with, applied, as_value, called, element_meaning, formal_subtype, object_or_nothing, part_with, passed, predefined_value, wanted, wanted_by_conversion, wanted_by_index, wanted_by_operation}
+use Rattle.meaning.specs.expr_rules.specs.declared.own.Own.{Own}
+use Rattle.meaning.specs.expr_rules.specs.declared.own.Own.TheVariants.{Unknown, Universal, Typed}
+use Rattle.meaning.specs.expr_rules.specs.declared.own.Wanted.{Wanted}
+use Rattle.meaning.specs.expr_rules.specs.declared.own.Wanted.TheVariants.{Anything, AnyInteger, OfType}
+use Rattle.meaning.specs.expr_rules.specs.declared.names.Slot.{Slot}
+use Rattle.meaning.specs.expr_rules.specs.declared.names.Slot.TheVariants.{Expects, Takes, TakesLabel}
+use Rattle.meaning.specs.expr_rules.specs.Typing.{is_integers, is_integral}
+use Rattle.meaning.specs.expr_rules.specs.NameRules.{call_slot, conversion_slot, count_rule, formal_slot, formal_slot_or, index_slot, is_doubtful, part_rule, profile_formals, slot_at, slot_rule}
+use Rattle.meaning.specs.expr_rules.specs.Laws.{IsTyped, suits, type_shape}
+use Rattle.meaning.specs.expr_rules.proofs.TypedLaw.{Expected, as_number, expected, integral_numeric, same_number, suits_number, unbroken}
 use Rattle.expr_soundness.specs.SoundScopes.{AreIn, IsSoundPredefined, IsSoundProfile, IsSoundResult}
 use Rattle.expr_soundness.specs.Agreeing.{Agrees, parameter_subtype}
 use Rattle.expr_soundness.specs.Answers.{CallsAnswer}

@@ -1,15 +1,15 @@
 -- Calls of sound functions are answered, by induction on the frames that are left.
 use Rattle.std.proofs.Common.{◌≡◌, ℕ, zero, suc, List, Bool, true, false, refl, ◌∙◌}
 use Rattle.std.specs.Prelude.{cond}
-use Rattle.base.specs.declared.exceptions.PredefinedException.TheVariants.{ConstraintError}
-use Rattle.types.specs.declared.entity.Subtype.{Subtype}
-use Rattle.types.specs.Scopes.{Scope, form_at}
-use Rattle.types.specs.Values.{Value, fits}
-use Rattle.types.specs.Evaluations.{Val, Gives, Raises, Meaningless, and_then, raise}
-use Rattle.types.specs.Places.{Function, Place}
-use Rattle.types.specs.Evaluating.{call, entered, passed, value_with}
-use Rattle.expr_rules.specs.declared.own.Own.TheVariants.{Typed}
-use Rattle.expr_rules.specs.Laws.{suits}
+use Rattle.meaning.specs.base.specs.declared.exceptions.PredefinedException.TheVariants.{ConstraintError}
+use Rattle.meaning.specs.types.specs.declared.entity.Subtype.{Subtype}
+use Rattle.meaning.specs.types.specs.Scopes.{Scope, form_at}
+use Rattle.meaning.specs.types.specs.Values.{Value, fits}
+use Rattle.meaning.specs.types.specs.Evaluations.{Val, Gives, Raises, Meaningless, and_then, raise}
+use Rattle.meaning.specs.types.specs.Places.{Function, Place}
+use Rattle.meaning.specs.types.specs.Evaluating.{call, entered, passed, value_with}
+use Rattle.meaning.specs.expr_rules.specs.declared.own.Own.TheVariants.{Typed}
+use Rattle.meaning.specs.expr_rules.specs.Laws.{suits}
 use Rattle.expr_soundness.specs.Agreeing.{Agrees}
 use Rattle.expr_soundness.specs.Answers.{CallsAnswer, FunctionsAreSound, ReturnsSoundly}
 use Rattle.expr_soundness.specs.Laws.{CallsAreTyped}

@@ -1,11 +1,11 @@
 -- What Ada.Real_Time and Control_IO make visible is sound.
 use Rattle.std.proofs.Common.{◌≡◌, ℕ, suc, ◌++◌, length, List, [], ◌∷◌, true, false, ◌⊎◌, inl, inr, Option, Some, None, refl, sym, ap, ◌∙◌, subst}
 use Rattle.std.specs.Prelude.{bytes_eq, codes, cond, is_some}
-use Rattle.types.specs.declared.entity.PredefinedOperation.TheVariants as predefined
-use Rattle.types.specs.Entities.{TypeForm, Integers, Booleans, Times, Spans, Entity, OfType, Put}
-use Rattle.types.specs.Scopes.{Scope, Named, base_range_of, boolean_type, entity_at, entity_of, form_at, form_of, from_integer, from_nothing, integer, integer_type, is_visible, number_of, with_control_io, with_name, with_real_time}
-use Rattle.expr_rules.specs.Typing.{is_integers, is_spans, is_times}
-use Rattle.expr_rules.proofs.TypeShapes.{type_entity}
+use Rattle.meaning.specs.types.specs.declared.entity.PredefinedOperation.TheVariants as predefined
+use Rattle.meaning.specs.types.specs.Entities.{TypeForm, Integers, Booleans, Times, Spans, Entity, OfType, Put}
+use Rattle.meaning.specs.types.specs.Scopes.{Scope, Named, base_range_of, boolean_type, entity_at, entity_of, form_at, form_of, from_integer, from_nothing, integer, integer_type, is_visible, number_of, with_control_io, with_name, with_real_time}
+use Rattle.meaning.specs.expr_rules.specs.Typing.{is_integers, is_spans, is_times}
+use Rattle.meaning.specs.expr_rules.proofs.TypeShapes.{type_entity}
 use Rattle.expr_soundness.specs.SoundScopes.{IsSoundEntity, SoundScope}
 use Rattle.expr_soundness.proofs.Positions.{entity_added, item_added, number_added}
 use Rattle.expr_soundness.proofs.Growing.{entity_sound, form_kept, grown, test_kept}

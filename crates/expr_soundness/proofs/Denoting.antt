@@ -1,28 +1,28 @@
 -- What a meaning has to be where a legal name stands for this: an object of the subtype, a function of the profile, and so on.
 use Rattle.std.proofs.Common.{◌≡◌, ℕ, List, [], ◌∷◌, map, Bool, true, false, ◌⊎◌, inl, inr, Option, Some, None, sym, ◌∙◌}
 use Rattle.std.specs.Prelude.{⊤}
-use Rattle.ada_tree.specs.ExpressionTree.{SelectorTrees, NoSelectors, MoreSelectors, SelectorTree, Component, Arguments, Attribute}
-use Rattle.types.specs.declared.entity.Subtype.{Subtype}
-use Rattle.types.specs.declared.entity.Role.{Role}
-use Rattle.types.specs.declared.entity.Role.TheVariants as role
-use Rattle.types.specs.declared.entity.Value.{Value as Scalar}
-use Rattle.types.specs.declared.entity.FormalParameter.{FormalParameter}
-use Rattle.types.specs.declared.entity.PredefinedOperation.{PredefinedOperation}
-use Rattle.types.specs.declared.standing.Standing.{Standing}
-use Rattle.types.specs.declared.standing.Standing.TheVariants as standing
-use Rattle.types.specs.Entities.{Profile, ProtectedObject}
-use Rattle.types.specs.Scopes.{Scope, form_at, protected_at}
-use Rattle.types.specs.Values.{Value, fits}
-use Rattle.types.specs.Shapes.{has_shape}
-use Rattle.types.specs.Standings.{call_stands, callee_profile, result_stands, select, select_all}
-use Rattle.types.specs.Evaluations.{Val, Gives, Raises, Meaningless}
-use Rattle.types.specs.Places.{Function, Place, Meaning, IsFunction, IsPredefined, IsSubtype, IsValue, function_of}
-use Rattle.types.specs.Evaluating.{fixed_value}
-use Rattle.expr_rules.specs.Typing.{is_integers}
-use Rattle.expr_rules.specs.NameRules.{part_rule, value_rule}
-use Rattle.expr_rules.specs.ExpressionRules.{selector_faults, selectors_faults}
-use Rattle.expr_rules.specs.Laws.{type_shape}
-use Rattle.expr_rules.proofs.TypedLaw.{back_empty, front_empty}
+use Rattle.meaning.specs.ada_tree.specs.ExpressionTree.{SelectorTrees, NoSelectors, MoreSelectors, SelectorTree, Component, Arguments, Attribute}
+use Rattle.meaning.specs.types.specs.declared.entity.Subtype.{Subtype}
+use Rattle.meaning.specs.types.specs.declared.entity.Role.{Role}
+use Rattle.meaning.specs.types.specs.declared.entity.Role.TheVariants as role
+use Rattle.meaning.specs.types.specs.declared.entity.Value.{Value as Scalar}
+use Rattle.meaning.specs.types.specs.declared.entity.FormalParameter.{FormalParameter}
+use Rattle.meaning.specs.types.specs.declared.entity.PredefinedOperation.{PredefinedOperation}
+use Rattle.meaning.specs.types.specs.declared.standing.Standing.{Standing}
+use Rattle.meaning.specs.types.specs.declared.standing.Standing.TheVariants as standing
+use Rattle.meaning.specs.types.specs.Entities.{Profile, ProtectedObject}
+use Rattle.meaning.specs.types.specs.Scopes.{Scope, form_at, protected_at}
+use Rattle.meaning.specs.types.specs.Values.{Value, fits}
+use Rattle.meaning.specs.types.specs.Shapes.{has_shape}
+use Rattle.meaning.specs.types.specs.Standings.{call_stands, callee_profile, result_stands, select, select_all}
+use Rattle.meaning.specs.types.specs.Evaluations.{Val, Gives, Raises, Meaningless}
+use Rattle.meaning.specs.types.specs.Places.{Function, Place, Meaning, IsFunction, IsPredefined, IsSubtype, IsValue, function_of}
+use Rattle.meaning.specs.types.specs.Evaluating.{fixed_value}
+use Rattle.meaning.specs.expr_rules.specs.Typing.{is_integers}
+use Rattle.meaning.specs.expr_rules.specs.NameRules.{part_rule, value_rule}
+use Rattle.meaning.specs.expr_rules.specs.ExpressionRules.{selector_faults, selectors_faults}
+use Rattle.meaning.specs.expr_rules.specs.Laws.{type_shape}
+use Rattle.meaning.specs.expr_rules.proofs.TypedLaw.{back_empty, front_empty}
 use Rattle.expr_soundness.specs.SoundScopes.{AreKnown, IsKnown, IsSoundObject, IsSoundPredefined, SoundScope}
 use Rattle.expr_soundness.specs.Agreeing.{HasProfile, MeansNumber, MeansObject, MeansOne, MeansProtected, parameter_subtype}
 use Rattle.expr_soundness.proofs.Goods.{Good, GoodCallee, good_select, no_constant_parts, part_unbroken}

@@ -3,15 +3,15 @@ use Rattle.std.proofs.Common.{◌≡◌, ℕ, zero, suc, ◌<◌, ℤ, ◌-ℤ�
 use Rattle.std.specs.Prelude.{bytes_eq, cond, int_le, nat_eq, unsigned_abs}
 use Rattle.std.proofs.lemmas.Int.{ints}
 use Rattle.std.proofs.lemmas.Slice.Eq.{bytes_eq-Decides}
-use Rattle.types.specs.declared.entity.Subtype.{Subtype}
-use Rattle.types.specs.declared.entity.RecordComponent.{RecordComponent}
-use Rattle.types.specs.Entities.{Arrays, Records}
-use Rattle.types.specs.Scopes.{Scope, form_at}
-use Rattle.types.specs.Standings.{component_of}
-use Rattle.types.specs.Values.{Value, Number, Truth, Array, Record, Values, NoValues, MoreValues, Fields, NoFields, MoreFields, element_at, field_of, fits, is_within}
-use Rattle.types.specs.Shapes.{Shape, Repeated, Grouped, Shapes, all_values, component_shapes, count_values, has_shape, have_shapes, shape_among, shape_of}
-use Rattle.type_rules.specs.TypeRules.{length_of}
-use Rattle.expr_rules.specs.Laws.{type_shape}
+use Rattle.meaning.specs.types.specs.declared.entity.Subtype.{Subtype}
+use Rattle.meaning.specs.types.specs.declared.entity.RecordComponent.{RecordComponent}
+use Rattle.meaning.specs.types.specs.Entities.{Arrays, Records}
+use Rattle.meaning.specs.types.specs.Scopes.{Scope, form_at}
+use Rattle.meaning.specs.types.specs.Standings.{component_of}
+use Rattle.meaning.specs.types.specs.Values.{Value, Number, Truth, Array, Record, Values, NoValues, MoreValues, Fields, NoFields, MoreFields, element_at, field_of, fits, is_within}
+use Rattle.meaning.specs.types.specs.Shapes.{Shape, Repeated, Grouped, Shapes, all_values, component_shapes, count_values, has_shape, have_shapes, shape_among, shape_of}
+use Rattle.meaning.specs.type_rules.specs.TypeRules.{length_of}
+use Rattle.meaning.specs.expr_rules.specs.Laws.{type_shape}
 use Rattle.expr_soundness.specs.SoundScopes.{SoundScope}
 use Rattle.expr_soundness.proofs.Positions.{same_some}
 use Rattle.expr_soundness.proofs.Parts.{before, part_shape, shape_by_form, subtype_values}

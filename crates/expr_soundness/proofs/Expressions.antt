@@ -1,37 +1,37 @@
 -- Legal expressions come to values of their types: by recursion on the expression, with the parts of names and their arguments.
 use Rattle.std.proofs.Common.{◌≡◌, ◌++◌, ℕ, zero, suc, pos, List, [], ◌∷◌, Bool, true, false, not, ◌⊎◌, inl, inr, Option, Some, None, refl, sym, ap, ◌∙◌, subst, arith}
 use Rattle.std.specs.Prelude.{bytes_eq, codes, cond, length}
-use Rattle.ada_tree.specs.declared.expression.Identifier.{Identifier}
-use Rattle.ada_tree.specs.ExpressionTree as tree
-use Rattle.ada_tree.specs.ExpressionTree.{ExprTree, Named, Parenthesized, Conditional, Unary, Binary, ElsifValueTrees, NoElsifValues, MoreElsifValues, SelectorTrees, NoSelectors, MoreSelectors, SelectorTree, Component, Arguments, Attribute, ArgumentTrees, NoArguments, MoreArguments, ArgumentTree, Text}
-use Rattle.types.specs.declared.entity.Subtype.{Subtype}
-use Rattle.types.specs.declared.entity.Role.{Role}
-use Rattle.types.specs.declared.entity.Value.{Value as Scalar}
-use Rattle.types.specs.declared.entity.Value.TheVariants as scalar
-use Rattle.types.specs.declared.entity.PredefinedOperation.{PredefinedOperation}
-use Rattle.types.specs.declared.standing.Callee.TheVariants as callee
-use Rattle.types.specs.declared.standing.Standing.{Standing}
-use Rattle.types.specs.declared.standing.Standing.TheVariants as standing
-use Rattle.types.specs.Entities.{TypeForm, Integers, Arrays, Profile, Entity, OfType, OfSubtype, Object, Constant, Literal, Exception, Subprogram, Entry, Predefined, Put, Task, Protected, LibraryUnit, Doubtful}
-use Rattle.types.specs.Scopes.{Scope, boolean, entity_at, form_at, is_visible, number_of, profile_at, profile_of, protected_of}
-use Rattle.types.specs.Standings.{array_attribute, bound_stands, bounds_stand, count, object_attribute, select, select_all, settle, standing_of, stands_first, stands_for, subtype_attribute}
-use Rattle.types.specs.Statics.{start_of}
-use Rattle.types.specs.Values.{value_of}
-use Rattle.types.specs.Evaluations.{Val, Gives, Raises, Meaningless, and_then}
-use Rattle.types.specs.Places.{Place, Meaning, IsFunction, IsPredefined, IsProtected, meaning_of, stands_here}
-use Rattle.types.specs.Evaluating.{Calls, actual_with, actuals_with, ended, fixed_name, fixed_value, name_with, part_with, value_with}
-use Rattle.expr_rules.specs.declared.own.Own.{Own}
-use Rattle.expr_rules.specs.declared.own.Own.TheVariants.{Typed}
-use Rattle.expr_rules.specs.declared.own.Wanted.{Wanted}
-use Rattle.expr_rules.specs.declared.own.Wanted.TheVariants.{OfType}
-use Rattle.expr_rules.specs.declared.names.Slot.{Slot}
-use Rattle.expr_rules.specs.declared.names.Slot.TheVariants.{Expects, Takes, TakesLabel}
-use Rattle.expr_rules.specs.Faults.{rule}
-use Rattle.expr_rules.specs.Typing.{boolean_wanted, own_of, own_of_standing}
-use Rattle.expr_rules.specs.NameRules.{end_rule, label_rule, mismatch, part_rule, slot_at, slot_rule, slot_wanted, value_rule}
-use Rattle.expr_rules.specs.ExpressionRules.{argument_faults, arguments_faults, below, beside, binary_rule, conditional_wanted, elsif_faults, faults_in, faults_of, selector_faults, selectors_faults, unary_rule}
-use Rattle.expr_rules.specs.Laws.{IsTyped, suits}
-use Rattle.expr_rules.proofs.TypedLaw.{AllTyped, back_empty, binary_typed, conditional_typed, expected, front_empty, unary_typed, unbroken}
+use Rattle.meaning.specs.ada_tree.specs.declared.expression.Identifier.{Identifier}
+use Rattle.meaning.specs.ada_tree.specs.ExpressionTree as tree
+use Rattle.meaning.specs.ada_tree.specs.ExpressionTree.{ExprTree, Named, Parenthesized, Conditional, Unary, Binary, ElsifValueTrees, NoElsifValues, MoreElsifValues, SelectorTrees, NoSelectors, MoreSelectors, SelectorTree, Component, Arguments, Attribute, ArgumentTrees, NoArguments, MoreArguments, ArgumentTree, Text}
+use Rattle.meaning.specs.types.specs.declared.entity.Subtype.{Subtype}
+use Rattle.meaning.specs.types.specs.declared.entity.Role.{Role}
+use Rattle.meaning.specs.types.specs.declared.entity.Value.{Value as Scalar}
+use Rattle.meaning.specs.types.specs.declared.entity.Value.TheVariants as scalar
+use Rattle.meaning.specs.types.specs.declared.entity.PredefinedOperation.{PredefinedOperation}
+use Rattle.meaning.specs.types.specs.declared.standing.Callee.TheVariants as callee
+use Rattle.meaning.specs.types.specs.declared.standing.Standing.{Standing}
+use Rattle.meaning.specs.types.specs.declared.standing.Standing.TheVariants as standing
+use Rattle.meaning.specs.types.specs.Entities.{TypeForm, Integers, Arrays, Profile, Entity, OfType, OfSubtype, Object, Constant, Literal, Exception, Subprogram, Entry, Predefined, Put, Task, Protected, LibraryUnit, Doubtful}
+use Rattle.meaning.specs.types.specs.Scopes.{Scope, boolean, entity_at, form_at, is_visible, number_of, profile_at, profile_of, protected_of}
+use Rattle.meaning.specs.types.specs.Standings.{array_attribute, bound_stands, bounds_stand, count, object_attribute, select, select_all, settle, standing_of, stands_first, stands_for, subtype_attribute}
+use Rattle.meaning.specs.types.specs.Statics.{start_of}
+use Rattle.meaning.specs.types.specs.Values.{value_of}
+use Rattle.meaning.specs.types.specs.Evaluations.{Val, Gives, Raises, Meaningless, and_then}
+use Rattle.meaning.specs.types.specs.Places.{Place, Meaning, IsFunction, IsPredefined, IsProtected, meaning_of, stands_here}
+use Rattle.meaning.specs.types.specs.Evaluating.{Calls, actual_with, actuals_with, ended, fixed_name, fixed_value, name_with, part_with, value_with}
+use Rattle.meaning.specs.expr_rules.specs.declared.own.Own.{Own}
+use Rattle.meaning.specs.expr_rules.specs.declared.own.Own.TheVariants.{Typed}
+use Rattle.meaning.specs.expr_rules.specs.declared.own.Wanted.{Wanted}
+use Rattle.meaning.specs.expr_rules.specs.declared.own.Wanted.TheVariants.{OfType}
+use Rattle.meaning.specs.expr_rules.specs.declared.names.Slot.{Slot}
+use Rattle.meaning.specs.expr_rules.specs.declared.names.Slot.TheVariants.{Expects, Takes, TakesLabel}
+use Rattle.meaning.specs.expr_rules.specs.Faults.{rule}
+use Rattle.meaning.specs.expr_rules.specs.Typing.{boolean_wanted, own_of, own_of_standing}
+use Rattle.meaning.specs.expr_rules.specs.NameRules.{end_rule, label_rule, mismatch, part_rule, slot_at, slot_rule, slot_wanted, value_rule}
+use Rattle.meaning.specs.expr_rules.specs.ExpressionRules.{argument_faults, arguments_faults, below, beside, binary_rule, conditional_wanted, elsif_faults, faults_in, faults_of, selector_faults, selectors_faults, unary_rule}
+use Rattle.meaning.specs.expr_rules.specs.Laws.{IsTyped, suits}
+use Rattle.meaning.specs.expr_rules.proofs.TypedLaw.{AllTyped, back_empty, binary_typed, conditional_typed, expected, front_empty, unary_typed, unbroken}
 use Rattle.expr_soundness.specs.SoundScopes.{IsKnown, IsSoundConstant, IsSoundEntry, IsSoundPredefined}
 use Rattle.expr_soundness.specs.Agreeing.{Agrees, Means, MeansFunction}
 use Rattle.expr_soundness.specs.Answers.{CallsAnswer}

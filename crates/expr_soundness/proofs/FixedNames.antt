@@ -1,21 +1,21 @@
 -- What a legal name is worth by types and constants alone is the same at a place as in the scope.
 use Rattle.std.proofs.Common.{◌≡◌, ℕ, List, Bool, true, false, ◌⊎◌, inl, inr, Option, Some, None, refl, sym, ap, ◌∙◌, subst}
 use Rattle.std.specs.Prelude.{⊤, bytes_eq, codes, cond, is_some, position, pos}
-use Rattle.ada_tree.specs.ExpressionTree.{SelectorTrees, NoSelectors, MoreSelectors, SelectorTree, Component, Arguments, Attribute}
-use Rattle.types.specs.declared.entity.Subtype.{Subtype}
-use Rattle.types.specs.declared.entity.Role.{Role}
-use Rattle.types.specs.declared.entity.Role.TheVariants as role
-use Rattle.types.specs.declared.entity.Value.{Value as Scalar}
-use Rattle.types.specs.declared.standing.Standing.{Standing}
-use Rattle.types.specs.declared.standing.Standing.TheVariants as standing
-use Rattle.types.specs.Entities.{TypeForm, Integers, Arrays, Records, Profile, ProtectedObject, Entity, OfType, OfSubtype, Object, Constant, Literal, Exception, Subprogram, Entry, Predefined, Put, Task, Protected, LibraryUnit, Doubtful}
-use Rattle.types.specs.Scopes.{Scope, entity_at, form_at, number_of, protected_at}
-use Rattle.types.specs.Standings.{array_attribute, bounds_stand, bound_stands, call_stands, called_operation, callee_profile, component_of, component_stands, conversion_stands, element_stands, is_single, object_attribute, object_select, operation_stands, part_of, result_stands, select, select_all, settle, stands_first, stands_for, subtype_attribute}
-use Rattle.types.specs.Places as places
-use Rattle.types.specs.Places.{Function, Place, Meaning, IsObject, IsFunction, IsPredefined, IsSubtype, IsProtected, IsValue, IsNothing, function_meaning, function_of, function_stands, meaning_in_scope, meaning_of, meaning_of_entity, meaning_or, object_meaning, object_stands, or_else, own_function, own_object, package_function, package_object, stands_here}
-use Rattle.types.specs.Evaluating.{fixed_value}
-use Rattle.types.specs.Values.{Value}
-use Rattle.expr_rules.specs.Typing.{is_integers}
+use Rattle.meaning.specs.ada_tree.specs.ExpressionTree.{SelectorTrees, NoSelectors, MoreSelectors, SelectorTree, Component, Arguments, Attribute}
+use Rattle.meaning.specs.types.specs.declared.entity.Subtype.{Subtype}
+use Rattle.meaning.specs.types.specs.declared.entity.Role.{Role}
+use Rattle.meaning.specs.types.specs.declared.entity.Role.TheVariants as role
+use Rattle.meaning.specs.types.specs.declared.entity.Value.{Value as Scalar}
+use Rattle.meaning.specs.types.specs.declared.standing.Standing.{Standing}
+use Rattle.meaning.specs.types.specs.declared.standing.Standing.TheVariants as standing
+use Rattle.meaning.specs.types.specs.Entities.{TypeForm, Integers, Arrays, Records, Profile, ProtectedObject, Entity, OfType, OfSubtype, Object, Constant, Literal, Exception, Subprogram, Entry, Predefined, Put, Task, Protected, LibraryUnit, Doubtful}
+use Rattle.meaning.specs.types.specs.Scopes.{Scope, entity_at, form_at, number_of, protected_at}
+use Rattle.meaning.specs.types.specs.Standings.{array_attribute, bounds_stand, bound_stands, call_stands, called_operation, callee_profile, component_of, component_stands, conversion_stands, element_stands, is_single, object_attribute, object_select, operation_stands, part_of, result_stands, select, select_all, settle, stands_first, stands_for, subtype_attribute}
+use Rattle.meaning.specs.types.specs.Places as places
+use Rattle.meaning.specs.types.specs.Places.{Function, Place, Meaning, IsObject, IsFunction, IsPredefined, IsSubtype, IsProtected, IsValue, IsNothing, function_meaning, function_of, function_stands, meaning_in_scope, meaning_of, meaning_of_entity, meaning_or, object_meaning, object_stands, or_else, own_function, own_object, package_function, package_object, stands_here}
+use Rattle.meaning.specs.types.specs.Evaluating.{fixed_value}
+use Rattle.meaning.specs.types.specs.Values.{Value}
+use Rattle.meaning.specs.expr_rules.specs.Typing.{is_integers}
 use Rattle.expr_soundness.specs.SoundScopes.{IsKnown}
 use Rattle.expr_soundness.specs.Agreeing.{Agrees, MeansNumber}
 use Rattle.expr_soundness.proofs.Goods.{earlier_component, not_empty, sound_form}

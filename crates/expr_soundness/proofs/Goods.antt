@@ -1,33 +1,33 @@
 -- What is known of legal names in a sound scope, part by part, without evaluation.
 use Rattle.std.proofs.Common.{◌≡◌, ℕ, zero, suc, ℤ, pos, List, [], ◌∷◌, Bool, true, false, Option, Some, None, refl, sym, ap, ◌∙◌, subst}
 use Rattle.std.specs.Prelude.{⊤, bytes_eq, codes, cond, is_none, is_some, length, position, slice_get}
-use Rattle.ada_tree.specs.declared.expression.Identifier.{Identifier}
-use Rattle.ada_tree.specs.ExpressionTree.{SelectorTrees, NoSelectors, MoreSelectors, SelectorTree, Component, Arguments, Attribute}
-use Rattle.types.specs.declared.entity.Subtype.{Subtype}
-use Rattle.types.specs.declared.entity.Role.{Role}
-use Rattle.types.specs.declared.entity.Role.TheVariants as role
-use Rattle.types.specs.declared.entity.Value.{Value as Scalar}
-use Rattle.types.specs.declared.entity.Value.TheVariants as scalar
-use Rattle.types.specs.declared.entity.RecordComponent.{RecordComponent}
-use Rattle.types.specs.declared.entity.FormalParameter.{FormalParameter}
-use Rattle.types.specs.declared.entity.PredefinedOperation.{PredefinedOperation}
-use Rattle.types.specs.declared.entity.PredefinedOperation.TheVariants as predefined
-use Rattle.types.specs.declared.standing.Callee.TheVariants as callee
-use Rattle.types.specs.declared.standing.Standing.{Standing}
-use Rattle.types.specs.declared.standing.Standing.TheVariants as standing
-use Rattle.types.specs.Entities.{TypeForm, Integers, Booleans, Times, Spans, Arrays, Records, Profile, Operation, ProtectedObject, Entity, OfType, OfSubtype, Object, Constant, Literal, Exception, Subprogram, Entry, Predefined, Put, Task, Protected, LibraryUnit, Doubtful}
-use Rattle.types.specs.Scopes.{Scope, boolean_type, entity_at, form_at, form_of, profile_of, protected_at, protected_of}
-use Rattle.types.specs.Shapes.{has_shape}
-use Rattle.types.specs.Standings.{array_attribute, bounds_stand, bound_stands, call_stands, called_operation, callee_profile, component_of, component_stands, conversion_stands, element_stands, is_single, object_attribute, operation_profile, operation_stands, profile_among, result_stands, select, select_all, settle, stands_for, subtype_attribute}
-use Rattle.types.specs.Values.{Number, Truth, value_of}
-use Rattle.types.specs.Evaluating.{fixed_value}
-use Rattle.expr_rules.specs.declared.own.Own.TheVariants.{Universal, Typed}
-use Rattle.expr_rules.specs.Typing.{is_integers, is_known, is_spans, is_times, own_of_standing}
-use Rattle.expr_rules.specs.NameRules.{component_rule, is_doubtful, operation_rule, part_rule, value_rule}
-use Rattle.expr_rules.specs.ExpressionRules.{arguments_faults, selector_faults, selectors_faults}
-use Rattle.expr_rules.specs.Laws.{is_value_of, type_shape}
-use Rattle.expr_rules.proofs.TypeShapes.{boolean_value, type_entity}
-use Rattle.expr_rules.proofs.TypedLaw.{back_empty, front_empty, integral_numeric, suits_number, unbroken}
+use Rattle.meaning.specs.ada_tree.specs.declared.expression.Identifier.{Identifier}
+use Rattle.meaning.specs.ada_tree.specs.ExpressionTree.{SelectorTrees, NoSelectors, MoreSelectors, SelectorTree, Component, Arguments, Attribute}
+use Rattle.meaning.specs.types.specs.declared.entity.Subtype.{Subtype}
+use Rattle.meaning.specs.types.specs.declared.entity.Role.{Role}
+use Rattle.meaning.specs.types.specs.declared.entity.Role.TheVariants as role
+use Rattle.meaning.specs.types.specs.declared.entity.Value.{Value as Scalar}
+use Rattle.meaning.specs.types.specs.declared.entity.Value.TheVariants as scalar
+use Rattle.meaning.specs.types.specs.declared.entity.RecordComponent.{RecordComponent}
+use Rattle.meaning.specs.types.specs.declared.entity.FormalParameter.{FormalParameter}
+use Rattle.meaning.specs.types.specs.declared.entity.PredefinedOperation.{PredefinedOperation}
+use Rattle.meaning.specs.types.specs.declared.entity.PredefinedOperation.TheVariants as predefined
+use Rattle.meaning.specs.types.specs.declared.standing.Callee.TheVariants as callee
+use Rattle.meaning.specs.types.specs.declared.standing.Standing.{Standing}
+use Rattle.meaning.specs.types.specs.declared.standing.Standing.TheVariants as standing
+use Rattle.meaning.specs.types.specs.Entities.{TypeForm, Integers, Booleans, Times, Spans, Arrays, Records, Profile, Operation, ProtectedObject, Entity, OfType, OfSubtype, Object, Constant, Literal, Exception, Subprogram, Entry, Predefined, Put, Task, Protected, LibraryUnit, Doubtful}
+use Rattle.meaning.specs.types.specs.Scopes.{Scope, boolean_type, entity_at, form_at, form_of, profile_of, protected_at, protected_of}
+use Rattle.meaning.specs.types.specs.Shapes.{has_shape}
+use Rattle.meaning.specs.types.specs.Standings.{array_attribute, bounds_stand, bound_stands, call_stands, called_operation, callee_profile, component_of, component_stands, conversion_stands, element_stands, is_single, object_attribute, operation_profile, operation_stands, profile_among, result_stands, select, select_all, settle, stands_for, subtype_attribute}
+use Rattle.meaning.specs.types.specs.Values.{Number, Truth, value_of}
+use Rattle.meaning.specs.types.specs.Evaluating.{fixed_value}
+use Rattle.meaning.specs.expr_rules.specs.declared.own.Own.TheVariants.{Universal, Typed}
+use Rattle.meaning.specs.expr_rules.specs.Typing.{is_integers, is_known, is_spans, is_times, own_of_standing}
+use Rattle.meaning.specs.expr_rules.specs.NameRules.{component_rule, is_doubtful, operation_rule, part_rule, value_rule}
+use Rattle.meaning.specs.expr_rules.specs.ExpressionRules.{arguments_faults, selector_faults, selectors_faults}
+use Rattle.meaning.specs.expr_rules.specs.Laws.{is_value_of, type_shape}
+use Rattle.meaning.specs.expr_rules.proofs.TypeShapes.{boolean_value, type_entity}
+use Rattle.meaning.specs.expr_rules.proofs.TypedLaw.{back_empty, front_empty, integral_numeric, suits_number, unbroken}
 use Rattle.expr_soundness.specs.SoundScopes.{AreEarlier, AreIn, AreKnown, AreSoundOperations, HasOperation, IsEarlier, IsKnown, IsSoundConstant, IsSoundEntry, IsSoundForm, IsSoundObject, IsSoundOperation, IsSoundPredefined, IsSoundProfile, IsSoundResult, IsSoundType, SoundScope, integer_formal}
 use Rattle.expr_soundness.proofs.Positions.{found_at, place_is, same_some}
 use Rattle.expr_soundness.proofs.Parts.{shape_by_form, subtype_values}

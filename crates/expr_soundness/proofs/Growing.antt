@@ -1,21 +1,21 @@
 -- What holds of the names of a scope holds of them in one with more names.
 use Rattle.std.proofs.Common.{◌≡◌, ℕ, suc, ◌+◌, ◌++◌, List, [], ◌∷◌, Bool, true, false, inl, inr, Option, Some, None, refl, sym, ap, ◌∙◌, subst, arith}
 use Rattle.std.specs.Prelude.{is_some, slice_get}
-use Rattle.types.specs.declared.entity.Subtype.{Subtype}
-use Rattle.types.specs.declared.entity.Role.{Role}
-use Rattle.types.specs.declared.entity.Role.TheVariants as role
-use Rattle.types.specs.declared.entity.RecordComponent.{RecordComponent}
-use Rattle.types.specs.declared.entity.FormalParameter.{FormalParameter}
-use Rattle.types.specs.declared.entity.PredefinedOperation.{PredefinedOperation}
-use Rattle.types.specs.declared.entity.PredefinedOperation.TheVariants as predefined
-use Rattle.types.specs.Entities.{TypeForm, Integers, Booleans, Times, Spans, Arrays, Records, Profile, Operation, Entity, OfType, OfSubtype, Object, Constant, Literal, Exception, Subprogram, Entry, Predefined, Put, Task, Protected, LibraryUnit, Doubtful}
-use Rattle.types.specs.Scopes.{Scope, Named, base_range_of, boolean_type, entity_at, form_at, form_of, integer_type}
-use Rattle.types.specs.Values.{Value, value_of}
-use Rattle.types.specs.Shapes.{Shape, entity_shape, has_shape, narrowed, shape_of, shape_or_none, shapes, shapes_after}
-use Rattle.types.specs.Places.{Meaning}
-use Rattle.expr_rules.specs.Typing.{is_integers, is_spans, is_times}
-use Rattle.expr_rules.specs.Laws.{type_shape}
-use Rattle.expr_rules.proofs.TypeShapes.{entity_named, kept_shape, type_entity}
+use Rattle.meaning.specs.types.specs.declared.entity.Subtype.{Subtype}
+use Rattle.meaning.specs.types.specs.declared.entity.Role.{Role}
+use Rattle.meaning.specs.types.specs.declared.entity.Role.TheVariants as role
+use Rattle.meaning.specs.types.specs.declared.entity.RecordComponent.{RecordComponent}
+use Rattle.meaning.specs.types.specs.declared.entity.FormalParameter.{FormalParameter}
+use Rattle.meaning.specs.types.specs.declared.entity.PredefinedOperation.{PredefinedOperation}
+use Rattle.meaning.specs.types.specs.declared.entity.PredefinedOperation.TheVariants as predefined
+use Rattle.meaning.specs.types.specs.Entities.{TypeForm, Integers, Booleans, Times, Spans, Arrays, Records, Profile, Operation, Entity, OfType, OfSubtype, Object, Constant, Literal, Exception, Subprogram, Entry, Predefined, Put, Task, Protected, LibraryUnit, Doubtful}
+use Rattle.meaning.specs.types.specs.Scopes.{Scope, Named, base_range_of, boolean_type, entity_at, form_at, form_of, integer_type}
+use Rattle.meaning.specs.types.specs.Values.{Value, value_of}
+use Rattle.meaning.specs.types.specs.Shapes.{Shape, entity_shape, has_shape, narrowed, shape_of, shape_or_none, shapes, shapes_after}
+use Rattle.meaning.specs.types.specs.Places.{Meaning}
+use Rattle.meaning.specs.expr_rules.specs.Typing.{is_integers, is_spans, is_times}
+use Rattle.meaning.specs.expr_rules.specs.Laws.{type_shape}
+use Rattle.meaning.specs.expr_rules.proofs.TypeShapes.{entity_named, kept_shape, type_entity}
 use Rattle.expr_soundness.specs.SoundScopes.{AreEarlier, AreKnown, AreKnownParts, AreSoundOperations, HasOperation, IsEarlier, IsKnown, IsSoundEntity, IsSoundEntry, IsSoundForm, IsSoundObject, IsSoundOperation, IsSoundPredefined, IsSoundProfile, IsSoundResult, SoundScope}
 use Rattle.expr_soundness.specs.Agreeing.{MeansOne}
 use Rattle.expr_soundness.proofs.Positions.{entity_added, entity_kept}

@@ -1,11 +1,11 @@
 -- A place agrees as well where a protected object has no operations behind its name.
 use Rattle.std.proofs.Common.{◌≡◌, ℕ, zero, suc, ◌++◌, List, [], ◌∷◌, ◌⊎◌, inl, inr, Some, refl, sym, ap, ◌∙◌, subst}
 use Rattle.std.specs.Prelude.{bytes_eq, cond, option_map, slice_get}
-use Rattle.types.specs.Entities.{Operation, Entity, OfType, OfSubtype, Object, Constant, Literal, Exception, Subprogram, Entry, Predefined, Put, Task, Protected, LibraryUnit, Doubtful}
-use Rattle.types.specs.Scopes.{Scope, base_range_of, boolean_type, changed_at, entity_at, form_at, form_of, integer_type, number_of, offering, with_operations}
-use Rattle.types.specs.Shapes.{Shape, entity_shape, narrowed, shape_or_none, shapes_after}
-use Rattle.types.specs.Places.{Place, meaning_of}
-use Rattle.expr_rules.specs.Typing.{is_spans, is_times}
+use Rattle.meaning.specs.types.specs.Entities.{Operation, Entity, OfType, OfSubtype, Object, Constant, Literal, Exception, Subprogram, Entry, Predefined, Put, Task, Protected, LibraryUnit, Doubtful}
+use Rattle.meaning.specs.types.specs.Scopes.{Scope, base_range_of, boolean_type, changed_at, entity_at, form_at, form_of, integer_type, number_of, offering, with_operations}
+use Rattle.meaning.specs.types.specs.Shapes.{Shape, entity_shape, narrowed, shape_or_none, shapes_after}
+use Rattle.meaning.specs.types.specs.Places.{Place, meaning_of}
+use Rattle.meaning.specs.expr_rules.specs.Typing.{is_spans, is_times}
 use Rattle.expr_soundness.specs.SoundScopes.{IsSoundEntity, SoundScope}
 use Rattle.expr_soundness.specs.Agreeing.{Agrees, Means}
 use Rattle.expr_soundness.proofs.Positions.{first_place, number_place, same_some}

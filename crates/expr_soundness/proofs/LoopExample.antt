@@ -1,21 +1,21 @@
 -- A loop over an integer type of the package, worked: its parameter is an object of subtype Integer in a run, and expressions are of the type of its range.
 use Rattle.std.proofs.Common.{◌≡◌, ℕ, [], ◌∷◌, true, inl, inr, Some, refl, sym, ap}
 use Rattle.std.specs.Prelude.{codes, pos}
-use Rattle.ada_tree.specs.declared.expression.BinaryOperator.TheVariants as binary
-use Rattle.ada_tree.specs.ExpressionTree as tree
-use Rattle.ada_tree.specs.ExpressionTree.{ExprTree, NoSelectors}
-use Rattle.types.specs.declared.entity.Role.TheVariants as role
-use Rattle.types.specs.Entities.{Integers, Entity, OfType, Object}
-use Rattle.types.specs.Scopes.{Scope, base_range_of, entity_at, integer, standard, with_name}
-use Rattle.types.specs.Values.{Value, Number}
-use Rattle.types.specs.Evaluations.{Gives}
-use Rattle.types.specs.Places.{Place, Meaning, IsObject, meaning_of}
-use Rattle.types.specs.Statics.{static_place}
-use Rattle.types.specs.Evaluating.{val}
-use Rattle.expr_rules.specs.declared.own.Own.TheVariants.{Typed}
-use Rattle.expr_rules.specs.declared.own.Wanted.TheVariants.{OfType as Expected}
-use Rattle.expr_rules.specs.Typing.{own_of}
-use Rattle.expr_rules.specs.ExpressionRules.{faults_of}
+use Rattle.meaning.specs.ada_tree.specs.declared.expression.BinaryOperator.TheVariants as binary
+use Rattle.meaning.specs.ada_tree.specs.ExpressionTree as tree
+use Rattle.meaning.specs.ada_tree.specs.ExpressionTree.{ExprTree, NoSelectors}
+use Rattle.meaning.specs.types.specs.declared.entity.Role.TheVariants as role
+use Rattle.meaning.specs.types.specs.Entities.{Integers, Entity, OfType, Object}
+use Rattle.meaning.specs.types.specs.Scopes.{Scope, base_range_of, entity_at, integer, standard, with_name}
+use Rattle.meaning.specs.types.specs.Values.{Value, Number}
+use Rattle.meaning.specs.types.specs.Evaluations.{Gives}
+use Rattle.meaning.specs.types.specs.Places.{Place, Meaning, IsObject, meaning_of}
+use Rattle.meaning.specs.types.specs.Statics.{static_place}
+use Rattle.meaning.specs.types.specs.Evaluating.{val}
+use Rattle.meaning.specs.expr_rules.specs.declared.own.Own.TheVariants.{Typed}
+use Rattle.meaning.specs.expr_rules.specs.declared.own.Wanted.TheVariants.{OfType as Expected}
+use Rattle.meaning.specs.expr_rules.specs.Typing.{own_of}
+use Rattle.meaning.specs.expr_rules.specs.ExpressionRules.{faults_of}
 use Rattle.expr_soundness.specs.SoundScopes.{SoundScope}
 use Rattle.expr_soundness.specs.Agreeing.{Agrees}
 use Rattle.expr_soundness.proofs.Positions.{entity_added}

@@ -2,13 +2,13 @@
 use Rattle.std.proofs.Common.{◌≡◌, ℕ, zero, suc, ◌+◌, ◌<◌, ◌++◌, length, take, List, [], ◌∷◌, Some, refl, sym, ap, ◌∙◌, subst, arith}
 use Rattle.std.specs.Prelude.{slice_get}
 use Rattle.std.proofs.lemmas.List.{length-append}
-use Rattle.types.specs.declared.entity.Subtype.{Subtype}
-use Rattle.types.specs.Entities.{TypeForm, OfType}
-use Rattle.types.specs.Scopes.{Scope, Named, entity_at, form_at, base_range_of}
-use Rattle.types.specs.Values.{Value, Number, Truth, Array, Record}
-use Rattle.types.specs.Shapes.{Shape, Ranged, Logical, Timed, Repeated, Grouped, Shapeless, entity_shape, form_shape, has_shape, narrowed, shape_among, shape_of, shape_or_none, shapes, shapes_after}
-use Rattle.expr_rules.specs.Laws.{type_shape}
-use Rattle.expr_rules.proofs.TypeShapes.{at_end, entity_named, kept_shape, type_entity}
+use Rattle.meaning.specs.types.specs.declared.entity.Subtype.{Subtype}
+use Rattle.meaning.specs.types.specs.Entities.{TypeForm, OfType}
+use Rattle.meaning.specs.types.specs.Scopes.{Scope, Named, entity_at, form_at, base_range_of}
+use Rattle.meaning.specs.types.specs.Values.{Value, Number, Truth, Array, Record}
+use Rattle.meaning.specs.types.specs.Shapes.{Shape, Ranged, Logical, Timed, Repeated, Grouped, Shapeless, entity_shape, form_shape, has_shape, narrowed, shape_among, shape_of, shape_or_none, shapes, shapes_after}
+use Rattle.meaning.specs.expr_rules.specs.Laws.{type_shape}
+use Rattle.meaning.specs.expr_rules.proofs.TypeShapes.{at_end, entity_named, kept_shape, type_entity}
 use Rattle.expr_soundness.proofs.Positions.{item_kept, same_some}
 
 -- the first value of a subtype tells nothing of which values are of its shape

@@ -2,8 +2,8 @@
 use Rattle.std.proofs.Common.{◌≡◌, ℕ, zero, suc, ◌+◌, List, [], ◌∷◌, ◌++◌, length, not, Bool, true, false, ◌⊎◌, inl, inr, Option, Some, None, refl, sym, ap, ◌∙◌, arith}
 use Rattle.std.specs.Prelude.{bytes_eq, cond, is_some, nat_lt, option_map, position, slice_get}
 use Rattle.std.specs.List.{position_or_len}
-use Rattle.types.specs.Entities.{Entity}
-use Rattle.types.specs.Scopes.{Scope, Named, entity_at, entity_of, is_visible, number_of}
+use Rattle.meaning.specs.types.specs.Entities.{Entity}
+use Rattle.meaning.specs.types.specs.Scopes.{Scope, Named, entity_at, entity_of, is_visible, number_of}
 
 -- ---- the first element that passes, by recursion
 

@@ -1,11 +1,11 @@
 -- The names that are always visible are sound, and a place without objects and functions agrees with them: what the laws ask for is there.
 use Rattle.std.proofs.Common.{◌≡◌, ℕ, zero, suc, List, Bool, true, false, Some, refl, ap, ◌∙◌, subst}
-use Rattle.types.specs.Entities.{Integers, Booleans, Entity, OfType, OfSubtype, Object, Constant, Literal, Exception, Subprogram, Entry, Predefined, Put, Task, Protected, LibraryUnit, Doubtful}
-use Rattle.types.specs.Scopes.{Scope, boolean, entity_at, form_at, integer, integers_from, number_of, standard}
-use Rattle.types.specs.Standings.{stands_first, stands_for}
-use Rattle.types.specs.Places.{meaning_in_scope, meaning_of_entity}
-use Rattle.types.specs.Statics.{static_place}
-use Rattle.expr_rules.specs.Typing.{is_spans, is_times}
+use Rattle.meaning.specs.types.specs.Entities.{Integers, Booleans, Entity, OfType, OfSubtype, Object, Constant, Literal, Exception, Subprogram, Entry, Predefined, Put, Task, Protected, LibraryUnit, Doubtful}
+use Rattle.meaning.specs.types.specs.Scopes.{Scope, boolean, entity_at, form_at, integer, integers_from, number_of, standard}
+use Rattle.meaning.specs.types.specs.Standings.{stands_first, stands_for}
+use Rattle.meaning.specs.types.specs.Places.{meaning_in_scope, meaning_of_entity}
+use Rattle.meaning.specs.types.specs.Statics.{static_place}
+use Rattle.meaning.specs.expr_rules.specs.Typing.{is_spans, is_times}
 use Rattle.expr_soundness.specs.SoundScopes.{IsSoundEntity, SoundScope}
 use Rattle.expr_soundness.specs.Agreeing.{Agrees, Means}
 use Rattle.expr_soundness.proofs.Positions.{same_some}

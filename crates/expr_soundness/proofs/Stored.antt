@@ -2,12 +2,12 @@
 use Rattle.std.proofs.Common.{◌≡◌, ◌≢◌, ℕ, List, ◌∷◌, Bool, true, false, ◌⊎◌, inl, inr, Some, refl, sym, ap, ◌∙◌, subst, arith}
 use Rattle.std.specs.Prelude.{bytes_eq, cond, nat_eq}
 use Rattle.std.proofs.lemmas.Slice.Eq.{bytes_eq-Decides}
-use Rattle.kernel.specs.State.{put}
-use Rattle.types.specs.declared.entity.Subtype.{Subtype}
-use Rattle.types.specs.Scopes.{Scope}
-use Rattle.types.specs.Values.{Value}
-use Rattle.types.specs.Shapes.{has_shape, shape_of}
-use Rattle.types.specs.Places.{Object, Place, object_of}
+use Rattle.meaning.specs.kernel.specs.State.{put}
+use Rattle.meaning.specs.types.specs.declared.entity.Subtype.{Subtype}
+use Rattle.meaning.specs.types.specs.Scopes.{Scope}
+use Rattle.meaning.specs.types.specs.Values.{Value}
+use Rattle.meaning.specs.types.specs.Shapes.{has_shape, shape_of}
+use Rattle.meaning.specs.types.specs.Places.{Object, Place, object_of}
 use Rattle.meaning.specs.Works.{Part, Home, InActivation, InPackage, InObject, Target, Store, Activation}
 use Rattle.meaning.specs.Targets.{activation_with, objects_of, store_with, stored_in, stored_to, value_in, with_part}
 use Rattle.expr_soundness.specs.SoundScopes.{IsKnown, SoundScope}

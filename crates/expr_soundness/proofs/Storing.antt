@@ -2,13 +2,13 @@
 use Rattle.std.proofs.Common.{◌≡◌, ℕ, zero, suc, ◌<◌, List, [], ◌∷◌, ◌++◌, Bool, true, false, ◌&&◌, Option, Some, None, refl, sym, ap, ◌∙◌, subst, arith}
 use Rattle.std.specs.Prelude.{bytes_eq, cond, nat_eq, nat_lt}
 use Rattle.std.proofs.lemmas.Slice.Eq.{bytes_eq-Decides}
-use Rattle.types.specs.declared.entity.Subtype.{Subtype}
-use Rattle.types.specs.declared.entity.RecordComponent.{RecordComponent}
-use Rattle.types.specs.Entities.{TypeForm, Integers, Booleans, Times, Spans, Arrays, Records}
-use Rattle.types.specs.Scopes.{Scope, form_at}
-use Rattle.types.specs.Standings.{component_of}
-use Rattle.types.specs.Values.{Value, Array, Record, Values, NoValues, MoreValues, Fields, NoFields, MoreFields}
-use Rattle.types.specs.Shapes.{Shape, Repeated, Grouped, all_values, component_shapes, count_values, has_shape, have_shapes, shape_among, shape_of}
+use Rattle.meaning.specs.types.specs.declared.entity.Subtype.{Subtype}
+use Rattle.meaning.specs.types.specs.declared.entity.RecordComponent.{RecordComponent}
+use Rattle.meaning.specs.types.specs.Entities.{TypeForm, Integers, Booleans, Times, Spans, Arrays, Records}
+use Rattle.meaning.specs.types.specs.Scopes.{Scope, form_at}
+use Rattle.meaning.specs.types.specs.Standings.{component_of}
+use Rattle.meaning.specs.types.specs.Values.{Value, Array, Record, Values, NoValues, MoreValues, Fields, NoFields, MoreFields}
+use Rattle.meaning.specs.types.specs.Shapes.{Shape, Repeated, Grouped, all_values, component_shapes, count_values, has_shape, have_shapes, shape_among, shape_of}
 use Rattle.meaning.specs.Works.{Part, Element, Field}
 use Rattle.meaning.specs.Targets.{changed_element, changed_field, changed_part, component_at, part_value, with_part}
 use Rattle.expr_soundness.specs.SoundScopes.{IsKnown, SoundScope}

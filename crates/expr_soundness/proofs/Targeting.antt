@@ -2,31 +2,31 @@
 use Rattle.std.proofs.Common.{◌≡◌, ◌++◌, ℕ, zero, ◌<◌, List, [], ◌∷◌, Bool, true, false, not, ◌⊎◌, inl, inr, Option, Some, None, refl, sym, ap, ◌∙◌, subst, arith}
 use Rattle.std.specs.Prelude.{bytes_eq, codes, cond, is_none, nat_lt, pos, position, unsigned_abs, ◌-ℤ◌}
 use Rattle.std.proofs.lemmas.Slice.Eq.{bytes_eq-Decides}
-use Rattle.ada_tree.specs.declared.expression.Identifier.{Identifier}
-use Rattle.ada_tree.specs.ExpressionTree.{SelectorTrees, NoSelectors, MoreSelectors, SelectorTree, Component, Arguments, Attribute, ArgumentTrees}
-use Rattle.types.specs.declared.entity.Subtype.{Subtype}
-use Rattle.types.specs.declared.entity.Role.{Role}
-use Rattle.types.specs.declared.entity.Role.TheVariants as role
-use Rattle.types.specs.declared.entity.Value.{Value as Scalar}
-use Rattle.types.specs.declared.standing.Standing.{Standing}
-use Rattle.types.specs.declared.standing.Standing.TheVariants as standing
-use Rattle.types.specs.Entities.{TypeForm, Integers, Booleans, Times, Spans, Arrays, Records, Profile, ProtectedObject, Entity, OfType, OfSubtype, Constant, Literal, Exception, Subprogram, Entry, Predefined, Put, Task, Protected, LibraryUnit, Doubtful}
-use Rattle.types.specs.Entities as entity
-use Rattle.types.specs.Scopes.{Scope, entity_at, form_at, is_visible, number_of, protected_at}
-use Rattle.types.specs.Standings as standings
-use Rattle.types.specs.Standings.{count, array_attribute, bound_stands, bounds_stand, call_stands, called_operation, callee_profile, component_of, component_stands, conversion_stands, element_stands, is_single, object_attribute, operation_stands, result_stands, select, select_all, settle, standing_of, stands_first, stands_for, subtype_attribute}
-use Rattle.types.specs.Values.{Value, Number, fits}
-use Rattle.types.specs.Shapes.{has_shape, shape_of}
-use Rattle.types.specs.Evaluations.{Val, Gives, Raises, Meaningless, and_then}
-use Rattle.types.specs.Places.{Object, Function, Place, Meaning, IsObject, function_meaning, meaning_in_scope, meaning_of, meaning_of_entity, meaning_or, object_meaning, object_of, or_else, own_components, own_function, package_function}
-use Rattle.types.specs.Evaluating.{Calls, actuals_with, call}
-use Rattle.expr_rules.specs.declared.own.Own.TheVariants.{Typed}
-use Rattle.expr_rules.specs.declared.own.Wanted.TheVariants.{Anything}
-use Rattle.expr_rules.specs.Faults.{rule}
-use Rattle.expr_rules.specs.Typing.{is_integers}
-use Rattle.expr_rules.specs.NameRules.{component_rule, index_slot, is_doubtful, mismatch, part_rule, variable_rule}
-use Rattle.expr_rules.specs.ExpressionRules.{arguments_faults, selector_faults, selectors_faults, target_faults}
-use Rattle.expr_rules.proofs.TypedLaw.{as_number, back_empty, front_empty, integral_numeric, unbroken}
+use Rattle.meaning.specs.ada_tree.specs.declared.expression.Identifier.{Identifier}
+use Rattle.meaning.specs.ada_tree.specs.ExpressionTree.{SelectorTrees, NoSelectors, MoreSelectors, SelectorTree, Component, Arguments, Attribute, ArgumentTrees}
+use Rattle.meaning.specs.types.specs.declared.entity.Subtype.{Subtype}
+use Rattle.meaning.specs.types.specs.declared.entity.Role.{Role}
+use Rattle.meaning.specs.types.specs.declared.entity.Role.TheVariants as role
+use Rattle.meaning.specs.types.specs.declared.entity.Value.{Value as Scalar}
+use Rattle.meaning.specs.types.specs.declared.standing.Standing.{Standing}
+use Rattle.meaning.specs.types.specs.declared.standing.Standing.TheVariants as standing
+use Rattle.meaning.specs.types.specs.Entities.{TypeForm, Integers, Booleans, Times, Spans, Arrays, Records, Profile, ProtectedObject, Entity, OfType, OfSubtype, Constant, Literal, Exception, Subprogram, Entry, Predefined, Put, Task, Protected, LibraryUnit, Doubtful}
+use Rattle.meaning.specs.types.specs.Entities as entity
+use Rattle.meaning.specs.types.specs.Scopes.{Scope, entity_at, form_at, is_visible, number_of, protected_at}
+use Rattle.meaning.specs.types.specs.Standings as standings
+use Rattle.meaning.specs.types.specs.Standings.{count, array_attribute, bound_stands, bounds_stand, call_stands, called_operation, callee_profile, component_of, component_stands, conversion_stands, element_stands, is_single, object_attribute, operation_stands, result_stands, select, select_all, settle, standing_of, stands_first, stands_for, subtype_attribute}
+use Rattle.meaning.specs.types.specs.Values.{Value, Number, fits}
+use Rattle.meaning.specs.types.specs.Shapes.{has_shape, shape_of}
+use Rattle.meaning.specs.types.specs.Evaluations.{Val, Gives, Raises, Meaningless, and_then}
+use Rattle.meaning.specs.types.specs.Places.{Object, Function, Place, Meaning, IsObject, function_meaning, meaning_in_scope, meaning_of, meaning_of_entity, meaning_or, object_meaning, object_of, or_else, own_components, own_function, package_function}
+use Rattle.meaning.specs.types.specs.Evaluating.{Calls, actuals_with, call}
+use Rattle.meaning.specs.expr_rules.specs.declared.own.Own.TheVariants.{Typed}
+use Rattle.meaning.specs.expr_rules.specs.declared.own.Wanted.TheVariants.{Anything}
+use Rattle.meaning.specs.expr_rules.specs.Faults.{rule}
+use Rattle.meaning.specs.expr_rules.specs.Typing.{is_integers}
+use Rattle.meaning.specs.expr_rules.specs.NameRules.{component_rule, index_slot, is_doubtful, mismatch, part_rule, variable_rule}
+use Rattle.meaning.specs.expr_rules.specs.ExpressionRules.{arguments_faults, selector_faults, selectors_faults, target_faults}
+use Rattle.meaning.specs.expr_rules.proofs.TypedLaw.{as_number, back_empty, front_empty, integral_numeric, unbroken}
 use Rattle.meaning.specs.Works.{Part, Element, Field, Home, InActivation, InPackage, InObject, Target, Store, Activation}
 use Rattle.meaning.specs.Targets.{all_selected, element_of, first_of, object_named, own_component, part_of, selected, target, target_or_nothing, whole}
 use Rattle.expr_soundness.specs.SoundScopes.{IsKnown, IsSoundObject, SoundScope}

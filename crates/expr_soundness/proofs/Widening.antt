@@ -1,13 +1,13 @@
 -- Scopes stay sound with a name more, and their subtypes are those of declared types.
 use Rattle.std.proofs.Common.{◌≡◌, ℕ, suc, ◌++◌, length, List, [], ◌∷◌, true, false, inl, inr, Option, Some, None, refl, sym, ap, ◌∙◌, subst}
 use Rattle.std.specs.Prelude.{cond}
-use Rattle.ada_tree.specs.declared.expression.Identifier.{Identifier}
-use Rattle.types.specs.declared.entity.Subtype.{Subtype}
-use Rattle.types.specs.Entities.{TypeForm, Integers, Booleans, Entity, OfType, OfSubtype}
-use Rattle.types.specs.Scopes.{Scope, Named, boolean_type, entity_at, form_at, form_of, integer_type, is_visible, number_of, with_name}
-use Rattle.expr_rules.specs.Typing.{is_spans, is_times}
-use Rattle.expr_rules.proofs.TypeShapes.{type_entity}
-use Rattle.type_rules.specs.SubtypeNames.{entity_at_or_none, subtype_in, subtype_of}
+use Rattle.meaning.specs.ada_tree.specs.declared.expression.Identifier.{Identifier}
+use Rattle.meaning.specs.types.specs.declared.entity.Subtype.{Subtype}
+use Rattle.meaning.specs.types.specs.Entities.{TypeForm, Integers, Booleans, Entity, OfType, OfSubtype}
+use Rattle.meaning.specs.types.specs.Scopes.{Scope, Named, boolean_type, entity_at, form_at, form_of, integer_type, is_visible, number_of, with_name}
+use Rattle.meaning.specs.expr_rules.specs.Typing.{is_spans, is_times}
+use Rattle.meaning.specs.expr_rules.proofs.TypeShapes.{type_entity}
+use Rattle.meaning.specs.type_rules.specs.SubtypeNames.{entity_at_or_none, subtype_in, subtype_of}
 use Rattle.expr_soundness.specs.SoundScopes.{IsKnown, IsSoundEntity, SoundScope}
 use Rattle.expr_soundness.proofs.Positions.{entity_added, same_some}
 use Rattle.expr_soundness.proofs.Goods.{known_type}

@@ -1,19 +1,19 @@
 -- When a place of evaluation agrees with the names visible at a point of the text: each means there what it stands for.
 use Rattle.std.specs.Prelude.{◌≡◌, ℕ, ℤ, true, List, map, Option, Some, None, bytes_eq, position, slice_get, ⊤}
-use Rattle.types.specs.declared.entity.Subtype.{Subtype}
-use Rattle.types.specs.declared.entity.Value.TheVariants as scalar
-use Rattle.types.specs.declared.entity.FormalParameter.{FormalParameter}
-use Rattle.types.specs.declared.entity.Role.{Role}
-use Rattle.types.specs.declared.entity.Role.TheVariants as role
-use Rattle.types.specs.declared.standing.Standing.TheVariants as standing
-use Rattle.types.specs.Entities.{TypeForm, Profile, Operation, ProtectedObject, Entity, OfType, OfSubtype, Object, Constant, Literal, Subprogram, Predefined, Protected}
-use Rattle.types.specs.Scopes.{Scope, boolean, entity_at, form_at, number_of}
-use Rattle.types.specs.Values.{Value, Number}
-use Rattle.types.specs.Shapes.{has_shape, shape_of}
-use Rattle.types.specs.Places.{Function, Place, Meaning, IsObject, IsFunction, IsPredefined, IsProtected, IsSubtype, function_of, meaning_of, stands_here}
-use Rattle.types.specs.Evaluating.{formal_subtype}
-use Rattle.expr_rules.specs.Typing.{is_integers}
-use Rattle.expr_rules.specs.Laws.{type_shape}
+use Rattle.meaning.specs.types.specs.declared.entity.Subtype.{Subtype}
+use Rattle.meaning.specs.types.specs.declared.entity.Value.TheVariants as scalar
+use Rattle.meaning.specs.types.specs.declared.entity.FormalParameter.{FormalParameter}
+use Rattle.meaning.specs.types.specs.declared.entity.Role.{Role}
+use Rattle.meaning.specs.types.specs.declared.entity.Role.TheVariants as role
+use Rattle.meaning.specs.types.specs.declared.standing.Standing.TheVariants as standing
+use Rattle.meaning.specs.types.specs.Entities.{TypeForm, Profile, Operation, ProtectedObject, Entity, OfType, OfSubtype, Object, Constant, Literal, Subprogram, Predefined, Protected}
+use Rattle.meaning.specs.types.specs.Scopes.{Scope, boolean, entity_at, form_at, number_of}
+use Rattle.meaning.specs.types.specs.Values.{Value, Number}
+use Rattle.meaning.specs.types.specs.Shapes.{has_shape, shape_of}
+use Rattle.meaning.specs.types.specs.Places.{Function, Place, Meaning, IsObject, IsFunction, IsPredefined, IsProtected, IsSubtype, function_of, meaning_of, stands_here}
+use Rattle.meaning.specs.types.specs.Evaluating.{formal_subtype}
+use Rattle.meaning.specs.expr_rules.specs.Typing.{is_integers}
+use Rattle.meaning.specs.expr_rules.specs.Laws.{type_shape}
 use Rattle.expr_soundness.specs.SoundScopes.{SoundScope}
 
 -- ---- what is called

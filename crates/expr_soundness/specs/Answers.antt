@@ -1,14 +1,14 @@
 -- When calls of functions are answered: with a value of the result's type, or an exception (RM 6.4, 6.5).
 use Rattle.std.specs.Prelude.{◌≡◌, ℕ, Bool, true, false, ◌&&◌, List, [], ◌∷◌, Option, Some}
-use Rattle.types.specs.Scopes.{Scope}
-use Rattle.types.specs.Values.{Value}
-use Rattle.types.specs.Shapes.{has_shape, shape_of}
-use Rattle.types.specs.Places.{Formal, Function, Place, function_of}
-use Rattle.types.specs.Evaluating.{Calls, entered}
-use Rattle.expr_rules.specs.declared.own.Own.TheVariants.{Typed}
-use Rattle.expr_rules.specs.declared.own.Wanted.TheVariants.{OfType}
-use Rattle.expr_rules.specs.ExpressionRules.{faults_of}
-use Rattle.expr_rules.specs.Laws.{suits}
+use Rattle.meaning.specs.types.specs.Scopes.{Scope}
+use Rattle.meaning.specs.types.specs.Values.{Value}
+use Rattle.meaning.specs.types.specs.Shapes.{has_shape, shape_of}
+use Rattle.meaning.specs.types.specs.Places.{Formal, Function, Place, function_of}
+use Rattle.meaning.specs.types.specs.Evaluating.{Calls, entered}
+use Rattle.meaning.specs.expr_rules.specs.declared.own.Own.TheVariants.{Typed}
+use Rattle.meaning.specs.expr_rules.specs.declared.own.Wanted.TheVariants.{OfType}
+use Rattle.meaning.specs.expr_rules.specs.ExpressionRules.{faults_of}
+use Rattle.meaning.specs.expr_rules.specs.Laws.{suits}
 use Rattle.expr_soundness.specs.SoundScopes.{IsKnown}
 use Rattle.expr_soundness.specs.Agreeing.{Agrees}
 

@@ -1,26 +1,26 @@
 -- The laws of values and types, as statements; each is the contract of a public function.
 use Rattle.std.specs.Prelude.{◌≡◌, ◌≢◌, ℕ, ℤ, true, false, List, [], ◌∷◌, codes, length, Some}
-use Rattle.base.specs.declared.schedule.ScheduleLine.{ScheduleLine}
-use Rattle.ada_tree.specs.declared.expression.Identifier.{Identifier}
-use Rattle.ada_tree.specs.ExpressionTree.{ExprTree}
-use Rattle.types.specs.declared.entity.Subtype.{Subtype}
-use Rattle.types.specs.declared.entity.Role.{Role}
-use Rattle.types.specs.declared.entity.Role.TheVariants as role
-use Rattle.types.specs.Entities as entity
-use Rattle.types.specs.Entities.{Entity}
-use Rattle.types.specs.Scopes.{Scope, base_range_of, form_at, form_of, integer, is_visible, standard, with_control_io, with_name, with_operations, with_real_time}
-use Rattle.types.specs.Values.{Value, Number}
-use Rattle.types.specs.Shapes.{has_shape, shape_of}
-use Rattle.types.specs.Places.{Object, Place, object_of}
-use Rattle.types.specs.Evaluating.{Calls, call, val, value_with}
-use Rattle.expr_rules.specs.declared.own.Own.TheVariants.{Typed}
-use Rattle.expr_rules.specs.declared.own.Wanted.{Wanted}
-use Rattle.expr_rules.specs.declared.own.Wanted.TheVariants.{OfType}
-use Rattle.expr_rules.specs.Typing.{is_integers, is_times, own_of}
-use Rattle.expr_rules.specs.ExpressionRules.{faults_in, faults_of}
-use Rattle.expr_rules.specs.Laws.{IsTyped, suits}
-use Rattle.type_rules.specs.SubtypeNames.{subtype_of}
-use Rattle.declaring.specs.Laws.{StandsFirst}
+use Rattle.meaning.specs.base.specs.declared.schedule.ScheduleLine.{ScheduleLine}
+use Rattle.meaning.specs.ada_tree.specs.declared.expression.Identifier.{Identifier}
+use Rattle.meaning.specs.ada_tree.specs.ExpressionTree.{ExprTree}
+use Rattle.meaning.specs.types.specs.declared.entity.Subtype.{Subtype}
+use Rattle.meaning.specs.types.specs.declared.entity.Role.{Role}
+use Rattle.meaning.specs.types.specs.declared.entity.Role.TheVariants as role
+use Rattle.meaning.specs.types.specs.Entities as entity
+use Rattle.meaning.specs.types.specs.Entities.{Entity}
+use Rattle.meaning.specs.types.specs.Scopes.{Scope, base_range_of, form_at, form_of, integer, is_visible, standard, with_control_io, with_name, with_operations, with_real_time}
+use Rattle.meaning.specs.types.specs.Values.{Value, Number}
+use Rattle.meaning.specs.types.specs.Shapes.{has_shape, shape_of}
+use Rattle.meaning.specs.types.specs.Places.{Object, Place, object_of}
+use Rattle.meaning.specs.types.specs.Evaluating.{Calls, call, val, value_with}
+use Rattle.meaning.specs.expr_rules.specs.declared.own.Own.TheVariants.{Typed}
+use Rattle.meaning.specs.expr_rules.specs.declared.own.Wanted.{Wanted}
+use Rattle.meaning.specs.expr_rules.specs.declared.own.Wanted.TheVariants.{OfType}
+use Rattle.meaning.specs.expr_rules.specs.Typing.{is_integers, is_times, own_of}
+use Rattle.meaning.specs.expr_rules.specs.ExpressionRules.{faults_in, faults_of}
+use Rattle.meaning.specs.expr_rules.specs.Laws.{IsTyped, suits}
+use Rattle.meaning.specs.type_rules.specs.SubtypeNames.{subtype_of}
+use Rattle.meaning.specs.declaring.specs.Laws.{StandsFirst}
 use Rattle.expr_soundness.specs.SoundScopes.{IsKnown, IsSoundEntity, IsSoundObject, SoundScope}
 use Rattle.expr_soundness.specs.Agreeing.{Agrees}
 use Rattle.expr_soundness.specs.Answers.{CallsAnswer, FunctionsAreSound}

@@ -1,5 +1,14 @@
-pub use Rattle.types.specs.Evaluating
-pub use Rattle.expr_rules.specs.ExpressionRules
+pub use Rattle.meaning.specs.types.specs.Evaluating
+pub use Rattle.meaning.specs.expr_rules.specs.ExpressionRules
+pub use Rattle.meaning.specs.ada_tree as ada_tree
+pub use Rattle.meaning.specs.base as base
+pub use Rattle.meaning.specs.declaring as declaring
+pub use Rattle.meaning.specs.expr_rules as expr_rules
+pub use Rattle.meaning.specs.handlers as handlers
+pub use Rattle.meaning.specs.kernel as kernel
+pub use Rattle.meaning as meaning
+pub use Rattle.meaning.specs.type_rules as type_rules
+pub use Rattle.meaning.specs.types as types
 pub mod SoundScopes
 pub mod Agreeing
 pub mod Answers

@@ -1,20 +1,20 @@
 -- Scopes whose names are all known: what the legal declarations in front of a point of the text make visible there (RM 3, 6, 9).
 use Rattle.std.specs.Prelude.{◌≡◌, ◌<◌, ℕ, suc, Bool, true, false, List, [], ◌∷◌, Option, Some, None, is_some, ⊤}
-use Rattle.ada_tree.specs.declared.declaration.Mode.TheVariants as mode
-use Rattle.types.specs.declared.entity.Subtype.{Subtype}
-use Rattle.types.specs.declared.entity.Role.{Role}
-use Rattle.types.specs.declared.entity.Role.TheVariants as role
-use Rattle.types.specs.declared.entity.Value.{Value as Scalar}
-use Rattle.types.specs.declared.entity.RecordComponent.{RecordComponent}
-use Rattle.types.specs.declared.entity.FormalParameter.{FormalParameter}
-use Rattle.types.specs.declared.entity.PredefinedOperation.{PredefinedOperation}
-use Rattle.types.specs.declared.entity.PredefinedOperation.TheVariants as predefined
-use Rattle.types.specs.Entities.{TypeForm, Integers, Booleans, Arrays, Records, Profile, Operation, Entity, OfType, OfSubtype, Object, Constant, Subprogram, Entry, Predefined, Protected, Doubtful}
-use Rattle.types.specs.Scopes.{Scope, entity_at, form_at, boolean_type, integer_type, integer}
-use Rattle.types.specs.Shapes.{has_shape, shape_of}
-use Rattle.types.specs.Values.{value_of}
-use Rattle.expr_rules.specs.Typing.{is_integers, is_spans, is_times}
-use Rattle.type_rules.specs.TypeRules.{length_of}
+use Rattle.meaning.specs.ada_tree.specs.declared.declaration.Mode.TheVariants as mode
+use Rattle.meaning.specs.types.specs.declared.entity.Subtype.{Subtype}
+use Rattle.meaning.specs.types.specs.declared.entity.Role.{Role}
+use Rattle.meaning.specs.types.specs.declared.entity.Role.TheVariants as role
+use Rattle.meaning.specs.types.specs.declared.entity.Value.{Value as Scalar}
+use Rattle.meaning.specs.types.specs.declared.entity.RecordComponent.{RecordComponent}
+use Rattle.meaning.specs.types.specs.declared.entity.FormalParameter.{FormalParameter}
+use Rattle.meaning.specs.types.specs.declared.entity.PredefinedOperation.{PredefinedOperation}
+use Rattle.meaning.specs.types.specs.declared.entity.PredefinedOperation.TheVariants as predefined
+use Rattle.meaning.specs.types.specs.Entities.{TypeForm, Integers, Booleans, Arrays, Records, Profile, Operation, Entity, OfType, OfSubtype, Object, Constant, Subprogram, Entry, Predefined, Protected, Doubtful}
+use Rattle.meaning.specs.types.specs.Scopes.{Scope, entity_at, form_at, boolean_type, integer_type, integer}
+use Rattle.meaning.specs.types.specs.Shapes.{has_shape, shape_of}
+use Rattle.meaning.specs.types.specs.Values.{value_of}
+use Rattle.meaning.specs.expr_rules.specs.Typing.{is_integers, is_spans, is_times}
+use Rattle.meaning.specs.type_rules.specs.TypeRules.{length_of}
 
 -- ---- types
 

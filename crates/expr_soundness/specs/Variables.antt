@@ -1,19 +1,19 @@
 -- Variables and parts of them as targets: what a legal name of a variable names, the value there, and what stays where one is stored (RM 4.1, 5.2, 6.4.1).
 use Rattle.std.specs.Prelude.{◌≡◌, true, List, [], ◌∷◌, Option, Some, None, nat_lt, ⊤, if◌then◌else◌}
-use Rattle.ada_tree.specs.declared.expression.Identifier.{Identifier}
-use Rattle.ada_tree.specs.ExpressionTree.{SelectorTrees}
-use Rattle.types.specs.declared.entity.Subtype.{Subtype}
-use Rattle.types.specs.declared.entity.Role.{Role}
-use Rattle.types.specs.declared.standing.Standing.{Standing}
-use Rattle.types.specs.declared.standing.Standing.TheVariants as standing
-use Rattle.types.specs.Entities.{TypeForm, Arrays, Records}
-use Rattle.types.specs.Scopes.{Scope, form_at}
-use Rattle.types.specs.Standings.{component_of, standing_of}
-use Rattle.types.specs.Values.{Value}
-use Rattle.types.specs.Shapes.{has_shape, shape_of}
-use Rattle.types.specs.Evaluations.{Val, Gives, Raises, Meaningless}
-use Rattle.types.specs.Places.{Object, Place, object_of}
-use Rattle.expr_rules.specs.ExpressionRules.{target_faults}
+use Rattle.meaning.specs.ada_tree.specs.declared.expression.Identifier.{Identifier}
+use Rattle.meaning.specs.ada_tree.specs.ExpressionTree.{SelectorTrees}
+use Rattle.meaning.specs.types.specs.declared.entity.Subtype.{Subtype}
+use Rattle.meaning.specs.types.specs.declared.entity.Role.{Role}
+use Rattle.meaning.specs.types.specs.declared.standing.Standing.{Standing}
+use Rattle.meaning.specs.types.specs.declared.standing.Standing.TheVariants as standing
+use Rattle.meaning.specs.types.specs.Entities.{TypeForm, Arrays, Records}
+use Rattle.meaning.specs.types.specs.Scopes.{Scope, form_at}
+use Rattle.meaning.specs.types.specs.Standings.{component_of, standing_of}
+use Rattle.meaning.specs.types.specs.Values.{Value}
+use Rattle.meaning.specs.types.specs.Shapes.{has_shape, shape_of}
+use Rattle.meaning.specs.types.specs.Evaluations.{Val, Gives, Raises, Meaningless}
+use Rattle.meaning.specs.types.specs.Places.{Object, Place, object_of}
+use Rattle.meaning.specs.expr_rules.specs.ExpressionRules.{target_faults}
 use Rattle.meaning.specs.Works.{Part, Element, Field, Target, Store, Activation}
 use Rattle.meaning.specs.Targets.{activation_with, objects_of, part_value, store_with, target, target_value, with_part}
 use Rattle.expr_soundness.specs.SoundScopes.{IsKnown, SoundScope}

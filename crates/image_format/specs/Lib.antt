@@ -1,2 +1,3 @@
+pub use Rattle.base as base
 pub mod Bytes
 pub mod Listing

@@ -1,3 +1,5 @@
+pub use Rattle.handlers as handlers
+pub use Rattle.kernel as kernel
 pub mod Laws
 pub mod Linked
 pub mod Shape

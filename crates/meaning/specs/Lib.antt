@@ -1,3 +1,11 @@
+pub use Rattle.ada_tree as ada_tree
+pub use Rattle.base as base
+pub use Rattle.declaring as declaring
+pub use Rattle.expr_rules as expr_rules
+pub use Rattle.handlers as handlers
+pub use Rattle.kernel as kernel
+pub use Rattle.type_rules as type_rules
+pub use Rattle.types as types
 pub mod Same
 pub mod Following
 pub mod Meeting

@@ -9,21 +9,21 @@ use Rattle.ada_tree.specs.StatementTree.{DeclarationTree, MoreStmts, NoStmts, Re
 use Rattle.ada_tree.specs.ProgramTree.{BodyItemTree, BodyTree, ProgramTree, SubprogramBody}
 use Rattle.types.specs.declared.entity.Subtype.{Subtype}
 use Rattle.types.specs.Scopes.{Named, Scope, with_name}
-use Rattle.expr_rules.specs.declared.own.Wanted.TheVariants.{OfType}
-use Rattle.expr_rules.specs.ExpressionRules.{faults_of}
-use Rattle.expr_rules.proofs.TypedLaw.{back_empty, front_empty, judged, unbroken}
+use Rattle.expr_soundness.specs.expr_rules.specs.declared.own.Wanted.TheVariants.{OfType}
+use Rattle.expr_soundness.specs.expr_rules.specs.ExpressionRules.{faults_of}
+use Rattle.expr_soundness.specs.expr_rules.proofs.TypedLaw.{back_empty, front_empty, judged, unbroken}
 use Rattle.type_rules.specs.ProfileRules.{formals_faults, profile_faults, result_faults}
 use Rattle.type_rules.specs.SubtypeNames.{subtype_of}
 use Rattle.declaring.specs.BodyNames.{formals_scope}
 use Rattle.declaring.specs.LocalRules.{locals_faults, locals_scope}
-use Rattle.stmt_rules.specs.declared.around.Around.{Around}
-use Rattle.stmt_rules.specs.declared.around.BodyKind.TheVariants as kind
-use Rattle.stmt_rules.specs.SimpleRules.{result_wanted}
-use Rattle.stmt_rules.specs.StatementRules.{handlers_faults, in_body, stmts_faults}
+use Rattle.program_soundness.specs.stmt_rules.specs.declared.around.Around.{Around}
+use Rattle.program_soundness.specs.stmt_rules.specs.declared.around.BodyKind.TheVariants as kind
+use Rattle.program_soundness.specs.stmt_rules.specs.SimpleRules.{result_wanted}
+use Rattle.program_soundness.specs.stmt_rules.specs.StatementRules.{handlers_faults, in_body, stmts_faults}
 use Rattle.legality.specs.BodyRules.{body_faults, function_body_faults, has_no_declarations, head_faults, is_function_body, kind_of, type_number}
-use Rattle.checking.specs.ProgramRules.{IsLegal}
+use Rattle.program_soundness.specs.checking.specs.ProgramRules.{IsLegal}
 use Rattle.ravenscar.specs.ProgramRules.{IsRestricted}
-use Rattle.meaning.specs.Programs.{Parameter, Program, parameter, program_of, returned, subtype_named}
+use Rattle.expr_soundness.specs.meaning.specs.Programs.{Parameter, Program, parameter, program_of, returned, subtype_named}
 use Rattle.expr_soundness.specs.Laws.{ScopesAreSound}
 use Rattle.expr_soundness.specs.SoundScopes.{SoundScope}
 use Rattle.expr_soundness.proofs.Positions.{same_some}

@@ -10,7 +10,7 @@ use Rattle.type_rules.specs.ProfileRules.{subprogram_scope}
 use Rattle.declaring.specs.ItemRules.{item_scope}
 use Rattle.declaring.specs.ProtectedRules.{protected_count}
 use Rattle.legality.specs.MainRules.{item_name}
-use Rattle.meaning.specs.Programs.{program_of}
+use Rattle.expr_soundness.specs.meaning.specs.Programs.{program_of}
 use Rattle.program_soundness.specs.Fronts.{declared_in, front, start_in}
 use Rattle.program_soundness.proofs.Walked.{item_entity, own_profile, scope_next}
 use Rattle.type_rules.specs.ProfileRules.{profile_entity}
@@ -19,11 +19,11 @@ use Rattle.expr_code.specs.Seeing.{told_of}
 use Rattle.expr_code.specs.declared.refusal.Refusal.{Refusal}
 use Rattle.expr_code.specs.declared.refusal.Refusal.TheVariants as refusal
 use Rattle.expr_code.specs.declared.visible.Visible.{Visible}
-use Rattle.part_code.specs.Bounds.{main_bound, procedure_bound}
-use Rattle.part_code.specs.Emitting.{HasEntries}
-use Rattle.part_code.specs.Needs.{HasManyLabels, IsNeeding, Needs, beyond_if}
+use Rattle.step_simulation.specs.part_code.specs.Bounds.{main_bound, procedure_bound}
+use Rattle.step_simulation.specs.part_code.specs.Emitting.{HasEntries}
+use Rattle.step_simulation.specs.part_code.specs.Needs.{HasManyLabels, IsNeeding, Needs, beyond_if}
 use Rattle.stmt_code.specs.declared.draft.Draft.{Draft}
-use Rattle.part_code.proofs.Within.{Within, needing_refused, of_right}
+use Rattle.step_simulation.specs.part_code.proofs.Within.{Within, needing_refused, of_right}
 use Rattle.package_code.specs.Counts.{bounds_from}
 use Rattle.package_code.specs.Directory.{IsDirectory, HasEntriesSoFar, TellsNext}
 use Rattle.package_code.specs.Refusing.{RefusesCode, item_needs, items_labels, items_needs, items_rows, number_in, program_bound, program_labels, program_needs, seen_at, subprogram_labels, subprogram_needs, subprogram_rows}

@@ -15,17 +15,17 @@ use Rattle.types.specs.Values.{Value}
 use Rattle.declaring.specs.BodyNames.{formal_role}
 use Rattle.expr_soundness.specs.Laws.{AgreementIsKept, ScopesAreSound}
 use Rattle.expr_soundness.specs.SoundScopes.{IsKnown, SoundScope}
-use Rattle.meaning.specs.Calls.{is_out}
-use Rattle.meaning.specs.Programs.{Parameter, Program}
-use Rattle.step_soundness.specs.Objects.{IsOf}
+use Rattle.expr_soundness.specs.meaning.specs.Calls.{is_out}
+use Rattle.expr_soundness.specs.meaning.specs.Programs.{Parameter, Program}
+use Rattle.program_soundness.specs.step_soundness.specs.Objects.{IsOf}
 use Rattle.program_soundness.proofs.WiderScopes.{form_with}
 use Rattle.program_soundness.proofs.Formals.{AreNew, named_formal}
 use Rattle.expr_code.specs.Seeing.{Package}
 use Rattle.expr_code.specs.declared.visible.Slot.{Slot}
-use Rattle.part_code.specs.Layout.{IsLaidOut, Spares, Widens}
-use Rattle.part_code.specs.Resting.{Framed, NarrowsFrame}
+use Rattle.step_simulation.specs.part_code.specs.Layout.{IsLaidOut, Spares, Widens}
+use Rattle.step_simulation.specs.part_code.specs.Resting.{Framed, NarrowsFrame}
 use Rattle.stmt_code.proofs.Narrowing.{narrows_wider}
-use Rattle.part_code.specs.Formals.{AddsEach, AddsParameter, AreInTurn, Placed, addresses_from, outs_end, parameter_at, passed_end}
+use Rattle.step_simulation.specs.part_code.specs.Formals.{AddsEach, AddsParameter, AreInTurn, Placed, addresses_from, outs_end, parameter_at, passed_end}
 use Rattle.package_code.specs.Package.{HoldsAll, HoldsOne}
 use Rattle.package_code.proofs.Building.{outs_of, taken_of}
 use Rattle.package_code.proofs.HeldParameters.{Reached, none_among, value_begun, value_reached, value_spares}

@@ -7,18 +7,18 @@ use Rattle.ada_tree.specs.declared.statement.Stmt.{Stmt}
 use Rattle.ada_tree.specs.StatementTree.{MoreStmts, Return, StmtTree, StmtTrees, SubprogramTree, stmt_tree, stmt_trees}
 use Rattle.ada_tree.specs.ProgramTree.{BodyTree, ProgramTree}
 use Rattle.types.specs.declared.entity.Subtype.{Subtype}
-use Rattle.meaning.specs.Programs.{program_of, returned, subtype_named}
+use Rattle.expr_soundness.specs.meaning.specs.Programs.{program_of, returned, subtype_named}
 use Rattle.expr_code.specs.Code.{here}
 use Rattle.expr_code.specs.Refusing.{IsRefused}
 use Rattle.expr_code.specs.declared.refusal.Refusal.{Refusal}
 use Rattle.expr_code.specs.declared.refusal.Refusal.TheVariants as refusal
 use Rattle.expr_code.specs.declared.visible.Visible.{Visible}
-use Rattle.part_code.specs.Bounds.{function_bound, procedure_bound}
-use Rattle.part_code.specs.Needs.{HasManyLabels, IsNeeding, Needs}
-use Rattle.part_code.specs.Rows.{body_rows}
+use Rattle.step_simulation.specs.part_code.specs.Bounds.{function_bound, procedure_bound}
+use Rattle.step_simulation.specs.part_code.specs.Needs.{HasManyLabels, IsNeeding, Needs}
+use Rattle.step_simulation.specs.part_code.specs.Rows.{body_rows}
 use Rattle.stmt_code.specs.WholeRefusals.{RefusesFunction, RefusesProcedure, body_labels, procedure_needs}
 use Rattle.stmt_code.specs.declared.draft.Draft.{Draft}
-use Rattle.part_code.proofs.Within.{needing_refused, within_self}
+use Rattle.step_simulation.specs.part_code.proofs.Within.{needing_refused, within_self}
 use Rattle.package_code.specs.Refusing.{function_if_any}
 use Rattle.package_code.specs.Walking.{AddsAsTold, RefusesBody}
 use Rattle.package_code.proofs.Counted.{function_within}

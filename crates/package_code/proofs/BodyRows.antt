@@ -1,10 +1,10 @@
 -- The rows of handlers of one body among those of an image: others take nothing in its code.
 use Rattle.std.proofs.Common.{◌≡◌, ℕ, ◌≤◌, List, [], ◌++◌, Option, Some, None, refl, ap, ◌∙◌, arith}
 use Rattle.std.specs.List.{All}
-use Rattle.handlers.specs.declared.rows.Row.{Row}
-use Rattle.handlers.specs.Innermost.{handler_of}
+use Rattle.image_laws.specs.handlers.specs.declared.rows.Row.{Row}
+use Rattle.image_laws.specs.handlers.specs.Innermost.{handler_of}
 use Rattle.image.specs.Sections.{Sections}
-use Rattle.part_code.specs.Handling.{GoesBy, GoesByRows, or_answer, unhandled}
+use Rattle.step_simulation.specs.part_code.specs.Handling.{GoesBy, GoesByRows, or_answer, unhandled}
 use Rattle.stmt_code.proofs.AddedRows.{rows_first, rows_none, rows_second}
 use Rattle.package_code.specs.Walking.{LieInFront}
 

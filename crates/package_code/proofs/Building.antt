@@ -4,12 +4,12 @@ use Rattle.std.specs.Prelude.{bytes_eq, if◌then◌else◌, ⊤}
 use Rattle.types.specs.Places.{or_else}
 use Rattle.types.specs.Scopes.{Scope, with_name}
 use Rattle.expr_soundness.specs.SoundScopes.{IsKnown}
-use Rattle.meaning.specs.Calls.{is_out}
+use Rattle.expr_soundness.specs.meaning.specs.Calls.{is_out}
 use Rattle.program_soundness.proofs.WiderScopes.{bytes_same, found_in, same_bytes, stands}
 use Rattle.program_soundness.proofs.Formals.{AreNew, all_named, named_formal}
 use Rattle.program_soundness.proofs.Listing.{Has, has_back, has_either, has_front}
-use Rattle.part_code.specs.Resting.{Framed}
-use Rattle.part_code.specs.Formals.{AddsEach, AddsParameter, Placed, parameter_at}
+use Rattle.step_simulation.specs.part_code.specs.Resting.{Framed}
+use Rattle.step_simulation.specs.part_code.specs.Formals.{AddsEach, AddsParameter, Placed, parameter_at}
 use Rattle.package_code.proofs.Reordered.{slot_at}
 
 -- ---- those that are copied in, and the others

@@ -5,7 +5,7 @@ use Rattle.ada_tree.specs.declared.expression.Identifier.{Identifier}
 use Rattle.ada_tree.specs.ExpressionTree.{ExprTree}
 use Rattle.ada_tree.specs.StatementTree.{SubprogramTree}
 use Rattle.ada_tree.specs.ProgramTree.{BodyTree, ProgramTree, SubprogramBody}
-use Rattle.handlers.specs.Innermost.{handler_of}
+use Rattle.image_laws.specs.handlers.specs.Innermost.{handler_of}
 use Rattle.image.specs.Operations.{called}
 use Rattle.image.specs.Rules.{IsWellFormed}
 use Rattle.image.specs.Sections.{Sections, first_place}
@@ -17,19 +17,19 @@ use Rattle.types.specs.Evaluating.{Calls, passed, value_with}
 use Rattle.types.specs.Places.{Function, Place}
 use Rattle.types.specs.Shapes.{value_words}
 use Rattle.types.specs.Values.{Value}
-use Rattle.checking.specs.ProgramRules.{IsLegal}
+use Rattle.program_soundness.specs.checking.specs.ProgramRules.{IsLegal}
 use Rattle.ravenscar.specs.ProgramRules.{IsRestricted}
-use Rattle.meaning.specs.Calls.{results}
-use Rattle.meaning.specs.Programs.{Parameter, Procedure, Program, parameter, program_of}
+use Rattle.expr_soundness.specs.meaning.specs.Calls.{results}
+use Rattle.expr_soundness.specs.meaning.specs.Programs.{Parameter, Procedure, Program, parameter, program_of}
 use Rattle.program_soundness.specs.Fronts.{declared_in}
 use Rattle.program_soundness.proofs.Callables.{function_by, procedure_by, subprogram_body}
 use Rattle.expr_code.specs.Computing.{ComputesChecked, IsFunctionCode}
 use Rattle.expr_code.specs.Seeing.{Package, Sees, library_of}
 use Rattle.expr_code.specs.Views.{At, View}
-use Rattle.part_code.specs.Copying.{GivesBack, left_out}
-use Rattle.part_code.specs.Resting.{Framed}
-use Rattle.part_code.specs.Statements.{AreParametersDeclared, IsProcedureCode, IsRun, Numbers}
-use Rattle.part_code.specs.Formals.{Placed, passed_end}
+use Rattle.step_simulation.specs.part_code.specs.Copying.{GivesBack, left_out}
+use Rattle.step_simulation.specs.part_code.specs.Resting.{Framed}
+use Rattle.step_simulation.specs.part_code.specs.Statements.{AreParametersDeclared, IsProcedureCode, IsRun, Numbers}
+use Rattle.step_simulation.specs.part_code.specs.Formals.{Placed, passed_end}
 use Rattle.package_code.specs.Package.{HoldsAll, IsInFront, IsPackageOf}
 use Rattle.package_code.proofs.Entered.{function_code, function_takes, procedure_code, procedure_takes}
 use Rattle.package_code.proofs.InFront.{LawsOfNames, few_locals}

@@ -3,17 +3,17 @@ use Rattle.std.proofs.Common.{◌≡◌, ◌≤◌, ℕ, List, ◌++◌, length,
 use Rattle.std.specs.Prelude.{slice_get}
 use Rattle.std.proofs.lemmas.List.{length-append}
 use Rattle.base.specs.Names.{predefined}
-use Rattle.kernel.specs.Laws.{QuietStays}
+use Rattle.image_laws.specs.kernel.specs.Laws.{QuietStays}
 use Rattle.ada_tree.specs.declared.expression.Identifier.{Identifier}
 use Rattle.ada_tree.specs.ExpressionTree.{ExprTree}
 use Rattle.ada_tree.specs.StatementTree.{SubprogramTree}
 use Rattle.ada_tree.specs.ProgramTree.{BodyItemTree, BodyTree, EntryBody, OperationBody, ProgramTree, ProtectedItemTree, SubprogramBody}
 use Rattle.image.specs.Sections.{Sections}
 use Rattle.types.specs.Places.{Function, function_of, is_of, or_else}
-use Rattle.checking.specs.ProgramRules.{IsLegal}
+use Rattle.program_soundness.specs.checking.specs.ProgramRules.{IsLegal}
 use Rattle.ravenscar.specs.ProgramRules.{IsRestricted}
-use Rattle.meaning.specs.Calls.{procedure_among}
-use Rattle.meaning.specs.Programs.{Procedure, Program, exceptions_among, object_numbered, package_items, program_of, returned}
+use Rattle.expr_soundness.specs.meaning.specs.Calls.{procedure_among}
+use Rattle.expr_soundness.specs.meaning.specs.Programs.{Procedure, Program, exceptions_among, object_numbered, package_items, program_of, returned}
 use Rattle.program_soundness.specs.Fronts.{declared_in, start_in}
 use Rattle.program_soundness.proofs.Callables.{Bodied, InObject, InPackage, bodies_among, body_place, found_function, found_procedure, function_by, functions_are, operation_body, procedure_by, procedures_are, subprogram_body}
 use Rattle.program_soundness.proofs.Listing.{Has}
@@ -23,7 +23,7 @@ use Rattle.expr_code.specs.Computing.{IsFunctionCode}
 use Rattle.expr_code.specs.Seeing.{IsCoded, Package, library_of}
 use Rattle.expr_code.proofs.Calling.{functions_answer}
 use Rattle.step_simulation.specs.Laws.{HasCode}
-use Rattle.part_code.specs.Statements.{HasProcedures, IsProcedureCode, Numbers}
+use Rattle.step_simulation.specs.part_code.specs.Statements.{HasProcedures, IsProcedureCode, Numbers}
 use Rattle.package_code.specs.Package.{IsPackageOf}
 use Rattle.package_code.proofs.InFront.{LawsOfNames, known, whole}
 

@@ -13,14 +13,14 @@ use Rattle.types.specs.Scopes.{Scope}
 use Rattle.image.specs.Operations.{called}
 use Rattle.image.specs.Sections.{Sections, end_of, first_place}
 use Rattle.image.specs.declared.subprograms.Subprogram.{Subprogram}
-use Rattle.meaning.specs.Programs.{returned}
+use Rattle.expr_soundness.specs.meaning.specs.Programs.{returned}
 use Rattle.program_soundness.specs.Fronts.{declared_in, front}
 use Rattle.program_soundness.proofs.Listing.{front_at, same_some}
 use Rattle.expr_code.specs.Code.{here}
 use Rattle.expr_code.specs.Coming.{size_of}
 use Rattle.expr_code.specs.declared.visible.Visible.{Visible}
 use Rattle.expr_code.proofs.Growing.{get_last}
-use Rattle.part_code.specs.Bounds.{function_bound, main_bound, procedure_bound}
+use Rattle.step_simulation.specs.part_code.specs.Bounds.{function_bound, main_bound, procedure_bound}
 use Rattle.stmt_code.specs.Subprograms.{AddsProcedure}
 use Rattle.stmt_code.specs.declared.draft.Draft.{Draft}
 use Rattle.stmt_code.specs.declared.subprogram.SubprogramWords.{SubprogramWords}

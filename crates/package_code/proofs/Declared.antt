@@ -11,8 +11,8 @@ use Rattle.ada_tree.specs.ProgramTree.{BodyItemTree, ItemTree, OfItem, body_item
 use Rattle.types.specs.Scopes.{Scope}
 use Rattle.expr_soundness.proofs.Positions.{item_kept, same_some}
 use Rattle.program_soundness.specs.Fronts.{declared_in}
-use Rattle.meaning.specs.Programs.{items_among}
-use Rattle.part_code.proofs.Lists.{mapped_next}
+use Rattle.expr_soundness.specs.meaning.specs.Programs.{items_among}
+use Rattle.step_simulation.specs.part_code.proofs.Lists.{mapped_next}
 use Rattle.package_code.specs.Globals.{AddsItems, AreGlobals}
 use Rattle.package_code.specs.Walking.{StandFrom}
 use Rattle.package_code.specs.declared.globals.Globals.{Globals}

@@ -1,7 +1,7 @@
 -- Bodies whose code methods have added are those of a program's procedures and functions, in each image that holds the code.
 use Rattle.std.proofs.Common.{◌≡◌, ℕ, ℤ, suc, ◌≤◌, List, [], ◌∷◌, map, Some, None, refl, sym, ap, ◌∙◌, subst, arith}
 use Rattle.std.specs.Prelude.{slice_get}
-use Rattle.kernel.specs.Laws.{QuietStays}
+use Rattle.image_laws.specs.kernel.specs.Laws.{QuietStays}
 use Rattle.ada_tree.specs.StatementTree.{SubprogramTree}
 use Rattle.ada_tree.specs.ProgramTree.{BodyTree, ProgramTree, SubprogramBody}
 use Rattle.image.specs.Operations.{called, results_of}
@@ -13,11 +13,11 @@ use Rattle.types.specs.Laws.{InitialValuesHaveShape}
 use Rattle.types.specs.Layouts.{words_of}
 use Rattle.types.specs.Scopes.{Scope, form_at}
 use Rattle.types.specs.Shapes.{initial, initial_of, shape_of, value_words}
-use Rattle.checking.specs.ProgramRules.{IsLegal}
+use Rattle.program_soundness.specs.checking.specs.ProgramRules.{IsLegal}
 use Rattle.ravenscar.specs.ProgramRules.{IsRestricted}
 use Rattle.expr_soundness.specs.SoundScopes.{IsKnown}
-use Rattle.meaning.specs.Calls.{procedure_here, results}
-use Rattle.meaning.specs.Programs.{Procedure, Program, parameter, program_of}
+use Rattle.expr_soundness.specs.meaning.specs.Calls.{procedure_here, results}
+use Rattle.expr_soundness.specs.meaning.specs.Programs.{Procedure, Program, parameter, program_of}
 use Rattle.program_soundness.specs.Fronts.{declared_in}
 use Rattle.program_soundness.proofs.Callables.{procedure_by, subprogram_body}
 use Rattle.program_soundness.proofs.Formals.{AreNew}
@@ -25,20 +25,20 @@ use Rattle.expr_code.specs.Code.{Extends, Holds, here}
 use Rattle.expr_code.specs.Seeing.{Package}
 use Rattle.expr_code.specs.declared.visible.Visible.{Visible}
 use Rattle.expr_code.proofs.Growing.{holds_before, holds_later}
-use Rattle.part_code.specs.Copying.{GivesBack, left_out}
+use Rattle.step_simulation.specs.part_code.specs.Copying.{GivesBack, left_out}
 use Rattle.stmt_code.specs.Emitting.{HasLabels, IsHandled, Serves}
-use Rattle.part_code.specs.Emitting.{first_word}
-use Rattle.part_code.specs.Layout.{EndsBelow}
-use Rattle.part_code.specs.Formals.{AddsEach, AreReturned, Placed, outs_end, passed_end, words_returned}
-use Rattle.part_code.specs.Resting.{Framed}
-use Rattle.part_code.specs.Handling.{unhandled}
-use Rattle.part_code.specs.Statements.{AreParametersDeclared, IsProcedureCode, Numbers}
+use Rattle.step_simulation.specs.part_code.specs.Emitting.{first_word}
+use Rattle.step_simulation.specs.part_code.specs.Layout.{EndsBelow}
+use Rattle.step_simulation.specs.part_code.specs.Formals.{AddsEach, AreReturned, Placed, outs_end, passed_end, words_returned}
+use Rattle.step_simulation.specs.part_code.specs.Resting.{Framed}
+use Rattle.step_simulation.specs.part_code.specs.Handling.{unhandled}
+use Rattle.step_simulation.specs.part_code.specs.Statements.{AreParametersDeclared, IsProcedureCode, Numbers}
 use Rattle.stmt_code.specs.Subprograms.{AddsProcedure, fresh}
 use Rattle.stmt_code.specs.declared.draft.Draft.{Draft}
-use Rattle.part_code.specs.declared.formals.PlacedFormal.{PlacedFormal}
+use Rattle.step_simulation.specs.part_code.specs.declared.formals.PlacedFormal.{PlacedFormal}
 use Rattle.stmt_code.specs.declared.subprogram.SubprogramWords.{SubprogramWords}
 use Rattle.stmt_code.proofs.GivingBack.{AreGiven, gives_back}
-use Rattle.part_code.proofs.Initials.{shape_there}
+use Rattle.step_simulation.specs.part_code.proofs.Initials.{shape_there}
 use Rattle.package_code.specs.Package.{IsInFront, IsPackageOf}
 use Rattle.package_code.proofs.BodyFrames.{HasWidths}
 use Rattle.package_code.proofs.CodedBodies.{DoesBody, procedure_coded}

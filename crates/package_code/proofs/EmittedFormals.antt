@@ -7,12 +7,12 @@ use Rattle.ada_tree.specs.declared.declaration.Mode.TheVariants as mode
 use Rattle.types.specs.Layouts.{words_of}
 use Rattle.types.specs.Scopes.{Scope}
 use Rattle.type_rules.specs.SubtypeNames.{subtype_of}
-use Rattle.meaning.specs.Calls.{is_out}
-use Rattle.meaning.specs.Programs.{parameter, subtype_named}
+use Rattle.expr_soundness.specs.meaning.specs.Calls.{is_out}
+use Rattle.expr_soundness.specs.meaning.specs.Programs.{parameter, subtype_named}
 use Rattle.program_soundness.proofs.Listing.{Has}
 use Rattle.expr_soundness.proofs.Positions.{same_some}
-use Rattle.part_code.specs.Formals.{AreInTurn, Placed, StandInTurn, StandsAt, addresses_from, outs_end, parameter_at, passed_end}
-use Rattle.part_code.specs.declared.formals.PlacedFormal.{PlacedFormal}
+use Rattle.step_simulation.specs.part_code.specs.Formals.{AreInTurn, Placed, StandInTurn, StandsAt, addresses_from, outs_end, parameter_at, passed_end}
+use Rattle.step_simulation.specs.part_code.specs.declared.formals.PlacedFormal.{PlacedFormal}
 
 -- the parameters, each with the word where its value begins
 abbrev pub placed_in : (program : Scope) → List Formal → List PlacedFormal → List Placed

@@ -17,13 +17,13 @@ use Rattle.types.specs.Shapes.{initial, shape_of, value_words}
 use Rattle.types.specs.Statics.{static_place}
 use Rattle.type_rules.specs.SubtypeNames.{subtype_of}
 use Rattle.declaring.specs.BodyNames.{formal_role, formals_scope}
-use Rattle.checking.specs.ProgramRules.{IsLegal}
+use Rattle.program_soundness.specs.checking.specs.ProgramRules.{IsLegal}
 use Rattle.ravenscar.specs.ProgramRules.{IsRestricted}
 use Rattle.expr_soundness.specs.Agreeing.{Agrees}
 use Rattle.expr_soundness.specs.Laws.{AgreementIsKept}
 use Rattle.expr_soundness.specs.SoundScopes.{IsKnown, IsSoundObject}
-use Rattle.meaning.specs.Programs.{Program, parameter, program_of, subtype_named}
-use Rattle.step_soundness.specs.Objects.{first_store}
+use Rattle.expr_soundness.specs.meaning.specs.Programs.{Program, parameter, program_of, subtype_named}
+use Rattle.program_soundness.specs.step_soundness.specs.Objects.{first_store}
 use Rattle.program_soundness.specs.Fronts.{declared_in, front, start_in}
 use Rattle.program_soundness.proofs.Beginning.{keeps_same}
 use Rattle.program_soundness.proofs.WiderScopes.{none_unseen, number_stands, stands}
@@ -31,14 +31,14 @@ use Rattle.program_soundness.proofs.Formals.{AreNew}
 use Rattle.program_soundness.proofs.Listing.{Has}
 use Rattle.expr_code.specs.Seeing.{Package, slot_of}
 use Rattle.expr_code.specs.declared.visible.Visible.{Visible}
-use Rattle.part_code.specs.Emitting.{first_word}
-use Rattle.part_code.specs.Formals.{AddsEach, AreInTurn, Placed, PlacesFormals, StandInTurn, addresses_from, outs_end, parameter_at, passed_end}
-use Rattle.part_code.specs.Resting.{Framed}
-use Rattle.part_code.specs.declared.formals.PlacedFormal.{PlacedFormal}
-use Rattle.part_code.specs.declared.formals.PlacedFormals.{PlacedFormals}
-use Rattle.part_code.specs.declared.frame_words.FrameWords.{FrameWords}
-use Rattle.step_soundness.specs.Holding.{inside}
-use Rattle.part_code.proofs.Initials.{form_there, initial_word}
+use Rattle.step_simulation.specs.part_code.specs.Emitting.{first_word}
+use Rattle.step_simulation.specs.part_code.specs.Formals.{AddsEach, AreInTurn, Placed, PlacesFormals, StandInTurn, addresses_from, outs_end, parameter_at, passed_end}
+use Rattle.step_simulation.specs.part_code.specs.Resting.{Framed}
+use Rattle.step_simulation.specs.part_code.specs.declared.formals.PlacedFormal.{PlacedFormal}
+use Rattle.step_simulation.specs.part_code.specs.declared.formals.PlacedFormals.{PlacedFormals}
+use Rattle.step_simulation.specs.part_code.specs.declared.frame_words.FrameWords.{FrameWords}
+use Rattle.program_soundness.specs.step_soundness.specs.Holding.{inside}
+use Rattle.step_simulation.specs.part_code.proofs.Initials.{form_there, initial_word}
 use Rattle.package_code.specs.Package.{FindsNames, IsInFront}
 use Rattle.package_code.proofs.Building.{add_each}
 use Rattle.package_code.proofs.EmittedFormals.{AreTold, addresses_of, addresses_placed, end_placed, outs_placed, placed_in, same_subtype, texts_placed, turn_placed}

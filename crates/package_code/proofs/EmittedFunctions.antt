@@ -18,10 +18,10 @@ use Rattle.types.specs.Laws.{InitialValuesHaveShape}
 use Rattle.types.specs.Places.{Function, Place}
 use Rattle.types.specs.Shapes.{shape_of, value_words}
 use Rattle.types.specs.Values.{Value}
-use Rattle.checking.specs.ProgramRules.{IsLegal}
+use Rattle.program_soundness.specs.checking.specs.ProgramRules.{IsLegal}
 use Rattle.ravenscar.specs.ProgramRules.{IsRestricted}
 use Rattle.expr_soundness.specs.Agreeing.{Agrees}
-use Rattle.meaning.specs.Programs.{Program, parameter, program_of, subtype_named}
+use Rattle.expr_soundness.specs.meaning.specs.Programs.{Program, parameter, program_of, subtype_named}
 use Rattle.program_soundness.specs.Fronts.{declared_in, start_in}
 use Rattle.program_soundness.proofs.Callables.{function_by, subprogram_body}
 use Rattle.expr_code.specs.Code.{Extends, Holds, here}
@@ -30,14 +30,14 @@ use Rattle.expr_code.specs.Seeing.{Package, Sees, library_of}
 use Rattle.expr_code.specs.Views.{View}
 use Rattle.expr_code.specs.declared.visible.Visible.{Visible}
 use Rattle.expr_code.proofs.Growing.{added_at, added_extends, added_here, holds_before}
-use Rattle.part_code.specs.Formals.{AddsEach, Placed, passed_end}
-use Rattle.part_code.specs.Handling.{GoesBy, unhandled}
-use Rattle.part_code.specs.Resting.{Framed}
-use Rattle.part_code.specs.Statements.{Numbers}
+use Rattle.step_simulation.specs.part_code.specs.Formals.{AddsEach, Placed, passed_end}
+use Rattle.step_simulation.specs.part_code.specs.Handling.{GoesBy, unhandled}
+use Rattle.step_simulation.specs.part_code.specs.Resting.{Framed}
+use Rattle.step_simulation.specs.part_code.specs.Statements.{Numbers}
 use Rattle.stmt_code.specs.Subprograms.{AddsFunction}
 use Rattle.stmt_code.specs.declared.draft.Draft.{Draft}
 use Rattle.stmt_code.specs.declared.subprogram.SubprogramWords.{SubprogramWords}
-use Rattle.part_code.proofs.StoringCode.{passed_same}
+use Rattle.step_simulation.specs.part_code.proofs.StoringCode.{passed_same}
 use Rattle.package_code.specs.Package.{HoldsAll, IsInFront, IsPackageOf}
 use Rattle.package_code.proofs.CodedBodies.{DoesFunction, function_coded}
 use Rattle.package_code.proofs.EmittedFrames.{IsPlaced, behind, ends_at, in_front_of, middle, names_are, parameters, reserved, texts, turn}

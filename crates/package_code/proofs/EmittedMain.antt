@@ -4,16 +4,16 @@ use Rattle.ada_tree.specs.declared.program.MainStatement.{MainStatement}
 use Rattle.ada_tree.specs.declared.program.MainStatement.TheVariants as main
 use Rattle.image.specs.Sections.{Sections, first_place}
 use Rattle.image.specs.declared.instruction.Operation.TheVariants as op
-use Rattle.meaning.specs.Calls.{procedure_here}
-use Rattle.meaning.specs.Programs.{Procedure, Program}
+use Rattle.expr_soundness.specs.meaning.specs.Calls.{procedure_here}
+use Rattle.expr_soundness.specs.meaning.specs.Programs.{Procedure, Program}
 use Rattle.expr_code.specs.Code.{Holds, here}
 use Rattle.expr_code.specs.Seeing.{Package, subprogram_of}
 use Rattle.expr_code.specs.Views.{At}
 use Rattle.expr_code.specs.declared.visible.Visible.{Visible}
 use Rattle.expr_code.proofs.Growing.{added_at, added_extends, added_here, holds_before}
-use Rattle.part_code.specs.Statements.{Numbers}
+use Rattle.step_simulation.specs.part_code.specs.Statements.{Numbers}
 use Rattle.stmt_code.specs.Subprograms.{AddsMain}
-use Rattle.part_code.specs.MainCalls.{AreCalls}
+use Rattle.step_simulation.specs.part_code.specs.MainCalls.{AreCalls}
 use Rattle.stmt_code.specs.declared.draft.Draft.{Draft}
 use Rattle.stmt_code.specs.declared.subprogram.SubprogramWords.{SubprogramWords}
 use Rattle.package_code.specs.Linked.{AreMain}

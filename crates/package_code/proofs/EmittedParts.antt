@@ -1,7 +1,7 @@
 -- What a method that placed formal parameters, gave first values to some and returned others, did to the parameters of a program.
 use Rattle.std.proofs.Common.{◌≡◌, ℕ, suc, ◌+◌, ◌<◌, ◌≤◌, ◌⊎◌, ℤ, List, [], ◌∷◌, ◌++◌, length, map, Bool, true, false, ◌||◌, Option, Some, None, inl, inr, refl, sym, ap, ◌∙◌, subst, arith, rules}
 use Rattle.std.specs.Prelude.{if◌then◌else◌, nat_eq, pos}
-use Rattle.kernel.specs.Laws.{QuietStays}
+use Rattle.image_laws.specs.kernel.specs.Laws.{QuietStays}
 use Rattle.ada_tree.specs.declared.declaration.Formal.{Formal}
 use Rattle.ada_tree.specs.declared.declaration.Mode.{Mode}
 use Rattle.ada_tree.specs.declared.declaration.Mode.TheVariants as mode
@@ -20,22 +20,22 @@ use Rattle.expr_soundness.proofs.Positions.{same_some}
 use Rattle.expr_soundness.specs.Laws.{AgreementIsKept}
 use Rattle.expr_soundness.specs.SoundScopes.{IsKnown}
 use Rattle.declaring.specs.BodyNames.{formal_role}
-use Rattle.meaning.specs.Calls.{is_in, is_out, results}
-use Rattle.meaning.specs.Programs.{Parameter, Program, parameter, subtype_named}
+use Rattle.expr_soundness.specs.meaning.specs.Calls.{is_in, is_out, results}
+use Rattle.expr_soundness.specs.meaning.specs.Programs.{Parameter, Program, parameter, subtype_named}
 use Rattle.program_soundness.proofs.Formals.{AreNew}
 use Rattle.program_soundness.proofs.Listing.{Has}
 use Rattle.expr_code.specs.Seeing.{Package, slot_of}
 use Rattle.expr_code.specs.Views.{At}
-use Rattle.part_code.specs.Emitting.{first_word}
-use Rattle.part_code.specs.Formals.{AddsEach, AreInitial, AreReturned, InitialThen, IsLoadingCode, Placed, ReturnedThen, StandInTurn, StandsAt, StoresFirstWord, StoresFirstWords, no_subprogram, parameter_at, returned_more, slot_for, words_returned}
-use Rattle.part_code.specs.Layout.{NamesObject}
-use Rattle.part_code.specs.Resting.{Framed}
-use Rattle.part_code.specs.Statements.{AreParametersDeclared, IsParameterDeclared, Numbers}
-use Rattle.part_code.specs.Storing.{ArePushed}
-use Rattle.part_code.specs.declared.formals.PlacedFormal.{PlacedFormal}
+use Rattle.step_simulation.specs.part_code.specs.Emitting.{first_word}
+use Rattle.step_simulation.specs.part_code.specs.Formals.{AddsEach, AreInitial, AreReturned, InitialThen, IsLoadingCode, Placed, ReturnedThen, StandInTurn, StandsAt, StoresFirstWord, StoresFirstWords, no_subprogram, parameter_at, returned_more, slot_for, words_returned}
+use Rattle.step_simulation.specs.part_code.specs.Layout.{NamesObject}
+use Rattle.step_simulation.specs.part_code.specs.Resting.{Framed}
+use Rattle.step_simulation.specs.part_code.specs.Statements.{AreParametersDeclared, IsParameterDeclared, Numbers}
+use Rattle.step_simulation.specs.part_code.specs.Storing.{ArePushed}
+use Rattle.step_simulation.specs.part_code.specs.declared.formals.PlacedFormal.{PlacedFormal}
 use Rattle.stmt_code.proofs.DeclaringParameters.{declares_parameter, declares_parameter_block}
 use Rattle.stmt_code.proofs.GivingBack.{AreGiven, IsGiven, words_back}
-use Rattle.part_code.proofs.Lists.{append_again, append_none}
+use Rattle.step_simulation.specs.part_code.proofs.Lists.{append_again, append_none}
 use Rattle.package_code.proofs.BodyFrames.{BeginsOut, OutsBegin}
 use Rattle.package_code.proofs.Building.{outs_of}
 use Rattle.package_code.proofs.EmittedFormals.{addresses_of, own_address, placed_in}

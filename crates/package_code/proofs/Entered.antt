@@ -21,14 +21,14 @@ use Rattle.types.specs.Places.{Function, Place}
 use Rattle.types.specs.Scopes.{Scope}
 use Rattle.types.specs.Shapes.{has_shape, shape_of, value_words}
 use Rattle.types.specs.Values.{Value}
-use Rattle.expr_rules.specs.Laws.{type_shape}
-use Rattle.checking.specs.ProgramRules.{IsLegal}
+use Rattle.expr_soundness.specs.expr_rules.specs.Laws.{type_shape}
+use Rattle.program_soundness.specs.checking.specs.ProgramRules.{IsLegal}
 use Rattle.ravenscar.specs.ProgramRules.{IsRestricted}
 use Rattle.expr_soundness.proofs.Parts.{subtype_values}
-use Rattle.meaning.specs.Calls.{activation_of, is_in, is_out, results}
-use Rattle.meaning.specs.Programs.{Parameter, Procedure, Program, formal, parameter, program_of}
-use Rattle.step_soundness.specs.Fitting.{taken_types}
-use Rattle.step_soundness.specs.Objects.{AreOf, IsOf}
+use Rattle.expr_soundness.specs.meaning.specs.Calls.{activation_of, is_in, is_out, results}
+use Rattle.expr_soundness.specs.meaning.specs.Programs.{Parameter, Procedure, Program, formal, parameter, program_of}
+use Rattle.program_soundness.specs.step_soundness.specs.Fitting.{taken_types}
+use Rattle.program_soundness.specs.step_soundness.specs.Objects.{AreOf, IsOf}
 use Rattle.program_soundness.specs.Fronts.{declared_in, start_in}
 use Rattle.program_soundness.proofs.Callables.{function_by, procedure_by, subprogram_body}
 use Rattle.program_soundness.proofs.Formals.{AreNew}
@@ -37,9 +37,9 @@ use Rattle.expr_code.specs.Coming.{all_words}
 use Rattle.expr_code.specs.Computing.{ArePassed}
 use Rattle.expr_code.specs.Seeing.{Package, Sees, SeesPackage, library_of}
 use Rattle.expr_code.specs.Views.{View}
-use Rattle.part_code.specs.Copying.{held_at, passed_words, taken}
-use Rattle.part_code.specs.Resting.{Framed, RestsWith}
-use Rattle.part_code.specs.Statements.{parameter_subtype}
+use Rattle.step_simulation.specs.part_code.specs.Copying.{held_at, passed_words, taken}
+use Rattle.step_simulation.specs.part_code.specs.Resting.{Framed, RestsWith}
+use Rattle.step_simulation.specs.part_code.specs.Statements.{parameter_subtype}
 use Rattle.stmt_code.proofs.Beginning.{Enters, EntersOne}
 use Rattle.stmt_code.proofs.Bodies.{body_rests}
 use Rattle.stmt_code.proofs.Functions.{EntersFormals, function_sees}

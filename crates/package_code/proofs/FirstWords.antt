@@ -15,15 +15,15 @@ use Rattle.types.specs.Entities as entity
 use Rattle.types.specs.Places.{Function, IsObject, Meaning, Object, Place, function_meaning, function_of, meaning_in_scope, meaning_of, meaning_or, object_meaning, object_of, or_else}
 use Rattle.types.specs.Scopes.{number_of}
 use Rattle.types.specs.Values.{Value}
-use Rattle.checking.specs.ProgramRules.{IsLegal}
+use Rattle.program_soundness.specs.checking.specs.ProgramRules.{IsLegal}
 use Rattle.ravenscar.specs.ProgramRules.{IsRestricted}
 use Rattle.expr_soundness.specs.Agreeing.{Agrees}
 use Rattle.expr_soundness.specs.Answers.{FunctionsAreSound}
 use Rattle.expr_soundness.proofs.Positions.{same_some}
-use Rattle.meaning.specs.Programs.{Program, program_of}
-use Rattle.meaning.specs.Works.{Store}
-use Rattle.step_soundness.specs.Holding.{inside}
-use Rattle.step_soundness.specs.Objects.{first_store}
+use Rattle.expr_soundness.specs.meaning.specs.Programs.{Program, program_of}
+use Rattle.expr_soundness.specs.meaning.specs.Works.{Store}
+use Rattle.program_soundness.specs.step_soundness.specs.Holding.{inside}
+use Rattle.program_soundness.specs.step_soundness.specs.Objects.{first_store}
 use Rattle.program_soundness.specs.Fronts.{declared_in, front, start_in}
 use Rattle.program_soundness.proofs.WiderScopes.{stands, stands_number}
 use Rattle.program_soundness.proofs.Whole.{entity_variable}
@@ -31,7 +31,7 @@ use Rattle.expr_code.specs.Naming.{Lies}
 use Rattle.expr_code.specs.Seeing.{Package, SeesPackage, outside}
 use Rattle.expr_code.specs.Views.{View}
 use Rattle.expr_code.specs.declared.visible.Slot.{Slot}
-use Rattle.part_code.specs.Resting.{IsAt, IsAddressable, StandsFor}
+use Rattle.step_simulation.specs.part_code.specs.Resting.{IsAt, IsAddressable, StandsFor}
 use Rattle.package_code.specs.Package.{IsPackageOf}
 use Rattle.package_code.proofs.InFront.{LawsOfNames, last_is, memory, whole}
 

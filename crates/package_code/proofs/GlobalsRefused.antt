@@ -14,7 +14,7 @@ use Rattle.types.specs.Entities.{Arrays, Records}
 use Rattle.types.specs.Scopes.{Scope, form_at, number_of}
 use Rattle.types.specs.Shapes.{component_shapes, shape_of, shapes, value_words}
 use Rattle.type_rules.specs.SubtypeNames.{subtype_of}
-use Rattle.meaning.specs.Programs.{initial_value, items_among, variables_among}
+use Rattle.expr_soundness.specs.meaning.specs.Programs.{initial_value, items_among, variables_among}
 use Rattle.expr_soundness.proofs.Positions.{found_at, number_place}
 use Rattle.expr_soundness.specs.SoundScopes.{SoundScope}
 use Rattle.expr_code.proofs.Going.{grouped_shape, repeated_shape}
@@ -24,8 +24,8 @@ use Rattle.expr_code.specs.Seeing.{told_of}
 use Rattle.expr_code.specs.declared.refusal.Refusal.{Refusal}
 use Rattle.expr_code.specs.declared.refusal.Refusal.TheVariants as refusal
 use Rattle.expr_code.specs.declared.visible.Slot.{Slot}
-use Rattle.part_code.proofs.Lists.{mapped_next}
-use Rattle.part_code.specs.Needs.{lack_word, lacks_word}
+use Rattle.step_simulation.specs.part_code.proofs.Lists.{mapped_next}
+use Rattle.step_simulation.specs.part_code.specs.Needs.{lack_word, lacks_word}
 use Rattle.package_code.specs.Globals.{AddsItems, RefusesAdding, RefusesGlobals, RefusesVariable, is_unplaced, refuses_item, refuses_items, refuses_variable}
 use Rattle.package_code.specs.Package.{first_words_of, place_among}
 use Rattle.package_code.specs.Refusing.{is_outside_variable, lacks_first_words}

@@ -16,20 +16,20 @@ use Rattle.types.specs.Values.{Value}
 use Rattle.declaring.specs.BodyNames.{formal_role}
 use Rattle.expr_soundness.specs.Laws.{ScopesAreSound}
 use Rattle.expr_soundness.specs.SoundScopes.{IsKnown, SoundScope}
-use Rattle.meaning.specs.Calls.{is_in, is_out, results}
-use Rattle.meaning.specs.Programs.{Parameter, Program}
-use Rattle.step_soundness.specs.Fitting.{taken_types}
-use Rattle.step_soundness.specs.Objects.{AreOf, IsOf}
+use Rattle.expr_soundness.specs.meaning.specs.Calls.{is_in, is_out, results}
+use Rattle.expr_soundness.specs.meaning.specs.Programs.{Parameter, Program}
+use Rattle.program_soundness.specs.step_soundness.specs.Fitting.{taken_types}
+use Rattle.program_soundness.specs.step_soundness.specs.Objects.{AreOf, IsOf}
 use Rattle.program_soundness.proofs.WiderScopes.{none_unseen}
 use Rattle.program_soundness.proofs.Formals.{AreNew, formal_object, named_formal, new_behind}
 use Rattle.program_soundness.proofs.Same.{IsPlainRole, SameTypes, known_same, sound_with, types_then, types_turned, types_with_all, values_same}
 use Rattle.expr_code.specs.Seeing.{Package}
-use Rattle.part_code.specs.Copying.{first_address, first_words, passed_words}
-use Rattle.part_code.specs.Layout.{AreApart, EndsBelow, IsFree, IsLaidOut, Spares, Widens}
-use Rattle.part_code.specs.Resting.{Framed}
+use Rattle.step_simulation.specs.part_code.specs.Copying.{first_address, first_words, passed_words}
+use Rattle.step_simulation.specs.part_code.specs.Layout.{AreApart, EndsBelow, IsFree, IsLaidOut, Spares, Widens}
+use Rattle.step_simulation.specs.part_code.specs.Resting.{Framed}
 use Rattle.stmt_code.proofs.Beginning.{Begins, Enters, EntersOne}
 use Rattle.stmt_code.proofs.Laying.{AddsObject, ends_wider, free_wider, laid_wider, widens_behind}
-use Rattle.part_code.specs.Formals.{AddsParameter}
+use Rattle.step_simulation.specs.part_code.specs.Formals.{AddsParameter}
 use Rattle.package_code.specs.Package.{FindsNames, HoldsAll, HoldsOne}
 use Rattle.package_code.proofs.InFront.{serves_more}
 

@@ -25,20 +25,20 @@ use Rattle.types.specs.Scopes.{Named, Scope, base_range_of, entity_of, form_of, 
 use Rattle.types.specs.Shapes.{has_shape, shape_of, words}
 use Rattle.types.specs.Statics.{static_place}
 use Rattle.types.specs.Values.{Value}
-use Rattle.expr_rules.specs.Laws.{type_shape}
+use Rattle.expr_soundness.specs.expr_rules.specs.Laws.{type_shape}
 use Rattle.declaring.specs.Laws.{StandsFirst}
 use Rattle.declaring.specs.PackageNames.{body_items_scope}
-use Rattle.checking.specs.ProgramRules.{IsLegal}
+use Rattle.program_soundness.specs.checking.specs.ProgramRules.{IsLegal}
 use Rattle.ravenscar.specs.ProgramRules.{IsRestricted}
 use Rattle.expr_soundness.specs.Laws.{ScopesAreSound}
 use Rattle.expr_soundness.specs.SoundScopes.{IsKnown, SoundScope}
 use Rattle.expr_soundness.proofs.Goods.{object_known}
 use Rattle.expr_soundness.proofs.Parts.{subtype_values}
 use Rattle.expr_soundness.proofs.Positions.{entity_number, same_some}
-use Rattle.meaning.specs.Programs.{Program, program_of}
-use Rattle.step_soundness.specs.Fitting.{IsFound}
-use Rattle.step_soundness.specs.Laws.{Premises}
-use Rattle.step_soundness.specs.Objects.{IsOf, first_store}
+use Rattle.expr_soundness.specs.meaning.specs.Programs.{Program, program_of}
+use Rattle.program_soundness.specs.step_soundness.specs.Fitting.{IsFound}
+use Rattle.program_soundness.specs.step_soundness.specs.Laws.{Premises}
+use Rattle.program_soundness.specs.step_soundness.specs.Objects.{IsOf, first_store}
 use Rattle.program_soundness.specs.Fronts.{declared_in, front, start_in}
 use Rattle.program_soundness.specs.BodyLaws.{FrontsFit, IsSoundMemory, BodyNamesAreSound, NamesAreKnown, PremisesHold}
 use Rattle.program_soundness.proofs.Assembled as assembled
@@ -50,10 +50,10 @@ use Rattle.program_soundness.proofs.Whole.{IsPackage, kept}
 use Rattle.program_soundness.specs.ProgramLaws.{StartsAreSound}
 use Rattle.expr_code.specs.Seeing.{Package, slot_of}
 use Rattle.expr_code.specs.declared.visible.Slot.{Slot}
-use Rattle.part_code.specs.Layout.{AreApart, AreFree, EndsBelow, IsLaid, IsLaidOut, NamesObject}
-use Rattle.part_code.specs.Resting.{Framed, RestsWith}
+use Rattle.step_simulation.specs.part_code.specs.Layout.{AreApart, AreFree, EndsBelow, IsLaid, IsLaidOut, NamesObject}
+use Rattle.step_simulation.specs.part_code.specs.Resting.{Framed, RestsWith}
 use Rattle.stmt_code.proofs.Entering.{IsOfPackage, rests_package}
-use Rattle.part_code.proofs.Names.{is_told}
+use Rattle.step_simulation.specs.part_code.proofs.Names.{is_told}
 use Rattle.package_code.specs.Package.{FindsNames, IsInFront, IsPackageOf}
 
 pub record LawsOfNames : Type 0 where

@@ -13,11 +13,11 @@ use Rattle.types.specs.Entities as entity
 use Rattle.types.specs.Layouts.{words_of}
 use Rattle.types.specs.Places.{Object, object_of}
 use Rattle.types.specs.Shapes.{shape_of, value_words}
-use Rattle.checking.specs.ProgramRules.{IsLegal}
+use Rattle.program_soundness.specs.checking.specs.ProgramRules.{IsLegal}
 use Rattle.ravenscar.specs.ProgramRules.{IsRestricted}
 use Rattle.expr_soundness.proofs.Parts.{subtype_values}
 use Rattle.expr_soundness.proofs.Positions.{same_some}
-use Rattle.meaning.specs.Programs.{Program, program_of}
+use Rattle.expr_soundness.specs.meaning.specs.Programs.{Program, program_of}
 use Rattle.program_soundness.specs.Fronts.{declared_in, start_in}
 use Rattle.program_soundness.proofs.Agreed.{sound_object}
 use Rattle.program_soundness.proofs.WiderScopes.{number_stands, same_bytes, stands, stands_number}
@@ -25,7 +25,7 @@ use Rattle.program_soundness.proofs.Whole.{variable_entity}
 use Rattle.expr_code.specs.Naming.{Lies}
 use Rattle.expr_code.specs.Seeing.{Package}
 use Rattle.expr_code.specs.declared.visible.Slot.{Slot}
-use Rattle.part_code.specs.Layout.{AreApart, NamesObject}
+use Rattle.step_simulation.specs.part_code.specs.Layout.{AreApart, NamesObject}
 use Rattle.stmt_code.proofs.Beginning.{lies_at}
 use Rattle.package_code.specs.Package.{BeginsAs, IsInOrder, IsPackageOf, first_words_of, place_among}
 use Rattle.package_code.proofs.InFront.{LawsOfNames, memory, whole}

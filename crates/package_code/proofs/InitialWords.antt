@@ -9,8 +9,8 @@ use Rattle.types.specs.Values.{Value}
 use Rattle.types.specs.declared.entity.Subtype.{Subtype}
 use Rattle.expr_soundness.specs.SoundScopes.{SoundScope}
 use Rattle.expr_code.proofs.Going.{grouped_shape, repeated_shape}
-use Rattle.part_code.proofs.Initials.{fields_more, initial_word, repeated_more}
-use Rattle.part_code.specs.Emitting.{first_word}
+use Rattle.step_simulation.specs.part_code.proofs.Initials.{fields_more, initial_word, repeated_more}
+use Rattle.step_simulation.specs.part_code.specs.Emitting.{first_word}
 
 -- words behind words
 behind : (old now new xs ys : List ℤ) → now ≡ old ++ xs → new ≡ now ++ ys → new ≡ old ++ (xs ++ ys)

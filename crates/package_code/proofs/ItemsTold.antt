@@ -8,11 +8,11 @@ use Rattle.ada_tree.specs.ProgramTree.{BodyItemTree, BodyTree, ProgramTree, Subp
 use Rattle.types.specs.Layouts.{total}
 use Rattle.program_soundness.specs.Fronts.{front}
 use Rattle.program_soundness.proofs.Listing.{same_some, taken_at, taken_next}
-use Rattle.part_code.specs.Bounds.{procedure_bound}
-use Rattle.part_code.specs.Labels.{alternatives_labels, elsifs_labels, handlers_labels, is_label, stmt_labels, stmts_labels, with_label, with_line}
-use Rattle.part_code.specs.Lines.{LabelledValue, line_of}
+use Rattle.step_simulation.specs.part_code.specs.Bounds.{procedure_bound}
+use Rattle.step_simulation.specs.part_code.specs.Labels.{alternatives_labels, elsifs_labels, handlers_labels, is_label, stmt_labels, stmts_labels, with_label, with_line}
+use Rattle.step_simulation.specs.part_code.specs.Lines.{LabelledValue, line_of}
 use Rattle.stmt_code.specs.WholeRefusals.{body_labels}
-use Rattle.part_code.proofs.Within.{Within, in_left, of_right}
+use Rattle.step_simulation.specs.part_code.proofs.Within.{Within, in_left, of_right}
 use Rattle.package_code.specs.Counts.{bounds_from}
 use Rattle.package_code.specs.Refusing.{item_labels, item_needs, item_rows, items_labels, items_needs, items_rows}
 

@@ -7,16 +7,16 @@ use Rattle.image.specs.Sections.{Sections, first_place}
 use Rattle.image.specs.declared.instruction.Operation.TheVariants as op
 use Rattle.image.specs.declared.subprograms.Subprogram.{Subprogram}
 use Rattle.image_laws.specs.Laws.{ImagesHaveSize}
-use Rattle.checking.specs.ProgramRules.{IsLegal}
+use Rattle.program_soundness.specs.checking.specs.ProgramRules.{IsLegal}
 use Rattle.ravenscar.specs.ProgramRules.{IsRestricted}
-use Rattle.meaning.specs.Programs.{program_of}
+use Rattle.expr_soundness.specs.meaning.specs.Programs.{program_of}
 use Rattle.program_soundness.specs.Fronts.{declared_in}
 use Rattle.expr_code.specs.Seeing.{Package}
 use Rattle.expr_code.specs.Views.{At}
-use Rattle.part_code.specs.Handling.{GoesBy, unhandled}
+use Rattle.step_simulation.specs.part_code.specs.Handling.{GoesBy, unhandled}
 use Rattle.step_simulation.specs.Laws.{HasCode}
-use Rattle.part_code.specs.Resting.{Framed}
-use Rattle.part_code.specs.Statements.{Numbers}
+use Rattle.step_simulation.specs.part_code.specs.Resting.{Framed}
+use Rattle.step_simulation.specs.part_code.specs.Statements.{Numbers}
 use Rattle.package_code.specs.Linked.{AreMain, IsLinkedProgram, IsSequential}
 use Rattle.package_code.specs.Package.{IsInFront, IsPackageOf}
 use Rattle.package_code.proofs.FirstWords.{first_words}

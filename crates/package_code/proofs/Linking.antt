@@ -3,14 +3,14 @@ use Rattle.std.proofs.Common.{◌≡◌, ℕ, zero, suc, ◌+◌, ◌≤◌, Lis
 use Rattle.std.specs.Prelude.{bytes_eq, slice_get}
 use Rattle.std.proofs.lemmas.List.Elements.{All-nil, All-weaker}
 use Rattle.std.proofs.lemmas.Option.{slice_get_within}
-use Rattle.kernel.specs.Laws.{QuietStays}
+use Rattle.image_laws.specs.kernel.specs.Laws.{QuietStays}
 use Rattle.ada_tree.specs.declared.expression.Identifier.{Identifier}
 use Rattle.ada_tree.specs.declared.program.MainStatement.{MainStatement}
 use Rattle.ada_tree.specs.declared.program.MainStatement.TheVariants as main
 use Rattle.ada_tree.specs.ExpressionTree.{ExprTree}
 use Rattle.ada_tree.specs.StatementTree.{SubprogramTree}
 use Rattle.ada_tree.specs.ProgramTree.{BodyTree, ProgramTree, SubprogramBody}
-use Rattle.handlers.specs.declared.rows.Row.{Row}
+use Rattle.image_laws.specs.handlers.specs.declared.rows.Row.{Row}
 use Rattle.image.specs.Operations.{called, results_of}
 use Rattle.image.specs.Rules.{IsWellFormed}
 use Rattle.image.specs.Sections.{Sections, first_place}
@@ -21,15 +21,15 @@ use Rattle.types.specs.Laws.{InitialValuesHaveShape}
 use Rattle.types.specs.Places.{ceiling_of, ceiling_or, is_of}
 use Rattle.types.specs.Scopes.{Scope}
 use Rattle.declaring.specs.ProtectedRules.{one_if_protected, protected_count}
-use Rattle.checking.specs.ProgramRules.{IsLegal}
+use Rattle.program_soundness.specs.checking.specs.ProgramRules.{IsLegal}
 use Rattle.ravenscar.specs.ProgramRules.{IsRestricted}
-use Rattle.meaning.specs.Calls.{procedure_among, procedure_here}
-use Rattle.meaning.specs.Programs.{Procedure, Program, base_priority, main_task, package_bodies, program_of, returned}
-use Rattle.meaning.specs.Source.{initial_work, task_items}
-use Rattle.meaning.specs.Works.{DoesMain as DoesStatement, Store, TaskWork}
-use Rattle.step_soundness.specs.Holding.{IsSoundTask}
-use Rattle.step_soundness.specs.Judged.{IsReady, Judged}
-use Rattle.step_soundness.specs.Objects.{first_store}
+use Rattle.expr_soundness.specs.meaning.specs.Calls.{procedure_among, procedure_here}
+use Rattle.expr_soundness.specs.meaning.specs.Programs.{Procedure, Program, base_priority, main_task, package_bodies, program_of, returned}
+use Rattle.expr_soundness.specs.meaning.specs.Source.{initial_work, task_items}
+use Rattle.expr_soundness.specs.meaning.specs.Works.{DoesMain as DoesStatement, Store, TaskWork}
+use Rattle.program_soundness.specs.step_soundness.specs.Holding.{IsSoundTask}
+use Rattle.program_soundness.specs.step_soundness.specs.Judged.{IsReady, Judged}
+use Rattle.program_soundness.specs.step_soundness.specs.Objects.{first_store}
 use Rattle.program_soundness.specs.Fronts.{declared_in, front}
 use Rattle.program_soundness.proofs.Callables.{function_by, procedure_by, subprogram_body}
 use Rattle.program_soundness.proofs.WiderScopes.{same_bytes}
@@ -41,11 +41,11 @@ use Rattle.expr_code.specs.declared.visible.Visible.{Visible}
 use Rattle.expr_code.proofs.Growing.{added_extends, extends_trans, get_last}
 use Rattle.image.specs.declared.instruction.Operation.TheVariants as op
 use Rattle.stmt_code.specs.Emitting.{HasLabels, IsHandled}
-use Rattle.part_code.specs.Handling.{GoesBy, unhandled}
-use Rattle.part_code.specs.Raising.{AreNamed}
+use Rattle.step_simulation.specs.part_code.specs.Handling.{GoesBy, unhandled}
+use Rattle.step_simulation.specs.part_code.specs.Raising.{AreNamed}
 use Rattle.step_simulation.specs.Laws.{HasCode}
-use Rattle.part_code.specs.Resting.{Framed}
-use Rattle.part_code.specs.Statements.{IsProcedureCode, Numbers}
+use Rattle.step_simulation.specs.part_code.specs.Resting.{Framed}
+use Rattle.step_simulation.specs.part_code.specs.Statements.{IsProcedureCode, Numbers}
 use Rattle.stmt_code.specs.Subprograms.{AddsProcedure, fresh}
 use Rattle.stmt_code.specs.declared.draft.Draft.{Draft}
 use Rattle.stmt_code.specs.declared.subprogram.SubprogramWords.{SubprogramWords}

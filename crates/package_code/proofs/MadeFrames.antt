@@ -13,12 +13,12 @@ use Rattle.types.specs.Entities as entity
 use Rattle.types.specs.Laws.{ShapesStay}
 use Rattle.types.specs.Layouts.{words_of}
 use Rattle.types.specs.Scopes.{Scope}
-use Rattle.checking.specs.ProgramRules.{IsLegal}
+use Rattle.program_soundness.specs.checking.specs.ProgramRules.{IsLegal}
 use Rattle.ravenscar.specs.ProgramRules.{IsRestricted}
 use Rattle.expr_soundness.specs.SoundScopes.{IsKnown, SoundScope}
 use Rattle.expr_soundness.proofs.Goods.{object_known}
-use Rattle.meaning.specs.Calls.{is_out}
-use Rattle.meaning.specs.Programs.{Parameter, Program, parameter, program_of}
+use Rattle.expr_soundness.specs.meaning.specs.Calls.{is_out}
+use Rattle.expr_soundness.specs.meaning.specs.Programs.{Parameter, Program, parameter, program_of}
 use Rattle.program_soundness.specs.Fronts.{declared_in, front, start_in}
 use Rattle.program_soundness.proofs.WiderScopes.{number_stands, stands, stands_number, with_all}
 use Rattle.program_soundness.proofs.Formals.{AreNew, all_named, all_types}
@@ -26,11 +26,11 @@ use Rattle.program_soundness.proofs.Listing.{Has}
 use Rattle.program_soundness.proofs.Same.{SameTypes, known_same, types_turned, types_with_all}
 use Rattle.expr_code.specs.Seeing.{Package, slot_of}
 use Rattle.expr_code.specs.declared.visible.Slot.{Slot}
-use Rattle.part_code.specs.Copying.{left_out}
+use Rattle.step_simulation.specs.part_code.specs.Copying.{left_out}
 use Rattle.declaring.specs.BodyNames.{formals_scope}
-use Rattle.part_code.specs.Layout.{AreApart, AreFree, EndsBelow, IsFree, IsLaidOut, NamesObject}
-use Rattle.part_code.specs.Resting.{Framed, NarrowsFrame}
-use Rattle.part_code.specs.Formals.{AddsEach, AreInTurn, Placed, addresses_from, outs_end, parameter_at, passed_end}
+use Rattle.step_simulation.specs.part_code.specs.Layout.{AreApart, AreFree, EndsBelow, IsFree, IsLaidOut, NamesObject}
+use Rattle.step_simulation.specs.part_code.specs.Resting.{Framed, NarrowsFrame}
+use Rattle.step_simulation.specs.part_code.specs.Formals.{AddsEach, AreInTurn, Placed, addresses_from, outs_end, parameter_at, passed_end}
 use Rattle.package_code.specs.Package.{FindsNames, HoldsAll, IsInFront, IsPackageOf}
 use Rattle.package_code.proofs.BodyFrames.{HasWidths, OutsBegin, behind_up, holds_in_turn, next_widths, outs_begin, outs_behind, outs_end_is, words_behind}
 use Rattle.package_code.proofs.Building.{add_each, each_joined, has_turn, in_turn, outs_of, taken_of, turn_has, turn_new}

@@ -12,12 +12,12 @@ use Rattle.types.specs.Entities.{Exception, LibraryUnit}
 use Rattle.types.specs.Places.{or_else}
 use Rattle.types.specs.Scopes.{Scope, is_visible, standard}
 use Rattle.declaring.specs.PackageNames.{body_item_scope, body_items_scope, clauses_scope}
-use Rattle.checking.specs.ProgramRules.{IsLegal}
-use Rattle.checking.proofs.Made.{NoUnits, Times, Io, TimesIo, IoTimes, Units, clauses_seen, seen}
+use Rattle.program_soundness.specs.checking.specs.ProgramRules.{IsLegal}
+use Rattle.program_soundness.specs.checking.proofs.Made.{NoUnits, Times, Io, TimesIo, IoTimes, Units, clauses_seen, seen}
 use Rattle.ravenscar.specs.ProgramRules.{IsRestricted}
-use Rattle.meaning.specs.Programs.{exception_name, exception_number, exceptions_among, items_among, program_of}
-use Rattle.step_soundness.specs.Objects.{IsException}
-use Rattle.part_code.specs.Raising.{AreNamed}
+use Rattle.expr_soundness.specs.meaning.specs.Programs.{exception_name, exception_number, exceptions_among, items_among, program_of}
+use Rattle.program_soundness.specs.step_soundness.specs.Objects.{IsException}
+use Rattle.step_simulation.specs.part_code.specs.Raising.{AreNamed}
 use Rattle.program_soundness.specs.BodyLaws.{PremisesHold}
 use Rattle.program_soundness.specs.Fronts.{declared_in, front, start_in}
 use Rattle.program_soundness.proofs.Trees.{tree_package}

@@ -11,7 +11,7 @@ use Rattle.ada_tree.specs.ProgramTree.{BodyItemTree, BodyTree, SubprogramBody}
 use Rattle.types.specs.Entities.{Doubtful}
 use Rattle.types.specs.Places.{or_else}
 use Rattle.types.specs.Scopes.{Scope, with_name}
-use Rattle.expr_rules.proofs.TypedLaw.{back_empty, front_empty, unbroken}
+use Rattle.expr_soundness.specs.expr_rules.proofs.TypedLaw.{back_empty, front_empty, unbroken}
 use Rattle.type_rules.specs.ObjectRules.{object_entity}
 use Rattle.type_rules.specs.SubtypeNames.{end_rule, named_entity, subtype_faults, subtype_of}
 use Rattle.declaring.specs.BodyNames.{formal_role, formal_scope, formals_scope}
@@ -19,8 +19,8 @@ use Rattle.type_rules.specs.ProfileRules.{formal_and, formal_faults, formal_para
 use Rattle.legality.specs.BodyRules.{body_faults, head_faults, kind_of, own_name_faults}
 use Rattle.expr_soundness.specs.Laws.{ScopesAreSound}
 use Rattle.expr_soundness.specs.SoundScopes.{SoundScope}
-use Rattle.meaning.specs.Programs.{Parameter, Program, parameter, subtype_named}
-use Rattle.step_soundness.specs.Fitting.{formal_of}
+use Rattle.expr_soundness.specs.meaning.specs.Programs.{Parameter, Program, parameter, subtype_named}
+use Rattle.program_soundness.specs.step_soundness.specs.Fitting.{formal_of}
 use Rattle.program_soundness.specs.Fronts.{scope_at}
 use Rattle.program_soundness.proofs.Beginning.{keeps_same, keeps_then, keeps_with}
 use Rattle.program_soundness.proofs.Called.{body_legal, head_legal}

@@ -10,7 +10,7 @@ use Rattle.ada_tree.specs.StatementTree.{SubprogramTree}
 use Rattle.ada_tree.specs.ProgramTree.{BodyItemTree, BodyTree, SubprogramBody, body_item_tree}
 use Rattle.types.specs.Places.{or_else}
 use Rattle.types.specs.Scopes.{Scope, number_of}
-use Rattle.expr_rules.proofs.TypedLaw.{unbroken}
+use Rattle.expr_soundness.specs.expr_rules.proofs.TypedLaw.{unbroken}
 use Rattle.program_soundness.specs.Fronts.{declared_in, start_in}
 use Rattle.program_soundness.specs.BodyLaws.{PremisesHold}
 use Rattle.program_soundness.proofs.Listing.{or_else_none, same_some}
@@ -22,7 +22,7 @@ use Rattle.expr_code.specs.Refusing.{IsRefused}
 use Rattle.expr_code.specs.Seeing.{told_of}
 use Rattle.expr_code.specs.declared.refusal.Refusal.{Refusal}
 use Rattle.expr_code.specs.declared.refusal.Refusal.TheVariants as refusal
-use Rattle.part_code.proofs.Lists.{mapped_next}
+use Rattle.step_simulation.specs.part_code.proofs.Lists.{mapped_next}
 use Rattle.package_code.specs.Counts.{bodies_among}
 use Rattle.package_code.specs.Directory.{HaveBodyNumbers, HasManyBodies, numbered_item, numbered_once, numbered_with}
 use Rattle.package_code.specs.Laws.{BodiesAreNumbered}

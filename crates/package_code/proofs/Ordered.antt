@@ -10,7 +10,7 @@ use Rattle.expr_soundness.proofs.Goods.{object_known}
 use Rattle.program_soundness.proofs.WiderScopes.{number_stands, stands, stands_number}
 use Rattle.program_soundness.proofs.Same.{SameTypes, one_same}
 use Rattle.expr_code.specs.Seeing.{Package, slot_of, subprogram_of}
-use Rattle.part_code.specs.Resting.{Framed, NarrowsFrame, Shows}
+use Rattle.step_simulation.specs.part_code.specs.Resting.{Framed, NarrowsFrame, Shows}
 
 module _ (s u : Scope) (sound : SoundScope u) (types : SameTypes s u) (names : (name : List ℕ) → stands u name ≡ stands s name) where
   means_same : (p : Place) → Agrees s p → (name : List ℕ) (n : ℕ) (e : Entity) → entity_at s n ≡ Some e → Means s p name e → Means u p name e

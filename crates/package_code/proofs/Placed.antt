@@ -11,9 +11,9 @@ use Rattle.types.specs.Shapes.{value_words}
 use Rattle.type_rules.specs.SubtypeNames.{subtype_of}
 use Rattle.declaring.specs.ProtectedRules.{protected_count}
 use Rattle.declaring.specs.PackageNames.{body_item_scope, body_items_scope}
-use Rattle.checking.specs.ProgramRules.{IsLegal}
+use Rattle.program_soundness.specs.checking.specs.ProgramRules.{IsLegal}
 use Rattle.ravenscar.specs.ProgramRules.{IsRestricted}
-use Rattle.meaning.specs.Programs.{items_among, object_named, package_items, program_of, variables_among}
+use Rattle.expr_soundness.specs.meaning.specs.Programs.{items_among, object_named, package_items, program_of, variables_among}
 use Rattle.program_soundness.specs.Fronts.{declared_in, front, start_in}
 use Rattle.program_soundness.specs.BodyLaws.{PremisesHold}
 use Rattle.program_soundness.proofs.Trees.{tree_package}

@@ -9,16 +9,16 @@ use Rattle.expr_soundness.specs.Laws.{ScopesAreSound}
 use Rattle.expr_soundness.specs.SoundScopes.{SoundScope}
 use Rattle.expr_soundness.proofs.Positions.{item_added, number_added, same_some}
 use Rattle.declaring.specs.BodyNames.{formal_role}
-use Rattle.meaning.specs.Programs.{Parameter, Program}
+use Rattle.expr_soundness.specs.meaning.specs.Programs.{Parameter, Program}
 use Rattle.program_soundness.proofs.WiderScopes.{bytes_same, none_unseen, number_stands, one_named, same_bytes, stands, stands_with, with_all}
 use Rattle.program_soundness.proofs.Formals.{AreNew, all_named, all_types, named_formal, new_behind, sound_all}
 use Rattle.program_soundness.proofs.Listing.{Has, first_some, or_else_some}
 use Rattle.program_soundness.proofs.Same.{SameTypes, types_then, types_turned, types_with_all}
 use Rattle.expr_code.specs.Seeing.{Package, slot_of, subprogram_of, told_of}
 use Rattle.expr_code.specs.declared.visible.Slot.{Slot}
-use Rattle.part_code.specs.Resting.{Framed, NarrowsFrame}
-use Rattle.part_code.proofs.Names.{same_name, told_again, told_more, told_of_more}
-use Rattle.part_code.specs.Formals.{AddsEach, AddsParameter, Placed, parameter_at}
+use Rattle.step_simulation.specs.part_code.specs.Resting.{Framed, NarrowsFrame}
+use Rattle.step_simulation.specs.part_code.proofs.Names.{same_name, told_again, told_more, told_of_more}
+use Rattle.step_simulation.specs.part_code.specs.Formals.{AddsEach, AddsParameter, Placed, parameter_at}
 use Rattle.package_code.specs.Package.{FindsNames}
 use Rattle.package_code.proofs.InFront.{serves_more}
 use Rattle.package_code.proofs.Ordered.{narrows_same}

@@ -7,7 +7,7 @@ use Rattle.types.specs.Places.{or_else}
 use Rattle.types.specs.Scopes.{Named, Scope, number_of, standard}
 use Rattle.legality.specs.MainRules.{item_name}
 use Rattle.declaring.specs.PackageNames.{body_item_scope, body_items_scope, inside_scope, optional_scope}
-use Rattle.meaning.specs.Programs.{program_of}
+use Rattle.expr_soundness.specs.meaning.specs.Programs.{program_of}
 use Rattle.program_soundness.specs.Fronts.{declared_in, front, scope_at, start_in}
 use Rattle.program_soundness.proofs.OneList.{scope_joined}
 use Rattle.program_soundness.proofs.Walked.{declares, kept_at, one_of, scope_next, stands_next}

@@ -11,7 +11,7 @@ use Rattle.declaring.specs.ItemRules.{item_scope}
 use Rattle.legality.specs.MainRules.{item_name}
 use Rattle.expr_code.specs.Seeing.{told_of}
 use Rattle.expr_code.specs.declared.visible.Visible.{Visible}
-use Rattle.part_code.proofs.Names.{same_name, told_of_more}
+use Rattle.step_simulation.specs.part_code.proofs.Names.{same_name, told_of_more}
 use Rattle.package_code.specs.Directory.{AreTold, IsUnseen, TellsNext}
 use Rattle.package_code.specs.declared.directory.Directory.{Directory}
 use Rattle.package_code.proofs.Variables.{none_told}

@@ -10,12 +10,12 @@ use Rattle.image.specs.declared.instruction.Region.TheVariants as regions
 use Rattle.types.specs.Places.{Object}
 use Rattle.types.specs.Scopes.{Scope, number_of}
 use Rattle.types.specs.Shapes.{value_words}
-use Rattle.meaning.specs.Programs.{exceptions_among, initial_value, object_named, subtype_or_integer, tasks_among, variables_among}
+use Rattle.expr_soundness.specs.meaning.specs.Programs.{exceptions_among, initial_value, object_named, subtype_or_integer, tasks_among, variables_among}
 use Rattle.expr_soundness.proofs.Positions.{found_at, number_place, same_some}
 use Rattle.expr_code.specs.Entries.{entry_at}
 use Rattle.expr_code.specs.Seeing.{told_of}
 use Rattle.expr_code.specs.declared.visible.Slot.{Slot}
-use Rattle.part_code.proofs.Names.{name_is, same_name}
+use Rattle.step_simulation.specs.part_code.proofs.Names.{name_is, same_name}
 use Rattle.package_code.specs.Package.{first_words_of, place_among}
 use Rattle.package_code.specs.Globals.{AddsItems, AddsVariable, AreGlobals}
 use Rattle.package_code.specs.declared.globals.Globals.{Globals}

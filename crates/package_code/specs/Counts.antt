@@ -4,7 +4,7 @@ use Rattle.std.specs.Prelude.{ℕ, suc, ◌*◌, List, [], ◌∷◌, ◌++◌, 
 use Rattle.ada_tree.specs.ProgramTree.{BodyItemTree, ProgramTree, SubprogramBody}
 use Rattle.image.specs.Frames.{TaskState}
 use Rattle.program_soundness.specs.Fronts.{declared_in, front}
-use Rattle.part_code.specs.Bounds.{main_bound, procedure_bound}
+use Rattle.step_simulation.specs.part_code.specs.Bounds.{main_bound, procedure_bound}
 
 -- how many of these are bodies of subprograms
 abbrev pub bodies_among : List BodyItemTree → ℕ

@@ -2,13 +2,13 @@
 use Rattle.std.specs.Prelude.{◌≡◌, ◌<◌, ◌⊎◌, ℕ, suc, List, [], ◌∷◌, ◌++◌, length, Option, Some, None, replicate, slice_get, slice_set, ⊤}
 use Rattle.ada_tree.specs.ProgramTree.{BodyItemTree, ProgramTree, SubprogramBody}
 use Rattle.types.specs.Scopes.{Scope, number_of}
-use Rattle.meaning.specs.Programs.{program_of}
+use Rattle.expr_soundness.specs.meaning.specs.Programs.{program_of}
 use Rattle.expr_code.specs.Seeing.{slot_of, subprogram_of, told_of}
 use Rattle.expr_code.specs.declared.refusal.Refusal.{Refusal}
 use Rattle.expr_code.specs.declared.refusal.Refusal.TheVariants as refusal
 use Rattle.expr_code.specs.declared.visible.Slot.{Slot}
 use Rattle.expr_code.specs.declared.visible.Visible.{Visible}
-use Rattle.part_code.specs.Emitting.{HasEntries}
+use Rattle.step_simulation.specs.part_code.specs.Emitting.{HasEntries}
 use Rattle.package_code.specs.Counts.{bodies_among}
 use Rattle.package_code.specs.Refusing.{number_among, number_in, slot_in}
 use Rattle.package_code.specs.declared.directory.Directory.{Directory}

@@ -9,7 +9,7 @@ use Rattle.types.specs.declared.entity.Subtype.{Subtype}
 use Rattle.types.specs.Scopes.{Scope, number_of}
 use Rattle.types.specs.Shapes.{value_words}
 use Rattle.type_rules.specs.SubtypeNames.{subtype_of}
-use Rattle.meaning.specs.Programs.{exceptions_among, initial_value, tasks_among, variables_among}
+use Rattle.expr_soundness.specs.meaning.specs.Programs.{exceptions_among, initial_value, tasks_among, variables_among}
 use Rattle.expr_code.specs.Seeing.{told_of}
 use Rattle.expr_code.specs.declared.refusal.Refusal.{Refusal}
 use Rattle.expr_code.specs.declared.refusal.Refusal.TheVariants as refusal

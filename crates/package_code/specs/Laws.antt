@@ -9,17 +9,17 @@ use Rattle.types.specs.Scopes.{Scope}
 use Rattle.image.specs.Rules.{IsWellFormed}
 use Rattle.image.specs.Sections.{Sections}
 use Rattle.declaring.specs.BodyNames.{formals_scope}
-use Rattle.checking.specs.ProgramRules.{IsLegal}
+use Rattle.program_soundness.specs.checking.specs.ProgramRules.{IsLegal}
 use Rattle.ravenscar.specs.ProgramRules.{IsRestricted}
 use Rattle.type_rules.specs.SubtypeNames.{subtype_of}
-use Rattle.meaning.specs.Programs.{package_items, program_of, returned, subtype_named}
-use Rattle.meaning.specs.SameMeaning.{KeepsCount, SameMeaning}
+use Rattle.expr_soundness.specs.meaning.specs.Programs.{package_items, program_of, returned, subtype_named}
+use Rattle.expr_soundness.specs.meaning.specs.SameMeaning.{KeepsCount, SameMeaning}
 use Rattle.expr_soundness.specs.SoundScopes.{SoundScope}
 use Rattle.program_soundness.specs.Fronts.{declared_in, front}
 use Rattle.expr_code.specs.Coming.{most_steps, size_of}
 use Rattle.expr_code.specs.Emitting.{IsFit}
 use Rattle.stmt_code.specs.Emitting.{IsLegalRun}
-use Rattle.part_code.specs.Needs.{are_unknown}
+use Rattle.step_simulation.specs.part_code.specs.Needs.{are_unknown}
 use Rattle.stmt_code.specs.Subprograms.{CallsProcedures}
 use Rattle.package_code.specs.Counts.{bodies_among, bodies_before, instructions_bound}
 use Rattle.package_code.specs.Globals.{refuses_items}

@@ -2,12 +2,12 @@
 use Rattle.ada_tree.specs.ProgramTree.{ProgramTree}
 use Rattle.image.specs.Rules.{IsWellFormed}
 use Rattle.image.specs.Sections.{Sections}
-use Rattle.checking.specs.ProgramRules.{IsLegal}
+use Rattle.program_soundness.specs.checking.specs.ProgramRules.{IsLegal}
 use Rattle.ravenscar.specs.ProgramRules.{IsRestricted}
-use Rattle.meaning.specs.SameMeaning.{KeepsCount, SameMeaning}
+use Rattle.expr_soundness.specs.meaning.specs.SameMeaning.{KeepsCount, SameMeaning}
 use Rattle.expr_code.specs.Coming.{most_steps}
 use Rattle.expr_code.specs.Seeing.{Package}
-use Rattle.part_code.specs.Statements.{Numbers}
+use Rattle.step_simulation.specs.part_code.specs.Statements.{Numbers}
 use Rattle.package_code.specs.Linked.{IsLinkedProgram}
 
 -- a well-formed image that has the code of an accepted program has its meaning

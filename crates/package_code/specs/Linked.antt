@@ -8,14 +8,14 @@ use Rattle.image.specs.Sections.{Sections, first_place}
 use Rattle.image.specs.declared.instruction.Operation.TheVariants as op
 use Rattle.image.specs.declared.subprograms.Subprogram.{Subprogram}
 use Rattle.types.specs.Places.{ceiling_of}
-use Rattle.meaning.specs.Programs.{OfMain, Program, program_of}
-use Rattle.step_soundness.specs.Objects.{first_store}
+use Rattle.expr_soundness.specs.meaning.specs.Programs.{OfMain, Program, program_of}
+use Rattle.program_soundness.specs.step_soundness.specs.Objects.{first_store}
 use Rattle.expr_code.specs.Seeing.{Package}
 use Rattle.expr_code.specs.Views.{At}
-use Rattle.part_code.specs.Handling.{GoesBy, unhandled}
+use Rattle.step_simulation.specs.part_code.specs.Handling.{GoesBy, unhandled}
 use Rattle.step_simulation.specs.Laws.{HasCode}
-use Rattle.part_code.specs.Resting.{Framed, RestsWith, StandsFor}
-use Rattle.part_code.specs.Statements.{IsMainStatementCode, Numbers}
+use Rattle.step_simulation.specs.part_code.specs.Resting.{Framed, RestsWith, StandsFor}
+use Rattle.step_simulation.specs.part_code.specs.Statements.{IsMainStatementCode, Numbers}
 
 -- main alone is a task, and there are no protected objects
 pub record IsSequential (p : ProgramTree) (priority : ℕ) : Type 0 where

@@ -10,15 +10,15 @@ use Rattle.types.specs.Layouts.{words_of}
 use Rattle.types.specs.Places.{Object, object_of}
 use Rattle.types.specs.Shapes.{value_words}
 use Rattle.types.specs.Values.{Value}
-use Rattle.meaning.specs.Programs.{Parameter, Program, program_of}
+use Rattle.expr_soundness.specs.meaning.specs.Programs.{Parameter, Program, program_of}
 use Rattle.program_soundness.specs.Fronts.{front}
-use Rattle.step_soundness.specs.Fitting.{IsFound, entity_named}
+use Rattle.program_soundness.specs.step_soundness.specs.Fitting.{IsFound, entity_named}
 use Rattle.expr_code.specs.Naming.{Lies}
 use Rattle.expr_code.specs.Seeing.{Package, slot_of, subprogram_of}
 use Rattle.expr_code.specs.declared.visible.Slot.{Slot}
-use Rattle.part_code.specs.Formals.{AddsParameter}
-use Rattle.part_code.specs.Layout.{IsLaidPackage}
-use Rattle.part_code.specs.Resting.{Framed}
+use Rattle.step_simulation.specs.part_code.specs.Formals.{AddsParameter}
+use Rattle.step_simulation.specs.part_code.specs.Layout.{IsLaidPackage}
+use Rattle.step_simulation.specs.part_code.specs.Resting.{Framed}
 
 -- ---- the package
 

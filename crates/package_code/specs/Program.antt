@@ -8,7 +8,7 @@ use Rattle.image.specs.Sections.{Sections}
 use Rattle.image.specs.declared.subprograms.Kind.TheVariants as kinds
 use Rattle.image.specs.declared.subprograms.Subprogram.{Subprogram}
 use Rattle.declaring.specs.ProtectedRules.{protected_count}
-use Rattle.meaning.specs.Programs.{base_priority, package_items, program_of}
+use Rattle.expr_soundness.specs.meaning.specs.Programs.{base_priority, package_items, program_of}
 use Rattle.program_soundness.specs.Fronts.{declared_in}
 use Rattle.expr_code.specs.Code.{here}
 use Rattle.stmt_code.specs.Subprograms.{AddsMain, KeepsRules}

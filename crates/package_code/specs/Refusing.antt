@@ -14,15 +14,15 @@ use Rattle.types.specs.Shapes.{shape_of, value_words}
 use Rattle.types.specs.Statics.{static_fault}
 use Rattle.type_rules.specs.SubtypeNames.{subtype_of}
 use Rattle.declaring.specs.ProtectedRules.{protected_count}
-use Rattle.meaning.specs.Programs.{initial_value, program_of, returned, subtype_named}
+use Rattle.expr_soundness.specs.meaning.specs.Programs.{initial_value, program_of, returned, subtype_named}
 use Rattle.program_soundness.specs.Fronts.{declared_in, front, start_in}
 use Rattle.expr_code.specs.declared.refusal.Refusal.{Refusal}
 use Rattle.expr_code.specs.declared.refusal.Refusal.TheVariants as refusal
 use Rattle.expr_code.specs.declared.visible.Slot.{Slot}
 use Rattle.expr_code.specs.declared.visible.Visible.{Visible}
-use Rattle.part_code.specs.Bounds.{main_bound}
-use Rattle.part_code.specs.Needs.{HasManyLabels, IsNeeding, Needs, beyond, beyond_if, both, lacks_word, nothing}
-use Rattle.part_code.specs.Rows.{body_rows}
+use Rattle.step_simulation.specs.part_code.specs.Bounds.{main_bound}
+use Rattle.step_simulation.specs.part_code.specs.Needs.{HasManyLabels, IsNeeding, Needs, beyond, beyond_if, both, lacks_word, nothing}
+use Rattle.step_simulation.specs.part_code.specs.Rows.{body_rows}
 use Rattle.stmt_code.specs.WholeRefusals.{body_labels, function_needs, procedure_needs}
 use Rattle.package_code.specs.Counts.{bodies_among, bounds_from}
 use Rattle.package_code.specs.Package.{first_words_of, place_among}

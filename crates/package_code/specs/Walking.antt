@@ -5,23 +5,23 @@ use Rattle.ada_tree.specs.declared.expression.Identifier.{Identifier}
 use Rattle.ada_tree.specs.ExpressionTree.{ExprTree}
 use Rattle.ada_tree.specs.StatementTree.{SubprogramTree}
 use Rattle.ada_tree.specs.ProgramTree.{BodyItemTree, BodyTree, ProgramTree, SubprogramBody}
-use Rattle.handlers.specs.declared.rows.Row.{Row}
+use Rattle.image_laws.specs.handlers.specs.declared.rows.Row.{Row}
 use Rattle.image.specs.Sections.{end_of}
 use Rattle.image.specs.declared.subprograms.Kind.TheVariants as kinds
 use Rattle.image.specs.declared.subprograms.Subprogram.{Subprogram}
 use Rattle.types.specs.declared.entity.Subtype.{Subtype}
 use Rattle.types.specs.Layouts.{total}
 use Rattle.types.specs.Scopes.{Scope}
-use Rattle.meaning.specs.Programs.{program_of, returned, subtype_named}
+use Rattle.expr_soundness.specs.meaning.specs.Programs.{program_of, returned, subtype_named}
 use Rattle.program_soundness.specs.Fronts.{declared_in, front}
 use Rattle.expr_code.specs.Code.{StandsFrom, here}
 use Rattle.expr_code.specs.Seeing.{told_of}
 use Rattle.expr_code.specs.declared.refusal.Refusal.{Refusal}
 use Rattle.expr_code.specs.declared.visible.Visible.{Visible}
-use Rattle.part_code.specs.Bounds.{procedure_bound}
+use Rattle.step_simulation.specs.part_code.specs.Bounds.{procedure_bound}
 use Rattle.stmt_code.specs.Emitting.{AddsRows}
-use Rattle.part_code.specs.Needs.{HasManyLabels, IsNeeding}
-use Rattle.part_code.specs.Rows.{LiesWithin}
+use Rattle.step_simulation.specs.part_code.specs.Needs.{HasManyLabels, IsNeeding}
+use Rattle.step_simulation.specs.part_code.specs.Rows.{LiesWithin}
 use Rattle.stmt_code.specs.Subprograms.{AddsFunction, AddsProcedure, IsCalledFunction, IsCalledProcedure, KeepsRules}
 use Rattle.stmt_code.specs.declared.draft.Draft.{Draft}
 use Rattle.stmt_code.specs.declared.subprogram.SubprogramWords.{SubprogramWords}

@@ -2,7 +2,7 @@
 ghost use Rattle.std.specs.Prelude.{◌≡◌, ◌+◌, ◌∷◌, [], None, false, map, replicate, IfErr, IfOk, OnOk};
 ghost use Rattle.ada_tree.specs.StatementTree.{optional_tree};
 ghost use Rattle.ada_tree.specs.ProgramTree.{body_item_tree, package_tree};
-ghost use Rattle.meaning.specs.Programs.{package_bodies};
+ghost use Rattle.expr_soundness.specs.meaning.specs.Programs.{package_bodies};
 ghost use Rattle.expr_code.specs.Refusing.{IsRefused};
 ghost use Rattle.expr_code.specs.Seeing.{told_of};
 ghost use Rattle.package_code.specs.Counts.{bodies_among};

@@ -4,7 +4,7 @@ ghost use Rattle.ada_tree.specs.StatementTree.{object_tree, optional_tree};
 ghost use Rattle.ada_tree.specs.ProgramTree.{OfObject, body_item_tree, item_tree, package_tree};
 ghost use Rattle.base.specs.Exceptions.{name_of};
 ghost use Rattle.base.specs.Names.{predefined};
-ghost use Rattle.meaning.specs.Programs.{items_among, package_items};
+ghost use Rattle.expr_soundness.specs.meaning.specs.Programs.{items_among, package_items};
 ghost use Rattle.expr_soundness.specs.SoundScopes.{SoundScope};
 ghost use Rattle.expr_code.specs.Refusing.{IsRefused};
 ghost use Rattle.package_code.specs.Globals.{AddsItems, AddsVariable, AreGlobals, RefusesAdding, RefusesGlobals, RefusesVariable};

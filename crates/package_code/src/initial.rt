@@ -3,10 +3,10 @@ ghost use Rattle.std.specs.Prelude.{◌≡◌, ◌∷◌, ◌++◌, [], false, I
 ghost use Rattle.ada_tree.specs.ExpressionTree.{expr_tree};
 ghost use Rattle.ada_tree.specs.StatementTree.{optional_tree};
 ghost use Rattle.types.specs.Shapes.{initial, shape_of, value_words};
-ghost use Rattle.meaning.specs.Programs.{initial_value};
+ghost use Rattle.expr_soundness.specs.meaning.specs.Programs.{initial_value};
 ghost use Rattle.expr_soundness.specs.SoundScopes.{SoundScope};
 ghost use Rattle.expr_code.specs.Refusing.{IsRefused};
-ghost use Rattle.part_code.specs.Needs.{lacks_word};
+ghost use Rattle.step_simulation.specs.part_code.specs.Needs.{lacks_word};
 ghost use Rattle.package_code.specs.Refusing.{lacks_first_words};
 
 use ada_tree::Expr;

@@ -3,15 +3,15 @@ ghost use Rattle.std.specs.Prelude.{◌≡◌, ◌+◌, false, is_none, is_some,
 ghost use Rattle.ada_tree.specs.ExpressionTree.{expr_tree};
 ghost use Rattle.ada_tree.specs.StatementTree.{MoreStmts, NoStmts, stmt_tree, stmt_trees, subprogram_tree};
 ghost use Rattle.ada_tree.specs.ProgramTree.{OfItem, SubprogramBody, body_item_tree, body_tree, item_tree, program_tree};
-ghost use Rattle.checking.specs.ProgramRules.{IsLegal};
+ghost use Rattle.program_soundness.specs.checking.specs.ProgramRules.{IsLegal};
 ghost use Rattle.ravenscar.specs.ProgramRules.{IsRestricted};
-ghost use Rattle.meaning.specs.Programs.{program_of, returned, subtype_named};
+ghost use Rattle.expr_soundness.specs.meaning.specs.Programs.{program_of, returned, subtype_named};
 ghost use Rattle.program_soundness.specs.Fronts.{declared_in};
 ghost use Rattle.type_rules.specs.SubtypeNames.{subtype_of};
 ghost use Rattle.expr_code.specs.Code.{here};
 ghost use Rattle.expr_code.specs.Refusing.{IsRefused};
 ghost use Rattle.expr_code.specs.Seeing.{told_of};
-ghost use Rattle.part_code.specs.Emitting.{HasEntries};
+ghost use Rattle.step_simulation.specs.part_code.specs.Emitting.{HasEntries};
 ghost use Rattle.stmt_code.specs.Subprograms.{IsCalledFunction, KeepsRules};
 ghost use Rattle.package_code.specs.Directory.{IsDirectory};
 ghost use Rattle.package_code.specs.Laws.{MayBeAdded};

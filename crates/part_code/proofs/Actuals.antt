@@ -17,10 +17,10 @@ use Rattle.types.specs.Evaluating.{Calls, passed, value_with}
 use Rattle.types.specs.Places.{Place, object_of}
 use Rattle.types.specs.Shapes.{value_words}
 use Rattle.types.specs.Values.{Value}
-use Rattle.meaning.specs.Calls.{Actuals, copied_both, copied_in, copied_out, value_or_nothing, with_actuals}
-use Rattle.meaning.specs.Programs.{Parameter}
-use Rattle.meaning.specs.Targets.{value_in}
-use Rattle.meaning.specs.Works.{Target}
+use Rattle.expr_soundness.specs.meaning.specs.Calls.{Actuals, copied_both, copied_in, copied_out, value_or_nothing, with_actuals}
+use Rattle.expr_soundness.specs.meaning.specs.Programs.{Parameter}
+use Rattle.expr_soundness.specs.meaning.specs.Targets.{value_in}
+use Rattle.expr_soundness.specs.meaning.specs.Works.{Target}
 use Rattle.expr_code.specs.Views.{placed, Sight}
 use Rattle.expr_code.specs.Coming.{Comes, on}
 use Rattle.expr_code.specs.Computing.{ComputesChecked, Everywhere, Library}

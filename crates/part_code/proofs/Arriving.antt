@@ -8,10 +8,10 @@ use Rattle.image.specs.Steps.{behaviour}
 use Rattle.types.specs.Evaluating.{Calls, call}
 use Rattle.types.specs.Evaluations.{Val, Gives, Meaningless, Raises}
 use Rattle.types.specs.Places.{Place}
-use Rattle.meaning.specs.MeetingLaws.{takes_more}
-use Rattle.meaning.specs.Programs.{Program}
-use Rattle.meaning.specs.SameMeaning.{frames_of}
-use Rattle.meaning.specs.Works.{Activation, Store}
+use Rattle.expr_soundness.specs.meaning.specs.MeetingLaws.{takes_more}
+use Rattle.expr_soundness.specs.meaning.specs.Programs.{Program}
+use Rattle.expr_soundness.specs.meaning.specs.SameMeaning.{frames_of}
+use Rattle.expr_soundness.specs.meaning.specs.Works.{Activation, Store}
 use Rattle.expr_code.specs.Coming.{Comes, most_steps}
 use Rattle.expr_code.specs.Seeing.{Package}
 use Rattle.expr_code.specs.Views.{placed}

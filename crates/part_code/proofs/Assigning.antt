@@ -23,9 +23,9 @@ use Rattle.expr_soundness.specs.Agreeing.{Agrees, MeansObject}
 use Rattle.expr_soundness.specs.Laws.{AgreementIsKept, CallsAreTyped}
 use Rattle.expr_soundness.proofs.Agreement.{place_values}
 use Rattle.expr_soundness.proofs.Positions.{same_some}
-use Rattle.meaning.specs.Programs.{Program}
-use Rattle.meaning.specs.Targets.{activation_with, object_named, store_with, stored_to, whole}
-use Rattle.meaning.specs.Works.{Activation, InActivation, InPackage, Store}
+use Rattle.expr_soundness.specs.meaning.specs.Programs.{Program}
+use Rattle.expr_soundness.specs.meaning.specs.Targets.{activation_with, object_named, store_with, stored_to, whole}
+use Rattle.expr_soundness.specs.meaning.specs.Works.{Activation, InActivation, InPackage, Store}
 use Rattle.expr_code.specs.Coming.{Comes, on}
 use Rattle.expr_code.specs.Computing.{ComputesChecked, Everywhere}
 use Rattle.expr_code.specs.Seeing.{Package, Sees, library_of, slot_of}

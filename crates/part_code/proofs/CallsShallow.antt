@@ -12,10 +12,10 @@ use Rattle.types.specs.declared.entity.Subtype.{Subtype}
 use Rattle.types.specs.Entities.{Arrays, Booleans, Integers, Records, Spans, Times, TypeForm}
 use Rattle.types.specs.Layouts.{words_of}
 use Rattle.types.specs.Scopes.{Scope, form_at}
-use Rattle.expr_rules.specs.declared.names.Slot.TheVariants.{Expects, Takes}
-use Rattle.expr_rules.specs.declared.own.Wanted.TheVariants.{OfType}
-use Rattle.expr_rules.specs.ExpressionRules.{argument_faults}
-use Rattle.expr_rules.specs.NameRules.{formal_slot, label_rule}
+use Rattle.expr_soundness.specs.expr_rules.specs.declared.names.Slot.TheVariants.{Expects, Takes}
+use Rattle.expr_soundness.specs.expr_rules.specs.declared.own.Wanted.TheVariants.{OfType}
+use Rattle.expr_soundness.specs.expr_rules.specs.ExpressionRules.{argument_faults}
+use Rattle.expr_soundness.specs.expr_rules.specs.NameRules.{formal_slot, label_rule}
 use Rattle.expr_code.specs.Actuals.{ArePassedLegally}
 use Rattle.expr_code.specs.Code.{IsShallow}
 use Rattle.expr_code.specs.Refusing.{checked_peak, peak}

@@ -11,9 +11,9 @@ use Rattle.types.specs.Entities.{Arrays, Booleans, Integers, Records, Spans, Tim
 use Rattle.types.specs.Laws.{ValuesHaveWords}
 use Rattle.types.specs.Layouts.{words_of}
 use Rattle.types.specs.Scopes.{form_at}
-use Rattle.expr_rules.proofs.TypeShapes.{has_numbers}
+use Rattle.expr_soundness.specs.expr_rules.proofs.TypeShapes.{has_numbers}
 use Rattle.expr_soundness.specs.Laws.{AgreementIsKept}
-use Rattle.meaning.specs.Programs.{Program}
+use Rattle.expr_soundness.specs.meaning.specs.Programs.{Program}
 use Rattle.expr_code.specs.Coming.{on}
 use Rattle.expr_code.specs.Code.{Adds, Extends, Holds, here}
 use Rattle.expr_code.specs.Flows.{Flows}

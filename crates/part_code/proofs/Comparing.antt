@@ -7,9 +7,9 @@ use Rattle.kernel.specs.Calm.{Calm}
 use Rattle.kernel.specs.Counting.{Spends, Done}
 use Rattle.kernel.specs.Laws.{QuietStays}
 use Rattle.kernel.specs.RunLaws.{spends_more}
-use Rattle.meaning.specs.Programs.{Program}
-use Rattle.meaning.specs.SameMeaning.{frames_of}
-use Rattle.meaning.specs.SourceSteps.{is_chosen, some_chosen}
+use Rattle.expr_soundness.specs.meaning.specs.Programs.{Program}
+use Rattle.expr_soundness.specs.meaning.specs.SameMeaning.{frames_of}
+use Rattle.expr_soundness.specs.meaning.specs.SourceSteps.{is_chosen, some_chosen}
 use Rattle.image.specs.Sections.{Sections}
 use Rattle.image.specs.Frames.{Words, Frame}
 use Rattle.image.specs.Scalars as scalars

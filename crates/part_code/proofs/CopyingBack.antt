@@ -19,16 +19,16 @@ use Rattle.types.specs.Places.{Place}
 use Rattle.types.specs.Scopes.{Scope, form_at}
 use Rattle.types.specs.Shapes.{has_shape, shape_of}
 use Rattle.types.specs.Values.{Value, Number, Truth, Array, Record}
-use Rattle.expr_rules.specs.Laws.{type_shape}
-use Rattle.expr_rules.specs.declared.own.Own.TheVariants.{Typed}
-use Rattle.expr_rules.specs.Typing.{is_booleans}
-use Rattle.expr_rules.proofs.TypeShapes.{boolean_value, has_numbers, numeric_value, shape_by_form}
-use Rattle.expr_rules.proofs.TypedLaw.{as_number}
+use Rattle.expr_soundness.specs.expr_rules.specs.Laws.{type_shape}
+use Rattle.expr_soundness.specs.expr_rules.specs.declared.own.Own.TheVariants.{Typed}
+use Rattle.expr_soundness.specs.expr_rules.specs.Typing.{is_booleans}
+use Rattle.expr_soundness.specs.expr_rules.proofs.TypeShapes.{boolean_value, has_numbers, numeric_value, shape_by_form}
+use Rattle.expr_soundness.specs.expr_rules.proofs.TypedLaw.{as_number}
 use Rattle.expr_soundness.specs.Laws.{AgreementIsKept}
 use Rattle.expr_soundness.proofs.Parts.{subtype_values}
-use Rattle.meaning.specs.Programs.{Program}
-use Rattle.meaning.specs.Targets.{activation_with, store_with}
-use Rattle.meaning.specs.Works.{Activation, Store, Target}
+use Rattle.expr_soundness.specs.meaning.specs.Programs.{Program}
+use Rattle.expr_soundness.specs.meaning.specs.Targets.{activation_with, store_with}
+use Rattle.expr_soundness.specs.meaning.specs.Works.{Activation, Store, Target}
 use Rattle.expr_code.specs.Coming.{Comes, on}
 use Rattle.expr_code.specs.Computing.{Checks, Library}
 use Rattle.expr_code.specs.Seeing.{Package, library_of}

@@ -14,17 +14,17 @@ use Rattle.types.specs.Scopes.{Scope, number_of}
 use Rattle.types.specs.Standings.{select_all, stands_first, stands_for}
 use Rattle.types.specs.Statics.{Keeps, StaticIsValue, static_form, static_value}
 use Rattle.types.specs.Values.{Number, Truth, Value}
-use Rattle.expr_rules.specs.declared.own.Wanted.{Wanted}
-use Rattle.expr_rules.specs.ExpressionRules.{faults_in}
-use Rattle.expr_rules.specs.Laws.{is_value_of, suits}
-use Rattle.expr_rules.specs.Typing.{is_boolean, is_integral, own_of}
-use Rattle.expr_rules.proofs.TypedLaw.{as_number, as_truth, integral_numeric}
+use Rattle.expr_soundness.specs.expr_rules.specs.declared.own.Wanted.{Wanted}
+use Rattle.expr_soundness.specs.expr_rules.specs.ExpressionRules.{faults_in}
+use Rattle.expr_soundness.specs.expr_rules.specs.Laws.{is_value_of, suits}
+use Rattle.expr_soundness.specs.expr_rules.specs.Typing.{is_boolean, is_integral, own_of}
+use Rattle.expr_soundness.specs.expr_rules.proofs.TypedLaw.{as_number, as_truth, integral_numeric}
 use Rattle.expr_soundness.specs.Agreeing.{Agrees}
 use Rattle.expr_soundness.specs.Laws.{CallsAreTyped}
 use Rattle.expr_soundness.proofs.Expressions.{first_here}
 use Rattle.expr_soundness.proofs.FixedNames.{all_valueless}
 use Rattle.expr_soundness.proofs.Positions.{entity_number}
-use Rattle.meaning.specs.Programs.{Program}
+use Rattle.expr_soundness.specs.meaning.specs.Programs.{Program}
 use Rattle.expr_code.specs.Seeing.{Package, Sees}
 use Rattle.expr_code.specs.Views.{View}
 use Rattle.part_code.specs.Resting.{Framed}

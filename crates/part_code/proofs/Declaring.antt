@@ -26,9 +26,9 @@ use Rattle.expr_soundness.specs.Answers.{CallsAnswer}
 use Rattle.expr_soundness.specs.Laws.{AgreementIsKept, CallsAreTyped}
 use Rattle.expr_soundness.specs.SoundScopes.{IsKnown}
 use Rattle.expr_soundness.proofs.Agreement.{place_values}
-use Rattle.meaning.specs.Programs.{Program, subtype_named}
-use Rattle.meaning.specs.Works.{Activation, Store}
-use Rattle.meaning.specs.SameMeaning.{frames_of}
+use Rattle.expr_soundness.specs.meaning.specs.Programs.{Program, subtype_named}
+use Rattle.expr_soundness.specs.meaning.specs.Works.{Activation, Store}
+use Rattle.expr_soundness.specs.meaning.specs.SameMeaning.{frames_of}
 use Rattle.expr_code.specs.Coming.{most_steps, on}
 use Rattle.expr_code.specs.Computing.{ComputesChecked, Everywhere}
 use Rattle.expr_code.specs.Seeing.{Package, Sees, library_of}

@@ -12,8 +12,8 @@ use Rattle.ada_tree.specs.Size.{argument_size}
 use Rattle.image.specs.Sections.{Sections}
 use Rattle.types.specs.declared.entity.FormalParameter.{FormalParameter}
 use Rattle.types.specs.Layouts.{words_of}
-use Rattle.meaning.specs.Calls.{is_in, results}
-use Rattle.meaning.specs.Programs.{Parameter, Program}
+use Rattle.expr_soundness.specs.meaning.specs.Calls.{is_in, results}
+use Rattle.expr_soundness.specs.meaning.specs.Programs.{Parameter, Program}
 use Rattle.step_soundness.specs.Fitting.{formal_of}
 use Rattle.expr_code.specs.Actuals.{arguments_in_front}
 use Rattle.expr_code.specs.Code.{here}

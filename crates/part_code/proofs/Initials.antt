@@ -18,7 +18,7 @@ use Rattle.types.specs.Scopes.{Scope, base_range_of, form_at}
 use Rattle.types.specs.Shapes.{Grouped, Logical, Ranged, Repeated, Shape, Shapeless, Timed, component_shapes, fields_words, initial, initial_fields, initial_of, narrowed, repeated, shape_among, shape_of, shape_or_none, shapes, value_words, values_words, words}
 use Rattle.types.specs.Values.{Value}
 use Rattle.expr_soundness.specs.Agreeing.{Agrees}
-use Rattle.expr_rules.proofs.TypeShapes.{shape_by_form}
+use Rattle.expr_soundness.specs.expr_rules.proofs.TypeShapes.{shape_by_form}
 use Rattle.expr_soundness.specs.SoundScopes.{AreEarlier, IsKnown, SoundScope}
 use Rattle.expr_soundness.proofs.Goods.{not_empty, sound_form}
 use Rattle.expr_code.specs.Code.{Adds, Extends, Holds, here}

@@ -14,7 +14,7 @@ use Rattle.image.specs.declared.instruction.Operation.TheVariants as op
 use Rattle.image.specs.declared.instruction.Region.{Region}
 use Rattle.types.specs.Shapes.{value_words}
 use Rattle.types.specs.Values.{Value}
-use Rattle.meaning.specs.SameMeaning.{frames_of}
+use Rattle.expr_soundness.specs.meaning.specs.SameMeaning.{frames_of}
 use Rattle.expr_code.specs.Coming.{most_steps, on}
 use Rattle.expr_code.specs.Naming.{Lies}
 use Rattle.expr_code.specs.Views.{At, in_frame, placed}

@@ -12,10 +12,10 @@ use Rattle.types.specs.Places.{IsObject, Meaning, Object, Place, function_meanin
 use Rattle.types.specs.Scopes.{Named, Scope, form_at, number_of}
 use Rattle.types.specs.Shapes.{shape_of, value_words}
 use Rattle.types.specs.Values.{Number, Value}
-use Rattle.expr_rules.specs.declared.own.Own.TheVariants.{Typed}
-use Rattle.expr_rules.specs.Typing.{is_integers}
-use Rattle.expr_rules.proofs.TypedLaw.{integral_numeric}
-use Rattle.expr_rules.proofs.TypeShapes.{numeric_value}
+use Rattle.expr_soundness.specs.expr_rules.specs.declared.own.Own.TheVariants.{Typed}
+use Rattle.expr_soundness.specs.expr_rules.specs.Typing.{is_integers}
+use Rattle.expr_soundness.specs.expr_rules.proofs.TypedLaw.{integral_numeric}
+use Rattle.expr_soundness.specs.expr_rules.proofs.TypeShapes.{numeric_value}
 use Rattle.expr_soundness.specs.Agreeing.{Agrees, MeansObject, MeansOne}
 use Rattle.expr_soundness.specs.SoundScopes.{IsSoundObject}
 use Rattle.expr_soundness.proofs.Parts.{subtype_values}

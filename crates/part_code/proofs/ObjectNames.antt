@@ -9,7 +9,7 @@ use Rattle.types.specs.Entities as entity
 use Rattle.types.specs.Entities.{Entity}
 use Rattle.types.specs.Scopes.{Scope, entity_at, number_of}
 use Rattle.types.specs.Standings.{stands_first, stands_for}
-use Rattle.expr_rules.specs.NameRules.{is_changeable}
+use Rattle.expr_soundness.specs.expr_rules.specs.NameRules.{is_changeable}
 use Rattle.part_code.specs.Layout.{IsVariable, NamesObject}
 
 pub less_true : (x y : ℕ) → x < y → nat_lt x y ≡ true

@@ -4,7 +4,7 @@ use Rattle.std.specs.Prelude.{get_or}
 use Rattle.ada_tree.specs.declared.declaration.Mode.{Mode}
 use Rattle.ada_tree.specs.declared.declaration.Mode.TheVariants as mode
 use Rattle.types.specs.declared.entity.Subtype.{Subtype}
-use Rattle.meaning.specs.Calls.{is_out}
+use Rattle.expr_soundness.specs.meaning.specs.Calls.{is_out}
 use Rattle.expr_code.specs.Code.{IsShallow}
 use Rattle.expr_code.specs.declared.code.Code.{Code}
 use Rattle.expr_code.specs.declared.visible.Visible.{Visible}

@@ -6,8 +6,8 @@ use Rattle.types.specs.Laws.{ValuesHaveWords}
 use Rattle.types.specs.Shapes.{Shape, Repeated, Grouped, all_values, count_values, has_shape, shape_or_none, value_words}
 use Rattle.types.specs.Values.{Value, Number, Truth, Array, Record, Values, NoValues, MoreValues, Fields, NoFields, MoreFields, element_at, field_of}
 use Rattle.expr_soundness.proofs.Positions.{same_some}
-use Rattle.meaning.specs.Targets.{changed_element, changed_field, changed_part, component_at, part_value, with_part}
-use Rattle.meaning.specs.Works.{Part, Element, Field}
+use Rattle.expr_soundness.specs.meaning.specs.Targets.{changed_element, changed_field, changed_part, component_at, part_value, with_part}
+use Rattle.expr_soundness.specs.meaning.specs.Works.{Part, Element, Field}
 use Rattle.expr_code.specs.Naming.{Lies}
 use Rattle.expr_code.proofs.Locating.{element_shape, field_fits, window}
 use Rattle.part_code.specs.Parts.{ShapeHasPart, HasParts, inner, part_offset, part_shape}

@@ -7,8 +7,8 @@ use Rattle.types.specs.Laws.{ValuesHaveWords}
 use Rattle.types.specs.Layouts.{field_offset, further}
 use Rattle.types.specs.Shapes.{Shape, Shapes, NoShapes, MoreShapes, Repeated, Grouped, all_values, count_values, has_shape, have_shapes, fields_words, shape_or_none, value_words, values_words, words, words_of_parts}
 use Rattle.types.specs.Values.{Value, Number, Truth, Array, Record, Values, NoValues, MoreValues, Fields, NoFields, MoreFields}
-use Rattle.meaning.specs.Targets.{changed_element, changed_field, changed_part, with_part}
-use Rattle.meaning.specs.Works.{Part, Element, Field}
+use Rattle.expr_soundness.specs.meaning.specs.Targets.{changed_element, changed_field, changed_part, with_part}
+use Rattle.expr_soundness.specs.meaning.specs.Works.{Part, Element, Field}
 use Rattle.expr_code.specs.Locating.{shape_in}
 use Rattle.expr_code.specs.Naming.{Lies}
 use Rattle.part_code.specs.Layout.{AreApart}

@@ -24,11 +24,11 @@ use Rattle.types.specs.Layouts.{words_of}
 use Rattle.types.specs.Places.{Place, object_of}
 use Rattle.types.specs.Shapes.{shape_of, value_words}
 use Rattle.types.specs.Values.{Value}
-use Rattle.meaning.specs.Calls.{Actuals, copied_both, copied_out, value_or_nothing}
-use Rattle.meaning.specs.Programs.{Parameter}
-use Rattle.meaning.specs.SameMeaning.{frames_of}
-use Rattle.meaning.specs.Targets.{part_value, value_in}
-use Rattle.meaning.specs.Works.{Target}
+use Rattle.expr_soundness.specs.meaning.specs.Calls.{Actuals, copied_both, copied_out, value_or_nothing}
+use Rattle.expr_soundness.specs.meaning.specs.Programs.{Parameter}
+use Rattle.expr_soundness.specs.meaning.specs.SameMeaning.{frames_of}
+use Rattle.expr_soundness.specs.meaning.specs.Targets.{part_value, value_in}
+use Rattle.expr_soundness.specs.meaning.specs.Works.{Target}
 use Rattle.expr_code.specs.Coming.{Comes, most_steps, on}
 use Rattle.expr_code.specs.Naming.{Lies}
 use Rattle.expr_code.specs.Seeing.{Package, Sees, library_of}

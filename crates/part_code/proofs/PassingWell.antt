@@ -16,14 +16,14 @@ use Rattle.types.specs.Places.{Place, object_of}
 use Rattle.types.specs.Scopes.{Scope, form_at}
 use Rattle.types.specs.Shapes.{Shape, has_shape, shape_of}
 use Rattle.types.specs.Values.{Value}
-use Rattle.expr_rules.specs.Laws.{type_shape}
+use Rattle.expr_soundness.specs.expr_rules.specs.Laws.{type_shape}
 use Rattle.expr_soundness.specs.SoundScopes.{IsKnown}
 use Rattle.expr_soundness.proofs.Agreement.{place_values}
 use Rattle.expr_soundness.proofs.Parts.{subtype_values}
-use Rattle.meaning.specs.Calls.{Actuals, copied_both, copied_in, copied_out, is_out, value_or_nothing, with_actuals}
-use Rattle.meaning.specs.Programs.{Parameter, Program}
-use Rattle.meaning.specs.Targets.{value_in}
-use Rattle.meaning.specs.Works.{Target}
+use Rattle.expr_soundness.specs.meaning.specs.Calls.{Actuals, copied_both, copied_in, copied_out, is_out, value_or_nothing, with_actuals}
+use Rattle.expr_soundness.specs.meaning.specs.Programs.{Parameter, Program}
+use Rattle.expr_soundness.specs.meaning.specs.Targets.{value_in}
+use Rattle.expr_soundness.specs.meaning.specs.Works.{Target}
 use Rattle.step_soundness.specs.Fitting.{taken_types}
 use Rattle.step_soundness.specs.Objects.{AreOf, IsOf}
 use Rattle.expr_code.specs.Computing.{ArePassed}

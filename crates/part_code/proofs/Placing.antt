@@ -16,7 +16,7 @@ use Rattle.types.specs.Values.{Number, Value}
 use Rattle.expr_soundness.specs.Agreeing.{Agrees}
 use Rattle.expr_soundness.specs.Laws.{AgreementIsKept}
 use Rattle.expr_soundness.proofs.Positions.{same_some}
-use Rattle.meaning.specs.Works.{Activation}
+use Rattle.expr_soundness.specs.meaning.specs.Works.{Activation}
 use Rattle.expr_code.specs.Naming.{Lies}
 use Rattle.expr_code.specs.Seeing.{IsCoded, Package, SeesPackage, slot_of, subprogram_of, told_of}
 use Rattle.expr_code.specs.Views.{View}

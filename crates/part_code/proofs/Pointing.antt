@@ -24,9 +24,9 @@ use Rattle.types.specs.Values.{Value}
 use Rattle.expr_soundness.specs.Agreeing.{Agrees, MeansObject}
 use Rattle.expr_soundness.specs.SoundScopes.{SoundScope}
 use Rattle.expr_soundness.proofs.Positions.{same_some}
-use Rattle.meaning.specs.Targets.{all_selected, first_of, object_named, part_value, target_or_nothing, value_in, whole}
-use Rattle.meaning.specs.Works.{Home, InActivation, InPackage, Target}
-use Rattle.meaning.specs.SameMeaning.{frames_of}
+use Rattle.expr_soundness.specs.meaning.specs.Targets.{all_selected, first_of, object_named, part_value, target_or_nothing, value_in, whole}
+use Rattle.expr_soundness.specs.meaning.specs.Works.{Home, InActivation, InPackage, Target}
+use Rattle.expr_soundness.specs.meaning.specs.SameMeaning.{frames_of}
 use Rattle.expr_code.specs.Coming.{Comes, most_steps}
 use Rattle.expr_code.specs.Computing.{Everywhere}
 use Rattle.expr_code.specs.Locating.{IsPath}

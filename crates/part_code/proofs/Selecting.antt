@@ -20,22 +20,22 @@ use Rattle.types.specs.Places.{Place, is_among}
 use Rattle.types.specs.Scopes.{Scope, integer_type}
 use Rattle.types.specs.Statics.{StaticIsValue, start_of, static_form, static_value}
 use Rattle.types.specs.Values.{Number, Truth, Value, value_of}
-use Rattle.expr_rules.specs.declared.own.Own.{Own}
-use Rattle.expr_rules.specs.declared.own.Own.TheVariants.{Typed, Universal, Unknown}
-use Rattle.expr_rules.specs.declared.own.Wanted.{Wanted}
-use Rattle.expr_rules.specs.declared.own.Wanted.TheVariants.{Anything, OfType}
-use Rattle.expr_rules.specs.ExpressionRules.{faults_in, faults_of}
-use Rattle.expr_rules.specs.Faults.{rule}
-use Rattle.expr_rules.specs.Laws.{is_value_of, suits}
-use Rattle.expr_rules.specs.NameRules.{mismatch}
-use Rattle.expr_rules.specs.StaticRules.{form_rule, if_unbroken, static_faults, value_rule}
-use Rattle.expr_rules.specs.Typing.{is_boolean, is_integers, is_integral, is_known, own_of}
-use Rattle.expr_rules.proofs.TypedLaw.{as_number, as_truth, back_empty, front_empty, integral_numeric, unbroken}
-use Rattle.stmt_rules.specs.CaseRules.{choice_faults, choice_value, choices_wanted, chosen_with, discrete_rule, is_chosen, is_discrete, selecting_faults, values_faults}
+use Rattle.expr_soundness.specs.expr_rules.specs.declared.own.Own.{Own}
+use Rattle.expr_soundness.specs.expr_rules.specs.declared.own.Own.TheVariants.{Typed, Universal, Unknown}
+use Rattle.expr_soundness.specs.expr_rules.specs.declared.own.Wanted.{Wanted}
+use Rattle.expr_soundness.specs.expr_rules.specs.declared.own.Wanted.TheVariants.{Anything, OfType}
+use Rattle.expr_soundness.specs.expr_rules.specs.ExpressionRules.{faults_in, faults_of}
+use Rattle.expr_soundness.specs.expr_rules.specs.Faults.{rule}
+use Rattle.expr_soundness.specs.expr_rules.specs.Laws.{is_value_of, suits}
+use Rattle.expr_soundness.specs.expr_rules.specs.NameRules.{mismatch}
+use Rattle.expr_soundness.specs.expr_rules.specs.StaticRules.{form_rule, if_unbroken, static_faults, value_rule}
+use Rattle.expr_soundness.specs.expr_rules.specs.Typing.{is_boolean, is_integers, is_integral, is_known, own_of}
+use Rattle.expr_soundness.specs.expr_rules.proofs.TypedLaw.{as_number, as_truth, back_empty, front_empty, integral_numeric, unbroken}
+use Rattle.step_soundness.specs.stmt_rules.specs.CaseRules.{choice_faults, choice_value, choices_wanted, chosen_with, discrete_rule, is_chosen, is_discrete, selecting_faults, values_faults}
 use Rattle.expr_soundness.specs.Laws.{CallsAreTyped}
 use Rattle.expr_soundness.specs.SoundScopes.{SoundScope}
 use Rattle.expr_soundness.proofs.Expressions.{not_false}
-use Rattle.meaning.specs.Programs.{Program}
+use Rattle.expr_soundness.specs.meaning.specs.Programs.{Program}
 use Rattle.expr_code.specs.Branches.{Joins}
 use Rattle.expr_code.specs.Code.{Extends, Holds, here}
 use Rattle.expr_code.specs.Flows.{AreKeptBetween}

@@ -26,9 +26,9 @@ use Rattle.types.specs.Places.{Function, IsObject, Meaning, Object, Place, funct
 use Rattle.types.specs.Scopes.{Scope, entity_at, number_of}
 use Rattle.types.specs.Evaluating.{Calls, passed}
 use Rattle.expr_soundness.proofs.Positions.{same_some}
-use Rattle.meaning.specs.Targets.{all_selected, first_of, object_named, own_component, target_or_nothing, whole}
-use Rattle.meaning.specs.Works.{Home, InActivation, InObject, InPackage, Target}
-use Rattle.meaning.specs.SameMeaning.{frames_of}
+use Rattle.expr_soundness.specs.meaning.specs.Targets.{all_selected, first_of, object_named, own_component, target_or_nothing, whole}
+use Rattle.expr_soundness.specs.meaning.specs.Works.{Home, InActivation, InObject, InPackage, Target}
+use Rattle.expr_soundness.specs.meaning.specs.SameMeaning.{frames_of}
 use Rattle.expr_code.specs.Coming.{Comes, most_steps, on}
 use Rattle.expr_code.specs.Views.{At, Sight, in_frame, placed}
 use Rattle.expr_code.specs.Computing.{Everywhere, Library}

@@ -25,9 +25,9 @@ use Rattle.expr_soundness.specs.Laws.{AgreementIsKept}
 use Rattle.expr_soundness.specs.SoundScopes.{IsKnown}
 use Rattle.expr_soundness.proofs.Agreement.{place_values}
 use Rattle.expr_soundness.proofs.Goods.{object_known}
-use Rattle.meaning.specs.Programs.{Program}
-use Rattle.meaning.specs.Targets.{activation_with, store_with, stored_in, stored_to, with_part}
-use Rattle.meaning.specs.Works.{Activation, InActivation, InPackage, Store, Target}
+use Rattle.expr_soundness.specs.meaning.specs.Programs.{Program}
+use Rattle.expr_soundness.specs.meaning.specs.Targets.{activation_with, store_with, stored_in, stored_to, with_part}
+use Rattle.expr_soundness.specs.meaning.specs.Works.{Activation, InActivation, InPackage, Store, Target}
 use Rattle.expr_code.specs.Coming.{on}
 use Rattle.expr_code.specs.Naming.{Lies}
 use Rattle.expr_code.specs.Seeing.{Package, Sees, slot_of}

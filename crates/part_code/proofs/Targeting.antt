@@ -29,9 +29,9 @@ use Rattle.types.specs.Standings.{component_of}
 use Rattle.types.specs.Values.{Value, Number}
 use Rattle.expr_soundness.specs.SoundScopes.{SoundScope}
 use Rattle.expr_soundness.proofs.Goods.{sound_form}
-use Rattle.meaning.specs.SameMeaning.{frames_of}
-use Rattle.meaning.specs.Targets.{all_selected, element_of, part_of, selected}
-use Rattle.meaning.specs.Works.{Part, Element, Field, Target}
+use Rattle.expr_soundness.specs.meaning.specs.SameMeaning.{frames_of}
+use Rattle.expr_soundness.specs.meaning.specs.Targets.{all_selected, element_of, part_of, selected}
+use Rattle.expr_soundness.specs.meaning.specs.Works.{Part, Element, Field, Target}
 use Rattle.expr_code.specs.Views.{At, frames_above, in_frame, placed, Sight, View, view_of}
 use Rattle.expr_code.specs.Coming.{Comes, most_steps, on}
 use Rattle.expr_code.specs.Computing.{Answers, ComesToNumber, Library}

@@ -26,17 +26,17 @@ use Rattle.types.specs.Layouts.{words_of}
 use Rattle.types.specs.Scopes.{Scope, base_range_of, form_at, is_visible, number_of}
 use Rattle.types.specs.Shapes.{shape_of}
 use Rattle.types.specs.Standings.{select_all, standing_of, stands_first}
-use Rattle.expr_rules.specs.declared.names.Slot.{Slot as Expected}
-use Rattle.expr_rules.specs.declared.names.Slot.TheVariants.{Expects, Takes}
-use Rattle.expr_rules.specs.declared.own.Own.TheVariants.{Typed}
-use Rattle.expr_rules.specs.declared.own.Wanted.TheVariants.{OfType}
-use Rattle.expr_rules.specs.ExpressionRules.{argument_faults, faults_in, selectors_faults}
-use Rattle.expr_rules.specs.Faults.{rule}
-use Rattle.expr_rules.specs.NameRules.{formal_slot, is_changeable, mismatch, value_rule, variable_rule}
-use Rattle.expr_rules.proofs.TypedLaw.{back_empty, front_empty, same_number, unbroken}
+use Rattle.expr_soundness.specs.expr_rules.specs.declared.names.Slot.{Slot as Expected}
+use Rattle.expr_soundness.specs.expr_rules.specs.declared.names.Slot.TheVariants.{Expects, Takes}
+use Rattle.expr_soundness.specs.expr_rules.specs.declared.own.Own.TheVariants.{Typed}
+use Rattle.expr_soundness.specs.expr_rules.specs.declared.own.Wanted.TheVariants.{OfType}
+use Rattle.expr_soundness.specs.expr_rules.specs.ExpressionRules.{argument_faults, faults_in, selectors_faults}
+use Rattle.expr_soundness.specs.expr_rules.specs.Faults.{rule}
+use Rattle.expr_soundness.specs.expr_rules.specs.NameRules.{formal_slot, is_changeable, mismatch, value_rule, variable_rule}
+use Rattle.expr_soundness.specs.expr_rules.proofs.TypedLaw.{back_empty, front_empty, same_number, unbroken}
 use Rattle.expr_soundness.specs.SoundScopes.{AreKnown, IsKnown}
 use Rattle.expr_soundness.proofs.Goods.{not_empty}
-use Rattle.meaning.specs.Calls.{is_in}
+use Rattle.expr_soundness.specs.meaning.specs.Calls.{is_in}
 use Rattle.expr_code.specs.Actuals.{IsPassedLegally}
 use Rattle.expr_code.specs.Code.{Extends, Holds, here}
 use Rattle.expr_code.specs.Emitting as expressions

@@ -22,7 +22,7 @@ use Rattle.types.specs.Layouts.{words_of}
 use Rattle.types.specs.Scopes.{Scope, form_at, number_of}
 use Rattle.types.specs.Shapes.{shape_of}
 use Rattle.types.specs.Standings.{select_all, standing_of, stands_first}
-use Rattle.expr_rules.specs.Typing.{is_booleans, is_integers}
+use Rattle.expr_soundness.specs.expr_rules.specs.Typing.{is_booleans, is_integers}
 use Rattle.expr_code.specs.Code.{here}
 use Rattle.expr_code.specs.Emitting.{is_composite}
 use Rattle.expr_code.specs.Refusing.{HasUnfitObject, IsRefused, IsRefusedBeside, IsUnfit, RefusesAddress, RefusesFitting, checked_peak, is_fit, is_outside, peak}

@@ -18,8 +18,8 @@ use Rattle.expr_soundness.specs.Agreeing.{Agrees, MeansOne}
 use Rattle.expr_soundness.specs.Answers.{FunctionsAreSound, are_actuals}
 use Rattle.expr_soundness.specs.Laws.{AgreementIsKept}
 use Rattle.expr_soundness.proofs.Positions.{same_some}
-use Rattle.meaning.specs.Programs.{Program}
-use Rattle.meaning.specs.Works.{Store}
+use Rattle.expr_soundness.specs.meaning.specs.Programs.{Program}
+use Rattle.expr_soundness.specs.meaning.specs.Works.{Store}
 use Rattle.expr_code.specs.Naming.{Lies}
 use Rattle.expr_code.specs.Seeing.{Package, SeesPackage, outside}
 use Rattle.expr_code.specs.Views.{View}

@@ -7,8 +7,8 @@ use Rattle.kernel.specs.Effects.{Quiet}
 use Rattle.kernel.specs.Calm.{Calm}
 use Rattle.kernel.specs.Counting.{Spends}
 use Rattle.kernel.specs.Laws.{QuietStays}
-use Rattle.meaning.specs.MeetingLaws.{quiet_spends}
-use Rattle.meaning.specs.SameMeaning.{frames_of}
+use Rattle.expr_soundness.specs.meaning.specs.MeetingLaws.{quiet_spends}
+use Rattle.expr_soundness.specs.meaning.specs.SameMeaning.{frames_of}
 use Rattle.image.specs.Sections.{Sections}
 use Rattle.image.specs.Frames.{Words, Frame}
 use Rattle.image.specs.Scalars.{are_equal, word_of}

@@ -9,8 +9,8 @@ use Rattle.types.specs.Evaluations.{Gives}
 use Rattle.types.specs.Scopes.{Scope}
 use Rattle.types.specs.Statics.{static_form, static_value}
 use Rattle.types.specs.Values.{value_of}
-use Rattle.expr_rules.specs.Typing.{own_of}
-use Rattle.stmt_rules.specs.CaseRules.{choices_faults, choices_wanted}
+use Rattle.expr_soundness.specs.expr_rules.specs.Typing.{own_of}
+use Rattle.step_soundness.specs.stmt_rules.specs.CaseRules.{choices_faults, choices_wanted}
 use Rattle.expr_code.specs.Code.{Adds, here}
 use Rattle.expr_code.specs.Naming.{scalar_word}
 use Rattle.expr_code.specs.declared.code.Code.{Code}

@@ -25,11 +25,11 @@ use Rattle.types.specs.Places.{Place, object_of}
 use Rattle.types.specs.Scopes.{Scope, entity_at, form_at, number_of}
 use Rattle.types.specs.Shapes.{Shape, Shapeless, has_shape, shape_of, value_words}
 use Rattle.types.specs.Values.{Value}
-use Rattle.meaning.specs.Calls.{Actuals, copied_both, copied_in, copied_out, is_out, results_in, value_or_nothing, with_actuals}
-use Rattle.meaning.specs.Programs.{Parameter, Program}
-use Rattle.meaning.specs.SameMeaning.{frames_of}
-use Rattle.meaning.specs.Targets.{activation_with, all_selected, object_named, store_with, target_or_nothing, value_in}
-use Rattle.meaning.specs.Works.{Activation, Home, InActivation, InPackage, InObject, Store, Target}
+use Rattle.expr_soundness.specs.meaning.specs.Calls.{Actuals, copied_both, copied_in, copied_out, is_out, results_in, value_or_nothing, with_actuals}
+use Rattle.expr_soundness.specs.meaning.specs.Programs.{Parameter, Program}
+use Rattle.expr_soundness.specs.meaning.specs.SameMeaning.{frames_of}
+use Rattle.expr_soundness.specs.meaning.specs.Targets.{activation_with, all_selected, object_named, store_with, target_or_nothing, value_in}
+use Rattle.expr_soundness.specs.meaning.specs.Works.{Activation, Home, InActivation, InPackage, InObject, Store, Target}
 use Rattle.expr_code.specs.Views.{At, in_frame, placed, view_of}
 use Rattle.expr_code.specs.Coming.{Comes, most_steps, on}
 use Rattle.expr_code.specs.Seeing.{Package, slot_of}

@@ -15,9 +15,9 @@ use Rattle.types.specs.Operators.{are_same}
 use Rattle.types.specs.Places.{Place}
 use Rattle.types.specs.Scopes.{integer}
 use Rattle.types.specs.Values.{Value, Number}
-use Rattle.meaning.specs.SameMeaning.{frames_of}
-use Rattle.meaning.specs.SourceSteps.{number_computed}
-use Rattle.meaning.specs.Works.{Activation}
+use Rattle.expr_soundness.specs.meaning.specs.SameMeaning.{frames_of}
+use Rattle.expr_soundness.specs.meaning.specs.SourceSteps.{number_computed}
+use Rattle.expr_soundness.specs.meaning.specs.Works.{Activation}
 use Rattle.base.specs.Arithmetic.{difference_of, sum_of}
 use Rattle.expr_code.specs.Views.{At, in_frame, placed, view_of}
 use Rattle.expr_code.specs.Coming.{Comes, most_steps}

@@ -8,7 +8,7 @@ use Rattle.handlers.specs.Innermost.{handler_of}
 use Rattle.image.specs.Sections.{Sections}
 use Rattle.image.specs.Frames.{Frame, Words}
 use Rattle.image.specs.Steps.{act, does}
-use Rattle.meaning.specs.Works.{Activation}
+use Rattle.expr_soundness.specs.meaning.specs.Works.{Activation}
 use Rattle.expr_code.specs.Seeing.{Package}
 use Rattle.expr_code.specs.Views.{in_frame, placed}
 use Rattle.part_code.specs.Resting.{Framed, HeldWord, RestsWith, Shows}

@@ -1,3 +1,11 @@
+pub use Rattle.ada_tree as ada_tree
+pub use Rattle.base as base
+pub use Rattle.expr_code as expr_code
+pub use Rattle.handlers as handlers
+pub use Rattle.image as image
+pub use Rattle.step_soundness as step_soundness
+pub use Rattle.step_soundness.specs.stmt_rules as stmt_rules
+pub use Rattle.types as types
 pub mod Resting
 pub mod Handling
 pub mod Jumping

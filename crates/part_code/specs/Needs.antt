@@ -23,7 +23,7 @@ use Rattle.types.specs.Shapes.{Grouped, Logical, MoreShapes, NoShapes, Ranged, R
 use Rattle.types.specs.Standings.{standing_of, stands_first}
 use Rattle.types.specs.Statics.{static_fault}
 use Rattle.type_rules.specs.SubtypeNames.{subtype_of}
-use Rattle.declaring.specs.LocalRules.{local_scope}
+use Rattle.expr_soundness.specs.declaring.specs.LocalRules.{local_scope}
 use Rattle.step_soundness.specs.Fitting.{entity_named}
 use Rattle.expr_code.specs.Branches.{Branch}
 use Rattle.expr_code.specs.Code.{here}

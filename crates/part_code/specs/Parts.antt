@@ -2,7 +2,7 @@
 use Rattle.std.specs.Prelude.{◌≡◌, ℕ, ◌+◌, ◌*◌, ◌<◌, List, [], ◌∷◌, Option, Some, None, ⊤}
 use Rattle.types.specs.Layouts.{field_offset}
 use Rattle.types.specs.Shapes.{Shape, Repeated, Grouped, Shapeless, shape_or_none, words}
-use Rattle.meaning.specs.Works.{Part, Element, Field}
+use Rattle.expr_soundness.specs.meaning.specs.Works.{Part, Element, Field}
 use Rattle.expr_code.specs.Locating.{shape_in}
 
 abbrev pub inner : Shape → Part → Shape

@@ -21,8 +21,8 @@ use Rattle.types.specs.Places.{Place}
 use Rattle.types.specs.Scopes.{Scope, form_at, number_of}
 use Rattle.types.specs.Shapes.{shape_of}
 use Rattle.types.specs.Standings.{stands_first}
-use Rattle.meaning.specs.Calls.{Actuals, results}
-use Rattle.meaning.specs.Programs.{Parameter, Program}
+use Rattle.expr_soundness.specs.meaning.specs.Calls.{Actuals, results}
+use Rattle.expr_soundness.specs.meaning.specs.Programs.{Parameter, Program}
 use Rattle.step_soundness.specs.Fitting.{formal_of, taken_types}
 use Rattle.step_soundness.specs.Objects.{AreOf}
 use Rattle.expr_code.specs.Actuals.{arguments_in_front}

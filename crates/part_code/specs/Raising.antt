@@ -6,7 +6,7 @@ use Rattle.ada_tree.specs.declared.statement.ExceptionChoice.{ExceptionChoice}
 use Rattle.ada_tree.specs.declared.statement.ExceptionChoice.TheVariants as choice
 use Rattle.image.specs.declared.instruction.Operation.{Operation}
 use Rattle.image.specs.declared.instruction.Operation.TheVariants as op
-use Rattle.meaning.specs.Programs.{Program, exception_name, exception_number}
+use Rattle.expr_soundness.specs.meaning.specs.Programs.{Program, exception_name, exception_number}
 use Rattle.step_soundness.specs.Objects.{IsException}
 
 -- numbers are those of places, from 1 on, in images, which have at most 36 exceptions (docs/FORMATS.md)

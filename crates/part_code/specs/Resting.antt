@@ -5,8 +5,8 @@ use Rattle.image.specs.declared.instruction.Region.{Region}
 use Rattle.image.specs.declared.instruction.Region.TheVariants as regions
 use Rattle.types.specs.Places.{Object, Place, is_among, object_of}
 use Rattle.expr_soundness.specs.Answers.{FunctionsAreSound}
-use Rattle.meaning.specs.Programs.{Program}
-use Rattle.meaning.specs.Works.{Activation, Store}
+use Rattle.expr_soundness.specs.meaning.specs.Programs.{Program}
+use Rattle.expr_soundness.specs.meaning.specs.Works.{Activation, Store}
 use Rattle.expr_code.specs.Views.{View}
 use Rattle.expr_code.specs.Seeing.{Package, Sees, SeesPackage, slot_of}
 use Rattle.expr_code.specs.declared.visible.Slot.{Slot}

@@ -7,8 +7,8 @@ use Rattle.kernel.specs.Counting.{Spends}
 use Rattle.image.specs.Sections.{Sections, first_place}
 use Rattle.image.specs.Frames.{Frame, Words}
 use Rattle.image.specs.Steps.{behaviour}
-use Rattle.meaning.specs.SameMeaning.{frames_of}
-use Rattle.meaning.specs.SourceSteps.{chooses, some_covers}
+use Rattle.expr_soundness.specs.meaning.specs.SameMeaning.{frames_of}
+use Rattle.expr_soundness.specs.meaning.specs.SourceSteps.{chooses, some_covers}
 use Rattle.image.specs.Operations.{called}
 use Rattle.image.specs.Texts.{text_at}
 use Rattle.image.specs.declared.instruction.Operation.TheVariants as op
@@ -27,8 +27,8 @@ use Rattle.types.specs.Values as values
 use Rattle.types.specs.Evaluations.{Gives}
 use Rattle.types.specs.Evaluating.{Calls, val}
 use Rattle.type_rules.specs.SubtypeNames.{named_entity}
-use Rattle.meaning.specs.Programs.{Parameter, Procedure, Program, exception_number}
-use Rattle.meaning.specs.Calls.{Actuals, Callee, activation_of, callee_by, procedure_here, results}
+use Rattle.expr_soundness.specs.meaning.specs.Programs.{Parameter, Procedure, Program, exception_number}
+use Rattle.expr_soundness.specs.meaning.specs.Calls.{Actuals, Callee, activation_of, callee_by, procedure_here, results}
 use Rattle.step_soundness.specs.Fitting.{taken_types}
 use Rattle.step_soundness.specs.Objects.{AreOf, IsException}
 use Rattle.expr_code.specs.Views.{At, View, in_frame, placed, view_of}
@@ -41,7 +41,7 @@ use Rattle.part_code.specs.declared.call.Destination.{Destination}
 use Rattle.part_code.specs.Counting.{IsCounted, IsRange}
 use Rattle.part_code.specs.Handling.{GoesBy, Handling, KeepsException, unhandled}
 use Rattle.part_code.specs.Storing.{Assigns, Stores, assigned, declared, object_declared}
-use Rattle.meaning.specs.Targets.{activation_with, store_with}
+use Rattle.expr_soundness.specs.meaning.specs.Targets.{activation_with, store_with}
 
 -- the ways out of a statement: behind the innermost loop, and to the end of the body; and the word that holds the exception of the handler around it
 pub record Ways : Type 0 where

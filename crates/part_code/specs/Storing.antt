@@ -17,10 +17,10 @@ use Rattle.types.specs.Values.{Value}
 use Rattle.types.specs.Evaluations.{Val, Gives, Meaningless, Raises, and_then}
 use Rattle.types.specs.Places.{Object, Place}
 use Rattle.types.specs.Evaluating.{Calls, call, passed, value_with}
-use Rattle.meaning.specs.Programs.{Program, subtype_named}
-use Rattle.meaning.specs.SameMeaning.{frames_of}
-use Rattle.meaning.specs.Works.{Activation, Store, Target}
-use Rattle.meaning.specs.Targets.{all_selected, object_named, target_or_nothing}
+use Rattle.expr_soundness.specs.meaning.specs.Programs.{Program, subtype_named}
+use Rattle.expr_soundness.specs.meaning.specs.SameMeaning.{frames_of}
+use Rattle.expr_soundness.specs.meaning.specs.Works.{Activation, Store, Target}
+use Rattle.expr_soundness.specs.meaning.specs.Targets.{all_selected, object_named, target_or_nothing}
 use Rattle.expr_code.specs.Views.{At, frames_above, in_frame, placed, view_of}
 use Rattle.expr_code.specs.Coming.{Comes, most_steps}
 use Rattle.expr_code.specs.Computing.{Answers, Everywhere}

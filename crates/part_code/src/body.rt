@@ -5,7 +5,7 @@ ghost use Rattle.expr_code.specs.Code.{here, IsShallow};
 ghost use Rattle.expr_code.specs.Refusing.{IsRefused};
 ghost use Rattle.expr_code.specs.Flows.{Flows};
 ghost use Rattle.image.specs.Rules.{is_block};
-ghost use Rattle.meaning.specs.Calls.{is_out};
+ghost use Rattle.expr_soundness.specs.meaning.specs.Calls.{is_out};
 ghost use Rattle.part_code.specs.Emitting.{EmitsObject};
 ghost use Rattle.part_code.specs.Formals.{AddsLoaded, AddsReturned, HasRoomAt, HasWord, Initialises, Returns, ReturnsOne};
 ghost use Rattle.part_code.specs.Needs.{given_back, given_if_any, RefusesOut, RefusesOuts, RefusesReturned, all_given, initial_needs, outs_needs};

@@ -1,9 +1,9 @@
 -- Behind the whole package each name means, in the package's own bodies, what it stands for, and statements find there what they name.
 use Rattle.std.proofs.Common.{◌≡◌, ℕ, zero, suc, List, [], ◌∷◌, ◌++◌, Bool, true, false, cond, ◌⊎◌, inl, inr, Option, Some, None, refl, sym, ap, ◌∙◌, subst}
 use Rattle.std.specs.Prelude.{bytes_eq, option_map, position, slice_get}
-use Rattle.base.specs.Names.{predefined}
-use Rattle.ada_tree.specs.declared.expression.Identifier.{Identifier}
-use Rattle.ada_tree.specs.ProgramTree.{BodyItemTree, OfItem, SubprogramBody, TaskBody, ProtectedBody, OfType, OfObject, OfException, OfSubprogram, OfTask, OfProtected}
+use Rattle.expr_soundness.specs.base.specs.Names.{predefined}
+use Rattle.expr_soundness.specs.ada_tree.specs.declared.expression.Identifier.{Identifier}
+use Rattle.expr_soundness.specs.ada_tree.specs.ProgramTree.{BodyItemTree, OfItem, SubprogramBody, TaskBody, ProtectedBody, OfType, OfObject, OfException, OfSubprogram, OfTask, OfProtected}
 use Rattle.types.specs.declared.entity.Role.{Role}
 use Rattle.types.specs.declared.entity.Role.TheVariants as role
 use Rattle.types.specs.declared.entity.Subtype.{Subtype}
@@ -16,9 +16,9 @@ use Rattle.types.specs.Places.{Function, Meaning, Object, Place, IsObject, funct
 use Rattle.expr_soundness.specs.Agreeing.{Agrees, Means, MeansFunction, MeansObject, MeansOne, OffersFunction}
 use Rattle.expr_soundness.proofs.Positions.{first_place, place_is}
 use Rattle.expr_soundness.proofs.Parts.{subtype_values}
-use Rattle.meaning.specs.Programs.{Procedure, Program, exception_number, exceptions_among, items_among}
-use Rattle.meaning.specs.Works.{Store}
-use Rattle.meaning.specs.Calls.{procedure_among, procedure_here}
+use Rattle.expr_soundness.specs.meaning.specs.Programs.{Procedure, Program, exception_number, exceptions_among, items_among}
+use Rattle.expr_soundness.specs.meaning.specs.Works.{Store}
+use Rattle.expr_soundness.specs.meaning.specs.Calls.{procedure_among, procedure_here}
 use Rattle.step_soundness.specs.Objects.{AreSoundObjects, IsOf, object_subtype}
 use Rattle.step_soundness.specs.Fitting.{FitsScope, IsCalled, IsFound, IsOperation, IsProcedure, entity_named, is_result}
 use Rattle.step_soundness.specs.Holding.{inside}

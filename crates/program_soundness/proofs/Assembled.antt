@@ -2,14 +2,14 @@
 use Rattle.std.proofs.Common.{◌≡◌, ℕ, List, map, take, Option, Some, None, refl, sym, ap, ◌∙◌, subst}
 use Rattle.std.specs.Prelude.{is_some, slice_get}
 use Rattle.std.proofs.lemmas.List.{take-map}
-use Rattle.ada_tree.specs.declared.expression.Identifier.{Identifier}
-use Rattle.ada_tree.specs.ProgramTree.{BodyItemTree, ItemTree, OfItem, PackageTree, ProgramTree, ProtectedBody, ProtectedItemTree}
+use Rattle.expr_soundness.specs.ada_tree.specs.declared.expression.Identifier.{Identifier}
+use Rattle.expr_soundness.specs.ada_tree.specs.ProgramTree.{BodyItemTree, ItemTree, OfItem, PackageTree, ProgramTree, ProtectedBody, ProtectedItemTree}
 use Rattle.types.specs.Entities.{Protected, ProtectedObject}
 use Rattle.types.specs.Scopes.{Scope, with_name}
 use Rattle.types.specs.Entities.{LibraryUnit}
-use Rattle.expr_rules.proofs.TypedLaw.{back_empty, front_empty}
-use Rattle.type_rules.specs.ProfileRules.{subprogram_scope}
-use Rattle.type_rules.specs.SubtypeNames.{end_rule}
+use Rattle.expr_soundness.specs.expr_rules.proofs.TypedLaw.{back_empty, front_empty}
+use Rattle.expr_soundness.specs.type_rules.specs.ProfileRules.{subprogram_scope}
+use Rattle.expr_soundness.specs.type_rules.specs.SubtypeNames.{end_rule}
 use Rattle.declaring.specs.BodyNames.{components_scope}
 use Rattle.legality.specs.MainRules.{main_scope, main_statements_faults}
 use Rattle.declaring.specs.PackageNames.{body_items_scope}
@@ -18,8 +18,8 @@ use Rattle.checking.specs.ProgramRules.{IsLegal}
 use Rattle.ravenscar.specs.ProgramRules.{IsRestricted}
 use Rattle.expr_soundness.specs.SoundScopes.{SoundScope}
 use Rattle.expr_soundness.specs.Laws.{ScopesAreSound}
-use Rattle.meaning.specs.Programs.{Program, main_task, program_of}
-use Rattle.meaning.specs.Works.{Store}
+use Rattle.expr_soundness.specs.meaning.specs.Programs.{Program, main_task, program_of}
+use Rattle.expr_soundness.specs.meaning.specs.Works.{Store}
 use Rattle.step_soundness.specs.Laws.{Premises}
 use Rattle.step_soundness.specs.Holding.{IsSoundProcedure}
 use Rattle.program_soundness.specs.Fronts.{declared_in, scope_at, start_in}

@@ -1,11 +1,11 @@
 -- A barrier is the bare name of a component, True or False, so it tells the same while the components of its object do.
 use Rattle.std.proofs.Common.{◌≡◌, ◌++◌, ℕ, List, [], ◌∷◌, map, Bool, true, false, not, ◌&&◌, Option, Some, None, refl, sym, ap, ◌∙◌}
 use Rattle.std.specs.Prelude.{⊤, cond, is_some}
-use Rattle.base.specs.declared.faults.TheConstants.{WRONG_BARRIER}
-use Rattle.ada_tree.specs.declared.expression.Identifier.{Identifier}
-use Rattle.ada_tree.specs.ExpressionTree.{ExprTree, Named, NoSelectors, bare_name}
-use Rattle.ada_tree.specs.StatementTree.{SubprogramTree}
-use Rattle.ada_tree.specs.ProgramTree.{BodyItemTree, BodyTree, OfItem, SubprogramBody, TaskBody, ProtectedBody, OperationBody, EntryBody, PackageTree, ProgramTree, ProtectedItemTree}
+use Rattle.expr_soundness.specs.base.specs.declared.faults.TheConstants.{WRONG_BARRIER}
+use Rattle.expr_soundness.specs.ada_tree.specs.declared.expression.Identifier.{Identifier}
+use Rattle.expr_soundness.specs.ada_tree.specs.ExpressionTree.{ExprTree, Named, NoSelectors, bare_name}
+use Rattle.expr_soundness.specs.ada_tree.specs.StatementTree.{SubprogramTree}
+use Rattle.expr_soundness.specs.ada_tree.specs.ProgramTree.{BodyItemTree, BodyTree, OfItem, SubprogramBody, TaskBody, ProtectedBody, OperationBody, EntryBody, PackageTree, ProgramTree, ProtectedItemTree}
 use Rattle.types.specs.declared.entity.PredefinedOperation.TheVariants as predefined
 use Rattle.types.specs.declared.entity.RecordComponent.{RecordComponent}
 use Rattle.types.specs.Entities.{Entity, OfType, OfSubtype, Object, Constant, Literal, Exception, Subprogram, Entry, Predefined, Put, Task, Protected, LibraryUnit, Doubtful}
@@ -17,16 +17,16 @@ use Rattle.types.specs.Evaluations.{Gives}
 use Rattle.types.specs.Evaluating.{Calls, call, ended, fixed_value, val}
 use Rattle.types.specs.Places.{IsFunction, IsNothing, IsObject, IsPredefined, IsProtected, IsSubtype, IsValue, Meaning, Place, is_of, meaning_in_scope, meaning_of_entity, meaning_or, object_meaning, object_of, object_stands, or_else}
 use Rattle.types.specs.Places as places
-use Rattle.expr_rules.proofs.TypedLaw.{back_empty, front_empty, unbroken}
+use Rattle.expr_soundness.specs.expr_rules.proofs.TypedLaw.{back_empty, front_empty, unbroken}
 use Rattle.declaring.specs.PackageNames.{body_item_scope, inside_scope, program_scope, specified_scope}
 use Rattle.legality.specs.MainRules.{main_scope}
-use Rattle.body_restrictions.specs.BodyRules.{barrier_rule, body_faults, is_simple_name, operation_faults, operations_faults}
+use Rattle.step_soundness.specs.body_restrictions.specs.BodyRules.{barrier_rule, body_faults, is_simple_name, operation_faults, operations_faults}
 use Rattle.ravenscar.specs.PragmaRules.{pragma_faults}
 use Rattle.ravenscar.specs.ProgramRules.{IsRestricted, body_item_faults, body_items_faults, components_named, items_faults, package_part_faults}
 use Rattle.ravenscar.specs.TaskingRules.{aspect_faults}
-use Rattle.meaning.specs.Programs.{Procedure, object_numbered, operation_procedures, package_bodies, parameter, procedure_of, procedures_among, program_of}
-use Rattle.meaning.specs.Calls.{barrier_of, barrier_place, holds_at, is_open, is_true}
-use Rattle.meaning.specs.Works.{Store}
+use Rattle.expr_soundness.specs.meaning.specs.Programs.{Procedure, object_numbered, operation_procedures, package_bodies, parameter, procedure_of, procedures_among, program_of}
+use Rattle.expr_soundness.specs.meaning.specs.Calls.{barrier_of, barrier_place, holds_at, is_open, is_true}
+use Rattle.expr_soundness.specs.meaning.specs.Works.{Store}
 use Rattle.expr_soundness.proofs.Expressions.{not_false}
 use Rattle.step_soundness.specs.Laws.{BarriersAreOwn}
 

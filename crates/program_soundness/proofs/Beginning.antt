@@ -1,22 +1,22 @@
 -- A body that breaks no rule can be begun: its declarations, then its statements with their handlers (RM 3.11, 11.2).
 use Rattle.std.proofs.Common.{◌≡◌, ℕ, List, [], ◌∷◌, ◌++◌, map, Bool, true, false, Option, Some, None, refl, ◌∙◌}
-use Rattle.ada_tree.specs.ExpressionTree.{ExprTree}
-use Rattle.ada_tree.specs.StatementTree.{DeclarationTree, HandlerTrees, LocalObject, LocalProtected, LocalTask, ObjectTree, StmtTrees}
+use Rattle.expr_soundness.specs.ada_tree.specs.ExpressionTree.{ExprTree}
+use Rattle.expr_soundness.specs.ada_tree.specs.StatementTree.{DeclarationTree, HandlerTrees, LocalObject, LocalProtected, LocalTask, ObjectTree, StmtTrees}
 use Rattle.types.specs.declared.entity.Subtype.{Subtype}
 use Rattle.types.specs.declared.entity.PredefinedOperation.{PredefinedOperation}
 use Rattle.types.specs.Entities.{Entity}
 use Rattle.types.specs.Scopes.{Scope, with_name}
-use Rattle.expr_rules.specs.Faults.{Faults}
-use Rattle.expr_rules.specs.ExpressionRules.{faults_of}
-use Rattle.expr_rules.proofs.TypedLaw.{back_empty, front_empty}
-use Rattle.type_rules.specs.SubtypeNames.{declared_twice, subtype_faults, subtype_of, wanted_by}
-use Rattle.type_rules.specs.ObjectRules.{called_faults, fixed_faults, fixed_initial_faults, fixed_object_faults, is_clock, local_initial_faults, local_object_faults, span_call}
+use Rattle.expr_soundness.specs.expr_rules.specs.Faults.{Faults}
+use Rattle.expr_soundness.specs.expr_rules.specs.ExpressionRules.{faults_of}
+use Rattle.expr_soundness.specs.expr_rules.proofs.TypedLaw.{back_empty, front_empty}
+use Rattle.expr_soundness.specs.type_rules.specs.SubtypeNames.{declared_twice, subtype_faults, subtype_of, wanted_by}
+use Rattle.expr_soundness.specs.type_rules.specs.ObjectRules.{called_faults, fixed_faults, fixed_initial_faults, fixed_object_faults, is_clock, local_initial_faults, local_object_faults, span_call}
 use Rattle.declaring.specs.LocalRules.{fixed_local_faults, fixed_locals_faults, local_faults, local_scope, locals_faults, locals_scope}
-use Rattle.stmt_rules.specs.declared.around.Around.{Around}
-use Rattle.stmt_rules.specs.StatementRules.{handlers_faults, sequence_faults, stmts_faults}
-use Rattle.body_restrictions.specs.BodyRules as profile
-use Rattle.meaning.specs.Programs.{Program}
-use Rattle.meaning.specs.Works.{Declares, Item, Sequence}
+use Rattle.step_soundness.specs.stmt_rules.specs.declared.around.Around.{Around}
+use Rattle.step_soundness.specs.stmt_rules.specs.StatementRules.{handlers_faults, sequence_faults, stmts_faults}
+use Rattle.step_soundness.specs.body_restrictions.specs.BodyRules as profile
+use Rattle.expr_soundness.specs.meaning.specs.Programs.{Program}
+use Rattle.expr_soundness.specs.meaning.specs.Works.{Declares, Item, Sequence}
 use Rattle.step_soundness.specs.Judged.{AreResults, Begins, Judged, Leaves, Waiting}
 use Rattle.step_soundness.proofs.Going.{leaves_of}
 use Rattle.step_soundness.proofs.Sights.{narrows_same}

@@ -1,19 +1,19 @@
 -- Profiles of subprograms: the same in scopes with more names, and for declarations that conform (RM 6.3.1).
 use Rattle.std.proofs.Common.{◌≡◌, ℕ, List, [], ◌∷◌, map, Bool, true, false, ◌&&◌, Option, Some, None, refl, sym, ap, ◌∙◌}
-use Rattle.ada_tree.specs.declared.expression.Identifier.{Identifier}
-use Rattle.ada_tree.specs.declared.declaration.Formal.{Formal}
-use Rattle.ada_tree.specs.declared.declaration.Mode.{Mode}
-use Rattle.ada_tree.specs.declared.declaration.Mode.TheVariants as mode
+use Rattle.expr_soundness.specs.ada_tree.specs.declared.expression.Identifier.{Identifier}
+use Rattle.expr_soundness.specs.ada_tree.specs.declared.declaration.Formal.{Formal}
+use Rattle.expr_soundness.specs.ada_tree.specs.declared.declaration.Mode.{Mode}
+use Rattle.expr_soundness.specs.ada_tree.specs.declared.declaration.Mode.TheVariants as mode
 use Rattle.types.specs.declared.entity.Subtype.{Subtype}
 use Rattle.types.specs.declared.entity.FormalParameter.{FormalParameter}
 use Rattle.types.specs.Entities.{Entity, Profile}
 use Rattle.types.specs.Scopes.{Scope}
 use Rattle.types.specs.Evaluating.{formal_subtype}
-use Rattle.type_rules.specs.SubtypeNames.{named_entity, subtype_in, subtype_of}
-use Rattle.type_rules.specs.ProfileRules.{formal_and, formal_parameters, given_profile, profile_with}
+use Rattle.expr_soundness.specs.type_rules.specs.SubtypeNames.{named_entity, subtype_in, subtype_of}
+use Rattle.expr_soundness.specs.type_rules.specs.ProfileRules.{formal_and, formal_parameters, given_profile, profile_with}
 use Rattle.matching.specs.MatchingRules.{same_formal, same_formals, same_mode, same_name, same_result}
 use Rattle.expr_soundness.specs.Agreeing.{parameter_subtype}
-use Rattle.meaning.specs.Programs.{formal, parameter, subtype_named, subtype_or_integer}
+use Rattle.expr_soundness.specs.meaning.specs.Programs.{formal, parameter, subtype_named, subtype_or_integer}
 use Rattle.step_soundness.specs.Fitting.{formal_of}
 use Rattle.program_soundness.proofs.Listing.{same_some}
 use Rattle.program_soundness.proofs.WiderScopes.{same_bytes, stands}

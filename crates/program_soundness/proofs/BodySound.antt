@@ -1,21 +1,21 @@
 -- The body of a procedure or entry that breaks no rule in a scope that fits its place is sound.
 use Rattle.std.proofs.Common.{◌≡◌, List, [], ◌∷◌, map, false, refl, sym, ap, ◌∙◌}
-use Rattle.ada_tree.specs.ProgramTree.{BodyTree}
+use Rattle.expr_soundness.specs.ada_tree.specs.ProgramTree.{BodyTree}
 use Rattle.types.specs.Scopes.{Scope}
 use Rattle.types.specs.Places.{Place}
-use Rattle.expr_rules.proofs.TypedLaw.{back_empty, front_empty}
+use Rattle.expr_soundness.specs.expr_rules.proofs.TypedLaw.{back_empty, front_empty}
 use Rattle.declaring.specs.BodyNames.{formals_scope}
 use Rattle.declaring.specs.LocalRules.{locals_faults}
-use Rattle.stmt_rules.specs.declared.around.BodyKind.{BodyKind}
-use Rattle.stmt_rules.specs.SimpleRules.{is_function}
-use Rattle.stmt_rules.specs.StatementRules.{in_body}
+use Rattle.step_soundness.specs.stmt_rules.specs.declared.around.BodyKind.{BodyKind}
+use Rattle.step_soundness.specs.stmt_rules.specs.SimpleRules.{is_function}
+use Rattle.step_soundness.specs.stmt_rules.specs.StatementRules.{in_body}
 use Rattle.legality.specs.BodyRules.{body_faults}
-use Rattle.body_restrictions.specs.BodyRules as profile
+use Rattle.step_soundness.specs.body_restrictions.specs.BodyRules as profile
 use Rattle.expr_soundness.specs.SoundScopes.{SoundScope}
 use Rattle.expr_soundness.specs.Laws.{ScopesAreSound}
-use Rattle.meaning.specs.Programs.{Parameter, Program, parameter}
-use Rattle.meaning.specs.Works.{Item, Store}
-use Rattle.meaning.specs.Calls.{body_items, bound, results}
+use Rattle.expr_soundness.specs.meaning.specs.Programs.{Parameter, Program, parameter}
+use Rattle.expr_soundness.specs.meaning.specs.Works.{Item, Store}
+use Rattle.expr_soundness.specs.meaning.specs.Calls.{body_items, bound, results}
 use Rattle.step_soundness.specs.Fitting.{FitsScope, result_types}
 use Rattle.step_soundness.specs.Judged.{Begins, IsPlain, Waiting}
 use Rattle.step_soundness.specs.Holding.{EndsBody, IsSoundProcedure, inside}

@@ -1,16 +1,16 @@
 -- The bodies of subprograms and entries as one list, which of them a look-up among procedures, entries and functions finds, and where it stands in the text.
 use Rattle.std.proofs.Common.{◌≡◌, ℕ, zero, suc, List, [], ◌∷◌, ◌++◌, map, Bool, true, false, cond, ◌&&◌, ◌⊎◌, inl, inr, Option, Some, None, refl, sym, ap, ◌∙◌, subst}
 use Rattle.std.specs.Prelude.{bytes_eq, is_some, slice_get}
-use Rattle.ada_tree.specs.declared.expression.Identifier.{Identifier}
-use Rattle.ada_tree.specs.declared.declaration.Formal.{Formal}
-use Rattle.ada_tree.specs.ExpressionTree.{ExprTree}
-use Rattle.ada_tree.specs.StatementTree.{SubprogramTree}
-use Rattle.ada_tree.specs.ProgramTree.{BodyTree, BodyItemTree, OfItem, SubprogramBody, TaskBody, ProtectedBody, ProtectedItemTree, OperationBody, EntryBody}
+use Rattle.expr_soundness.specs.ada_tree.specs.declared.expression.Identifier.{Identifier}
+use Rattle.expr_soundness.specs.ada_tree.specs.declared.declaration.Formal.{Formal}
+use Rattle.expr_soundness.specs.ada_tree.specs.ExpressionTree.{ExprTree}
+use Rattle.expr_soundness.specs.ada_tree.specs.StatementTree.{SubprogramTree}
+use Rattle.expr_soundness.specs.ada_tree.specs.ProgramTree.{BodyTree, BodyItemTree, OfItem, SubprogramBody, TaskBody, ProtectedBody, ProtectedItemTree, OperationBody, EntryBody}
 use Rattle.types.specs.Scopes.{Scope}
 use Rattle.types.specs.Places.{Function, function_of, is_of, or_else}
-use Rattle.meaning.specs.Programs.{Procedure, formal, function_with, functions_among, object_numbered, operation_functions, operation_procedures, parameter, procedure_of, procedures_among, returned, subtype_named}
-use Rattle.meaning.specs.Programs as meaning
-use Rattle.meaning.specs.Calls.{procedure_among}
+use Rattle.expr_soundness.specs.meaning.specs.Programs.{Procedure, formal, function_with, functions_among, object_numbered, operation_functions, operation_procedures, parameter, procedure_of, procedures_among, returned, subtype_named}
+use Rattle.expr_soundness.specs.meaning.specs.Programs as meaning
+use Rattle.expr_soundness.specs.meaning.specs.Calls.{procedure_among}
 use Rattle.step_soundness.specs.Fitting.{entry_of}
 use Rattle.program_soundness.proofs.Listing.{Has, has_back, has_either, has_front, or_else_some, same_some}
 use Rattle.program_soundness.proofs.WiderScopes.{equal_bytes, same_bytes}

@@ -3,24 +3,24 @@ use Rattle.std.proofs.Common.{◌≡◌, ◌<◌, ℕ, suc, ◌+◌, List, [], t
 use Rattle.std.specs.Prelude.{is_some, option_map, slice_get}
 use Rattle.std.specs.List.{list_any}
 use Rattle.std.proofs.lemmas.List.{take-take}
-use Rattle.ada_tree.specs.declared.expression.Identifier.{Identifier}
-use Rattle.ada_tree.specs.StatementTree.{SubprogramTree}
-use Rattle.ada_tree.specs.ProgramTree.{BodyTree, BodyItemTree, OfItem, SubprogramBody, ProtectedBody, OfSubprogram, ProtectedItemTree, OperationBody, EntryBody}
+use Rattle.expr_soundness.specs.ada_tree.specs.declared.expression.Identifier.{Identifier}
+use Rattle.expr_soundness.specs.ada_tree.specs.StatementTree.{SubprogramTree}
+use Rattle.expr_soundness.specs.ada_tree.specs.ProgramTree.{BodyTree, BodyItemTree, OfItem, SubprogramBody, ProtectedBody, OfSubprogram, ProtectedItemTree, OperationBody, EntryBody}
 use Rattle.types.specs.declared.entity.Subtype.{Subtype}
 use Rattle.types.specs.Entities.{Entity, Profile, ProtectedObject, Subprogram, Protected, Doubtful}
 use Rattle.types.specs.Scopes.{Named, Scope, is_visible, protected_of}
 use Rattle.types.specs.Evaluating.{formal_subtype}
 use Rattle.types.specs.Places.{Function, function_of, is_of}
-use Rattle.expr_rules.proofs.TypedLaw.{back_empty, front_empty, judged, unbroken}
-use Rattle.type_rules.specs.SubtypeNames.{declared_twice, end_rule, named_entity}
-use Rattle.type_rules.specs.ProfileRules.{formal_parameters, profile_entity, profile_with}
+use Rattle.expr_soundness.specs.expr_rules.proofs.TypedLaw.{back_empty, front_empty, judged, unbroken}
+use Rattle.expr_soundness.specs.type_rules.specs.SubtypeNames.{declared_twice, end_rule, named_entity}
+use Rattle.expr_soundness.specs.type_rules.specs.ProfileRules.{formal_parameters, profile_entity, profile_with}
 use Rattle.matching.specs.MatchingRules.{any_declared, conforms, is_unlike_subprogram, passes_declared, same_formals, same_name, same_result}
 use Rattle.legality.specs.BodyRules.{body_name_faults, function_body_faults, head_faults, is_function_body, is_subprogram, subprogram_body_faults}
 use Rattle.declaring.specs.PackageNames.{body_items_scope}
 use Rattle.legality.specs.ProtectedBodyRules.{is_object, object_rule}
 use Rattle.expr_soundness.specs.Agreeing.{HasProfile}
-use Rattle.meaning.specs.Programs.{Procedure, Program, formal, object_numbered, parameter}
-use Rattle.meaning.specs.Calls.{procedure_among}
+use Rattle.expr_soundness.specs.meaning.specs.Programs.{Procedure, Program, formal, object_numbered, parameter}
+use Rattle.expr_soundness.specs.meaning.specs.Calls.{procedure_among}
 use Rattle.step_soundness.specs.Fitting.{IsProcedure, formal_of}
 use Rattle.program_soundness.specs.Fronts.{scope_at}
 use Rattle.program_soundness.proofs.Listing.{Has, dropped_at, none_passes, not_both, one_passes, same_some, within_taken}

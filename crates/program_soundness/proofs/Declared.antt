@@ -2,16 +2,16 @@
 use Rattle.std.proofs.Common.{◌≡◌, ◌++◌, length, List, [], ◌∷◌, Bool, true, false, not, ◌||◌, Option, Some, None, refl, sym, ap, ◌∙◌, subst}
 use Rattle.std.specs.Prelude.{nat_le}
 use Rattle.std.proofs.lemmas.Bool.{or_parts}
-use Rattle.base.specs.declared.faults.TheConstants.{DECLARED_TWICE, LIMIT_PASSED, NOT_STATIC, WRONG_FUNCTION}
-use Rattle.base.specs.declared.limits.TheConstants.{FORMALS, TASK_PRIORITY}
-use Rattle.ada_tree.specs.declared.declaration.Formal.{Formal}
-use Rattle.ada_tree.specs.declared.declaration.Mode.{Mode}
-use Rattle.ada_tree.specs.declared.declaration.Mode.TheVariants as mode
-use Rattle.ada_tree.specs.declared.expression.Identifier.{Identifier}
-use Rattle.ada_tree.specs.ExpressionTree.{ExprTree}
-use Rattle.ada_tree.specs.StatementTree.{DeclarationTree, LocalObject, LocalTask, LocalProtected, ObjectTree, OperationTree, OfEntry, ProtectedComponentTree, ProtectedTree, SubprogramTree}
-use Rattle.ada_tree.specs.StatementTree.{OfSubprogram as OfOperation}
-use Rattle.ada_tree.specs.ProgramTree.{ItemTree, OfType as OfTypeItem, OfObject, OfException, OfSubprogram, OfTask, OfProtected}
+use Rattle.expr_soundness.specs.base.specs.declared.faults.TheConstants.{DECLARED_TWICE, LIMIT_PASSED, NOT_STATIC, WRONG_FUNCTION}
+use Rattle.expr_soundness.specs.base.specs.declared.limits.TheConstants.{FORMALS, TASK_PRIORITY}
+use Rattle.expr_soundness.specs.ada_tree.specs.declared.declaration.Formal.{Formal}
+use Rattle.expr_soundness.specs.ada_tree.specs.declared.declaration.Mode.{Mode}
+use Rattle.expr_soundness.specs.ada_tree.specs.declared.declaration.Mode.TheVariants as mode
+use Rattle.expr_soundness.specs.ada_tree.specs.declared.expression.Identifier.{Identifier}
+use Rattle.expr_soundness.specs.ada_tree.specs.ExpressionTree.{ExprTree}
+use Rattle.expr_soundness.specs.ada_tree.specs.StatementTree.{DeclarationTree, LocalObject, LocalTask, LocalProtected, ObjectTree, OperationTree, OfEntry, ProtectedComponentTree, ProtectedTree, SubprogramTree}
+use Rattle.expr_soundness.specs.ada_tree.specs.StatementTree.{OfSubprogram as OfOperation}
+use Rattle.expr_soundness.specs.ada_tree.specs.ProgramTree.{ItemTree, OfType as OfTypeItem, OfObject, OfException, OfSubprogram, OfTask, OfProtected}
 use Rattle.types.specs.declared.entity.Subtype.{Subtype}
 use Rattle.types.specs.declared.entity.Role.{Role}
 use Rattle.types.specs.declared.entity.Role.TheVariants as role
@@ -22,12 +22,12 @@ use Rattle.types.specs.Entities.{Entity, Profile, Operation, Object, Constant, E
 use Rattle.types.specs.Scopes.{Scope, is_visible}
 use Rattle.types.specs.Shapes.{has_shape, shape_of}
 use Rattle.types.specs.Values.{value_of}
-use Rattle.expr_rules.specs.Faults.{Faults, rule}
-use Rattle.expr_rules.proofs.TypedLaw.{back_empty, front_empty, unbroken}
-use Rattle.type_rules.specs.SubtypeNames.{declared_twice, end_rule, is_composite, subtype_faults, subtype_of}
-use Rattle.type_rules.specs.TypeRules.{definition_entity, definition_faults}
-use Rattle.type_rules.specs.ProfileRules.{formal_and, formal_faults, formal_parameters, formals_faults, function_faults, given_profile, has_wrong_formal, is_formal_in, is_in, is_wrong_formal, profile_entity, profile_faults, profile_with, result_faults, subprogram_scope}
-use Rattle.type_rules.specs.ObjectRules.{constant_entity, fixed_faults, fixed_initial_faults, fixed_object_faults, initial_scalar, local_initial_faults, object_entity, package_object_entity, role_of}
+use Rattle.expr_soundness.specs.expr_rules.specs.Faults.{Faults, rule}
+use Rattle.expr_soundness.specs.expr_rules.proofs.TypedLaw.{back_empty, front_empty, unbroken}
+use Rattle.expr_soundness.specs.type_rules.specs.SubtypeNames.{declared_twice, end_rule, is_composite, subtype_faults, subtype_of}
+use Rattle.expr_soundness.specs.type_rules.specs.TypeRules.{definition_entity, definition_faults}
+use Rattle.expr_soundness.specs.type_rules.specs.ProfileRules.{formal_and, formal_faults, formal_parameters, formals_faults, function_faults, given_profile, has_wrong_formal, is_formal_in, is_in, is_wrong_formal, profile_entity, profile_faults, profile_with, result_faults, subprogram_scope}
+use Rattle.expr_soundness.specs.type_rules.specs.ObjectRules.{constant_entity, fixed_faults, fixed_initial_faults, fixed_object_faults, initial_scalar, local_initial_faults, object_entity, package_object_entity, role_of}
 use Rattle.declaring.specs.BodyNames.{formal_role, formal_scope, formals_scope}
 use Rattle.declaring.specs.ItemRules.{item_faults, item_scope, items_faults, items_scope}
 use Rattle.declaring.specs.LocalRules.{fixed_local_faults, fixed_locals_faults, local_faults, local_scope, locals_faults, locals_scope}

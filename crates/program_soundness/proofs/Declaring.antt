@@ -1,8 +1,8 @@
 -- What each kind of item declares, told by what its name stands for.
 use Rattle.std.proofs.Common.{◌≡◌, ℕ, zero, suc, List, [], ◌∷◌, Bool, true, false, ◌&&◌, inl, inr, Option, Some, None, refl, sym, ap, ◌∙◌}
 use Rattle.std.proofs.lemmas.Bool.{and_parts}
-use Rattle.ada_tree.specs.StatementTree.{ObjectTree, ProtectedTree, SubprogramTree}
-use Rattle.ada_tree.specs.ProgramTree.{DefinitionTree, Integer, Array, Record, Subtype as SubtypeOf, ItemTree, OfType as OfTypeItem, OfObject, OfException, OfSubprogram, OfTask, OfProtected, PackageTree}
+use Rattle.expr_soundness.specs.ada_tree.specs.StatementTree.{ObjectTree, ProtectedTree, SubprogramTree}
+use Rattle.expr_soundness.specs.ada_tree.specs.ProgramTree.{DefinitionTree, Integer, Array, Record, Subtype as SubtypeOf, ItemTree, OfType as OfTypeItem, OfObject, OfException, OfSubprogram, OfTask, OfProtected, PackageTree}
 use Rattle.types.specs.declared.entity.RecordComponent.{RecordComponent}
 use Rattle.types.specs.declared.entity.Role.{Role}
 use Rattle.types.specs.declared.entity.Role.TheVariants as role
@@ -10,14 +10,14 @@ use Rattle.types.specs.declared.entity.Subtype.{Subtype}
 use Rattle.types.specs.declared.entity.Value.{Value as Scalar}
 use Rattle.types.specs.Entities.{Entity, Operation, Profile, ProtectedObject, TypeForm, Arrays, OfType, OfSubtype, Object, Constant, Literal, Exception, Subprogram, Entry, Predefined, Put, Task, Protected, LibraryUnit, Doubtful}
 use Rattle.types.specs.Scopes.{Scope, entity_at, standard}
-use Rattle.type_rules.specs.ObjectRules.{constant_entity, initial_scalar, object_entity, package_object_entity}
-use Rattle.type_rules.specs.ProfileRules.{profile_entity}
-use Rattle.type_rules.specs.SubtypeNames.{if_integer, subtype_of}
-use Rattle.type_rules.specs.TypeRules.{array_entity, composite, definition_entity, index_subtype, integer_entity, narrowed, range_subtype, record_components, record_entity, short_length, subtype_entity}
-use Rattle.expr_rules.specs.declared.own.Wanted.TheVariants as wanted
+use Rattle.expr_soundness.specs.type_rules.specs.ObjectRules.{constant_entity, initial_scalar, object_entity, package_object_entity}
+use Rattle.expr_soundness.specs.type_rules.specs.ProfileRules.{profile_entity}
+use Rattle.expr_soundness.specs.type_rules.specs.SubtypeNames.{if_integer, subtype_of}
+use Rattle.expr_soundness.specs.type_rules.specs.TypeRules.{array_entity, composite, definition_entity, index_subtype, integer_entity, narrowed, range_subtype, record_components, record_entity, short_length, subtype_entity}
+use Rattle.expr_soundness.specs.expr_rules.specs.declared.own.Wanted.TheVariants as wanted
 use Rattle.declaring.specs.ProtectedRules.{default_ceiling, object_components, object_operations, object_with, protected_count, protected_entity}
 use Rattle.declaring.specs.TaskRules.{priority_of}
-use Rattle.base.specs.declared.limits.TheConstants.{TASK_PRIORITY}
+use Rattle.expr_soundness.specs.base.specs.declared.limits.TheConstants.{TASK_PRIORITY}
 use Rattle.declaring.specs.PackageNames.{units_scope}
 use Rattle.checking.proofs.Made.{NoUnits, Times, Io, TimesIo, IoTimes, Units, clauses_seen, seen}
 use Rattle.expr_soundness.proofs.Positions.{same_some}

@@ -1,11 +1,11 @@
 -- Where a function is called its formals mean their values, and a body that breaks no rule is sound there.
 use Rattle.std.proofs.Common.{◌≡◌, ℕ, List, [], ◌∷◌, ◌++◌, map, true, Option, Some, sym, ap, ◌∙◌, subst}
 use Rattle.std.specs.Prelude.{is_some}
-use Rattle.ada_tree.specs.declared.expression.Identifier.{Identifier}
-use Rattle.ada_tree.specs.declared.declaration.Formal.{Formal}
-use Rattle.ada_tree.specs.ExpressionTree.{ExprTree}
-use Rattle.ada_tree.specs.StatementTree.{SubprogramTree}
-use Rattle.ada_tree.specs.ProgramTree.{BodyTree}
+use Rattle.expr_soundness.specs.ada_tree.specs.declared.expression.Identifier.{Identifier}
+use Rattle.expr_soundness.specs.ada_tree.specs.declared.declaration.Formal.{Formal}
+use Rattle.expr_soundness.specs.ada_tree.specs.ExpressionTree.{ExprTree}
+use Rattle.expr_soundness.specs.ada_tree.specs.StatementTree.{SubprogramTree}
+use Rattle.expr_soundness.specs.ada_tree.specs.ProgramTree.{BodyTree}
 use Rattle.types.specs.declared.entity.Subtype.{Subtype}
 use Rattle.types.specs.Entities.{Entity, Doubtful}
 use Rattle.types.specs.Scopes.{Scope, form_at, with_name}
@@ -13,11 +13,11 @@ use Rattle.types.specs.Shapes.{has_shape, shape_of}
 use Rattle.types.specs.Values.{Value}
 use Rattle.types.specs.Places.{Function, Object, Place}
 use Rattle.types.specs.Evaluating.{bound, entered}
-use Rattle.expr_rules.proofs.TypedLaw.{back_empty, front_empty}
-use Rattle.type_rules.specs.SubtypeNames.{end_rule, named_entity, subtype_of}
-use Rattle.type_rules.specs.ProfileRules.{formals_faults, profile_faults, result_faults, subprogram_scope}
+use Rattle.expr_soundness.specs.expr_rules.proofs.TypedLaw.{back_empty, front_empty}
+use Rattle.expr_soundness.specs.type_rules.specs.SubtypeNames.{end_rule, named_entity, subtype_of}
+use Rattle.expr_soundness.specs.type_rules.specs.ProfileRules.{formals_faults, profile_faults, result_faults, subprogram_scope}
 use Rattle.declaring.specs.BodyNames.{formal_role, formals_scope}
-use Rattle.stmt_rules.specs.declared.around.BodyKind.TheVariants as kind
+use Rattle.step_soundness.specs.stmt_rules.specs.declared.around.BodyKind.TheVariants as kind
 use Rattle.legality.specs.BodyRules.{body_faults, function_body_faults, head_faults, kind_of, own_name_faults, subprogram_body_faults, type_number}
 use Rattle.expr_soundness.specs.SoundScopes.{IsKnown}
 use Rattle.expr_soundness.specs.Agreeing.{Agrees}
@@ -25,8 +25,8 @@ use Rattle.expr_soundness.specs.Answers.{ReturnsSoundly, are_actuals}
 use Rattle.expr_soundness.specs.Laws.{ScopesAreSound}
 use Rattle.expr_soundness.proofs.Goods.{not_empty}
 use Rattle.expr_soundness.proofs.Parts.{same_values}
-use Rattle.meaning.specs.Programs.{Parameter, Program, formal, parameter, returned, subtype_named}
-use Rattle.meaning.specs.Works.{Store}
+use Rattle.expr_soundness.specs.meaning.specs.Programs.{Parameter, Program, formal, parameter, returned, subtype_named}
+use Rattle.expr_soundness.specs.meaning.specs.Works.{Store}
 use Rattle.step_soundness.specs.Holding.{inside, seen}
 use Rattle.step_soundness.specs.Laws.{Premises}
 use Rattle.program_soundness.proofs.WiderScopes.{none_unseen, stands, with_all}

@@ -1,13 +1,13 @@
 -- The actions that items hold open, where a body is run for a caller and where the caller goes on (RM 9.5.3).
 use Rattle.std.proofs.Common.{◌≡◌, ℕ, List, [], ◌∷◌, ◌++◌, map, Bool, true, false, cond, refl, ◌∙◌}
-use Rattle.ada_tree.specs.StatementTree.{DeclarationTree}
+use Rattle.expr_soundness.specs.ada_tree.specs.StatementTree.{DeclarationTree}
 use Rattle.types.specs.Scopes.{Scope}
 use Rattle.types.specs.Values.{Value}
-use Rattle.stmt_rules.specs.declared.around.Around.{Around}
-use Rattle.meaning.specs.Programs.{Parameter, Procedure, Program}
-use Rattle.meaning.specs.Works.{Activation, Declares, DeclaresParameter, EndsServed, GivenToCaller, Goes, Item, Queued, Raised, Results, Sequence, Target, TaskWork, Work}
-use Rattle.meaning.specs.Calls.{body_items, declares_parameters, is_out, results}
-use Rattle.meaning.specs.SourceSteps.{completion_of, copying, items_of, received, serves}
+use Rattle.step_soundness.specs.stmt_rules.specs.declared.around.Around.{Around}
+use Rattle.expr_soundness.specs.meaning.specs.Programs.{Parameter, Procedure, Program}
+use Rattle.expr_soundness.specs.meaning.specs.Works.{Activation, Declares, DeclaresParameter, EndsServed, GivenToCaller, Goes, Item, Queued, Raised, Results, Sequence, Target, TaskWork, Work}
+use Rattle.expr_soundness.specs.meaning.specs.Calls.{body_items, declares_parameters, is_out, results}
+use Rattle.expr_soundness.specs.meaning.specs.SourceSteps.{completion_of, copying, items_of, received, serves}
 use Rattle.step_soundness.specs.Opened.{ForCaller, Opened, opened_in}
 use Rattle.step_soundness.specs.Judged.{IsQueuedWork, Waiting}
 

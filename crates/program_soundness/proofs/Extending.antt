@@ -3,14 +3,14 @@ use Rattle.std.proofs.Common.{◌≡◌, ◌++◌, ℕ, drop, length, take, List
 use Rattle.std.specs.Prelude.{cond}
 use Rattle.std.proofs.lemmas.List.{append_assoc, append-nil, take-append-drop}
 use Rattle.std.proofs.Math.Seq.{take-append_seam}
-use Rattle.ada_tree.specs.declared.declaration.Formal.{Formal}
-use Rattle.ada_tree.specs.declared.expression.Identifier.{Identifier}
-use Rattle.ada_tree.specs.ProgramTree.{BodyItemTree, OfItem, SubprogramBody, TaskBody, ProtectedBody, ItemTree, OfType, OfObject, OfException, OfSubprogram, OfTask, OfProtected, OperationBody, EntryBody, ProtectedItemTree}
+use Rattle.expr_soundness.specs.ada_tree.specs.declared.declaration.Formal.{Formal}
+use Rattle.expr_soundness.specs.ada_tree.specs.declared.expression.Identifier.{Identifier}
+use Rattle.expr_soundness.specs.ada_tree.specs.ProgramTree.{BodyItemTree, OfItem, SubprogramBody, TaskBody, ProtectedBody, ItemTree, OfType, OfObject, OfException, OfSubprogram, OfTask, OfProtected, OperationBody, EntryBody, ProtectedItemTree}
 use Rattle.types.specs.declared.entity.RecordComponent.{RecordComponent}
 use Rattle.types.specs.declared.entity.Subtype.{Subtype}
 use Rattle.types.specs.Entities.{Entity, Object, Operation}
 use Rattle.types.specs.Scopes.{Named, Scope, entity_at, entity_of, is_visible, number_of, with_name}
-use Rattle.type_rules.specs.SubtypeNames.{entity_at_or_none, named_entity, subtype_in, subtype_of}
+use Rattle.expr_soundness.specs.type_rules.specs.SubtypeNames.{entity_at_or_none, named_entity, subtype_in, subtype_of}
 use Rattle.declaring.specs.BodyNames.{component_role, components_scope, formal_scope, formals_scope, operation_entity, operations_scope}
 use Rattle.declaring.specs.ItemRules.{item_scope, items_scope}
 use Rattle.declaring.specs.Laws.{StandsFirst}

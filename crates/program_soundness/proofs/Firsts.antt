@@ -2,13 +2,13 @@
 use Rattle.std.proofs.Common.{◌≡◌, ◌++◌, ℕ, zero, suc, ℤ, pos, List, [], ◌∷◌, map, Bool, true, false, Option, Some, None, Ok, Err, refl, sym, ap, ◌∙◌, subst}
 use Rattle.std.specs.Prelude.{⊤, cond, slice_get}
 use Rattle.std.proofs.lemmas.List.{append_assoc}
-use Rattle.base.specs.Arithmetic.{Checked, product_of}
-use Rattle.base.specs.declared.faults.TheConstants.{DECLARED_TWICE}
-use Rattle.ada_tree.specs.declared.expression.Identifier.{Identifier}
-use Rattle.ada_tree.specs.ExpressionTree as tree
-use Rattle.ada_tree.specs.ExpressionTree.{ExprTree, Named, SelectorTrees, NoSelectors, MoreSelectors, SelectorTree, Component, Arguments, Attribute, NoArguments, MoreArguments}
-use Rattle.ada_tree.specs.StatementTree.{ObjectTree, OperationTree, ProtectedComponentTree}
-use Rattle.ada_tree.specs.ProgramTree.{BodyItemTree, OfItem, SubprogramBody, TaskBody, ProtectedBody, ItemTree, OfType, OfObject, OfException, OfSubprogram, OfTask, OfProtected, PackageTree, ProgramTree}
+use Rattle.expr_soundness.specs.base.specs.Arithmetic.{Checked, product_of}
+use Rattle.expr_soundness.specs.base.specs.declared.faults.TheConstants.{DECLARED_TWICE}
+use Rattle.expr_soundness.specs.ada_tree.specs.declared.expression.Identifier.{Identifier}
+use Rattle.expr_soundness.specs.ada_tree.specs.ExpressionTree as tree
+use Rattle.expr_soundness.specs.ada_tree.specs.ExpressionTree.{ExprTree, Named, SelectorTrees, NoSelectors, MoreSelectors, SelectorTree, Component, Arguments, Attribute, NoArguments, MoreArguments}
+use Rattle.expr_soundness.specs.ada_tree.specs.StatementTree.{ObjectTree, OperationTree, ProtectedComponentTree}
+use Rattle.expr_soundness.specs.ada_tree.specs.ProgramTree.{BodyItemTree, OfItem, SubprogramBody, TaskBody, ProtectedBody, ItemTree, OfType, OfObject, OfException, OfSubprogram, OfTask, OfProtected, PackageTree, ProgramTree}
 use Rattle.types.specs.declared.entity.PredefinedOperation.{PredefinedOperation}
 use Rattle.types.specs.declared.entity.PredefinedOperation.TheVariants as predefined
 use Rattle.types.specs.declared.entity.Role.{Role}
@@ -28,21 +28,21 @@ use Rattle.types.specs.Statics.{Keeps, StaticIsValue, start_of, static_form, sta
 use Rattle.types.specs.Values.{Value, Number, Truth, Array, Record, value_of}
 use Rattle.types.specs.Evaluations.{Val, Gives, Raises, Meaningless, and_then, computed}
 use Rattle.types.specs.Evaluating.{Calls, actuals_with, applied, call, ended, fixed_name, fixed_value, name_with, predefined_value, val, wanted_by_operation}
-use Rattle.expr_rules.specs.declared.own.Own.TheVariants.{Typed}
-use Rattle.expr_rules.specs.declared.own.Wanted.TheVariants as wanted
-use Rattle.expr_rules.specs.Faults.{Faults, rule}
-use Rattle.expr_rules.specs.ExpressionRules.{faults_of}
-use Rattle.expr_rules.specs.Laws.{type_shape}
-use Rattle.expr_rules.specs.StaticRules.{form_rule, if_unbroken, static_faults}
-use Rattle.expr_rules.specs.Typing.{own_of}
-use Rattle.expr_rules.proofs.TypeShapes.{is_number}
-use Rattle.expr_rules.proofs.TypedLaw.{back_empty, front_empty, span_numeric, suits_number, time_numeric}
-use Rattle.type_rules.specs.ObjectRules.{called_faults, computed_faults, fixed_faults, is_clock, span_call, span_faults}
-use Rattle.type_rules.specs.SubtypeNames.{subtype_faults, subtype_of, wanted_by}
+use Rattle.expr_soundness.specs.expr_rules.specs.declared.own.Own.TheVariants.{Typed}
+use Rattle.expr_soundness.specs.expr_rules.specs.declared.own.Wanted.TheVariants as wanted
+use Rattle.expr_soundness.specs.expr_rules.specs.Faults.{Faults, rule}
+use Rattle.expr_soundness.specs.expr_rules.specs.ExpressionRules.{faults_of}
+use Rattle.expr_soundness.specs.expr_rules.specs.Laws.{type_shape}
+use Rattle.expr_soundness.specs.expr_rules.specs.StaticRules.{form_rule, if_unbroken, static_faults}
+use Rattle.expr_soundness.specs.expr_rules.specs.Typing.{own_of}
+use Rattle.expr_soundness.specs.expr_rules.proofs.TypeShapes.{is_number}
+use Rattle.expr_soundness.specs.expr_rules.proofs.TypedLaw.{back_empty, front_empty, span_numeric, suits_number, time_numeric}
+use Rattle.expr_soundness.specs.type_rules.specs.ObjectRules.{called_faults, computed_faults, fixed_faults, is_clock, span_call, span_faults}
+use Rattle.expr_soundness.specs.type_rules.specs.SubtypeNames.{subtype_faults, subtype_of, wanted_by}
 use Rattle.declaring.specs.ProtectedRules.{component_initial_faults, is_component_like, part_faults, parts_faults}
 use Rattle.declaring.specs.PackageNames.{program_scope}
 use Rattle.checking.specs.ProgramRules.{IsLegal}
-use Rattle.meaning.specs.Programs.{component, components_among, given_or, initial_value, items_among, object_named, objects_or_none, package_items, program_of, subtype_or_integer, variable, variables_among}
+use Rattle.expr_soundness.specs.meaning.specs.Programs.{component, components_among, given_or, initial_value, items_among, object_named, objects_or_none, package_items, program_of, subtype_or_integer, variable, variables_among}
 use Rattle.expr_soundness.specs.SoundScopes.{IsKnown, SoundScope}
 use Rattle.expr_soundness.proofs.FixedNames.{all_valueless, is_valueless}
 use Rattle.expr_soundness.proofs.Goods.{not_empty}

@@ -1,22 +1,22 @@
 -- Formals that break no rule are new names of known subtypes, and the scope of the body has them in the order of the text.
 use Rattle.std.proofs.Common.{◌≡◌, ℕ, List, [], ◌∷◌, ◌++◌, length, map, Bool, true, false, cond, ◌||◌, Some, None, refl, sym, ap, ◌∙◌, subst}
 use Rattle.std.specs.Prelude.{bytes_eq, slice_get, ⊤}
-use Rattle.ada_tree.specs.declared.expression.Identifier.{Identifier}
-use Rattle.ada_tree.specs.declared.declaration.Formal.{Formal}
+use Rattle.expr_soundness.specs.ada_tree.specs.declared.expression.Identifier.{Identifier}
+use Rattle.expr_soundness.specs.ada_tree.specs.declared.declaration.Formal.{Formal}
 use Rattle.types.specs.declared.entity.Subtype.{Subtype}
 use Rattle.types.specs.Entities.{Entity, Doubtful}
 use Rattle.types.specs.Scopes.{Scope, with_name}
 use Rattle.types.specs.Places.{or_else}
-use Rattle.expr_rules.proofs.TypedLaw.{back_empty, front_empty, unbroken}
-use Rattle.type_rules.specs.SubtypeNames.{named_entity, subtype_faults, subtype_of}
-use Rattle.type_rules.specs.ObjectRules.{object_entity}
-use Rattle.type_rules.specs.ProfileRules.{formal_faults, formals_faults, is_formal_in}
+use Rattle.expr_soundness.specs.expr_rules.proofs.TypedLaw.{back_empty, front_empty, unbroken}
+use Rattle.expr_soundness.specs.type_rules.specs.SubtypeNames.{named_entity, subtype_faults, subtype_of}
+use Rattle.expr_soundness.specs.type_rules.specs.ObjectRules.{object_entity}
+use Rattle.expr_soundness.specs.type_rules.specs.ProfileRules.{formal_faults, formals_faults, is_formal_in}
 use Rattle.declaring.specs.BodyNames.{formal_role, formal_scope, formals_scope}
 use Rattle.legality.specs.BodyRules.{own_name_faults}
 use Rattle.expr_soundness.specs.SoundScopes.{IsKnown, SoundScope}
 use Rattle.expr_soundness.specs.Laws.{ScopesAreSound}
 use Rattle.expr_soundness.proofs.Positions.{item_added}
-use Rattle.meaning.specs.Programs.{parameter, subtype_named}
+use Rattle.expr_soundness.specs.meaning.specs.Programs.{parameter, subtype_named}
 use Rattle.program_soundness.proofs.Listing.{front_at, none_passes}
 use Rattle.program_soundness.proofs.WiderScopes.{found_in, stands, stands_with, unseen_none, with_all}
 use Rattle.program_soundness.proofs.BodyProfiles.{Keeps, named_is, subtype_kept}

@@ -1,8 +1,8 @@
 -- The formal parameters of a body: the scope in which the body is judged has them in the order of the text, and a run adds those of mode `out` behind the others.
 use Rattle.std.proofs.Common.{◌≡◌, ℕ, List, [], ◌∷◌, drop, Bool, true, false, cond, Option, Some, None, refl, sym, ap, ◌∙◌}
 use Rattle.std.specs.Prelude.{bytes_eq, is_some, ⊤}
-use Rattle.ada_tree.specs.declared.declaration.Mode.{Mode}
-use Rattle.ada_tree.specs.declared.declaration.Mode.TheVariants as mode
+use Rattle.expr_soundness.specs.ada_tree.specs.declared.declaration.Mode.{Mode}
+use Rattle.expr_soundness.specs.ada_tree.specs.declared.declaration.Mode.TheVariants as mode
 use Rattle.types.specs.declared.entity.Role.TheVariants as role
 use Rattle.types.specs.declared.entity.Subtype.{Subtype}
 use Rattle.types.specs.Entities.{Entity}
@@ -11,12 +11,12 @@ use Rattle.types.specs.Scopes.{Named, Scope, with_name}
 use Rattle.types.specs.Values.{Value}
 use Rattle.types.specs.Places.{Object, Place, or_else}
 use Rattle.declaring.specs.BodyNames.{formal_role}
-use Rattle.stmt_rules.specs.declared.around.Around.{Around}
+use Rattle.step_soundness.specs.stmt_rules.specs.declared.around.Around.{Around}
 use Rattle.expr_soundness.specs.SoundScopes.{IsKnown, IsSoundObject, SoundScope}
 use Rattle.expr_soundness.specs.Laws.{ScopesAreSound}
-use Rattle.meaning.specs.Programs.{Parameter, Program}
-use Rattle.meaning.specs.Works.{DeclaresParameter, Item, Store}
-use Rattle.meaning.specs.Calls.{bound, declares_parameters, is_in, is_out, results, with_first}
+use Rattle.expr_soundness.specs.meaning.specs.Programs.{Parameter, Program}
+use Rattle.expr_soundness.specs.meaning.specs.Works.{DeclaresParameter, Item, Store}
+use Rattle.expr_soundness.specs.meaning.specs.Calls.{bound, declares_parameters, is_in, is_out, results, with_first}
 use Rattle.step_soundness.specs.Objects.{AreOf}
 use Rattle.step_soundness.specs.Fitting.{FitsScope, Narrows, is_result, result_types, taken_types}
 use Rattle.step_soundness.specs.Judged.{AreResults, Begins, IsNewParameter, Waiting, parameter_scope}

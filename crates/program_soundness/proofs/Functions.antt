@@ -1,15 +1,15 @@
 -- The functions of a program by their names: each comes from the body of one, and each such body gives one.
 use Rattle.std.proofs.Common.{◌≡◌, ◌++◌, ℕ, List, [], ◌∷◌, map, Bool, true, false, ◌⊎◌, inl, inr, Option, Some, None, refl, sym, ap, ◌∙◌, arith}
 use Rattle.std.specs.Prelude.{bytes_eq, cond, is_some, nat_eq}
-use Rattle.ada_tree.specs.declared.expression.Identifier.{Identifier}
-use Rattle.ada_tree.specs.ExpressionTree.{ExprTree}
-use Rattle.ada_tree.specs.StatementTree.{SubprogramTree}
-use Rattle.ada_tree.specs.ProgramTree.{BodyItemTree, BodyTree, OfItem, SubprogramBody, TaskBody, ProtectedBody, OperationBody, EntryBody, ProtectedItemTree}
+use Rattle.expr_soundness.specs.ada_tree.specs.declared.expression.Identifier.{Identifier}
+use Rattle.expr_soundness.specs.ada_tree.specs.ExpressionTree.{ExprTree}
+use Rattle.expr_soundness.specs.ada_tree.specs.StatementTree.{SubprogramTree}
+use Rattle.expr_soundness.specs.ada_tree.specs.ProgramTree.{BodyItemTree, BodyTree, OfItem, SubprogramBody, TaskBody, ProtectedBody, OperationBody, EntryBody, ProtectedItemTree}
 use Rattle.types.specs.Scopes.{Scope}
 use Rattle.types.specs.Places.{Function, is_of}
 use Rattle.types.specs.Places.{function_of as found}
-use Rattle.meaning.specs.Programs.{formal, function_with, functions_among, object_numbered, operation_functions, returned, subtype_named}
-use Rattle.meaning.specs.Programs.{function_of as functions_of}
+use Rattle.expr_soundness.specs.meaning.specs.Programs.{formal, function_with, functions_among, object_numbered, operation_functions, returned, subtype_named}
+use Rattle.expr_soundness.specs.meaning.specs.Programs.{function_of as functions_of}
 use Rattle.expr_soundness.proofs.Positions.{same_some}
 use Rattle.step_soundness.proofs.Lookups.{bytes_same, same_bytes}
 

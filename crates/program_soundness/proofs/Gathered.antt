@@ -1,21 +1,21 @@
 -- The functions of an accepted tree: those of the package, and those of its protected objects.
 use Rattle.std.proofs.Common.{◌≡◌, ℕ, suc, List, [], ◌⊎◌, inl, inr, Option, Some, None, sym, ap, ◌∙◌, subst}
 use Rattle.std.specs.Prelude.{slice_get}
-use Rattle.ada_tree.specs.declared.expression.Identifier.{Identifier}
-use Rattle.ada_tree.specs.StatementTree.{SubprogramTree}
-use Rattle.ada_tree.specs.ProgramTree.{BodyTree, BodyItemTree, SubprogramBody, ProgramTree, ProtectedBody, ProtectedItemTree, OperationBody, EntryBody}
+use Rattle.expr_soundness.specs.ada_tree.specs.declared.expression.Identifier.{Identifier}
+use Rattle.expr_soundness.specs.ada_tree.specs.StatementTree.{SubprogramTree}
+use Rattle.expr_soundness.specs.ada_tree.specs.ProgramTree.{BodyTree, BodyItemTree, SubprogramBody, ProgramTree, ProtectedBody, ProtectedItemTree, OperationBody, EntryBody}
 use Rattle.types.specs.Entities.{Doubtful}
 use Rattle.types.specs.Scopes.{Scope}
 use Rattle.types.specs.Places.{Place, function_of}
 use Rattle.types.specs.Evaluating.{entered}
-use Rattle.type_rules.specs.ProfileRules.{subprogram_scope}
+use Rattle.expr_soundness.specs.type_rules.specs.ProfileRules.{subprogram_scope}
 use Rattle.checking.specs.ProgramRules.{IsLegal}
 use Rattle.ravenscar.specs.ProgramRules.{IsRestricted}
 use Rattle.expr_soundness.specs.Agreeing.{Agrees}
 use Rattle.expr_soundness.specs.Answers.{FunctionsAreSound, ReturnsSoundly, are_actuals}
 use Rattle.expr_soundness.specs.Laws.{ScopesAreSound}
-use Rattle.meaning.specs.Programs.{Program, program_of}
-use Rattle.meaning.specs.Works.{Store}
+use Rattle.expr_soundness.specs.meaning.specs.Programs.{Program, program_of}
+use Rattle.expr_soundness.specs.meaning.specs.Works.{Store}
 use Rattle.step_soundness.specs.Holding.{inside, seen}
 use Rattle.step_soundness.specs.Laws.{Premises}
 use Rattle.program_soundness.specs.Fronts.{declared_in, scope_at, start_in}

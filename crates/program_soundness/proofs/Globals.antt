@@ -4,20 +4,20 @@ use Rattle.std.specs.Prelude.{bytes_eq, cond, is_some, option_map}
 use Rattle.std.specs.List.{list_any}
 use Rattle.std.proofs.lemmas.Bool.{and_parts}
 use Rattle.std.proofs.lemmas.List.{append_assoc}
-use Rattle.base.specs.declared.faults.TheConstants.{DECLARED_TWICE, UNMATCHED_BODY, WRONG_FUNCTION}
-use Rattle.ada_tree.specs.declared.expression.Identifier.{Identifier}
-use Rattle.ada_tree.specs.ExpressionTree.{ExprTree}
-use Rattle.ada_tree.specs.StatementTree.{SubprogramTree, StmtTree, StmtTrees, NoStmts, MoreStmts, Return}
-use Rattle.ada_tree.specs.ProgramTree.{BodyItemTree, BodyTree, OfItem, SubprogramBody, TaskBody, ProtectedBody, ItemTree, OfSubprogram, PackageTree, ProgramTree, ProtectedItemTree}
+use Rattle.expr_soundness.specs.base.specs.declared.faults.TheConstants.{DECLARED_TWICE, UNMATCHED_BODY, WRONG_FUNCTION}
+use Rattle.expr_soundness.specs.ada_tree.specs.declared.expression.Identifier.{Identifier}
+use Rattle.expr_soundness.specs.ada_tree.specs.ExpressionTree.{ExprTree}
+use Rattle.expr_soundness.specs.ada_tree.specs.StatementTree.{SubprogramTree, StmtTree, StmtTrees, NoStmts, MoreStmts, Return}
+use Rattle.expr_soundness.specs.ada_tree.specs.ProgramTree.{BodyItemTree, BodyTree, OfItem, SubprogramBody, TaskBody, ProtectedBody, ItemTree, OfSubprogram, PackageTree, ProgramTree, ProtectedItemTree}
 use Rattle.types.specs.declared.entity.Subtype.{Subtype}
 use Rattle.types.specs.Entities.{Entity, Profile, ProtectedObject, Subprogram, Protected, Doubtful}
 use Rattle.types.specs.Scopes.{Named, Scope, is_visible, number_of, with_name}
 use Rattle.types.specs.Places.{Function, object_of}
 use Rattle.types.specs.Places as places
 use Rattle.types.specs.Places.{function_of as found}
-use Rattle.expr_rules.proofs.TypedLaw.{front_empty, unbroken}
-use Rattle.type_rules.specs.ProfileRules.{profile_entity}
-use Rattle.type_rules.specs.SubtypeNames.{declared_twice, end_rule, entity_at_or_none, named_entity}
+use Rattle.expr_soundness.specs.expr_rules.proofs.TypedLaw.{front_empty, unbroken}
+use Rattle.expr_soundness.specs.type_rules.specs.ProfileRules.{profile_entity}
+use Rattle.expr_soundness.specs.type_rules.specs.SubtypeNames.{declared_twice, end_rule, entity_at_or_none, named_entity}
 use Rattle.matching.specs.MatchingRules.{conforms, is_unlike_subprogram, passes_declared, same_name}
 use Rattle.legality.specs.BodyRules.{function_body_faults, has_no_declarations, has_no_handlers, is_function_body, is_return_of_value, is_single_return, is_subprogram}
 use Rattle.legality.specs.MainRules.{item_name}
@@ -25,7 +25,7 @@ use Rattle.legality.specs.PackageBodyRules.{body_item_faults}
 use Rattle.legality.specs.ProtectedBodyRules.{is_object as is_protected_name, known_body_faults, object_rule}
 use Rattle.declaring.specs.PackageNames.{program_scope}
 use Rattle.checking.specs.ProgramRules.{IsLegal}
-use Rattle.meaning.specs.Programs.{functions_among, items_among, object_numbered, returned, variables_among}
+use Rattle.expr_soundness.specs.meaning.specs.Programs.{functions_among, items_among, object_numbered, returned, variables_among}
 use Rattle.expr_soundness.specs.SoundScopes.{SoundScope}
 use Rattle.expr_soundness.specs.Agreeing.{HasProfile}
 use Rattle.expr_soundness.proofs.Expressions.{not_false}

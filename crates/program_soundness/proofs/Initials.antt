@@ -1,15 +1,15 @@
 -- Initial values that must be static, and break no rule, are known, and values of their type.
 use Rattle.std.proofs.Common.{◌≡◌, ◌++◌, ℕ, ℤ, [], ◌∷◌, Bool, true, false, not, ◌&&◌, ◌⊎◌, inl, inr, pos, Option, Some, None, Ok, Err, refl, sym, ap, ◌∙◌, subst}
 use Rattle.std.specs.Prelude.{nat_eq}
-use Rattle.base.specs.Arithmetic.{Checked, absolute_of, difference_of, modulus_of, negation_of, product_of, quotient_of, remainder_of, sum_of}
-use Rattle.base.specs.declared.faults.TheConstants.{NAME_NOT_VISIBLE, NO_MEANING}
-use Rattle.ada_tree.specs.declared.expression.Identifier.{Identifier}
-use Rattle.ada_tree.specs.declared.expression.UnaryOperator.{UnaryOperator}
-use Rattle.ada_tree.specs.declared.expression.UnaryOperator.TheVariants as unary
-use Rattle.ada_tree.specs.declared.expression.BinaryOperator.{BinaryOperator}
-use Rattle.ada_tree.specs.declared.expression.BinaryOperator.TheVariants as binary
-use Rattle.ada_tree.specs.ExpressionTree as tree
-use Rattle.ada_tree.specs.ExpressionTree.{ExprTree, Named, Parenthesized, Conditional, Unary, Binary, SelectorTrees, NoSelectors, MoreSelectors, Arguments, ArgumentTrees, NoArguments, MoreArguments, bare_name}
+use Rattle.expr_soundness.specs.base.specs.Arithmetic.{Checked, absolute_of, difference_of, modulus_of, negation_of, product_of, quotient_of, remainder_of, sum_of}
+use Rattle.expr_soundness.specs.base.specs.declared.faults.TheConstants.{NAME_NOT_VISIBLE, NO_MEANING}
+use Rattle.expr_soundness.specs.ada_tree.specs.declared.expression.Identifier.{Identifier}
+use Rattle.expr_soundness.specs.ada_tree.specs.declared.expression.UnaryOperator.{UnaryOperator}
+use Rattle.expr_soundness.specs.ada_tree.specs.declared.expression.UnaryOperator.TheVariants as unary
+use Rattle.expr_soundness.specs.ada_tree.specs.declared.expression.BinaryOperator.{BinaryOperator}
+use Rattle.expr_soundness.specs.ada_tree.specs.declared.expression.BinaryOperator.TheVariants as binary
+use Rattle.expr_soundness.specs.ada_tree.specs.ExpressionTree as tree
+use Rattle.expr_soundness.specs.ada_tree.specs.ExpressionTree.{ExprTree, Named, Parenthesized, Conditional, Unary, Binary, SelectorTrees, NoSelectors, MoreSelectors, Arguments, ArgumentTrees, NoArguments, MoreArguments, bare_name}
 use Rattle.types.specs.declared.entity.Subtype.{Subtype}
 use Rattle.types.specs.declared.entity.Value.{Value as Scalar}
 use Rattle.types.specs.declared.entity.Value.TheVariants as scalar
@@ -29,20 +29,20 @@ use Rattle.types.specs.Operators.{binary_value, is_decided, unary_value}
 use Rattle.types.specs.Places.{meaning_of}
 use Rattle.types.specs.Evaluating.{name_with}
 use Rattle.types.specs.Statics.{no_calls, start_of, static_form, static_place, static_value}
-use Rattle.expr_rules.specs.declared.own.Own.{Own}
-use Rattle.expr_rules.specs.declared.own.Own.TheVariants.{Unknown, Universal, Typed}
-use Rattle.expr_rules.specs.declared.own.Wanted.TheVariants as wanted
-use Rattle.expr_rules.specs.declared.names.Slot.TheVariants.{Expects}
-use Rattle.expr_rules.specs.Faults.{Faults, rule}
-use Rattle.expr_rules.specs.Typing.{is_integers, is_known, is_spans, is_times, is_wanted, own_of, own_of_standing}
-use Rattle.expr_rules.specs.NameRules.{call_slot, mismatch, part_rule, slot_at, value_rule}
-use Rattle.expr_rules.specs.ExpressionRules.{argument_faults, arguments_faults, faults_in, faults_of, selector_faults, selectors_faults}
-use Rattle.expr_rules.specs.Laws.{is_value_of, type_shape}
-use Rattle.expr_rules.specs.StaticRules.{form_rule, if_unbroken, static_faults, static_scalar}
-use Rattle.expr_rules.specs.StaticRules as statics
-use Rattle.expr_rules.proofs.TypedLaw.{back_empty, front_empty, integral_numeric, judged, same_number, span_numeric, suits_number, time_numeric, unbroken}
-use Rattle.type_rules.specs.SubtypeNames.{entity_at_or_none, named_entity, wanted_by}
-use Rattle.type_rules.specs.ObjectRules.{called_faults, called_scalar, computed_faults, fixed_faults, fixed_scalar, fixed_value, is_clock, is_clock_entity, known_scalar, scalar_if_unbroken, scalar_of, single_argument, span_by, span_call, span_faults, span_of, span_of_scalar, span_rule, span_value}
+use Rattle.expr_soundness.specs.expr_rules.specs.declared.own.Own.{Own}
+use Rattle.expr_soundness.specs.expr_rules.specs.declared.own.Own.TheVariants.{Unknown, Universal, Typed}
+use Rattle.expr_soundness.specs.expr_rules.specs.declared.own.Wanted.TheVariants as wanted
+use Rattle.expr_soundness.specs.expr_rules.specs.declared.names.Slot.TheVariants.{Expects}
+use Rattle.expr_soundness.specs.expr_rules.specs.Faults.{Faults, rule}
+use Rattle.expr_soundness.specs.expr_rules.specs.Typing.{is_integers, is_known, is_spans, is_times, is_wanted, own_of, own_of_standing}
+use Rattle.expr_soundness.specs.expr_rules.specs.NameRules.{call_slot, mismatch, part_rule, slot_at, value_rule}
+use Rattle.expr_soundness.specs.expr_rules.specs.ExpressionRules.{argument_faults, arguments_faults, faults_in, faults_of, selector_faults, selectors_faults}
+use Rattle.expr_soundness.specs.expr_rules.specs.Laws.{is_value_of, type_shape}
+use Rattle.expr_soundness.specs.expr_rules.specs.StaticRules.{form_rule, if_unbroken, static_faults, static_scalar}
+use Rattle.expr_soundness.specs.expr_rules.specs.StaticRules as statics
+use Rattle.expr_soundness.specs.expr_rules.proofs.TypedLaw.{back_empty, front_empty, integral_numeric, judged, same_number, span_numeric, suits_number, time_numeric, unbroken}
+use Rattle.expr_soundness.specs.type_rules.specs.SubtypeNames.{entity_at_or_none, named_entity, wanted_by}
+use Rattle.expr_soundness.specs.type_rules.specs.ObjectRules.{called_faults, called_scalar, computed_faults, fixed_faults, fixed_scalar, fixed_value, is_clock, is_clock_entity, known_scalar, scalar_if_unbroken, scalar_of, single_argument, span_by, span_call, span_faults, span_of, span_of_scalar, span_rule, span_value}
 use Rattle.expr_soundness.specs.SoundScopes.{HasOperation, IsSoundPredefined, SoundScope, integer_formal}
 use Rattle.expr_soundness.proofs.Parts.{subtype_values}
 use Rattle.program_soundness.proofs.Statics.{IsStatic, both_left, must_be_static, static_name, static_number}

@@ -1,14 +1,14 @@
 -- The names of an accepted program at each declaration and body of its package, and at each operation of its protected objects, are known.
 use Rattle.std.proofs.Common.{◌≡◌, ℕ, zero, suc, List, [], ◌∷◌, ◌++◌, take, drop, Option, Some, None, refl, sym, ap, ◌∙◌, subst}
 use Rattle.std.specs.Prelude.{is_some, slice_get}
-use Rattle.ada_tree.specs.declared.expression.Identifier.{Identifier}
-use Rattle.ada_tree.specs.StatementTree.{SubprogramTree}
-use Rattle.ada_tree.specs.ProgramTree.{BodyTree, BodyItemTree, OfItem, SubprogramBody, TaskBody, ProtectedBody, OperationBody, PackageTree, ProgramTree, ProtectedItemTree}
+use Rattle.expr_soundness.specs.ada_tree.specs.declared.expression.Identifier.{Identifier}
+use Rattle.expr_soundness.specs.ada_tree.specs.StatementTree.{SubprogramTree}
+use Rattle.expr_soundness.specs.ada_tree.specs.ProgramTree.{BodyTree, BodyItemTree, OfItem, SubprogramBody, TaskBody, ProtectedBody, OperationBody, PackageTree, ProgramTree, ProtectedItemTree}
 use Rattle.types.specs.Entities.{Entity, Protected, ProtectedObject}
 use Rattle.types.specs.Scopes.{Scope, entity_at, number_of, standard}
 use Rattle.types.specs.Laws.{InitialValuesHaveShape}
-use Rattle.expr_rules.proofs.TypedLaw.{back_empty, front_empty}
-use Rattle.type_rules.specs.ProfileRules.{profile_faults, subprogram_scope}
+use Rattle.expr_soundness.specs.expr_rules.proofs.TypedLaw.{back_empty, front_empty}
+use Rattle.expr_soundness.specs.type_rules.specs.ProfileRules.{profile_faults, subprogram_scope}
 use Rattle.declaring.specs.BodyNames.{object_body_scope}
 use Rattle.declaring.specs.ItemRules.{item_faults}
 use Rattle.declaring.specs.Laws.{NamesAreAdded}

@@ -3,13 +3,13 @@ use Rattle.std.proofs.Common.{◌≡◌, ◌++◌, ℕ, List, [], ◌∷◌, map
 use Rattle.std.specs.List.{list_any}
 use Rattle.std.proofs.lemmas.Bool.{or_parts}
 use Rattle.std.proofs.lemmas.List.{append_assoc, append-nil}
-use Rattle.base.specs.declared.faults.TheConstants.{UNMATCHED_BODY}
-use Rattle.ada_tree.specs.declared.expression.Identifier.{Identifier}
-use Rattle.ada_tree.specs.StatementTree.{OperationTree, ProtectedTree, SubprogramTree}
-use Rattle.ada_tree.specs.StatementTree.{OfSubprogram as OfOperation}
-use Rattle.ada_tree.specs.ProgramTree.{BodyItemTree, BodyTree, OfItem, SubprogramBody, TaskBody, ProtectedBody, ItemTree, OfSubprogram, OfProtected, PackageTree, ProgramTree, ProtectedItemTree}
-use Rattle.expr_rules.specs.Faults.{rule}
-use Rattle.expr_rules.proofs.TypedLaw.{back_empty, front_empty, unbroken}
+use Rattle.expr_soundness.specs.base.specs.declared.faults.TheConstants.{UNMATCHED_BODY}
+use Rattle.expr_soundness.specs.ada_tree.specs.declared.expression.Identifier.{Identifier}
+use Rattle.expr_soundness.specs.ada_tree.specs.StatementTree.{OperationTree, ProtectedTree, SubprogramTree}
+use Rattle.expr_soundness.specs.ada_tree.specs.StatementTree.{OfSubprogram as OfOperation}
+use Rattle.expr_soundness.specs.ada_tree.specs.ProgramTree.{BodyItemTree, BodyTree, OfItem, SubprogramBody, TaskBody, ProtectedBody, ItemTree, OfSubprogram, OfProtected, PackageTree, ProgramTree, ProtectedItemTree}
+use Rattle.expr_soundness.specs.expr_rules.specs.Faults.{rule}
+use Rattle.expr_soundness.specs.expr_rules.proofs.TypedLaw.{back_empty, front_empty, unbroken}
 use Rattle.matching.specs.MatchingRules.{all_missing_faults, any_declared, has_operation, has_unlike_operation, is_second_operation, is_unlike_subprogram, item_matching, items_matching, missing_faults, missing_operation_rule, missing_operations_faults, operation_bodies_faults, operation_body_rule, operation_name, passes_declared, same_name}
 use Rattle.checking.specs.ProgramRules.{IsLegal}
 use Rattle.expr_soundness.proofs.Expressions.{not_false}

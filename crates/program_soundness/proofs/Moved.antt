@@ -1,19 +1,19 @@
 -- Names behind those of a scope whose protected object is hidden, profiles that move with their subtypes, and the numbers of protected objects.
 use Rattle.std.proofs.Common.{◌≡◌, ◌≤◌, ℕ, zero, suc, ◌+◌, List, [], ◌∷◌, ◌++◌, drop, map, take, Bool, true, false, cond, ◌⊎◌, inl, inr, Option, Some, None, refl, sym, ap, ◌∙◌, subst, arith}
 use Rattle.std.specs.Prelude.{bytes_eq, option_map, slice_get}
-use Rattle.ada_tree.specs.declared.expression.Identifier.{Identifier}
-use Rattle.ada_tree.specs.declared.declaration.Formal.{Formal}
-use Rattle.ada_tree.specs.ProgramTree.{BodyItemTree, OfItem, SubprogramBody, TaskBody, ProtectedBody, OfType, OfObject, OfException, OfSubprogram, OfTask, OfProtected, ProtectedItemTree, OperationBody, EntryBody}
+use Rattle.expr_soundness.specs.ada_tree.specs.declared.expression.Identifier.{Identifier}
+use Rattle.expr_soundness.specs.ada_tree.specs.declared.declaration.Formal.{Formal}
+use Rattle.expr_soundness.specs.ada_tree.specs.ProgramTree.{BodyItemTree, OfItem, SubprogramBody, TaskBody, ProtectedBody, OfType, OfObject, OfException, OfSubprogram, OfTask, OfProtected, ProtectedItemTree, OperationBody, EntryBody}
 use Rattle.types.specs.declared.entity.RecordComponent.{RecordComponent}
 use Rattle.types.specs.declared.entity.Subtype.{Subtype}
 use Rattle.types.specs.declared.entity.FormalParameter.{FormalParameter}
 use Rattle.types.specs.Entities.{Entity, Operation, Profile, ProtectedObject, Protected}
 use Rattle.types.specs.Scopes.{Named, Scope, changed_at, is_visible, offering, one_if_protected, protected_count, with_name, with_operations}
 use Rattle.types.specs.Places.{or_else}
-use Rattle.type_rules.specs.SubtypeNames.{subtype_in, subtype_of}
-use Rattle.type_rules.specs.ProfileRules.{formal_and, formal_parameters, given_profile, profile_with}
+use Rattle.expr_soundness.specs.type_rules.specs.SubtypeNames.{subtype_in, subtype_of}
+use Rattle.expr_soundness.specs.type_rules.specs.ProfileRules.{formal_and, formal_parameters, given_profile, profile_with}
 use Rattle.declaring.specs.ProtectedRules.{object_with}
-use Rattle.expr_rules.proofs.TypedLaw.{back_empty, front_empty}
+use Rattle.expr_soundness.specs.expr_rules.proofs.TypedLaw.{back_empty, front_empty}
 use Rattle.declaring.specs.PackageNames.{body_item_scope, body_items_scope}
 use Rattle.legality.specs.ProtectedBodyRules.{protected_item_faults, protected_item_scope, protected_items_faults, protected_items_scope}
 use Rattle.program_soundness.specs.Fronts.{scope_at}

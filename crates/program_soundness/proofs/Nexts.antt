@@ -9,15 +9,15 @@ use Rattle.kernel.specs.Invariant.{HasAction, Kept, ServesCall}
 use Rattle.kernel.specs.Laws.{Unmoved}
 use Rattle.kernel.specs.PutLaws.{by_put, put_other, put_put, put_same}
 use Rattle.kernel.specs.Worlds.{ending, reached}
-use Rattle.meaning.specs.Works.{GivenToCaller, Store, TaskWork}
-use Rattle.meaning.specs.Calls.{is_open}
-use Rattle.meaning.specs.SourceSteps.{Here, program_behaviour, serves}
+use Rattle.expr_soundness.specs.meaning.specs.Works.{GivenToCaller, Store, TaskWork}
+use Rattle.expr_soundness.specs.meaning.specs.Calls.{is_open}
+use Rattle.expr_soundness.specs.meaning.specs.SourceSteps.{Here, program_behaviour, serves}
 use Rattle.step_soundness.specs.Opened.{ForCall, ForCaller, Opened}
 use Rattle.step_soundness.specs.Holding.{Accounts, IsGiven, IsGivenAt, IsSoundServer, IsSoundTask, WhenEnds, waits_after}
 use Rattle.step_soundness.specs.Laws.{Matches}
 use Rattle.program_soundness.specs.SoundWorlds.{HasMeaning}
 use Rattle.program_soundness.proofs.Awaiting.{awaited_if}
-use Rattle.meaning.proofs.Faults.{either}
+use Rattle.expr_soundness.specs.meaning.proofs.Faults.{either}
 use Rattle.program_soundness.proofs.Outcomes.{settled_meant}
 use Rattle.program_soundness.proofs.Entries.{opened_of}
 use Rattle.program_soundness.proofs.Others.{IsStep, NextLaws, SoundAt, given_to, goes_on, hands, keeps_calls, served_here, takes, waits_elsewhere, waits_in}

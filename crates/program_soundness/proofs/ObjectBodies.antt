@@ -3,35 +3,35 @@ use Rattle.std.proofs.Common.{◌≡◌, ◌<◌, ℕ, zero, suc, ◌+◌, List,
 use Rattle.std.specs.Prelude.{bytes_eq, is_some, option_map, slice_get, ⊤}
 use Rattle.std.specs.List.{list_any}
 use Rattle.std.proofs.lemmas.List.{append_assoc, append-nil}
-use Rattle.ada_tree.specs.declared.expression.Identifier.{Identifier}
-use Rattle.ada_tree.specs.declared.declaration.Formal.{Formal}
-use Rattle.ada_tree.specs.ExpressionTree.{ExprTree}
-use Rattle.ada_tree.specs.StatementTree.{EntryTree, OperationTree, ProtectedTree, SubprogramTree}
-use Rattle.ada_tree.specs.StatementTree as operation
-use Rattle.ada_tree.specs.ProgramTree.{BodyTree, BodyItemTree, OfItem, SubprogramBody, TaskBody, ProtectedBody, OfType, OfSubprogram, OfProtected, ProtectedItemTree, OperationBody, EntryBody}
+use Rattle.expr_soundness.specs.ada_tree.specs.declared.expression.Identifier.{Identifier}
+use Rattle.expr_soundness.specs.ada_tree.specs.declared.declaration.Formal.{Formal}
+use Rattle.expr_soundness.specs.ada_tree.specs.ExpressionTree.{ExprTree}
+use Rattle.expr_soundness.specs.ada_tree.specs.StatementTree.{EntryTree, OperationTree, ProtectedTree, SubprogramTree}
+use Rattle.expr_soundness.specs.ada_tree.specs.StatementTree as operation
+use Rattle.expr_soundness.specs.ada_tree.specs.ProgramTree.{BodyTree, BodyItemTree, OfItem, SubprogramBody, TaskBody, ProtectedBody, OfType, OfSubprogram, OfProtected, ProtectedItemTree, OperationBody, EntryBody}
 use Rattle.types.specs.declared.entity.RecordComponent.{RecordComponent}
 use Rattle.types.specs.declared.entity.Subtype.{Subtype}
 use Rattle.types.specs.Entities.{Entity, Operation, Profile, ProtectedObject, Protected, Subprogram, Doubtful}
 use Rattle.types.specs.Entities as entity
 use Rattle.types.specs.Scopes.{Named, Scope, entity_at, is_visible, number_of, operations_or, protected_count, protected_of, with_name, with_operations}
 use Rattle.types.specs.Places.{or_else}
-use Rattle.expr_rules.specs.Faults.{Faults, rule}
-use Rattle.expr_rules.proofs.TypedLaw.{back_empty, front_empty, judged, unbroken}
-use Rattle.type_rules.specs.SubtypeNames.{declared_twice, end_rule, named_entity, subtype_in, subtype_of}
-use Rattle.type_rules.specs.ProfileRules.{formal_parameters, profile_entity, profile_with, subprogram_scope}
+use Rattle.expr_soundness.specs.expr_rules.specs.Faults.{Faults, rule}
+use Rattle.expr_soundness.specs.expr_rules.proofs.TypedLaw.{back_empty, front_empty, judged, unbroken}
+use Rattle.expr_soundness.specs.type_rules.specs.SubtypeNames.{declared_twice, end_rule, named_entity, subtype_in, subtype_of}
+use Rattle.expr_soundness.specs.type_rules.specs.ProfileRules.{formal_parameters, profile_entity, profile_with, subprogram_scope}
 use Rattle.declaring.specs.BodyNames.{components_scope, object_body_scope, component_role, operation_entity, operations_scope}
 use Rattle.declaring.specs.ProtectedRules.{is_operation_in, object_components, object_operations, operation_name, operation_profile, protected_entity, protected_faults}
 use Rattle.declaring.specs.ProtectedRules as declared
 use Rattle.matching.specs.MatchingRules.{any_declared, has_unlike_operation, is_second_operation, is_unlike_operation, operation_bodies_faults, operation_body_rule, passes_declared, same_formals, same_name, same_result, conforms}
 use Rattle.matching.specs.MatchingRules as matching
-use Rattle.base.specs.declared.faults.TheConstants.{UNMATCHED_BODY}
+use Rattle.expr_soundness.specs.base.specs.declared.faults.TheConstants.{UNMATCHED_BODY}
 use Rattle.legality.specs.MainRules.{item_name}
 use Rattle.declaring.specs.PackageNames.{body_items_scope}
 use Rattle.legality.specs.BodyRules.{body_name_faults, function_body_faults, head_faults, is_subprogram, subprogram_body_faults}
 use Rattle.legality.specs.ProtectedBodyRules.{components_at, entry_rule, is_entry, known_body_faults, object_items_faults, object_rule, outer_names_faults, protected_item_faults, protected_items_faults}
 use Rattle.checking.specs.LikeNames.{is_its_body, item_like_faults}
 use Rattle.expr_soundness.specs.SoundScopes.{SoundScope}
-use Rattle.meaning.specs.Programs.{Program}
+use Rattle.expr_soundness.specs.meaning.specs.Programs.{Program}
 use Rattle.program_soundness.specs.Fronts.{scope_at}
 use Rattle.program_soundness.proofs.Listing.{dropped_at, none_passes, not_both, one_passes, or_else_some, passes_at, same_some, taken_at, taken_further, within_taken}
 use Rattle.program_soundness.proofs.WiderScopes.{bytes_same, equal_bytes, found_in, number_stands, same_bytes, some_seen, stands, stands_with_all, unseen_none, with_all}

@@ -1,27 +1,27 @@
 -- Operations of protected objects by their names: what a look-up finds has the profile that the name stands for (RM 9.4, 9.5.1, 9.5.3).
 use Rattle.std.proofs.Common.{◌≡◌, ◌<◌, ℕ, zero, suc, List, [], ◌∷◌, take, map, Bool, true, false, ◌⊎◌, inl, inr, Option, Some, None, refl, sym, ap, ◌∙◌, subst, arith}
 use Rattle.std.specs.Prelude.{is_some, slice_get}
-use Rattle.ada_tree.specs.declared.expression.Identifier.{Identifier}
-use Rattle.ada_tree.specs.ExpressionTree.{ExprTree}
-use Rattle.ada_tree.specs.StatementTree.{EntryTree, OperationTree, ProtectedTree, SubprogramTree}
-use Rattle.ada_tree.specs.StatementTree as operation
-use Rattle.ada_tree.specs.ProgramTree.{BodyTree, BodyItemTree, OfItem, ProtectedBody, OfProtected, ProtectedItemTree, OperationBody, EntryBody}
+use Rattle.expr_soundness.specs.ada_tree.specs.declared.expression.Identifier.{Identifier}
+use Rattle.expr_soundness.specs.ada_tree.specs.ExpressionTree.{ExprTree}
+use Rattle.expr_soundness.specs.ada_tree.specs.StatementTree.{EntryTree, OperationTree, ProtectedTree, SubprogramTree}
+use Rattle.expr_soundness.specs.ada_tree.specs.StatementTree as operation
+use Rattle.expr_soundness.specs.ada_tree.specs.ProgramTree.{BodyTree, BodyItemTree, OfItem, ProtectedBody, OfProtected, ProtectedItemTree, OperationBody, EntryBody}
 use Rattle.types.specs.declared.entity.Subtype.{Subtype}
 use Rattle.types.specs.Entities.{Entity, Operation, Profile, ProtectedObject, Protected, Subprogram}
 use Rattle.types.specs.Entities as entity
 use Rattle.types.specs.Scopes.{Scope}
 use Rattle.types.specs.Evaluating.{formal_subtype}
 use Rattle.types.specs.Places.{Function, function_of, is_of}
-use Rattle.expr_rules.proofs.TypedLaw.{back_empty, front_empty, judged, same_number, unbroken}
-use Rattle.type_rules.specs.ProfileRules.{formal_parameters, profile_with}
+use Rattle.expr_soundness.specs.expr_rules.proofs.TypedLaw.{back_empty, front_empty, judged, same_number, unbroken}
+use Rattle.expr_soundness.specs.type_rules.specs.ProfileRules.{formal_parameters, profile_with}
 use Rattle.declaring.specs.ProtectedRules as declared
 use Rattle.matching.specs.MatchingRules.{is_second_operation, same_name}
 use Rattle.matching.specs.MatchingRules as matching
 use Rattle.legality.specs.BodyRules.{function_body_faults, head_faults, is_function_body}
 use Rattle.ravenscar.specs.TaskingRules as profile
 use Rattle.expr_soundness.specs.Agreeing.{HasProfile}
-use Rattle.meaning.specs.Programs.{Procedure, Program, formal, object_numbered, parameter, returned}
-use Rattle.meaning.specs.Calls.{procedure_among}
+use Rattle.expr_soundness.specs.meaning.specs.Programs.{Procedure, Program, formal, object_numbered, parameter, returned}
+use Rattle.expr_soundness.specs.meaning.specs.Calls.{procedure_among}
 use Rattle.step_soundness.specs.Fitting.{IsEntry, IsProcedure, entry_of, formal_of}
 use Rattle.program_soundness.specs.Fronts.{scope_at}
 use Rattle.program_soundness.proofs.Listing.{Has, none_passes, not_both, same_some, taken_at}

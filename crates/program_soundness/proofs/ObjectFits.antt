@@ -1,9 +1,9 @@
 -- In the body of a protected object each visible name means what it stands for, and statements find there what they name (RM 9.4, 9.5.1).
 use Rattle.std.proofs.Common.{◌≡◌, ℕ, zero, suc, List, [], ◌∷◌, take, map, Bool, true, false, cond, ◌⊎◌, inl, inr, Option, Some, None, refl, sym, ap, ◌∙◌, subst, arith}
 use Rattle.std.specs.Prelude.{option_map, slice_get}
-use Rattle.ada_tree.specs.declared.expression.Identifier.{Identifier}
-use Rattle.ada_tree.specs.StatementTree.{ProtectedTree}
-use Rattle.ada_tree.specs.ProgramTree.{BodyItemTree, OfItem, ProtectedBody, OfProtected, ProtectedItemTree, OperationBody, EntryBody}
+use Rattle.expr_soundness.specs.ada_tree.specs.declared.expression.Identifier.{Identifier}
+use Rattle.expr_soundness.specs.ada_tree.specs.StatementTree.{ProtectedTree}
+use Rattle.expr_soundness.specs.ada_tree.specs.ProgramTree.{BodyItemTree, OfItem, ProtectedBody, OfProtected, ProtectedItemTree, OperationBody, EntryBody}
 use Rattle.types.specs.declared.entity.Role.{Role}
 use Rattle.types.specs.declared.entity.Subtype.{Subtype}
 use Rattle.types.specs.declared.entity.RecordComponent.{RecordComponent}
@@ -14,7 +14,7 @@ use Rattle.types.specs.Scopes.{Scope, entity_at, form_at, form_of, number_of, of
 use Rattle.types.specs.Standings.{stands_first}
 use Rattle.types.specs.Shapes.{has_shape, shape_of}
 use Rattle.types.specs.Places.{Function, Meaning, Object, Place, function_meaning, function_of, function_stands, meaning_in_scope, meaning_of, meaning_or, object_meaning, object_of, object_stands, or_else, stands_here}
-use Rattle.type_rules.specs.ProfileRules.{profile_entity}
+use Rattle.expr_soundness.specs.type_rules.specs.ProfileRules.{profile_entity}
 use Rattle.declaring.specs.BodyNames.{component_role, components_scope, operation_entity}
 use Rattle.declaring.specs.ProtectedRules.{object_components, protected_entity}
 use Rattle.declaring.specs.PackageNames.{body_item_scope}
@@ -24,9 +24,9 @@ use Rattle.expr_soundness.specs.Laws.{ScopesAreSound}
 use Rattle.expr_soundness.specs.Agreeing.{Agrees, Means, MeansFunction, MeansObject, MeansOne}
 use Rattle.expr_soundness.proofs.Goods.{not_empty, object_known}
 use Rattle.expr_soundness.proofs.Parts.{same_values, subtype_values}
-use Rattle.meaning.specs.Programs.{Procedure, Program, component, objects_or_none}
-use Rattle.meaning.specs.Works.{Store}
-use Rattle.meaning.specs.Calls.{procedure_among, procedure_here}
+use Rattle.expr_soundness.specs.meaning.specs.Programs.{Procedure, Program, component, objects_or_none}
+use Rattle.expr_soundness.specs.meaning.specs.Works.{Store}
+use Rattle.expr_soundness.specs.meaning.specs.Calls.{procedure_among, procedure_here}
 use Rattle.step_soundness.specs.Objects.{object_subtype, subtype_in}
 use Rattle.step_soundness.specs.Fitting.{FitsScope, IsCalled, IsEntry, IsFound, IsProcedure, is_result}
 use Rattle.step_soundness.specs.Holding.{inside}

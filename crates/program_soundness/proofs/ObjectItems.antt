@@ -1,10 +1,10 @@
 -- What tests say of the items of a protected object's body, and of places in front of others.
 use Rattle.std.proofs.Common.{◌≡◌, ◌<◌, ℕ, zero, suc, ◌+◌, List, [], ◌∷◌, not, Bool, true, false, cond, ◌&&◌, ◌||◌, ◌⊎◌, inl, inr, Some, None, refl, ap, subst, arith}
 use Rattle.std.specs.Prelude.{slice_get}
-use Rattle.ada_tree.specs.StatementTree.{ProtectedTree, SubprogramTree}
-use Rattle.ada_tree.specs.ProgramTree.{BodyTree, BodyItemTree, OfItem, SubprogramBody, TaskBody, ProtectedBody, OfType, OfObject, OfException, OfSubprogram, OfTask, OfProtected, ProtectedItemTree, OperationBody}
+use Rattle.expr_soundness.specs.ada_tree.specs.StatementTree.{ProtectedTree, SubprogramTree}
+use Rattle.expr_soundness.specs.ada_tree.specs.ProgramTree.{BodyTree, BodyItemTree, OfItem, SubprogramBody, TaskBody, ProtectedBody, OfType, OfObject, OfException, OfSubprogram, OfTask, OfProtected, ProtectedItemTree, OperationBody}
 use Rattle.types.specs.Scopes.{Scope}
-use Rattle.expr_rules.proofs.TypedLaw.{back_empty, front_empty, unbroken}
+use Rattle.expr_soundness.specs.expr_rules.proofs.TypedLaw.{back_empty, front_empty, unbroken}
 use Rattle.legality.specs.ProtectedBodyRules.{outer_name_rule, outer_names_faults}
 use Rattle.program_soundness.proofs.Listing.{same_some}
 use Rattle.program_soundness.proofs.WiderScopes.{stands, unseen_none}

@@ -1,18 +1,18 @@
 -- What the declaration of a protected object that breaks no rule says of its operations and components, and of the names between it and its body.
 use Rattle.std.proofs.Common.{◌≡◌, ◌<◌, ℕ, zero, suc, List, [], ◌∷◌, ◌++◌, Bool, true, false, cond, ◌||◌, Option, Some, None, refl, sym, ap, ◌∙◌, subst, arith}
 use Rattle.std.specs.Prelude.{bytes_eq, slice_get}
-use Rattle.ada_tree.specs.declared.expression.Identifier.{Identifier}
-use Rattle.ada_tree.specs.StatementTree.{OperationTree, ProtectedComponentTree, ProtectedTree}
-use Rattle.ada_tree.specs.ProgramTree.{BodyItemTree}
+use Rattle.expr_soundness.specs.ada_tree.specs.declared.expression.Identifier.{Identifier}
+use Rattle.expr_soundness.specs.ada_tree.specs.StatementTree.{OperationTree, ProtectedComponentTree, ProtectedTree}
+use Rattle.expr_soundness.specs.ada_tree.specs.ProgramTree.{BodyItemTree}
 use Rattle.types.specs.declared.entity.RecordComponent.{RecordComponent}
 use Rattle.types.specs.declared.entity.Subtype.{Subtype}
 use Rattle.types.specs.Entities.{Entity, Object, Operation, Profile}
 use Rattle.types.specs.Scopes.{Named, Scope, is_visible, with_name}
 use Rattle.types.specs.Places.{or_else}
 use Rattle.types.proofs.Seeing.{either_way}
-use Rattle.expr_rules.specs.Faults.{Faults}
-use Rattle.expr_rules.proofs.TypedLaw.{back_empty, front_empty, unbroken}
-use Rattle.type_rules.specs.SubtypeNames.{subtype_of}
+use Rattle.expr_soundness.specs.expr_rules.specs.Faults.{Faults}
+use Rattle.expr_soundness.specs.expr_rules.proofs.TypedLaw.{back_empty, front_empty, unbroken}
+use Rattle.expr_soundness.specs.type_rules.specs.SubtypeNames.{subtype_of}
 use Rattle.declaring.specs.BodyNames.{component_role, components_scope, operation_entity, operations_scope}
 use Rattle.declaring.specs.ProtectedRules.{is_component_in, is_component_like, is_entry, is_operation_in, is_operation_like, object_components, object_operations, operation_and, operation_faults, operation_name, operation_profile, operation_profile_faults, operations_faults, part_and, part_faults, parts_faults, protected_faults}
 use Rattle.checking.specs.LikeNames.{between_faults, is_its_body, item_like_faults}

@@ -2,23 +2,23 @@
 use Rattle.std.proofs.Common.{◌≡◌, ◌++◌, ◌+◌, ◌<◌, ℕ, zero, suc, List, [], ◌∷◌, Bool, true, false, inl, inr, Option, Some, None, refl, sym, ap, ◌∙◌, subst, arith}
 use Rattle.std.specs.Prelude.{cond, slice_get}
 use Rattle.std.proofs.lemmas.List.{append_assoc}
-use Rattle.base.specs.declared.faults.TheConstants.{DECLARED_TWICE}
-use Rattle.ada_tree.specs.declared.expression.Identifier.{Identifier}
-use Rattle.ada_tree.specs.StatementTree.{OperationTree, ProtectedTree}
-use Rattle.ada_tree.specs.ProgramTree.{BodyItemTree, OfItem, SubprogramBody, TaskBody, ProtectedBody, OfSubprogram, OfProtected, PackageTree, ProgramTree, ProtectedItemTree}
+use Rattle.expr_soundness.specs.base.specs.declared.faults.TheConstants.{DECLARED_TWICE}
+use Rattle.expr_soundness.specs.ada_tree.specs.declared.expression.Identifier.{Identifier}
+use Rattle.expr_soundness.specs.ada_tree.specs.StatementTree.{OperationTree, ProtectedTree}
+use Rattle.expr_soundness.specs.ada_tree.specs.ProgramTree.{BodyItemTree, OfItem, SubprogramBody, TaskBody, ProtectedBody, OfSubprogram, OfProtected, PackageTree, ProgramTree, ProtectedItemTree}
 use Rattle.types.specs.Entities.{Entity, Operation, Profile, ProtectedObject, Protected}
 use Rattle.types.specs.Scopes.{Named, Scope, is_visible, one_if_protected, protected_count, with_name}
 use Rattle.types.specs.Places.{Function}
 use Rattle.types.specs.Places.{function_of as found}
-use Rattle.expr_rules.proofs.TypedLaw.{back_empty, front_empty, unbroken}
-use Rattle.type_rules.specs.SubtypeNames.{declared_twice, end_rule}
+use Rattle.expr_soundness.specs.expr_rules.proofs.TypedLaw.{back_empty, front_empty, unbroken}
+use Rattle.expr_soundness.specs.type_rules.specs.SubtypeNames.{declared_twice, end_rule}
 use Rattle.declaring.specs.ProtectedRules.{default_ceiling, is_entry, object_components, object_operations, object_with, operation_and, operation_name, operation_profile, operations_faults, parts_faults, protected_entity, protected_faults}
 use Rattle.declaring.specs.TaskRules.{aspect_faults, priority_of}
-use Rattle.base.specs.declared.limits.TheConstants.{TASK_PRIORITY}
+use Rattle.expr_soundness.specs.base.specs.declared.limits.TheConstants.{TASK_PRIORITY}
 use Rattle.legality.specs.MainRules.{item_name}
 use Rattle.declaring.specs.PackageNames.{body_item_scope}
 use Rattle.checking.specs.ProgramRules.{IsLegal}
-use Rattle.meaning.specs.Programs.{object_numbered}
+use Rattle.expr_soundness.specs.meaning.specs.Programs.{object_numbered}
 use Rattle.expr_soundness.proofs.Positions.{same_some}
 use Rattle.step_soundness.specs.Fitting.{entity_named}
 use Rattle.program_soundness.proofs.Declared.{object_known}

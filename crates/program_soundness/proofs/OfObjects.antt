@@ -1,19 +1,19 @@
 -- The functions in the body of a protected object are sound: its components are constants there.
 use Rattle.std.proofs.Common.{◌≡◌, ℕ, List, [], ◌∷◌, Bool, true, false, cond, ◌⊎◌, inl, inr, Some, None, refl, sym, ap, ◌∙◌}
 use Rattle.std.specs.Prelude.{bytes_eq, is_some, slice_get}
-use Rattle.ada_tree.specs.declared.expression.Identifier.{Identifier}
-use Rattle.ada_tree.specs.StatementTree.{SubprogramTree}
-use Rattle.ada_tree.specs.ProgramTree.{BodyTree, BodyItemTree, ProtectedBody, ProtectedItemTree, OperationBody}
+use Rattle.expr_soundness.specs.ada_tree.specs.declared.expression.Identifier.{Identifier}
+use Rattle.expr_soundness.specs.ada_tree.specs.StatementTree.{SubprogramTree}
+use Rattle.expr_soundness.specs.ada_tree.specs.ProgramTree.{BodyTree, BodyItemTree, ProtectedBody, ProtectedItemTree, OperationBody}
 use Rattle.types.specs.Entities.{Entity, ProtectedObject, Protected, Subprogram, Doubtful}
 use Rattle.types.specs.Scopes.{Scope}
 use Rattle.types.specs.Places.{Place}
-use Rattle.type_rules.specs.ProfileRules.{profile_entity, subprogram_scope}
+use Rattle.expr_soundness.specs.type_rules.specs.ProfileRules.{profile_entity, subprogram_scope}
 use Rattle.declaring.specs.BodyNames.{components_scope}
 use Rattle.expr_soundness.specs.SoundScopes.{SoundScope}
 use Rattle.expr_soundness.specs.Agreeing.{Agrees}
 use Rattle.expr_soundness.specs.Laws.{ScopesAreSound}
-use Rattle.meaning.specs.Programs.{Program}
-use Rattle.meaning.specs.Works.{Store}
+use Rattle.expr_soundness.specs.meaning.specs.Programs.{Program}
+use Rattle.expr_soundness.specs.meaning.specs.Works.{Store}
 use Rattle.step_soundness.specs.Holding.{inside}
 use Rattle.step_soundness.specs.Laws.{Premises}
 use Rattle.program_soundness.specs.Fronts.{scope_at}

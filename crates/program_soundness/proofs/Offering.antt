@@ -2,26 +2,26 @@
 use Rattle.std.proofs.Common.{◌≡◌, ℕ, zero, suc, ◌+◌, List, [], ◌∷◌, drop, not, Bool, true, false, cond, ◌&&◌, Option, Some, None, refl, sym, ap, ◌∙◌, subst}
 use Rattle.std.specs.Prelude.{bytes_eq, option_map, position, slice_get}
 use Rattle.std.specs.List.{list_any}
-use Rattle.ada_tree.specs.declared.expression.Identifier.{Identifier}
-use Rattle.ada_tree.specs.StatementTree.{OperationTree, ProtectedTree}
-use Rattle.ada_tree.specs.StatementTree as operation
-use Rattle.ada_tree.specs.ProgramTree.{BodyItemTree, OfItem, SubprogramBody, TaskBody, ProtectedBody, OfProtected, ProtectedItemTree, OperationBody, EntryBody}
+use Rattle.expr_soundness.specs.ada_tree.specs.declared.expression.Identifier.{Identifier}
+use Rattle.expr_soundness.specs.ada_tree.specs.StatementTree.{OperationTree, ProtectedTree}
+use Rattle.expr_soundness.specs.ada_tree.specs.StatementTree as operation
+use Rattle.expr_soundness.specs.ada_tree.specs.ProgramTree.{BodyItemTree, OfItem, SubprogramBody, TaskBody, ProtectedBody, OfProtected, ProtectedItemTree, OperationBody, EntryBody}
 use Rattle.types.specs.declared.entity.Subtype.{Subtype}
 use Rattle.types.specs.Entities.{Entity, Operation, Profile, ProtectedObject, Protected, Subprogram}
 use Rattle.types.specs.Entities as entity
 use Rattle.types.specs.Scopes.{Scope}
 use Rattle.types.specs.Places.{Place, function_of, or_else}
 use Rattle.types.proofs.Seeing.{either_way}
-use Rattle.expr_rules.proofs.TypedLaw.{back_empty, front_empty, unbroken}
-use Rattle.type_rules.specs.ProfileRules.{formal_parameters}
+use Rattle.expr_soundness.specs.expr_rules.proofs.TypedLaw.{back_empty, front_empty, unbroken}
+use Rattle.expr_soundness.specs.type_rules.specs.ProfileRules.{formal_parameters}
 use Rattle.declaring.specs.BodyNames.{operation_entity}
 use Rattle.declaring.specs.ProtectedRules as declared
 use Rattle.matching.specs.MatchingRules.{has_operation, missing_operation_rule, missing_operations_faults, same_name}
 use Rattle.matching.specs.MatchingRules as matching
 use Rattle.expr_soundness.specs.Agreeing.{OffersFunction}
 use Rattle.expr_soundness.proofs.Positions.{first_place, found_at, place_is, suc_of}
-use Rattle.meaning.specs.Programs.{Program}
-use Rattle.meaning.specs.Calls.{procedure_among}
+use Rattle.expr_soundness.specs.meaning.specs.Programs.{Program}
+use Rattle.expr_soundness.specs.meaning.specs.Calls.{procedure_among}
 use Rattle.step_soundness.specs.Fitting.{IsCalled, IsOperation}
 use Rattle.program_soundness.specs.Fronts.{scope_at}
 use Rattle.program_soundness.proofs.Listing.{dropped_at, one_passes, passes_at, same_some}

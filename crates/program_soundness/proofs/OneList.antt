@@ -3,14 +3,14 @@ use Rattle.std.proofs.Common.{◌≡◌, ℕ, zero, suc, List, [], ◌∷◌, �
 use Rattle.std.specs.Prelude.{slice_get}
 use Rattle.std.specs.List.{list_any}
 use Rattle.std.proofs.lemmas.List.{append-nil, append_assoc, map-append}
-use Rattle.ada_tree.specs.declared.expression.Identifier.{Identifier}
-use Rattle.ada_tree.specs.StatementTree.{OperationTree, ProtectedTree, SubprogramTree}
-use Rattle.ada_tree.specs.StatementTree as operation
-use Rattle.ada_tree.specs.ProgramTree.{BodyItemTree, OfItem, SubprogramBody, TaskBody, ProtectedBody, ItemTree, OfType, OfObject, OfException, OfSubprogram, OfTask, OfProtected, PackageTree, ProtectedItemTree}
+use Rattle.expr_soundness.specs.ada_tree.specs.declared.expression.Identifier.{Identifier}
+use Rattle.expr_soundness.specs.ada_tree.specs.StatementTree.{OperationTree, ProtectedTree, SubprogramTree}
+use Rattle.expr_soundness.specs.ada_tree.specs.StatementTree as operation
+use Rattle.expr_soundness.specs.ada_tree.specs.ProgramTree.{BodyItemTree, OfItem, SubprogramBody, TaskBody, ProtectedBody, ItemTree, OfType, OfObject, OfException, OfSubprogram, OfTask, OfProtected, PackageTree, ProtectedItemTree}
 use Rattle.types.specs.Scopes.{Scope, standard}
-use Rattle.base.specs.declared.faults.TheConstants.{UNMATCHED_BODY}
-use Rattle.expr_rules.specs.Faults.{Faults, rule}
-use Rattle.expr_rules.proofs.TypedLaw.{back_empty, front_empty}
+use Rattle.expr_soundness.specs.base.specs.declared.faults.TheConstants.{UNMATCHED_BODY}
+use Rattle.expr_soundness.specs.expr_rules.specs.Faults.{Faults, rule}
+use Rattle.expr_soundness.specs.expr_rules.proofs.TypedLaw.{back_empty, front_empty}
 use Rattle.declaring.specs.ItemRules.{item_faults, item_scope, items_faults, items_scope}
 use Rattle.matching.specs.MatchingRules.{all_missing_faults, any_declared, has_operation, has_unlike_operation, is_second_operation, is_unlike_subprogram, item_matching, items_matching, matching_faults, missing_faults, missing_operations_faults, operation_bodies_faults, operation_name, passes_declared, same_name}
 use Rattle.legality.specs.MainRules.{item_name}

@@ -2,14 +2,14 @@
 use Rattle.std.proofs.Common.{◌≡◌, ◌++◌, ℕ, List, [], ◌∷◌, map, Bool, true, false, ◌⊎◌, inl, inr, Some, refl, sym, ap, ◌∙◌, subst}
 use Rattle.std.specs.Prelude.{cond}
 use Rattle.std.proofs.lemmas.List.{append_assoc, append-nil}
-use Rattle.ada_tree.specs.ProgramTree.{BodyItemTree, OfItem, SubprogramBody, TaskBody, ProtectedBody, ItemTree, OfType, OfObject, OfException, OfSubprogram, OfTask, OfProtected, PackageTree, ProgramTree}
+use Rattle.expr_soundness.specs.ada_tree.specs.ProgramTree.{BodyItemTree, OfItem, SubprogramBody, TaskBody, ProtectedBody, ItemTree, OfType, OfObject, OfException, OfSubprogram, OfTask, OfProtected, PackageTree, ProgramTree}
 use Rattle.types.specs.Entities.{Entity, Exception, Task}
 use Rattle.types.specs.Scopes.{Scope, is_visible, standard, with_name}
-use Rattle.base.specs.declared.limits.TheConstants.{TASK_PRIORITY}
-use Rattle.expr_rules.proofs.TypedLaw.{back_empty, front_empty}
-use Rattle.type_rules.specs.ObjectRules.{package_object_entity}
-use Rattle.type_rules.specs.ProfileRules.{formal_parameters, profile_entity, profile_with}
-use Rattle.type_rules.specs.TypeRules.{definition_entity}
+use Rattle.expr_soundness.specs.base.specs.declared.limits.TheConstants.{TASK_PRIORITY}
+use Rattle.expr_soundness.specs.expr_rules.proofs.TypedLaw.{back_empty, front_empty}
+use Rattle.expr_soundness.specs.type_rules.specs.ObjectRules.{package_object_entity}
+use Rattle.expr_soundness.specs.type_rules.specs.ProfileRules.{formal_parameters, profile_entity, profile_with}
+use Rattle.expr_soundness.specs.type_rules.specs.TypeRules.{definition_entity}
 use Rattle.declaring.specs.ItemRules.{item_faults, item_scope, items_faults, items_scope}
 use Rattle.declaring.specs.ProtectedRules.{protected_entity}
 use Rattle.declaring.specs.TaskRules.{default_priority, priority_of}

@@ -4,10 +4,10 @@ use Rattle.kernel.specs.State.{Action, Kernel, Serves, Writes, put}
 use Rattle.kernel.specs.Invariant.{HasAction, Kept, ServesCall}
 use Rattle.kernel.specs.Laws.{FourHold, LeftUnmoved}
 use Rattle.kernel.specs.PutLaws.{by_put, of_put, put_other, put_same, put_self, same_or_not}
-use Rattle.meaning.specs.Programs.{Program}
-use Rattle.meaning.specs.Works.{GivenToCaller, Store, TaskWork}
-use Rattle.meaning.specs.Calls.{is_open}
-use Rattle.meaning.specs.SourceSteps.{Here, received, serves}
+use Rattle.expr_soundness.specs.meaning.specs.Programs.{Program}
+use Rattle.expr_soundness.specs.meaning.specs.Works.{GivenToCaller, Store, TaskWork}
+use Rattle.expr_soundness.specs.meaning.specs.Calls.{is_open}
+use Rattle.expr_soundness.specs.meaning.specs.SourceSteps.{Here, received, serves}
 use Rattle.step_soundness.specs.Holding.{IsGiven, IsSoundServer, IsSoundTask, KeepsStore}
 use Rattle.step_soundness.specs.Laws.{CallersGoOn, Matches, OthersStaySound, ServersAreSound}
 use Rattle.program_soundness.specs.SoundWorlds.{HasMeaning, IsSoundWorld, awaited}

@@ -3,7 +3,7 @@ use Rattle.std.proofs.Common.{◌≡◌, ℕ, List, [], ◌∷◌, Option, Some,
 use Rattle.kernel.specs.State.{Ended, Kernel, Sleeper, WaitsForever}
 use Rattle.kernel.specs.Dispatching.{dispatch}
 use Rattle.kernel.specs.Clock.{clock, clock_from, least, some_queued, time_moves, wakes_due}
-use Rattle.meaning.proofs.Faults.{dispatch_same, either, wakes_same}
+use Rattle.expr_soundness.specs.meaning.proofs.Faults.{dispatch_same, either, wakes_same}
 use Rattle.program_soundness.specs.SoundWorlds.{HasMeaning}
 
 -- ---- an end by the clock has a meaning

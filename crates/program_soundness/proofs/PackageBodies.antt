@@ -1,38 +1,38 @@
 -- Bodies of the package that break no rule are sound: procedures, tasks, and what main calls.
 use Rattle.std.proofs.Common.{◌≡◌, ℕ, suc, List, [], ◌∷◌, ◌++◌, drop, length, map, Bool, true, false, cond, ◌⊎◌, inl, inr, Option, Some, None, refl, sym, ap, ◌∙◌, subst}
 use Rattle.std.specs.Prelude.{bytes_eq, is_some, slice_get, ⊤}
-use Rattle.ada_tree.specs.declared.expression.Identifier.{Identifier}
-use Rattle.ada_tree.specs.declared.declaration.Formal.{Formal}
-use Rattle.ada_tree.specs.declared.program.MainStatement.{MainStatement}
-use Rattle.ada_tree.specs.declared.program.MainStatement.TheVariants as main
-use Rattle.ada_tree.specs.StatementTree.{DeclarationTree, SubprogramTree}
-use Rattle.ada_tree.specs.ProgramTree.{BodyTree, BodyItemTree, OfItem, SubprogramBody, TaskBody, ProtectedBody, ItemTree, OfType, OfObject, OfException, OfSubprogram, OfTask, OfProtected, PackageTree}
+use Rattle.expr_soundness.specs.ada_tree.specs.declared.expression.Identifier.{Identifier}
+use Rattle.expr_soundness.specs.ada_tree.specs.declared.declaration.Formal.{Formal}
+use Rattle.expr_soundness.specs.ada_tree.specs.declared.program.MainStatement.{MainStatement}
+use Rattle.expr_soundness.specs.ada_tree.specs.declared.program.MainStatement.TheVariants as main
+use Rattle.expr_soundness.specs.ada_tree.specs.StatementTree.{DeclarationTree, SubprogramTree}
+use Rattle.expr_soundness.specs.ada_tree.specs.ProgramTree.{BodyTree, BodyItemTree, OfItem, SubprogramBody, TaskBody, ProtectedBody, ItemTree, OfType, OfObject, OfException, OfSubprogram, OfTask, OfProtected, PackageTree}
 use Rattle.types.specs.Entities.{Entity, Profile, ProtectedObject, Protected, Doubtful}
 use Rattle.types.specs.Scopes.{Scope, is_visible}
 use Rattle.types.specs.Places.{Place}
-use Rattle.expr_rules.specs.Faults.{Faults}
-use Rattle.expr_rules.proofs.TypedLaw.{back_empty, front_empty}
-use Rattle.type_rules.specs.SubtypeNames.{end_rule}
-use Rattle.type_rules.specs.ProfileRules.{formal_parameters, formals_faults, profile_entity, profile_faults, profile_with, subprogram_scope}
+use Rattle.expr_soundness.specs.expr_rules.specs.Faults.{Faults}
+use Rattle.expr_soundness.specs.expr_rules.proofs.TypedLaw.{back_empty, front_empty}
+use Rattle.expr_soundness.specs.type_rules.specs.SubtypeNames.{end_rule}
+use Rattle.expr_soundness.specs.type_rules.specs.ProfileRules.{formal_parameters, formals_faults, profile_entity, profile_faults, profile_with, subprogram_scope}
 use Rattle.declaring.specs.BodyNames.{formals_scope}
 use Rattle.declaring.specs.LocalRules.{fixed_locals_faults, locals_scope}
 use Rattle.declaring.specs.Laws.{NamesAreAdded, StandsFirst}
-use Rattle.stmt_rules.specs.declared.around.Around.{Around}
-use Rattle.stmt_rules.specs.declared.around.BodyKind.TheVariants as kind
-use Rattle.stmt_rules.specs.SimpleRules.{is_function}
-use Rattle.stmt_rules.specs.StatementRules.{in_body, sequence_faults}
+use Rattle.step_soundness.specs.stmt_rules.specs.declared.around.Around.{Around}
+use Rattle.step_soundness.specs.stmt_rules.specs.declared.around.BodyKind.TheVariants as kind
+use Rattle.step_soundness.specs.stmt_rules.specs.SimpleRules.{is_function}
+use Rattle.step_soundness.specs.stmt_rules.specs.StatementRules.{in_body, sequence_faults}
 use Rattle.matching.specs.MatchingRules.{same_name}
 use Rattle.legality.specs.BodyRules.{body_faults, head_faults, kind_of, own_name_faults, task_body_faults, task_rule}
 use Rattle.legality.specs.MainRules.{called_rule, declared_meaning, has_no_formals, item_meaning, item_name, main_statement_faults, main_statements_faults, meaning_of, no_package_rule}
 use Rattle.declaring.specs.PackageNames.{body_item_scope, body_items_scope}
-use Rattle.body_restrictions.specs.BodyRules as profile
+use Rattle.step_soundness.specs.body_restrictions.specs.BodyRules as profile
 use Rattle.expr_soundness.specs.SoundScopes.{SoundScope}
 use Rattle.expr_soundness.specs.Laws.{ScopesAreSound}
 use Rattle.expr_soundness.proofs.Positions.{item_of_added}
-use Rattle.meaning.specs.Programs.{Duty, OfBody, OfMain, Parameter, Procedure, Program, Task, body_among, items_among, task_with, tasks_among}
-use Rattle.meaning.specs.Works.{Activation, Declares, DoesMain, Goes, Item, Sequence, Store, TaskWork}
-use Rattle.meaning.specs.Calls.{procedure_among, procedure_here}
-use Rattle.meaning.specs.Source.{duty_items, initial_work, task_items}
+use Rattle.expr_soundness.specs.meaning.specs.Programs.{Duty, OfBody, OfMain, Parameter, Procedure, Program, Task, body_among, items_among, task_with, tasks_among}
+use Rattle.expr_soundness.specs.meaning.specs.Works.{Activation, Declares, DoesMain, Goes, Item, Sequence, Store, TaskWork}
+use Rattle.expr_soundness.specs.meaning.specs.Calls.{procedure_among, procedure_here}
+use Rattle.expr_soundness.specs.meaning.specs.Source.{duty_items, initial_work, task_items}
 use Rattle.step_soundness.specs.Fitting.{FitsScope, formal_of}
 use Rattle.step_soundness.specs.Judged.{Begins, IsMainStatement, IsPlain, IsReady, Judged}
 use Rattle.step_soundness.specs.Holding.{IsSoundProcedure, IsSoundTask}

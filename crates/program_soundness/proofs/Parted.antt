@@ -1,8 +1,8 @@
 -- The components of protected objects among what the program declares, by the numbers of the objects (RM 9.4).
 use Rattle.std.proofs.Common.{◌≡◌, ◌≤◌, ℕ, zero, suc, ◌+◌, List, [], ◌∷◌, ◌++◌, map, Bool, true, false, cond, ◌||◌, Option, Some, None, refl, sym, ap, ◌∙◌, arith}
 use Rattle.std.specs.Prelude.{bytes_eq, slice_get}
-use Rattle.ada_tree.specs.StatementTree.{ProtectedComponentTree, ProtectedTree}
-use Rattle.ada_tree.specs.ProgramTree.{BodyItemTree, OfItem, SubprogramBody, TaskBody, ProtectedBody, OfType, OfObject, OfException, OfSubprogram, OfTask, OfProtected}
+use Rattle.expr_soundness.specs.ada_tree.specs.StatementTree.{ProtectedComponentTree, ProtectedTree}
+use Rattle.expr_soundness.specs.ada_tree.specs.ProgramTree.{BodyItemTree, OfItem, SubprogramBody, TaskBody, ProtectedBody, OfType, OfObject, OfException, OfSubprogram, OfTask, OfProtected}
 use Rattle.types.specs.declared.entity.RecordComponent.{RecordComponent}
 use Rattle.types.specs.declared.entity.Subtype.{Subtype}
 use Rattle.types.specs.Entities.{Entity, Object, ProtectedObject, Protected}
@@ -10,12 +10,12 @@ use Rattle.types.specs.Scopes.{Named, Scope, is_visible, one_if_protected, prote
 use Rattle.types.specs.Places.{object_of, or_else}
 use Rattle.types.specs.Places as places
 use Rattle.types.proofs.Seeing.{either_way}
-use Rattle.type_rules.specs.SubtypeNames.{subtype_of}
+use Rattle.expr_soundness.specs.type_rules.specs.SubtypeNames.{subtype_of}
 use Rattle.declaring.specs.BodyNames.{component_role}
 use Rattle.declaring.specs.ProtectedRules.{is_component_in, object_components, protected_entity}
 use Rattle.declaring.specs.PackageNames.{body_item_scope}
 use Rattle.legality.specs.PackageBodyRules.{body_item_faults}
-use Rattle.meaning.specs.Programs.{component, components_among, items_among, subtype_named}
+use Rattle.expr_soundness.specs.meaning.specs.Programs.{component, components_among, items_among, subtype_named}
 use Rattle.program_soundness.specs.Fronts.{scope_at}
 use Rattle.program_soundness.proofs.Listing.{same_some}
 use Rattle.program_soundness.proofs.WiderScopes.{found_in}

@@ -1,13 +1,13 @@
 -- What is broken nowhere in a legal program, part by part.
 use Rattle.std.proofs.Common.{◌≡◌, ◌++◌, List, [], ◌∷◌, not, Some, refl, sym, ap, ◌∙◌}
-use Rattle.base.specs.declared.faults.TheConstants.{NAME_NOT_VISIBLE, UNMATCHED_BODY}
-use Rattle.ada_tree.specs.StatementTree.{SubprogramTree}
-use Rattle.ada_tree.specs.ProgramTree.{BodyItemTree, BodyTree, PackageTree, ProgramTree}
+use Rattle.expr_soundness.specs.base.specs.declared.faults.TheConstants.{NAME_NOT_VISIBLE, UNMATCHED_BODY}
+use Rattle.expr_soundness.specs.ada_tree.specs.StatementTree.{SubprogramTree}
+use Rattle.expr_soundness.specs.ada_tree.specs.ProgramTree.{BodyItemTree, BodyTree, PackageTree, ProgramTree}
 use Rattle.types.specs.Scopes.{Scope, standard}
-use Rattle.expr_rules.specs.Faults.{rule}
-use Rattle.expr_rules.proofs.TypedLaw.{back_empty, front_empty}
-use Rattle.type_rules.specs.ProfileRules.{profile_faults, subprogram_scope}
-use Rattle.type_rules.specs.SubtypeNames.{declared_twice, end_rule}
+use Rattle.expr_soundness.specs.expr_rules.specs.Faults.{rule}
+use Rattle.expr_soundness.specs.expr_rules.proofs.TypedLaw.{back_empty, front_empty}
+use Rattle.expr_soundness.specs.type_rules.specs.ProfileRules.{profile_faults, subprogram_scope}
+use Rattle.expr_soundness.specs.type_rules.specs.SubtypeNames.{declared_twice, end_rule}
 use Rattle.declaring.specs.BodyNames.{formals_scope}
 use Rattle.declaring.specs.ItemRules.{items_faults}
 use Rattle.matching.specs.MatchingRules.{matching_faults, same_name}

@@ -2,24 +2,24 @@
 use Rattle.std.proofs.Common.{◌≡◌, ◌++◌, ◌<◌, ◌≤◌, ℕ, zero, suc, pos, negsuc, List, [], ◌∷◌, map, Bool, true, false, Option, Some, None, refl, sym, subst, arith}
 use Rattle.std.specs.Prelude.{⊤, cond, nat_eq, nat_le, slice_get}
 use Rattle.std.proofs.lemmas.Bool.{and_parts, leb-true}
-use Rattle.base.specs.declared.limits.TheConstants.{PRIORITIES, TASK_PRIORITY}
-use Rattle.ada_tree.specs.StatementTree.{AspectTree, TaskTree}
-use Rattle.ada_tree.specs.ProgramTree.{BodyItemTree, OfItem, SubprogramBody, TaskBody, ProtectedBody, ItemTree, OfType, OfObject, OfException, OfSubprogram, OfTask, OfProtected, PackageTree, ProgramTree}
+use Rattle.expr_soundness.specs.base.specs.declared.limits.TheConstants.{PRIORITIES, TASK_PRIORITY}
+use Rattle.expr_soundness.specs.ada_tree.specs.StatementTree.{AspectTree, TaskTree}
+use Rattle.expr_soundness.specs.ada_tree.specs.ProgramTree.{BodyItemTree, OfItem, SubprogramBody, TaskBody, ProtectedBody, ItemTree, OfType, OfObject, OfException, OfSubprogram, OfTask, OfProtected, PackageTree, ProgramTree}
 use Rattle.types.specs.declared.entity.RecordComponent.{RecordComponent}
 use Rattle.types.specs.Entities.{Entity, LibraryUnit, Operation, Protected}
 use Rattle.types.specs.Places.{ceiling_of, ceiling_or}
 use Rattle.types.specs.Scopes.{Named, Scope, integer_type, is_visible, standard, with_name}
 use Rattle.types.specs.Values.{Value, Number, Truth, Array, Record}
-use Rattle.expr_rules.specs.StaticRules.{static_scalar}
-use Rattle.expr_rules.specs.declared.own.Wanted.TheVariants as wanted
+use Rattle.expr_soundness.specs.expr_rules.specs.StaticRules.{static_scalar}
+use Rattle.expr_soundness.specs.expr_rules.specs.declared.own.Wanted.TheVariants as wanted
 use Rattle.declaring.specs.ProtectedRules.{default_ceiling, object_components, object_operations, object_with, protected_count}
 use Rattle.declaring.specs.TaskRules.{default_priority, priority_of, priority_within}
 use Rattle.kernel.specs.Invariant.{Fits}
 use Rattle.legality.specs.MainRules.{item_name}
 use Rattle.declaring.specs.PackageNames.{body_item_scope, body_items_scope, optional_scope, program_scope, units_scope}
 use Rattle.checking.proofs.Made.{NoUnits, clauses_seen, seen}
-use Rattle.meaning.specs.Programs.{Duty, Task, base_priority, body_among, main_task, package_bodies, package_items, priority_or_zero, program_of, program_partition, task_with, tasks_among}
-use Rattle.type_rules.specs.ProfileRules.{profile_entity}
+use Rattle.expr_soundness.specs.meaning.specs.Programs.{Duty, Task, base_priority, body_among, main_task, package_bodies, package_items, priority_or_zero, program_of, program_partition, task_with, tasks_among}
+use Rattle.expr_soundness.specs.type_rules.specs.ProfileRules.{profile_entity}
 use Rattle.program_soundness.proofs.Declaring.{all_simple, definition_plain, is_protected, is_simple, package_object_plain, profile_plain, seen_simple, simple_kinds}
 use Rattle.program_soundness.proofs.Origins.{body_scope_is, declared_item, front_scope, item_named}
 use Rattle.program_soundness.proofs.Profiles.{profile_of}

@@ -1,28 +1,28 @@
 -- The bodies of procedures and entries of an accepted program, those of protected objects among them, are sound.
 use Rattle.std.proofs.Common.{◌≡◌, ℕ, zero, suc, List, [], ◌∷◌, ◌++◌, Bool, true, false, cond, ◌⊎◌, inl, inr, Option, Some, None, refl, sym, ap, ◌∙◌, subst}
 use Rattle.std.specs.Prelude.{bytes_eq, is_some, slice_get}
-use Rattle.ada_tree.specs.declared.expression.Identifier.{Identifier}
-use Rattle.ada_tree.specs.ExpressionTree.{ExprTree}
-use Rattle.ada_tree.specs.StatementTree.{EntryTree, SubprogramTree}
-use Rattle.ada_tree.specs.ProgramTree.{BodyTree, BodyItemTree, ProtectedBody, ProtectedItemTree, OperationBody, EntryBody}
+use Rattle.expr_soundness.specs.ada_tree.specs.declared.expression.Identifier.{Identifier}
+use Rattle.expr_soundness.specs.ada_tree.specs.ExpressionTree.{ExprTree}
+use Rattle.expr_soundness.specs.ada_tree.specs.StatementTree.{EntryTree, SubprogramTree}
+use Rattle.expr_soundness.specs.ada_tree.specs.ProgramTree.{BodyTree, BodyItemTree, ProtectedBody, ProtectedItemTree, OperationBody, EntryBody}
 use Rattle.types.specs.declared.entity.RecordComponent.{RecordComponent}
 use Rattle.types.specs.Entities.{Entity, Profile, ProtectedObject, Protected, Subprogram, Doubtful}
 use Rattle.types.specs.Scopes.{Scope}
-use Rattle.expr_rules.proofs.TypedLaw.{back_empty, front_empty}
-use Rattle.type_rules.specs.SubtypeNames.{end_rule}
-use Rattle.type_rules.specs.ProfileRules.{formals_faults, profile_entity, profile_faults, subprogram_scope}
+use Rattle.expr_soundness.specs.expr_rules.proofs.TypedLaw.{back_empty, front_empty}
+use Rattle.expr_soundness.specs.type_rules.specs.SubtypeNames.{end_rule}
+use Rattle.expr_soundness.specs.type_rules.specs.ProfileRules.{formals_faults, profile_entity, profile_faults, subprogram_scope}
 use Rattle.declaring.specs.BodyNames.{components_scope, formals_scope}
-use Rattle.stmt_rules.specs.declared.around.BodyKind.TheVariants as kinds
-use Rattle.stmt_rules.specs.SimpleRules.{condition_faults, is_function}
+use Rattle.step_soundness.specs.stmt_rules.specs.declared.around.BodyKind.TheVariants as kinds
+use Rattle.step_soundness.specs.stmt_rules.specs.SimpleRules.{condition_faults, is_function}
 use Rattle.legality.specs.BodyRules.{body_faults, head_faults, kind_of, own_name_faults}
 use Rattle.legality.specs.ProtectedBodyRules.{entry_rule}
-use Rattle.body_restrictions.specs.BodyRules as profile
+use Rattle.step_soundness.specs.body_restrictions.specs.BodyRules as profile
 use Rattle.ravenscar.specs.ProgramRules as restrictions
 use Rattle.expr_soundness.specs.SoundScopes.{SoundScope}
 use Rattle.expr_soundness.specs.Laws.{ScopesAreSound}
-use Rattle.meaning.specs.Programs.{Procedure, Program}
-use Rattle.meaning.specs.Works.{Store}
-use Rattle.meaning.specs.Calls.{procedure_among}
+use Rattle.expr_soundness.specs.meaning.specs.Programs.{Procedure, Program}
+use Rattle.expr_soundness.specs.meaning.specs.Works.{Store}
+use Rattle.expr_soundness.specs.meaning.specs.Calls.{procedure_among}
 use Rattle.step_soundness.specs.Fitting.{entry_of}
 use Rattle.step_soundness.specs.Holding.{IsSoundProcedure}
 use Rattle.step_soundness.specs.Laws.{Premises}

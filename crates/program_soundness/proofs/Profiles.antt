@@ -1,21 +1,21 @@
 -- Profiles of subprograms where all names of the program are visible, and those of the functions that runs call.
 use Rattle.std.proofs.Common.{◌≡◌, ℕ, List, [], ◌∷◌, map, true, ◌&&◌, Option, Some, None, refl, sym, ap, ◌∙◌}
 use Rattle.std.proofs.lemmas.Bool.{and_parts}
-use Rattle.ada_tree.specs.declared.expression.Identifier.{Identifier}
-use Rattle.ada_tree.specs.declared.declaration.Formal.{Formal}
-use Rattle.ada_tree.specs.declared.declaration.Mode.{Mode}
-use Rattle.ada_tree.specs.declared.declaration.Mode.TheVariants as mode
-use Rattle.ada_tree.specs.ExpressionTree.{ExprTree}
-use Rattle.ada_tree.specs.StatementTree.{SubprogramTree}
+use Rattle.expr_soundness.specs.ada_tree.specs.declared.expression.Identifier.{Identifier}
+use Rattle.expr_soundness.specs.ada_tree.specs.declared.declaration.Formal.{Formal}
+use Rattle.expr_soundness.specs.ada_tree.specs.declared.declaration.Mode.{Mode}
+use Rattle.expr_soundness.specs.ada_tree.specs.declared.declaration.Mode.TheVariants as mode
+use Rattle.expr_soundness.specs.ada_tree.specs.ExpressionTree.{ExprTree}
+use Rattle.expr_soundness.specs.ada_tree.specs.StatementTree.{SubprogramTree}
 use Rattle.types.specs.declared.entity.Subtype.{Subtype}
 use Rattle.types.specs.declared.entity.FormalParameter.{FormalParameter}
 use Rattle.types.specs.Entities.{Profile}
 use Rattle.types.specs.Scopes.{Scope, number_of}
 use Rattle.types.specs.Evaluating.{formal_subtype}
-use Rattle.type_rules.specs.ProfileRules.{formal_and, formal_parameters, given_profile, profile_with}
-use Rattle.type_rules.specs.SubtypeNames.{entity_at_or_none, subtype_in, subtype_of}
+use Rattle.expr_soundness.specs.type_rules.specs.ProfileRules.{formal_and, formal_parameters, given_profile, profile_with}
+use Rattle.expr_soundness.specs.type_rules.specs.SubtypeNames.{entity_at_or_none, subtype_in, subtype_of}
 use Rattle.matching.specs.MatchingRules.{conforms, same_formal, same_formals, same_mode, same_name, same_result}
-use Rattle.meaning.specs.Programs.{formal, subtype_named, subtype_or_integer}
+use Rattle.expr_soundness.specs.meaning.specs.Programs.{formal, subtype_named, subtype_or_integer}
 use Rattle.expr_soundness.specs.Agreeing.{HasProfile, parameter_subtype}
 use Rattle.expr_soundness.proofs.Positions.{same_some}
 use Rattle.step_soundness.proofs.Lookups.{same_bytes}

@@ -1,19 +1,19 @@
 -- The body of a function is one `return`: what it returns breaks no rule where the body breaks none.
 use Rattle.std.proofs.Common.{◌≡◌, ℕ, List, [], ◌∷◌, Bool, true, false, ◌&&◌, Some, None, refl, ap, subst}
 use Rattle.std.specs.Prelude.{is_some}
-use Rattle.ada_tree.specs.ExpressionTree.{ExprTree}
-use Rattle.ada_tree.specs.StatementTree.{DeclarationTree, SubprogramTree, StmtTrees, NoStmts, MoreStmts, Return}
-use Rattle.ada_tree.specs.ProgramTree.{BodyTree}
+use Rattle.expr_soundness.specs.ada_tree.specs.ExpressionTree.{ExprTree}
+use Rattle.expr_soundness.specs.ada_tree.specs.StatementTree.{DeclarationTree, SubprogramTree, StmtTrees, NoStmts, MoreStmts, Return}
+use Rattle.expr_soundness.specs.ada_tree.specs.ProgramTree.{BodyTree}
 use Rattle.types.specs.Scopes.{Scope}
-use Rattle.expr_rules.specs.declared.own.Wanted.TheVariants.{OfType}
-use Rattle.expr_rules.specs.ExpressionRules.{faults_of}
-use Rattle.expr_rules.proofs.TypedLaw.{back_empty, front_empty, judged, unbroken}
+use Rattle.expr_soundness.specs.expr_rules.specs.declared.own.Wanted.TheVariants.{OfType}
+use Rattle.expr_soundness.specs.expr_rules.specs.ExpressionRules.{faults_of}
+use Rattle.expr_soundness.specs.expr_rules.proofs.TypedLaw.{back_empty, front_empty, judged, unbroken}
 use Rattle.declaring.specs.LocalRules.{locals_faults, locals_scope}
-use Rattle.stmt_rules.specs.declared.around.BodyKind.{BodyKind}
-use Rattle.stmt_rules.specs.declared.around.BodyKind.TheVariants as kind
-use Rattle.stmt_rules.specs.StatementRules.{handlers_faults, in_body, sequence_faults, stmts_faults}
+use Rattle.step_soundness.specs.stmt_rules.specs.declared.around.BodyKind.{BodyKind}
+use Rattle.step_soundness.specs.stmt_rules.specs.declared.around.BodyKind.TheVariants as kind
+use Rattle.step_soundness.specs.stmt_rules.specs.StatementRules.{handlers_faults, in_body, sequence_faults, stmts_faults}
 use Rattle.legality.specs.BodyRules.{body_faults, function_body_faults, has_no_declarations, has_no_handlers, is_function_body, is_single_return}
-use Rattle.meaning.specs.Programs.{returned}
+use Rattle.expr_soundness.specs.meaning.specs.Programs.{returned}
 use Rattle.program_soundness.proofs.Listing.{same_some}
 
 pub both_true : (a b : Bool) → (a && b) ≡ true → (a ≡ true) × (b ≡ true)

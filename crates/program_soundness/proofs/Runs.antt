@@ -1,22 +1,22 @@
 -- Every world of a run is sound, where the start of the program is; so the outcome has a meaning.
 use Rattle.std.proofs.Common.{◌≡◌, ◌≢◌, ◌<◌, ℕ, zero, suc, List, [], ◌∷◌, map, Bool, Option, Some, None, inl, inr, refl, sym, ap, ◌∙◌, subst, arith}
 use Rattle.std.specs.Prelude.{slice_get}
-use Rattle.base.specs.declared.schedule.ScheduleLine.{ScheduleLine}
+use Rattle.expr_soundness.specs.base.specs.declared.schedule.ScheduleLine.{ScheduleLine}
 use Rattle.kernel.specs.State.{Kernel, Outcome, Partition, Unhandled}
 use Rattle.kernel.specs.Effects.{activated, begin, blank}
 use Rattle.kernel.specs.Invariant.{HasAction, IsBarrierHeld, Kept, Passed, ServesCall}
 use Rattle.kernel.specs.Laws.{BeginsKept, KeptByEvery}
 use Rattle.kernel.specs.Worlds.{Tasks, among, run, solo_of, step, step_of}
-use Rattle.ada_tree.specs.declared.program.MainStatement.{MainStatement}
+use Rattle.expr_soundness.specs.ada_tree.specs.declared.program.MainStatement.{MainStatement}
 use Rattle.types.specs.Laws.{InitialValuesHaveShape}
 use Rattle.declaring.specs.Laws.{NamesAreAdded}
 use Rattle.expr_soundness.specs.Laws.{AgreementIsKept, CallsAreTyped}
 use Rattle.expr_soundness.specs.Variables.{TargetsAreVariables}
-use Rattle.meaning.specs.Programs.{Duty, OfBody, OfMain, Program, Task, program_partition}
-use Rattle.meaning.specs.Works.{DoesMain, Sequence, Store, TaskWork}
-use Rattle.meaning.specs.Calls.{is_open}
-use Rattle.meaning.specs.Source.{SourceWorld, duty_items, initial_work, run_of, start_of, task_items}
-use Rattle.meaning.specs.SourceSteps.{Here, SourceStepped, here_of, program_behaviour, work_step}
+use Rattle.expr_soundness.specs.meaning.specs.Programs.{Duty, OfBody, OfMain, Program, Task, program_partition}
+use Rattle.expr_soundness.specs.meaning.specs.Works.{DoesMain, Sequence, Store, TaskWork}
+use Rattle.expr_soundness.specs.meaning.specs.Calls.{is_open}
+use Rattle.expr_soundness.specs.meaning.specs.Source.{SourceWorld, duty_items, initial_work, run_of, start_of, task_items}
+use Rattle.expr_soundness.specs.meaning.specs.SourceSteps.{Here, SourceStepped, here_of, program_behaviour, work_step}
 use Rattle.step_soundness.specs.Objects.{first_store}
 use Rattle.step_soundness.specs.Opened.{opened_in}
 use Rattle.step_soundness.specs.Holding.{IsSoundStep, IsSoundTask}

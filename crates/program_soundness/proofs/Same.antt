@@ -10,14 +10,14 @@ use Rattle.types.specs.Scopes.{Named, Scope, base_range_of, entity_at, form_at, 
 use Rattle.types.specs.Shapes.{Shape, entity_shape, has_shape, narrowed, shape_of, shape_or_none, shapes, shapes_after}
 use Rattle.types.specs.Values.{Value}
 use Rattle.types.specs.Places.{Meaning, Place}
-use Rattle.expr_rules.specs.Laws.{type_shape}
-use Rattle.expr_rules.proofs.TypeShapes.{entity_named, kept_shape, type_entity}
+use Rattle.expr_soundness.specs.expr_rules.specs.Laws.{type_shape}
+use Rattle.expr_soundness.specs.expr_rules.proofs.TypeShapes.{entity_named, kept_shape, type_entity}
 use Rattle.expr_soundness.specs.SoundScopes.{IsKnown, IsSoundObject, SoundScope}
 use Rattle.expr_soundness.specs.Agreeing.{Agrees, Means, MeansOne}
 use Rattle.expr_soundness.specs.Laws.{ScopesAreSound}
 use Rattle.expr_soundness.proofs.Goods.{not_empty, object_known}
 use Rattle.expr_soundness.proofs.Parts.{same_values, shape_found}
-use Rattle.meaning.specs.Programs.{Program}
+use Rattle.expr_soundness.specs.meaning.specs.Programs.{Program}
 use Rattle.step_soundness.specs.Fitting.{FitsScope}
 use Rattle.program_soundness.proofs.WiderScopes.{NoTypes, form_with, number_stands, stands, stands_number, with_all}
 

@@ -1,10 +1,10 @@
 -- The start of an accepted program is sound by the laws of its names, objects, priorities, barriers, functions, bodies and tasks.
 use Rattle.std.proofs.Common.{refl}
-use Rattle.ada_tree.specs.ProgramTree.{ProgramTree}
+use Rattle.expr_soundness.specs.ada_tree.specs.ProgramTree.{ProgramTree}
 use Rattle.checking.specs.ProgramRules.{IsLegal}
 use Rattle.ravenscar.specs.ProgramRules.{IsRestricted}
-use Rattle.meaning.specs.Programs.{Program, program_of}
-use Rattle.meaning.specs.Works.{Store}
+use Rattle.expr_soundness.specs.meaning.specs.Programs.{Program, program_of}
+use Rattle.expr_soundness.specs.meaning.specs.Works.{Store}
 use Rattle.step_soundness.specs.Holding.{SameObjects}
 use Rattle.step_soundness.specs.Objects.{first_store}
 use Rattle.step_soundness.specs.Starting.{IsSoundStart}

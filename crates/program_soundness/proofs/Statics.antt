@@ -1,8 +1,8 @@
 -- A static expression that breaks no rule has a value, of the type that is expected.
 use Rattle.std.proofs.Common.{◌≡◌, ◌++◌, ℤ, [], Bool, true, false, not, Option, Some, None, refl, sym, ap, ◌∙◌, subst}
-use Rattle.ada_tree.specs.declared.expression.Identifier.{Identifier}
-use Rattle.ada_tree.specs.ExpressionTree as tree
-use Rattle.ada_tree.specs.ExpressionTree.{ExprTree, Named, Parenthesized, Conditional, Unary, Binary, SelectorTrees}
+use Rattle.expr_soundness.specs.ada_tree.specs.declared.expression.Identifier.{Identifier}
+use Rattle.expr_soundness.specs.ada_tree.specs.ExpressionTree as tree
+use Rattle.expr_soundness.specs.ada_tree.specs.ExpressionTree.{ExprTree, Named, Parenthesized, Conditional, Unary, Binary, SelectorTrees}
 use Rattle.types.specs.declared.entity.Subtype.{Subtype}
 use Rattle.types.specs.declared.entity.Value.{Value as Scalar}
 use Rattle.types.specs.declared.standing.Standing.{Standing}
@@ -16,18 +16,18 @@ use Rattle.types.specs.Evaluations.{Val, Gives, Raises, Meaningless}
 use Rattle.types.specs.Places.{meaning_of}
 use Rattle.types.specs.Evaluating.{fixed_value, name_with}
 use Rattle.types.specs.Statics.{both, name_form, no_calls, start_of, static_form, static_place, static_value}
-use Rattle.expr_rules.specs.declared.own.Own.{Own}
-use Rattle.expr_rules.specs.declared.own.Own.TheVariants.{Unknown, Universal, Typed}
-use Rattle.expr_rules.specs.declared.own.Wanted.{Wanted}
-use Rattle.expr_rules.specs.declared.own.Wanted.TheVariants as wanted
-use Rattle.expr_rules.specs.Faults.{rule}
-use Rattle.expr_rules.specs.Typing.{is_integers, is_integral, is_known, is_wanted, own_of, own_of_standing}
-use Rattle.expr_rules.specs.NameRules.{mismatch, value_rule}
-use Rattle.expr_rules.specs.ExpressionRules.{below, beside, binary_rule, faults_in, faults_of, selectors_faults, unary_rule}
-use Rattle.expr_rules.specs.Laws.{IsTyped, is_value_of, suits}
-use Rattle.expr_rules.specs.StaticRules.{form_rule, if_unbroken, is_outside, scalar_if_known, static_faults, static_result, static_scalar}
-use Rattle.expr_rules.specs.StaticRules as statics
-use Rattle.expr_rules.proofs.TypedLaw.{Expected, as_number, back_empty, binary_typed, expected, front_empty, integral_numeric, same_number, unary_typed, unbroken}
+use Rattle.expr_soundness.specs.expr_rules.specs.declared.own.Own.{Own}
+use Rattle.expr_soundness.specs.expr_rules.specs.declared.own.Own.TheVariants.{Unknown, Universal, Typed}
+use Rattle.expr_soundness.specs.expr_rules.specs.declared.own.Wanted.{Wanted}
+use Rattle.expr_soundness.specs.expr_rules.specs.declared.own.Wanted.TheVariants as wanted
+use Rattle.expr_soundness.specs.expr_rules.specs.Faults.{rule}
+use Rattle.expr_soundness.specs.expr_rules.specs.Typing.{is_integers, is_integral, is_known, is_wanted, own_of, own_of_standing}
+use Rattle.expr_soundness.specs.expr_rules.specs.NameRules.{mismatch, value_rule}
+use Rattle.expr_soundness.specs.expr_rules.specs.ExpressionRules.{below, beside, binary_rule, faults_in, faults_of, selectors_faults, unary_rule}
+use Rattle.expr_soundness.specs.expr_rules.specs.Laws.{IsTyped, is_value_of, suits}
+use Rattle.expr_soundness.specs.expr_rules.specs.StaticRules.{form_rule, if_unbroken, is_outside, scalar_if_known, static_faults, static_result, static_scalar}
+use Rattle.expr_soundness.specs.expr_rules.specs.StaticRules as statics
+use Rattle.expr_soundness.specs.expr_rules.proofs.TypedLaw.{Expected, as_number, back_empty, binary_typed, expected, front_empty, integral_numeric, same_number, unary_typed, unbroken}
 use Rattle.expr_soundness.specs.SoundScopes.{SoundScope}
 use Rattle.expr_soundness.proofs.Positions.{named}
 use Rattle.expr_soundness.proofs.Expressions.{not_false}

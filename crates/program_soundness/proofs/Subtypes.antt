@@ -1,26 +1,26 @@
 -- What names of subtypes, ranges and types that break no rule stand for.
 use Rattle.std.proofs.Common.{◌≡◌, ◌++◌, ◌<◌, ℕ, zero, suc, length, List, [], ◌∷◌, Bool, true, false, not, Option, Some, None, refl, sym, ap, ◌∙◌, subst, arith}
 use Rattle.std.specs.Prelude.{cond, int_le, is_none, is_some, nat_lt, slice_get}
-use Rattle.base.specs.declared.faults.TheConstants.{DECLARED_TWICE, LIMIT_PASSED, NO_MEANING}
-use Rattle.base.specs.declared.limits.TheConstants.{COMPONENTS}
-use Rattle.ada_tree.specs.declared.expression.Identifier.{Identifier}
-use Rattle.ada_tree.specs.declared.declaration.Component.{Component}
-use Rattle.ada_tree.specs.StatementTree.{RangeTree}
-use Rattle.ada_tree.specs.ProgramTree.{DefinitionTree, Integer, Array, Record, Subtype as SubtypeOf, IndexTree, OfRange, OfSubtype as OfName}
+use Rattle.expr_soundness.specs.base.specs.declared.faults.TheConstants.{DECLARED_TWICE, LIMIT_PASSED, NO_MEANING}
+use Rattle.expr_soundness.specs.base.specs.declared.limits.TheConstants.{COMPONENTS}
+use Rattle.expr_soundness.specs.ada_tree.specs.declared.expression.Identifier.{Identifier}
+use Rattle.expr_soundness.specs.ada_tree.specs.declared.declaration.Component.{Component}
+use Rattle.expr_soundness.specs.ada_tree.specs.StatementTree.{RangeTree}
+use Rattle.expr_soundness.specs.ada_tree.specs.ProgramTree.{DefinitionTree, Integer, Array, Record, Subtype as SubtypeOf, IndexTree, OfRange, OfSubtype as OfName}
 use Rattle.types.specs.declared.entity.Subtype.{Subtype}
 use Rattle.types.specs.declared.entity.RecordComponent.{RecordComponent}
 use Rattle.types.specs.Entities.{Entity, Integers, Arrays, OfType, OfSubtype, Doubtful}
 use Rattle.types.specs.Scopes.{Named, Scope, entity_at, entity_of, form_at, form_of, integer, integer_type, is_visible, number_of, with_name}
 use Rattle.types.specs.Statics.{start_of}
-use Rattle.expr_rules.specs.declared.own.Wanted.{Wanted}
-use Rattle.expr_rules.specs.declared.own.Wanted.TheVariants as wanted
-use Rattle.expr_rules.specs.Faults.{rule}
-use Rattle.expr_rules.specs.StaticRules.{static_faults}
-use Rattle.expr_rules.specs.Typing.{is_integers, is_times}
-use Rattle.expr_rules.proofs.TypeShapes.{type_entity}
-use Rattle.expr_rules.proofs.TypedLaw.{back_empty, front_empty, unbroken}
-use Rattle.type_rules.specs.SubtypeNames.{entity_at_or_none, if_integer, is_other, subtype_faults, subtype_in, subtype_of, subtype_rule}
-use Rattle.type_rules.specs.TypeRules.{array_entity, array_faults, bounded, component_and, component_faults, components_faults, composite, definition_entity, definition_faults, index_faults, index_place, index_subtype, integer_entity, is_long, is_named_in, length_of, narrowed, narrowed_faults, null_rule, range_faults, range_subtype, record_components, record_entity, short_length, static_whole, subtype_entity, whole_of}
+use Rattle.expr_soundness.specs.expr_rules.specs.declared.own.Wanted.{Wanted}
+use Rattle.expr_soundness.specs.expr_rules.specs.declared.own.Wanted.TheVariants as wanted
+use Rattle.expr_soundness.specs.expr_rules.specs.Faults.{rule}
+use Rattle.expr_soundness.specs.expr_rules.specs.StaticRules.{static_faults}
+use Rattle.expr_soundness.specs.expr_rules.specs.Typing.{is_integers, is_times}
+use Rattle.expr_soundness.specs.expr_rules.proofs.TypeShapes.{type_entity}
+use Rattle.expr_soundness.specs.expr_rules.proofs.TypedLaw.{back_empty, front_empty, unbroken}
+use Rattle.expr_soundness.specs.type_rules.specs.SubtypeNames.{entity_at_or_none, if_integer, is_other, subtype_faults, subtype_in, subtype_of, subtype_rule}
+use Rattle.expr_soundness.specs.type_rules.specs.TypeRules.{array_entity, array_faults, bounded, component_and, component_faults, components_faults, composite, definition_entity, definition_faults, index_faults, index_place, index_subtype, integer_entity, is_long, is_named_in, length_of, narrowed, narrowed_faults, null_rule, range_faults, range_subtype, record_components, record_entity, short_length, static_whole, subtype_entity, whole_of}
 use Rattle.expr_soundness.specs.SoundScopes.{AreEarlier, IsEarlier, IsKnown, IsSoundEntity, SoundScope}
 use Rattle.expr_soundness.proofs.Expressions.{not_false}
 use Rattle.expr_soundness.proofs.Goods.{not_empty}

@@ -2,20 +2,20 @@
 use Rattle.std.proofs.Common.{◌≡◌, ℕ, zero, suc, ◌+◌, List, [], ◌∷◌, ◌++◌, map, Bool, true, false, cond, ◌&&◌, Option, Some, None, refl, sym, ap, ◌∙◌, subst, arith}
 use Rattle.std.specs.Prelude.{bytes_eq, slice_get}
 use Rattle.std.specs.List.{list_any}
-use Rattle.base.specs.Names.{predefined}
-use Rattle.ada_tree.specs.declared.expression.Identifier.{Identifier}
-use Rattle.ada_tree.specs.declared.program.UnitClause.{UnitClause}
-use Rattle.ada_tree.specs.ProgramTree.{BodyItemTree, OfItem, ItemTree, OfType, OfObject, OfException, OfSubprogram, OfTask, OfProtected, PackageTree, ProgramTree}
+use Rattle.expr_soundness.specs.base.specs.Names.{predefined}
+use Rattle.expr_soundness.specs.ada_tree.specs.declared.expression.Identifier.{Identifier}
+use Rattle.expr_soundness.specs.ada_tree.specs.declared.program.UnitClause.{UnitClause}
+use Rattle.expr_soundness.specs.ada_tree.specs.ProgramTree.{BodyItemTree, OfItem, ItemTree, OfType, OfObject, OfException, OfSubprogram, OfTask, OfProtected, PackageTree, ProgramTree}
 use Rattle.types.specs.Entities.{Entity, LibraryUnit}
 use Rattle.types.specs.Scopes.{Named, Scope, is_visible, one_if_protected, protected_count, standard, with_control_io, with_name, with_real_time}
-use Rattle.expr_rules.proofs.TypedLaw.{back_empty, front_empty}
+use Rattle.expr_soundness.specs.expr_rules.proofs.TypedLaw.{back_empty, front_empty}
 use Rattle.legality.specs.MainRules.{main_faults}
 use Rattle.declaring.specs.PackageNames.{body_items_scope, clauses_scope, is_control_io, is_real_time, optional_scope, program_scope}
 use Rattle.size_rules.specs.ProgramSizes.{size_faults}
 use Rattle.checking.specs.ProgramRules.{package_part_faults, program_faults}
 use Rattle.ravenscar.specs.ProgramRules as profile
 use Rattle.expr_soundness.specs.SoundScopes.{SoundScope}
-use Rattle.meaning.specs.Programs.{body_among, components_among, exceptions_among, functions_among, items_among, main_task, objects_or_none, package_bodies, package_items, procedures_among, program_of, task_with, tasks_among, variables_among}
+use Rattle.expr_soundness.specs.meaning.specs.Programs.{body_among, components_among, exceptions_among, functions_among, items_among, main_task, objects_or_none, package_bodies, package_items, procedures_among, program_of, task_with, tasks_among, variables_among}
 use Rattle.program_soundness.specs.Fronts.{declared_in, start_in}
 use Rattle.program_soundness.proofs.Listing.{Has, one_passes, same_some}
 use Rattle.program_soundness.proofs.WiderScopes.{found_one, same_bytes, stands, stands_found}

@@ -2,8 +2,8 @@
 use Rattle.std.proofs.Common.{◌≡◌, ◌++◌, ℕ, List, [], ◌∷◌, Bool, true, false, ◌⊎◌, inl, inr, Option, Some, None, refl, sym, ap, ◌∙◌}
 use Rattle.std.specs.Prelude.{bytes_eq, cond, is_some}
 use Rattle.std.proofs.lemmas.List.{append_assoc}
-use Rattle.ada_tree.specs.StatementTree.{ObjectTree}
-use Rattle.ada_tree.specs.ProgramTree.{BodyItemTree, OfItem, SubprogramBody, TaskBody, ProtectedBody, OfType, OfObject, OfException, OfSubprogram, OfTask, OfProtected, PackageTree, ProgramTree}
+use Rattle.expr_soundness.specs.ada_tree.specs.StatementTree.{ObjectTree}
+use Rattle.expr_soundness.specs.ada_tree.specs.ProgramTree.{BodyItemTree, OfItem, SubprogramBody, TaskBody, ProtectedBody, OfType, OfObject, OfException, OfSubprogram, OfTask, OfProtected, PackageTree, ProgramTree}
 use Rattle.types.specs.declared.entity.Role.{Role}
 use Rattle.types.specs.declared.entity.Role.TheVariants as role
 use Rattle.types.specs.declared.entity.Subtype.{Subtype}
@@ -11,13 +11,13 @@ use Rattle.types.specs.Entities.{Entity, Object}
 use Rattle.types.specs.Scopes.{Scope, is_visible}
 use Rattle.types.specs.Places.{object_of}
 use Rattle.types.specs.Places as places
-use Rattle.expr_rules.proofs.TypedLaw.{back_empty, front_empty, unbroken}
-use Rattle.base.specs.declared.faults.TheConstants.{DECLARED_TWICE}
-use Rattle.type_rules.specs.ObjectRules.{constant_entity, fixed_initial_faults, initial_scalar, object_entity}
-use Rattle.type_rules.specs.SubtypeNames.{declared_twice, subtype_faults, subtype_of}
+use Rattle.expr_soundness.specs.expr_rules.proofs.TypedLaw.{back_empty, front_empty, unbroken}
+use Rattle.expr_soundness.specs.base.specs.declared.faults.TheConstants.{DECLARED_TWICE}
+use Rattle.expr_soundness.specs.type_rules.specs.ObjectRules.{constant_entity, fixed_initial_faults, initial_scalar, object_entity}
+use Rattle.expr_soundness.specs.type_rules.specs.SubtypeNames.{declared_twice, subtype_faults, subtype_of}
 use Rattle.legality.specs.MainRules.{item_name}
 use Rattle.checking.specs.ProgramRules.{IsLegal}
-use Rattle.meaning.specs.Programs.{items_among, object_named, subtype_or_integer, variable, variables_among}
+use Rattle.expr_soundness.specs.meaning.specs.Programs.{items_among, object_named, subtype_or_integer, variable, variables_among}
 use Rattle.expr_soundness.proofs.Positions.{same_some}
 use Rattle.step_soundness.specs.Fitting.{entity_named}
 use Rattle.step_soundness.proofs.Lookups.{bytes_same, same_bytes}

@@ -2,9 +2,9 @@
 use Rattle.std.proofs.Common.{◌≡◌, ℕ, zero, suc, List, [], ◌∷◌, ◌++◌, take, drop, Bool, true, false, cond, ◌⊎◌, inl, inr, Option, Some, None, refl, sym, ap, ◌∙◌, subst}
 use Rattle.std.specs.Prelude.{slice_get, ⊤, bytes_eq}
 use Rattle.std.proofs.lemmas.List.{take-append-drop}
-use Rattle.base.specs.declared.limits.TheConstants.{TASK_PRIORITY}
-use Rattle.ada_tree.specs.StatementTree.{SubprogramTree}
-use Rattle.ada_tree.specs.ProgramTree.{BodyItemTree, OfItem, SubprogramBody, TaskBody, ProtectedBody, DefinitionTree, Integer, Array, Record, Subtype as SubtypeOf, ItemTree, OfType, OfObject, OfException, OfSubprogram, OfTask, OfProtected}
+use Rattle.expr_soundness.specs.base.specs.declared.limits.TheConstants.{TASK_PRIORITY}
+use Rattle.expr_soundness.specs.ada_tree.specs.StatementTree.{SubprogramTree}
+use Rattle.expr_soundness.specs.ada_tree.specs.ProgramTree.{BodyItemTree, OfItem, SubprogramBody, TaskBody, ProtectedBody, DefinitionTree, Integer, Array, Record, Subtype as SubtypeOf, ItemTree, OfType, OfObject, OfException, OfSubprogram, OfTask, OfProtected}
 use Rattle.types.specs.declared.entity.RecordComponent.{RecordComponent}
 use Rattle.types.specs.declared.entity.Role.TheVariants as role
 use Rattle.types.specs.declared.entity.Subtype.{Subtype}
@@ -13,11 +13,11 @@ use Rattle.types.specs.Entities.{Entity, Operation, Profile, TypeForm, Constant,
 use Rattle.types.specs.Entities as entity
 use Rattle.types.specs.Places.{or_else}
 use Rattle.types.specs.Scopes.{Named, Scope, is_visible}
-use Rattle.expr_rules.proofs.TypedLaw.{back_empty, front_empty, unbroken}
-use Rattle.type_rules.specs.SubtypeNames.{declared_twice, if_integer, subtype_of}
-use Rattle.type_rules.specs.ObjectRules.{constant_entity, initial_scalar, object_entity, package_object_entity}
-use Rattle.type_rules.specs.ProfileRules.{formal_parameters, profile_entity, profile_with}
-use Rattle.type_rules.specs.TypeRules.{array_entity, composite, definition_entity, index_subtype, integer_entity, narrowed, record_components, record_entity, short_length, subtype_entity}
+use Rattle.expr_soundness.specs.expr_rules.proofs.TypedLaw.{back_empty, front_empty, unbroken}
+use Rattle.expr_soundness.specs.type_rules.specs.SubtypeNames.{declared_twice, if_integer, subtype_of}
+use Rattle.expr_soundness.specs.type_rules.specs.ObjectRules.{constant_entity, initial_scalar, object_entity, package_object_entity}
+use Rattle.expr_soundness.specs.type_rules.specs.ProfileRules.{formal_parameters, profile_entity, profile_with}
+use Rattle.expr_soundness.specs.type_rules.specs.TypeRules.{array_entity, composite, definition_entity, index_subtype, integer_entity, narrowed, record_components, record_entity, short_length, subtype_entity}
 use Rattle.declaring.specs.ItemRules.{item_faults}
 use Rattle.declaring.specs.ProtectedRules.{object_components, object_operations, object_with, protected_entity}
 use Rattle.declaring.specs.TaskRules.{default_priority, priority_of}

@@ -2,14 +2,14 @@
 use Rattle.std.proofs.Common.{◌≡◌, ◌++◌, ℕ, List, [], ◌∷◌, Bool, true, false, Option, Some, None, refl, sym, ap, ◌∙◌, subst}
 use Rattle.std.specs.Prelude.{is_some, option_map}
 use Rattle.std.proofs.lemmas.List.{append-nil}
-use Rattle.base.specs.declared.faults.TheConstants.{UNMATCHED_BODY}
-use Rattle.ada_tree.specs.declared.expression.Identifier.{Identifier}
-use Rattle.ada_tree.specs.ProgramTree.{BodyItemTree, OfItem, SubprogramBody, TaskBody, ProtectedBody, EntryBody, OperationBody, PackageTree, ProgramTree, ProtectedItemTree}
+use Rattle.expr_soundness.specs.base.specs.declared.faults.TheConstants.{UNMATCHED_BODY}
+use Rattle.expr_soundness.specs.ada_tree.specs.declared.expression.Identifier.{Identifier}
+use Rattle.expr_soundness.specs.ada_tree.specs.ProgramTree.{BodyItemTree, OfItem, SubprogramBody, TaskBody, ProtectedBody, EntryBody, OperationBody, PackageTree, ProgramTree, ProtectedItemTree}
 use Rattle.types.specs.declared.entity.RecordComponent.{RecordComponent}
 use Rattle.types.specs.Entities.{Entity, Entry, LibraryUnit, Object, Operation, Profile, Protected, ProtectedObject, Subprogram, Doubtful}
 use Rattle.types.specs.Scopes.{Scope, entity_at, number_of, operations_or, protected_at, protected_of, standard, with_control_io, with_name, with_operations, with_real_time}
-use Rattle.expr_rules.proofs.TypedLaw.{back_empty, front_empty, unbroken}
-use Rattle.type_rules.specs.SubtypeNames.{end_rule, entity_at_or_none, named_entity}
+use Rattle.expr_soundness.specs.expr_rules.proofs.TypedLaw.{back_empty, front_empty, unbroken}
+use Rattle.expr_soundness.specs.type_rules.specs.SubtypeNames.{end_rule, entity_at_or_none, named_entity}
 use Rattle.declaring.specs.BodyNames.{component_role, components_scope, object_body_scope, operation_entity, operations_scope}
 use Rattle.declaring.specs.Laws.{StandsFirst}
 use Rattle.declaring.specs.PackageNames.{body_item_scope, body_items_scope, inside_scope, optional_scope, program_scope, specified_scope, units_scope}

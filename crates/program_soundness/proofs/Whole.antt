@@ -1,11 +1,11 @@
 -- What the names of a legal package stand for is what a run finds: variables, functions and procedures of the package by their names.
 use Rattle.std.proofs.Common.{◌≡◌, ℕ, List, [], ◌∷◌, ◌++◌, Bool, true, false, cond, ◌&&◌, ◌⊎◌, inl, inr, Option, Some, None, refl, sym, ap, ◌∙◌, subst}
 use Rattle.std.specs.Prelude.{bytes_eq, slice_get}
-use Rattle.base.specs.Names.{predefined}
-use Rattle.ada_tree.specs.declared.expression.Identifier.{Identifier}
-use Rattle.ada_tree.specs.ExpressionTree.{ExprTree}
-use Rattle.ada_tree.specs.StatementTree.{ObjectTree, SubprogramTree, StmtTrees, NoStmts, MoreStmts, Return}
-use Rattle.ada_tree.specs.ProgramTree.{BodyTree, BodyItemTree, OfItem, SubprogramBody, TaskBody, ProtectedBody, OfType, OfObject, OfException, OfSubprogram, OfTask, OfProtected}
+use Rattle.expr_soundness.specs.base.specs.Names.{predefined}
+use Rattle.expr_soundness.specs.ada_tree.specs.declared.expression.Identifier.{Identifier}
+use Rattle.expr_soundness.specs.ada_tree.specs.ExpressionTree.{ExprTree}
+use Rattle.expr_soundness.specs.ada_tree.specs.StatementTree.{ObjectTree, SubprogramTree, StmtTrees, NoStmts, MoreStmts, Return}
+use Rattle.expr_soundness.specs.ada_tree.specs.ProgramTree.{BodyTree, BodyItemTree, OfItem, SubprogramBody, TaskBody, ProtectedBody, OfType, OfObject, OfException, OfSubprogram, OfTask, OfProtected}
 use Rattle.types.specs.declared.entity.Role.{Role}
 use Rattle.types.specs.declared.entity.Role.TheVariants as role
 use Rattle.types.specs.declared.entity.Subtype.{Subtype}
@@ -14,15 +14,15 @@ use Rattle.types.specs.Entities as entity
 use Rattle.types.specs.Scopes.{Scope, protected_count}
 use Rattle.types.specs.Places.{Function, function_of, is_of, object_of, or_else}
 use Rattle.types.specs.Places as places
-use Rattle.expr_rules.proofs.TypedLaw.{front_empty}
-use Rattle.type_rules.specs.SubtypeNames.{declared_twice, named_entity, subtype_faults, subtype_in, subtype_of, subtype_rule}
-use Rattle.type_rules.specs.ObjectRules.{constant_entity, initial_scalar, object_entity, package_object_entity}
-use Rattle.type_rules.specs.ProfileRules.{profile_entity}
+use Rattle.expr_soundness.specs.expr_rules.proofs.TypedLaw.{front_empty}
+use Rattle.expr_soundness.specs.type_rules.specs.SubtypeNames.{declared_twice, named_entity, subtype_faults, subtype_in, subtype_of, subtype_rule}
+use Rattle.expr_soundness.specs.type_rules.specs.ObjectRules.{constant_entity, initial_scalar, object_entity, package_object_entity}
+use Rattle.expr_soundness.specs.type_rules.specs.ProfileRules.{profile_entity}
 use Rattle.legality.specs.BodyRules.{has_no_declarations, has_no_handlers, is_function_body, is_single_return, is_subprogram}
 use Rattle.declaring.specs.PackageNames.{body_items_scope}
 use Rattle.legality.specs.ProtectedBodyRules.{is_object}
 use Rattle.expr_soundness.specs.SoundScopes.{SoundScope}
-use Rattle.meaning.specs.Programs.{Program, components_among, exceptions_among, functions_among, items_among, object_named, objects_or_none, procedures_among, returned, variable, variables_among}
+use Rattle.expr_soundness.specs.meaning.specs.Programs.{Program, components_among, exceptions_among, functions_among, items_among, object_named, objects_or_none, procedures_among, returned, variable, variables_among}
 use Rattle.program_soundness.specs.Fronts.{scope_at}
 use Rattle.program_soundness.proofs.Listing.{Has, same_some}
 use Rattle.program_soundness.proofs.WiderScopes.{bytes_same, number_stands, same_bytes, stands, unseen_none}

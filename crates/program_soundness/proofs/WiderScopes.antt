@@ -5,7 +5,7 @@ use Rattle.std.proofs.lemmas.Slice.Eq.{bytes_eq-Decides}
 use Rattle.types.specs.Entities.{Entity}
 use Rattle.types.specs.Scopes.{Scope, Named, entity_at, form_at, form_of, is_visible, number_of, with_name}
 use Rattle.types.specs.Places.{or_else}
-use Rattle.type_rules.specs.SubtypeNames.{entity_at_or_none}
+use Rattle.expr_soundness.specs.type_rules.specs.SubtypeNames.{entity_at_or_none}
 use Rattle.expr_soundness.proofs.Positions.{first_place, number_place}
 use Rattle.program_soundness.proofs.Listing.{first_some, or_else_assoc, or_else_none}
 

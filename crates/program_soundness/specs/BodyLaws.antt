@@ -1,21 +1,21 @@
 -- What legality says of the bodies of an accepted program, as statements; each is the contract of a public function.
 use Rattle.std.specs.Prelude.{◌≡◌, ℕ, Bool, List, [], take, Option, Some, None, slice_get}
-use Rattle.ada_tree.specs.declared.expression.Identifier.{Identifier}
-use Rattle.ada_tree.specs.StatementTree.{SubprogramTree}
-use Rattle.ada_tree.specs.ProgramTree.{BodyTree, ProgramTree, ProtectedBody, ProtectedItemTree, OperationBody}
+use Rattle.expr_soundness.specs.ada_tree.specs.declared.expression.Identifier.{Identifier}
+use Rattle.expr_soundness.specs.ada_tree.specs.StatementTree.{SubprogramTree}
+use Rattle.expr_soundness.specs.ada_tree.specs.ProgramTree.{BodyTree, ProgramTree, ProtectedBody, ProtectedItemTree, OperationBody}
 use Rattle.types.specs.Entities.{Protected, ProtectedObject}
 use Rattle.types.specs.Scopes.{Scope, entity_at, number_of}
 use Rattle.types.specs.Places.{Place}
-use Rattle.type_rules.specs.ProfileRules.{subprogram_scope}
+use Rattle.expr_soundness.specs.type_rules.specs.ProfileRules.{subprogram_scope}
 use Rattle.declaring.specs.BodyNames.{components_scope, object_body_scope}
 use Rattle.legality.specs.ProtectedBodyRules.{operation_sees, protected_items_scope}
 use Rattle.checking.specs.ProgramRules.{IsLegal}
 use Rattle.ravenscar.specs.ProgramRules.{IsRestricted}
 use Rattle.expr_soundness.specs.SoundScopes.{SoundScope}
-use Rattle.meaning.specs.Programs.{Procedure, Program, program_of}
-use Rattle.meaning.specs.Works.{Store}
-use Rattle.meaning.specs.Calls.{procedure_among}
-use Rattle.meaning.specs.Source.{initial_work}
+use Rattle.expr_soundness.specs.meaning.specs.Programs.{Procedure, Program, program_of}
+use Rattle.expr_soundness.specs.meaning.specs.Works.{Store}
+use Rattle.expr_soundness.specs.meaning.specs.Calls.{procedure_among}
+use Rattle.expr_soundness.specs.meaning.specs.Source.{initial_work}
 use Rattle.step_soundness.specs.Objects.{AreSoundObjects, first_store}
 use Rattle.step_soundness.specs.Fitting.{FitsScope, entry_of}
 use Rattle.step_soundness.specs.Holding.{IsSoundProcedure, IsSoundTask, SameObjects, inside}

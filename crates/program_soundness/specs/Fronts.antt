@@ -1,6 +1,6 @@
 -- The declarations and bodies of the package as one list, in the order of the text, and what is visible in front of each (RM 7.1, 7.2, 8.2).
 use Rattle.std.specs.Prelude.{ℕ, List, [], ◌++◌, map, take, Option, Some, None}
-use Rattle.ada_tree.specs.ProgramTree.{BodyItemTree, OfItem, PackageTree, ProgramTree}
+use Rattle.expr_soundness.specs.ada_tree.specs.ProgramTree.{BodyItemTree, OfItem, PackageTree, ProgramTree}
 use Rattle.types.specs.Scopes.{Scope, standard}
 use Rattle.declaring.specs.PackageNames.{body_items_scope, inside_scope}
 

@@ -1,11 +1,11 @@
 -- What legality says of the functions of an accepted program, as a statement; it is the contract of a public function.
-use Rattle.ada_tree.specs.ProgramTree.{ProgramTree}
+use Rattle.expr_soundness.specs.ada_tree.specs.ProgramTree.{ProgramTree}
 use Rattle.types.specs.Places.{Place}
 use Rattle.checking.specs.ProgramRules.{IsLegal}
 use Rattle.ravenscar.specs.ProgramRules.{IsRestricted}
 use Rattle.expr_soundness.specs.Answers.{FunctionsAreSound}
-use Rattle.meaning.specs.Programs.{program_of}
-use Rattle.meaning.specs.Works.{Store}
+use Rattle.expr_soundness.specs.meaning.specs.Programs.{program_of}
+use Rattle.expr_soundness.specs.meaning.specs.Works.{Store}
 use Rattle.step_soundness.specs.Holding.{seen}
 use Rattle.program_soundness.specs.BodyLaws.{IsSoundMemory}
 

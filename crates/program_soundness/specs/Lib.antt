@@ -2,6 +2,13 @@ pub use Rattle.checking.specs.ProgramRules
 pub use Rattle.expr_soundness.specs.SoundScopes
 pub use Rattle.step_soundness.specs.Starting
 pub use Rattle.expr_soundness.specs.Answers
+pub use Rattle.checking as checking
+pub use Rattle.declaring as declaring
+pub use Rattle.legality as legality
+pub use Rattle.ravenscar as ravenscar
+pub use Rattle.size_rules as size_rules
+pub use Rattle.step_soundness as step_soundness
+pub use Rattle.step_soundness.specs.stmt_rules as stmt_rules
 pub mod Points
 pub mod ScopeLaws
 pub mod SoundWorlds

@@ -1,7 +1,7 @@
 -- The points of a package at which its bodies are judged, and what holds of the names that are visible there (RM 8.2, 8.3, 9.4).
 use Rattle.std.specs.Prelude.{◌≡◌, ℕ, Bool, List, [], ◌∷◌, ◌++◌, Some}
-use Rattle.ada_tree.specs.declared.expression.Identifier.{Identifier}
-use Rattle.ada_tree.specs.ProgramTree.{BodyItemTree, PackageTree, ProgramTree, ProtectedItemTree}
+use Rattle.expr_soundness.specs.ada_tree.specs.declared.expression.Identifier.{Identifier}
+use Rattle.expr_soundness.specs.ada_tree.specs.ProgramTree.{BodyItemTree, PackageTree, ProgramTree, ProtectedItemTree}
 use Rattle.types.specs.declared.entity.RecordComponent.{RecordComponent}
 use Rattle.types.specs.Entities.{Protected, ProtectedObject}
 use Rattle.types.specs.Scopes.{Scope, entity_at, number_of, standard}

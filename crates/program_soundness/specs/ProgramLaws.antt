@@ -1,12 +1,12 @@
 -- That no run of an accepted program comes to a step without meaning.
 use Rattle.std.specs.Prelude.{◌≢◌, ℕ, List, Some}
-use Rattle.base.specs.declared.schedule.ScheduleLine.{ScheduleLine}
+use Rattle.expr_soundness.specs.base.specs.declared.schedule.ScheduleLine.{ScheduleLine}
 use Rattle.kernel.specs.State.{Unhandled}
-use Rattle.ada_tree.specs.ProgramTree.{ProgramTree}
+use Rattle.expr_soundness.specs.ada_tree.specs.ProgramTree.{ProgramTree}
 use Rattle.checking.specs.ProgramRules.{IsLegal}
 use Rattle.ravenscar.specs.ProgramRules.{IsRestricted}
-use Rattle.meaning.specs.Programs.{program_of}
-use Rattle.meaning.specs.Source.{source}
+use Rattle.expr_soundness.specs.meaning.specs.Programs.{program_of}
+use Rattle.expr_soundness.specs.meaning.specs.Source.{source}
 use Rattle.step_soundness.specs.Starting.{IsSoundStart}
 
 abbrev pub StartsAreSound : Type 0

@@ -1,9 +1,9 @@
 -- That a run whose start is sound never comes to a step without meaning.
 use Rattle.std.specs.Prelude.{◌≢◌, ℕ, List, Some}
-use Rattle.base.specs.declared.schedule.ScheduleLine.{ScheduleLine}
+use Rattle.expr_soundness.specs.base.specs.declared.schedule.ScheduleLine.{ScheduleLine}
 use Rattle.kernel.specs.State.{Unhandled}
-use Rattle.meaning.specs.Programs.{Program}
-use Rattle.meaning.specs.Source.{run_of}
+use Rattle.expr_soundness.specs.meaning.specs.Programs.{Program}
+use Rattle.expr_soundness.specs.meaning.specs.Source.{run_of}
 use Rattle.step_soundness.specs.Starting.{IsSoundStart}
 use Rattle.program_soundness.specs.SoundWorlds.{IsSoundWorld}
 

@@ -1,11 +1,11 @@
 -- What legality says of the names of a package, as statements; each is the contract of a public function.
 use Rattle.std.specs.Prelude.{◌≡◌, ℕ, List, [], ◌∷◌, ◌++◌, Some}
-use Rattle.ada_tree.specs.declared.declaration.Formal.{Formal}
-use Rattle.ada_tree.specs.declared.expression.Identifier.{Identifier}
-use Rattle.ada_tree.specs.StatementTree.{DeclarationTree, SubprogramTree}
-use Rattle.ada_tree.specs.ProgramTree.{BodyItemTree, ItemTree, PackageTree, ProgramTree, ProtectedBody, ProtectedItemTree}
+use Rattle.expr_soundness.specs.ada_tree.specs.declared.declaration.Formal.{Formal}
+use Rattle.expr_soundness.specs.ada_tree.specs.declared.expression.Identifier.{Identifier}
+use Rattle.expr_soundness.specs.ada_tree.specs.StatementTree.{DeclarationTree, SubprogramTree}
+use Rattle.expr_soundness.specs.ada_tree.specs.ProgramTree.{BodyItemTree, ItemTree, PackageTree, ProgramTree, ProtectedBody, ProtectedItemTree}
 use Rattle.types.specs.Scopes.{Scope, standard}
-use Rattle.type_rules.specs.ProfileRules.{formals_faults, profile_faults, subprogram_scope}
+use Rattle.expr_soundness.specs.type_rules.specs.ProfileRules.{formals_faults, profile_faults, subprogram_scope}
 use Rattle.declaring.specs.BodyNames.{formals_scope}
 use Rattle.declaring.specs.ItemRules.{items_faults, items_scope}
 use Rattle.declaring.specs.Laws.{StandsFirst}
@@ -15,7 +15,7 @@ use Rattle.declaring.specs.PackageNames.{inside_scope, program_scope, specified_
 use Rattle.checking.specs.ProgramRules.{IsLegal}
 use Rattle.ravenscar.specs.ProgramRules.{IsRestricted}
 use Rattle.kernel.specs.Invariant.{Fits}
-use Rattle.meaning.specs.Programs.{program_of, program_partition}
+use Rattle.expr_soundness.specs.meaning.specs.Programs.{program_of, program_partition}
 use Rattle.expr_soundness.specs.SoundScopes.{SoundScope}
 use Rattle.step_soundness.specs.Laws.{BarriersAreOwn}
 use Rattle.step_soundness.specs.Objects.{AreSoundObjects}

@@ -2,10 +2,10 @@
 use Rattle.std.specs.Prelude.{◌<◌, ℕ, Option, Some, None, ⊤}
 use Rattle.kernel.specs.State.{Outcome, Ended, WaitsForever, ImageFault, Unhandled, TaskPlace, IsRunning, IsReady, IsAsleep, IsFinished, IsQueued, IsServed}
 use Rattle.kernel.specs.Invariant.{Kept}
-use Rattle.meaning.specs.Programs.{Program}
-use Rattle.meaning.specs.Calls.{is_open}
-use Rattle.meaning.specs.SourceSteps.{items_of}
-use Rattle.meaning.specs.Source.{SourceWorld}
+use Rattle.expr_soundness.specs.meaning.specs.Programs.{Program}
+use Rattle.expr_soundness.specs.meaning.specs.Calls.{is_open}
+use Rattle.expr_soundness.specs.meaning.specs.SourceSteps.{items_of}
+use Rattle.expr_soundness.specs.meaning.specs.Source.{SourceWorld}
 use Rattle.step_soundness.specs.Opened.{opened_in}
 use Rattle.step_soundness.specs.Holding.{IsSoundStore, IsSoundTask}
 use Rattle.step_soundness.specs.Laws.{Matches}

@@ -4,7 +4,7 @@ use Rattle.std.specs.Prelude.{codes}
 use Rattle.std.specs.List.{list_all}
 use Rattle.std.proofs.lemmas.Bool.{and_from, and_parts}
 use Rattle.std.proofs.lemmas.List.Folds.{list_all-append}
-use Rattle.base.specs.declared.limits.TheConstants.{TASK_PRIORITY}
+use Rattle.ada_link.specs.base.specs.declared.limits.TheConstants.{TASK_PRIORITY}
 use Rattle.ada_tree.specs.declared.declaration.Component.{Component}
 use Rattle.ada_tree.specs.StatementTree.{ObjectTree}
 use Rattle.ada_tree.specs.ProgramTree.{Array, BodyItemTree, DefinitionTree, Integer, OfException, OfItem, OfObject, OfProtected, OfSubprogram, OfTask, OfType, PackageTree, ProtectedBody, Record, SubprogramBody, Subtype as SubtypeOf, TaskBody}
@@ -16,13 +16,13 @@ use Rattle.types.specs.declared.entity.Value.{Value as Scalar}
 use Rattle.types.specs.Entities.{Doubtful, Entity, Exception, LibraryUnit, Object, Operation, Profile, Put, Records, Spans, Task, Times, TypeForm}
 use Rattle.types.specs.Entities as entity
 use Rattle.types.specs.Scopes.{Named, Scope, base_range_of, entity_at, from_integer, from_nothing, integer, is_visible, standard, with_control_io, with_name, with_real_time}
-use Rattle.type_rules.specs.ObjectRules.{constant_entity, initial_scalar, object_entity, package_object_entity}
-use Rattle.type_rules.specs.ProfileRules.{profile_entity}
-use Rattle.type_rules.specs.SubtypeNames.{if_integer, subtype_of}
-use Rattle.type_rules.specs.TypeRules.{array_entity, component_and, composite, definition_entity, index_subtype, integer_entity, narrowed, record_components, record_entity, short_length, subtype_entity}
-use Rattle.declaring.specs.ProtectedRules.{object_components, object_operations, object_with, protected_entity}
-use Rattle.declaring.specs.TaskRules.{default_priority, priority_of}
-use Rattle.declaring.specs.PackageNames.{body_item_scope, clauses_scope}
+use Rattle.expr_soundness.specs.type_rules.specs.ObjectRules.{constant_entity, initial_scalar, object_entity, package_object_entity}
+use Rattle.expr_soundness.specs.type_rules.specs.ProfileRules.{profile_entity}
+use Rattle.expr_soundness.specs.type_rules.specs.SubtypeNames.{if_integer, subtype_of}
+use Rattle.expr_soundness.specs.type_rules.specs.TypeRules.{array_entity, component_and, composite, definition_entity, index_subtype, integer_entity, narrowed, record_components, record_entity, short_length, subtype_entity}
+use Rattle.program_soundness.specs.declaring.specs.ProtectedRules.{object_components, object_operations, object_with, protected_entity}
+use Rattle.program_soundness.specs.declaring.specs.TaskRules.{default_priority, priority_of}
+use Rattle.program_soundness.specs.declaring.specs.PackageNames.{body_item_scope, clauses_scope}
 use Rattle.program_soundness.specs.Fronts.{scope_at, start_in}
 use Rattle.program_soundness.proofs.Listing.{same_some}
 use Rattle.program_soundness.proofs.Walked.{own_profile}

@@ -1,7 +1,7 @@
 -- In a small text the formals of each subprogram that is visible take few words: those of its body, which are the same.
 use Rattle.std.proofs.Common.{◌≡◌, ℕ, suc, ◌+◌, ◌≤◌, Bool, true, false, cond, List, [], ◌∷◌, ◌++◌, append-nil, append_assoc, Option, Some, None, refl, sym, ap, ◌∙◌, subst, arith}
 use Rattle.std.specs.Prelude.{is_some, slice_get}
-use Rattle.lexer.specs.declared.token.Token.{Token}
+use Rattle.ada_link.specs.lexer.specs.declared.token.Token.{Token}
 use Rattle.ada_tree.specs.declared.declaration.Formal.{Formal}
 use Rattle.ada_tree.specs.StatementTree.{SubprogramTree}
 use Rattle.ada_tree.specs.ProgramTree.{BodyItemTree, BodyTree, ProgramTree, SubprogramBody}
@@ -12,16 +12,16 @@ use Rattle.types.specs.Laws.{ShapesStay}
 use Rattle.types.specs.Layouts.{words_of}
 use Rattle.types.specs.Scopes.{Scope, base_range_of, entity_at, is_visible, number_of, with_name}
 use Rattle.types.specs.Shapes.{words}
-use Rattle.expr_rules.proofs.TypedLaw.{back_empty, front_empty}
-use Rattle.type_rules.specs.ObjectRules.{object_entity}
-use Rattle.type_rules.specs.ProfileRules.{formal_faults, formal_parameters, formals_faults, function_faults, profile_faults, result_faults}
-use Rattle.type_rules.specs.SubtypeNames.{subtype_faults, subtype_of}
-use Rattle.declaring.specs.BodyNames.{formal_role, formal_scope, formals_scope}
-use Rattle.legality.specs.BodyRules.{body_name_faults, function_body_faults, own_name_faults}
+use Rattle.expr_soundness.specs.expr_rules.proofs.TypedLaw.{back_empty, front_empty}
+use Rattle.expr_soundness.specs.type_rules.specs.ObjectRules.{object_entity}
+use Rattle.expr_soundness.specs.type_rules.specs.ProfileRules.{formal_faults, formal_parameters, formals_faults, function_faults, profile_faults, result_faults}
+use Rattle.expr_soundness.specs.type_rules.specs.SubtypeNames.{subtype_faults, subtype_of}
+use Rattle.program_soundness.specs.declaring.specs.BodyNames.{formal_role, formal_scope, formals_scope}
+use Rattle.program_soundness.specs.legality.specs.BodyRules.{body_name_faults, function_body_faults, own_name_faults}
 use Rattle.checking.specs.ProgramLayouts.{WordsHaveRoom}
 use Rattle.checking.specs.ProgramRules.{IsLegal}
-use Rattle.ravenscar.specs.ProgramRules.{IsRestricted}
-use Rattle.meaning.specs.Programs.{program_of}
+use Rattle.program_soundness.specs.ravenscar.specs.ProgramRules.{IsRestricted}
+use Rattle.expr_soundness.specs.meaning.specs.Programs.{program_of}
 use Rattle.expr_soundness.specs.Laws.{ScopesAreSound}
 use Rattle.expr_soundness.specs.SoundScopes.{AreKnown, IsKnown, SoundScope}
 use Rattle.program_soundness.specs.BodyLaws.{NamesAreKnown, PremisesHold}
@@ -33,9 +33,9 @@ use Rattle.program_soundness.proofs.Trees.{tree_package}
 use Rattle.program_soundness.proofs.Walked.{kept_next, scope_next}
 use Rattle.program_soundness.proofs.WiderScopes.{stands, stands_number}
 use Rattle.program_soundness.proofs.Whole.{IsPackage, kept, known_subtype}
-use Rattle.expr_code.specs.Seeing.{NamesProfile, profile_named, subprogram_profile}
-use Rattle.part_code.specs.Bounds.{body_words, formals_words, words_if_any}
-use Rattle.package_code.proofs.InFront.{known_inside}
+use Rattle.ada_link.specs.expr_code.specs.Seeing.{NamesProfile, profile_named, subprogram_profile}
+use Rattle.ada_link.specs.part_code.specs.Bounds.{body_words, formals_words, words_if_any}
+use Rattle.ada_link.specs.package_code.proofs.InFront.{known_inside}
 use Rattle.source_laws.specs.Small.{IsSmall, body_loops, small_words}
 use Rattle.source_laws.specs.Depths.{FewFormals, formals_take}
 use Rattle.source_laws.specs.Visible.{CalleesHaveFew, FrontsAreSmall, FrontsKeepLimits}

@@ -1,18 +1,18 @@
 -- The code of a small program has no more instructions than an image: 20 for each node of its tree, and two for each of at most 64 words of a body.
 use Rattle.std.proofs.Common.{◌≡◌, ℕ, zero, suc, ◌+◌, ◌*◌, ◌≤◌, List, [], ◌∷◌, length, Some, refl, subst, arith}
 use Rattle.std.specs.Prelude.{slice_get}
-use Rattle.base.specs.declared.limits.TheConstants.{INSTRUCTIONS, SUBPROGRAMS}
-use Rattle.lexer.specs.declared.token.Token.{Token}
+use Rattle.ada_link.specs.base.specs.declared.limits.TheConstants.{INSTRUCTIONS, SUBPROGRAMS}
+use Rattle.ada_link.specs.lexer.specs.declared.token.Token.{Token}
 use Rattle.ada_tree.specs.StatementTree.{SubprogramTree}
 use Rattle.ada_tree.specs.ProgramTree.{BodyItemTree, BodyTree, ProgramTree, SubprogramBody}
 use Rattle.ada_tree.specs.Laws.{SizeWithinTokens}
 use Rattle.ada_tree.specs.Size.{aspect_size, body_item_size, body_size, package_size, size, size_if_any, total}
 use Rattle.types.specs.Layouts as layouts
-use Rattle.declaring.specs.BodyNames.{formals_scope}
+use Rattle.program_soundness.specs.declaring.specs.BodyNames.{formals_scope}
 use Rattle.program_soundness.specs.Fronts.{declared_in, front}
-use Rattle.part_code.specs.Bounds.{body_words, formals_words, main_bound}
-use Rattle.package_code.specs.Counts.{bodies_among, bounds_from}
-use Rattle.package_code.specs.Laws.{TablesAreSmall}
+use Rattle.ada_link.specs.part_code.specs.Bounds.{body_words, formals_words, main_bound}
+use Rattle.ada_link.specs.package_code.specs.Counts.{bodies_among, bounds_from}
+use Rattle.ada_link.specs.package_code.specs.Laws.{TablesAreSmall}
 use Rattle.source_laws.specs.Small.{IsSmall, SmallCodeFits, body_loops, body_room, small_words}
 use Rattle.source_laws.proofs.RowsCounted.{declared_size, rows_counted}
 

@@ -2,8 +2,8 @@
 use Rattle.std.proofs.Common.{◌≡◌, ℕ, zero, suc, ◌+◌, ◌≤◌, Bool, true, false, cond, not, ◌||◌, List, [], ◌∷◌, ◌++◌, length, length-append, Option, Some, None, refl, sym, ap, ◌∙◌, subst, arith}
 use Rattle.std.specs.Prelude.{codes, is_some, nat_le, slice_get}
 use Rattle.std.proofs.lemmas.Bool.{leb-false, or_parts}
-use Rattle.base.specs.declared.faults.TheConstants.{DECLARED_TWICE, LIMIT_PASSED, WRONG_FUNCTION}
-use Rattle.base.specs.declared.limits.TheConstants.{FORMALS, TASK_PRIORITY}
+use Rattle.ada_link.specs.base.specs.declared.faults.TheConstants.{DECLARED_TWICE, LIMIT_PASSED, WRONG_FUNCTION}
+use Rattle.ada_link.specs.base.specs.declared.limits.TheConstants.{FORMALS, TASK_PRIORITY}
 use Rattle.ada_tree.specs.declared.declaration.Formal.{Formal}
 use Rattle.ada_tree.specs.declared.expression.Identifier.{Identifier}
 use Rattle.ada_tree.specs.StatementTree as operation
@@ -19,17 +19,17 @@ use Rattle.types.specs.Entities as entity
 use Rattle.types.specs.Scopes.{Scope, base_range_of, entity_at, form_at, from_integer, from_nothing, integer, integer_type, is_visible, profile_of, protected_of, standard, with_control_io, with_name, with_real_time}
 use Rattle.types.specs.Standings.{profile_among}
 use Rattle.types.specs.Standings as standings
-use Rattle.expr_rules.specs.Faults.{rule}
-use Rattle.expr_rules.proofs.TypedLaw.{back_empty, front_empty, unbroken}
-use Rattle.type_rules.specs.ObjectRules.{package_object_entity}
-use Rattle.type_rules.specs.ProfileRules.{formal_faults, formal_parameters, formals_faults, function_faults, has_wrong_formal, is_in, is_wrong_formal, profile_entity, profile_faults, profile_with, result_faults}
-use Rattle.type_rules.specs.SubtypeNames.{declared_twice, end_rule, is_composite, is_composite_form, subtype_faults, subtype_of}
-use Rattle.type_rules.specs.TypeRules.{definition_entity}
-use Rattle.declaring.specs.ProtectedRules.{object_components, object_operations, object_with, operation_and, operation_faults, operation_profile, operation_profile_faults, operations_faults, parts_faults, protected_entity}
-use Rattle.declaring.specs.TaskRules.{aspect_faults, default_priority, priority_of}
-use Rattle.legality.specs.BodyRules.{body_name_faults, function_body_faults, head_faults, own_name_faults}
-use Rattle.declaring.specs.PackageNames.{body_item_scope, clauses_scope}
-use Rattle.legality.specs.PackageBodyRules.{body_item_faults, body_items_faults}
+use Rattle.expr_soundness.specs.expr_rules.specs.Faults.{rule}
+use Rattle.expr_soundness.specs.expr_rules.proofs.TypedLaw.{back_empty, front_empty, unbroken}
+use Rattle.expr_soundness.specs.type_rules.specs.ObjectRules.{package_object_entity}
+use Rattle.expr_soundness.specs.type_rules.specs.ProfileRules.{formal_faults, formal_parameters, formals_faults, function_faults, has_wrong_formal, is_in, is_wrong_formal, profile_entity, profile_faults, profile_with, result_faults}
+use Rattle.expr_soundness.specs.type_rules.specs.SubtypeNames.{declared_twice, end_rule, is_composite, is_composite_form, subtype_faults, subtype_of}
+use Rattle.expr_soundness.specs.type_rules.specs.TypeRules.{definition_entity}
+use Rattle.program_soundness.specs.declaring.specs.ProtectedRules.{object_components, object_operations, object_with, operation_and, operation_faults, operation_profile, operation_profile_faults, operations_faults, parts_faults, protected_entity}
+use Rattle.program_soundness.specs.declaring.specs.TaskRules.{aspect_faults, default_priority, priority_of}
+use Rattle.program_soundness.specs.legality.specs.BodyRules.{body_name_faults, function_body_faults, head_faults, own_name_faults}
+use Rattle.program_soundness.specs.declaring.specs.PackageNames.{body_item_scope, clauses_scope}
+use Rattle.program_soundness.specs.legality.specs.PackageBodyRules.{body_item_faults, body_items_faults}
 use Rattle.expr_soundness.specs.Laws.{ScopesAreSound}
 use Rattle.expr_soundness.specs.SoundScopes.{SoundScope}
 use Rattle.expr_soundness.proofs.Growing.{grown, test_kept}

@@ -2,7 +2,7 @@
 use Rattle.std.proofs.Common.{◌≡◌, ℕ, zero, suc, ◌≤◌, Bool, true, false, ◌||◌, List, [], ◌∷◌, ◌++◌, map, Option, Some, None, refl, sym, ap, ◌∙◌, subst, arith}
 use Rattle.std.specs.Prelude.{bytes_eq, cond, is_some, slice_get}
 use Rattle.std.proofs.lemmas.Bool.{or_from}
-use Rattle.base.specs.declared.limits.TheConstants.{FRAME_WORDS, WORDS}
+use Rattle.ada_link.specs.base.specs.declared.limits.TheConstants.{FRAME_WORDS, WORDS}
 use Rattle.ada_tree.specs.declared.declaration.Formal.{Formal}
 use Rattle.ada_tree.specs.declared.declaration.Mode.{Mode}
 use Rattle.ada_tree.specs.declared.declaration.Mode.TheVariants as mode
@@ -18,12 +18,12 @@ use Rattle.types.specs.Layouts.{capped, words_of}
 use Rattle.types.specs.Places.{or_else}
 use Rattle.types.specs.Scopes.{Scope, standard}
 use Rattle.types.specs.Shapes.{words}
-use Rattle.expr_rules.proofs.TypedLaw.{back_empty, front_empty}
-use Rattle.type_rules.specs.ProfileRules.{formal_parameters, profile_entity}
-use Rattle.type_rules.specs.SubtypeNames.{subtype_in, subtype_of}
-use Rattle.declaring.specs.BodyNames.{formals_scope}
-use Rattle.declaring.specs.ItemRules.{item_scope, items_scope}
-use Rattle.declaring.specs.PackageNames.{body_item_scope, inside_scope}
+use Rattle.expr_soundness.specs.expr_rules.proofs.TypedLaw.{back_empty, front_empty}
+use Rattle.expr_soundness.specs.type_rules.specs.ProfileRules.{formal_parameters, profile_entity}
+use Rattle.expr_soundness.specs.type_rules.specs.SubtypeNames.{subtype_in, subtype_of}
+use Rattle.program_soundness.specs.declaring.specs.BodyNames.{formals_scope}
+use Rattle.program_soundness.specs.declaring.specs.ItemRules.{item_scope, items_scope}
+use Rattle.program_soundness.specs.declaring.specs.PackageNames.{body_item_scope, inside_scope}
 use Rattle.size_rules.specs.BodySizes.{body_things, formals_things, handlers_things, locals_things, stmts_things}
 use Rattle.size_rules.specs.BodySizes as size
 use Rattle.size_rules.specs.Laws.{WordsAddUp, counted_words}
@@ -33,8 +33,8 @@ use Rattle.size_rules.specs.PackageSizes.{frame_faults, package_inside, package_
 use Rattle.size_rules.specs.ProgramSizes.{declared_faults, label_faults, optional_size_faults, size_faults}
 use Rattle.checking.specs.ProgramLayouts.{WordsHaveRoom}
 use Rattle.checking.specs.ProgramRules.{IsLegal}
-use Rattle.ravenscar.specs.ProgramRules.{IsRestricted}
-use Rattle.meaning.specs.Programs.{program_of, returned, subtype_named}
+use Rattle.program_soundness.specs.ravenscar.specs.ProgramRules.{IsRestricted}
+use Rattle.expr_soundness.specs.meaning.specs.Programs.{program_of, returned, subtype_named}
 use Rattle.expr_soundness.specs.Laws.{ScopesAreSound}
 use Rattle.expr_soundness.specs.SoundScopes.{AreKnown, IsKnown, SoundScope}
 use Rattle.expr_soundness.proofs.Goods.{object_known}
@@ -48,14 +48,14 @@ use Rattle.program_soundness.proofs.Trees.{tree_package}
 use Rattle.program_soundness.proofs.Walked.{declares, one_of, own_profile, scope_next, stands_next}
 use Rattle.program_soundness.proofs.WiderScopes.{number_stands, stands}
 use Rattle.program_soundness.proofs.Whole.{IsPackage, kept}
-use Rattle.expr_code.specs.declared.visible.Visible.{Visible}
-use Rattle.stmt_code.specs.Refusing.{behind_locals, handlers_needs, in_body, run_needs, sequence_needs, stmts_needs}
-use Rattle.part_code.specs.Needs.{formals_frame, locals_needs, out_needs, outs_needs}
-use Rattle.stmt_code.specs.WholeRefusals.{formals_placed, formals_visible, procedure_needs}
-use Rattle.part_code.specs.declared.formals.PlacedFormal.{PlacedFormal}
-use Rattle.package_code.specs.Refusing.{function_if_any, item_needs, items_needs, seen_at, subprogram_needs}
-use Rattle.package_code.proofs.InFront.{known_inside}
-use Rattle.package_code.proofs.Seen.{one_behind}
+use Rattle.ada_link.specs.expr_code.specs.declared.visible.Visible.{Visible}
+use Rattle.ada_link.specs.stmt_code.specs.Refusing.{behind_locals, handlers_needs, in_body, run_needs, sequence_needs, stmts_needs}
+use Rattle.ada_link.specs.part_code.specs.Needs.{formals_frame, locals_needs, out_needs, outs_needs}
+use Rattle.ada_link.specs.stmt_code.specs.WholeRefusals.{formals_placed, formals_visible, procedure_needs}
+use Rattle.ada_link.specs.part_code.specs.declared.formals.PlacedFormal.{PlacedFormal}
+use Rattle.ada_link.specs.package_code.specs.Refusing.{function_if_any, item_needs, items_needs, seen_at, subprogram_needs}
+use Rattle.ada_link.specs.package_code.proofs.InFront.{known_inside}
+use Rattle.ada_link.specs.package_code.proofs.Seen.{one_behind}
 use Rattle.source_laws.specs.Visible.{FrontsKeepLimits, KeepsLimits, NothingIsUnfit}
 use Rattle.source_laws.proofs.CalleesSmall.{AreNamed, front_named, same_at}
 use Rattle.source_laws.proofs.CodeCounted.{behind, behind_is}

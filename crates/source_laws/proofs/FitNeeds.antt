@@ -12,22 +12,22 @@ use Rattle.types.specs.Entities.{Profile, Subprogram}
 use Rattle.types.specs.Laws.{ShapesStay}
 use Rattle.types.specs.Scopes.{Scope}
 use Rattle.types.specs.Shapes.{shape_of}
-use Rattle.type_rules.specs.SubtypeNames.{subtype_of}
-use Rattle.declaring.specs.LocalRules.{locals_scope}
+use Rattle.expr_soundness.specs.type_rules.specs.SubtypeNames.{subtype_of}
+use Rattle.program_soundness.specs.declaring.specs.LocalRules.{locals_scope}
 use Rattle.size_rules.specs.Laws.{WordsAddUp}
 use Rattle.size_rules.specs.BodySizes.{alternatives_things, elsifs_things, handlers_things, local_things, locals_things, stmt_things, stmts_things}
 use Rattle.program_soundness.proofs.WiderScopes.{stands_number}
-use Rattle.expr_code.specs.Refusing.{is_fit}
-use Rattle.expr_code.specs.Seeing.{profile_named}
-use Rattle.expr_code.specs.declared.visible.Visible.{Visible}
-use Rattle.part_code.specs.Bounds.{local_words}
-use Rattle.part_code.specs.Lines.{LabelledValue, line_of}
-use Rattle.part_code.specs.Moving.{moves}
-use Rattle.part_code.specs.Passing.{actuals_behind}
-use Rattle.stmt_code.specs.Refusing.{Standpoint, alternatives_needs, behind_locals, elsifs_needs, handlers_needs, head_needs, in_loop, inside_handler, needs_if_any, raise_needs, return_needs, stmt_needs, stmts_needs}
-use Rattle.part_code.specs.Needs.{Needs, actual_needs, actuals_needs, assignment_needs, both, call_needs, called_needs, choices_needs, copies_needs, destinations_of, has_unfit, in_out_needs, initial_needs, line_needs, local_needs, local_visible, locals_needs, locals_visible, moded_needs, move_needs, moves_needs, needs_by, object_needs, passed_needs, target_needs}
-use Rattle.part_code.specs.Suiting.{passed_width}
-use Rattle.part_code.specs.declared.call.Destination.{Destination}
+use Rattle.ada_link.specs.expr_code.specs.Refusing.{is_fit}
+use Rattle.ada_link.specs.expr_code.specs.Seeing.{profile_named}
+use Rattle.ada_link.specs.expr_code.specs.declared.visible.Visible.{Visible}
+use Rattle.ada_link.specs.part_code.specs.Bounds.{local_words}
+use Rattle.ada_link.specs.part_code.specs.Lines.{LabelledValue, line_of}
+use Rattle.ada_link.specs.part_code.specs.Moving.{moves}
+use Rattle.ada_link.specs.part_code.specs.Passing.{actuals_behind}
+use Rattle.ada_link.specs.stmt_code.specs.Refusing.{Standpoint, alternatives_needs, behind_locals, elsifs_needs, handlers_needs, head_needs, in_loop, inside_handler, needs_if_any, raise_needs, return_needs, stmt_needs, stmts_needs}
+use Rattle.ada_link.specs.part_code.specs.Needs.{Needs, actual_needs, actuals_needs, assignment_needs, both, call_needs, called_needs, choices_needs, copies_needs, destinations_of, has_unfit, in_out_needs, initial_needs, line_needs, local_needs, local_visible, locals_needs, locals_visible, moded_needs, move_needs, moves_needs, needs_by, object_needs, passed_needs, target_needs}
+use Rattle.ada_link.specs.part_code.specs.Suiting.{passed_width}
+use Rattle.ada_link.specs.part_code.specs.declared.call.Destination.{Destination}
 use Rattle.source_laws.proofs.CalleesSmall.{named_there}
 use Rattle.source_laws.proofs.FitScopes.{AreFew, FewThings, IsFew, IsInside, Serves, all_fit, few_back, few_fit, few_front, local_few, local_inside, locals_inside, loop_inside}
 

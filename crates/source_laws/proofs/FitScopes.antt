@@ -2,7 +2,7 @@
 use Rattle.std.proofs.Common.{◌≡◌, ℕ, suc, ◌+◌, ◌≤◌, ◌⊎◌, inl, inr, Bool, true, false, cond, not, List, [], ◌∷◌, ◌++◌, length, Option, Some, None, refl, sym, ap, ◌∙◌, subst, arith}
 use Rattle.std.specs.Prelude.{bytes_eq, is_some}
 use Rattle.std.proofs.lemmas.Bool.{or_from}
-use Rattle.base.specs.declared.limits.TheConstants.{FRAME_WORDS, TASK_PRIORITY, WORDS}
+use Rattle.ada_link.specs.base.specs.declared.limits.TheConstants.{FRAME_WORDS, TASK_PRIORITY, WORDS}
 use Rattle.ada_tree.specs.declared.declaration.Formal.{Formal}
 use Rattle.ada_tree.specs.declared.expression.Identifier.{Identifier}
 use Rattle.ada_tree.specs.StatementTree.{DeclarationTree, LocalObject, LocalProtected, LocalTask, ObjectTree, RangeTree}
@@ -16,13 +16,13 @@ use Rattle.types.specs.Layouts.{capped, words_of}
 use Rattle.types.specs.Places.{or_else}
 use Rattle.types.specs.Scopes.{Scope, base_range_of, entity_at, form_at, form_of, is_visible, with_name}
 use Rattle.types.specs.Shapes.{shape_of, words}
-use Rattle.expr_rules.specs.Typing.{is_integers, own_of}
-use Rattle.type_rules.specs.ObjectRules.{object_entity, role_of}
-use Rattle.type_rules.specs.SubtypeNames.{subtype_in, subtype_of}
-use Rattle.declaring.specs.BodyNames.{bounds_type, formal_role, formal_scope, formals_scope, if_integers, loop_scope, loop_type, parameter_entity}
-use Rattle.declaring.specs.LocalRules.{local_scope, locals_scope}
-use Rattle.declaring.specs.ProtectedRules.{object_components, object_operations, object_with, protected_entity}
-use Rattle.declaring.specs.TaskRules.{default_priority, priority_of}
+use Rattle.expr_soundness.specs.expr_rules.specs.Typing.{is_integers, own_of}
+use Rattle.expr_soundness.specs.type_rules.specs.ObjectRules.{object_entity, role_of}
+use Rattle.expr_soundness.specs.type_rules.specs.SubtypeNames.{subtype_in, subtype_of}
+use Rattle.program_soundness.specs.declaring.specs.BodyNames.{bounds_type, formal_role, formal_scope, formals_scope, if_integers, loop_scope, loop_type, parameter_entity}
+use Rattle.program_soundness.specs.declaring.specs.LocalRules.{local_scope, locals_scope}
+use Rattle.program_soundness.specs.declaring.specs.ProtectedRules.{object_components, object_operations, object_with, protected_entity}
+use Rattle.program_soundness.specs.declaring.specs.TaskRules.{default_priority, priority_of}
 use Rattle.size_rules.specs.BodySizes as size
 use Rattle.size_rules.specs.BodySizes.{formals_things, local_things, locals_things}
 use Rattle.size_rules.specs.Laws.{WordsAddUp, counted_words}
@@ -32,9 +32,9 @@ use Rattle.expr_soundness.proofs.Parts.{shape_by_form}
 use Rattle.expr_soundness.proofs.Positions.{entity_added}
 use Rattle.program_soundness.proofs.Listing.{same_some}
 use Rattle.program_soundness.proofs.WiderScopes.{form_with, stands, stands_with}
-use Rattle.expr_code.specs.Refusing.{is_fit}
-use Rattle.part_code.specs.Needs.{are_unfit, is_unfit}
-use Rattle.package_code.proofs.InFront.{known_inside}
+use Rattle.ada_link.specs.expr_code.specs.Refusing.{is_fit}
+use Rattle.ada_link.specs.part_code.specs.Needs.{are_unfit, is_unfit}
+use Rattle.ada_link.specs.package_code.proofs.InFront.{known_inside}
 use Rattle.source_laws.specs.Depths.{is_full}
 use Rattle.source_laws.proofs.CalleesSmall.{with_behind}
 use Rattle.source_laws.proofs.FullShapes.{full_fit}

@@ -3,19 +3,19 @@ use Rattle.std.proofs.Common.{◌≡◌, ℕ, zero, suc, ◌*◌, ◌≤◌, ◌
 use Rattle.std.specs.Prelude.{is_some, nat_eq, nat_le, slice_get}
 use Rattle.std.proofs.lemmas.Bool.{and_from, and_parts, le-leb}
 use Rattle.std.proofs.lemmas.Bool.Decides.{nat_tests}
-use Rattle.base.specs.declared.limits.TheConstants.{WORDS}
-use Rattle.image.specs.Rules.{is_block}
+use Rattle.ada_link.specs.base.specs.declared.limits.TheConstants.{WORDS}
+use Rattle.ada_link.specs.image.specs.Rules.{is_block}
 use Rattle.types.specs.declared.entity.RecordComponent.{RecordComponent}
 use Rattle.types.specs.declared.entity.Subtype.{Subtype}
 use Rattle.types.specs.Entities.{Arrays, Booleans, Integers, OfType, Records, Spans, Times, TypeForm}
 use Rattle.types.specs.Scopes.{Scope, base_range_of, entity_at, form_at}
 use Rattle.types.specs.Shapes.{Grouped, Logical, MoreShapes, NoShapes, Ranged, Repeated, Shape, Shapeless, Shapes, Timed, component_shapes, form_shape, narrowed, shape_of, shape_or_none, shapes, words, words_of_parts}
-use Rattle.expr_rules.proofs.TypeShapes.{type_entity}
+use Rattle.expr_soundness.specs.expr_rules.proofs.TypeShapes.{type_entity}
 use Rattle.expr_soundness.specs.SoundScopes.{AreEarlier, IsKnown, SoundScope}
 use Rattle.expr_soundness.proofs.Goods.{sound_form}
 use Rattle.expr_soundness.proofs.Parts.{before, shape_by_form}
-use Rattle.expr_code.specs.Refusing.{are_fit, is_fit}
-use Rattle.expr_code.proofs.Going.{grouped_shape, repeated_shape}
+use Rattle.ada_link.specs.expr_code.specs.Refusing.{are_fit, is_fit}
+use Rattle.ada_link.specs.expr_code.proofs.Going.{grouped_shape, repeated_shape}
 use Rattle.source_laws.specs.Depths.{are_full, is_full}
 use Rattle.source_laws.proofs.BoundedNames.{AreBounded, bounded_at, has_a_part}
 

@@ -11,19 +11,19 @@ use Rattle.types.specs.declared.standing.Standing.{Standing}
 use Rattle.types.specs.declared.standing.Standing.TheVariants as standing
 use Rattle.types.specs.Scopes.{Scope}
 use Rattle.types.specs.Standings.{standing_of}
-use Rattle.expr_rules.specs.declared.own.Wanted.{Wanted}
-use Rattle.expr_rules.specs.declared.own.Wanted.TheVariants.{Anything}
-use Rattle.expr_rules.specs.ExpressionRules.{elsif_faults, faults_of, name_faults, target_faults}
-use Rattle.expr_rules.specs.NameRules.{variable_rule}
-use Rattle.expr_rules.specs.Typing.{boolean_wanted, own_of_standing, typed_wanted}
-use Rattle.expr_rules.proofs.TypedLaw.{back_empty, front_empty}
-use Rattle.stmt_rules.specs.SimpleRules.{assigned_wanted, assignment_faults}
-use Rattle.expr_code.specs.Emitting.{IsLegalExpression}
-use Rattle.expr_code.specs.Refusing.{peak}
-use Rattle.expr_code.specs.Widths.{AreWide, width_of}
-use Rattle.expr_code.specs.declared.visible.Visible.{Visible}
-use Rattle.part_code.specs.Moving.{moves}
-use Rattle.part_code.specs.Needs.{Needs, address_needs, assigned_needs, assignment_needs, beyond, both, has_unfit, move_needs, moves_needs, needs_above, needs_by, words_at}
+use Rattle.expr_soundness.specs.expr_rules.specs.declared.own.Wanted.{Wanted}
+use Rattle.expr_soundness.specs.expr_rules.specs.declared.own.Wanted.TheVariants.{Anything}
+use Rattle.expr_soundness.specs.expr_rules.specs.ExpressionRules.{elsif_faults, faults_of, name_faults, target_faults}
+use Rattle.expr_soundness.specs.expr_rules.specs.NameRules.{variable_rule}
+use Rattle.expr_soundness.specs.expr_rules.specs.Typing.{boolean_wanted, own_of_standing, typed_wanted}
+use Rattle.expr_soundness.specs.expr_rules.proofs.TypedLaw.{back_empty, front_empty}
+use Rattle.program_soundness.specs.stmt_rules.specs.SimpleRules.{assigned_wanted, assignment_faults}
+use Rattle.ada_link.specs.expr_code.specs.Emitting.{IsLegalExpression}
+use Rattle.ada_link.specs.expr_code.specs.Refusing.{peak}
+use Rattle.ada_link.specs.expr_code.specs.Widths.{AreWide, width_of}
+use Rattle.ada_link.specs.expr_code.specs.declared.visible.Visible.{Visible}
+use Rattle.ada_link.specs.part_code.specs.Moving.{moves}
+use Rattle.ada_link.specs.part_code.specs.Needs.{Needs, address_needs, assigned_needs, assignment_needs, beyond, both, has_unfit, move_needs, moves_needs, needs_above, needs_by, words_at}
 use Rattle.source_laws.specs.Depths.{AreStored, IsSmallScope}
 use Rattle.source_laws.proofs.PeakSlots.{IsPath, begins, name_path, value_path}
 use Rattle.source_laws.proofs.Peaks.{conditional_parts, inside_legal, legal_of, listed, spelled_parts}

@@ -8,23 +8,23 @@ use Rattle.ada_tree.specs.Language.{Limit, Tokens}
 use Rattle.ada_tree.specs.ProgramGrammar.{body}
 use Rattle.ada_tree.specs.ProgramTree.{BodyTree}
 use Rattle.ada_tree.specs.Size.{total}
-use Rattle.expr_rules.specs.declared.own.Wanted.TheVariants.{OfType}
-use Rattle.expr_rules.proofs.TypedLaw.{back_empty, front_empty}
-use Rattle.declaring.specs.LocalRules.{locals_faults, locals_scope}
-use Rattle.stmt_rules.specs.declared.around.BodyKind.{BodyKind}
-use Rattle.stmt_rules.specs.StatementRules.{in_body, more_handlers_faults, stmts_faults}
-use Rattle.legality.specs.BodyRules.{body_faults}
+use Rattle.expr_soundness.specs.expr_rules.specs.declared.own.Wanted.TheVariants.{OfType}
+use Rattle.expr_soundness.specs.expr_rules.proofs.TypedLaw.{back_empty, front_empty}
+use Rattle.program_soundness.specs.declaring.specs.LocalRules.{locals_faults, locals_scope}
+use Rattle.program_soundness.specs.stmt_rules.specs.declared.around.BodyKind.{BodyKind}
+use Rattle.program_soundness.specs.stmt_rules.specs.StatementRules.{in_body, more_handlers_faults, stmts_faults}
+use Rattle.program_soundness.specs.legality.specs.BodyRules.{body_faults}
 use Rattle.expr_soundness.proofs.Expressions.{not_false}
-use Rattle.expr_code.specs.Refusing.{is_outside, is_passable}
-use Rattle.expr_code.specs.declared.visible.Visible.{Visible}
-use Rattle.expr_code.proofs.Widths.{fit_width}
-use Rattle.part_code.specs.Bounds.{body_words, handlers_words, locals_words, stmts_words}
-use Rattle.part_code.specs.Formals.{passed_for, slot_for}
-use Rattle.part_code.specs.Needs.{Needs, all_given, are_wordless, both, formals_frame, formals_needs, locals_needs, outs_needs, stacked}
-use Rattle.stmt_code.specs.Refusing.{behind_locals, handlers_needs, run_needs, sequence_needs, stmts_needs}
-use Rattle.stmt_code.specs.Refusing as code
-use Rattle.stmt_code.specs.WholeRefusals.{formals_placed, formals_visible, returned_needs}
-use Rattle.stmt_code.proofs.Refused.{locals_seen}
+use Rattle.ada_link.specs.expr_code.specs.Refusing.{is_outside, is_passable}
+use Rattle.ada_link.specs.expr_code.specs.declared.visible.Visible.{Visible}
+use Rattle.ada_link.specs.expr_code.proofs.Widths.{fit_width}
+use Rattle.ada_link.specs.part_code.specs.Bounds.{body_words, handlers_words, locals_words, stmts_words}
+use Rattle.ada_link.specs.part_code.specs.Formals.{passed_for, slot_for}
+use Rattle.ada_link.specs.part_code.specs.Needs.{Needs, all_given, are_wordless, both, formals_frame, formals_needs, locals_needs, outs_needs, stacked}
+use Rattle.ada_link.specs.stmt_code.specs.Refusing.{behind_locals, handlers_needs, run_needs, sequence_needs, stmts_needs}
+use Rattle.ada_link.specs.stmt_code.specs.Refusing as code
+use Rattle.ada_link.specs.stmt_code.specs.WholeRefusals.{formals_placed, formals_visible, returned_needs}
+use Rattle.ada_link.specs.stmt_code.proofs.Refused.{locals_seen}
 use Rattle.source_laws.specs.Depths.{FunctionsHaveRoom, IsSmallVisible, ProceduresHaveRoom}
 use Rattle.source_laws.proofs.NeedsBounds.{Fits, IsLow, both_fit, both_low, fits_more, outside_left, outside_right}
 use Rattle.source_laws.proofs.NeedsFormals.{formals_held, frame_few, given_few, have_words, outs_fit, outs_frame, outs_low, small_formals}

@@ -2,7 +2,7 @@
 use Rattle.std.proofs.Common.{◌≡◌, ◌≤◌, ◌+◌, ◌*◌, ℕ, suc, max, false, refl, arith}
 use Rattle.std.proofs.Math.Nat.{max-le}
 use Rattle.std.proofs.lemmas.Bool.{or_from, or_parts}
-use Rattle.part_code.specs.Needs.{Needs, beyond, both, nothing}
+use Rattle.ada_link.specs.part_code.specs.Needs.{Needs, beyond, both, nothing}
 use Rattle.source_laws.proofs.PeakBounds.{through}
 
 -- ---- tests

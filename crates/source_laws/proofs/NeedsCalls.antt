@@ -3,7 +3,7 @@ use Rattle.std.proofs.Common.{◌≡◌, ◌≤◌, ◌++◌, ◌+◌, ◌*◌, 
 use Rattle.std.specs.Prelude.{⊤, is_none, nat_eq, slice_get}
 use Rattle.std.proofs.Math.Nat.{max-le}
 use Rattle.std.proofs.lemmas.Bool.{or_from, or_parts}
-use Rattle.base.specs.declared.faults.TheConstants.{NOT_A_VARIABLE, NO_MEANING}
+use Rattle.ada_link.specs.base.specs.declared.faults.TheConstants.{NOT_A_VARIABLE, NO_MEANING}
 use Rattle.ada_tree.specs.declared.declaration.Mode.{Mode}
 use Rattle.ada_tree.specs.declared.declaration.Mode.TheVariants as mode
 use Rattle.ada_tree.specs.declared.expression.Identifier.{Identifier}
@@ -23,30 +23,30 @@ use Rattle.types.specs.Layouts.{words_of}
 use Rattle.types.specs.Scopes.{Scope, base_range_of, form_at, integer_type, number_of, profile_of}
 use Rattle.types.specs.Shapes.{shape_of}
 use Rattle.types.specs.Standings.{callee_profile, standing_of, stands_first, stands_for}
-use Rattle.expr_rules.specs.declared.names.Slot.{Slot}
-use Rattle.expr_rules.specs.declared.names.Slot.TheVariants.{Expects, Takes}
-use Rattle.expr_rules.specs.declared.own.Own.TheVariants.{Typed}
-use Rattle.expr_rules.specs.declared.own.Wanted.TheVariants.{OfType}
-use Rattle.expr_rules.specs.ExpressionRules.{argument_faults, arguments_faults, call_faults, faults_in, name_faults, selector_faults, selectors_faults}
-use Rattle.expr_rules.specs.NameRules.{actual_rule, call_rule, formal_slot_or, is_changeable, mismatch, part_rule, profile_formals, slot_at, variable_rule}
-use Rattle.expr_rules.specs.Faults.{rule}
-use Rattle.expr_rules.specs.Typing.{is_integers}
-use Rattle.expr_rules.proofs.TypedLaw.{back_empty, front_empty, same_number, unbroken}
-use Rattle.type_rules.specs.SubtypeNames.{entity_at_or_none}
+use Rattle.expr_soundness.specs.expr_rules.specs.declared.names.Slot.{Slot}
+use Rattle.expr_soundness.specs.expr_rules.specs.declared.names.Slot.TheVariants.{Expects, Takes}
+use Rattle.expr_soundness.specs.expr_rules.specs.declared.own.Own.TheVariants.{Typed}
+use Rattle.expr_soundness.specs.expr_rules.specs.declared.own.Wanted.TheVariants.{OfType}
+use Rattle.expr_soundness.specs.expr_rules.specs.ExpressionRules.{argument_faults, arguments_faults, call_faults, faults_in, name_faults, selector_faults, selectors_faults}
+use Rattle.expr_soundness.specs.expr_rules.specs.NameRules.{actual_rule, call_rule, formal_slot_or, is_changeable, mismatch, part_rule, profile_formals, slot_at, variable_rule}
+use Rattle.expr_soundness.specs.expr_rules.specs.Faults.{rule}
+use Rattle.expr_soundness.specs.expr_rules.specs.Typing.{is_integers}
+use Rattle.expr_soundness.specs.expr_rules.proofs.TypedLaw.{back_empty, front_empty, same_number, unbroken}
+use Rattle.expr_soundness.specs.type_rules.specs.SubtypeNames.{entity_at_or_none}
 use Rattle.expr_soundness.specs.SoundScopes.{AreKnown}
 use Rattle.expr_soundness.proofs.Expressions.{not_false}
-use Rattle.step_soundness.specs.Fitting.{entity_named}
-use Rattle.expr_code.specs.Emitting.{IsLegalExpression}
-use Rattle.expr_code.specs.Refusing.{is_fit}
-use Rattle.expr_code.specs.Seeing.{NamesProfile, profile_named, slot_of, subprogram_of}
-use Rattle.expr_code.specs.declared.visible.Slot as visible
-use Rattle.expr_code.specs.declared.visible.Visible.{Visible}
-use Rattle.expr_code.proofs.Widths.{integral_one, words_by_type}
-use Rattle.part_code.specs.Lines.{LabelledValue, is_put, line_behind, line_in, line_of}
-use Rattle.part_code.specs.Passing.{actuals_behind, copied_width}
-use Rattle.part_code.specs.Needs.{Needs, actual_needs, actuals_needs, address_needs, beyond_if, both, call_needs, called_needs, check_words, copies_needs, copy_needs, destination_at, destinations_for, destinations_named, destinations_of, has_unfit, in_needs, in_out_needs, line_needs, passed_needs, stacked, target_needs, words_at}
-use Rattle.part_code.specs.Suiting.{passed_width, returned_width}
-use Rattle.part_code.specs.declared.call.Destination.{Destination}
+use Rattle.program_soundness.specs.step_soundness.specs.Fitting.{entity_named}
+use Rattle.ada_link.specs.expr_code.specs.Emitting.{IsLegalExpression}
+use Rattle.ada_link.specs.expr_code.specs.Refusing.{is_fit}
+use Rattle.ada_link.specs.expr_code.specs.Seeing.{NamesProfile, profile_named, slot_of, subprogram_of}
+use Rattle.ada_link.specs.expr_code.specs.declared.visible.Slot as visible
+use Rattle.ada_link.specs.expr_code.specs.declared.visible.Visible.{Visible}
+use Rattle.ada_link.specs.expr_code.proofs.Widths.{integral_one, words_by_type}
+use Rattle.ada_link.specs.part_code.specs.Lines.{LabelledValue, is_put, line_behind, line_in, line_of}
+use Rattle.ada_link.specs.part_code.specs.Passing.{actuals_behind, copied_width}
+use Rattle.ada_link.specs.part_code.specs.Needs.{Needs, actual_needs, actuals_needs, address_needs, beyond_if, both, call_needs, called_needs, check_words, copies_needs, copy_needs, destination_at, destinations_for, destinations_named, destinations_of, has_unfit, in_needs, in_out_needs, line_needs, passed_needs, stacked, target_needs, words_at}
+use Rattle.ada_link.specs.part_code.specs.Suiting.{passed_width, returned_width}
+use Rattle.ada_link.specs.part_code.specs.declared.call.Destination.{Destination}
 use Rattle.source_laws.specs.Depths.{IsSmallScope, formals_take}
 use Rattle.source_laws.proofs.PeakBounds.{through}
 use Rattle.source_laws.proofs.PeakSlots.{IsPath, begins, slot_by, slot_width, value_path}

@@ -12,18 +12,18 @@ use Rattle.types.specs.declared.entity.Subtype.{Subtype}
 use Rattle.types.specs.Entities.{Object}
 use Rattle.types.specs.Layouts.{words_of}
 use Rattle.types.specs.Scopes.{Named, Scope, is_visible, with_name}
-use Rattle.type_rules.specs.ObjectRules.{object_entity}
-use Rattle.type_rules.specs.SubtypeNames.{subtype_of}
-use Rattle.declaring.specs.BodyNames.{formal_role, formal_scope, formals_scope}
+use Rattle.expr_soundness.specs.type_rules.specs.ObjectRules.{object_entity}
+use Rattle.expr_soundness.specs.type_rules.specs.SubtypeNames.{subtype_of}
+use Rattle.program_soundness.specs.declaring.specs.BodyNames.{formal_role, formal_scope, formals_scope}
 use Rattle.expr_soundness.specs.SoundScopes.{IsKnown, IsSoundObject}
 use Rattle.expr_soundness.proofs.Growing.{object_named}
 use Rattle.expr_soundness.proofs.Widening.{subtype_known}
-use Rattle.expr_code.specs.declared.visible.Visible.{Visible}
-use Rattle.part_code.specs.Bounds.{formals_words, words_if_any, words_named}
-use Rattle.part_code.specs.Formals.{slot_for}
-use Rattle.part_code.specs.Needs.{all_given, are_wordless, formals_frame, is_wordless, outs_needs}
-use Rattle.stmt_code.specs.WholeRefusals.{from_behind, out_behind, placed_formals, placed_if}
-use Rattle.part_code.specs.declared.formals.PlacedFormal.{PlacedFormal}
+use Rattle.ada_link.specs.expr_code.specs.declared.visible.Visible.{Visible}
+use Rattle.ada_link.specs.part_code.specs.Bounds.{formals_words, words_if_any, words_named}
+use Rattle.ada_link.specs.part_code.specs.Formals.{slot_for}
+use Rattle.ada_link.specs.part_code.specs.Needs.{all_given, are_wordless, formals_frame, is_wordless, outs_needs}
+use Rattle.ada_link.specs.stmt_code.specs.WholeRefusals.{from_behind, out_behind, placed_formals, placed_if}
+use Rattle.ada_link.specs.part_code.specs.declared.formals.PlacedFormal.{PlacedFormal}
 use Rattle.source_laws.specs.Depths.{AreStored, IsSmallScope}
 use Rattle.source_laws.proofs.NeedsScopes.{few_words, small_named, subtype_kept, words_kept}
 

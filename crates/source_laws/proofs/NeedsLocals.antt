@@ -2,7 +2,7 @@
 use Rattle.std.proofs.Common.{◌≡◌, ◌≤◌, ◌+◌, ◌*◌, ◌++◌, ℕ, max, [], ◌∷◌, List, true, false, not, Option, Some, None, refl, ap, subst, arith}
 use Rattle.std.proofs.Math.Nat.{le-max_left, le-max_right}
 use Rattle.std.proofs.lemmas.Bool.{or_from}
-use Rattle.base.specs.declared.faults.TheConstants.{NOT_STATIC}
+use Rattle.ada_link.specs.base.specs.declared.faults.TheConstants.{NOT_STATIC}
 use Rattle.ada_tree.specs.Depth.{declaration_depth, deepest, depth_if_any, expr_depth, object_depth}
 use Rattle.ada_tree.specs.ExpressionTree.{ExprTree}
 use Rattle.ada_tree.specs.Language.{Limit, Tokens, each, optional}
@@ -12,19 +12,19 @@ use Rattle.types.specs.declared.entity.Subtype.{Subtype}
 use Rattle.types.specs.Layouts.{words_of}
 use Rattle.types.specs.Scopes.{Scope}
 use Rattle.types.specs.Shapes.{shape_of}
-use Rattle.expr_rules.specs.declared.own.Wanted.{Wanted}
-use Rattle.expr_rules.specs.declared.own.Wanted.TheVariants.{OfType}
-use Rattle.expr_rules.specs.ExpressionRules.{faults_of}
-use Rattle.expr_rules.specs.Faults.{Faults, rule}
-use Rattle.expr_rules.proofs.TypedLaw.{back_empty, front_empty}
-use Rattle.type_rules.specs.ObjectRules.{local_initial_faults, local_object_faults}
-use Rattle.type_rules.specs.SubtypeNames.{declared_twice, subtype_faults, subtype_of, wanted_by}
-use Rattle.declaring.specs.LocalRules.{local_faults, local_scope, locals_faults}
+use Rattle.expr_soundness.specs.expr_rules.specs.declared.own.Wanted.{Wanted}
+use Rattle.expr_soundness.specs.expr_rules.specs.declared.own.Wanted.TheVariants.{OfType}
+use Rattle.expr_soundness.specs.expr_rules.specs.ExpressionRules.{faults_of}
+use Rattle.expr_soundness.specs.expr_rules.specs.Faults.{Faults, rule}
+use Rattle.expr_soundness.specs.expr_rules.proofs.TypedLaw.{back_empty, front_empty}
+use Rattle.expr_soundness.specs.type_rules.specs.ObjectRules.{local_initial_faults, local_object_faults}
+use Rattle.expr_soundness.specs.type_rules.specs.SubtypeNames.{declared_twice, subtype_faults, subtype_of, wanted_by}
+use Rattle.program_soundness.specs.declaring.specs.LocalRules.{local_faults, local_scope, locals_faults}
 use Rattle.expr_soundness.proofs.Widening.{subtype_known}
-use Rattle.expr_code.specs.Refusing.{is_fit, peak}
-use Rattle.expr_code.specs.declared.visible.Visible.{Visible}
-use Rattle.part_code.specs.Bounds.{local_words, locals_words, words_if_any}
-use Rattle.part_code.specs.Needs.{framed, has_unfit, initial_needs, local_needs, local_visible, locals_needs, locals_visible, object_needs}
+use Rattle.ada_link.specs.expr_code.specs.Refusing.{is_fit, peak}
+use Rattle.ada_link.specs.expr_code.specs.declared.visible.Visible.{Visible}
+use Rattle.ada_link.specs.part_code.specs.Bounds.{local_words, locals_words, words_if_any}
+use Rattle.ada_link.specs.part_code.specs.Needs.{framed, has_unfit, initial_needs, local_needs, local_visible, locals_needs, locals_visible, object_needs}
 use Rattle.source_laws.specs.Depths.{IsSmallScope, IsSmallVisible}
 use Rattle.source_laws.proofs.NeedsBounds.{Fits, both_fit, fits_more, nothing_fits, outside_left, outside_right, stack_fits, value_bound}
 use Rattle.source_laws.proofs.NeedsScopes.{few_words, one_held, small_local}

@@ -2,7 +2,7 @@
 use Rattle.std.proofs.Common.{◌≡◌, ◌≤◌, ◌++◌, ℕ, suc, [], List, Bool, true, false, ◌&&◌, ◌||◌, not, Option, Some, None, refl, sym, ap, ◌∙◌, subst, arith}
 use Rattle.std.specs.Prelude.{cond, nat_le}
 use Rattle.std.proofs.lemmas.Bool.{and_from, and_parts, or_parts}
-use Rattle.base.specs.declared.faults.TheConstants.{NO_MEANING}
+use Rattle.ada_link.specs.base.specs.declared.faults.TheConstants.{NO_MEANING}
 use Rattle.ada_tree.specs.ExpressionTree.{Arguments, Attribute, Component, Conditional, ElsifValueTrees, ExprTree, MoreElsifValues, MoreSelectors, Named, NameTree, NoElsifValues, NoSelectors, SelectorTree, SelectorTrees}
 use Rattle.ada_tree.specs.ExpressionTree as tree
 use Rattle.types.specs.declared.entity.Role.{Role}
@@ -13,27 +13,27 @@ use Rattle.types.specs.Entities.{Arrays, Booleans, Integers, Records, Spans, Tim
 use Rattle.types.specs.Layouts.{words_of}
 use Rattle.types.specs.Scopes.{Scope, form_at, number_of}
 use Rattle.types.specs.Standings.{element_stands, is_single, object_attribute, select, select_all, standing_of, stands_first}
-use Rattle.expr_rules.specs.declared.own.Own.TheVariants.{Typed}
-use Rattle.expr_rules.specs.declared.own.Wanted.{Wanted}
-use Rattle.expr_rules.specs.declared.own.Wanted.TheVariants.{Anything, OfType}
-use Rattle.expr_rules.specs.ExpressionRules.{elsif_faults, faults_of, name_faults, selector_faults, selectors_faults, target_faults}
-use Rattle.expr_rules.specs.NameRules.{component_rule, is_doubtful, part_rule, variable_rule}
-use Rattle.expr_rules.specs.Typing.{boolean_wanted, is_booleans, is_integers, own_of_standing, typed_wanted}
-use Rattle.expr_rules.proofs.TypedLaw.{back_empty, front_empty, unbroken}
-use Rattle.stmt_rules.specs.SimpleRules.{assigned_wanted, assignment_faults}
+use Rattle.expr_soundness.specs.expr_rules.specs.declared.own.Own.TheVariants.{Typed}
+use Rattle.expr_soundness.specs.expr_rules.specs.declared.own.Wanted.{Wanted}
+use Rattle.expr_soundness.specs.expr_rules.specs.declared.own.Wanted.TheVariants.{Anything, OfType}
+use Rattle.expr_soundness.specs.expr_rules.specs.ExpressionRules.{elsif_faults, faults_of, name_faults, selector_faults, selectors_faults, target_faults}
+use Rattle.expr_soundness.specs.expr_rules.specs.NameRules.{component_rule, is_doubtful, part_rule, variable_rule}
+use Rattle.expr_soundness.specs.expr_rules.specs.Typing.{boolean_wanted, is_booleans, is_integers, own_of_standing, typed_wanted}
+use Rattle.expr_soundness.specs.expr_rules.proofs.TypedLaw.{back_empty, front_empty, unbroken}
+use Rattle.program_soundness.specs.stmt_rules.specs.SimpleRules.{assigned_wanted, assignment_faults}
 use Rattle.expr_soundness.specs.SoundScopes.{SoundScope}
 use Rattle.expr_soundness.proofs.Expressions.{not_false}
 use Rattle.expr_soundness.proofs.Goods.{part_unbroken}
-use Rattle.expr_code.specs.Emitting.{IsLegalExpression, is_composite}
-use Rattle.expr_code.specs.Refusing.{elsifs_outside, is_outside, selectors_outside}
-use Rattle.expr_code.specs.Seeing.{slot_of}
-use Rattle.expr_code.specs.Widths.{AreWide, width_of}
-use Rattle.expr_code.specs.declared.visible.Slot.{Slot}
-use Rattle.expr_code.specs.declared.visible.Visible.{Visible}
-use Rattle.expr_code.proofs.Fitting.{composite_width}
-use Rattle.expr_code.proofs.Widths.{binary_width, boolean_one, integral_one, unary_width, words_by_type}
-use Rattle.part_code.specs.Moving.{are_moved, is_held, is_moved, moves, names_composite}
-use Rattle.part_code.specs.Needs.{address_needs, assigned_needs, is_object, is_stored, is_taken, stored_needs, takes_value, words_at}
+use Rattle.ada_link.specs.expr_code.specs.Emitting.{IsLegalExpression, is_composite}
+use Rattle.ada_link.specs.expr_code.specs.Refusing.{elsifs_outside, is_outside, selectors_outside}
+use Rattle.ada_link.specs.expr_code.specs.Seeing.{slot_of}
+use Rattle.ada_link.specs.expr_code.specs.Widths.{AreWide, width_of}
+use Rattle.ada_link.specs.expr_code.specs.declared.visible.Slot.{Slot}
+use Rattle.ada_link.specs.expr_code.specs.declared.visible.Visible.{Visible}
+use Rattle.ada_link.specs.expr_code.proofs.Fitting.{composite_width}
+use Rattle.ada_link.specs.expr_code.proofs.Widths.{binary_width, boolean_one, integral_one, unary_width, words_by_type}
+use Rattle.ada_link.specs.part_code.specs.Moving.{are_moved, is_held, is_moved, moves, names_composite}
+use Rattle.ada_link.specs.part_code.specs.Needs.{address_needs, assigned_needs, is_object, is_stored, is_taken, stored_needs, takes_value, words_at}
 use Rattle.source_laws.specs.Depths.{IsSmallVisible}
 use Rattle.source_laws.proofs.NeedsBounds.{outside_left, outside_right}
 use Rattle.source_laws.proofs.NeedsNames.{named_source}

@@ -5,7 +5,7 @@ use Rattle.std.proofs.lemmas.Bool.{and_parts, or_parts}
 use Rattle.ada_tree.specs.declared.expression.Identifier.{Identifier}
 use Rattle.ada_tree.specs.ExpressionTree.{Arguments, Attribute, Component, MoreSelectors, NoSelectors, SelectorTree, SelectorTrees}
 use Rattle.ada_tree.specs.ExpressionTree as tree
-use Rattle.base.specs.declared.faults.TheConstants.{NAME_NOT_VISIBLE}
+use Rattle.ada_link.specs.base.specs.declared.faults.TheConstants.{NAME_NOT_VISIBLE}
 use Rattle.types.specs.declared.entity.Role.{Role}
 use Rattle.types.specs.declared.entity.Role.TheVariants as role
 use Rattle.types.specs.declared.entity.Subtype.{Subtype}
@@ -18,28 +18,28 @@ use Rattle.types.specs.Evaluating.{fixed_value}
 use Rattle.types.specs.Layouts.{words_of}
 use Rattle.types.specs.Scopes.{Scope, form_at, is_visible, number_of, profile_of}
 use Rattle.types.specs.Standings.{array_attribute, bounds_stand, call_stands, callee_profile, component_of, component_stands, conversion_stands, element_stands, is_single, object_attribute, part_of, result_stands, select, select_all, standing_of, stands_first, stands_for, subtype_attribute}
-use Rattle.expr_rules.specs.ExpressionRules.{selector_faults, selectors_faults}
-use Rattle.expr_rules.specs.Faults.{rule}
-use Rattle.expr_rules.specs.NameRules.{value_rule}
-use Rattle.expr_rules.specs.Typing.{is_integers, own_of_standing}
-use Rattle.expr_rules.specs.declared.own.Own.TheVariants.{Typed}
-use Rattle.expr_rules.proofs.TypedLaw.{front_empty, same_number, unbroken}
+use Rattle.expr_soundness.specs.expr_rules.specs.ExpressionRules.{selector_faults, selectors_faults}
+use Rattle.expr_soundness.specs.expr_rules.specs.Faults.{rule}
+use Rattle.expr_soundness.specs.expr_rules.specs.NameRules.{value_rule}
+use Rattle.expr_soundness.specs.expr_rules.specs.Typing.{is_integers, own_of_standing}
+use Rattle.expr_soundness.specs.expr_rules.specs.declared.own.Own.TheVariants.{Typed}
+use Rattle.expr_soundness.specs.expr_rules.proofs.TypedLaw.{front_empty, same_number, unbroken}
 use Rattle.expr_soundness.specs.SoundScopes.{IsSoundConstant, SoundScope}
 use Rattle.expr_soundness.proofs.Expressions.{not_false}
 use Rattle.expr_soundness.proofs.Goods.{no_constant_parts, no_integer_parts, part_unbroken}
 use Rattle.expr_soundness.proofs.Positions.{IsNamed, named}
-use Rattle.expr_code.specs.Emitting.{IsLegalExpression}
-use Rattle.expr_code.specs.Entries.{entry_at}
-use Rattle.expr_code.specs.Refusing.{are_passable, is_callable, is_called, is_made, is_outside, selectors_outside}
-use Rattle.expr_code.specs.Refusing as refusing
-use Rattle.expr_code.specs.Seeing.{profile_named, slot_of, subprogram_of, subprogram_profile}
-use Rattle.expr_code.specs.Widths.{own_words, width_of}
-use Rattle.expr_code.specs.declared.visible.Slot.{Slot}
-use Rattle.expr_code.specs.declared.visible.Visible.{Visible}
-use Rattle.expr_code.proofs.Widths.{fixed_width, integral_one, words_by_type}
-use Rattle.part_code.specs.Moving.{source_at, source_by, variable_at}
-use Rattle.part_code.specs.Passing.{holds_variables}
-use Rattle.part_code.specs.declared.moving.Source.{Source}
+use Rattle.ada_link.specs.expr_code.specs.Emitting.{IsLegalExpression}
+use Rattle.ada_link.specs.expr_code.specs.Entries.{entry_at}
+use Rattle.ada_link.specs.expr_code.specs.Refusing.{are_passable, is_callable, is_called, is_made, is_outside, selectors_outside}
+use Rattle.ada_link.specs.expr_code.specs.Refusing as refusing
+use Rattle.ada_link.specs.expr_code.specs.Seeing.{profile_named, slot_of, subprogram_of, subprogram_profile}
+use Rattle.ada_link.specs.expr_code.specs.Widths.{own_words, width_of}
+use Rattle.ada_link.specs.expr_code.specs.declared.visible.Slot.{Slot}
+use Rattle.ada_link.specs.expr_code.specs.declared.visible.Visible.{Visible}
+use Rattle.ada_link.specs.expr_code.proofs.Widths.{fixed_width, integral_one, words_by_type}
+use Rattle.ada_link.specs.part_code.specs.Moving.{source_at, source_by, variable_at}
+use Rattle.ada_link.specs.part_code.specs.Passing.{holds_variables}
+use Rattle.ada_link.specs.part_code.specs.declared.moving.Source.{Source}
 use Rattle.source_laws.specs.Depths.{AreStored, IsSmallVisible}
 use Rattle.source_laws.proofs.NeedsScopes.{profile_by}
 use Rattle.source_laws.proofs.PeakSlots.{IsPath, value_path}

@@ -1,10 +1,10 @@
 -- What is visible in a small source is small also where an object, a loop parameter or formals are visible besides.
 use Rattle.std.proofs.Common.{◌≡◌, ◌≤◌, ◌++◌, inl, inr, ◌+◌, ℕ, [], ◌∷◌, List, Bool, true, false, Option, Some, None, refl, sym, ap, ◌∙◌, subst, arith}
 use Rattle.std.specs.Prelude.{cond}
-use Rattle.base.specs.declared.limits.TheConstants.{WORDS}
+use Rattle.ada_link.specs.base.specs.declared.limits.TheConstants.{WORDS}
 use Rattle.ada_tree.specs.declared.expression.Identifier.{Identifier}
 use Rattle.ada_tree.specs.StatementTree.{ObjectTree, RangeTree}
-use Rattle.image.specs.declared.instruction.Region.TheVariants as regions
+use Rattle.ada_link.specs.image.specs.declared.instruction.Region.TheVariants as regions
 use Rattle.types.specs.declared.entity.FormalParameter.{FormalParameter}
 use Rattle.types.specs.declared.entity.Role.{Role}
 use Rattle.types.specs.declared.entity.Role.TheVariants as role
@@ -17,24 +17,24 @@ use Rattle.types.specs.Scopes.{Scope, base_range_of, entity_at, entity_of, form_
 use Rattle.types.specs.Shapes.{words}
 use Rattle.types.specs.Standings.{callee_profile, profile_among}
 use Rattle.types.specs.Statics.{start_of}
-use Rattle.expr_rules.specs.declared.own.Own.{Own}
-use Rattle.expr_rules.specs.declared.own.Own.TheVariants.{Typed, Universal, Unknown}
-use Rattle.expr_rules.specs.declared.own.Wanted.TheVariants.{AnyInteger}
-use Rattle.expr_rules.specs.ExpressionRules.{faults_in, faults_of}
-use Rattle.expr_rules.specs.NameRules.{mismatch}
-use Rattle.expr_rules.specs.Typing.{is_integers, is_integral, own_of}
-use Rattle.expr_rules.proofs.TypedLaw.{back_empty, front_empty}
-use Rattle.type_rules.specs.ObjectRules.{local_object_scope, object_entity, role_of}
-use Rattle.type_rules.specs.SubtypeNames.{declared_twice, entity_at_or_none, subtype_in, subtype_of}
-use Rattle.declaring.specs.BodyNames.{bounds_type, if_integers, last_rule, loop_faults, loop_scope, loop_type, parameter_entity}
+use Rattle.expr_soundness.specs.expr_rules.specs.declared.own.Own.{Own}
+use Rattle.expr_soundness.specs.expr_rules.specs.declared.own.Own.TheVariants.{Typed, Universal, Unknown}
+use Rattle.expr_soundness.specs.expr_rules.specs.declared.own.Wanted.TheVariants.{AnyInteger}
+use Rattle.expr_soundness.specs.expr_rules.specs.ExpressionRules.{faults_in, faults_of}
+use Rattle.expr_soundness.specs.expr_rules.specs.NameRules.{mismatch}
+use Rattle.expr_soundness.specs.expr_rules.specs.Typing.{is_integers, is_integral, own_of}
+use Rattle.expr_soundness.specs.expr_rules.proofs.TypedLaw.{back_empty, front_empty}
+use Rattle.expr_soundness.specs.type_rules.specs.ObjectRules.{local_object_scope, object_entity, role_of}
+use Rattle.expr_soundness.specs.type_rules.specs.SubtypeNames.{declared_twice, entity_at_or_none, subtype_in, subtype_of}
+use Rattle.program_soundness.specs.declaring.specs.BodyNames.{bounds_type, if_integers, last_rule, loop_faults, loop_scope, loop_type, parameter_entity}
 use Rattle.expr_soundness.specs.SoundScopes.{AreKnown, IsKnown, IsSoundObject, IsSoundProfile, SoundScope}
 use Rattle.expr_soundness.proofs.Goods.{not_empty, object_known}
 use Rattle.expr_soundness.proofs.Growing.{form_before, grown, object_named, sound_with_object, test_kept}
 use Rattle.expr_soundness.proofs.Positions.{entity_added, entity_kept, item_added, number_added, number_kept}
 use Rattle.expr_soundness.proofs.Widening.{subtype_known}
-use Rattle.expr_code.specs.Seeing.{NamesProfile, profile_named, subprogram_profile}
-use Rattle.expr_code.proofs.Widths.{fits, integral_one, known, words_by_type}
-use Rattle.expr_code.specs.declared.visible.Slot.{Slot}
+use Rattle.ada_link.specs.expr_code.specs.Seeing.{NamesProfile, profile_named, subprogram_profile}
+use Rattle.ada_link.specs.expr_code.proofs.Widths.{fits, integral_one, known, words_by_type}
+use Rattle.ada_link.specs.expr_code.specs.declared.visible.Slot.{Slot}
 use Rattle.source_laws.specs.Depths.{AreStored, AreScalar, IsSmallScope, ObjectsHaveRoom, formals_take, is_full, is_scalar_form}
 
 no_profile : (p : Profile) → None ≡ Some p → ⊥

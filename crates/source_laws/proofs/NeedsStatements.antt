@@ -2,8 +2,8 @@
 use Rattle.std.proofs.Common.{◌≡◌, ◌≤◌, ◌++◌, ◌+◌, ◌*◌, ℕ, zero, suc, max, [], ◌∷◌, List, false, ◌&&◌, Option, Some, None, refl, sym, ap, subst, arith}
 use Rattle.std.specs.Prelude.{⊤}
 use Rattle.std.proofs.Math.Nat.{le-max_left, le-max_right}
-use Rattle.lexer.specs.declared.delimiter.Delimiter.TheVariants as marks
-use Rattle.lexer.specs.declared.word.Word.TheVariants as words
+use Rattle.ada_link.specs.lexer.specs.declared.delimiter.Delimiter.TheVariants as marks
+use Rattle.ada_link.specs.lexer.specs.declared.word.Word.TheVariants as words
 use Rattle.ada_tree.specs.declared.expression.Identifier.{Identifier}
 use Rattle.ada_tree.specs.Depth.{alternatives_depth, declaration_depth, deepest, depth_if_any, elsifs_depth, expr_depth, handlers_depth, stmt_depth, stmts_depth}
 use Rattle.ada_tree.specs.ExpressionGrammar.{Simple, expression}
@@ -14,24 +14,24 @@ use Rattle.ada_tree.specs.StatementGrammar as grammar
 use Rattle.ada_tree.specs.StatementTree.{AlternativeTrees, Assignment, Block, Call, Case, ChoicesTree, DeclarationTree, ElsifTrees, Exit, For, Forever, HandlerTrees, If, IterationTree, Loop, MoreAlternatives, MoreElsifs, MoreHandlers, MoreStmts, NoAlternatives, NoElsifs, NoHandlers, NoStmts, Null, OtherValues, Raise, Return, StmtTree, StmtTrees, Values, While}
 use Rattle.types.specs.declared.entity.Value.{Value as Scalar}
 use Rattle.types.specs.Scopes.{Scope}
-use Rattle.expr_rules.specs.declared.own.Wanted.{Wanted}
-use Rattle.expr_rules.specs.Typing.{own_of}
-use Rattle.expr_rules.proofs.TypedLaw.{back_empty, front_empty}
-use Rattle.declaring.specs.BodyNames.{loop_faults, loop_scope}
-use Rattle.declaring.specs.LocalRules.{locals_faults, locals_scope}
-use Rattle.stmt_rules.specs.declared.around.Around as rules
-use Rattle.stmt_rules.specs.CaseRules.{choices_faults, choices_wanted, chosen_by, others_rule, selecting_faults}
-use Rattle.stmt_rules.specs.CaseRules as alternatives
-use Rattle.stmt_rules.specs.HandlerRules.{exception_choices_faults, is_single, named_after}
-use Rattle.stmt_rules.specs.HandlerRules as handlers
-use Rattle.stmt_rules.specs.SimpleRules.{condition_faults, exit_rule, optional_condition_faults}
-use Rattle.stmt_rules.specs.StatementRules.{alternatives_faults, elsifs_faults, in_handler, in_loop, more_handlers_faults, stmt_faults, stmts_faults}
-use Rattle.expr_code.specs.Refusing.{peak}
-use Rattle.expr_code.specs.declared.visible.Visible.{Visible}
-use Rattle.part_code.specs.Bounds.{alternatives_words, elsifs_words, handlers_words, locals_words, stmt_words, stmts_words}
-use Rattle.stmt_code.specs.Refusing.{Standpoint, alternatives_needs, behind_locals, elsifs_needs, handler_needs, handlers_needs, head_needs, inside_counted, inside_handler, inside_loop, needs_if_any, raise_needs, return_needs, stmt_needs, stmts_needs}
-use Rattle.part_code.specs.Needs.{beyond_if, both, choices_needs, framed, locals_needs, needs_above, value_needs}
-use Rattle.stmt_code.proofs.Refused.{locals_seen}
+use Rattle.expr_soundness.specs.expr_rules.specs.declared.own.Wanted.{Wanted}
+use Rattle.expr_soundness.specs.expr_rules.specs.Typing.{own_of}
+use Rattle.expr_soundness.specs.expr_rules.proofs.TypedLaw.{back_empty, front_empty}
+use Rattle.program_soundness.specs.declaring.specs.BodyNames.{loop_faults, loop_scope}
+use Rattle.program_soundness.specs.declaring.specs.LocalRules.{locals_faults, locals_scope}
+use Rattle.program_soundness.specs.stmt_rules.specs.declared.around.Around as rules
+use Rattle.program_soundness.specs.stmt_rules.specs.CaseRules.{choices_faults, choices_wanted, chosen_by, others_rule, selecting_faults}
+use Rattle.program_soundness.specs.stmt_rules.specs.CaseRules as alternatives
+use Rattle.program_soundness.specs.stmt_rules.specs.HandlerRules.{exception_choices_faults, is_single, named_after}
+use Rattle.program_soundness.specs.stmt_rules.specs.HandlerRules as handlers
+use Rattle.program_soundness.specs.stmt_rules.specs.SimpleRules.{condition_faults, exit_rule, optional_condition_faults}
+use Rattle.program_soundness.specs.stmt_rules.specs.StatementRules.{alternatives_faults, elsifs_faults, in_handler, in_loop, more_handlers_faults, stmt_faults, stmts_faults}
+use Rattle.ada_link.specs.expr_code.specs.Refusing.{peak}
+use Rattle.ada_link.specs.expr_code.specs.declared.visible.Visible.{Visible}
+use Rattle.ada_link.specs.part_code.specs.Bounds.{alternatives_words, elsifs_words, handlers_words, locals_words, stmt_words, stmts_words}
+use Rattle.ada_link.specs.stmt_code.specs.Refusing.{Standpoint, alternatives_needs, behind_locals, elsifs_needs, handler_needs, handlers_needs, head_needs, inside_counted, inside_handler, inside_loop, needs_if_any, raise_needs, return_needs, stmt_needs, stmts_needs}
+use Rattle.ada_link.specs.part_code.specs.Needs.{beyond_if, both, choices_needs, framed, locals_needs, needs_above, value_needs}
+use Rattle.ada_link.specs.stmt_code.proofs.Refused.{locals_seen}
 use Rattle.source_laws.specs.Depths.{IsSmallScope, IsSmallVisible}
 use Rattle.source_laws.proofs.NeedsAssignments.{assignment_fits}
 use Rattle.source_laws.proofs.NeedsBounds.{Fits, beyond_fits, both_fit, fits_more, nothing_fits, outside_left, outside_right}

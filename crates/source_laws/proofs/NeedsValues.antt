@@ -1,6 +1,6 @@
 -- How many words of the operand stack the expressions of statements take, by what is expected of them.
 use Rattle.std.proofs.Common.{◌≡◌, ◌≤◌, ◌⊎◌, inl, inr, ◌+◌, ◌*◌, ℕ, max, [], true, false, Bool, ◌||◌, refl, sym, ap, ◌∙◌, arith}
-use Rattle.base.specs.declared.faults.TheConstants.{NO_MEANING}
+use Rattle.ada_link.specs.base.specs.declared.faults.TheConstants.{NO_MEANING}
 use Rattle.ada_tree.specs.Depth.{expr_depth}
 use Rattle.ada_tree.specs.ExpressionGrammar.{Expression, Production, derives, expression, made_by}
 use Rattle.ada_tree.specs.ExpressionTree.{ExprTree}
@@ -9,20 +9,20 @@ use Rattle.types.specs.declared.entity.Subtype.{Subtype}
 use Rattle.types.specs.Layouts.{words_of}
 use Rattle.types.specs.Scopes.{Scope}
 use Rattle.types.specs.Statics.{start_of}
-use Rattle.expr_rules.specs.declared.own.Own.{Own}
-use Rattle.expr_rules.specs.declared.own.Own.TheVariants.{Typed, Universal, Unknown}
-use Rattle.expr_rules.specs.declared.own.Wanted.TheVariants.{AnyInteger, Anything, OfType}
-use Rattle.expr_rules.specs.ExpressionRules.{faults_in, faults_of}
-use Rattle.expr_rules.specs.NameRules.{mismatch}
-use Rattle.expr_rules.specs.Typing.{is_boolean, is_integral, own_of}
-use Rattle.expr_rules.proofs.TypedLaw.{back_empty, front_empty, same_number, unbroken}
-use Rattle.stmt_rules.specs.CaseRules.{discrete_rule, is_discrete, selecting_faults}
-use Rattle.stmt_rules.specs.SimpleRules.{condition_faults}
+use Rattle.expr_soundness.specs.expr_rules.specs.declared.own.Own.{Own}
+use Rattle.expr_soundness.specs.expr_rules.specs.declared.own.Own.TheVariants.{Typed, Universal, Unknown}
+use Rattle.expr_soundness.specs.expr_rules.specs.declared.own.Wanted.TheVariants.{AnyInteger, Anything, OfType}
+use Rattle.expr_soundness.specs.expr_rules.specs.ExpressionRules.{faults_in, faults_of}
+use Rattle.expr_soundness.specs.expr_rules.specs.NameRules.{mismatch}
+use Rattle.expr_soundness.specs.expr_rules.specs.Typing.{is_boolean, is_integral, own_of}
+use Rattle.expr_soundness.specs.expr_rules.proofs.TypedLaw.{back_empty, front_empty, same_number, unbroken}
+use Rattle.program_soundness.specs.stmt_rules.specs.CaseRules.{discrete_rule, is_discrete, selecting_faults}
+use Rattle.program_soundness.specs.stmt_rules.specs.SimpleRules.{condition_faults}
 use Rattle.expr_soundness.proofs.Expressions.{not_false}
-use Rattle.expr_code.specs.Emitting.{IsLegalExpression}
-use Rattle.expr_code.specs.Refusing.{peak}
-use Rattle.expr_code.specs.Widths.{own_words, width_of}
-use Rattle.expr_code.proofs.Widths.{Fits, boolean_one, condition_width, fits, integral_one, known, words_by_type}
+use Rattle.ada_link.specs.expr_code.specs.Emitting.{IsLegalExpression}
+use Rattle.ada_link.specs.expr_code.specs.Refusing.{peak}
+use Rattle.ada_link.specs.expr_code.specs.Widths.{own_words, width_of}
+use Rattle.ada_link.specs.expr_code.proofs.Widths.{Fits, boolean_one, condition_width, fits, integral_one, known, words_by_type}
 use Rattle.source_laws.specs.Depths.{IsSmallScope}
 use Rattle.source_laws.proofs.PeakBounds.{through}
 use Rattle.source_laws.proofs.Peaks.{legal_of, peak_low, waiting, waits}

@@ -1,7 +1,7 @@
 -- What stands in the parentheses of legal names that have values: few expressions, of one word each.
 use Rattle.std.proofs.Common.{◌≡◌, ◌<◌, ◌≤◌, ℕ, zero, suc, [], ◌∷◌, List, length, Bool, true, false, not, Option, Some, None, refl, sym, ap, ◌∙◌, subst, arith}
 use Rattle.std.specs.Prelude.{⊤, nat_eq, slice_get}
-use Rattle.base.specs.declared.faults.TheConstants.{NAME_NOT_VISIBLE, NO_MEANING, WRONG_ARGUMENT_COUNT}
+use Rattle.ada_link.specs.base.specs.declared.faults.TheConstants.{NAME_NOT_VISIBLE, NO_MEANING, WRONG_ARGUMENT_COUNT}
 use Rattle.ada_tree.specs.declared.declaration.Mode.{Mode}
 use Rattle.ada_tree.specs.declared.declaration.Mode.TheVariants as mode
 use Rattle.ada_tree.specs.declared.expression.Identifier.{Identifier}
@@ -17,25 +17,25 @@ use Rattle.types.specs.Entities.{Arrays, Booleans, Integers, Profile, Records, S
 use Rattle.types.specs.Scopes.{Scope, form_at, is_visible, number_of}
 use Rattle.types.specs.Standings.{call_stands, callee_profile, conversion_stands, count, element_stands, is_single, result_stands, select, select_all, standing_of, stands_first, stands_for}
 use Rattle.types.specs.Statics.{start_of}
-use Rattle.expr_rules.specs.declared.names.Slot.{Slot}
-use Rattle.expr_rules.specs.declared.names.Slot.TheVariants.{Expects, Takes, TakesLabel}
-use Rattle.expr_rules.specs.declared.own.Own.{Own}
-use Rattle.expr_rules.specs.declared.own.Own.TheVariants.{Typed, Universal, Unknown}
-use Rattle.expr_rules.specs.declared.own.Wanted.{Wanted}
-use Rattle.expr_rules.specs.declared.own.Wanted.TheVariants.{AnyInteger, Anything, OfType}
-use Rattle.expr_rules.specs.Faults.{rule}
-use Rattle.expr_rules.specs.NameRules.{call_slot, conversion_slot, count_rule, formal_slot_or, index_slot, is_doubtful, mismatch, part_rule, profile_formals, slot_at, value_rule}
-use Rattle.expr_rules.specs.ExpressionRules.{argument_faults, arguments_faults, faults_in, name_faults, selector_faults, selectors_faults}
-use Rattle.expr_rules.specs.Typing.{is_booleans, is_integers, is_spans, is_times, own_of}
-use Rattle.expr_rules.proofs.TypedLaw.{back_empty, front_empty, same_number, span_numeric, time_numeric, unbroken}
+use Rattle.expr_soundness.specs.expr_rules.specs.declared.names.Slot.{Slot}
+use Rattle.expr_soundness.specs.expr_rules.specs.declared.names.Slot.TheVariants.{Expects, Takes, TakesLabel}
+use Rattle.expr_soundness.specs.expr_rules.specs.declared.own.Own.{Own}
+use Rattle.expr_soundness.specs.expr_rules.specs.declared.own.Own.TheVariants.{Typed, Universal, Unknown}
+use Rattle.expr_soundness.specs.expr_rules.specs.declared.own.Wanted.{Wanted}
+use Rattle.expr_soundness.specs.expr_rules.specs.declared.own.Wanted.TheVariants.{AnyInteger, Anything, OfType}
+use Rattle.expr_soundness.specs.expr_rules.specs.Faults.{rule}
+use Rattle.expr_soundness.specs.expr_rules.specs.NameRules.{call_slot, conversion_slot, count_rule, formal_slot_or, index_slot, is_doubtful, mismatch, part_rule, profile_formals, slot_at, value_rule}
+use Rattle.expr_soundness.specs.expr_rules.specs.ExpressionRules.{argument_faults, arguments_faults, faults_in, name_faults, selector_faults, selectors_faults}
+use Rattle.expr_soundness.specs.expr_rules.specs.Typing.{is_booleans, is_integers, is_spans, is_times, own_of}
+use Rattle.expr_soundness.specs.expr_rules.proofs.TypedLaw.{back_empty, front_empty, same_number, span_numeric, time_numeric, unbroken}
 use Rattle.expr_soundness.specs.SoundScopes.{AreIn, IsSoundResult, SoundScope}
 use Rattle.expr_soundness.proofs.Expressions.{not_false}
 use Rattle.expr_soundness.proofs.Goods.{Good, GoodCallee, good_first, good_select, no_constant_parts, part_unbroken, sound_form}
 use Rattle.expr_soundness.proofs.Positions.{named}
-use Rattle.expr_code.specs.Emitting.{IsLegalExpression}
-use Rattle.expr_code.specs.Refusing.{words_below}
-use Rattle.expr_code.specs.Widths.{own_words, width_of}
-use Rattle.expr_code.proofs.Widths.{Fits, boolean_one, fits, integral_one, known, numeric_one}
+use Rattle.ada_link.specs.expr_code.specs.Emitting.{IsLegalExpression}
+use Rattle.ada_link.specs.expr_code.specs.Refusing.{words_below}
+use Rattle.ada_link.specs.expr_code.specs.Widths.{own_words, width_of}
+use Rattle.ada_link.specs.expr_code.proofs.Widths.{Fits, boolean_one, fits, integral_one, known, numeric_one}
 use Rattle.source_laws.specs.Depths.{AreScalar, FewFormals, is_scalar_form}
 
 -- ---- what a slot expects is of one word

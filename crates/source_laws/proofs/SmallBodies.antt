@@ -2,8 +2,8 @@
 use Rattle.std.proofs.Common.{◌≡◌, ℕ, zero, suc, ◌+◌, ◌≤◌, max, Bool, true, false, List, [], ◌∷◌, ◌++◌, length, map, inl, inr, Option, Some, None, refl, sym, ap, ◌∙◌, subst, arith}
 use Rattle.std.specs.Prelude.{bytes_eq, cond, nat_eq, not, slice_get}
 use Rattle.std.proofs.lemmas.Bool.{or_from, or_parts}
-use Rattle.base.specs.declared.limits.TheConstants.{FORMALS, FRAME_WORDS}
-use Rattle.lexer.specs.declared.token.Token.{Token}
+use Rattle.ada_link.specs.base.specs.declared.limits.TheConstants.{FORMALS, FRAME_WORDS}
+use Rattle.ada_link.specs.lexer.specs.declared.token.Token.{Token}
 use Rattle.ada_tree.specs.declared.expression.Identifier.{Identifier}
 use Rattle.ada_tree.specs.Depth.{body_depth, body_item_depth, deepest, depth, depth_if_any, expr_depth, item_depth, main_depth, package_depth, stmts_depth, subprogram_depth}
 use Rattle.ada_tree.specs.ExpressionGrammar.{expression}
@@ -13,32 +13,32 @@ use Rattle.ada_tree.specs.ProgramGrammar.{body, body_item, package_part, program
 use Rattle.ada_tree.specs.StatementGrammar.{stmts}
 use Rattle.ada_tree.specs.StatementTree.{MoreStmts, NoStmts, Return, StmtTrees, SubprogramTree}
 use Rattle.ada_tree.specs.ProgramTree.{BodyItemTree, BodyTree, ItemTree, OfItem, PackageTree, ProgramTree, ProtectedBody, SubprogramBody, TaskBody}
-use Rattle.image.specs.declared.instruction.Region.TheVariants as regions
+use Rattle.ada_link.specs.image.specs.declared.instruction.Region.TheVariants as regions
 use Rattle.types.specs.Places.{Object}
 use Rattle.types.specs.Scopes.{Scope}
 use Rattle.types.specs.Shapes.{value_words}
-use Rattle.expr_rules.proofs.TypedLaw.{front_empty}
-use Rattle.type_rules.specs.ProfileRules.{formals_faults, function_faults, profile_faults, result_faults}
-use Rattle.declaring.specs.BodyNames.{formals_scope}
-use Rattle.declaring.specs.ProtectedRules.{protected_count}
-use Rattle.legality.specs.BodyRules.{body_name_faults, function_body_faults, kind_of, own_name_faults}
+use Rattle.expr_soundness.specs.expr_rules.proofs.TypedLaw.{front_empty}
+use Rattle.expr_soundness.specs.type_rules.specs.ProfileRules.{formals_faults, function_faults, profile_faults, result_faults}
+use Rattle.program_soundness.specs.declaring.specs.BodyNames.{formals_scope}
+use Rattle.program_soundness.specs.declaring.specs.ProtectedRules.{protected_count}
+use Rattle.program_soundness.specs.legality.specs.BodyRules.{body_name_faults, function_body_faults, kind_of, own_name_faults}
 use Rattle.checking.specs.ProgramRules.{IsLegal}
-use Rattle.ravenscar.specs.ProgramRules.{IsRestricted}
-use Rattle.meaning.specs.Programs.{program_of, returned, subtype_named}
+use Rattle.program_soundness.specs.ravenscar.specs.ProgramRules.{IsRestricted}
+use Rattle.expr_soundness.specs.meaning.specs.Programs.{program_of, returned, subtype_named}
 use Rattle.expr_soundness.specs.Laws.{ScopesAreSound}
 use Rattle.program_soundness.specs.BodyLaws.{NamesAreKnown, PremisesHold}
 use Rattle.program_soundness.specs.Fronts.{declared_in, front, start_in}
 use Rattle.program_soundness.proofs.Called.{head_legal}
 use Rattle.program_soundness.proofs.Listing.{same_some}
 use Rattle.program_soundness.proofs.Trees.{tree_package}
-use Rattle.expr_code.specs.declared.refusal.Refusal.TheVariants as refusal
-use Rattle.part_code.specs.Bounds.{body_words, formals_words}
-use Rattle.part_code.specs.Needs.{Needs, beyond_if, both}
-use Rattle.stmt_code.specs.WholeRefusals.{procedure_needs}
-use Rattle.expr_code.specs.declared.visible.Slot.{Slot}
-use Rattle.package_code.specs.Package.{place_among}
-use Rattle.package_code.specs.Refusing.{RefusesLinking, slot_in, told_behind, function_if_any, item_needs, items_needs, program_needs, seen_at}
-use Rattle.package_code.proofs.Adding.{body_legal, value_legal}
+use Rattle.ada_link.specs.expr_code.specs.declared.refusal.Refusal.TheVariants as refusal
+use Rattle.ada_link.specs.part_code.specs.Bounds.{body_words, formals_words}
+use Rattle.ada_link.specs.part_code.specs.Needs.{Needs, beyond_if, both}
+use Rattle.ada_link.specs.stmt_code.specs.WholeRefusals.{procedure_needs}
+use Rattle.ada_link.specs.expr_code.specs.declared.visible.Slot.{Slot}
+use Rattle.ada_link.specs.package_code.specs.Package.{place_among}
+use Rattle.ada_link.specs.package_code.specs.Refusing.{RefusesLinking, slot_in, told_behind, function_if_any, item_needs, items_needs, program_needs, seen_at}
+use Rattle.ada_link.specs.package_code.proofs.Adding.{body_legal, value_legal}
 use Rattle.source_laws.specs.Depths.{AreStored, FunctionsHaveRoom, StaysWithinLimits, IsSmallVisible, IsSmallFunction, IsSmallProcedure, ProceduresHaveRoom}
 use Rattle.source_laws.specs.Limits.{SmallHasRoom, SmallIsUnlimited}
 use Rattle.source_laws.specs.Small.{IsSmall, SmallCodeFits, body_loops}

@@ -3,17 +3,17 @@ use Rattle.std.proofs.Common.{◌≡◌, ℕ, true, List, [], ◌∷◌, ◌++�
 use Rattle.std.specs.List.{list_all}
 use Rattle.std.proofs.lemmas.Bool.{and_from}
 use Rattle.std.proofs.lemmas.List.Folds.{list_all-append}
-use Rattle.base.specs.Names.{is_name, predefined}
+use Rattle.ada_link.specs.base.specs.Names.{is_name, predefined}
 use Rattle.ada_tree.specs.declared.expression.Identifier.{Identifier}
 use Rattle.ada_tree.specs.StatementTree.{SubprogramTree}
 use Rattle.ada_tree.specs.ProgramTree.{BodyItemTree, BodyTree, ItemTree, OfException, OfItem, PackageTree, ProgramTree, SubprogramBody}
 use Rattle.ada_tree.specs.Language.{Limit, each, optional}
 use Rattle.ada_tree.specs.ProgramGrammar.{body, body_item, item, package_part, program}
-use Rattle.meaning.specs.Programs.{exceptions_among, items_among, package_items}
+use Rattle.expr_soundness.specs.meaning.specs.Programs.{exceptions_among, items_among, package_items}
 use Rattle.program_soundness.specs.Fronts.{declared_in}
-use Rattle.stmt_code.specs.WholeRefusals.{body_labels}
-use Rattle.package_code.specs.Refusing.{is_spelled, item_labels, items_labels, program_labels}
-use Rattle.package_code.proofs.Variables.{exceptions_both}
+use Rattle.ada_link.specs.stmt_code.specs.WholeRefusals.{body_labels}
+use Rattle.ada_link.specs.package_code.specs.Refusing.{is_spelled, item_labels, items_labels, program_labels}
+use Rattle.ada_link.specs.package_code.proofs.Variables.{exceptions_both}
 use Rattle.source_laws.specs.Spelled.{OutsideIsTold, TextsAreSpelled}
 use Rattle.source_laws.proofs.SpelledTokens.{spelled_tokens}
 use Rattle.source_laws.proofs.SpelledStatements.{AreLabels, Keeps, Tells, body_told, both_told, joined, known, later, named, same, sooner}

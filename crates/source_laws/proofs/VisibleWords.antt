@@ -1,7 +1,7 @@
 -- In front of each declaration and body of an accepted text the limits of what is visible are kept.
 use Rattle.std.proofs.Common.{◌≡◌, ℕ, zero, suc, ◌+◌, ◌≤◌, true, List, [], ◌∷◌, ◌++◌, drop, Some, refl, sym, ap, ◌∙◌, subst, arith}
 use Rattle.std.specs.List.{list_all}
-use Rattle.base.specs.declared.limits.TheConstants.{WORDS}
+use Rattle.ada_link.specs.base.specs.declared.limits.TheConstants.{WORDS}
 use Rattle.ada_tree.specs.ProgramTree.{ProgramTree}
 use Rattle.types.specs.declared.entity.Role.{Role}
 use Rattle.types.specs.declared.entity.Role.TheVariants as role
@@ -11,24 +11,24 @@ use Rattle.types.specs.Laws.{ShapesStay}
 use Rattle.types.specs.Layouts.{total, words_of}
 use Rattle.types.specs.Scopes.{Scope, entity_at}
 use Rattle.types.specs.Shapes.{shape_of, words}
-use Rattle.expr_rules.proofs.TypedLaw.{back_empty}
-use Rattle.declaring.specs.PackageNames.{body_items_scope}
+use Rattle.expr_soundness.specs.expr_rules.proofs.TypedLaw.{back_empty}
+use Rattle.program_soundness.specs.declaring.specs.PackageNames.{body_items_scope}
 use Rattle.checking.specs.ProgramLayouts.{WordsHaveRoom, objects_words, total_of_all, variable_words, variables_words}
 use Rattle.checking.specs.ProgramRules.{IsLegal}
-use Rattle.ravenscar.specs.ProgramRules.{IsRestricted}
+use Rattle.program_soundness.specs.ravenscar.specs.ProgramRules.{IsRestricted}
 use Rattle.size_rules.specs.ProgramSizes.{size_faults}
 use Rattle.expr_soundness.specs.SoundScopes.{IsKnown, SoundScope}
 use Rattle.expr_soundness.proofs.Goods.{object_known}
 use Rattle.expr_soundness.proofs.Positions.{entity_kept}
-use Rattle.meaning.specs.Programs.{program_of}
+use Rattle.expr_soundness.specs.meaning.specs.Programs.{program_of}
 use Rattle.program_soundness.specs.BodyLaws.{NamesAreKnown, PremisesHold}
 use Rattle.program_soundness.specs.Fronts.{declared_in, front, start_in}
 use Rattle.program_soundness.proofs.Listing.{same_some}
 use Rattle.program_soundness.proofs.Trees.{tree_package}
 use Rattle.program_soundness.proofs.Walked.{scope_behind}
 use Rattle.program_soundness.proofs.Whole.{IsPackage}
-use Rattle.package_code.proofs.InFront.{known_inside}
-use Rattle.package_code.proofs.Seen.{all_behind}
+use Rattle.ada_link.specs.package_code.proofs.InFront.{known_inside}
+use Rattle.ada_link.specs.package_code.proofs.Seen.{all_behind}
 use Rattle.source_laws.specs.Visible.{FrontsKeepLimits, KeepsLimits}
 use Rattle.source_laws.proofs.BoundedNames.{AreBounded, bounded_at, fronts_bounded, is_bounded, start_bounded}
 use Rattle.source_laws.proofs.WholeItems.{declared_whole, is_whole_body_item}

@@ -1,6 +1,6 @@
 -- How many words a small source's code has on its operand stack and in its frames: a bound by nesting, and what is asked of the names that are visible.
 use Rattle.std.specs.Prelude.{◌≡◌, ◌≤◌, ◌+◌, ◌*◌, ℕ, nat_eq, Bool, true, false, ◌&&◌, not, max, List, [], ◌∷◌, length, Option, Some, None, ⊤}
-use Rattle.base.specs.declared.limits.TheConstants.{FORMALS, FRAME_WORDS, WORDS}
+use Rattle.ada_link.specs.base.specs.declared.limits.TheConstants.{FORMALS, FRAME_WORDS, WORDS}
 use Rattle.ada_tree.specs.declared.declaration.Formal.{Formal}
 use Rattle.ada_tree.specs.Depth.{body_depth, expr_depth}
 use Rattle.ada_tree.specs.ExpressionGrammar.{expression}
@@ -18,23 +18,23 @@ use Rattle.types.specs.Layouts.{words_of}
 use Rattle.types.specs.Scopes.{Scope, entity_at, form_at}
 use Rattle.types.specs.Shapes.{Grouped, MoreShapes, NoShapes, Repeated, Shape, Shapes, words, words_of_parts}
 use Rattle.types.specs.Standings.{callee_profile}
-use Rattle.expr_rules.specs.declared.own.Wanted.TheVariants.{OfType}
-use Rattle.expr_rules.specs.ExpressionRules.{faults_of}
-use Rattle.expr_rules.specs.Laws.{type_shape}
-use Rattle.declaring.specs.BodyNames.{formals_scope}
-use Rattle.stmt_rules.specs.declared.around.BodyKind.{BodyKind}
-use Rattle.legality.specs.BodyRules.{body_faults}
+use Rattle.expr_soundness.specs.expr_rules.specs.declared.own.Wanted.TheVariants.{OfType}
+use Rattle.expr_soundness.specs.expr_rules.specs.ExpressionRules.{faults_of}
+use Rattle.expr_soundness.specs.expr_rules.specs.Laws.{type_shape}
+use Rattle.program_soundness.specs.declaring.specs.BodyNames.{formals_scope}
+use Rattle.program_soundness.specs.stmt_rules.specs.declared.around.BodyKind.{BodyKind}
+use Rattle.program_soundness.specs.legality.specs.BodyRules.{body_faults}
 use Rattle.expr_soundness.specs.SoundScopes.{SoundScope}
-use Rattle.expr_code.specs.Emitting.{IsLegalExpression}
-use Rattle.expr_code.specs.Refusing.{peak}
-use Rattle.expr_code.specs.Seeing.{profile_named}
-use Rattle.expr_code.specs.Widths.{width_of}
-use Rattle.expr_code.specs.declared.visible.Slot.{Slot}
-use Rattle.expr_code.specs.declared.visible.Visible.{Visible}
-use Rattle.part_code.specs.Bounds.{body_words, formals_words}
-use Rattle.part_code.specs.Passing.{holds_variables}
-use Rattle.part_code.specs.Needs.{Needs}
-use Rattle.stmt_code.specs.WholeRefusals.{function_needs, procedure_needs}
+use Rattle.ada_link.specs.expr_code.specs.Emitting.{IsLegalExpression}
+use Rattle.ada_link.specs.expr_code.specs.Refusing.{peak}
+use Rattle.ada_link.specs.expr_code.specs.Seeing.{profile_named}
+use Rattle.ada_link.specs.expr_code.specs.Widths.{width_of}
+use Rattle.ada_link.specs.expr_code.specs.declared.visible.Slot.{Slot}
+use Rattle.ada_link.specs.expr_code.specs.declared.visible.Visible.{Visible}
+use Rattle.ada_link.specs.part_code.specs.Bounds.{body_words, formals_words}
+use Rattle.ada_link.specs.part_code.specs.Passing.{holds_variables}
+use Rattle.ada_link.specs.part_code.specs.Needs.{Needs}
+use Rattle.ada_link.specs.stmt_code.specs.WholeRefusals.{function_needs, procedure_needs}
 
 -- ---- what is asked of the names that are visible
 

@@ -1,19 +1,19 @@
 -- When a source text is small, and what is promised of one: its code passes no limit on the numbers of an image.
 use Rattle.std.specs.Prelude.{◌≡◌, ℕ, suc, ◌+◌, ◌≤◌, List, length, Some, slice_get}
-use Rattle.base.specs.declared.limits.TheConstants.{INSTRUCTIONS, ROWS}
-use Rattle.lexer.specs.declared.token.Token.{Token}
+use Rattle.ada_link.specs.base.specs.declared.limits.TheConstants.{INSTRUCTIONS, ROWS}
+use Rattle.ada_link.specs.lexer.specs.declared.token.Token.{Token}
 use Rattle.ada_tree.specs.StatementTree.{AlternativeTrees, Block, Case, ElsifTrees, For, HandlerTrees, If, IterationTree, Loop, MoreAlternatives, MoreElsifs, MoreHandlers, MoreStmts, NoAlternatives, NoElsifs, NoHandlers, NoStmts, StmtTree, StmtTrees, SubprogramTree}
 use Rattle.ada_tree.specs.ProgramTree.{BodyTree, ProgramTree, SubprogramBody}
 use Rattle.ada_tree.specs.Depth.{depth}
 use Rattle.ada_tree.specs.Language.{Limit}
 use Rattle.ada_tree.specs.ProgramGrammar.{program}
 use Rattle.types.specs.Scopes.{Scope}
-use Rattle.declaring.specs.BodyNames.{formals_scope}
+use Rattle.program_soundness.specs.declaring.specs.BodyNames.{formals_scope}
 use Rattle.checking.specs.ProgramRules.{IsLegal}
-use Rattle.ravenscar.specs.ProgramRules.{IsRestricted}
+use Rattle.program_soundness.specs.ravenscar.specs.ProgramRules.{IsRestricted}
 use Rattle.program_soundness.specs.Fronts.{declared_in, front}
-use Rattle.part_code.specs.Bounds.{body_words, formals_words}
-use Rattle.package_code.specs.Refusing.{program_bound, program_rows}
+use Rattle.ada_link.specs.part_code.specs.Bounds.{body_words, formals_words}
+use Rattle.ada_link.specs.package_code.specs.Refusing.{program_bound, program_rows}
 
 -- ---- counted loops, whose parameters take a word each (RM 5.5)
 

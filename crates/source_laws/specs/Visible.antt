@@ -1,7 +1,7 @@
 -- What is visible in front of the declarations and bodies of an accepted text keeps limits that its code counts on.
 use Rattle.std.specs.Prelude.{◌≡◌, ℕ, ◌≤◌, true, false, List, Some}
-use Rattle.base.specs.declared.limits.TheConstants.{WORDS}
-use Rattle.lexer.specs.declared.token.Token.{Token}
+use Rattle.ada_link.specs.base.specs.declared.limits.TheConstants.{WORDS}
+use Rattle.ada_link.specs.lexer.specs.declared.token.Token.{Token}
 use Rattle.ada_tree.specs.ProgramTree.{ProgramTree}
 use Rattle.ada_tree.specs.Language.{Limit}
 use Rattle.ada_tree.specs.ProgramGrammar.{program}
@@ -12,11 +12,11 @@ use Rattle.types.specs.Layouts.{words_of}
 use Rattle.types.specs.Scopes.{Scope, entity_at}
 use Rattle.types.specs.Shapes.{shape_of}
 use Rattle.checking.specs.ProgramRules.{IsLegal}
-use Rattle.ravenscar.specs.ProgramRules.{IsRestricted}
+use Rattle.program_soundness.specs.ravenscar.specs.ProgramRules.{IsRestricted}
 use Rattle.expr_soundness.specs.SoundScopes.{IsKnown}
 use Rattle.program_soundness.specs.Fronts.{front}
-use Rattle.expr_code.specs.Refusing.{is_fit}
-use Rattle.package_code.specs.Refusing.{program_needs}
+use Rattle.ada_link.specs.expr_code.specs.Refusing.{is_fit}
+use Rattle.ada_link.specs.package_code.specs.Refusing.{program_needs}
 use Rattle.source_laws.specs.Depths.{FewFormals, IsSmallScope, is_full}
 use Rattle.source_laws.specs.Small.{IsSmall}
 

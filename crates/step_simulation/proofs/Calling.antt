@@ -1,49 +1,49 @@
 -- Calls of procedures, and their ends.
 use Rattle.std.proofs.Common.{◌≡◌, ℕ, zero, suc, ◌+◌, ◌-◌, ◌<◌, ◌≤◌, ℤ, List, [], ◌∷◌, length, map, Option, Some, None, Bool, true, false, cond, refl, sym, ap, ◌∙◌, subst, arith, rules}
 use Rattle.std.specs.Prelude.{◌++◌, if◌then◌else◌, nat_le, pos, replicate, take, ⊤}
-use Rattle.base.specs.declared.schedule.ScheduleLine.{ScheduleLine}
-use Rattle.base.specs.Exceptions.{number_of}
-use Rattle.base.specs.declared.exceptions.PredefinedException.TheVariants.{StorageError}
-use Rattle.base.specs.declared.limits.TheConstants.{FRAMES}
+use Rattle.part_code.specs.base.specs.declared.schedule.ScheduleLine.{ScheduleLine}
+use Rattle.part_code.specs.base.specs.Exceptions.{number_of}
+use Rattle.part_code.specs.base.specs.declared.exceptions.PredefinedException.TheVariants.{StorageError}
+use Rattle.part_code.specs.base.specs.declared.limits.TheConstants.{FRAMES}
 use Rattle.kernel.specs.State.{Kernel}
 use Rattle.kernel.specs.Effects.{Quiet, after}
 use Rattle.kernel.specs.Calm.{Calm}
 use Rattle.kernel.specs.Counting.{Done}
 use Rattle.kernel.specs.Laws.{QuietStays}
 use Rattle.kernel.specs.RunLaws.{spends_trans}
-use Rattle.image.specs.Sections.{Sections, end_of, first_place}
-use Rattle.image.specs.Operations.{called}
-use Rattle.image.specs.Frames.{Words, Frame, TaskState}
-use Rattle.image.specs.Steps as steps
-use Rattle.image.specs.Steps.{act, behaviour, caught, does_operation, removed, unwind}
-use Rattle.image.specs.declared.instruction.Operation.TheVariants as op
-use Rattle.ada_tree.specs.StatementTree.{ObjectTree, DeclarationTree, LocalObject, LocalTask, LocalProtected, StmtTree, Null, Assignment, Exit, Return, Raise, Delay, DelayUntil, If, Case, Loop, Block, Abort, Requeue, Accept, Select, StmtTrees, NoStmts, MoreStmts, ElsifTrees, NoElsifs, MoreElsifs, Forever, While, HandlerTrees, NoHandlers}
-use Rattle.types.specs.Evaluations.{Val, Gives, Raises, Meaningless, and_then}
-use Rattle.types.specs.Evaluating.{call}
-use Rattle.ada_tree.specs.declared.program.MainStatement.TheVariants as main
-use Rattle.ada_tree.specs.declared.expression.Identifier.{Identifier}
-use Rattle.ada_tree.specs.ExpressionTree.{ArgumentTrees, Arguments, Component, ExprTree, MoreArguments, MoreSelectors, Named, NameTree, NoArguments, NoSelectors, SelectorTrees, Text}
-use Rattle.types.specs.Shapes.{shape_of}
-use Rattle.ada_tree.specs.ExpressionTree as expressions
-use Rattle.ada_tree.specs.StatementTree as tree
-use Rattle.meaning.specs.Meeting.{Last}
-use Rattle.meaning.specs.MeetingLaws.{spends_takes}
-use Rattle.meaning.specs.SameMeaning.{frames_of}
-use Rattle.meaning.specs.Calls.{Actuals, Callee, actual_expression, actuals, activation_of, callee_by, callee_through, callee_with, declares_parameters, is_out, procedure_among, procedure_here, results, results_in, with_actuals}
-use Rattle.meaning.specs.Programs.{Parameter, Procedure, Program, object_numbered}
-use Rattle.meaning.specs.SourceSteps as source
-use Rattle.meaning.specs.SourceSteps.{here_of, place_of, program_behaviour, with_value, work_step}
-use Rattle.meaning.specs.Works.{Item, Declares, DeclaresParameter, Sequence, Does, DoesMain, EndsCall, Goes, Activation, Store, Target, TaskWork, ends_of_calls, frames_left}
+use Rattle.part_code.specs.image.specs.Sections.{Sections, end_of, first_place}
+use Rattle.part_code.specs.image.specs.Operations.{called}
+use Rattle.part_code.specs.image.specs.Frames.{Words, Frame, TaskState}
+use Rattle.part_code.specs.image.specs.Steps as steps
+use Rattle.part_code.specs.image.specs.Steps.{act, behaviour, caught, does_operation, removed, unwind}
+use Rattle.part_code.specs.image.specs.declared.instruction.Operation.TheVariants as op
+use Rattle.part_code.specs.ada_tree.specs.StatementTree.{ObjectTree, DeclarationTree, LocalObject, LocalTask, LocalProtected, StmtTree, Null, Assignment, Exit, Return, Raise, Delay, DelayUntil, If, Case, Loop, Block, Abort, Requeue, Accept, Select, StmtTrees, NoStmts, MoreStmts, ElsifTrees, NoElsifs, MoreElsifs, Forever, While, HandlerTrees, NoHandlers}
+use Rattle.part_code.specs.types.specs.Evaluations.{Val, Gives, Raises, Meaningless, and_then}
+use Rattle.part_code.specs.types.specs.Evaluating.{call}
+use Rattle.part_code.specs.ada_tree.specs.declared.program.MainStatement.TheVariants as main
+use Rattle.part_code.specs.ada_tree.specs.declared.expression.Identifier.{Identifier}
+use Rattle.part_code.specs.ada_tree.specs.ExpressionTree.{ArgumentTrees, Arguments, Component, ExprTree, MoreArguments, MoreSelectors, Named, NameTree, NoArguments, NoSelectors, SelectorTrees, Text}
+use Rattle.part_code.specs.types.specs.Shapes.{shape_of}
+use Rattle.part_code.specs.ada_tree.specs.ExpressionTree as expressions
+use Rattle.part_code.specs.ada_tree.specs.StatementTree as tree
+use Rattle.step_soundness.specs.meaning.specs.Meeting.{Last}
+use Rattle.step_soundness.specs.meaning.specs.MeetingLaws.{spends_takes}
+use Rattle.step_soundness.specs.meaning.specs.SameMeaning.{frames_of}
+use Rattle.step_soundness.specs.meaning.specs.Calls.{Actuals, Callee, actual_expression, actuals, activation_of, callee_by, callee_through, callee_with, declares_parameters, is_out, procedure_among, procedure_here, results, results_in, with_actuals}
+use Rattle.step_soundness.specs.meaning.specs.Programs.{Parameter, Procedure, Program, object_numbered}
+use Rattle.step_soundness.specs.meaning.specs.SourceSteps as source
+use Rattle.step_soundness.specs.meaning.specs.SourceSteps.{here_of, place_of, program_behaviour, with_value, work_step}
+use Rattle.step_soundness.specs.meaning.specs.Works.{Item, Declares, DeclaresParameter, Sequence, Does, DoesMain, EndsCall, Goes, Activation, Store, Target, TaskWork, ends_of_calls, frames_left}
 use Rattle.step_soundness.specs.Fitting.{taken_types}
 use Rattle.step_soundness.specs.Objects.{AreOf}
-use Rattle.expr_code.specs.Views.{At, in_frame, placed, view_of}
-use Rattle.expr_code.specs.Coming.{Comes, most_steps, size_of}
-use Rattle.expr_code.specs.Computing.{ArePassed}
-use Rattle.expr_code.specs.Seeing.{Package}
-use Rattle.expr_code.proofs.Coming.{acts, after_first}
-use Rattle.expr_code.proofs.Coming as coming
-use Rattle.expr_code.proofs.Calling.{enters, inner as callee, refused, replicated}
-use Rattle.expr_code.specs.declared.visible.Visible.{Visible}
+use Rattle.part_code.specs.expr_code.specs.Views.{At, in_frame, placed, view_of}
+use Rattle.part_code.specs.expr_code.specs.Coming.{Comes, most_steps, size_of}
+use Rattle.part_code.specs.expr_code.specs.Computing.{ArePassed}
+use Rattle.part_code.specs.expr_code.specs.Seeing.{Package}
+use Rattle.part_code.specs.expr_code.proofs.Coming.{acts, after_first}
+use Rattle.part_code.specs.expr_code.proofs.Coming as coming
+use Rattle.part_code.specs.expr_code.proofs.Calling.{enters, inner as callee, refused, replicated}
+use Rattle.part_code.specs.expr_code.specs.declared.visible.Visible.{Visible}
 use Rattle.part_code.specs.Resting.{AreHeld, Framed, NarrowsFrame, RestsWith}
 use Rattle.part_code.specs.Copying.{AreCopies, ArePlaced, actuals_on, addresses_of, copies_on, held_at, left_out, passed_actuals, passed_expression, passed_words, taken}
 use Rattle.part_code.specs.declared.call.Destination.{Destination}

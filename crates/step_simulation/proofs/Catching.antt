@@ -2,16 +2,16 @@
 use Rattle.std.proofs.Common.{◌≡◌, ℕ, suc, ◌≤◌, ℤ, List, [], ◌∷◌, map, length, Option, Some, None, Bool, true, false, refl, sym, ap, ◌∙◌, subst, arith}
 use Rattle.std.specs.Prelude.{if◌then◌else◌, pos, slice_get}
 use Rattle.std.proofs.lemmas.Option.{none-some, same_Some}
-use Rattle.handlers.specs.Innermost.{handler_of}
-use Rattle.image.specs.Sections.{Sections}
-use Rattle.image.specs.Frames.{Frame}
-use Rattle.ada_tree.specs.declared.statement.ExceptionChoice.{ExceptionChoice}
-use Rattle.ada_tree.specs.StatementTree.{HandlerTrees, NoHandlers, MoreHandlers, StmtTrees}
-use Rattle.meaning.specs.Programs.{Program}
-use Rattle.meaning.specs.SourceSteps.{handled_exception, handler_for, some_covers}
-use Rattle.meaning.specs.Works.{Item, Declares, DeclaresParameter, Sequence, Does, DoesMain, Repeats, RepeatsWhile, RepeatsFor, Handles, EndsHandler, EndsCall, Activation, ends_of_calls}
+use Rattle.part_code.specs.handlers.specs.Innermost.{handler_of}
+use Rattle.part_code.specs.image.specs.Sections.{Sections}
+use Rattle.part_code.specs.image.specs.Frames.{Frame}
+use Rattle.part_code.specs.ada_tree.specs.declared.statement.ExceptionChoice.{ExceptionChoice}
+use Rattle.part_code.specs.ada_tree.specs.StatementTree.{HandlerTrees, NoHandlers, MoreHandlers, StmtTrees}
+use Rattle.step_soundness.specs.meaning.specs.Programs.{Program}
+use Rattle.step_soundness.specs.meaning.specs.SourceSteps.{handled_exception, handler_for, some_covers}
+use Rattle.step_soundness.specs.meaning.specs.Works.{Item, Declares, DeclaresParameter, Sequence, Does, DoesMain, Repeats, RepeatsWhile, RepeatsFor, Handles, EndsHandler, EndsCall, Activation, ends_of_calls}
 use Rattle.step_soundness.specs.Objects.{IsException}
-use Rattle.expr_code.specs.Seeing.{Package}
+use Rattle.part_code.specs.expr_code.specs.Seeing.{Package}
 use Rattle.part_code.specs.Resting.{AreHeld, Framed, Rests, RestsWith, Shows, held_offset}
 use Rattle.part_code.specs.Handling.{Handling, exception_in}
 use Rattle.part_code.specs.Counting.{in_turn}

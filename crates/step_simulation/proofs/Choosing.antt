@@ -1,34 +1,34 @@
 -- Steps of `case`: the value is compared with the choices of each alternative.
 use Rattle.std.proofs.Common.{◌≡◌, ℕ, suc, ◌+◌, ◌-◌, ◌<◌, ◌≤◌, ℤ, List, [], ◌∷◌, length, Option, Some, None, Bool, true, false, refl, sym, ap, ◌∙◌, subst, arith}
 use Rattle.std.specs.Prelude.{if◌then◌else◌}
-use Rattle.base.specs.declared.schedule.ScheduleLine.{ScheduleLine}
+use Rattle.part_code.specs.base.specs.declared.schedule.ScheduleLine.{ScheduleLine}
 use Rattle.kernel.specs.State.{Kernel}
 use Rattle.kernel.specs.Calm.{Calm}
 use Rattle.kernel.specs.Laws.{QuietStays}
 use Rattle.kernel.specs.Counting.{Spends}
 use Rattle.kernel.specs.RunLaws.{spends_more, spends_trans}
-use Rattle.meaning.specs.Meeting.{Last}
-use Rattle.meaning.specs.MeetingLaws.{spends_takes}
-use Rattle.image.specs.Sections.{Sections}
-use Rattle.image.specs.Frames.{Words, Frame, TaskState}
-use Rattle.image.specs.Steps as steps
-use Rattle.image.specs.Steps.{act, behaviour, caught, does_operation, removed, unwind}
-use Rattle.image.specs.declared.instruction.Operation.TheVariants as op
-use Rattle.ada_tree.specs.Size.{alternatives_size, stmts_size}
-use Rattle.ada_tree.specs.StatementTree.{Case, AlternativeTrees, NoAlternatives, MoreAlternatives, StmtTrees}
-use Rattle.types.specs.Evaluations.{Gives}
-use Rattle.types.specs.Evaluating.{val, value_with}
-use Rattle.types.specs.Values.{Value}
-use Rattle.ada_tree.specs.ExpressionTree.{ExprTree}
-use Rattle.types.specs.Places.{Place}
-use Rattle.meaning.specs.Programs.{Program}
-use Rattle.meaning.specs.SameMeaning.{frames_of}
-use Rattle.meaning.specs.SourceSteps as source
-use Rattle.meaning.specs.SourceSteps.{here_of, place_of, program_behaviour, with_value, work_step}
-use Rattle.meaning.specs.Works.{Item, Does, Goes, Activation, Store, TaskWork}
-use Rattle.expr_code.specs.Views.{At, in_frame, placed, view_of}
-use Rattle.expr_code.specs.Coming.{most_steps, on}
-use Rattle.expr_code.specs.Seeing.{Package, Sees}
+use Rattle.step_soundness.specs.meaning.specs.Meeting.{Last}
+use Rattle.step_soundness.specs.meaning.specs.MeetingLaws.{spends_takes}
+use Rattle.part_code.specs.image.specs.Sections.{Sections}
+use Rattle.part_code.specs.image.specs.Frames.{Words, Frame, TaskState}
+use Rattle.part_code.specs.image.specs.Steps as steps
+use Rattle.part_code.specs.image.specs.Steps.{act, behaviour, caught, does_operation, removed, unwind}
+use Rattle.part_code.specs.image.specs.declared.instruction.Operation.TheVariants as op
+use Rattle.part_code.specs.ada_tree.specs.Size.{alternatives_size, stmts_size}
+use Rattle.part_code.specs.ada_tree.specs.StatementTree.{Case, AlternativeTrees, NoAlternatives, MoreAlternatives, StmtTrees}
+use Rattle.part_code.specs.types.specs.Evaluations.{Gives}
+use Rattle.part_code.specs.types.specs.Evaluating.{val, value_with}
+use Rattle.part_code.specs.types.specs.Values.{Value}
+use Rattle.part_code.specs.ada_tree.specs.ExpressionTree.{ExprTree}
+use Rattle.part_code.specs.types.specs.Places.{Place}
+use Rattle.step_soundness.specs.meaning.specs.Programs.{Program}
+use Rattle.step_soundness.specs.meaning.specs.SameMeaning.{frames_of}
+use Rattle.step_soundness.specs.meaning.specs.SourceSteps as source
+use Rattle.step_soundness.specs.meaning.specs.SourceSteps.{here_of, place_of, program_behaviour, with_value, work_step}
+use Rattle.step_soundness.specs.meaning.specs.Works.{Item, Does, Goes, Activation, Store, TaskWork}
+use Rattle.part_code.specs.expr_code.specs.Views.{At, in_frame, placed, view_of}
+use Rattle.part_code.specs.expr_code.specs.Coming.{most_steps, on}
+use Rattle.part_code.specs.expr_code.specs.Seeing.{Package, Sees}
 use Rattle.part_code.specs.Resting.{Framed}
 use Rattle.part_code.specs.Handling.{Handling}
 use Rattle.part_code.specs.Statements.{AreAlternatives, AreStatements, Numbers, Ways}

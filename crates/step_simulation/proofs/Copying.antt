@@ -1,36 +1,36 @@
 -- Results of a call on their way to their targets: each is checked and stored.
 use Rattle.std.proofs.Common.{◌≡◌, ℕ, suc, ◌-◌, ◌<◌, ◌≤◌, ℤ, pos, List, [], ◌∷◌, length, None, Bool, true, false, refl, sym, ap, ◌∙◌, subst, arith}
 use Rattle.std.specs.Prelude.{if◌then◌else◌, is_some}
-use Rattle.base.specs.declared.exceptions.PredefinedException.TheVariants.{ConstraintError}
-use Rattle.base.specs.declared.schedule.ScheduleLine.{ScheduleLine}
+use Rattle.part_code.specs.base.specs.declared.exceptions.PredefinedException.TheVariants.{ConstraintError}
+use Rattle.part_code.specs.base.specs.declared.schedule.ScheduleLine.{ScheduleLine}
 use Rattle.kernel.specs.State.{Kernel}
 use Rattle.kernel.specs.Effects.{Quiet, after}
 use Rattle.kernel.specs.Calm.{Calm}
 use Rattle.kernel.specs.Counting.{Done}
 use Rattle.kernel.specs.Laws.{QuietStays}
-use Rattle.image.specs.Sections.{Sections}
-use Rattle.image.specs.Frames.{Words, Frame, TaskState}
-use Rattle.image.specs.Steps as steps
-use Rattle.image.specs.Steps.{act}
-use Rattle.types.specs.declared.entity.Subtype.{Subtype}
-use Rattle.types.specs.Evaluations.{Gives, raise}
-use Rattle.types.specs.Evaluating.{passed}
-use Rattle.types.specs.Shapes.{has_shape, shape_of}
-use Rattle.types.specs.Values.{Value, fits}
-use Rattle.expr_rules.specs.Laws.{type_shape}
-use Rattle.expr_soundness.proofs.Agreement.{place_values}
-use Rattle.expr_soundness.proofs.Parts.{subtype_values}
-use Rattle.meaning.specs.Programs.{Program}
-use Rattle.meaning.specs.Targets.{activation_with, stored_in}
-use Rattle.meaning.specs.SourceSteps as source
-use Rattle.meaning.specs.SourceSteps.{place_of, work_step}
-use Rattle.meaning.specs.Works.{Item, Copies, Activation, Home, InActivation, InObject, InPackage, Store, Target, TaskWork, ends_of_calls}
+use Rattle.part_code.specs.image.specs.Sections.{Sections}
+use Rattle.part_code.specs.image.specs.Frames.{Words, Frame, TaskState}
+use Rattle.part_code.specs.image.specs.Steps as steps
+use Rattle.part_code.specs.image.specs.Steps.{act}
+use Rattle.part_code.specs.types.specs.declared.entity.Subtype.{Subtype}
+use Rattle.part_code.specs.types.specs.Evaluations.{Gives, raise}
+use Rattle.part_code.specs.types.specs.Evaluating.{passed}
+use Rattle.part_code.specs.types.specs.Shapes.{has_shape, shape_of}
+use Rattle.part_code.specs.types.specs.Values.{Value, fits}
+use Rattle.step_soundness.specs.expr_rules.specs.Laws.{type_shape}
+use Rattle.step_soundness.specs.expr_soundness.proofs.Agreement.{place_values}
+use Rattle.step_soundness.specs.expr_soundness.proofs.Parts.{subtype_values}
+use Rattle.step_soundness.specs.meaning.specs.Programs.{Program}
+use Rattle.step_soundness.specs.meaning.specs.Targets.{activation_with, stored_in}
+use Rattle.step_soundness.specs.meaning.specs.SourceSteps as source
+use Rattle.step_soundness.specs.meaning.specs.SourceSteps.{place_of, work_step}
+use Rattle.step_soundness.specs.meaning.specs.Works.{Item, Copies, Activation, Home, InActivation, InObject, InPackage, Store, Target, TaskWork, ends_of_calls}
 use Rattle.step_soundness.specs.Judged.{IsWorkOf}
 use Rattle.step_soundness.specs.Objects.{AreOf, AreTargets}
-use Rattle.expr_code.specs.Views.{in_frame, placed}
-use Rattle.expr_code.specs.Coming.{Comes, on}
-use Rattle.expr_code.specs.Seeing.{Package}
-use Rattle.expr_code.specs.declared.visible.Visible.{Visible}
+use Rattle.part_code.specs.expr_code.specs.Views.{in_frame, placed}
+use Rattle.part_code.specs.expr_code.specs.Coming.{Comes, on}
+use Rattle.part_code.specs.expr_code.specs.Seeing.{Package}
+use Rattle.part_code.specs.expr_code.specs.declared.visible.Visible.{Visible}
 use Rattle.part_code.specs.Resting.{RestsWith, Shows}
 use Rattle.part_code.specs.Copying.{AreCopies, ArePlaced, address_of, addresses_of, copies_on}
 use Rattle.part_code.specs.declared.call.Destination.{Destination}

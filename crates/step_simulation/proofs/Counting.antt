@@ -1,35 +1,35 @@
 -- Steps of loops over ranges: the range and the first turn, and the end of each turn.
 use Rattle.std.proofs.Common.{◌≡◌, ℕ, suc, ◌+◌, ◌-◌, ◌<◌, ◌≤◌, ℤ, List, [], ◌∷◌, length, None, Bool, true, false, refl, sym, ap, ◌∙◌, subst, arith}
 use Rattle.std.specs.Prelude.{if◌then◌else◌, int_lt, ⊤}
-use Rattle.base.specs.declared.schedule.ScheduleLine.{ScheduleLine}
+use Rattle.part_code.specs.base.specs.declared.schedule.ScheduleLine.{ScheduleLine}
 use Rattle.kernel.specs.State.{Kernel}
 use Rattle.kernel.specs.Effects.{Quiet}
 use Rattle.kernel.specs.Calm.{Calm}
 use Rattle.kernel.specs.Counting.{Spends}
 use Rattle.kernel.specs.Laws.{QuietStays}
-use Rattle.image.specs.Sections.{Sections}
-use Rattle.image.specs.Frames.{Words, Frame, TaskState}
-use Rattle.image.specs.Steps as steps
-use Rattle.image.specs.Steps.{behaviour}
-use Rattle.image.specs.declared.instruction.Operation.TheVariants as op
-use Rattle.ada_tree.specs.declared.expression.Identifier.{Identifier}
-use Rattle.ada_tree.specs.StatementTree.{For, Loop, RangeTree, StmtTrees}
-use Rattle.types.specs.Evaluations.{Val, Gives, Raises, Meaningless, and_then}
-use Rattle.types.specs.Evaluating.{call, val}
-use Rattle.types.specs.Operators.{are_same}
-use Rattle.types.specs.Places.{Place}
-use Rattle.types.specs.Values.{Value, Number, Truth, Array, Record}
-use Rattle.meaning.specs.Meeting.{Last}
-use Rattle.meaning.specs.MeetingLaws.{spends_takes}
-use Rattle.meaning.specs.Programs.{Program}
-use Rattle.meaning.specs.SameMeaning.{frames_of}
-use Rattle.meaning.specs.SourceSteps as source
-use Rattle.meaning.specs.SourceSteps.{place_of, program_behaviour, with_value, work_step}
-use Rattle.meaning.specs.Works.{Item, Does, RepeatsFor, Goes, Activation, Store, TaskWork, ends_of_calls, frames_left}
-use Rattle.expr_code.specs.Views.{in_frame, placed}
-use Rattle.expr_code.specs.Coming.{most_steps}
-use Rattle.expr_code.specs.Seeing.{Package}
-use Rattle.expr_code.proofs.Coming.{acts}
+use Rattle.part_code.specs.image.specs.Sections.{Sections}
+use Rattle.part_code.specs.image.specs.Frames.{Words, Frame, TaskState}
+use Rattle.part_code.specs.image.specs.Steps as steps
+use Rattle.part_code.specs.image.specs.Steps.{behaviour}
+use Rattle.part_code.specs.image.specs.declared.instruction.Operation.TheVariants as op
+use Rattle.part_code.specs.ada_tree.specs.declared.expression.Identifier.{Identifier}
+use Rattle.part_code.specs.ada_tree.specs.StatementTree.{For, Loop, RangeTree, StmtTrees}
+use Rattle.part_code.specs.types.specs.Evaluations.{Val, Gives, Raises, Meaningless, and_then}
+use Rattle.part_code.specs.types.specs.Evaluating.{call, val}
+use Rattle.part_code.specs.types.specs.Operators.{are_same}
+use Rattle.part_code.specs.types.specs.Places.{Place}
+use Rattle.part_code.specs.types.specs.Values.{Value, Number, Truth, Array, Record}
+use Rattle.step_soundness.specs.meaning.specs.Meeting.{Last}
+use Rattle.step_soundness.specs.meaning.specs.MeetingLaws.{spends_takes}
+use Rattle.step_soundness.specs.meaning.specs.Programs.{Program}
+use Rattle.step_soundness.specs.meaning.specs.SameMeaning.{frames_of}
+use Rattle.step_soundness.specs.meaning.specs.SourceSteps as source
+use Rattle.step_soundness.specs.meaning.specs.SourceSteps.{place_of, program_behaviour, with_value, work_step}
+use Rattle.step_soundness.specs.meaning.specs.Works.{Item, Does, RepeatsFor, Goes, Activation, Store, TaskWork, ends_of_calls, frames_left}
+use Rattle.part_code.specs.expr_code.specs.Views.{in_frame, placed}
+use Rattle.part_code.specs.expr_code.specs.Coming.{most_steps}
+use Rattle.part_code.specs.expr_code.specs.Seeing.{Package}
+use Rattle.part_code.specs.expr_code.proofs.Coming.{acts}
 use Rattle.part_code.specs.Resting.{Framed, RestsWith}
 use Rattle.part_code.specs.Counting.{Bounds, GoesOn, IsCounted, IsRange, bounds, in_turn, number_bounds, turn_first, turn_last, with_last, with_parameter}
 use Rattle.part_code.specs.Statements.{Numbers}

@@ -1,12 +1,12 @@
 -- Where code goes on.
 use Rattle.std.proofs.Common.{◌≡◌, ℕ, ℤ, ◌+◌, ◌≤◌, List, [], ◌∷◌, map, ◌++◌, Bool, Some, refl, sym, ap, ◌∙◌, subst, arith}
-use Rattle.image.specs.Sections.{Sections}
-use Rattle.image.specs.Frames.{Frame}
-use Rattle.ada_tree.specs.StatementTree.{DeclarationTree, StmtTrees, NoStmts, MoreStmts, NoHandlers, MoreHandlers}
-use Rattle.meaning.specs.Programs.{Parameter, Program}
-use Rattle.meaning.specs.Works.{Item, Declares, DeclaresParameter, Sequence, Does, DoesMain, Repeats, RepeatsWhile, RepeatsFor, Handles, EndsHandler, EndsCall, Activation, ends_of_calls}
-use Rattle.meaning.specs.SourceSteps.{before, behind_loop, end_of_body}
-use Rattle.expr_code.specs.Seeing.{Package}
+use Rattle.part_code.specs.image.specs.Sections.{Sections}
+use Rattle.part_code.specs.image.specs.Frames.{Frame}
+use Rattle.part_code.specs.ada_tree.specs.StatementTree.{DeclarationTree, StmtTrees, NoStmts, MoreStmts, NoHandlers, MoreHandlers}
+use Rattle.step_soundness.specs.meaning.specs.Programs.{Parameter, Program}
+use Rattle.step_soundness.specs.meaning.specs.Works.{Item, Declares, DeclaresParameter, Sequence, Does, DoesMain, Repeats, RepeatsWhile, RepeatsFor, Handles, EndsHandler, EndsCall, Activation, ends_of_calls}
+use Rattle.step_soundness.specs.meaning.specs.SourceSteps.{before, behind_loop, end_of_body}
+use Rattle.part_code.specs.expr_code.specs.Seeing.{Package}
 use Rattle.part_code.specs.Resting.{AreHeld, Framed, NarrowsFrame, Shows, held_offset}
 use Rattle.part_code.specs.Handling.{GoesBy, exception_in}
 use Rattle.part_code.specs.Copying.{addresses_of}

@@ -1,27 +1,27 @@
 -- Each step of a task is met by code.
 use Rattle.std.proofs.Common.{◌≡◌, ℕ, suc, ◌<◌, ℤ, List, [], ◌∷◌, Option, Some, None, refl, sym, ap, ◌∙◌, subst, arith}
-use Rattle.base.specs.declared.schedule.ScheduleLine.{ScheduleLine}
+use Rattle.part_code.specs.base.specs.declared.schedule.ScheduleLine.{ScheduleLine}
 use Rattle.kernel.specs.State.{Kernel}
 use Rattle.kernel.specs.Calm.{Calm}
 use Rattle.kernel.specs.Laws.{QuietStays}
-use Rattle.image.specs.Sections.{Sections}
-use Rattle.image.specs.Frames.{Words, Frame, TaskState}
-use Rattle.image.specs.Steps as steps
-use Rattle.image.specs.Steps.{act, behaviour, caught, does_operation, removed, unwind}
-use Rattle.ada_tree.specs.StatementTree.{ObjectTree, DeclarationTree, LocalObject, LocalTask, LocalProtected, StmtTree, Null, Assignment, Exit, Return, Raise, Delay, DelayUntil, If, Case, Loop, Block, Abort, Requeue, Accept, Select, StmtTrees, NoStmts, MoreStmts, ElsifTrees, NoElsifs, MoreElsifs, Forever, While, For, HandlerTrees, NoHandlers}
-use Rattle.ada_tree.specs.declared.program.MainStatement.{MainStatement}
-use Rattle.ada_tree.specs.declared.program.MainStatement.TheVariants as main
-use Rattle.ada_tree.specs.ExpressionTree.{ArgumentTrees, Arguments, ExprTree, MoreArguments, MoreSelectors, NameTree, NoArguments, NoSelectors, SelectorTrees, Text}
-use Rattle.types.specs.Entities.{Put}
-use Rattle.ada_tree.specs.ExpressionTree as expressions
-use Rattle.ada_tree.specs.StatementTree as tree
-use Rattle.meaning.specs.Calls.{Callee, callee_by}
-use Rattle.meaning.specs.Programs.{Program}
-use Rattle.meaning.specs.SourceSteps as source
-use Rattle.meaning.specs.SourceSteps.{here_of, place_of, program_behaviour, with_value, work_step}
-use Rattle.meaning.specs.Works.{Item, Declares, DeclaresParameter, Sequence, Does, DoesMain, Repeats, RepeatsWhile, RepeatsFor, Handles, EndsHandler, EndsCall, Goes, Activation, Store, TaskWork}
+use Rattle.part_code.specs.image.specs.Sections.{Sections}
+use Rattle.part_code.specs.image.specs.Frames.{Words, Frame, TaskState}
+use Rattle.part_code.specs.image.specs.Steps as steps
+use Rattle.part_code.specs.image.specs.Steps.{act, behaviour, caught, does_operation, removed, unwind}
+use Rattle.part_code.specs.ada_tree.specs.StatementTree.{ObjectTree, DeclarationTree, LocalObject, LocalTask, LocalProtected, StmtTree, Null, Assignment, Exit, Return, Raise, Delay, DelayUntil, If, Case, Loop, Block, Abort, Requeue, Accept, Select, StmtTrees, NoStmts, MoreStmts, ElsifTrees, NoElsifs, MoreElsifs, Forever, While, For, HandlerTrees, NoHandlers}
+use Rattle.part_code.specs.ada_tree.specs.declared.program.MainStatement.{MainStatement}
+use Rattle.part_code.specs.ada_tree.specs.declared.program.MainStatement.TheVariants as main
+use Rattle.part_code.specs.ada_tree.specs.ExpressionTree.{ArgumentTrees, Arguments, ExprTree, MoreArguments, MoreSelectors, NameTree, NoArguments, NoSelectors, SelectorTrees, Text}
+use Rattle.part_code.specs.types.specs.Entities.{Put}
+use Rattle.part_code.specs.ada_tree.specs.ExpressionTree as expressions
+use Rattle.part_code.specs.ada_tree.specs.StatementTree as tree
+use Rattle.step_soundness.specs.meaning.specs.Calls.{Callee, callee_by}
+use Rattle.step_soundness.specs.meaning.specs.Programs.{Program}
+use Rattle.step_soundness.specs.meaning.specs.SourceSteps as source
+use Rattle.step_soundness.specs.meaning.specs.SourceSteps.{here_of, place_of, program_behaviour, with_value, work_step}
+use Rattle.step_soundness.specs.meaning.specs.Works.{Item, Declares, DeclaresParameter, Sequence, Does, DoesMain, Repeats, RepeatsWhile, RepeatsFor, Handles, EndsHandler, EndsCall, Goes, Activation, Store, TaskWork}
 use Rattle.step_soundness.specs.Laws.{StepsAreSound, StoresAreAlike}
-use Rattle.expr_code.specs.Seeing.{Package}
+use Rattle.part_code.specs.expr_code.specs.Seeing.{Package}
 use Rattle.part_code.specs.Resting.{Framed}
 use Rattle.part_code.specs.Statements.{IsCalleeCode, IsPutCode, Numbers}
 use Rattle.step_simulation.specs.Standing.{Catching, CodeStands, Copying, Going, IsCatching, Over as Ended, Raised, Shares, items_size, work_size}

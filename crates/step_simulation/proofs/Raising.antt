@@ -1,36 +1,36 @@
 -- Exceptions are raised and handled: each item that is dropped is met by no step, and the last one by the one step of code that raises.
 use Rattle.std.proofs.Common.{◌≡◌, ⊎_elim, ℕ, suc, ◌+◌, ◌-◌, ◌<◌, ◌≤◌, ℤ, List, [], ◌∷◌, length, Option, Some, None, true, refl, sym, ap, ◌∙◌, subst, arith, rules}
 use Rattle.std.specs.Prelude.{◌&&◌, if◌then◌else◌, nat_le, pos}
-use Rattle.base.specs.declared.schedule.ScheduleLine.{ScheduleLine}
+use Rattle.part_code.specs.base.specs.declared.schedule.ScheduleLine.{ScheduleLine}
 use Rattle.kernel.specs.State.{Kernel}
 use Rattle.kernel.specs.State as kernels
 use Rattle.kernel.specs.Effects.{Quiet, Dies}
 use Rattle.kernel.specs.Calm.{Calm}
 use Rattle.kernel.specs.Laws.{QuietStays}
-use Rattle.handlers.specs.Innermost.{handler_of}
-use Rattle.image.specs.Sections.{Sections}
-use Rattle.image.specs.Frames.{Words, Frame, TaskState}
-use Rattle.image.specs.Scalars.{exception_of}
-use Rattle.image.specs.Steps as steps
-use Rattle.image.specs.Steps.{act, behaviour, caught, loaded, raises_number, removed, unwind}
-use Rattle.image.specs.declared.instruction.Operation.TheVariants as op
-use Rattle.ada_tree.specs.declared.expression.Identifier.{Identifier}
-use Rattle.ada_tree.specs.StatementTree.{HandlerTrees, Raise, StmtTrees}
-use Rattle.types.specs.Evaluations.{Val, Raises}
-use Rattle.meaning.specs.Meeting.{Last}
-use Rattle.meaning.specs.MeetingLaws.{spends_takes, still_by, moves_by}
-use Rattle.meaning.specs.Programs.{Program}
-use Rattle.meaning.specs.SameMeaning.{frames_of}
-use Rattle.meaning.specs.SourceSteps as source
-use Rattle.meaning.specs.SourceSteps.{before, handler_for, program_behaviour, work_step}
-use Rattle.meaning.specs.Works.{Item, Declares, DeclaresParameter, Sequence, Does, DoesMain, Repeats, RepeatsWhile, RepeatsFor, Handles, EndsHandler, EndsCall, EndsAction, EndsServed, Queued, Goes, Raising, Activation, Store, Target, TaskWork}
+use Rattle.part_code.specs.handlers.specs.Innermost.{handler_of}
+use Rattle.part_code.specs.image.specs.Sections.{Sections}
+use Rattle.part_code.specs.image.specs.Frames.{Words, Frame, TaskState}
+use Rattle.part_code.specs.image.specs.Scalars.{exception_of}
+use Rattle.part_code.specs.image.specs.Steps as steps
+use Rattle.part_code.specs.image.specs.Steps.{act, behaviour, caught, loaded, raises_number, removed, unwind}
+use Rattle.part_code.specs.image.specs.declared.instruction.Operation.TheVariants as op
+use Rattle.part_code.specs.ada_tree.specs.declared.expression.Identifier.{Identifier}
+use Rattle.part_code.specs.ada_tree.specs.StatementTree.{HandlerTrees, Raise, StmtTrees}
+use Rattle.part_code.specs.types.specs.Evaluations.{Val, Raises}
+use Rattle.step_soundness.specs.meaning.specs.Meeting.{Last}
+use Rattle.step_soundness.specs.meaning.specs.MeetingLaws.{spends_takes, still_by, moves_by}
+use Rattle.step_soundness.specs.meaning.specs.Programs.{Program}
+use Rattle.step_soundness.specs.meaning.specs.SameMeaning.{frames_of}
+use Rattle.step_soundness.specs.meaning.specs.SourceSteps as source
+use Rattle.step_soundness.specs.meaning.specs.SourceSteps.{before, handler_for, program_behaviour, work_step}
+use Rattle.step_soundness.specs.meaning.specs.Works.{Item, Declares, DeclaresParameter, Sequence, Does, DoesMain, Repeats, RepeatsWhile, RepeatsFor, Handles, EndsHandler, EndsCall, EndsAction, EndsServed, Queued, Goes, Raising, Activation, Store, Target, TaskWork}
 use Rattle.step_soundness.specs.Holding.{waits_after}
 use Rattle.step_soundness.specs.Objects.{IsException}
-use Rattle.expr_code.specs.Views.{At, in_frame, placed}
-use Rattle.expr_code.specs.Coming.{Throws, most_steps}
-use Rattle.expr_code.specs.Seeing.{Package}
-use Rattle.expr_code.proofs.Coming.{acts}
-use Rattle.expr_code.proofs.Coming as coming
+use Rattle.part_code.specs.expr_code.specs.Views.{At, in_frame, placed}
+use Rattle.part_code.specs.expr_code.specs.Coming.{Throws, most_steps}
+use Rattle.part_code.specs.expr_code.specs.Seeing.{Package}
+use Rattle.part_code.specs.expr_code.proofs.Coming.{acts}
+use Rattle.part_code.specs.expr_code.proofs.Coming as coming
 use Rattle.part_code.specs.Resting.{StandsFor}
 use Rattle.part_code.specs.Statements.{Numbers}
 use Rattle.step_simulation.specs.Standing.{AreInner, Catches, Catching, CaughtIf, CodeStands, IsSoundWork, Over as Ended, Raised, Shares, items_size, relation, work_size}

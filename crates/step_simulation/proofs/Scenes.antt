@@ -1,7 +1,7 @@
 -- A step of a task and the frame that stands for its work: how steps meet, exceptions on their way, items without code, ways out.
 use Rattle.std.proofs.Common.{◌≡◌, ℕ, suc, ◌+◌, ◌-◌, ◌<◌, ◌≤◌, ◌⊎◌, inl, inr, ⊎_elim, ℤ, List, [], ◌∷◌, length, Option, Some, None, refl, sym, ap, ◌∙◌, subst, arith}
-use Rattle.base.specs.declared.schedule.ScheduleLine.{ScheduleLine}
-use Rattle.base.specs.declared.limits.TheConstants.{FRAMES}
+use Rattle.part_code.specs.base.specs.declared.schedule.ScheduleLine.{ScheduleLine}
+use Rattle.part_code.specs.base.specs.declared.limits.TheConstants.{FRAMES}
 use Rattle.kernel.specs.State.{Kernel}
 use Rattle.kernel.specs.Effects.{Quiet, Finishes, after}
 use Rattle.kernel.specs.Worlds.{Solo}
@@ -9,35 +9,35 @@ use Rattle.kernel.specs.Calm.{Calm}
 use Rattle.kernel.specs.Counting.{Spends, Done}
 use Rattle.kernel.specs.Laws.{QuietStays}
 use Rattle.kernel.specs.RunLaws.{spends_trans, spends_more}
-use Rattle.image.specs.Sections.{Sections}
-use Rattle.image.specs.Frames.{Inner, Words, Frame, TaskState, object_words, own_object}
-use Rattle.image.specs.Steps as steps
-use Rattle.image.specs.Steps.{act, behaviour, does_operation}
-use Rattle.image.specs.declared.instruction.Operation.{Operation}
-use Rattle.image.specs.declared.instruction.Operation.TheVariants as op
-use Rattle.image.specs.declared.instruction.Region.TheVariants as regions
-use Rattle.ada_tree.specs.StatementTree.{Null, Exit, Return}
-use Rattle.types.specs.Evaluations.{Val, Gives, Raises, Meaningless}
-use Rattle.types.specs.Evaluating.{Calls, call}
-use Rattle.types.specs.Places.{Place}
-use Rattle.meaning.specs.Meeting.{Takes, Last, OwnStep, Over, Within, taken, spent, Met}
-use Rattle.meaning.specs.MeetingLaws.{spends_takes, still_by, moves_by, walks_by, quiet_takes}
-use Rattle.meaning.specs.Lifting.{taken_unseen}
-use Rattle.meaning.specs.Programs.{Program}
-use Rattle.meaning.specs.SameMeaning.{frames_of}
-use Rattle.meaning.specs.SourceSteps as source
-use Rattle.meaning.specs.SourceSteps.{here_of, place_of, program_behaviour, with_value, work_step}
-use Rattle.meaning.specs.Works.{Item, Does, Goes, Activation, Store, TaskWork, ends_of_calls, frames_left}
+use Rattle.part_code.specs.image.specs.Sections.{Sections}
+use Rattle.part_code.specs.image.specs.Frames.{Inner, Words, Frame, TaskState, object_words, own_object}
+use Rattle.part_code.specs.image.specs.Steps as steps
+use Rattle.part_code.specs.image.specs.Steps.{act, behaviour, does_operation}
+use Rattle.part_code.specs.image.specs.declared.instruction.Operation.{Operation}
+use Rattle.part_code.specs.image.specs.declared.instruction.Operation.TheVariants as op
+use Rattle.part_code.specs.image.specs.declared.instruction.Region.TheVariants as regions
+use Rattle.part_code.specs.ada_tree.specs.StatementTree.{Null, Exit, Return}
+use Rattle.part_code.specs.types.specs.Evaluations.{Val, Gives, Raises, Meaningless}
+use Rattle.part_code.specs.types.specs.Evaluating.{Calls, call}
+use Rattle.part_code.specs.types.specs.Places.{Place}
+use Rattle.step_soundness.specs.meaning.specs.Meeting.{Takes, Last, OwnStep, Over, Within, taken, spent, Met}
+use Rattle.step_soundness.specs.meaning.specs.MeetingLaws.{spends_takes, still_by, moves_by, walks_by, quiet_takes}
+use Rattle.step_soundness.specs.meaning.specs.Lifting.{taken_unseen}
+use Rattle.step_soundness.specs.meaning.specs.Programs.{Program}
+use Rattle.step_soundness.specs.meaning.specs.SameMeaning.{frames_of}
+use Rattle.step_soundness.specs.meaning.specs.SourceSteps as source
+use Rattle.step_soundness.specs.meaning.specs.SourceSteps.{here_of, place_of, program_behaviour, with_value, work_step}
+use Rattle.step_soundness.specs.meaning.specs.Works.{Item, Does, Goes, Activation, Store, TaskWork, ends_of_calls, frames_left}
 use Rattle.step_soundness.specs.Holding.{IsSoundStep, IsSoundStore, IsSoundTask, waits_after}
 use Rattle.step_soundness.specs.Laws.{Premises, StepsAreSound, StoresAreAlike}
 use Rattle.step_soundness.specs.Objects.{IsException}
 use Rattle.step_soundness.specs.Opened.{opened_in}
-use Rattle.expr_code.specs.Views.{At, in_frame, placed, view_of}
-use Rattle.expr_code.specs.Coming.{Comes, Throws, most_steps, size_of}
-use Rattle.expr_code.specs.Computing.{Everywhere}
-use Rattle.expr_code.specs.Seeing.{Package, Sees, SeesPackage, library_of}
-use Rattle.expr_code.proofs.Coming.{acts}
-use Rattle.expr_code.proofs.Coming as coming
+use Rattle.part_code.specs.expr_code.specs.Views.{At, in_frame, placed, view_of}
+use Rattle.part_code.specs.expr_code.specs.Coming.{Comes, Throws, most_steps, size_of}
+use Rattle.part_code.specs.expr_code.specs.Computing.{Everywhere}
+use Rattle.part_code.specs.expr_code.specs.Seeing.{Package, Sees, SeesPackage, library_of}
+use Rattle.part_code.specs.expr_code.proofs.Coming.{acts}
+use Rattle.part_code.specs.expr_code.proofs.Coming as coming
 use Rattle.part_code.specs.Resting.{Framed, HeldWord, IsAddressable, Knows, NarrowsFrame, Rests, RestsWith, Shows, StandsFor}
 use Rattle.part_code.specs.Handling.{GoesBy}
 use Rattle.part_code.specs.Statements.{Numbers}

@@ -1,12 +1,12 @@
 -- What is left to do grows less where no code is run.
 use Rattle.std.proofs.Common.{◌≡◌, ◌+◌, ◌<◌, ◌≤◌, List, [], ◌∷◌, map, arith}
 use Rattle.std.specs.Prelude.{◌++◌, ◌*◌}
-use Rattle.ada_tree.specs.Size.{declaration_size, stmt_size, stmts_size, total}
-use Rattle.ada_tree.specs.StatementTree.{ObjectTree, DeclarationTree, LocalObject, LocalTask, LocalProtected, StmtTree, Null, Assignment, Exit, Return, Raise, Delay, DelayUntil, If, Case, Loop, Block, Abort, Requeue, Accept, Select, StmtTrees, NoStmts, MoreStmts, ElsifTrees, NoElsifs, MoreElsifs, Forever, While, HandlerTrees, NoHandlers}
-use Rattle.ada_tree.specs.StatementTree as tree
-use Rattle.meaning.specs.SourceSteps as source
-use Rattle.meaning.specs.SourceSteps.{here_of, place_of, program_behaviour, with_value, work_step}
-use Rattle.meaning.specs.Works.{Item, Declares, DeclaresParameter, Sequence, Does, DoesMain, Repeats, RepeatsWhile, RepeatsFor, Handles, EndsHandler, EndsCall, EndsAction, EndsServed, Queued}
+use Rattle.part_code.specs.ada_tree.specs.Size.{declaration_size, stmt_size, stmts_size, total}
+use Rattle.part_code.specs.ada_tree.specs.StatementTree.{ObjectTree, DeclarationTree, LocalObject, LocalTask, LocalProtected, StmtTree, Null, Assignment, Exit, Return, Raise, Delay, DelayUntil, If, Case, Loop, Block, Abort, Requeue, Accept, Select, StmtTrees, NoStmts, MoreStmts, ElsifTrees, NoElsifs, MoreElsifs, Forever, While, HandlerTrees, NoHandlers}
+use Rattle.part_code.specs.ada_tree.specs.StatementTree as tree
+use Rattle.step_soundness.specs.meaning.specs.SourceSteps as source
+use Rattle.step_soundness.specs.meaning.specs.SourceSteps.{here_of, place_of, program_behaviour, with_value, work_step}
+use Rattle.step_soundness.specs.meaning.specs.Works.{Item, Declares, DeclaresParameter, Sequence, Does, DoesMain, Repeats, RepeatsWhile, RepeatsFor, Handles, EndsHandler, EndsCall, EndsAction, EndsServed, Queued}
 use Rattle.step_simulation.specs.Standing.{items_size}
 
 positive : (s : StmtTree) → 1 ≤ stmt_size s

@@ -1,39 +1,39 @@
 -- Steps that evaluate: conditions, loops, values that are stored, lines.
 use Rattle.std.proofs.Common.{◌≡◌, ℕ, suc, ◌+◌, ◌-◌, ◌<◌, ◌≤◌, ℤ, List, [], ◌∷◌, length, Option, Some, None, Bool, true, false, refl, sym, ap, ◌∙◌, subst, arith}
 use Rattle.std.specs.Prelude.{if◌then◌else◌}
-use Rattle.base.specs.declared.limits.TheConstants.{FRAMES}
-use Rattle.base.specs.declared.schedule.ScheduleLine.{ScheduleLine}
+use Rattle.part_code.specs.base.specs.declared.limits.TheConstants.{FRAMES}
+use Rattle.part_code.specs.base.specs.declared.schedule.ScheduleLine.{ScheduleLine}
 use Rattle.kernel.specs.State.{Kernel}
 use Rattle.kernel.specs.Effects.{Quiet, Says}
 use Rattle.kernel.specs.Calm.{Calm}
 use Rattle.kernel.specs.Laws.{QuietStays}
 use Rattle.kernel.specs.RunLaws.{spends_trans}
-use Rattle.image.specs.Sections.{Sections}
-use Rattle.image.specs.Frames.{Words, Frame, TaskState}
-use Rattle.image.specs.Steps as steps
-use Rattle.image.specs.Steps.{act, behaviour, caught, does_operation, removed, unwind}
-use Rattle.image.specs.declared.instruction.Operation.{Operation}
-use Rattle.image.specs.declared.instruction.Operation.TheVariants as op
-use Rattle.ada_tree.specs.StatementTree.{ObjectTree, DeclarationTree, LocalObject, LocalTask, LocalProtected, StmtTree, Null, Assignment, Exit, Return, Raise, Delay, DelayUntil, If, Case, Loop, Block, Abort, Requeue, Accept, Select, StmtTrees, NoStmts, MoreStmts, ElsifTrees, NoElsifs, MoreElsifs, Forever, While, HandlerTrees, NoHandlers}
-use Rattle.types.specs.Evaluations.{Val, Gives, Raises, Meaningless, and_then}
-use Rattle.types.specs.Evaluating.{Calls, call, passed, truth_of, value_with}
-use Rattle.types.specs.Shapes.{initial, word_of}
-use Rattle.types.specs.Values.{Value, Number, Truth, Array, Record}
-use Rattle.ada_tree.specs.ExpressionTree.{ArgumentTrees, Arguments, ExprTree, MoreArguments, MoreSelectors, NameTree, NoArguments, NoSelectors, SelectorTrees, Text}
-use Rattle.ada_tree.specs.ExpressionTree as expressions
-use Rattle.ada_tree.specs.StatementTree as tree
-use Rattle.types.specs.Places.{Place}
-use Rattle.meaning.specs.Programs.{Parameter, Program}
-use Rattle.meaning.specs.Targets.{activation_with, store_with, stored_in, target}
-use Rattle.meaning.specs.SameMeaning.{frames_of}
-use Rattle.meaning.specs.SourceSteps as source
-use Rattle.meaning.specs.SourceSteps.{here_of, place_of, program_behaviour, with_value, work_step}
-use Rattle.meaning.specs.Works.{Item, Declares, DeclaresParameter, Does, Repeats, RepeatsWhile, Goes, Activation, Home, InActivation, InObject, InPackage, Store, Target, TaskWork, ends_of_calls, frames_left}
-use Rattle.expr_code.specs.Views.{At, in_frame, placed}
-use Rattle.expr_code.specs.Coming.{Comes, most_steps, on, size_of}
-use Rattle.expr_code.specs.Seeing.{Package}
-use Rattle.expr_code.proofs.Coming.{acts, after_first}
-use Rattle.expr_code.proofs.Coming as coming
+use Rattle.part_code.specs.image.specs.Sections.{Sections}
+use Rattle.part_code.specs.image.specs.Frames.{Words, Frame, TaskState}
+use Rattle.part_code.specs.image.specs.Steps as steps
+use Rattle.part_code.specs.image.specs.Steps.{act, behaviour, caught, does_operation, removed, unwind}
+use Rattle.part_code.specs.image.specs.declared.instruction.Operation.{Operation}
+use Rattle.part_code.specs.image.specs.declared.instruction.Operation.TheVariants as op
+use Rattle.part_code.specs.ada_tree.specs.StatementTree.{ObjectTree, DeclarationTree, LocalObject, LocalTask, LocalProtected, StmtTree, Null, Assignment, Exit, Return, Raise, Delay, DelayUntil, If, Case, Loop, Block, Abort, Requeue, Accept, Select, StmtTrees, NoStmts, MoreStmts, ElsifTrees, NoElsifs, MoreElsifs, Forever, While, HandlerTrees, NoHandlers}
+use Rattle.part_code.specs.types.specs.Evaluations.{Val, Gives, Raises, Meaningless, and_then}
+use Rattle.part_code.specs.types.specs.Evaluating.{Calls, call, passed, truth_of, value_with}
+use Rattle.part_code.specs.types.specs.Shapes.{initial, word_of}
+use Rattle.part_code.specs.types.specs.Values.{Value, Number, Truth, Array, Record}
+use Rattle.part_code.specs.ada_tree.specs.ExpressionTree.{ArgumentTrees, Arguments, ExprTree, MoreArguments, MoreSelectors, NameTree, NoArguments, NoSelectors, SelectorTrees, Text}
+use Rattle.part_code.specs.ada_tree.specs.ExpressionTree as expressions
+use Rattle.part_code.specs.ada_tree.specs.StatementTree as tree
+use Rattle.part_code.specs.types.specs.Places.{Place}
+use Rattle.step_soundness.specs.meaning.specs.Programs.{Parameter, Program}
+use Rattle.step_soundness.specs.meaning.specs.Targets.{activation_with, store_with, stored_in, target}
+use Rattle.step_soundness.specs.meaning.specs.SameMeaning.{frames_of}
+use Rattle.step_soundness.specs.meaning.specs.SourceSteps as source
+use Rattle.step_soundness.specs.meaning.specs.SourceSteps.{here_of, place_of, program_behaviour, with_value, work_step}
+use Rattle.step_soundness.specs.meaning.specs.Works.{Item, Declares, DeclaresParameter, Does, Repeats, RepeatsWhile, Goes, Activation, Home, InActivation, InObject, InPackage, Store, Target, TaskWork, ends_of_calls, frames_left}
+use Rattle.part_code.specs.expr_code.specs.Views.{At, in_frame, placed}
+use Rattle.part_code.specs.expr_code.specs.Coming.{Comes, most_steps, on, size_of}
+use Rattle.part_code.specs.expr_code.specs.Seeing.{Package}
+use Rattle.part_code.specs.expr_code.proofs.Coming.{acts, after_first}
+use Rattle.part_code.specs.expr_code.proofs.Coming as coming
 use Rattle.part_code.specs.Resting.{Framed, HeldWord, RestsWith, Shows}
 use Rattle.part_code.proofs.Holding.{held_kept}
 use Rattle.part_code.specs.Handling.{GoesBy}

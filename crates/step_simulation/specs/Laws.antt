@@ -1,21 +1,21 @@
 -- What is proved of code that stands for work, as a statement; it is the contract of a public function.
 use Rattle.std.specs.Prelude.{◌≡◌, ◌≤◌, ℕ, List, length}
-use Rattle.base.specs.declared.schedule.ScheduleLine.{ScheduleLine}
+use Rattle.part_code.specs.base.specs.declared.schedule.ScheduleLine.{ScheduleLine}
 use Rattle.kernel.specs.State.{Kernel}
 use Rattle.kernel.specs.Calm.{Calm}
-use Rattle.image.specs.Sections.{Sections}
-use Rattle.image.specs.Frames.{TaskState, Words}
-use Rattle.image.specs.Steps.{behaviour}
-use Rattle.types.specs.Evaluating.{call}
-use Rattle.meaning.specs.Meeting.{Met}
-use Rattle.meaning.specs.Programs.{Program}
-use Rattle.meaning.specs.SameMeaning.{frames_of}
-use Rattle.meaning.specs.SourceSteps.{program_behaviour}
-use Rattle.meaning.specs.Works.{Store, TaskWork}
+use Rattle.part_code.specs.image.specs.Sections.{Sections}
+use Rattle.part_code.specs.image.specs.Frames.{TaskState, Words}
+use Rattle.part_code.specs.image.specs.Steps.{behaviour}
+use Rattle.part_code.specs.types.specs.Evaluating.{call}
+use Rattle.step_soundness.specs.meaning.specs.Meeting.{Met}
+use Rattle.step_soundness.specs.meaning.specs.Programs.{Program}
+use Rattle.step_soundness.specs.meaning.specs.SameMeaning.{frames_of}
+use Rattle.step_soundness.specs.meaning.specs.SourceSteps.{program_behaviour}
+use Rattle.step_soundness.specs.meaning.specs.Works.{Store, TaskWork}
 use Rattle.step_soundness.specs.Laws.{Premises}
-use Rattle.expr_code.specs.Coming.{most_steps}
-use Rattle.expr_code.specs.Computing.{Answers}
-use Rattle.expr_code.specs.Seeing.{library_of, Package}
+use Rattle.part_code.specs.expr_code.specs.Coming.{most_steps}
+use Rattle.part_code.specs.expr_code.specs.Computing.{Answers}
+use Rattle.part_code.specs.expr_code.specs.Seeing.{library_of, Package}
 use Rattle.part_code.specs.Statements.{HasProcedures, Numbers}
 use Rattle.step_simulation.specs.Standing.{Shares, WorkStands, relation}
 

@@ -1,2 +1,3 @@
+pub use Rattle.part_code as part_code
 pub mod Standing
 pub mod Laws

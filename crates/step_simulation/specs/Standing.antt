@@ -1,25 +1,25 @@
 -- Which frames of code stand for which work of a task.
 use Rattle.std.specs.Prelude.{◌≡◌, ◌≤◌, ℕ, suc, ◌+◌, ◌*◌, ℤ, pos, List, [], ◌∷◌, length, Option, Some, None, ◌<◌, ⊤}
-use Rattle.ada_tree.specs.Size.{declaration_size, stmt_size, stmts_size}
-use Rattle.ada_tree.specs.StatementTree.{NoHandlers, MoreHandlers, StmtTrees}
-use Rattle.base.specs.declared.schedule.ScheduleLine.{ScheduleLine}
-use Rattle.handlers.specs.Innermost.{handler_of}
+use Rattle.part_code.specs.ada_tree.specs.Size.{declaration_size, stmt_size, stmts_size}
+use Rattle.part_code.specs.ada_tree.specs.StatementTree.{NoHandlers, MoreHandlers, StmtTrees}
+use Rattle.part_code.specs.base.specs.declared.schedule.ScheduleLine.{ScheduleLine}
+use Rattle.part_code.specs.handlers.specs.Innermost.{handler_of}
 use Rattle.kernel.specs.State.{Kernel, Outcome}
 use Rattle.kernel.specs.Effects.{Effect, Quiet, Says, Finishes, Dies, after}
-use Rattle.image.specs.Sections.{Sections, first_place}
-use Rattle.image.specs.Operations.{called, results_of}
-use Rattle.image.specs.Frames.{Inner, Frame, TaskState, Words}
-use Rattle.image.specs.Steps as steps
-use Rattle.image.specs.declared.instruction.Operation.TheVariants as op
-use Rattle.types.specs.Values.{Value}
-use Rattle.meaning.specs.Meeting.{Relation}
-use Rattle.meaning.specs.Programs.{Program}
-use Rattle.meaning.specs.Works.{Item, Declares, DeclaresParameter, Sequence, Does, DoesMain, Repeats, RepeatsWhile, RepeatsFor, Handles, EndsHandler, EndsCall, EndsServed, Work, Goes, Copies, Raising, Activation, GivenToCaller, Store, Target, TaskWork, ends_of_calls}
-use Rattle.meaning.specs.SourceSteps.{before, handler_for}
+use Rattle.part_code.specs.image.specs.Sections.{Sections, first_place}
+use Rattle.part_code.specs.image.specs.Operations.{called, results_of}
+use Rattle.part_code.specs.image.specs.Frames.{Inner, Frame, TaskState, Words}
+use Rattle.part_code.specs.image.specs.Steps as steps
+use Rattle.part_code.specs.image.specs.declared.instruction.Operation.TheVariants as op
+use Rattle.part_code.specs.types.specs.Values.{Value}
+use Rattle.step_soundness.specs.meaning.specs.Meeting.{Relation}
+use Rattle.step_soundness.specs.meaning.specs.Programs.{Program}
+use Rattle.step_soundness.specs.meaning.specs.Works.{Item, Declares, DeclaresParameter, Sequence, Does, DoesMain, Repeats, RepeatsWhile, RepeatsFor, Handles, EndsHandler, EndsCall, EndsServed, Work, Goes, Copies, Raising, Activation, GivenToCaller, Store, Target, TaskWork, ends_of_calls}
+use Rattle.step_soundness.specs.meaning.specs.SourceSteps.{before, handler_for}
 use Rattle.step_soundness.specs.Holding.{IsSoundStore, IsSoundTask}
-use Rattle.expr_code.specs.Views.{At, placed}
-use Rattle.expr_code.specs.Coming.{Throws, size_of}
-use Rattle.expr_code.specs.Seeing.{Package}
+use Rattle.part_code.specs.expr_code.specs.Views.{At, placed}
+use Rattle.part_code.specs.expr_code.specs.Coming.{Throws, size_of}
+use Rattle.part_code.specs.expr_code.specs.Seeing.{Package}
 use Rattle.part_code.specs.Resting.{Framed, HeldWord, NarrowsFrame, RestsWith, Shows, StandsFor}
 use Rattle.part_code.specs.Handling.{GoesBy, Handling, exception_in}
 use Rattle.part_code.specs.Copying.{AreCopies, ArePlaced, GivesBack, addresses_of, copies_on, held_at}

@@ -1,26 +1,26 @@
 -- Names of targets and parts of values, by the laws of targets: what steps ask of them.
 use Rattle.std.proofs.Common.{◌≡◌, ℕ, ◌<◌, List, [], ◌∷◌, Bool, true, false, Option, Some, None, refl, sym, ap, ◌∙◌, arith}
 use Rattle.std.specs.Prelude.{cond, nat_lt, option_map}
-use Rattle.ada_tree.specs.declared.expression.Identifier.{Identifier}
-use Rattle.ada_tree.specs.ExpressionTree.{SelectorTrees}
-use Rattle.types.specs.declared.entity.Subtype.{Subtype}
-use Rattle.types.specs.declared.standing.Standing.{Standing}
-use Rattle.types.specs.Entities.{TypeForm, Integers, Booleans, Times, Spans, Arrays, Records}
-use Rattle.types.specs.Scopes.{Scope, form_at}
-use Rattle.types.specs.Standings.{component_of, standing_of}
-use Rattle.types.specs.Values.{Value}
-use Rattle.types.specs.Evaluations.{Val, Gives, Raises, Meaningless}
-use Rattle.types.specs.Places.{Object, Place, object_of}
-use Rattle.expr_rules.specs.declared.own.Own.TheVariants.{Typed}
-use Rattle.expr_rules.specs.Typing.{own_of_standing}
-use Rattle.expr_rules.specs.ExpressionRules.{target_faults}
+use Rattle.expr_soundness.specs.ada_tree.specs.declared.expression.Identifier.{Identifier}
+use Rattle.expr_soundness.specs.ada_tree.specs.ExpressionTree.{SelectorTrees}
+use Rattle.expr_soundness.specs.types.specs.declared.entity.Subtype.{Subtype}
+use Rattle.expr_soundness.specs.types.specs.declared.standing.Standing.{Standing}
+use Rattle.expr_soundness.specs.types.specs.Entities.{TypeForm, Integers, Booleans, Times, Spans, Arrays, Records}
+use Rattle.expr_soundness.specs.types.specs.Scopes.{Scope, form_at}
+use Rattle.expr_soundness.specs.types.specs.Standings.{component_of, standing_of}
+use Rattle.expr_soundness.specs.types.specs.Values.{Value}
+use Rattle.expr_soundness.specs.types.specs.Evaluations.{Val, Gives, Raises, Meaningless}
+use Rattle.expr_soundness.specs.types.specs.Places.{Object, Place, object_of}
+use Rattle.expr_soundness.specs.expr_rules.specs.declared.own.Own.TheVariants.{Typed}
+use Rattle.expr_soundness.specs.expr_rules.specs.Typing.{own_of_standing}
+use Rattle.expr_soundness.specs.expr_rules.specs.ExpressionRules.{target_faults}
 use Rattle.expr_soundness.specs.SoundScopes.{IsKnown, SoundScope}
 use Rattle.expr_soundness.specs.Agreeing.{Agrees}
 use Rattle.expr_soundness.specs.Answers.{FunctionsAreSound}
 use Rattle.expr_soundness.specs.Variables as variables
 use Rattle.expr_soundness.specs.Variables.{TargetsAreVariables, part_in, part_subtype}
-use Rattle.meaning.specs.Works.{Part, Element, Field, Home, InActivation, InPackage, InObject, Target, Activation, Store}
-use Rattle.meaning.specs.Targets.{objects_of, part_value, target, with_part}
+use Rattle.expr_soundness.specs.meaning.specs.Works.{Part, Element, Field, Home, InActivation, InPackage, InObject, Target, Activation, Store}
+use Rattle.expr_soundness.specs.meaning.specs.Targets.{objects_of, part_value, target, with_part}
 use Rattle.step_soundness.specs.Objects.{IsOf, IsPartIn, PartOf, object_subtype, subtype_in}
 use Rattle.step_soundness.proofs.Sights.{subtype_values}
 

@@ -1,12 +1,12 @@
 -- What agrees with the objects of one store agrees with those of each other one that is sound: objects have the same names and subtypes in both.
 use Rattle.std.proofs.Common.{◌≡◌, ℕ, inl, inr, List, Option, Some, None, refl, sym, ◌∙◌}
 use Rattle.std.specs.Prelude.{option_map}
-use Rattle.types.specs.Scopes.{Scope}
-use Rattle.types.specs.Places.{Object, Place, object_of, own_components}
+use Rattle.expr_soundness.specs.types.specs.Scopes.{Scope}
+use Rattle.expr_soundness.specs.types.specs.Places.{Object, Place, object_of, own_components}
 use Rattle.expr_soundness.specs.Agreeing.{Agrees}
 use Rattle.expr_soundness.proofs.Agreement.{IsAlike, changed_agrees, second_alike}
-use Rattle.meaning.specs.Programs.{Program}
-use Rattle.meaning.specs.Works.{Store}
+use Rattle.expr_soundness.specs.meaning.specs.Programs.{Program}
+use Rattle.expr_soundness.specs.meaning.specs.Works.{Store}
 use Rattle.step_soundness.specs.Objects.{AreSoundObjects, object_subtype, subtype_in}
 use Rattle.step_soundness.specs.Holding.{IsSoundStore, seen}
 use Rattle.step_soundness.specs.Laws.{StoresAreAlike}

@@ -1,31 +1,31 @@
 -- Statements that call: what a legal name calls is found, with its actuals (RM 6.4, 9.5.3).
 use Rattle.std.proofs.Common.{◌≡◌, inl, inr, ℕ, zero, suc, List, [], ◌∷◌, length, map, Bool, true, false, not, Option, Some, None, refl, sym, ap, ◌∙◌, subst}
 use Rattle.std.specs.Prelude.{option_map, slice_get}
-use Rattle.base.specs.declared.exceptions.PredefinedException.TheVariants.{ProgramError}
-use Rattle.kernel.specs.Effects.{Says, is_inside_any}
-use Rattle.ada_tree.specs.declared.expression.Identifier.{Identifier}
-use Rattle.ada_tree.specs.ExpressionTree as tree
-use Rattle.ada_tree.specs.ExpressionTree.{ExprTree, NameTree, SelectorTrees, NoSelectors, MoreSelectors, Component, Arguments, ArgumentTrees, NoArguments, MoreArguments, Text}
-use Rattle.ada_tree.specs.StatementTree as statements
-use Rattle.types.specs.declared.entity.PredefinedOperation.{PredefinedOperation}
-use Rattle.types.specs.declared.entity.PredefinedOperation.TheVariants as predefined
-use Rattle.types.specs.declared.standing.Callee.{Callee as Called}
-use Rattle.types.specs.declared.standing.Callee.TheVariants as callee
-use Rattle.types.specs.declared.standing.Standing.TheVariants as standing
-use Rattle.types.specs.Entities.{Entity, Operation, Profile, ProtectedObject}
-use Rattle.types.specs.Entities as entity
-use Rattle.types.specs.Scopes.{Scope, entity_at, is_visible, number_of, profile_of, protected_at, protected_of}
-use Rattle.types.specs.Standings.{callee_profile, count, operation_profile, profile_among, select_all, standing_of, stands_first, stands_for}
-use Rattle.expr_rules.specs.Faults.{rule}
-use Rattle.expr_rules.specs.NameRules.{call_rule, call_slot, formal_slot_or}
-use Rattle.expr_rules.specs.ExpressionRules.{arguments_faults, call_faults, name_faults, selectors_faults}
-use Rattle.expr_rules.proofs.TypedLaw.{back_empty, front_empty, unbroken}
+use Rattle.expr_soundness.specs.base.specs.declared.exceptions.PredefinedException.TheVariants.{ProgramError}
+use Rattle.expr_soundness.specs.kernel.specs.Effects.{Says, is_inside_any}
+use Rattle.expr_soundness.specs.ada_tree.specs.declared.expression.Identifier.{Identifier}
+use Rattle.expr_soundness.specs.ada_tree.specs.ExpressionTree as tree
+use Rattle.expr_soundness.specs.ada_tree.specs.ExpressionTree.{ExprTree, NameTree, SelectorTrees, NoSelectors, MoreSelectors, Component, Arguments, ArgumentTrees, NoArguments, MoreArguments, Text}
+use Rattle.expr_soundness.specs.ada_tree.specs.StatementTree as statements
+use Rattle.expr_soundness.specs.types.specs.declared.entity.PredefinedOperation.{PredefinedOperation}
+use Rattle.expr_soundness.specs.types.specs.declared.entity.PredefinedOperation.TheVariants as predefined
+use Rattle.expr_soundness.specs.types.specs.declared.standing.Callee.{Callee as Called}
+use Rattle.expr_soundness.specs.types.specs.declared.standing.Callee.TheVariants as callee
+use Rattle.expr_soundness.specs.types.specs.declared.standing.Standing.TheVariants as standing
+use Rattle.expr_soundness.specs.types.specs.Entities.{Entity, Operation, Profile, ProtectedObject}
+use Rattle.expr_soundness.specs.types.specs.Entities as entity
+use Rattle.expr_soundness.specs.types.specs.Scopes.{Scope, entity_at, is_visible, number_of, profile_of, protected_at, protected_of}
+use Rattle.expr_soundness.specs.types.specs.Standings.{callee_profile, count, operation_profile, profile_among, select_all, standing_of, stands_first, stands_for}
+use Rattle.expr_soundness.specs.expr_rules.specs.Faults.{rule}
+use Rattle.expr_soundness.specs.expr_rules.specs.NameRules.{call_rule, call_slot, formal_slot_or}
+use Rattle.expr_soundness.specs.expr_rules.specs.ExpressionRules.{arguments_faults, call_faults, name_faults, selectors_faults}
+use Rattle.expr_soundness.specs.expr_rules.proofs.TypedLaw.{back_empty, front_empty, unbroken}
 use Rattle.stmt_rules.specs.declared.around.Around.{Around}
 use Rattle.expr_soundness.specs.SoundScopes.{AreKnown, AreSoundOperations, IsSoundOperation, IsSoundPredefined}
-use Rattle.meaning.specs.Programs.{Procedure, Program, object_numbered}
-use Rattle.meaning.specs.Works.{Item, Goes}
-use Rattle.meaning.specs.Calls.{Callee, actuals, callee_by, callee_through, callee_with, procedure_among, procedure_here}
-use Rattle.meaning.specs.SourceSteps.{Here, call_of, call_or_put, entry_call, entry_call_of, evaluate, external_call, place_of, plain_call, procedure_call, put_call, put_line, raises_predefined, statement_step, with_actuals_of}
+use Rattle.expr_soundness.specs.meaning.specs.Programs.{Procedure, Program, object_numbered}
+use Rattle.expr_soundness.specs.meaning.specs.Works.{Item, Goes}
+use Rattle.expr_soundness.specs.meaning.specs.Calls.{Callee, actuals, callee_by, callee_through, callee_with, procedure_among, procedure_here}
+use Rattle.expr_soundness.specs.meaning.specs.SourceSteps.{Here, call_of, call_or_put, entry_call, entry_call_of, evaluate, external_call, place_of, plain_call, procedure_call, put_call, put_line, raises_predefined, statement_step, with_actuals_of}
 use Rattle.step_soundness.specs.Objects.{GivesOrRaises}
 use Rattle.step_soundness.specs.Fitting.{FitsScope, IsCalled, IsEntry, IsOperation, IsProcedure, IsPut, entity_named, formal_of}
 use Rattle.step_soundness.specs.Opened.{opened_in}

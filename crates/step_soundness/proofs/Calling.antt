@@ -1,19 +1,19 @@
 -- Calls: bodies that begin, refusals, calls that wait, and lines of output (RM 6.4, 9.5.1, 9.5.3).
 use Rattle.std.proofs.Common.{◌≡◌, ◌⊎◌, inl, inr, ℕ, zero, suc, List, [], ◌∷◌, ◌++◌, drop, map, Bool, true, false, ◌&&◌, Option, Some, None, cond, refl, sym, ap, ◌∙◌, subst}
 use Rattle.std.specs.Prelude.{bytes_eq}
-use Rattle.base.specs.declared.exceptions.PredefinedException.TheVariants.{ProgramError, StorageError}
-use Rattle.kernel.specs.State.{Action, is_object_open}
-use Rattle.kernel.specs.Effects.{Effect, Quiet, Opens, Queues, Refusal, AboveCeiling, SameObject, call_refusal, is_above_ceiling, is_full, is_inside_any}
-use Rattle.ada_tree.specs.StatementTree.{DeclarationTree}
-use Rattle.types.specs.Scopes.{Scope}
-use Rattle.types.specs.Values.{Value}
-use Rattle.types.specs.Places.{is_of, or_else}
-use Rattle.expr_rules.proofs.TypedLaw.{same_number}
+use Rattle.expr_soundness.specs.base.specs.declared.exceptions.PredefinedException.TheVariants.{ProgramError, StorageError}
+use Rattle.expr_soundness.specs.kernel.specs.State.{Action, is_object_open}
+use Rattle.expr_soundness.specs.kernel.specs.Effects.{Effect, Quiet, Opens, Queues, Refusal, AboveCeiling, SameObject, call_refusal, is_above_ceiling, is_full, is_inside_any}
+use Rattle.expr_soundness.specs.ada_tree.specs.StatementTree.{DeclarationTree}
+use Rattle.expr_soundness.specs.types.specs.Scopes.{Scope}
+use Rattle.expr_soundness.specs.types.specs.Values.{Value}
+use Rattle.expr_soundness.specs.types.specs.Places.{is_of, or_else}
+use Rattle.expr_soundness.specs.expr_rules.proofs.TypedLaw.{same_number}
 use Rattle.stmt_rules.specs.declared.around.Around.{Around}
-use Rattle.meaning.specs.Programs.{Parameter, Procedure, Program}
-use Rattle.meaning.specs.Works.{Item, Declares, DeclaresParameter, Sequence, EndsCall, Queued, Goes, TaskWork, frames_left}
-use Rattle.meaning.specs.Calls.{Actuals, activation_of, body_items, bound, declares_parameters, is_open, is_out, procedure_among, procedure_here, results, with_first}
-use Rattle.meaning.specs.SourceSteps.{Here, SourceStepped, entry_call, external_call, if_frame_left, plain_call, queue_call, raises_predefined, run_body, unless_refused}
+use Rattle.expr_soundness.specs.meaning.specs.Programs.{Parameter, Procedure, Program}
+use Rattle.expr_soundness.specs.meaning.specs.Works.{Item, Declares, DeclaresParameter, Sequence, EndsCall, Queued, Goes, TaskWork, frames_left}
+use Rattle.expr_soundness.specs.meaning.specs.Calls.{Actuals, activation_of, body_items, bound, declares_parameters, is_open, is_out, procedure_among, procedure_here, results, with_first}
+use Rattle.expr_soundness.specs.meaning.specs.SourceSteps.{Here, SourceStepped, entry_call, external_call, if_frame_left, plain_call, queue_call, raises_predefined, run_body, unless_refused}
 use Rattle.step_soundness.specs.Objects.{AreOf, AreSoundObjects}
 use Rattle.step_soundness.specs.Fitting.{entry_of, result_types, taken_types}
 use Rattle.step_soundness.specs.Opened.{ForCall, IsHeld, Opened, opened_by, opened_in}

@@ -1,30 +1,30 @@
 -- Declarations of bodies and blocks: each that breaks no rule gives its object a value, or raises (RM 3.3.1, 6.4.1).
 use Rattle.std.proofs.Common.{◌≡◌, ℕ, List, [], ◌∷◌, ◌++◌, Bool, true, false, ◌⊎◌, inl, inr, Option, Some, None, refl, sym, ap, subst}
 use Rattle.std.specs.Prelude.{is_some}
-use Rattle.ada_tree.specs.declared.expression.Identifier.{Identifier}
-use Rattle.ada_tree.specs.ExpressionTree.{ExprTree}
-use Rattle.ada_tree.specs.StatementTree.{DeclarationTree, LocalObject, LocalTask, LocalProtected, ObjectTree}
-use Rattle.types.specs.declared.entity.Subtype.{Subtype}
-use Rattle.types.specs.declared.entity.Role.TheVariants as role
-use Rattle.types.specs.Entities.{Entity, TypeForm}
-use Rattle.types.specs.Entities as entity
-use Rattle.types.specs.Scopes.{Scope, entity_at, form_at, form_of, is_visible, number_of, with_name}
-use Rattle.types.specs.Shapes.{initial}
-use Rattle.types.specs.Values.{Value}
-use Rattle.types.specs.Evaluations.{Val, Gives, Raises, Meaningless}
-use Rattle.types.specs.Places.{Function, Meaning, Object, Place, IsSubtype, function_meaning, meaning_in_scope, meaning_of, meaning_of_entity, meaning_or, object_meaning, or_else, own_function, own_object, package_function, package_object}
-use Rattle.types.specs.Evaluating.{passed}
-use Rattle.expr_rules.specs.ExpressionRules.{faults_of}
-use Rattle.expr_rules.proofs.TypedLaw.{back_empty, front_empty, unbroken}
-use Rattle.type_rules.specs.SubtypeNames.{declared_twice, entity_at_or_none, named_entity, subtype_faults, subtype_in as named_subtype, subtype_of, subtype_rule, wanted_by}
-use Rattle.type_rules.specs.ObjectRules.{local_initial_faults, local_object_faults, local_object_scope, object_entity, role_of}
-use Rattle.declaring.specs.LocalRules.{local_scope}
+use Rattle.expr_soundness.specs.ada_tree.specs.declared.expression.Identifier.{Identifier}
+use Rattle.expr_soundness.specs.ada_tree.specs.ExpressionTree.{ExprTree}
+use Rattle.expr_soundness.specs.ada_tree.specs.StatementTree.{DeclarationTree, LocalObject, LocalTask, LocalProtected, ObjectTree}
+use Rattle.expr_soundness.specs.types.specs.declared.entity.Subtype.{Subtype}
+use Rattle.expr_soundness.specs.types.specs.declared.entity.Role.TheVariants as role
+use Rattle.expr_soundness.specs.types.specs.Entities.{Entity, TypeForm}
+use Rattle.expr_soundness.specs.types.specs.Entities as entity
+use Rattle.expr_soundness.specs.types.specs.Scopes.{Scope, entity_at, form_at, form_of, is_visible, number_of, with_name}
+use Rattle.expr_soundness.specs.types.specs.Shapes.{initial}
+use Rattle.expr_soundness.specs.types.specs.Values.{Value}
+use Rattle.expr_soundness.specs.types.specs.Evaluations.{Val, Gives, Raises, Meaningless}
+use Rattle.expr_soundness.specs.types.specs.Places.{Function, Meaning, Object, Place, IsSubtype, function_meaning, meaning_in_scope, meaning_of, meaning_of_entity, meaning_or, object_meaning, or_else, own_function, own_object, package_function, package_object}
+use Rattle.expr_soundness.specs.types.specs.Evaluating.{passed}
+use Rattle.expr_soundness.specs.expr_rules.specs.ExpressionRules.{faults_of}
+use Rattle.expr_soundness.specs.expr_rules.proofs.TypedLaw.{back_empty, front_empty, unbroken}
+use Rattle.expr_soundness.specs.type_rules.specs.SubtypeNames.{declared_twice, entity_at_or_none, named_entity, subtype_faults, subtype_in as named_subtype, subtype_of, subtype_rule, wanted_by}
+use Rattle.expr_soundness.specs.type_rules.specs.ObjectRules.{local_initial_faults, local_object_faults, local_object_scope, object_entity, role_of}
+use Rattle.expr_soundness.specs.declaring.specs.LocalRules.{local_scope}
 use Rattle.stmt_rules.specs.declared.around.Around.{Around}
 use Rattle.expr_soundness.specs.SoundScopes.{IsKnown, IsSoundObject}
 use Rattle.expr_soundness.specs.Agreeing.{Agrees}
-use Rattle.meaning.specs.Programs.{Parameter, subtype_named, subtype_or_integer}
-use Rattle.meaning.specs.Works.{Item}
-use Rattle.meaning.specs.SourceSteps.{Here, declare, declare_parameter, declared_value, evaluate, place_of, with_object, with_value}
+use Rattle.expr_soundness.specs.meaning.specs.Programs.{Parameter, subtype_named, subtype_or_integer}
+use Rattle.expr_soundness.specs.meaning.specs.Works.{Item}
+use Rattle.expr_soundness.specs.meaning.specs.SourceSteps.{Here, declare, declare_parameter, declared_value, evaluate, place_of, with_object, with_value}
 use Rattle.step_soundness.specs.Objects.{GivesOrRaises, IsOf}
 use Rattle.step_soundness.specs.Fitting.{FitsScope, Narrows}
 use Rattle.step_soundness.specs.Opened.{IsHeld, opened_in}

@@ -1,19 +1,19 @@
 -- Ends of calls, of actions and of served bodies; results that are copied back; exceptions on their way (RM 6.4, 9.5.1, 9.5.3, 11.4).
 use Rattle.std.proofs.Common.{◌≡◌, ℕ, List, [], ◌∷◌, map, inr, Option, Some, None, refl, sym, ap, ◌∙◌, subst}
-use Rattle.kernel.specs.Effects.{Effect, Quiet, Ends}
-use Rattle.ada_tree.specs.StatementTree.{StmtTrees}
-use Rattle.types.specs.declared.entity.Subtype.{Subtype}
-use Rattle.types.specs.Scopes.{Scope}
-use Rattle.types.specs.Values.{Value}
-use Rattle.types.specs.Evaluations.{Val, Gives, Raises, Meaningless}
-use Rattle.types.specs.Evaluating.{passed}
+use Rattle.expr_soundness.specs.kernel.specs.Effects.{Effect, Quiet, Ends}
+use Rattle.expr_soundness.specs.ada_tree.specs.StatementTree.{StmtTrees}
+use Rattle.expr_soundness.specs.types.specs.declared.entity.Subtype.{Subtype}
+use Rattle.expr_soundness.specs.types.specs.Scopes.{Scope}
+use Rattle.expr_soundness.specs.types.specs.Values.{Value}
+use Rattle.expr_soundness.specs.types.specs.Evaluations.{Val, Gives, Raises, Meaningless}
+use Rattle.expr_soundness.specs.types.specs.Evaluating.{passed}
 use Rattle.stmt_rules.specs.declared.around.Around.{Around}
 use Rattle.stmt_rules.specs.StatementRules.{in_handler}
-use Rattle.meaning.specs.Programs.{Program}
-use Rattle.meaning.specs.Works.{Item, Declares, DeclaresParameter, Sequence, Does, DoesMain, Repeats, RepeatsWhile, RepeatsFor, Handles, EndsHandler, EndsCall, EndsAction, EndsServed, Queued, Completion, Completed, Pending, Target, Work, Goes, Raising, Activation, GivenToCaller, Results, Raised}
-use Rattle.meaning.specs.Targets.{activation_with}
-use Rattle.meaning.specs.Calls.{is_open, results_in, with_value_of}
-use Rattle.meaning.specs.SourceSteps.{Here, before, call_ended, call_raised, completed, completion_of, copy_step, copying, handled, handler_for, items_of, leaves, place_of, raise_step, raises, stores, with_value, works}
+use Rattle.expr_soundness.specs.meaning.specs.Programs.{Program}
+use Rattle.expr_soundness.specs.meaning.specs.Works.{Item, Declares, DeclaresParameter, Sequence, Does, DoesMain, Repeats, RepeatsWhile, RepeatsFor, Handles, EndsHandler, EndsCall, EndsAction, EndsServed, Queued, Completion, Completed, Pending, Target, Work, Goes, Raising, Activation, GivenToCaller, Results, Raised}
+use Rattle.expr_soundness.specs.meaning.specs.Targets.{activation_with}
+use Rattle.expr_soundness.specs.meaning.specs.Calls.{is_open, results_in, with_value_of}
+use Rattle.expr_soundness.specs.meaning.specs.SourceSteps.{Here, before, call_ended, call_raised, completed, completion_of, copy_step, copying, handled, handler_for, items_of, leaves, place_of, raise_step, raises, stores, with_value, works}
 use Rattle.step_soundness.specs.Objects.{AreOf, AreTargets, GivesOrRaises, IsException, IsOf}
 use Rattle.step_soundness.specs.Fitting.{Narrows, result_types}
 use Rattle.step_soundness.specs.Opened.{ForCall, ForCaller, IsHeld, Opened, opened_by, opened_in}

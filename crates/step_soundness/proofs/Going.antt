@@ -1,21 +1,21 @@
 -- How a task goes on behind a step: the work after it, where store and activations stay, and where a value or an exception comes.
 use Rattle.std.proofs.Common.{◌≡◌, ℕ, List, [], ◌∷◌, map, Bool, true, false, inl, Option, None, cond, refl, sym, subst}
-use Rattle.base.specs.Exceptions.{number_of}
-use Rattle.base.specs.declared.exceptions.PredefinedException.{PredefinedException}
-use Rattle.kernel.specs.Effects.{Effect, Quiet}
-use Rattle.ada_tree.specs.StatementTree.{StmtTrees, NoStmts, MoreStmts}
-use Rattle.types.specs.Scopes.{Scope}
-use Rattle.types.specs.Evaluations.{Val, Gives, Raises, Meaningless, and_then}
-use Rattle.types.specs.Places.{Place}
+use Rattle.expr_soundness.specs.base.specs.Exceptions.{number_of}
+use Rattle.expr_soundness.specs.base.specs.declared.exceptions.PredefinedException.{PredefinedException}
+use Rattle.expr_soundness.specs.kernel.specs.Effects.{Effect, Quiet}
+use Rattle.expr_soundness.specs.ada_tree.specs.StatementTree.{StmtTrees, NoStmts, MoreStmts}
+use Rattle.expr_soundness.specs.types.specs.Scopes.{Scope}
+use Rattle.expr_soundness.specs.types.specs.Evaluations.{Val, Gives, Raises, Meaningless, and_then}
+use Rattle.expr_soundness.specs.types.specs.Places.{Place}
 use Rattle.stmt_rules.specs.declared.around.Around.{Around}
 use Rattle.stmt_rules.specs.StatementRules.{stmt_faults, stmts_faults}
 use Rattle.body_restrictions.specs.BodyRules as profile
-use Rattle.expr_rules.proofs.TypedLaw.{back_empty, front_empty}
+use Rattle.expr_soundness.specs.expr_rules.proofs.TypedLaw.{back_empty, front_empty}
 use Rattle.expr_soundness.specs.Agreeing.{Agrees}
 use Rattle.expr_soundness.specs.Answers.{FunctionsAreSound}
-use Rattle.meaning.specs.Programs.{Program}
-use Rattle.meaning.specs.Works.{Item, Declares, DeclaresParameter, Sequence, Does, DoesMain, Repeats, RepeatsWhile, RepeatsFor, Handles, EndsHandler, EndsCall, EndsAction, EndsServed, Queued, Work, Goes, Raising, Activation, Store}
-use Rattle.meaning.specs.SourceSteps.{Here, SourceStepped, before, goes, items_of, place_of, raises, with_value, works}
+use Rattle.expr_soundness.specs.meaning.specs.Programs.{Program}
+use Rattle.expr_soundness.specs.meaning.specs.Works.{Item, Declares, DeclaresParameter, Sequence, Does, DoesMain, Repeats, RepeatsWhile, RepeatsFor, Handles, EndsHandler, EndsCall, EndsAction, EndsServed, Queued, Work, Goes, Raising, Activation, Store}
+use Rattle.expr_soundness.specs.meaning.specs.SourceSteps.{Here, SourceStepped, before, goes, items_of, place_of, raises, with_value, works}
 use Rattle.step_soundness.specs.Objects.{GivesOrRaises, IsException, IsPredefinedException}
 use Rattle.step_soundness.specs.Fitting.{Narrows}
 use Rattle.step_soundness.specs.Opened.{IsHeld, Opened, opened_in}

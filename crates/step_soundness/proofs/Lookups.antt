@@ -3,11 +3,11 @@ use Rattle.std.proofs.Common.{◌≡◌, ℕ, zero, suc, ◌+◌, List, [], ◌�
 use Rattle.std.specs.Prelude.{bytes_eq, is_some, nat_lt, option_map, position, slice_get}
 use Rattle.std.specs.List.{position_or_len}
 use Rattle.std.proofs.lemmas.Slice.Eq.{bytes_eq-Decides}
-use Rattle.types.specs.Entities.{Entity}
-use Rattle.types.specs.Scopes.{Scope, Named, entity_at, is_visible, number_of, with_name}
-use Rattle.types.specs.Places.{Object, object_of}
-use Rattle.type_rules.specs.SubtypeNames.{entity_at_or_none}
-use Rattle.declaring.specs.Laws.{StandsFirst}
+use Rattle.expr_soundness.specs.types.specs.Entities.{Entity}
+use Rattle.expr_soundness.specs.types.specs.Scopes.{Scope, Named, entity_at, is_visible, number_of, with_name}
+use Rattle.expr_soundness.specs.types.specs.Places.{Object, object_of}
+use Rattle.expr_soundness.specs.type_rules.specs.SubtypeNames.{entity_at_or_none}
+use Rattle.expr_soundness.specs.declaring.specs.Laws.{StandsFirst}
 use Rattle.step_soundness.specs.Fitting.{entity_named}
 
 pub same_some : {X : Type 0} (a b : X) → Some a ≡ Some b → a ≡ b

@@ -1,24 +1,24 @@
 -- Which forms the name of a legal call has: of a procedure or entry with its actuals, of an operation of a protected object, of Put (RM 6.4, 9.5.3).
 use Rattle.std.proofs.Common.{◌≡◌, ◌⊎◌, inl, inr, ℕ, List, [], ◌++◌, length, Bool, true, false, not, Option, Some, None, cond, refl, sym, ap, ◌∙◌, subst, arith}
 use Rattle.std.specs.Prelude.{bytes_eq, codes, is_none, nat_eq, position, slice_get}
-use Rattle.ada_tree.specs.declared.expression.Identifier.{Identifier}
-use Rattle.ada_tree.specs.ExpressionTree as tree
-use Rattle.ada_tree.specs.ExpressionTree.{ExprTree, SelectorTrees, NoSelectors, MoreSelectors, SelectorTree, Component, Arguments, Attribute, ArgumentTrees, NoArguments, MoreArguments, ArgumentTree, Text}
-use Rattle.types.specs.declared.entity.Subtype.{Subtype}
-use Rattle.types.specs.declared.entity.Role.{Role}
-use Rattle.types.specs.declared.entity.Role.TheVariants as role
-use Rattle.types.specs.declared.standing.Callee.{Callee}
-use Rattle.types.specs.declared.standing.Callee.TheVariants as callee
-use Rattle.types.specs.declared.standing.Standing.{Standing}
-use Rattle.types.specs.declared.standing.Standing.TheVariants as standing
-use Rattle.types.specs.Entities.{TypeForm, Integers, Booleans, Times, Spans, Arrays, Records, Operation, Profile, ProtectedObject}
-use Rattle.types.specs.Scopes.{Scope, form_at, integer_type, protected_at}
-use Rattle.types.specs.Standings.{array_attribute, bound_stands, bounds_stand, call_stands, called_operation, callee_profile, component_of, component_stands, conversion_stands, count, element_stands, is_single, object_attribute, object_select, operation_profile, operation_stands, part_of, profile_among, result_stands, select, select_all, settle, subtype_attribute}
-use Rattle.expr_rules.specs.declared.own.Wanted.TheVariants.{OfType}
-use Rattle.expr_rules.specs.NameRules.{call_rule, component_rule, count_rule, is_doubtful, operation_rule, part_rule, profile_formals, slot_at, slot_rule, slot_wanted}
-use Rattle.expr_rules.specs.Typing.{own_of}
-use Rattle.expr_rules.specs.ExpressionRules.{argument_faults, arguments_faults, faults_in, faults_of, selector_faults, selectors_faults}
-use Rattle.expr_rules.proofs.TypedLaw.{back_empty, front_empty, same_number, unbroken}
+use Rattle.expr_soundness.specs.ada_tree.specs.declared.expression.Identifier.{Identifier}
+use Rattle.expr_soundness.specs.ada_tree.specs.ExpressionTree as tree
+use Rattle.expr_soundness.specs.ada_tree.specs.ExpressionTree.{ExprTree, SelectorTrees, NoSelectors, MoreSelectors, SelectorTree, Component, Arguments, Attribute, ArgumentTrees, NoArguments, MoreArguments, ArgumentTree, Text}
+use Rattle.expr_soundness.specs.types.specs.declared.entity.Subtype.{Subtype}
+use Rattle.expr_soundness.specs.types.specs.declared.entity.Role.{Role}
+use Rattle.expr_soundness.specs.types.specs.declared.entity.Role.TheVariants as role
+use Rattle.expr_soundness.specs.types.specs.declared.standing.Callee.{Callee}
+use Rattle.expr_soundness.specs.types.specs.declared.standing.Callee.TheVariants as callee
+use Rattle.expr_soundness.specs.types.specs.declared.standing.Standing.{Standing}
+use Rattle.expr_soundness.specs.types.specs.declared.standing.Standing.TheVariants as standing
+use Rattle.expr_soundness.specs.types.specs.Entities.{TypeForm, Integers, Booleans, Times, Spans, Arrays, Records, Operation, Profile, ProtectedObject}
+use Rattle.expr_soundness.specs.types.specs.Scopes.{Scope, form_at, integer_type, protected_at}
+use Rattle.expr_soundness.specs.types.specs.Standings.{array_attribute, bound_stands, bounds_stand, call_stands, called_operation, callee_profile, component_of, component_stands, conversion_stands, count, element_stands, is_single, object_attribute, object_select, operation_profile, operation_stands, part_of, profile_among, result_stands, select, select_all, settle, subtype_attribute}
+use Rattle.expr_soundness.specs.expr_rules.specs.declared.own.Wanted.TheVariants.{OfType}
+use Rattle.expr_soundness.specs.expr_rules.specs.NameRules.{call_rule, component_rule, count_rule, is_doubtful, operation_rule, part_rule, profile_formals, slot_at, slot_rule, slot_wanted}
+use Rattle.expr_soundness.specs.expr_rules.specs.Typing.{own_of}
+use Rattle.expr_soundness.specs.expr_rules.specs.ExpressionRules.{argument_faults, arguments_faults, faults_in, faults_of, selector_faults, selectors_faults}
+use Rattle.expr_soundness.specs.expr_rules.proofs.TypedLaw.{back_empty, front_empty, same_number, unbroken}
 use Rattle.step_soundness.proofs.Raising.{either}
 use Rattle.step_soundness.proofs.Lookups.{found_at}
 use Rattle.step_soundness.proofs.Turning.{not_false}

@@ -1,11 +1,11 @@
 -- What the kernel's invariant asks of a step is so.
 use Rattle.std.proofs.Common.{◌≡◌, ◌⊎◌, ℕ, List, [], ◌∷◌, Bool, true, false, inl, inr, Option, Some, refl, sym, ap, ◌∙◌, subst}
-use Rattle.kernel.specs.State.{Action, Reads, Serves, Writes}
-use Rattle.kernel.specs.Effects.{Effect, Quiet, Says, Delays, Opens, Views, Queues, Ends, Finishes, Dies, Breaks}
-use Rattle.kernel.specs.Invariant.{CanWrite, HasAction, IsBarrierHeld, Passed, Tells}
-use Rattle.meaning.specs.Works.{GivenToCaller, Store}
-use Rattle.meaning.specs.Calls.{is_open}
-use Rattle.meaning.specs.SourceSteps.{Here, SourceStepped}
+use Rattle.expr_soundness.specs.kernel.specs.State.{Action, Reads, Serves, Writes}
+use Rattle.expr_soundness.specs.kernel.specs.Effects.{Effect, Quiet, Says, Delays, Opens, Views, Queues, Ends, Finishes, Dies, Breaks}
+use Rattle.expr_soundness.specs.kernel.specs.Invariant.{CanWrite, HasAction, IsBarrierHeld, Passed, Tells}
+use Rattle.expr_soundness.specs.meaning.specs.Works.{GivenToCaller, Store}
+use Rattle.expr_soundness.specs.meaning.specs.Calls.{is_open}
+use Rattle.expr_soundness.specs.meaning.specs.SourceSteps.{Here, SourceStepped}
 use Rattle.step_soundness.specs.Opened.{ForCall, ForCaller, HasOpened, IsHeld, Opened, object_opened}
 use Rattle.step_soundness.specs.Holding.{Accounts, IsSoundStep}
 use Rattle.step_soundness.specs.Laws.{BarriersAreOwn, EffectsPass, Matches}

@@ -1,35 +1,35 @@
 -- Actual parameters of legal calls: values and targets of the types of the formals, or an exception (RM 6.4.1).
 use Rattle.std.proofs.Common.{◌≡◌, ℕ, suc, List, [], ◌∷◌, ◌++◌, length, map, not, Some, refl, sym, ap, ◌∙◌, subst, arith}
 use Rattle.std.specs.Prelude.{nat_eq, slice_get, ⊤}
-use Rattle.ada_tree.specs.declared.declaration.Mode.{Mode}
-use Rattle.ada_tree.specs.declared.declaration.Mode.TheVariants as mode
-use Rattle.ada_tree.specs.ExpressionTree as tree
-use Rattle.ada_tree.specs.ExpressionTree.{ExprTree, Named, SelectorTrees, ArgumentTrees, NoArguments, MoreArguments, ArgumentTree, Text}
-use Rattle.types.specs.declared.entity.Subtype.{Subtype}
-use Rattle.types.specs.declared.entity.FormalParameter.{FormalParameter}
-use Rattle.types.specs.declared.standing.Standing.{Standing}
-use Rattle.types.specs.declared.standing.Standing.TheVariants as standing
-use Rattle.types.specs.Scopes.{Scope}
-use Rattle.types.specs.Standings.{count, standing_of}
-use Rattle.types.specs.Values.{Value}
-use Rattle.types.specs.Evaluations.{and_then}
-use Rattle.types.specs.Places.{object_of}
-use Rattle.types.specs.Evaluating.{passed}
-use Rattle.expr_rules.specs.declared.own.Own.{Own}
-use Rattle.expr_rules.specs.declared.own.Own.TheVariants.{Typed}
-use Rattle.expr_rules.specs.declared.own.Wanted.TheVariants.{Anything, OfType}
-use Rattle.expr_rules.specs.Faults.{Faults}
-use Rattle.expr_rules.specs.Typing.{own_of_standing}
-use Rattle.expr_rules.specs.NameRules.{actual_rule, formal_slot, mismatch, slot_at, value_rule, variable_rule}
-use Rattle.expr_rules.specs.ExpressionRules.{argument_faults, arguments_faults, faults_in, faults_of, name_faults}
-use Rattle.expr_rules.proofs.TypedLaw.{back_empty, front_empty, same_number, unbroken}
+use Rattle.expr_soundness.specs.ada_tree.specs.declared.declaration.Mode.{Mode}
+use Rattle.expr_soundness.specs.ada_tree.specs.declared.declaration.Mode.TheVariants as mode
+use Rattle.expr_soundness.specs.ada_tree.specs.ExpressionTree as tree
+use Rattle.expr_soundness.specs.ada_tree.specs.ExpressionTree.{ExprTree, Named, SelectorTrees, ArgumentTrees, NoArguments, MoreArguments, ArgumentTree, Text}
+use Rattle.expr_soundness.specs.types.specs.declared.entity.Subtype.{Subtype}
+use Rattle.expr_soundness.specs.types.specs.declared.entity.FormalParameter.{FormalParameter}
+use Rattle.expr_soundness.specs.types.specs.declared.standing.Standing.{Standing}
+use Rattle.expr_soundness.specs.types.specs.declared.standing.Standing.TheVariants as standing
+use Rattle.expr_soundness.specs.types.specs.Scopes.{Scope}
+use Rattle.expr_soundness.specs.types.specs.Standings.{count, standing_of}
+use Rattle.expr_soundness.specs.types.specs.Values.{Value}
+use Rattle.expr_soundness.specs.types.specs.Evaluations.{and_then}
+use Rattle.expr_soundness.specs.types.specs.Places.{object_of}
+use Rattle.expr_soundness.specs.types.specs.Evaluating.{passed}
+use Rattle.expr_soundness.specs.expr_rules.specs.declared.own.Own.{Own}
+use Rattle.expr_soundness.specs.expr_rules.specs.declared.own.Own.TheVariants.{Typed}
+use Rattle.expr_soundness.specs.expr_rules.specs.declared.own.Wanted.TheVariants.{Anything, OfType}
+use Rattle.expr_soundness.specs.expr_rules.specs.Faults.{Faults}
+use Rattle.expr_soundness.specs.expr_rules.specs.Typing.{own_of_standing}
+use Rattle.expr_soundness.specs.expr_rules.specs.NameRules.{actual_rule, formal_slot, mismatch, slot_at, value_rule, variable_rule}
+use Rattle.expr_soundness.specs.expr_rules.specs.ExpressionRules.{argument_faults, arguments_faults, faults_in, faults_of, name_faults}
+use Rattle.expr_soundness.specs.expr_rules.proofs.TypedLaw.{back_empty, front_empty, same_number, unbroken}
 use Rattle.stmt_rules.specs.declared.around.Around.{Around}
 use Rattle.expr_soundness.specs.SoundScopes.{AreKnown, IsKnown}
-use Rattle.meaning.specs.Programs.{Parameter, Program}
-use Rattle.meaning.specs.Works.{Activation, Home, InActivation, InPackage, InObject, Item, Part, Target}
-use Rattle.meaning.specs.Targets.{named_target, objects_of, part_value, target, target_value, value_in}
-use Rattle.meaning.specs.Calls.{Actuals, actual, actual_expression, actuals, copied_both, copied_in, copied_out, value_or_nothing, with_actuals}
-use Rattle.meaning.specs.SourceSteps.{Here, evaluate, place_of}
+use Rattle.expr_soundness.specs.meaning.specs.Programs.{Parameter, Program}
+use Rattle.expr_soundness.specs.meaning.specs.Works.{Activation, Home, InActivation, InPackage, InObject, Item, Part, Target}
+use Rattle.expr_soundness.specs.meaning.specs.Targets.{named_target, objects_of, part_value, target, target_value, value_in}
+use Rattle.expr_soundness.specs.meaning.specs.Calls.{Actuals, actual, actual_expression, actuals, copied_both, copied_in, copied_out, value_or_nothing, with_actuals}
+use Rattle.expr_soundness.specs.meaning.specs.SourceSteps.{Here, evaluate, place_of}
 use Rattle.step_soundness.specs.Objects.{AreOf, AreSoundObjects, AreTargets, GivesOrRaises, IsOf, IsPartIn, IsReached, IsTarget, subtype_in}
 use Rattle.step_soundness.specs.Fitting.{formal_of, result_types, taken_types}
 use Rattle.step_soundness.specs.Judged.{Waiting}

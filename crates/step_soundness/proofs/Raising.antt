@@ -1,30 +1,30 @@
 -- Evaluations raise predefined exceptions alone.
 use Rattle.std.proofs.Common.{ℕ, zero, suc, ℤ, List, [], ◌∷◌, Bool, true, false, Option, Some, None, Ok, Err, cond, arith}
 use Rattle.std.specs.Prelude.{nat_le}
-use Rattle.base.specs.Arithmetic.{Checked, sum_of, difference_of, product_of, quotient_of, modulus_of, remainder_of, negation_of, absolute_of}
-use Rattle.base.specs.Exceptions.{number_of}
-use Rattle.base.specs.declared.exceptions.PredefinedException.{PredefinedException}
-use Rattle.base.specs.declared.exceptions.PredefinedException.TheVariants.{ConstraintError, ProgramError, StorageError, TaskingError}
-use Rattle.ada_tree.specs.declared.expression.UnaryOperator.{UnaryOperator}
-use Rattle.ada_tree.specs.declared.expression.UnaryOperator.TheVariants as unary
-use Rattle.ada_tree.specs.declared.expression.BinaryOperator.{BinaryOperator}
-use Rattle.ada_tree.specs.declared.expression.BinaryOperator.TheVariants as binary
-use Rattle.ada_tree.specs.ExpressionTree as tree
-use Rattle.ada_tree.specs.ExpressionTree.{ExprTree, Named, Parenthesized, Conditional, Unary, Binary, ElsifValueTrees, NoElsifValues, MoreElsifValues, SelectorTrees, NoSelectors, MoreSelectors, SelectorTree, Component, Arguments, Attribute, ArgumentTrees, NoArguments, MoreArguments, ArgumentTree, Text}
-use Rattle.types.specs.declared.entity.Subtype.{Subtype}
-use Rattle.types.specs.declared.entity.Value.{Value as Scalar}
-use Rattle.types.specs.declared.entity.PredefinedOperation.{PredefinedOperation}
-use Rattle.types.specs.declared.entity.PredefinedOperation.TheVariants as predefined
-use Rattle.types.specs.Entities.{TypeForm, Arrays, Records, ProtectedObject}
-use Rattle.types.specs.Scopes.{form_at}
-use Rattle.types.specs.Standings.{component_of}
-use Rattle.types.specs.Values.{Value, Number, Truth, Array, Record, element_at, field_of, fits, value_of}
-use Rattle.types.specs.Evaluations.{Val, Gives, Raises, Meaningless, and_then, computed, raise}
-use Rattle.types.specs.Operators.{binary_value, is_decided, unary_value}
-use Rattle.types.specs.Places.{Function, Place, Meaning, IsObject, IsFunction, IsPredefined, IsSubtype, IsProtected, IsValue, active_priority, function_of, is_among, meaning_of}
-use Rattle.types.specs.Evaluating.{Calls, actual_with, actuals_with, applied, call, called, chosen, element_meaning, elsif_with, ended, entered, field_meaning, fixed_name, function_through, name_with, object_or_nothing, part_with, passed, predefined_value, truth_of, val, value_with, wanted}
-use Rattle.meaning.specs.Works.{Part, Target}
-use Rattle.meaning.specs.Targets.{all_selected, element_of, object_named, part_of, selected, target, target_or_nothing}
+use Rattle.expr_soundness.specs.base.specs.Arithmetic.{Checked, sum_of, difference_of, product_of, quotient_of, modulus_of, remainder_of, negation_of, absolute_of}
+use Rattle.expr_soundness.specs.base.specs.Exceptions.{number_of}
+use Rattle.expr_soundness.specs.base.specs.declared.exceptions.PredefinedException.{PredefinedException}
+use Rattle.expr_soundness.specs.base.specs.declared.exceptions.PredefinedException.TheVariants.{ConstraintError, ProgramError, StorageError, TaskingError}
+use Rattle.expr_soundness.specs.ada_tree.specs.declared.expression.UnaryOperator.{UnaryOperator}
+use Rattle.expr_soundness.specs.ada_tree.specs.declared.expression.UnaryOperator.TheVariants as unary
+use Rattle.expr_soundness.specs.ada_tree.specs.declared.expression.BinaryOperator.{BinaryOperator}
+use Rattle.expr_soundness.specs.ada_tree.specs.declared.expression.BinaryOperator.TheVariants as binary
+use Rattle.expr_soundness.specs.ada_tree.specs.ExpressionTree as tree
+use Rattle.expr_soundness.specs.ada_tree.specs.ExpressionTree.{ExprTree, Named, Parenthesized, Conditional, Unary, Binary, ElsifValueTrees, NoElsifValues, MoreElsifValues, SelectorTrees, NoSelectors, MoreSelectors, SelectorTree, Component, Arguments, Attribute, ArgumentTrees, NoArguments, MoreArguments, ArgumentTree, Text}
+use Rattle.expr_soundness.specs.types.specs.declared.entity.Subtype.{Subtype}
+use Rattle.expr_soundness.specs.types.specs.declared.entity.Value.{Value as Scalar}
+use Rattle.expr_soundness.specs.types.specs.declared.entity.PredefinedOperation.{PredefinedOperation}
+use Rattle.expr_soundness.specs.types.specs.declared.entity.PredefinedOperation.TheVariants as predefined
+use Rattle.expr_soundness.specs.types.specs.Entities.{TypeForm, Arrays, Records, ProtectedObject}
+use Rattle.expr_soundness.specs.types.specs.Scopes.{form_at}
+use Rattle.expr_soundness.specs.types.specs.Standings.{component_of}
+use Rattle.expr_soundness.specs.types.specs.Values.{Value, Number, Truth, Array, Record, element_at, field_of, fits, value_of}
+use Rattle.expr_soundness.specs.types.specs.Evaluations.{Val, Gives, Raises, Meaningless, and_then, computed, raise}
+use Rattle.expr_soundness.specs.types.specs.Operators.{binary_value, is_decided, unary_value}
+use Rattle.expr_soundness.specs.types.specs.Places.{Function, Place, Meaning, IsObject, IsFunction, IsPredefined, IsSubtype, IsProtected, IsValue, active_priority, function_of, is_among, meaning_of}
+use Rattle.expr_soundness.specs.types.specs.Evaluating.{Calls, actual_with, actuals_with, applied, call, called, chosen, element_meaning, elsif_with, ended, entered, field_meaning, fixed_name, function_through, name_with, object_or_nothing, part_with, passed, predefined_value, truth_of, val, value_with, wanted}
+use Rattle.expr_soundness.specs.meaning.specs.Works.{Part, Target}
+use Rattle.expr_soundness.specs.meaning.specs.Targets.{all_selected, element_of, object_named, part_of, selected, target, target_or_nothing}
 use Rattle.step_soundness.specs.Objects.{IsPredefinedException}
 
 abbrev pub RaisesPredefined : {A : Type 0} → Val A → Type 0

@@ -1,16 +1,16 @@
 -- Names of targets reach components of protected objects in the object's own bodies alone.
 use Rattle.std.proofs.Common.{◌≡◌, ℕ, List, [], ◌∷◌, Option, Some, None, refl}
-use Rattle.ada_tree.specs.ExpressionTree.{SelectorTrees, NoSelectors, MoreSelectors, SelectorTree, Component, Arguments}
-use Rattle.types.specs.declared.entity.Subtype.{Subtype}
-use Rattle.types.specs.Entities.{TypeForm, Arrays, Records}
-use Rattle.types.specs.Scopes.{form_at}
-use Rattle.types.specs.Standings.{component_of}
-use Rattle.types.specs.Values.{Value, Number}
-use Rattle.types.specs.Evaluations.{Val, Gives, Raises, Meaningless, and_then}
-use Rattle.types.specs.Places.{Object, Place, object_of}
-use Rattle.types.specs.Evaluating.{Calls, actuals_with, call}
-use Rattle.meaning.specs.Works.{Home, InActivation, InPackage, InObject, Part, Target}
-use Rattle.meaning.specs.Targets.{all_selected, element_of, first_of, object_named, own_component, part_of, selected, target, target_or_nothing, whole}
+use Rattle.expr_soundness.specs.ada_tree.specs.ExpressionTree.{SelectorTrees, NoSelectors, MoreSelectors, SelectorTree, Component, Arguments}
+use Rattle.expr_soundness.specs.types.specs.declared.entity.Subtype.{Subtype}
+use Rattle.expr_soundness.specs.types.specs.Entities.{TypeForm, Arrays, Records}
+use Rattle.expr_soundness.specs.types.specs.Scopes.{form_at}
+use Rattle.expr_soundness.specs.types.specs.Standings.{component_of}
+use Rattle.expr_soundness.specs.types.specs.Values.{Value, Number}
+use Rattle.expr_soundness.specs.types.specs.Evaluations.{Val, Gives, Raises, Meaningless, and_then}
+use Rattle.expr_soundness.specs.types.specs.Places.{Object, Place, object_of}
+use Rattle.expr_soundness.specs.types.specs.Evaluating.{Calls, actuals_with, call}
+use Rattle.expr_soundness.specs.meaning.specs.Works.{Home, InActivation, InPackage, InObject, Part, Target}
+use Rattle.expr_soundness.specs.meaning.specs.Targets.{all_selected, element_of, first_of, object_named, own_component, part_of, selected, target, target_or_nothing, whole}
 use Rattle.step_soundness.specs.Objects.{IsReached}
 
 abbrev pub IsReachedBy : Option ℕ → Val Target → Type 0

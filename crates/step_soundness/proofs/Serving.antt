@@ -1,11 +1,11 @@
 -- What a step comes to in other tasks: they go on as they stood, a caller's entry body is run for it, and it goes on behind its call (RM 9.5.3).
 use Rattle.std.proofs.Common.{◌≡◌, ℕ, List, ◌∷◌, None, inl, refl, sym, ap, ◌∙◌, subst}
-use Rattle.types.specs.Scopes.{Scope}
+use Rattle.expr_soundness.specs.types.specs.Scopes.{Scope}
 use Rattle.stmt_rules.specs.declared.around.Around.{Around}
-use Rattle.meaning.specs.Programs.{Program}
-use Rattle.meaning.specs.Works.{Item, EndsServed, Queued, Work, Goes, Activation, GivenToCaller, Results, Raised, Store, TaskWork}
-use Rattle.meaning.specs.Calls.{activation_of, body_items, results}
-use Rattle.meaning.specs.SourceSteps.{completion_of, items_of, received, serves}
+use Rattle.expr_soundness.specs.meaning.specs.Programs.{Program}
+use Rattle.expr_soundness.specs.meaning.specs.Works.{Item, EndsServed, Queued, Work, Goes, Activation, GivenToCaller, Results, Raised, Store, TaskWork}
+use Rattle.expr_soundness.specs.meaning.specs.Calls.{activation_of, body_items, results}
+use Rattle.expr_soundness.specs.meaning.specs.SourceSteps.{completion_of, items_of, received, serves}
 use Rattle.step_soundness.specs.Objects.{AreOf}
 use Rattle.step_soundness.specs.Fitting.{result_types}
 use Rattle.step_soundness.specs.Opened.{ForCaller, IsHeld, opened_in}

@@ -1,21 +1,21 @@
 -- What fits the visible names goes on fitting: with one more object, with fewer names, with another store.
 use Rattle.std.proofs.Common.{◌≡◌, ℕ, ℤ, List, ◌∷◌, Bool, true, false, inl, inr, Option, Some, None, refl, sym, ap, ◌∙◌, subst}
 use Rattle.std.specs.Prelude.{bytes_eq, is_some, option_map, slice_get}
-use Rattle.types.specs.declared.entity.Subtype.{Subtype}
-use Rattle.types.specs.declared.entity.Role.{Role}
-use Rattle.types.specs.declared.entity.Role.TheVariants as role
-use Rattle.types.specs.Entities.{Entity, TypeForm}
-use Rattle.types.specs.Entities as entity
-use Rattle.types.specs.Scopes.{Scope, base_range_of, form_at, integer, is_visible, with_name}
-use Rattle.types.specs.Shapes.{Shape, Ranged, Logical, Timed, Repeated, Grouped, Shapeless, has_shape, initial, narrowed, shape_of, shape_or_none, shapes}
-use Rattle.types.specs.Values.{Value, Number, Truth, Array, Record}
-use Rattle.types.specs.Places.{Object, Place, object_of}
-use Rattle.expr_rules.specs.Laws.{type_shape}
-use Rattle.expr_rules.specs.Typing.{is_integers}
-use Rattle.declaring.specs.Laws.{StandsFirst}
+use Rattle.expr_soundness.specs.types.specs.declared.entity.Subtype.{Subtype}
+use Rattle.expr_soundness.specs.types.specs.declared.entity.Role.{Role}
+use Rattle.expr_soundness.specs.types.specs.declared.entity.Role.TheVariants as role
+use Rattle.expr_soundness.specs.types.specs.Entities.{Entity, TypeForm}
+use Rattle.expr_soundness.specs.types.specs.Entities as entity
+use Rattle.expr_soundness.specs.types.specs.Scopes.{Scope, base_range_of, form_at, integer, is_visible, with_name}
+use Rattle.expr_soundness.specs.types.specs.Shapes.{Shape, Ranged, Logical, Timed, Repeated, Grouped, Shapeless, has_shape, initial, narrowed, shape_of, shape_or_none, shapes}
+use Rattle.expr_soundness.specs.types.specs.Values.{Value, Number, Truth, Array, Record}
+use Rattle.expr_soundness.specs.types.specs.Places.{Object, Place, object_of}
+use Rattle.expr_soundness.specs.expr_rules.specs.Laws.{type_shape}
+use Rattle.expr_soundness.specs.expr_rules.specs.Typing.{is_integers}
+use Rattle.expr_soundness.specs.declaring.specs.Laws.{StandsFirst}
 use Rattle.expr_soundness.specs.SoundScopes.{IsKnown, IsSoundObject, SoundScope}
 use Rattle.expr_soundness.specs.Agreeing.{Agrees}
-use Rattle.meaning.specs.Programs.{Program}
+use Rattle.expr_soundness.specs.meaning.specs.Programs.{Program}
 use Rattle.step_soundness.specs.Objects.{IsOf, object_subtype, subtype_in}
 use Rattle.step_soundness.specs.Fitting.{FitsScope, IsFound, Narrows, entity_named, is_result}
 use Rattle.step_soundness.specs.Judged.{turn_scope}

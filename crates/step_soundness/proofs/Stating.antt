@@ -4,47 +4,47 @@ use Rattle.std.proofs.Common.{arith}
 use Rattle.std.specs.Prelude.{option_map, position, bytes_eq}
 use Rattle.std.proofs.lemmas.List.Quantifiers.{position-Some}
 use Rattle.std.proofs.lemmas.Option.{same_Some}
-use Rattle.base.specs.declared.faults.TheConstants.{MISPLACED_STATEMENT, WRONG_CHOICES}
-use Rattle.base.specs.declared.exceptions.PredefinedException.TheVariants.{ProgramError}
-use Rattle.kernel.specs.Effects.{Delays, is_inside_any}
-use Rattle.ada_tree.specs.declared.expression.Identifier.{Identifier}
-use Rattle.ada_tree.specs.ExpressionTree.{ExprTree, NameTree}
-use Rattle.ada_tree.specs.StatementTree as statements
-use Rattle.ada_tree.specs.StatementTree.{DeclarationTree, LocalObject, LocalTask, LocalProtected, ChoicesTree, Values, OtherValues, StmtTree, StmtTrees, ElsifTrees, NoElsifs, MoreElsifs, AlternativeTrees, NoAlternatives, MoreAlternatives, HandlerTrees}
-use Rattle.types.specs.declared.entity.Subtype.{Subtype}
-use Rattle.types.specs.declared.entity.Value.{Value as Scalar}
-use Rattle.types.specs.declared.standing.Standing.{Standing}
-use Rattle.types.specs.Standings.{standing_of}
-use Rattle.types.specs.Entities.{Entity}
-use Rattle.types.specs.Entities as entity
-use Rattle.types.specs.Scopes.{Scope, number_of}
-use Rattle.types.specs.Statics.{start_of}
-use Rattle.types.specs.Values.{Value}
-use Rattle.types.specs.Evaluations.{Val, Gives, Raises, Meaningless, and_then}
-use Rattle.types.specs.Places.{Place}
-use Rattle.types.specs.Evaluating.{passed}
-use Rattle.expr_rules.specs.declared.own.Own.{Own}
-use Rattle.expr_rules.specs.declared.own.Own.TheVariants.{Unknown, Universal, Typed}
-use Rattle.expr_rules.specs.declared.own.Wanted.{Wanted}
-use Rattle.expr_rules.specs.declared.own.Wanted.TheVariants.{Anything}
-use Rattle.expr_rules.specs.Faults.{rule}
-use Rattle.expr_rules.specs.Typing.{is_known, is_time, own_of, typed_wanted}
-use Rattle.expr_rules.specs.NameRules.{mismatch}
-use Rattle.expr_rules.specs.ExpressionRules.{faults_in, faults_of, target_faults}
-use Rattle.expr_rules.proofs.TypedLaw.{back_empty, front_empty, time_numeric, unbroken}
-use Rattle.type_rules.specs.SubtypeNames.{entity_at_or_none, named_entity}
-use Rattle.declaring.specs.Laws.{StandsFirst}
-use Rattle.declaring.specs.LocalRules.{local_faults, local_scope, locals_faults, locals_scope}
+use Rattle.expr_soundness.specs.base.specs.declared.faults.TheConstants.{MISPLACED_STATEMENT, WRONG_CHOICES}
+use Rattle.expr_soundness.specs.base.specs.declared.exceptions.PredefinedException.TheVariants.{ProgramError}
+use Rattle.expr_soundness.specs.kernel.specs.Effects.{Delays, is_inside_any}
+use Rattle.expr_soundness.specs.ada_tree.specs.declared.expression.Identifier.{Identifier}
+use Rattle.expr_soundness.specs.ada_tree.specs.ExpressionTree.{ExprTree, NameTree}
+use Rattle.expr_soundness.specs.ada_tree.specs.StatementTree as statements
+use Rattle.expr_soundness.specs.ada_tree.specs.StatementTree.{DeclarationTree, LocalObject, LocalTask, LocalProtected, ChoicesTree, Values, OtherValues, StmtTree, StmtTrees, ElsifTrees, NoElsifs, MoreElsifs, AlternativeTrees, NoAlternatives, MoreAlternatives, HandlerTrees}
+use Rattle.expr_soundness.specs.types.specs.declared.entity.Subtype.{Subtype}
+use Rattle.expr_soundness.specs.types.specs.declared.entity.Value.{Value as Scalar}
+use Rattle.expr_soundness.specs.types.specs.declared.standing.Standing.{Standing}
+use Rattle.expr_soundness.specs.types.specs.Standings.{standing_of}
+use Rattle.expr_soundness.specs.types.specs.Entities.{Entity}
+use Rattle.expr_soundness.specs.types.specs.Entities as entity
+use Rattle.expr_soundness.specs.types.specs.Scopes.{Scope, number_of}
+use Rattle.expr_soundness.specs.types.specs.Statics.{start_of}
+use Rattle.expr_soundness.specs.types.specs.Values.{Value}
+use Rattle.expr_soundness.specs.types.specs.Evaluations.{Val, Gives, Raises, Meaningless, and_then}
+use Rattle.expr_soundness.specs.types.specs.Places.{Place}
+use Rattle.expr_soundness.specs.types.specs.Evaluating.{passed}
+use Rattle.expr_soundness.specs.expr_rules.specs.declared.own.Own.{Own}
+use Rattle.expr_soundness.specs.expr_rules.specs.declared.own.Own.TheVariants.{Unknown, Universal, Typed}
+use Rattle.expr_soundness.specs.expr_rules.specs.declared.own.Wanted.{Wanted}
+use Rattle.expr_soundness.specs.expr_rules.specs.declared.own.Wanted.TheVariants.{Anything}
+use Rattle.expr_soundness.specs.expr_rules.specs.Faults.{rule}
+use Rattle.expr_soundness.specs.expr_rules.specs.Typing.{is_known, is_time, own_of, typed_wanted}
+use Rattle.expr_soundness.specs.expr_rules.specs.NameRules.{mismatch}
+use Rattle.expr_soundness.specs.expr_rules.specs.ExpressionRules.{faults_in, faults_of, target_faults}
+use Rattle.expr_soundness.specs.expr_rules.proofs.TypedLaw.{back_empty, front_empty, time_numeric, unbroken}
+use Rattle.expr_soundness.specs.type_rules.specs.SubtypeNames.{entity_at_or_none, named_entity}
+use Rattle.expr_soundness.specs.declaring.specs.Laws.{StandsFirst}
+use Rattle.expr_soundness.specs.declaring.specs.LocalRules.{local_faults, local_scope, locals_faults, locals_scope}
 use Rattle.stmt_rules.specs.declared.around.Around.{Around}
 use Rattle.stmt_rules.specs.SimpleRules.{assigned_wanted, condition_faults, delay_until_faults, exit_rule, is_function, optional_condition_faults, raise_faults, raised_rule, result_wanted, time_rule, time_wanted}
 use Rattle.stmt_rules.specs.CaseRules.{choices_faults, choices_wanted, chosen_by, discrete_rule, has_others, others_rule, selecting_faults}
 use Rattle.stmt_rules.specs.CaseRules as alternatives
 use Rattle.stmt_rules.specs.StatementRules.{alternatives_faults, elsifs_faults, in_loop, iteration_faults, iteration_scope, more_handlers_faults, stmt_faults, stmts_faults}
 use Rattle.body_restrictions.specs.BodyRules as profile
-use Rattle.meaning.specs.Programs.{Program, exception_number}
-use Rattle.meaning.specs.Works.{Item, Declares, Sequence, Does, Goes, Home, InActivation, InPackage, InObject, Part, Target}
-use Rattle.meaning.specs.Targets.{activation_with, objects_of, target}
-use Rattle.meaning.specs.SourceSteps.{Here, alternative, alternative_for, assign, before, behind_loop, condition, delay_until, end_of_body, evaluate, goes, otherwise, place_of, raise_named, raise_number, raises_predefined, some_chosen, statement_step, stores, with_value}
+use Rattle.expr_soundness.specs.meaning.specs.Programs.{Program, exception_number}
+use Rattle.expr_soundness.specs.meaning.specs.Works.{Item, Declares, Sequence, Does, Goes, Home, InActivation, InPackage, InObject, Part, Target}
+use Rattle.expr_soundness.specs.meaning.specs.Targets.{activation_with, objects_of, target}
+use Rattle.expr_soundness.specs.meaning.specs.SourceSteps.{Here, alternative, alternative_for, assign, before, behind_loop, condition, delay_until, end_of_body, evaluate, goes, otherwise, place_of, raise_named, raise_number, raises_predefined, some_chosen, statement_step, stores, with_value}
 use Rattle.step_soundness.specs.Objects.{GivesOrRaises, IsException, IsOf, IsReached, IsTarget, first_store, subtype_in}
 use Rattle.step_soundness.specs.Opened.{IsHeld, opened_in}
 use Rattle.step_soundness.specs.Judged.{AreFaultless, AreFaultlessHandlers, Begins, IsFaultless, Leaves, Waiting}

@@ -1,15 +1,15 @@
 -- Every step of a task that does not wait in an entry call has a meaning, and all holds after it.
 use Rattle.std.proofs.Common.{◌≡◌, List, [], ◌∷◌, None, refl, sym, subst}
-use Rattle.kernel.specs.Effects.{Dies, Finishes}
-use Rattle.ada_tree.specs.declared.program.MainStatement.{MainStatement}
-use Rattle.ada_tree.specs.declared.program.MainStatement.TheVariants as main
-use Rattle.ada_tree.specs.StatementTree.{HandlerTrees, StmtTrees}
-use Rattle.types.specs.Scopes.{Scope}
+use Rattle.expr_soundness.specs.kernel.specs.Effects.{Dies, Finishes}
+use Rattle.expr_soundness.specs.ada_tree.specs.declared.program.MainStatement.{MainStatement}
+use Rattle.expr_soundness.specs.ada_tree.specs.declared.program.MainStatement.TheVariants as main
+use Rattle.expr_soundness.specs.ada_tree.specs.StatementTree.{HandlerTrees, StmtTrees}
+use Rattle.expr_soundness.specs.types.specs.Scopes.{Scope}
 use Rattle.stmt_rules.specs.declared.around.Around.{Around}
 use Rattle.stmt_rules.specs.StatementRules.{stmt_faults}
-use Rattle.meaning.specs.Works.{Item, Declares, DeclaresParameter, Sequence, Does, DoesMain, Repeats, RepeatsWhile, RepeatsFor, Handles, EndsHandler, EndsCall, EndsAction, EndsServed, Queued, Work, Goes, Copies, Raising}
-use Rattle.meaning.specs.Calls.{Actuals}
-use Rattle.meaning.specs.SourceSteps.{Here, before, goes, here_of, item_step, items_of, main_call, main_step, work_step}
+use Rattle.expr_soundness.specs.meaning.specs.Works.{Item, Declares, DeclaresParameter, Sequence, Does, DoesMain, Repeats, RepeatsWhile, RepeatsFor, Handles, EndsHandler, EndsCall, EndsAction, EndsServed, Queued, Work, Goes, Copies, Raising}
+use Rattle.expr_soundness.specs.meaning.specs.Calls.{Actuals}
+use Rattle.expr_soundness.specs.meaning.specs.SourceSteps.{Here, before, goes, here_of, item_step, items_of, main_call, main_step, work_step}
 use Rattle.step_soundness.specs.Opened.{IsHeld, opened_in}
 use Rattle.step_soundness.specs.Judged.{AreFaultless, AreFaultlessHandlers, IsMainStatement, IsReady, IsWork, Waiting}
 use Rattle.step_soundness.specs.Holding.{IsSoundStep}

@@ -1,20 +1,20 @@
 -- A value of its type is stored in a target: all that agreed with store and activations still does.
 use Rattle.std.proofs.Common.{◌≡◌, ◌⊎◌, ℕ, List, [], ◌∷◌, Bool, true, false, inl, inr, Option, Some, None, cond, refl, sym, ap, ◌∙◌, subst, ⊎_elim}
 use Rattle.std.specs.Prelude.{bytes_eq, option_map}
-use Rattle.kernel.specs.State.{put}
-use Rattle.kernel.specs.PutLaws.{by_put, put_other, put_same, same_or_not}
-use Rattle.types.specs.declared.entity.Subtype.{Subtype}
-use Rattle.types.specs.Scopes.{Scope}
-use Rattle.types.specs.Values.{Value}
-use Rattle.types.specs.Places.{Object, Place, object_of}
-use Rattle.types.specs.Evaluating.{bound}
+use Rattle.expr_soundness.specs.kernel.specs.State.{put}
+use Rattle.expr_soundness.specs.kernel.specs.PutLaws.{by_put, put_other, put_same, same_or_not}
+use Rattle.expr_soundness.specs.types.specs.declared.entity.Subtype.{Subtype}
+use Rattle.expr_soundness.specs.types.specs.Scopes.{Scope}
+use Rattle.expr_soundness.specs.types.specs.Values.{Value}
+use Rattle.expr_soundness.specs.types.specs.Places.{Object, Place, object_of}
+use Rattle.expr_soundness.specs.types.specs.Evaluating.{bound}
 use Rattle.expr_soundness.specs.Agreeing.{Agrees}
 use Rattle.expr_soundness.specs.Answers.{FunctionsAreSound}
 use Rattle.expr_soundness.specs.Laws.{Replaces}
-use Rattle.meaning.specs.Programs.{Procedure, Program}
-use Rattle.meaning.specs.Works.{Activation, Home, InActivation, InPackage, InObject, Item, Part, Store, Target, Work}
-use Rattle.meaning.specs.Targets.{activation_with, objects_of, store_with, stored_to, with_part}
-use Rattle.meaning.specs.SourceSteps.{Here, items_of, stores}
+use Rattle.expr_soundness.specs.meaning.specs.Programs.{Procedure, Program}
+use Rattle.expr_soundness.specs.meaning.specs.Works.{Activation, Home, InActivation, InPackage, InObject, Item, Part, Store, Target, Work}
+use Rattle.expr_soundness.specs.meaning.specs.Targets.{activation_with, objects_of, store_with, stored_to, with_part}
+use Rattle.expr_soundness.specs.meaning.specs.SourceSteps.{Here, items_of, stores}
 use Rattle.stmt_rules.specs.declared.around.Around.{Around}
 use Rattle.step_soundness.specs.Objects.{AreSoundObjects, AreTargets, IsOf, IsReached, IsTarget, PartOf, first_store, object_subtype, subtype_in}
 use Rattle.step_soundness.specs.Fitting.{Narrows}

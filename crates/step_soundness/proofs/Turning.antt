@@ -1,32 +1,32 @@
 -- Loops: their first turn, their further turns, their ends (RM 5.5).
 use Rattle.std.proofs.Common.{◌≡◌, ℕ, ℤ, pos, List, [], ◌∷◌, ◌++◌, Bool, true, false, not, Option, Some, None, Ok, Err, cond, refl, sym, ap, subst}
 use Rattle.std.specs.Prelude.{int_lt}
-use Rattle.base.specs.Arithmetic.{Checked, difference_of, sum_of}
-use Rattle.ada_tree.specs.declared.expression.Identifier.{Identifier}
-use Rattle.ada_tree.specs.ExpressionTree.{ExprTree}
-use Rattle.ada_tree.specs.StatementTree.{IterationTree, Forever, While, For, RangeTree, StmtTrees}
-use Rattle.types.specs.Operators.{are_same}
-use Rattle.types.specs.Scopes.{Scope, form_at, integer, integer_type, is_visible, with_name}
-use Rattle.types.specs.Statics.{start_of}
-use Rattle.types.specs.Values.{Value, Number}
-use Rattle.types.specs.Places.{Object, Place}
-use Rattle.expr_rules.specs.declared.own.Own.{Own}
-use Rattle.expr_rules.specs.declared.own.Own.TheVariants.{Unknown, Universal, Typed}
-use Rattle.expr_rules.specs.declared.own.Wanted.TheVariants.{AnyInteger}
-use Rattle.expr_rules.specs.Typing.{is_integers, is_integral, own_of}
-use Rattle.expr_rules.specs.NameRules.{mismatch}
-use Rattle.expr_rules.specs.ExpressionRules.{faults_in, faults_of}
-use Rattle.expr_rules.proofs.TypedLaw.{back_empty, front_empty, integral_numeric, suits_number, unbroken}
-use Rattle.type_rules.specs.SubtypeNames.{declared_twice}
-use Rattle.declaring.specs.Laws.{StandsFirst}
-use Rattle.declaring.specs.BodyNames.{bounds_type, if_integers, last_rule, loop_faults, loop_scope, loop_type, parameter_entity}
+use Rattle.expr_soundness.specs.base.specs.Arithmetic.{Checked, difference_of, sum_of}
+use Rattle.expr_soundness.specs.ada_tree.specs.declared.expression.Identifier.{Identifier}
+use Rattle.expr_soundness.specs.ada_tree.specs.ExpressionTree.{ExprTree}
+use Rattle.expr_soundness.specs.ada_tree.specs.StatementTree.{IterationTree, Forever, While, For, RangeTree, StmtTrees}
+use Rattle.expr_soundness.specs.types.specs.Operators.{are_same}
+use Rattle.expr_soundness.specs.types.specs.Scopes.{Scope, form_at, integer, integer_type, is_visible, with_name}
+use Rattle.expr_soundness.specs.types.specs.Statics.{start_of}
+use Rattle.expr_soundness.specs.types.specs.Values.{Value, Number}
+use Rattle.expr_soundness.specs.types.specs.Places.{Object, Place}
+use Rattle.expr_soundness.specs.expr_rules.specs.declared.own.Own.{Own}
+use Rattle.expr_soundness.specs.expr_rules.specs.declared.own.Own.TheVariants.{Unknown, Universal, Typed}
+use Rattle.expr_soundness.specs.expr_rules.specs.declared.own.Wanted.TheVariants.{AnyInteger}
+use Rattle.expr_soundness.specs.expr_rules.specs.Typing.{is_integers, is_integral, own_of}
+use Rattle.expr_soundness.specs.expr_rules.specs.NameRules.{mismatch}
+use Rattle.expr_soundness.specs.expr_rules.specs.ExpressionRules.{faults_in, faults_of}
+use Rattle.expr_soundness.specs.expr_rules.proofs.TypedLaw.{back_empty, front_empty, integral_numeric, suits_number, unbroken}
+use Rattle.expr_soundness.specs.type_rules.specs.SubtypeNames.{declared_twice}
+use Rattle.expr_soundness.specs.declaring.specs.Laws.{StandsFirst}
+use Rattle.expr_soundness.specs.declaring.specs.BodyNames.{bounds_type, if_integers, last_rule, loop_faults, loop_scope, loop_type, parameter_entity}
 use Rattle.stmt_rules.specs.declared.around.Around.{Around}
 use Rattle.stmt_rules.specs.SimpleRules.{condition_faults}
 use Rattle.stmt_rules.specs.StatementRules.{in_loop, iteration_faults, iteration_scope, stmts_faults}
 use Rattle.body_restrictions.specs.BodyRules as profile
-use Rattle.meaning.specs.Programs.{Program}
-use Rattle.meaning.specs.Works.{Item, EndsAction, Repeats, RepeatsWhile, RepeatsFor, Activation}
-use Rattle.meaning.specs.SourceSteps.{Here, before, begin_loop, condition, evaluate, for_range, for_turn, goes, next_number, next_turn, number_computed, while_turn, with_object, with_value}
+use Rattle.expr_soundness.specs.meaning.specs.Programs.{Program}
+use Rattle.expr_soundness.specs.meaning.specs.Works.{Item, EndsAction, Repeats, RepeatsWhile, RepeatsFor, Activation}
+use Rattle.expr_soundness.specs.meaning.specs.SourceSteps.{Here, before, begin_loop, condition, evaluate, for_range, for_turn, goes, next_number, next_turn, number_computed, while_turn, with_object, with_value}
 use Rattle.step_soundness.specs.Objects.{GivesOrRaises, IsOf}
 use Rattle.step_soundness.specs.Fitting.{FitsScope, Narrows}
 use Rattle.step_soundness.specs.Opened.{IsHeld, opened_in}

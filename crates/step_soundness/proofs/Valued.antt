@@ -1,28 +1,28 @@
 -- What legal expressions come to where a task stands: values of their types, truth values, numbers.
 use Rattle.std.proofs.Common.{◌≡◌, ℕ, ℤ, List, [], Bool, true, false, ◌&&◌, not, cond, refl, sym, ap, ◌∙◌}
 use Rattle.std.specs.Prelude.{is_some}
-use Rattle.ada_tree.specs.ExpressionTree.{ExprTree}
-use Rattle.types.specs.declared.entity.Subtype.{Subtype}
-use Rattle.types.specs.Scopes.{Scope, boolean_type, form_at, integer_type}
-use Rattle.types.specs.Statics.{start_of}
-use Rattle.types.specs.Values.{Value, Number, Truth, Array, Record, fits}
-use Rattle.types.specs.Evaluations.{Val, Gives, Raises, Meaningless, raise}
-use Rattle.types.specs.Evaluating.{passed, truth_of}
-use Rattle.base.specs.declared.exceptions.PredefinedException.TheVariants.{ConstraintError}
-use Rattle.expr_rules.specs.declared.own.Own.{Own}
-use Rattle.expr_rules.specs.declared.own.Own.TheVariants.{Typed}
-use Rattle.expr_rules.specs.declared.own.Wanted.{Wanted}
-use Rattle.expr_rules.specs.declared.own.Wanted.TheVariants.{OfType}
-use Rattle.expr_rules.specs.Typing.{is_boolean, is_booleans, is_integers, is_integral, is_known, is_wanted, own_of}
-use Rattle.expr_rules.specs.NameRules.{mismatch}
-use Rattle.expr_rules.specs.ExpressionRules.{faults_in, faults_of}
-use Rattle.expr_rules.specs.Laws.{IsTyped, is_value_of, suits}
-use Rattle.expr_rules.proofs.TypeShapes.{boolean_value, is_number, is_numeric, is_truth, numeric_value}
-use Rattle.expr_rules.proofs.TypedLaw.{back_empty, front_empty, integral_numeric, judged, unbroken}
+use Rattle.expr_soundness.specs.ada_tree.specs.ExpressionTree.{ExprTree}
+use Rattle.expr_soundness.specs.types.specs.declared.entity.Subtype.{Subtype}
+use Rattle.expr_soundness.specs.types.specs.Scopes.{Scope, boolean_type, form_at, integer_type}
+use Rattle.expr_soundness.specs.types.specs.Statics.{start_of}
+use Rattle.expr_soundness.specs.types.specs.Values.{Value, Number, Truth, Array, Record, fits}
+use Rattle.expr_soundness.specs.types.specs.Evaluations.{Val, Gives, Raises, Meaningless, raise}
+use Rattle.expr_soundness.specs.types.specs.Evaluating.{passed, truth_of}
+use Rattle.expr_soundness.specs.base.specs.declared.exceptions.PredefinedException.TheVariants.{ConstraintError}
+use Rattle.expr_soundness.specs.expr_rules.specs.declared.own.Own.{Own}
+use Rattle.expr_soundness.specs.expr_rules.specs.declared.own.Own.TheVariants.{Typed}
+use Rattle.expr_soundness.specs.expr_rules.specs.declared.own.Wanted.{Wanted}
+use Rattle.expr_soundness.specs.expr_rules.specs.declared.own.Wanted.TheVariants.{OfType}
+use Rattle.expr_soundness.specs.expr_rules.specs.Typing.{is_boolean, is_booleans, is_integers, is_integral, is_known, is_wanted, own_of}
+use Rattle.expr_soundness.specs.expr_rules.specs.NameRules.{mismatch}
+use Rattle.expr_soundness.specs.expr_rules.specs.ExpressionRules.{faults_in, faults_of}
+use Rattle.expr_soundness.specs.expr_rules.specs.Laws.{IsTyped, is_value_of, suits}
+use Rattle.expr_soundness.specs.expr_rules.proofs.TypeShapes.{boolean_value, is_number, is_numeric, is_truth, numeric_value}
+use Rattle.expr_soundness.specs.expr_rules.proofs.TypedLaw.{back_empty, front_empty, integral_numeric, judged, unbroken}
 use Rattle.stmt_rules.specs.SimpleRules.{condition_faults}
 use Rattle.expr_soundness.specs.SoundScopes.{SoundScope}
-use Rattle.meaning.specs.Works.{Item}
-use Rattle.meaning.specs.SourceSteps.{Here, condition, evaluate, place_of}
+use Rattle.expr_soundness.specs.meaning.specs.Works.{Item}
+use Rattle.expr_soundness.specs.meaning.specs.SourceSteps.{Here, condition, evaluate, place_of}
 use Rattle.step_soundness.specs.Objects.{GivesOrRaises, IsOf}
 use Rattle.step_soundness.specs.Judged.{Waiting}
 use Rattle.step_soundness.specs.Laws.{Premises}

@@ -1,17 +1,17 @@
 -- What is left of judged items by `exit`, `return` and `raise`, and the handlers among them.
 use Rattle.std.proofs.Common.{◌≡◌, ℕ, List, [], ◌∷◌, ◌++◌, Bool, true, false, Option, Some, None, cond, refl}
 use Rattle.std.specs.Prelude.{◌&&◌}
-use Rattle.ada_tree.specs.StatementTree.{HandlerTrees, NoHandlers, MoreHandlers, StmtTrees}
-use Rattle.types.specs.Scopes.{Scope}
+use Rattle.expr_soundness.specs.ada_tree.specs.StatementTree.{HandlerTrees, NoHandlers, MoreHandlers, StmtTrees}
+use Rattle.expr_soundness.specs.types.specs.Scopes.{Scope}
 use Rattle.stmt_rules.specs.declared.around.Around.{Around}
 use Rattle.stmt_rules.specs.HandlerRules.{exception_choices_faults, is_single, named_after, no_more}
 use Rattle.stmt_rules.specs.StatementRules.{in_handler, more_handlers_faults, stmts_faults}
 use Rattle.body_restrictions.specs.BodyRules as profile
-use Rattle.expr_rules.proofs.TypedLaw.{back_empty, front_empty}
-use Rattle.meaning.specs.Programs.{Program}
+use Rattle.expr_soundness.specs.expr_rules.proofs.TypedLaw.{back_empty, front_empty}
+use Rattle.expr_soundness.specs.meaning.specs.Programs.{Program}
 use Rattle.step_soundness.specs.Objects.{IsException}
-use Rattle.meaning.specs.Works.{Item, Declares, DeclaresParameter, Sequence, Does, DoesMain, Repeats, RepeatsWhile, RepeatsFor, Handles, EndsHandler, EndsCall, EndsAction, EndsServed, Queued}
-use Rattle.meaning.specs.SourceSteps.{behind_loop, end_of_body, handled_exception, handler_for, some_covers}
+use Rattle.expr_soundness.specs.meaning.specs.Works.{Item, Declares, DeclaresParameter, Sequence, Does, DoesMain, Repeats, RepeatsWhile, RepeatsFor, Handles, EndsHandler, EndsCall, EndsAction, EndsServed, Queued}
+use Rattle.expr_soundness.specs.meaning.specs.SourceSteps.{behind_loop, end_of_body, handled_exception, handler_for, some_covers}
 use Rattle.stmt_rules.specs.SimpleRules.{is_function}
 use Rattle.step_soundness.specs.Opened.{opened_in}
 use Rattle.step_soundness.specs.Judged.{AreFaultless, Judged, Waiting}

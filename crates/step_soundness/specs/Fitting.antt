@@ -1,18 +1,18 @@
 -- When a place of evaluation fits the names visible at a point of the text: it agrees with them, and statements find what they name (RM 5.1, 6.4, 9.5, 11.3).
 use Rattle.std.specs.Prelude.{◌≡◌, ℕ, Bool, true, false, List, [], ◌∷◌, map, Option, Some, None, is_some, bytes_eq, position, slice_get, ◌&&◌, if◌then◌else◌, ⊤}
-use Rattle.ada_tree.specs.ExpressionTree.{ExprTree}
-use Rattle.types.specs.declared.entity.Subtype.{Subtype}
-use Rattle.types.specs.declared.entity.FormalParameter.{FormalParameter}
-use Rattle.types.specs.declared.entity.Role.{Role}
-use Rattle.types.specs.declared.entity.Role.TheVariants as role
-use Rattle.types.specs.Entities.{Entity, Operation, Profile, Subprogram, Entry, Put, Protected, ProtectedObject}
-use Rattle.types.specs.Entities as entity
-use Rattle.types.specs.Scopes.{Scope, number_of}
-use Rattle.types.specs.Places.{Place, is_of}
-use Rattle.type_rules.specs.SubtypeNames.{entity_at_or_none}
+use Rattle.expr_soundness.specs.ada_tree.specs.ExpressionTree.{ExprTree}
+use Rattle.expr_soundness.specs.types.specs.declared.entity.Subtype.{Subtype}
+use Rattle.expr_soundness.specs.types.specs.declared.entity.FormalParameter.{FormalParameter}
+use Rattle.expr_soundness.specs.types.specs.declared.entity.Role.{Role}
+use Rattle.expr_soundness.specs.types.specs.declared.entity.Role.TheVariants as role
+use Rattle.expr_soundness.specs.types.specs.Entities.{Entity, Operation, Profile, Subprogram, Entry, Put, Protected, ProtectedObject}
+use Rattle.expr_soundness.specs.types.specs.Entities as entity
+use Rattle.expr_soundness.specs.types.specs.Scopes.{Scope, number_of}
+use Rattle.expr_soundness.specs.types.specs.Places.{Place, is_of}
+use Rattle.expr_soundness.specs.type_rules.specs.SubtypeNames.{entity_at_or_none}
 use Rattle.expr_soundness.specs.Agreeing.{Agrees}
-use Rattle.meaning.specs.Programs.{Parameter, Procedure, Program, exception_number}
-use Rattle.meaning.specs.Calls.{is_in, is_out, procedure_among, procedure_here}
+use Rattle.expr_soundness.specs.meaning.specs.Programs.{Parameter, Procedure, Program, exception_number}
+use Rattle.expr_soundness.specs.meaning.specs.Calls.{is_in, is_out, procedure_among, procedure_here}
 use Rattle.step_soundness.specs.Objects.{subtype_in}
 
 -- what a name stands for

@@ -1,16 +1,16 @@
 -- What holds of the store and of each task between the steps of an accepted program, and what each step does to it.
 use Rattle.std.specs.Prelude.{◌≡◌, ◌<◌, ◌⊎◌, ℕ, false, List, [], ◌∷◌, map, Option, Some, None, ⊤}
-use Rattle.kernel.specs.Effects.{Effect, Quiet, Says, Delays, Opens, Views, Queues, Ends, Finishes, Dies, Breaks, call_refusal, is_above_ceiling, is_full, is_inside_any}
-use Rattle.types.specs.Scopes.{Scope}
-use Rattle.types.specs.Values.{Value}
-use Rattle.types.specs.Places.{Place}
+use Rattle.expr_soundness.specs.kernel.specs.Effects.{Effect, Quiet, Says, Delays, Opens, Views, Queues, Ends, Finishes, Dies, Breaks, call_refusal, is_above_ceiling, is_full, is_inside_any}
+use Rattle.expr_soundness.specs.types.specs.Scopes.{Scope}
+use Rattle.expr_soundness.specs.types.specs.Values.{Value}
+use Rattle.expr_soundness.specs.types.specs.Places.{Place}
 use Rattle.stmt_rules.specs.declared.around.Around.{Around}
 use Rattle.expr_soundness.specs.Agreeing.{Agrees}
 use Rattle.expr_soundness.specs.Answers.{FunctionsAreSound}
-use Rattle.meaning.specs.Programs.{Procedure, Program}
-use Rattle.meaning.specs.Works.{Item, Activation, GivenToCaller, Results, Raised, Store, TaskWork}
-use Rattle.meaning.specs.Calls.{activation_of, body_items, is_open, procedure_among, results}
-use Rattle.meaning.specs.SourceSteps.{Here, SourceStepped, completion_of, items_of}
+use Rattle.expr_soundness.specs.meaning.specs.Programs.{Procedure, Program}
+use Rattle.expr_soundness.specs.meaning.specs.Works.{Item, Activation, GivenToCaller, Results, Raised, Store, TaskWork}
+use Rattle.expr_soundness.specs.meaning.specs.Calls.{activation_of, body_items, is_open, procedure_among, results}
+use Rattle.expr_soundness.specs.meaning.specs.SourceSteps.{Here, SourceStepped, completion_of, items_of}
 use Rattle.step_soundness.specs.Objects.{AreOf, AreSoundObjects, IsException, first_store, subtype_in}
 use Rattle.step_soundness.specs.Fitting.{FitsScope, entry_of, result_types, taken_types}
 use Rattle.step_soundness.specs.Opened.{ForCall, ForCaller, IsHeld, Opened, object_opened, opened_in}

@@ -1,24 +1,24 @@
 -- Work that was judged: items each of which breaks no rule where it is worked, with what is visible there (RM 5, 6.4, 11.4).
 use Rattle.std.specs.Prelude.{◌≡◌, ℕ, Bool, true, false, List, [], ◌∷◌, Option, Some, None, ⊤}
-use Rattle.ada_tree.specs.declared.program.MainStatement.{MainStatement}
-use Rattle.ada_tree.specs.declared.program.MainStatement.TheVariants as main
-use Rattle.ada_tree.specs.StatementTree.{DeclarationTree, StmtTree, StmtTrees, HandlerTrees}
-use Rattle.types.specs.declared.entity.Role.{Role}
-use Rattle.types.specs.declared.entity.Role.TheVariants as role
-use Rattle.types.specs.declared.entity.Subtype.{Subtype}
-use Rattle.types.specs.Entities as entity
-use Rattle.types.specs.Scopes.{Scope, base_range_of, form_at, is_visible, with_name}
-use Rattle.types.specs.Values.{Value}
-use Rattle.expr_rules.specs.Typing.{is_integers}
-use Rattle.declaring.specs.LocalRules.{local_faults, local_scope}
+use Rattle.expr_soundness.specs.ada_tree.specs.declared.program.MainStatement.{MainStatement}
+use Rattle.expr_soundness.specs.ada_tree.specs.declared.program.MainStatement.TheVariants as main
+use Rattle.expr_soundness.specs.ada_tree.specs.StatementTree.{DeclarationTree, StmtTree, StmtTrees, HandlerTrees}
+use Rattle.expr_soundness.specs.types.specs.declared.entity.Role.{Role}
+use Rattle.expr_soundness.specs.types.specs.declared.entity.Role.TheVariants as role
+use Rattle.expr_soundness.specs.types.specs.declared.entity.Subtype.{Subtype}
+use Rattle.expr_soundness.specs.types.specs.Entities as entity
+use Rattle.expr_soundness.specs.types.specs.Scopes.{Scope, base_range_of, form_at, is_visible, with_name}
+use Rattle.expr_soundness.specs.types.specs.Values.{Value}
+use Rattle.expr_soundness.specs.expr_rules.specs.Typing.{is_integers}
+use Rattle.expr_soundness.specs.declaring.specs.LocalRules.{local_faults, local_scope}
 use Rattle.stmt_rules.specs.declared.around.Around.{Around}
 use Rattle.stmt_rules.specs.SimpleRules.{condition_faults, is_function}
 use Rattle.stmt_rules.specs.StatementRules.{handlers_faults, in_loop, stmt_faults, stmts_faults}
 use Rattle.body_restrictions.specs.BodyRules as profile
 use Rattle.expr_soundness.specs.SoundScopes.{IsKnown}
-use Rattle.meaning.specs.Programs.{Parameter, Procedure, Program}
-use Rattle.meaning.specs.Works.{Item, Declares, DeclaresParameter, Sequence, Does, DoesMain, Repeats, RepeatsWhile, RepeatsFor, Handles, EndsHandler, EndsCall, EndsAction, EndsServed, Queued, Completion, Completed, Pending, Target, Work, Goes, Copies, Raising, Activation}
-use Rattle.meaning.specs.Calls.{procedure_here}
+use Rattle.expr_soundness.specs.meaning.specs.Programs.{Parameter, Procedure, Program}
+use Rattle.expr_soundness.specs.meaning.specs.Works.{Item, Declares, DeclaresParameter, Sequence, Does, DoesMain, Repeats, RepeatsWhile, RepeatsFor, Handles, EndsHandler, EndsCall, EndsAction, EndsServed, Queued, Completion, Completed, Pending, Target, Work, Goes, Copies, Raising, Activation}
+use Rattle.expr_soundness.specs.meaning.specs.Calls.{procedure_here}
 use Rattle.step_soundness.specs.Objects.{AreOf, AreTargets, IsException}
 use Rattle.step_soundness.specs.Fitting.{Narrows, entity_named, entry_of, is_result, result_types, taken_types}
 use Rattle.step_soundness.specs.Opened.{IsHeld, opened_in}

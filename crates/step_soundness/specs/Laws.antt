@@ -1,18 +1,18 @@
 -- What the steps of an accepted program stand on, and the statement that none of them is without meaning.
 use Rattle.std.specs.Prelude.{◌≡◌, ℕ, List, [], ◌∷◌, Option, Some, None}
-use Rattle.base.specs.declared.schedule.ScheduleLine.{ScheduleLine}
-use Rattle.kernel.specs.State.{Action, Kernel, Serves, Writes}
-use Rattle.kernel.specs.Invariant.{IsBarrierHeld, Passed}
-use Rattle.kernel.specs.Worlds.{Solo}
-use Rattle.types.specs.Laws.{InitialValuesHaveShape}
-use Rattle.declaring.specs.Laws.{NamesAreAdded}
+use Rattle.expr_soundness.specs.base.specs.declared.schedule.ScheduleLine.{ScheduleLine}
+use Rattle.expr_soundness.specs.kernel.specs.State.{Action, Kernel, Serves, Writes}
+use Rattle.expr_soundness.specs.kernel.specs.Invariant.{IsBarrierHeld, Passed}
+use Rattle.expr_soundness.specs.kernel.specs.Worlds.{Solo}
+use Rattle.expr_soundness.specs.types.specs.Laws.{InitialValuesHaveShape}
+use Rattle.expr_soundness.specs.declaring.specs.Laws.{NamesAreAdded}
 use Rattle.expr_soundness.specs.SoundScopes.{SoundScope}
 use Rattle.expr_soundness.specs.Laws.{AgreementIsKept, CallsAreTyped}
 use Rattle.expr_soundness.specs.Variables.{TargetsAreVariables}
-use Rattle.meaning.specs.Programs.{Program}
-use Rattle.meaning.specs.Works.{GivenToCaller, Store, TaskWork}
-use Rattle.meaning.specs.Calls.{is_open}
-use Rattle.meaning.specs.SourceSteps.{Here, SourceStepped, here_of, items_of, received, serves, work_step}
+use Rattle.expr_soundness.specs.meaning.specs.Programs.{Program}
+use Rattle.expr_soundness.specs.meaning.specs.Works.{GivenToCaller, Store, TaskWork}
+use Rattle.expr_soundness.specs.meaning.specs.Calls.{is_open}
+use Rattle.expr_soundness.specs.meaning.specs.SourceSteps.{Here, SourceStepped, here_of, items_of, received, serves, work_step}
 use Rattle.step_soundness.specs.Opened.{ForCall, ForCaller, IsHeld, Opened, opened_in}
 use Rattle.step_soundness.specs.Holding.{IsGiven, IsSoundServer, IsSoundStep, IsSoundStore, IsSoundTask, KeepsStore}
 

@@ -1,18 +1,18 @@
 -- Values of types, objects with values of their types, and targets: objects and parts of them that are there (RM 3.2, 4.1, 5.2).
 use Rattle.std.specs.Prelude.{◌≡◌, ◌<◌, ◌≤◌, ◌⊎◌, ℕ, true, List, [], ◌∷◌, length, option_map, Option, Some, ⊤}
-use Rattle.types.specs.declared.entity.Subtype.{Subtype}
-use Rattle.types.specs.declared.entity.RecordComponent.{RecordComponent}
-use Rattle.types.specs.Entities.{Arrays, Records}
-use Rattle.types.specs.Scopes.{Scope, form_at}
-use Rattle.types.specs.Shapes.{has_shape}
-use Rattle.types.specs.Standings.{component_of}
-use Rattle.types.specs.Values.{Value}
-use Rattle.types.specs.Evaluations.{Val, Gives, Raises, Meaningless}
-use Rattle.types.specs.Places.{Object, object_of}
-use Rattle.expr_rules.specs.Laws.{type_shape}
-use Rattle.meaning.specs.Programs.{Program}
-use Rattle.meaning.specs.Works.{Part, Element, Field, Home, InActivation, InPackage, InObject, Target, Activation, Store}
-use Rattle.meaning.specs.Targets.{objects_of}
+use Rattle.expr_soundness.specs.types.specs.declared.entity.Subtype.{Subtype}
+use Rattle.expr_soundness.specs.types.specs.declared.entity.RecordComponent.{RecordComponent}
+use Rattle.expr_soundness.specs.types.specs.Entities.{Arrays, Records}
+use Rattle.expr_soundness.specs.types.specs.Scopes.{Scope, form_at}
+use Rattle.expr_soundness.specs.types.specs.Shapes.{has_shape}
+use Rattle.expr_soundness.specs.types.specs.Standings.{component_of}
+use Rattle.expr_soundness.specs.types.specs.Values.{Value}
+use Rattle.expr_soundness.specs.types.specs.Evaluations.{Val, Gives, Raises, Meaningless}
+use Rattle.expr_soundness.specs.types.specs.Places.{Object, object_of}
+use Rattle.expr_soundness.specs.expr_rules.specs.Laws.{type_shape}
+use Rattle.expr_soundness.specs.meaning.specs.Programs.{Program}
+use Rattle.expr_soundness.specs.meaning.specs.Works.{Part, Element, Field, Home, InActivation, InPackage, InObject, Target, Activation, Store}
+use Rattle.expr_soundness.specs.meaning.specs.Targets.{objects_of}
 
 -- ---- evaluations that come to something
 

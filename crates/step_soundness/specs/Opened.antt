@@ -1,6 +1,6 @@
 -- Which protected actions a task holds open, as its items tell: one for each end that stands among them (RM 9.5.1, 9.5.3).
 use Rattle.std.specs.Prelude.{◌≡◌, ◌⊎◌, ℕ, List, [], ◌∷◌, Option, Some, None, ⊤}
-use Rattle.meaning.specs.Works.{Item, EndsCall, EndsAction, EndsServed}
+use Rattle.expr_soundness.specs.meaning.specs.Works.{Item, EndsCall, EndsAction, EndsServed}
 
 -- an action that a call of the task has opened, and one in which it runs the entry body for a queued caller
 pub data Opened : Type 0 where

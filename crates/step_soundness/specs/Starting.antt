@@ -1,9 +1,9 @@
 -- What holds at the start of a run of an accepted program.
 use Rattle.std.specs.Prelude.{ℕ, None}
-use Rattle.kernel.specs.Invariant.{Fits}
+use Rattle.expr_soundness.specs.kernel.specs.Invariant.{Fits}
 use Rattle.expr_soundness.specs.SoundScopes.{SoundScope}
-use Rattle.meaning.specs.Programs.{Program, program_partition}
-use Rattle.meaning.specs.Source.{initial_work}
+use Rattle.expr_soundness.specs.meaning.specs.Programs.{Program, program_partition}
+use Rattle.expr_soundness.specs.meaning.specs.Source.{initial_work}
 use Rattle.step_soundness.specs.Objects.{first_store}
 use Rattle.step_soundness.specs.Holding.{IsSoundStore, IsSoundTask}
 use Rattle.step_soundness.specs.Laws.{BarriersAreOwn}

@@ -11,11 +11,11 @@ use Rattle.image.specs.declared.instruction.Operation.TheVariants as op
 use Rattle.types.specs.declared.entity.Value.{Value as Scalar}
 use Rattle.types.specs.Places.{is_among}
 use Rattle.types.specs.Scopes.{Scope}
-use Rattle.expr_rules.specs.Typing.{own_of}
-use Rattle.expr_rules.proofs.TypedLaw.{back_empty, front_empty}
-use Rattle.stmt_rules.specs.CaseRules as rules
-use Rattle.stmt_rules.specs.CaseRules.{choices_faults, choices_wanted, chosen_by, others_rule, selecting_faults}
-use Rattle.stmt_rules.specs.StatementRules.{alternatives_faults, stmts_faults}
+use Rattle.expr_soundness.specs.expr_rules.specs.Typing.{own_of}
+use Rattle.expr_soundness.specs.expr_rules.proofs.TypedLaw.{back_empty, front_empty}
+use Rattle.part_code.specs.stmt_rules.specs.CaseRules as rules
+use Rattle.part_code.specs.stmt_rules.specs.CaseRules.{choices_faults, choices_wanted, chosen_by, others_rule, selecting_faults}
+use Rattle.part_code.specs.stmt_rules.specs.StatementRules.{alternatives_faults, stmts_faults}
 use Rattle.expr_code.specs.Branches.{Joins, Rejoins}
 use Rattle.expr_code.specs.Code.{Adds, Extends, Holds, StandsFrom, here}
 use Rattle.expr_code.specs.Computing.{Computes}

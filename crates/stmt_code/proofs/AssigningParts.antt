@@ -21,9 +21,9 @@ use Rattle.types.specs.Scopes.{form_at}
 use Rattle.types.specs.Shapes.{Shape, shape_of}
 use Rattle.expr_soundness.specs.Laws.{AgreementIsKept, CallsAreTyped}
 use Rattle.expr_soundness.specs.SoundScopes.{IsKnown}
-use Rattle.meaning.specs.Programs.{Program}
-use Rattle.meaning.specs.Targets.{activation_with, store_with}
-use Rattle.meaning.specs.Works.{Activation, Store, Target}
+use Rattle.expr_soundness.specs.meaning.specs.Programs.{Program}
+use Rattle.expr_soundness.specs.meaning.specs.Targets.{activation_with, store_with}
+use Rattle.expr_soundness.specs.meaning.specs.Works.{Activation, Store, Target}
 use Rattle.expr_code.specs.Coming.{Comes, on}
 use Rattle.expr_code.specs.Computing.{ComputesChecked, Everywhere}
 use Rattle.expr_code.specs.Locating.{IsPath}

@@ -13,10 +13,10 @@ use Rattle.types.specs.Places.{Object}
 use Rattle.types.specs.Shapes.{has_shape, shape_of, value_words}
 use Rattle.types.specs.Values.{Value}
 use Rattle.expr_soundness.specs.Laws.{AgreementIsKept}
-use Rattle.meaning.specs.Calls.{is_in, is_out, results, with_first}
-use Rattle.meaning.specs.Programs.{Parameter, Program}
-use Rattle.step_soundness.specs.Fitting.{taken_types}
-use Rattle.step_soundness.specs.Objects.{AreOf, IsOf}
+use Rattle.expr_soundness.specs.meaning.specs.Calls.{is_in, is_out, results, with_first}
+use Rattle.expr_soundness.specs.meaning.specs.Programs.{Parameter, Program}
+use Rattle.part_code.specs.step_soundness.specs.Fitting.{taken_types}
+use Rattle.part_code.specs.step_soundness.specs.Objects.{AreOf, IsOf}
 use Rattle.expr_code.specs.Naming.{Lies}
 use Rattle.expr_code.specs.Seeing.{Package}
 use Rattle.expr_code.specs.declared.visible.Slot.{Slot}

@@ -9,10 +9,10 @@ use Rattle.types.specs.Layouts.{words_of}
 use Rattle.types.specs.Places.{Object, object_of, or_else}
 use Rattle.types.specs.Values.{Value}
 use Rattle.expr_soundness.specs.Laws.{AgreementIsKept}
-use Rattle.meaning.specs.Calls.{activation_of, bound, is_in, is_out, results, with_first}
-use Rattle.meaning.specs.Programs.{Parameter, Procedure, Program}
-use Rattle.step_soundness.specs.Fitting.{taken_types}
-use Rattle.step_soundness.specs.Objects.{AreOf}
+use Rattle.expr_soundness.specs.meaning.specs.Calls.{activation_of, bound, is_in, is_out, results, with_first}
+use Rattle.expr_soundness.specs.meaning.specs.Programs.{Parameter, Procedure, Program}
+use Rattle.part_code.specs.step_soundness.specs.Fitting.{taken_types}
+use Rattle.part_code.specs.step_soundness.specs.Objects.{AreOf}
 use Rattle.expr_code.specs.Seeing.{Package}
 use Rattle.part_code.specs.Copying.{held_at, passed_words}
 use Rattle.part_code.specs.Layout.{IsLaidPackage}

@@ -18,23 +18,23 @@ use Rattle.types.specs.Places.{Object}
 use Rattle.types.specs.Scopes.{Scope, base_range_of, form_at, integer, integer_type, is_visible, with_name}
 use Rattle.types.specs.Statics.{start_of}
 use Rattle.types.specs.Values.{Number}
-use Rattle.expr_rules.specs.declared.own.Own.{Own}
-use Rattle.expr_rules.specs.declared.own.Own.TheVariants.{Typed, Universal, Unknown}
-use Rattle.expr_rules.specs.declared.own.Wanted.TheVariants.{AnyInteger}
-use Rattle.expr_rules.specs.ExpressionRules.{faults_in, faults_of}
-use Rattle.expr_rules.specs.Faults.{Faults}
-use Rattle.expr_rules.specs.NameRules.{mismatch}
-use Rattle.expr_rules.specs.Typing.{is_integers, is_integral, is_known, is_wanted, own_of}
-use Rattle.expr_rules.proofs.TypedLaw.{back_empty, front_empty, judged, unbroken}
+use Rattle.expr_soundness.specs.expr_rules.specs.declared.own.Own.{Own}
+use Rattle.expr_soundness.specs.expr_rules.specs.declared.own.Own.TheVariants.{Typed, Universal, Unknown}
+use Rattle.expr_soundness.specs.expr_rules.specs.declared.own.Wanted.TheVariants.{AnyInteger}
+use Rattle.expr_soundness.specs.expr_rules.specs.ExpressionRules.{faults_in, faults_of}
+use Rattle.expr_soundness.specs.expr_rules.specs.Faults.{Faults}
+use Rattle.expr_soundness.specs.expr_rules.specs.NameRules.{mismatch}
+use Rattle.expr_soundness.specs.expr_rules.specs.Typing.{is_integers, is_integral, is_known, is_wanted, own_of}
+use Rattle.expr_soundness.specs.expr_rules.proofs.TypedLaw.{back_empty, front_empty, judged, unbroken}
 use Rattle.type_rules.specs.SubtypeNames.{declared_twice}
 use Rattle.declaring.specs.BodyNames.{bounds_type, if_integers, last_rule, loop_faults, loop_scope, loop_type, parameter_entity}
-use Rattle.stmt_rules.specs.StatementRules.{in_loop, stmts_faults}
+use Rattle.part_code.specs.stmt_rules.specs.StatementRules.{in_loop, stmts_faults}
 use Rattle.expr_soundness.specs.Agreeing.{Agrees}
 use Rattle.expr_soundness.specs.Laws.{AgreementIsKept, ScopesAreSound}
 use Rattle.expr_soundness.specs.SoundScopes.{SoundScope}
-use Rattle.meaning.specs.Calls.{procedure_here}
-use Rattle.meaning.specs.Programs.{Procedure, Program}
-use Rattle.step_soundness.specs.Fitting.{IsFound, entity_named}
+use Rattle.expr_soundness.specs.meaning.specs.Calls.{procedure_here}
+use Rattle.expr_soundness.specs.meaning.specs.Programs.{Procedure, Program}
+use Rattle.part_code.specs.step_soundness.specs.Fitting.{IsFound, entity_named}
 use Rattle.expr_code.specs.Emitting as expressions
 use Rattle.expr_code.specs.Seeing.{Package, subprogram_of}
 use Rattle.expr_code.specs.Widths.{width_of}

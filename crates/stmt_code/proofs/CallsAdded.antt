@@ -19,16 +19,16 @@ use Rattle.types.specs.Entities as entity
 use Rattle.types.specs.Entities.{Profile}
 use Rattle.types.specs.Scopes.{is_visible, number_of, profile_of}
 use Rattle.types.specs.Standings.{count, select_all, standing_of, stands_first, stands_for}
-use Rattle.expr_rules.specs.ExpressionRules.{arguments_faults, selectors_faults}
-use Rattle.expr_rules.specs.Faults.{rule}
-use Rattle.expr_rules.specs.NameRules.{call_rule}
-use Rattle.expr_rules.proofs.TypedLaw.{back_empty, front_empty}
+use Rattle.expr_soundness.specs.expr_rules.specs.ExpressionRules.{arguments_faults, selectors_faults}
+use Rattle.expr_soundness.specs.expr_rules.specs.Faults.{rule}
+use Rattle.expr_soundness.specs.expr_rules.specs.NameRules.{call_rule}
+use Rattle.expr_soundness.specs.expr_rules.proofs.TypedLaw.{back_empty, front_empty}
 use Rattle.type_rules.specs.SubtypeNames.{entity_at_or_none}
-use Rattle.meaning.specs.Calls.{Callee, callee_by, callee_with, procedure_here}
-use Rattle.meaning.specs.Programs.{Parameter, Program}
-use Rattle.step_soundness.specs.Fitting as fitting
-use Rattle.step_soundness.specs.Fitting.{IsProcedure, entity_named}
-use Rattle.step_soundness.proofs.Naming.{HasArguments, IsCall, called_with}
+use Rattle.expr_soundness.specs.meaning.specs.Calls.{Callee, callee_by, callee_with, procedure_here}
+use Rattle.expr_soundness.specs.meaning.specs.Programs.{Parameter, Program}
+use Rattle.part_code.specs.step_soundness.specs.Fitting as fitting
+use Rattle.part_code.specs.step_soundness.specs.Fitting.{IsProcedure, entity_named}
+use Rattle.part_code.specs.step_soundness.proofs.Naming.{HasArguments, IsCall, called_with}
 use Rattle.expr_code.specs.Actuals.{ArePassedLegally, arguments_in_front}
 use Rattle.expr_code.specs.Code.{Adds, Extends, Holds, here}
 use Rattle.expr_code.specs.Flows.{Flows}

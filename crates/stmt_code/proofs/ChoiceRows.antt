@@ -13,10 +13,10 @@ use Rattle.handlers.specs.Innermost.{covers, handler_of, handles, inner_of, inne
 use Rattle.handlers.specs.Nesting.{all_nested, are_nested}
 use Rattle.handlers.specs.declared.rows.Row.{Row}
 use Rattle.image.specs.Texts.{text_or_none}
-use Rattle.meaning.specs.Programs.{Program, exception_name, exception_number}
-use Rattle.meaning.specs.SourceSteps as source
-use Rattle.meaning.specs.SourceSteps.{some_covers}
-use Rattle.step_soundness.specs.Objects.{IsException}
+use Rattle.expr_soundness.specs.meaning.specs.Programs.{Program, exception_name, exception_number}
+use Rattle.expr_soundness.specs.meaning.specs.SourceSteps as source
+use Rattle.expr_soundness.specs.meaning.specs.SourceSteps.{some_covers}
+use Rattle.part_code.specs.step_soundness.specs.Objects.{IsException}
 use Rattle.part_code.specs.ChoiceRows.{choice_rows, row_for}
 use Rattle.stmt_code.specs.Covering.{first_for}
 use Rattle.part_code.specs.Handling.{CoverJust, or_answer}

@@ -22,9 +22,9 @@ use Rattle.types.specs.Layouts.{capped, words_of}
 use Rattle.types.specs.Places.{Object}
 use Rattle.types.specs.Scopes.{Scope, form_at, is_visible, with_name}
 use Rattle.types.specs.Shapes.{initial, initial_of, shape_of, value_words}
-use Rattle.expr_rules.specs.declared.own.Wanted.TheVariants.{OfType}
-use Rattle.expr_rules.specs.ExpressionRules.{faults_of}
-use Rattle.expr_rules.proofs.TypedLaw.{back_empty, front_empty, unbroken}
+use Rattle.expr_soundness.specs.expr_rules.specs.declared.own.Wanted.TheVariants.{OfType}
+use Rattle.expr_soundness.specs.expr_rules.specs.ExpressionRules.{faults_of}
+use Rattle.expr_soundness.specs.expr_rules.proofs.TypedLaw.{back_empty, front_empty, unbroken}
 use Rattle.type_rules.specs.ObjectRules.{local_initial_faults, local_object_faults, local_object_scope, object_entity, role_of}
 use Rattle.type_rules.specs.SubtypeNames.{declared_twice, subtype_faults, subtype_of, wanted_by}
 use Rattle.declaring.specs.LocalRules.{local_faults, local_scope, locals_faults, locals_scope}
@@ -33,10 +33,10 @@ use Rattle.expr_soundness.specs.Laws.{AgreementIsKept, CallsAreTyped, ScopesAreS
 use Rattle.expr_soundness.specs.SoundScopes.{IsKnown, IsSoundObject, SoundScope}
 use Rattle.expr_soundness.proofs.Positions.{same_some}
 use Rattle.expr_soundness.proofs.Widening.{subtype_known}
-use Rattle.meaning.specs.Calls.{procedure_here}
-use Rattle.meaning.specs.Programs.{Procedure, Program, subtype_named}
-use Rattle.step_soundness.specs.Fitting.{IsFound, entity_named}
-use Rattle.step_soundness.proofs.Elaborating.{declared_subtype}
+use Rattle.expr_soundness.specs.meaning.specs.Calls.{procedure_here}
+use Rattle.expr_soundness.specs.meaning.specs.Programs.{Procedure, Program, subtype_named}
+use Rattle.part_code.specs.step_soundness.specs.Fitting.{IsFound, entity_named}
+use Rattle.part_code.specs.step_soundness.proofs.Elaborating.{declared_subtype}
 use Rattle.expr_code.specs.Views.{At}
 use Rattle.expr_code.specs.Code.{Adds, Extends, Holds, here}
 use Rattle.expr_code.specs.Computing.{ComputesChecked}

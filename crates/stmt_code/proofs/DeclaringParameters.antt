@@ -13,7 +13,7 @@ use Rattle.types.specs.Shapes.{initial, value_words}
 use Rattle.types.specs.Values.{Value}
 use Rattle.expr_soundness.specs.Laws.{AgreementIsKept}
 use Rattle.expr_soundness.specs.SoundScopes.{IsKnown}
-use Rattle.meaning.specs.Programs.{Parameter, Program}
+use Rattle.expr_soundness.specs.meaning.specs.Programs.{Parameter, Program}
 use Rattle.expr_code.specs.Coming.{on}
 use Rattle.expr_code.specs.Computing.{Everywhere}
 use Rattle.expr_code.specs.Seeing.{Package, Sees, library_of}

@@ -17,7 +17,7 @@ use Rattle.expr_soundness.specs.Laws.{AgreementIsKept}
 use Rattle.expr_soundness.specs.SoundScopes.{SoundScope}
 use Rattle.expr_soundness.proofs.Agreement.{changed_agrees}
 use Rattle.expr_soundness.proofs.Positions.{same_some}
-use Rattle.meaning.specs.Works.{Activation}
+use Rattle.expr_soundness.specs.meaning.specs.Works.{Activation}
 use Rattle.expr_code.specs.Naming.{Lies}
 use Rattle.expr_code.specs.Seeing.{IsCoded, Package, SeesPackage, outside, slot_of, subprogram_of}
 use Rattle.expr_code.specs.Views.{View}

@@ -7,7 +7,7 @@ use Rattle.image.specs.Frames.{Frame}
 use Rattle.image.specs.declared.instruction.Operation.TheVariants as op
 use Rattle.types.specs.Laws.{ValuesHaveWords}
 use Rattle.types.specs.Places.{Place}
-use Rattle.meaning.specs.Works.{Activation}
+use Rattle.expr_soundness.specs.meaning.specs.Works.{Activation}
 use Rattle.expr_code.specs.Seeing.{Package}
 use Rattle.expr_code.specs.Views.{At, View}
 use Rattle.part_code.specs.Resting.{Framed, HeldWord, Knows, Rests, RestsWith}

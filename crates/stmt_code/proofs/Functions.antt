@@ -11,11 +11,11 @@ use Rattle.types.specs.Places.{Formal, Function, Object, Place}
 use Rattle.types.specs.Shapes.{has_shape, shape_of, value_words}
 use Rattle.types.specs.Values.{Value}
 use Rattle.types.specs.declared.entity.Subtype.{Subtype}
-use Rattle.expr_rules.specs.Laws.{type_shape}
+use Rattle.expr_soundness.specs.expr_rules.specs.Laws.{type_shape}
 use Rattle.expr_soundness.specs.Laws.{AgreementIsKept}
 use Rattle.expr_soundness.proofs.Parts.{subtype_values}
-use Rattle.meaning.specs.Programs.{Parameter, Program}
-use Rattle.step_soundness.specs.Objects.{IsOf}
+use Rattle.expr_soundness.specs.meaning.specs.Programs.{Parameter, Program}
+use Rattle.part_code.specs.step_soundness.specs.Objects.{IsOf}
 use Rattle.expr_code.specs.Coming.{all_words}
 use Rattle.expr_code.specs.Computing.{ArePassed}
 use Rattle.expr_code.specs.Naming.{Lies}

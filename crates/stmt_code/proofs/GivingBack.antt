@@ -22,9 +22,9 @@ use Rattle.types.specs.Places.{Place, object_of}
 use Rattle.types.specs.Scopes.{Scope}
 use Rattle.types.specs.Shapes.{value_words}
 use Rattle.types.specs.Values.{Value}
-use Rattle.meaning.specs.Calls.{results_in, with_value_of}
-use Rattle.meaning.specs.Programs.{Program}
-use Rattle.meaning.specs.SameMeaning.{frames_of}
+use Rattle.expr_soundness.specs.meaning.specs.Calls.{results_in, with_value_of}
+use Rattle.expr_soundness.specs.meaning.specs.Programs.{Program}
+use Rattle.expr_soundness.specs.meaning.specs.SameMeaning.{frames_of}
 use Rattle.expr_code.specs.Coming.{most_steps, on}
 use Rattle.expr_code.specs.Naming.{Lies}
 use Rattle.expr_code.specs.Seeing.{Package, slot_of}

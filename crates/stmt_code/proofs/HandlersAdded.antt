@@ -17,12 +17,12 @@ use Rattle.types.specs.Laws.{ValuesHaveWords}
 use Rattle.types.specs.Layouts.{words_of}
 use Rattle.types.specs.Places.{is_among}
 use Rattle.types.specs.Scopes.{Scope}
-use Rattle.expr_rules.proofs.TypedLaw.{back_empty, front_empty}
-use Rattle.stmt_rules.specs.HandlerRules as rules
-use Rattle.stmt_rules.specs.HandlerRules.{exception_choices_faults, is_single, named_after}
-use Rattle.stmt_rules.specs.StatementRules.{in_handler, more_handlers_faults, stmts_faults}
-use Rattle.meaning.specs.Programs.{Program}
-use Rattle.meaning.specs.SourceSteps.{some_covers}
+use Rattle.expr_soundness.specs.expr_rules.proofs.TypedLaw.{back_empty, front_empty}
+use Rattle.part_code.specs.stmt_rules.specs.HandlerRules as rules
+use Rattle.part_code.specs.stmt_rules.specs.HandlerRules.{exception_choices_faults, is_single, named_after}
+use Rattle.part_code.specs.stmt_rules.specs.StatementRules.{in_handler, more_handlers_faults, stmts_faults}
+use Rattle.expr_soundness.specs.meaning.specs.Programs.{Program}
+use Rattle.expr_soundness.specs.meaning.specs.SourceSteps.{some_covers}
 use Rattle.expr_code.specs.Branches.{Joins}
 use Rattle.expr_code.specs.Code.{Adds, Extends, Holds, StandsFrom, here}
 use Rattle.expr_code.specs.Flows.{AreKeptBetween, KeepsInstructionRules}

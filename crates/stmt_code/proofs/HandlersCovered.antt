@@ -11,7 +11,7 @@ use Rattle.image.specs.Sections.{Sections}
 use Rattle.image.specs.Rules.{has_depth}
 use Rattle.image.specs.declared.instruction.Operation.TheVariants as op
 use Rattle.types.specs.Places.{is_among}
-use Rattle.meaning.specs.Programs.{Program}
+use Rattle.expr_soundness.specs.meaning.specs.Programs.{Program}
 use Rattle.expr_code.specs.Branches.{Joins}
 use Rattle.expr_code.specs.Code.{Extends, Holds, StandsFrom, here}
 use Rattle.expr_code.specs.declared.visible.Visible.{Visible}

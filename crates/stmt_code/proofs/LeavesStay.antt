@@ -11,7 +11,7 @@ use Rattle.types.specs.declared.standing.Standing.TheVariants as standing
 use Rattle.types.specs.Layouts.{capped, words_of}
 use Rattle.types.specs.Standings.{standing_of}
 use Rattle.type_rules.specs.SubtypeNames.{subtype_of}
-use Rattle.step_soundness.specs.Fitting.{entity_named}
+use Rattle.part_code.specs.step_soundness.specs.Fitting.{entity_named}
 use Rattle.expr_code.specs.Code.{IsShallow}
 use Rattle.expr_code.specs.Refusing.{checked_peak, peak, selectors_peak}
 use Rattle.expr_code.specs.declared.code.Code.{Code}

@@ -19,7 +19,7 @@ use Rattle.types.specs.Standings.{stands_first}
 use Rattle.types.specs.Values.{Value}
 use Rattle.expr_soundness.specs.Laws.{AgreementIsKept, CallsAreTyped, ExpressionsAreTyped}
 use Rattle.expr_soundness.specs.SoundScopes.{SoundScope}
-use Rattle.meaning.specs.Programs.{Program}
+use Rattle.expr_soundness.specs.meaning.specs.Programs.{Program}
 use Rattle.expr_code.specs.Code.{Holds, here}
 use Rattle.expr_code.specs.Emitting.{IsFit, is_composite}
 use Rattle.expr_code.specs.Flows.{Flows}

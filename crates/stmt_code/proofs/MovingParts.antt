@@ -28,11 +28,11 @@ use Rattle.types.specs.Scopes.{form_at}
 use Rattle.types.specs.Shapes.{has_shape, shape_of, value_words}
 use Rattle.types.specs.Values.{Array, Number, Record, Truth, Value}
 use Rattle.expr_soundness.specs.Laws.{AgreementIsKept, CallsAreTyped}
-use Rattle.meaning.specs.MeetingLaws.{spends_takes, takes_more}
-use Rattle.meaning.specs.Programs.{Program}
-use Rattle.meaning.specs.SameMeaning.{frames_of}
-use Rattle.meaning.specs.Targets.{activation_with, store_with}
-use Rattle.meaning.specs.Works.{Activation, Store, Target}
+use Rattle.expr_soundness.specs.meaning.specs.MeetingLaws.{spends_takes, takes_more}
+use Rattle.expr_soundness.specs.meaning.specs.Programs.{Program}
+use Rattle.expr_soundness.specs.meaning.specs.SameMeaning.{frames_of}
+use Rattle.expr_soundness.specs.meaning.specs.Targets.{activation_with, store_with}
+use Rattle.expr_soundness.specs.meaning.specs.Works.{Activation, Store, Target}
 use Rattle.expr_code.specs.Coming.{Comes, most_steps, on}
 use Rattle.expr_code.specs.Computing.{Answers}
 use Rattle.expr_code.specs.Emitting.{IsLegalExpression}

@@ -10,10 +10,10 @@ use Rattle.image.specs.Rules.{has_depth}
 use Rattle.image.specs.declared.instruction.Operation.TheVariants as op
 use Rattle.types.specs.Places.{is_among}
 use Rattle.types.specs.Scopes.{Scope}
-use Rattle.expr_rules.proofs.TypedLaw.{back_empty, front_empty}
-use Rattle.stmt_rules.specs.SimpleRules.{condition_faults}
-use Rattle.stmt_rules.specs.StatementRules.{elsifs_faults, stmt_faults, stmts_faults}
-use Rattle.meaning.specs.Programs.{Program}
+use Rattle.expr_soundness.specs.expr_rules.proofs.TypedLaw.{back_empty, front_empty}
+use Rattle.part_code.specs.stmt_rules.specs.SimpleRules.{condition_faults}
+use Rattle.part_code.specs.stmt_rules.specs.StatementRules.{elsifs_faults, stmt_faults, stmts_faults}
+use Rattle.expr_soundness.specs.meaning.specs.Programs.{Program}
 use Rattle.expr_code.specs.Views.{At}
 use Rattle.expr_code.specs.Branches.{Closes, Joins, Rejoins}
 use Rattle.expr_code.specs.Code.{Adds, Extends, Holds, Patches, StandsFrom, here}

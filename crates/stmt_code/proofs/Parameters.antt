@@ -14,7 +14,7 @@ use Rattle.types.specs.Shapes.{value_words}
 use Rattle.types.specs.Values.{Number, Value}
 use Rattle.expr_soundness.specs.Laws.{AgreementIsKept}
 use Rattle.expr_soundness.specs.SoundScopes.{SoundScope}
-use Rattle.meaning.specs.Works.{Activation}
+use Rattle.expr_soundness.specs.meaning.specs.Works.{Activation}
 use Rattle.expr_code.specs.Naming.{Lies}
 use Rattle.expr_code.specs.Seeing.{Package, SeesPackage, slot_of}
 use Rattle.expr_code.specs.Views.{View}

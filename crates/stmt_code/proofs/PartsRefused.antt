@@ -29,7 +29,7 @@ use Rattle.stmt_code.specs.Turns.{BeginsRange}
 use Rattle.part_code.specs.Turns.{EndsTurn, bounds_compared, value_counted, values_compared}
 use Rattle.stmt_code.specs.declared.draft.Draft.{Draft}
 use Rattle.part_code.specs.declared.turns.Turns.{Turns}
-use Rattle.step_soundness.specs.Fitting.{entity_named}
+use Rattle.part_code.specs.step_soundness.specs.Fitting.{entity_named}
 use Rattle.part_code.specs.Labels.{alternatives_labels, elsifs_labels, handlers_labels, stmt_labels, stmts_labels, with_label, with_line}
 use Rattle.part_code.specs.Lines.{LabelledValue, is_put, line_of}
 use Rattle.stmt_code.proofs.Labelled.{alternatives_few, as_many, elsifs_longer, parts_few, stmts_few, stmts_longer}

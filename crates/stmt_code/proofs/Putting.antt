@@ -12,14 +12,14 @@ use Rattle.types.specs.Entities.{Entity, OfType, OfSubtype, Object, Constant, Li
 use Rattle.types.specs.Scopes.{Scope, base_range_of, integer_type, number_of}
 use Rattle.types.specs.Standings.{stands_first, stands_for}
 use Rattle.types.specs.declared.standing.Standing.TheVariants as standing
-use Rattle.expr_rules.proofs.TypedLaw.{back_empty, front_empty}
-use Rattle.expr_rules.specs.declared.own.Wanted.TheVariants.{OfType as WantsType}
-use Rattle.expr_rules.specs.ExpressionRules.{faults_of, name_faults, selectors_faults}
+use Rattle.expr_soundness.specs.expr_rules.proofs.TypedLaw.{back_empty, front_empty}
+use Rattle.expr_soundness.specs.expr_rules.specs.declared.own.Wanted.TheVariants.{OfType as WantsType}
+use Rattle.expr_soundness.specs.expr_rules.specs.ExpressionRules.{faults_of, name_faults, selectors_faults}
 use Rattle.type_rules.specs.SubtypeNames.{entity_at_or_none}
-use Rattle.meaning.specs.Calls.{callee_by, callee_with}
-use Rattle.meaning.specs.Programs.{Program}
-use Rattle.step_soundness.specs.Fitting.{entity_named}
-use Rattle.step_soundness.proofs.Naming.{put_called}
+use Rattle.expr_soundness.specs.meaning.specs.Calls.{callee_by, callee_with}
+use Rattle.expr_soundness.specs.meaning.specs.Programs.{Program}
+use Rattle.part_code.specs.step_soundness.specs.Fitting.{entity_named}
+use Rattle.part_code.specs.step_soundness.proofs.Naming.{put_called}
 use Rattle.expr_code.specs.Code.{Adds, Holds, StandsFrom, here}
 use Rattle.expr_code.specs.Computing.{Computes}
 use Rattle.expr_code.specs.Emitting.{EmitsExpression}

@@ -10,7 +10,7 @@ use Rattle.image.specs.Rules.{has_depth, has_operands, is_return, names_things}
 use Rattle.image.specs.declared.instruction.Operation.{Operation}
 use Rattle.image.specs.declared.instruction.Operation.TheVariants as op
 use Rattle.image.specs.declared.subprograms.Subprogram.{Subprogram}
-use Rattle.meaning.specs.Programs.{Program, exception_number}
+use Rattle.expr_soundness.specs.meaning.specs.Programs.{Program, exception_number}
 use Rattle.expr_code.specs.Code.{Adds, Holds, here}
 use Rattle.expr_code.specs.Flows.{AreKeptBetween}
 use Rattle.expr_code.specs.Seeing.{Package}

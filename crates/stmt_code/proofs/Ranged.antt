@@ -13,7 +13,7 @@ use Rattle.types.specs.Laws.{ShapesStay, ValuesHaveWords}
 use Rattle.declaring.specs.BodyNames.{loop_faults}
 use Rattle.expr_soundness.specs.Laws.{AgreementIsKept}
 use Rattle.expr_soundness.specs.SoundScopes.{SoundScope}
-use Rattle.meaning.specs.Programs.{Program}
+use Rattle.expr_soundness.specs.meaning.specs.Programs.{Program}
 use Rattle.expr_code.specs.Views.{At}
 use Rattle.expr_code.specs.Code.{Extends, Holds, Patches, here}
 use Rattle.expr_code.specs.Computing.{Computes}

@@ -9,11 +9,11 @@ use Rattle.kernel.specs.Calm.{Calm}
 use Rattle.kernel.specs.Counting.{Done}
 use Rattle.kernel.specs.Laws.{QuietStays}
 use Rattle.kernel.specs.RunLaws.{spends_more}
-use Rattle.meaning.specs.Meeting.{Last}
-use Rattle.meaning.specs.Programs.{Program}
-use Rattle.meaning.specs.SameMeaning.{frames_of}
-use Rattle.meaning.specs.SourceSteps.{number_computed}
-use Rattle.meaning.specs.Works.{Activation}
+use Rattle.expr_soundness.specs.meaning.specs.Meeting.{Last}
+use Rattle.expr_soundness.specs.meaning.specs.Programs.{Program}
+use Rattle.expr_soundness.specs.meaning.specs.SameMeaning.{frames_of}
+use Rattle.expr_soundness.specs.meaning.specs.SourceSteps.{number_computed}
+use Rattle.expr_soundness.specs.meaning.specs.Works.{Activation}
 use Rattle.image.specs.Sections.{Sections}
 use Rattle.image.specs.Frames.{Words, Frame}
 use Rattle.image.specs.Scalars.{are_equal, word_of}

@@ -10,9 +10,9 @@ use Rattle.image.specs.declared.instruction.Operation.{Operation}
 use Rattle.image.specs.declared.instruction.Operation.TheVariants as op
 use Rattle.image.specs.declared.subprograms.Subprogram.{Subprogram}
 use Rattle.types.specs.Scopes.{Scope}
-use Rattle.expr_rules.proofs.TypedLaw.{back_empty, front_empty}
-use Rattle.stmt_rules.specs.SimpleRules.{condition_faults}
-use Rattle.stmt_rules.specs.StatementRules.{in_loop, stmts_faults}
+use Rattle.expr_soundness.specs.expr_rules.proofs.TypedLaw.{back_empty, front_empty}
+use Rattle.part_code.specs.stmt_rules.specs.SimpleRules.{condition_faults}
+use Rattle.part_code.specs.stmt_rules.specs.StatementRules.{in_loop, stmts_faults}
 use Rattle.expr_code.specs.Views.{At}
 use Rattle.expr_code.specs.Code.{Extends, Holds, here}
 use Rattle.expr_code.specs.Flows.{AreKeptBetween}

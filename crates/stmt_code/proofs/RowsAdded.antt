@@ -12,7 +12,7 @@ use Rattle.image.specs.declared.instruction.Instr.{Instr}
 use Rattle.image.specs.declared.instruction.Operation.{Operation}
 use Rattle.image.specs.declared.instruction.Operation.TheVariants as op
 use Rattle.types.specs.Places.{is_among}
-use Rattle.meaning.specs.Programs.{Program}
+use Rattle.expr_soundness.specs.meaning.specs.Programs.{Program}
 use Rattle.expr_code.specs.Branches.{Rejoins}
 use Rattle.expr_code.specs.Code.{Extends, Patches, here}
 use Rattle.expr_code.specs.declared.code.Code.{Code}

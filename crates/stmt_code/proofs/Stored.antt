@@ -19,15 +19,15 @@ use Rattle.types.specs.Laws.{ValuesHaveWords}
 use Rattle.types.specs.Layouts.{words_of}
 use Rattle.types.specs.Scopes.{Scope, number_of}
 use Rattle.types.specs.Standings.{select_all, standing_of, stands_first}
-use Rattle.expr_rules.specs.declared.own.Own.TheVariants.{Typed}
-use Rattle.expr_rules.specs.declared.own.Wanted.TheVariants.{Anything, OfType}
-use Rattle.expr_rules.specs.ExpressionRules.{faults_of, name_faults, target_faults}
-use Rattle.expr_rules.specs.NameRules.{is_changeable, mismatch, variable_rule}
-use Rattle.expr_rules.specs.Typing.{own_of_standing, typed_wanted}
-use Rattle.expr_rules.proofs.TypedLaw.{back_empty, front_empty, unbroken}
-use Rattle.stmt_rules.specs.SimpleRules.{assigned_wanted}
+use Rattle.expr_soundness.specs.expr_rules.specs.declared.own.Own.TheVariants.{Typed}
+use Rattle.expr_soundness.specs.expr_rules.specs.declared.own.Wanted.TheVariants.{Anything, OfType}
+use Rattle.expr_soundness.specs.expr_rules.specs.ExpressionRules.{faults_of, name_faults, target_faults}
+use Rattle.expr_soundness.specs.expr_rules.specs.NameRules.{is_changeable, mismatch, variable_rule}
+use Rattle.expr_soundness.specs.expr_rules.specs.Typing.{own_of_standing, typed_wanted}
+use Rattle.expr_soundness.specs.expr_rules.proofs.TypedLaw.{back_empty, front_empty, unbroken}
+use Rattle.part_code.specs.stmt_rules.specs.SimpleRules.{assigned_wanted}
 use Rattle.expr_soundness.specs.Laws.{AgreementIsKept, CallsAreTyped}
-use Rattle.meaning.specs.Programs.{Program}
+use Rattle.expr_soundness.specs.meaning.specs.Programs.{Program}
 use Rattle.expr_code.specs.Views.{At}
 use Rattle.expr_code.specs.Code.{Adds, Holds, here}
 use Rattle.expr_code.specs.Computing.{ComputesChecked}

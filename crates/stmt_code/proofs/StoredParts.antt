@@ -17,15 +17,15 @@ use Rattle.types.specs.Layouts.{words_of}
 use Rattle.types.specs.Scopes.{Scope, number_of}
 use Rattle.types.specs.Shapes.{shape_of}
 use Rattle.types.specs.Standings.{select_all, standing_of, stands_first}
-use Rattle.expr_rules.specs.ExpressionRules.{faults_of, name_faults, selectors_faults, target_faults}
-use Rattle.expr_rules.specs.NameRules.{variable_rule}
-use Rattle.expr_rules.specs.declared.own.Wanted.TheVariants.{Anything}
-use Rattle.expr_rules.proofs.TypedLaw.{back_empty, front_empty}
-use Rattle.stmt_rules.specs.SimpleRules.{assigned_wanted}
+use Rattle.expr_soundness.specs.expr_rules.specs.ExpressionRules.{faults_of, name_faults, selectors_faults, target_faults}
+use Rattle.expr_soundness.specs.expr_rules.specs.NameRules.{variable_rule}
+use Rattle.expr_soundness.specs.expr_rules.specs.declared.own.Wanted.TheVariants.{Anything}
+use Rattle.expr_soundness.specs.expr_rules.proofs.TypedLaw.{back_empty, front_empty}
+use Rattle.part_code.specs.stmt_rules.specs.SimpleRules.{assigned_wanted}
 use Rattle.expr_soundness.specs.Laws.{AgreementIsKept, CallsAreTyped}
 use Rattle.expr_soundness.specs.SoundScopes.{IsKnown, SoundScope}
 use Rattle.expr_soundness.proofs.Goods.{object_known}
-use Rattle.meaning.specs.Programs.{Program}
+use Rattle.expr_soundness.specs.meaning.specs.Programs.{Program}
 use Rattle.expr_code.specs.Views.{At}
 use Rattle.expr_code.specs.Code.{Adds, Extends, Holds, here}
 use Rattle.expr_code.specs.Computing.{ComputesChecked}

@@ -21,7 +21,7 @@ use Rattle.type_rules.specs.SubtypeNames.{entity_at_or_none}
 use Rattle.expr_soundness.specs.Agreeing.{parameter_subtype}
 use Rattle.expr_soundness.specs.SoundScopes.{AreKnown, IsKnown, IsSoundResult, SoundScope}
 use Rattle.expr_soundness.proofs.Positions.{entity_kept, entity_number, first_place, item_added, number_added, number_kept, number_place, same_some, suc_of}
-use Rattle.step_soundness.specs.Fitting.{entity_named}
+use Rattle.part_code.specs.step_soundness.specs.Fitting.{entity_named}
 use Rattle.expr_code.specs.Seeing.{IsCallable, NamesProfile, Suits, slot_of, subprogram_of, told_of}
 use Rattle.expr_code.specs.declared.visible.Slot.{Slot}
 use Rattle.expr_code.specs.declared.visible.Visible.{Visible}

@@ -7,7 +7,7 @@ use Rattle.types.specs.declared.entity.Subtype.{Subtype}
 use Rattle.types.specs.Entities as entity
 use Rattle.types.specs.Entities.{Entity, TypeForm}
 use Rattle.types.specs.Scopes.{Named, Scope, entity_at, form_at, form_of, is_visible, with_name}
-use Rattle.expr_rules.specs.Typing.{is_integers}
+use Rattle.expr_soundness.specs.expr_rules.specs.Typing.{is_integers}
 use Rattle.expr_soundness.specs.Laws.{ScopesAreSound}
 use Rattle.expr_soundness.specs.SoundScopes.{IsSoundObject, SoundScope}
 use Rattle.expr_soundness.proofs.Positions.{entity_kept}

@@ -4,10 +4,10 @@ use Rattle.ada_tree.specs.ExpressionTree.{ExprTree}
 use Rattle.ada_tree.specs.StatementTree.{AlternativeTrees, ChoicesTree, MoreAlternatives, StmtTrees, alternatives_of}
 use Rattle.types.specs.declared.entity.Value.{Value as Scalar}
 use Rattle.types.specs.Scopes.{Scope}
-use Rattle.expr_rules.specs.Typing.{own_of}
-use Rattle.stmt_rules.specs.declared.around.Around.{Around}
-use Rattle.stmt_rules.specs.CaseRules.{choices_wanted}
-use Rattle.stmt_rules.specs.StatementRules.{alternatives_faults}
+use Rattle.expr_soundness.specs.expr_rules.specs.Typing.{own_of}
+use Rattle.part_code.specs.stmt_rules.specs.declared.around.Around.{Around}
+use Rattle.part_code.specs.stmt_rules.specs.CaseRules.{choices_wanted}
+use Rattle.part_code.specs.stmt_rules.specs.StatementRules.{alternatives_faults}
 use Rattle.expr_code.specs.declared.visible.Visible.{Visible}
 use Rattle.part_code.specs.Bounds.{alternatives_bound}
 use Rattle.stmt_code.specs.Emitting.{EmitsOpen, MeantTo}

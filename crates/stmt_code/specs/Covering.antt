@@ -12,7 +12,7 @@ use Rattle.image.specs.declared.instruction.Operation.TheVariants as op
 use Rattle.image.specs.declared.subprograms.Subprogram.{Subprogram}
 use Rattle.types.specs.Places.{is_among}
 use Rattle.types.specs.Scopes.{Scope}
-use Rattle.meaning.specs.Programs.{Program}
+use Rattle.expr_soundness.specs.meaning.specs.Programs.{Program}
 use Rattle.expr_code.specs.Branches.{Joins, Rejoins}
 use Rattle.expr_code.specs.Code.{Adds, Extends, StandsFrom, here}
 use Rattle.expr_code.specs.Flows.{KeepsInstructionRules}

@@ -14,13 +14,13 @@ use Rattle.types.specs.Entities.{Entity}
 use Rattle.types.specs.Places.{Place, is_among}
 use Rattle.types.specs.Scopes.{Scope}
 use Rattle.declaring.specs.LocalRules.{locals_faults, locals_scope}
-use Rattle.stmt_rules.specs.declared.around.Around.{Around}
-use Rattle.stmt_rules.specs.StatementRules.{elsifs_faults, more_handlers_faults, stmt_faults, stmts_faults}
+use Rattle.part_code.specs.stmt_rules.specs.declared.around.Around.{Around}
+use Rattle.part_code.specs.stmt_rules.specs.StatementRules.{elsifs_faults, more_handlers_faults, stmt_faults, stmts_faults}
 use Rattle.expr_soundness.specs.Agreeing.{Agrees}
 use Rattle.expr_soundness.specs.SoundScopes.{SoundScope}
-use Rattle.meaning.specs.Calls.{procedure_here}
-use Rattle.meaning.specs.Programs.{Procedure, Program}
-use Rattle.step_soundness.specs.Fitting.{IsFound, entity_named}
+use Rattle.expr_soundness.specs.meaning.specs.Calls.{procedure_here}
+use Rattle.expr_soundness.specs.meaning.specs.Programs.{Procedure, Program}
+use Rattle.part_code.specs.step_soundness.specs.Fitting.{IsFound, entity_named}
 use Rattle.expr_code.specs.Branches.{Joins}
 use Rattle.expr_code.specs.Code.{Extends, Holds, StandsFrom, here}
 use Rattle.expr_code.specs.Flows.{AreKeptBetween}

@@ -8,7 +8,7 @@ ghost use Rattle.part_code.specs.Choices.{AreLegalChoices};
 ghost use Rattle.stmt_code.specs.Emitting.{AreLegalStatements, EmitsStatement, IsLegalStatement};
 ghost use Rattle.part_code.specs.Emitting.{HasEntries, ways_of};
 ghost use Rattle.stmt_code.specs.Refusing.{RefusesAlternatives, RefusesStatement};
-ghost use Rattle.stmt_rules.specs.CaseRules.{selecting_faults};
+ghost use Rattle.part_code.specs.stmt_rules.specs.CaseRules.{selecting_faults};
 ghost use Rattle.expr_soundness.specs.SoundScopes.{SoundScope};
 
 use crate::draft::Draft;

@@ -6,7 +6,7 @@ ghost use Rattle.stmt_code.specs.Staying.{StaysParts, StaysStatement, StaysState
 ghost use Rattle.stmt_code.specs.Emitting.{AddsParts, AreLegalStatements, AreLegalElsifs, EmitsStatement, EmitsStatements, IsLegalStatement};
 ghost use Rattle.part_code.specs.Emitting.{HasEntries, ways_of};
 ghost use Rattle.stmt_code.specs.Refusing.{RefusesParts, RefusesStatement, RefusesStatements};
-ghost use Rattle.stmt_rules.specs.SimpleRules.{condition_faults};
+ghost use Rattle.part_code.specs.stmt_rules.specs.SimpleRules.{condition_faults};
 ghost use Rattle.expr_soundness.specs.SoundScopes.{SoundScope};
 
 use crate::draft::Draft;

@@ -1,3 +1,4 @@
+pub use Rattle.protected as protected
 pub mod Held
 pub mod Laws
 pub mod Orderly

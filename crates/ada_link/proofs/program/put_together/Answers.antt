@@ -8,8 +8,8 @@ use Rattle.expr_soundness.specs.SoundScopes.{SoundScope}
 use Rattle.program_soundness.specs.Fronts.{front}
 use Rattle.stmt_code.specs.Subprograms.{AddsMain, CallsProcedures}
 use Rattle.expr_code.specs.Code.{here}
-use Rattle.part_code.specs.Bounds.{main_bound}
-use Rattle.part_code.specs.Needs.{RefusesMain}
+use Rattle.step_simulation.specs.part_code.specs.Bounds.{main_bound}
+use Rattle.step_simulation.specs.part_code.specs.Needs.{RefusesMain}
 use Rattle.expr_code.specs.declared.refusal.Refusal.TheVariants as refusal
 use Rattle.package_code.specs.Refusing.{RefusesSections}
 use Rattle.package_code.specs.Directory.{HaveBodyNumbers, HasManyBodies}

@@ -1,6 +1,6 @@
 use Rattle.std.proofs.Common.{◌≡◌, Err, ap, inl, rules, subst, sym, ◌∙◌}
 use Rattle.std.specs.Prelude.{IfErr}
-use Rattle.ada_tree.specs.ProgramTree.{program_tree}
+use Rattle.ada_link.specs.ada_tree.specs.ProgramTree.{program_tree}
 use Rattle.checking.specs.ProgramRules.{IsLegal}
 use Rattle.parser.specs.Parsing.{Derives}
 use Rattle.adarun.specs.Accepted.{CompilesAccepted, IsJudged, RefusesText}

@@ -1,7 +1,7 @@
 use Rattle.std.proofs.Common.{[], rules, sym, subst}
 use Rattle.ada_tree.specs.StatementTree.{optional_tree}
 use Rattle.ada_tree.specs.ProgramTree.{package_tree}
-use Rattle.meaning.specs.Programs.{package_items}
+use Rattle.expr_soundness.specs.meaning.specs.Programs.{package_items}
 use Rattle.package_code.specs.Globals.{AreGlobals, RefusesGlobals}
 use Rattle.package_code.proofs.globals.globals_of.Goals as goal
 

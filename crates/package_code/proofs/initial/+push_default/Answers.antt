@@ -3,10 +3,10 @@ use Rattle.std.specs.Prelude.{option_map}
 use Rattle.std.proofs.lemmas.Result.{IfErr-weaker, on_ok_weaker}
 use Rattle.types.specs.Entities.{Booleans, Integers, Records, Spans, Times, form_value}
 use Rattle.types.specs.Shapes.{component_shapes, fields_words, initial, initial_fields, repeated, shape_of, shapes, values_words}
-use Rattle.part_code.proofs.Lists.{take_all}
-use Rattle.part_code.proofs.Initials.{earlier_component, earlier_element}
-use Rattle.part_code.proofs.Lacking.{lacking}
-use Rattle.part_code.specs.Needs.{lacks_word}
+use Rattle.step_simulation.specs.part_code.proofs.Lists.{take_all}
+use Rattle.step_simulation.specs.part_code.proofs.Initials.{earlier_component, earlier_element}
+use Rattle.step_simulation.specs.part_code.proofs.Lacking.{lacking}
+use Rattle.step_simulation.specs.part_code.specs.Needs.{lacks_word}
 use Rattle.package_code.proofs.GlobalsRefused.{component_lacks, element_lacks, plain_lacks}
 use Rattle.package_code.proofs.InitialWords.{array_words, elements_next, fields_next, record_words, scalar_words}
 use Rattle.package_code.proofs.initial.+push_default.Goals as goal

@@ -1,7 +1,7 @@
 use Rattle.std.proofs.Common.{map, rules, subst}
 use Rattle.ada_tree.specs.ProgramTree.{body_item_tree}
-use Rattle.meaning.specs.Programs.{items_among}
-use Rattle.part_code.proofs.Lists.{take_all}
+use Rattle.expr_soundness.specs.meaning.specs.Programs.{items_among}
+use Rattle.step_simulation.specs.part_code.proofs.Lists.{take_all}
 use Rattle.package_code.specs.Globals.{AddsItems}
 use Rattle.package_code.proofs.Declared.{adds_none, body_item_next}
 use Rattle.package_code.proofs.GlobalsRefused.{body_item_refuses}

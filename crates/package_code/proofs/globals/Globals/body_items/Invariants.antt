@@ -1,6 +1,6 @@
 use Rattle.std.proofs.Common.{map, take}
 use Rattle.ada_tree.specs.ProgramTree.{body_item_tree}
-use Rattle.meaning.specs.Programs.{items_among}
+use Rattle.expr_soundness.specs.meaning.specs.Programs.{items_among}
 use Rattle.package_code.specs.Globals.{AddsItems}
 use Rattle.package_code.proofs.globals.Globals.body_items.Given as goal
 

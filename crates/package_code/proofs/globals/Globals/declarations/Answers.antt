@@ -1,6 +1,6 @@
 use Rattle.std.proofs.Common.{map, rules, subst}
 use Rattle.ada_tree.specs.ProgramTree.{body_item_tree, item_tree}
-use Rattle.meaning.specs.Programs.{items_among}
+use Rattle.expr_soundness.specs.meaning.specs.Programs.{items_among}
 use Rattle.package_code.specs.Globals.{AddsItems, RefusesAdding}
 use Rattle.package_code.proofs.Declared.{adds_then}
 use Rattle.package_code.proofs.GlobalsRefused.{adding_left, adding_right}

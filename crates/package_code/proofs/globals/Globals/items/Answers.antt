@@ -1,6 +1,6 @@
 use Rattle.std.proofs.Common.{map, rules, subst}
 use Rattle.ada_tree.specs.ProgramTree.{item_tree}
-use Rattle.part_code.proofs.Lists.{take_all}
+use Rattle.step_simulation.specs.part_code.proofs.Lists.{take_all}
 use Rattle.package_code.specs.Globals.{AddsItems}
 use Rattle.package_code.proofs.Declared.{adds_none, item_next}
 use Rattle.package_code.proofs.GlobalsRefused.{item_refuses}

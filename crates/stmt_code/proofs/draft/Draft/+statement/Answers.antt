@@ -7,9 +7,9 @@ use Rattle.std.proofs.lemmas.Result.{on_ok_weaker}
 use Rattle.ada_tree.specs.declared.statement.Stmt as statements
 use Rattle.ada_tree.specs.ExpressionTree.{expr_tree}
 use Rattle.ada_tree.specs.StatementTree.{Loop, NoHandlers, alternative_tree, alternative_trees, alternatives_of, choices_tree, declaration_tree, elsif_tree, elsif_trees, elsifs_of, iteration_tree, range_tree, stmt_trees}
-use Rattle.expr_rules.specs.Typing.{boolean_wanted}
-use Rattle.stmt_rules.specs.CaseRules.{selecting_faults}
-use Rattle.stmt_rules.specs.SimpleRules.{condition_faults}
+use Rattle.expr_soundness.specs.expr_rules.specs.Typing.{boolean_wanted}
+use Rattle.part_code.specs.stmt_rules.specs.CaseRules.{selecting_faults}
+use Rattle.part_code.specs.stmt_rules.specs.SimpleRules.{condition_faults}
 use Rattle.expr_soundness.specs.SoundScopes.{SoundScope}
 use Rattle.stmt_code.specs.declared.draft.Draft.{Draft}
 use Rattle.expr_code.specs.Code.{here}

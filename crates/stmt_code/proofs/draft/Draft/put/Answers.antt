@@ -5,8 +5,8 @@ use Rattle.stmt_code.proofs.PartsRefused.{labels_refused, line_refused, written_
 use Rattle.std.proofs.lemmas.Result.{IfErr-weaker, on_ok_weaker}
 use Rattle.ada_tree.specs.ExpressionTree.{expr_tree, name_tree}
 use Rattle.types.specs.Scopes.{integer_type}
-use Rattle.expr_rules.specs.declared.own.Wanted.TheVariants.{OfType}
-use Rattle.step_soundness.specs.Fitting.{entity_named}
+use Rattle.expr_soundness.specs.expr_rules.specs.declared.own.Wanted.TheVariants.{OfType}
+use Rattle.part_code.specs.step_soundness.specs.Fitting.{entity_named}
 use Rattle.stmt_code.proofs.Adding.{wanted_legal}
 use Rattle.stmt_code.proofs.Putting.{line_faults, line_wide, put_emits, put_is}
 use Rattle.stmt_code.proofs.draft.Draft.put.Goals as goal
