@@ -3,13 +3,13 @@ ghost use Rattle.package_code.specs.Laws.{MainIsKnown, MainMayBeAdded, NamesAreS
 
 use crate::link_laws::{linked_keeps_count, linked_means_the_same};
 use checking::laws::words_have_room;
+use expr_soundness::laws::scopes_are_sound;
 use image_laws::code_leads_on;
 use kernel::laws::quiet_stays;
 use program_soundness::body_laws::{fronts_fit, names_are_known, premises_hold};
 use program_soundness::program_laws::starts_are_sound;
 use stmt_code::laws::kept_code_passes;
 use types::laws::{initial_values_have_shape, shapes_stay, values_have_words};
-use expr_soundness::laws::scopes_are_sound;
 
 /// The names of an accepted program are sound.
 pub fn names_are_sound()

@@ -4,9 +4,9 @@ ghost use Rattle.package_code.specs.LinkLaws.{LinkedKeepsCount, LinkedMeansTheSa
 use image_laws::kernel_kept;
 use kernel::laws::{lines_grow, quiet_stays, reaches_callers, runner_is_calm};
 use meaning::laws::count_gives_meaning;
-use step_simulation::laws::steps_are_met;
 use program_soundness::body_laws::premises_hold;
 use program_soundness::program_laws::starts_are_sound;
+use step_simulation::laws::steps_are_met;
 use step_soundness::laws::stores_are_alike;
 
 /// A well-formed image that has the code of an accepted program keeps the count of steps.

@@ -127,7 +127,7 @@ misspelled numbers text fault (inr refused) least = inl refused.memory
 misspelled numbers text fault (inl broken) least =
     inr (inl (record {
       broken = broken;
-      first = λ other is. elim least other is [
+      first = λ other is. elim (least other is) [
         | inl memory ↦ let n = ap (λ f. f.number) memory in let range = (numbers text fault broken).1 in absurd (omega (arith, n, range))
         | inr first ↦ first
       ];

@@ -14,11 +14,11 @@ use crate::refusal::Refusal;
 use crate::visible::Visible;
 use ada_tree::Expr;
 use base::limits::WORDS;
+use expr_soundness::laws::expressions_are_typed;
 use image::Operation;
 use kernel::laws::quiet_stays;
 use types::laws::values_have_words;
 use types::{Subtype, TypeForm};
-use expr_soundness::laws::expressions_are_typed;
 
 impl Code {
     /// Adds the code of an expression whose value is to lie in a subtype, and of the check that it does, where that is one of integers.

@@ -14,9 +14,9 @@ use crate::refusal::Refusal;
 use crate::visible::Visible;
 use ada_tree::laws::{chains_by_parts, conditional_by_parts, names_by_parts};
 use ada_tree::{BinaryOperator, Expr, Operand};
+use expr_soundness::laws::expressions_are_typed;
 use image::Operation;
 use kernel::laws::quiet_stays;
-use expr_soundness::laws::expressions_are_typed;
 
 impl Code {
     /// Adds the code of an expression, and tells how many words its value takes, as its own type says. A refusal leaves what was added, behind what stood there.

@@ -21,11 +21,11 @@ use crate::visible::{Slot, Visible};
 use ada_tree::laws::arguments_by_parts;
 use ada_tree::{Argument, Identifier, Selector};
 use base::limits::WORDS;
+use expr_soundness::laws::expressions_are_typed;
 use image::Operation;
 use kernel::laws::quiet_stays;
 use types::laws::{parts_have_places, values_have_words};
 use types::{Subtype, TypeForm};
-use expr_soundness::laws::expressions_are_typed;
 
 impl Code {
     /// Adds the code of the address of an object that stands there and has this subtype, or of the part of it behind these selectors, and tells the part's subtype.

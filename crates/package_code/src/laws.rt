@@ -1,8 +1,8 @@
 //! The laws of bodies that the walk over them rests on, each what a function without work ensures.
 ghost use Rattle.package_code.specs.Laws.{BodiesAreNumbered, BodiesMayBeAdded};
 
-use program_soundness::body_laws::{names_are_known, premises_hold};
 use expr_soundness::laws::scopes_are_sound;
+use program_soundness::body_laws::{names_are_known, premises_hold};
 
 /// What the methods ask that add the code of bodies is so of each body of an accepted program.
 pub fn bodies_may_be_added()

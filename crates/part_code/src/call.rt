@@ -19,11 +19,11 @@ use ada_tree::laws::{arguments_by_parts, chains_by_parts, conditional_by_parts, 
 use ada_tree::{Argument, Expr, Mode, NameExpr, Selector};
 use base::limits::WORDS;
 use expr_code::{Code, Refusal, Visible, raised};
+use expr_soundness::laws::agreement_is_kept;
 use image::{Operation, Region};
 use kernel::laws::quiet_stays;
 use types::laws::values_have_words;
 use types::{FormalParameter, Standing, Subtype, TypeForm};
-use expr_soundness::laws::agreement_is_kept;
 
 /// Where a parameter is copied back to at the end of a call (RM 6.4.1): the region of the variable, and the subtype of the target.
 #[derive(Clone, Copy, PartialEq, Eq, Debug)]

@@ -3,10 +3,10 @@ ghost use Rattle.program_soundness.specs.BodyLaws.{FrontsFit, NamesAreKnown, Pre
 
 use crate::scope_laws::declarations_are_sound;
 use declaring::laws::names_are_added;
-use types::laws::initial_values_have_shape;
 use expr_soundness::laws::{
     agreement_is_kept, calls_are_typed, scopes_are_sound, targets_are_variables,
 };
+use types::laws::initial_values_have_shape;
 
 /// The names at each declaration and body of the package, and at each operation of its protected objects, are known (RM 8.2, 8.3, 9.4).
 pub fn names_are_known()

@@ -2,12 +2,12 @@
 ghost use Rattle.program_soundness.specs.RunLaws.{RunsAreSound, RunsHaveMeaning};
 
 use declaring::laws::names_are_added;
+use expr_soundness::laws::{agreement_is_kept, calls_are_typed, targets_are_variables};
 use kernel::laws::{begins_kept, four_statements_hold, kept_by_every_effect, left_unmoved};
 use step_soundness::laws::{
     callers_go_on, effects_pass, others_stay_sound, servers_are_sound, steps_are_sound,
 };
 use types::laws::initial_values_have_shape;
-use expr_soundness::laws::{agreement_is_kept, calls_are_typed, targets_are_variables};
 
 /// Every world of a run is sound, where the start of the program is.
 pub fn runs_are_sound()

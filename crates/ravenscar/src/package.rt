@@ -7,9 +7,9 @@ ghost use Rattle.types.specs.Entities.{entity_value};
 ghost use Rattle.body_restrictions.specs.BodyRules.{operations_faults};
 ghost use Rattle.ravenscar.specs.ProgramRules.{body_item_faults, body_items_faults, components_in, components_named, item_faults, items_faults, package_faults, package_part_faults};
 
-use body_restrictions::{body_fault, operations_fault};
 use crate::tasking::{protected_fault, task_fault};
 use ada_tree::{BodyItem, Identifier, Item, Package, ProtectedBodyItem};
+use body_restrictions::{body_fault, operations_fault};
 use declaring::declare_item;
 use expr_rules::laws::{least_by_parts, sooner_associates};
 use expr_rules::sooner;

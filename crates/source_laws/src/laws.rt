@@ -8,10 +8,10 @@ use crate::depth_laws::{functions_have_room, procedures_have_room};
 use ada_link::laws::tables_are_small;
 use ada_tree::laws::size_within_tokens;
 use checking::laws::words_have_room;
-use size_rules::laws::words_add_up;
-use program_soundness::body_laws::{names_are_known, premises_hold};
-use types::laws::shapes_stay;
 use expr_soundness::laws::scopes_are_sound;
+use program_soundness::body_laws::{names_are_known, premises_hold};
+use size_rules::laws::words_add_up;
+use types::laws::shapes_stay;
 
 /// The names and labels in the tree of a text are spelled as such (docs/LANGUAGE.md, "Lexical elements").
 pub fn texts_are_spelled()

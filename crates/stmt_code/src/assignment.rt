@@ -20,11 +20,11 @@ ghost use Rattle.expr_soundness.specs.SoundScopes.{SoundScope};
 use crate::draft::Draft;
 use ada_tree::{Expr, NameExpr};
 use expr_code::{Refusal, Slot, Visible, raised};
+use expr_soundness::laws::{agreement_is_kept, calls_are_typed};
 use kernel::laws::quiet_stays;
 use part_code::{holds_variables, is_composite, names_composite, store_operation, stored_at};
 use types::laws::values_have_words;
 use types::{Standing, Subtype};
-use expr_soundness::laws::{agreement_is_kept, calls_are_typed};
 
 impl Draft {
     /// Adds the code of an assignment.

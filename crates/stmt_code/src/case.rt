@@ -14,11 +14,11 @@ ghost use Rattle.expr_soundness.specs.SoundScopes.{SoundScope};
 use crate::draft::Draft;
 use ada_tree::{Alternative, Expr};
 use expr_code::{Refusal, Visible};
+use expr_soundness::laws::calls_are_typed;
 use image::Operation;
 use kernel::laws::quiet_stays;
 use part_code::{Leaving, add_choices};
 use types::laws::static_is_value;
-use expr_soundness::laws::calls_are_typed;
 
 impl Draft {
     /// Adds the code of a case statement: its value, its alternatives one behind another, and what drops a value that is left, which legal choices never leave.

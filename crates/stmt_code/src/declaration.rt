@@ -14,12 +14,12 @@ ghost use Rattle.expr_soundness.specs.SoundScopes.{SoundScope};
 use crate::draft::Draft;
 use ada_tree::{Declaration, ObjectDeclaration};
 use expr_code::{Refusal, Slot, Visible};
+use expr_soundness::laws::{agreement_is_kept, calls_are_typed, scopes_are_sound};
 use image::Region;
 use kernel::laws::quiet_stays;
 use part_code::add_object;
 use type_rules::{declare_local_object, subtype_of};
 use types::laws::{initial_values_have_shape, shapes_stay, values_have_words};
-use expr_soundness::laws::{agreement_is_kept, calls_are_typed, scopes_are_sound};
 
 impl Draft {
     /// Adds the code of declarations, one behind another, and makes their names visible, each behind its own.

@@ -21,13 +21,13 @@ ghost use Rattle.expr_soundness.specs.SoundScopes.{SoundScope};
 use crate::draft::Draft;
 use ada_tree::{Expr, NameExpr};
 use expr_code::{Refusal, Slot, Visible};
+use expr_soundness::laws::{agreement_is_kept, calls_are_typed, expressions_are_typed};
 use kernel::laws::quiet_stays;
 use part_code::{
     Moved, add_move, holds_variables, is_composite, is_moved, names_composite, words_of,
 };
 use types::laws::{parts_have_places, values_have_words};
 use types::{Role, Subtype};
-use expr_soundness::laws::{agreement_is_kept, calls_are_typed, expressions_are_typed};
 
 impl Draft {
     /// Adds the code of an assignment to an array or a record, or to a part that is one.

@@ -14,11 +14,11 @@ use ada_tree::{Identifier, Range, Stmt};
 use declaring::declare_loop_parameter;
 use declaring::laws::names_are_added;
 use expr_code::{Refusal, Slot, Visible};
+use expr_soundness::laws::{agreement_is_kept, scopes_are_sound};
 use image::{Operation, Region};
 use kernel::laws::quiet_stays;
 use part_code::{Extent, Head, Leaving, Turns, begin_loop, end_loop};
 use types::laws::{shapes_stay, values_have_words};
-use expr_soundness::laws::{agreement_is_kept, scopes_are_sound};
 
 impl Draft {
     // Adds the bounds, and what begins the first turn, in whose statements the parameter is visible; the place of the jump where the range is null is told.
