@@ -1,6 +1,14 @@
 //! The words of a command line: what they ask the program for (docs/FORMATS.md, "Exit statuses").
 #![tactic(auto)]
 
+ghost use Rattle.std.specs.Prelude.{◌≡◌, true, false, map, Some, None, IfOk, IfErr, IfSome, option_map};
+ghost use Rattle.std.specs.List.{list_all};
+ghost use Rattle.clap.specs.Words.{App, app_of, first_value, found_of, kind_of, subcommand_rows_of};
+ghost use Rattle.clap.specs.declared.builder.command.Command.TheViews.{out-Command};
+ghost use Rattle.command_line.specs.Words.{Answers, asked, is_digit, is_plain};
+ghost use Rattle.command_line.specs.Finding.{asked_by, asked_in, command_app, program_app};
+ghost use Rattle.command_line.specs.Words as words_of;
+
 use clap::error::ErrorKind;
 use clap::{Arg, ArgMatches, Command, Error};
 use std::alloc::{AllocError, Global};
@@ -45,25 +53,47 @@ pub enum WordsError {
 /// # Errors
 /// Usage for other words than a request's, those that ask for help among them, and for a limit that isn't one or more decimal digits
 /// of a value below 2**64; Memory where memory was refused.
-pub fn request_of<'a>(alloc: Global, words: &'a [&'a str]) -> Result<Request<'a>, WordsError> {
-    let matches = command(alloc)
-        .map_err(|_| WordsError::Memory)?
-        .try_get_matches_from(words)
-        .map_err(|error| error_of(&error))?;
+pub fn request_of<'a>(alloc: Global, words: &'a [&'a str]) -> Result<Request<'a>, WordsError>
+    // Words of which none begins with `-` ask for just what the table of commands says.
+    ensures { list_all is_plain (map (λ w. w.now) words.now) ≡ true → Answers (asked (map (λ w. w.now) words.now)) result }
+{
+    let Ok(command) = command(alloc) else {
+        return Err(WordsError::Memory);
+    };
+    match command.try_get_matches_from(words) {
+        Ok(matches) => request_among(&matches),
+        Err(error) => Err(error_of(&error)),
+    }
+}
+
+// What the command that was found asks for.
+fn request_among<'a>(matches: &ArgMatches<'a>) -> Result<Request<'a>, WordsError>
+    ensures { Answers (asked_by (subcommand_rows_of matches.now)) result }
+{
     match matches.subcommand() {
-        Some(("compile", found)) => Ok(Request::Compile {
+        Some((name, found)) => request_in(name, found),
+        None => Err(WordsError::Usage),
+    }
+}
+
+// What the command of this name asks for, where these words were found for its arguments.
+fn request_in<'a>(name: &str, found: &ArgMatches<'a>) -> Result<Request<'a>, WordsError>
+    ensures { Answers (asked_in name.now (first_value (found_of found.now))) result }
+{
+    match name {
+        "compile" => Ok(Request::Compile {
             source: word(found, "SRC")?,
             image: word(found, "IMG")?,
         }),
-        Some(("list", found)) => Ok(Request::List {
+        "list" => Ok(Request::List {
             image: word(found, "IMG")?,
         }),
-        Some(("run", found)) => Ok(Request::Run {
+        "run" => Ok(Request::Run {
             image: word(found, "IMG")?,
             schedule: word(found, "SCHED")?,
             limit: limit_of(word(found, "LIMIT")?).ok_or(WordsError::Usage)?,
         }),
-        Some(("go", found)) => Ok(Request::Go {
+        "go" => Ok(Request::Go {
             source: word(found, "SRC")?,
             schedule: word(found, "SCHED")?,
             limit: limit_of(word(found, "LIMIT")?).ok_or(WordsError::Usage)?,
@@ -73,7 +103,10 @@ pub fn request_of<'a>(alloc: Global, words: &'a [&'a str]) -> Result<Request<'a>
 }
 
 // The word that stands for this argument.
-fn word<'a>(found: &ArgMatches<'a>, name: &str) -> Result<&'a str, WordsError> {
+fn word<'a>(found: &ArgMatches<'a>, name: &str) -> Result<&'a str, WordsError>
+    ensures given { IfOk result (λ word. first_value (found_of found.now) name.now ≡ Some word.now) }
+    ensures none { IfErr result (λ error. error ≡ WordsError.Usage × first_value (found_of found.now) name.now ≡ None) }
+{
     found.get_str(name).ok_or(WordsError::Usage)
 }
 
@@ -82,7 +115,10 @@ fn command_with<'a>(
     alloc: Global,
     name: &'a str,
     words: &[&'a str],
-) -> Result<Command<'a>, AllocError> {
+) -> Result<Command<'a>, AllocError>
+    ensures app { IfOk result (λ command. app_of command ≡ command_app name.now (map (λ w. w.now) words.now)) }
+    ensures local { IfOk result (λ command. (out-Command command).has_globals ≡ false) }
+{
     let mut command = Command::new(alloc, name);
     for word in words {
         command = command.arg(Arg::new(alloc, *word).required(true))?;
@@ -90,7 +126,9 @@ fn command_with<'a>(
     Ok(command)
 }
 
-fn command<'a>(alloc: Global) -> Result<Command<'a>, AllocError> {
+fn command<'a>(alloc: Global) -> Result<Command<'a>, AllocError>
+    ensures { IfOk result (λ command. app_of command ≡ program_app) }
+{
     Command::new(alloc, "adarun")
         .no_binary_name(true)
         .subcommand_required(true)
@@ -100,17 +138,28 @@ fn command<'a>(alloc: Global) -> Result<Command<'a>, AllocError> {
         .subcommand(command_with(alloc, "go", &["SRC", "SCHED", "LIMIT"])?)
 }
 
-fn error_of(error: &Error) -> WordsError {
+fn error_of(error: &Error) -> WordsError
+    ensures memory { kind_of error.now ≡ ErrorKind.OutOfMemory → result ≡ WordsError.Memory }
+{
     match error.kind() {
         ErrorKind::OutOfMemory => WordsError::Memory,
         _ => WordsError::Usage,
     }
 }
 
+fn are_digits(text: &str) -> bool
+    ensures { result ≡ list_all is_digit text.now }
+{
+    text.as_bytes().iter().all(|c| c.is_ascii_digit())
+}
+
 // One or more decimal digits, of a value below 2**64.
-fn limit_of(limit: &str) -> Option<u64> {
-    if !limit.bytes().all(|c| c.is_ascii_digit()) {
-        return None;
+fn limit_of(limit: &str) -> Option<u64>
+    ensures { result ≡ words_of.limit_of limit.now }
+{
+    if are_digits(limit) {
+        limit.parse().ok()
+    } else {
+        None
     }
-    limit.parse().ok()
 }

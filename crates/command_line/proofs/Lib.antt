@@ -1,0 +1,4 @@
+mod Adding
+mod Judging
+mod Limits
+mod Reading

@@ -1,0 +1,57 @@
+-- How clap is told of the commands, and what is read of its matches.
+use Rattle.std.specs.Prelude.{ℕ, true, false, List, [], ◌∷◌, map, Option, Some, None, if◌then◌else◌, bytes_eq, codes}
+use Rattle.clap.specs.Words.{App, Row, Rule, Shape, Text, first_of, new_rule}
+use Rattle.clap.specs.Simple.{new_shape}
+use Rattle.command_line.specs.Words.{Command, CompileText, GoText, ListImage, Nothing, RunImage, limit_of, within}
+
+-- an argument that has to be given
+abbrev pub required_rule : Text → Rule
+required_rule id = record (new_rule id) { required = true }
+
+-- a command with these arguments in their order
+abbrev pub command_app : Text → List Text → App
+command_app name ids = record { top = record (new_shape name) { rules = map required_rule ids }; subs = [] }
+
+abbrev pub program_shape : Shape
+program_shape = record (new_shape (codes "adarun")) { no_binary_name = true; subcommand_required = true; is_leaf = false }
+
+-- the four commands
+abbrev pub program_app : App
+program_app = record {
+  top = program_shape;
+  subs = (command_app (codes "compile") (codes "SRC" ∷ codes "IMG" ∷ [])).top
+      ∷ (command_app (codes "list") (codes "IMG" ∷ [])).top
+      ∷ (command_app (codes "run") (codes "IMG" ∷ codes "SCHED" ∷ codes "LIMIT" ∷ [])).top
+      ∷ (command_app (codes "go") (codes "SRC" ∷ codes "SCHED" ∷ codes "LIMIT" ∷ [])).top
+      ∷ [];
+}
+
+abbrev pub of_one : (Text → Command) → Option Text → Command
+of_one command (Some first) = command first
+of_one command None = Nothing
+
+abbrev pub of_two : (Text → Text → Command) → Option Text → Option Text → Command
+of_two command (Some first) second = of_one (command first) second
+of_two command None second = Nothing
+
+abbrev pub limited : (ℕ → Command) → Option Text → Command
+limited command (Some limit) = within command (limit_of limit)
+limited command None = Nothing
+
+abbrev pub of_three : (Text → Text → ℕ → Command) → Option Text → Option Text → Option Text → Command
+of_three command (Some first) (Some second) limit = limited (command first second) limit
+of_three command first second limit = Nothing
+
+-- what the command of this name asks for, where these are the words for its arguments
+abbrev pub asked_in : Text → (Text → Option Text) → Command
+asked_in name value =
+    if bytes_eq name (codes "compile") then of_two CompileText (value (codes "SRC")) (value (codes "IMG"))
+    else (if bytes_eq name (codes "list") then of_one ListImage (value (codes "IMG"))
+    else (if bytes_eq name (codes "run") then of_three RunImage (value (codes "IMG")) (value (codes "SCHED")) (value (codes "LIMIT"))
+    else (if bytes_eq name (codes "go") then of_three GoText (value (codes "SRC")) (value (codes "SCHED")) (value (codes "LIMIT"))
+    else Nothing)))
+
+-- what the command that clap found asks for, by its name and its matches
+abbrev pub asked_by : Option (Text × List Row) → Command
+asked_by (Some found) = asked_in found.0 (λ id. first_of id found.1)
+asked_by None = Nothing

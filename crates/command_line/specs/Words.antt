@@ -1,0 +1,55 @@
+-- Which words ask for what (docs/FORMATS.md, "Commands").
+use Rattle.std.specs.Prelude.{◌≡◌, ◌&&◌, ◌^◌, ℕ, Bool, true, not, List, [], ◌∷◌, length, Option, Some, None, Result, Ok, Err, if◌then◌else◌, bytes_eq, codes, nat_eq, nat_le, nat_lt, ⊤}
+use Rattle.std.specs.List.{list_all}
+use Rattle.std.specs.Str.Parse.{digits_value}
+use Rattle.command_line.specs.declared.Request.{Request}
+use Rattle.command_line.specs.declared.Request.TheVariants as requests
+use Rattle.command_line.specs.declared.WordsError.{WordsError}
+use Rattle.command_line.specs.declared.WordsError.TheVariants as errors
+
+-- what is asked for: names are those of files
+pub data Command : Type 0 where
+  CompileText : (source image : List ℕ) → Command
+  ListImage : (image : List ℕ) → Command
+  RunImage : (image schedule : List ℕ) (limit : ℕ) → Command
+  GoText : (source schedule : List ℕ) (limit : ℕ) → Command
+  Nothing : Command
+
+abbrev pub is_digit : ℕ → Bool
+is_digit c = nat_le 48 c && nat_le c 57
+
+-- the value of one or more decimal digits, where that is below 2 ^ 64
+abbrev pub limit_of : List ℕ → Option ℕ
+limit_of digits =
+    if nat_lt 0 (length digits) && (list_all is_digit digits && nat_lt (digits_value 10 digits) (2 ^ 64)) then Some (digits_value 10 digits)
+    else None
+
+abbrev pub within : (ℕ → Command) → Option ℕ → Command
+within command (Some limit) = command limit
+within command None = Nothing
+
+-- the four commands
+abbrev pub asked : List (List ℕ) → Command
+asked (name ∷ image ∷ []) = if bytes_eq name (codes "list") then ListImage image else Nothing
+asked (name ∷ source ∷ image ∷ []) = if bytes_eq name (codes "compile") then CompileText source image else Nothing
+asked (name ∷ file ∷ schedule ∷ limit ∷ []) =
+    if bytes_eq name (codes "run") then within (RunImage file schedule) (limit_of limit)
+    else (if bytes_eq name (codes "go") then within (GoText file schedule) (limit_of limit) else Nothing)
+asked words = Nothing
+
+-- a word that can be no option: it doesn't begin with `-`
+abbrev pub is_plain : List ℕ → Bool
+is_plain [] = true
+is_plain (c ∷ rest) = not (nat_eq c 45)
+
+abbrev pub command_of : Request → Command
+command_of (requests.Compile source image) = CompileText source.now image.now
+command_of (requests.List image) = ListImage image.now
+command_of (requests.Run image schedule limit) = RunImage image.now schedule.now limit
+command_of (requests.Go source schedule limit) = GoText source.now schedule.now limit
+
+-- the request is that for the command; the words are refused where there is none; or memory was refused
+abbrev pub Answers : Command → Result Request WordsError → Type 0
+Answers command (Ok request) = command_of request ≡ command
+Answers command (Err errors.Usage) = command ≡ Nothing
+Answers command (Err errors.Memory) = ⊤
