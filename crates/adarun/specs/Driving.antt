@@ -1,5 +1,6 @@
 -- What the program's work over files leaves, by what is asked for and by its exit status.
-use Rattle.std.specs.Prelude.{◌≡◌, ◌≢◌, ◌<◌, ◌⊎◌, ℕ, List, Option, Some, None, false, ⊤}
+use Rattle.std.specs.Prelude.{◌≡◌, ◌≢◌, ◌<◌, ◌⊎◌, ℕ, List, Option, Some, None, true, ⊤}
+use Rattle.std.specs.List.{list_all}
 use Rattle.std.specs.Io.KnownBytes.{Appends}
 use Rattle.base.specs.declared.faults.TheConstants.{MEMORY_REFUSED}
 use Rattle.base.specs.declared.schedule.ScheduleLine.{ScheduleLine}
@@ -17,6 +18,7 @@ use Rattle.machine.specs.Stands.{EndsBy}
 use Rattle.machine.specs.Written.{AppendsBeginning}
 use Rattle.machine.specs.declared.reports.Outcome.{Outcome}
 use Rattle.machine.specs.declared.reports.Outcome.TheVariants as outcomes
+use Rattle.command_line.specs.Words.{Command, CompileText, GoText, ListImage, Nothing, RunImage, asked, is_plain}
 use Rattle.adarun.specs.Accepted.{Compiles, RefusesText}
 use Rattle.adarun.specs.Headline.{Runs, WritesBeginning}
 use Rattle.adarun.specs.Stopping.{HasImage}
@@ -222,14 +224,6 @@ LeavesCompile before after source name status old new = ⊥
 
 -- ---- all
 
--- what is asked for; that these are the words is tested
-pub data Command : Type 0 where
-  CompileText : (source image : List ℕ) → Command
-  ListImage : (image : List ℕ) → Command
-  RunImage : (image schedule : List ℕ) (limit : ℕ) → Command
-  GoText : (source schedule : List ℕ) (limit : ℕ) → Command
-  Nothing : Command
-
 -- what was written to standard output and to files
 abbrev pub LeavesWritten : Command → Contents → Contents → Status → Option (List ℕ) → Option (List ℕ) → Type 0
 LeavesWritten (CompileText source image) before after status old new = LeavesCompile before after source image status old new
@@ -250,9 +244,14 @@ number_of ImageFault = 6
 number_of ScheduleRefused = 7
 number_of NoMemory = 8
 
+-- Words of which none begins with `-` ask for what the table of commands says, or memory was refused as they were read. What other words ask for is tested.
+abbrev pub IsAskedFor : List (List ℕ) → Command → Status → Type 0
+IsAskedFor words work status = list_all is_plain words ≡ true → (work ≡ asked words) ⊎ ((work ≡ Nothing) × (status ≡ NoMemory))
+
 -- the answer is the number of a status, with what it leaves for what was asked for
-pub record AnswersStatus (before after : Contents) (answer : ℕ) (old new : Option (List ℕ)) : Type 0 where
+pub record AnswersStatus (words : List (List ℕ)) (before after : Contents) (answer : ℕ) (old new : Option (List ℕ)) : Type 0 where
   pub work : Command
   pub status : Status
   pub answer_is : answer ≡ number_of status
+  pub asked_for : IsAskedFor words work status
   pub leaves : LeavesWritten work before after status old new

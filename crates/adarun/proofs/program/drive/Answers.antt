@@ -1,17 +1,18 @@
-use Rattle.std.proofs.Common.{inr, refl, rules}
-use Rattle.adarun.specs.Driving.{CompileText, GoText, ListImage, Nothing, RunImage}
-use Rattle.adarun.specs.declared.program.Status.TheVariants.{NoMemory}
+use Rattle.std.proofs.Common.{inl, inr, refl, rules, sym}
+use Rattle.command_line.specs.Words.{CompileText, GoText, ListImage, Nothing, RunImage}
+use Rattle.adarun.specs.declared.program.Status.TheVariants.{Failed, NoMemory}
 use Rattle.adarun.proofs.program.drive.Goals as goal
 
 pub returns-in-Err-Memory-clause-answers : goal.returns-in-Err-Memory-clause-answers
 returns-in-Err-Memory-clause-answers g c =
-    rw c.no_memory-status.ensures (record { work = Nothing; status = NoMemory; answer_is = refl; leaves = (λ name. refl, (refl, inr refl)) })
+    rw c.no_memory-status.ensures (record { work = Nothing; status = NoMemory; answer_is = refl; asked_for = λ plain. inr (refl, refl); leaves = (λ name. refl, (refl, inr refl)) })
 
 pub returns-in-Ok-Compile-clause-answers : goal.returns-in-Ok-Compile-clause-answers
 returns-in-Ok-Compile-clause-answers g c = record {
   work = CompileText c.in-Ok-Compile.source.now c.in-Ok-Compile.image.now;
   status = c.drive_compile-status.result;
   answer_is = search rules;
+  asked_for = λ plain. inl (c.in-Ok-Compile.ensures plain);
   leaves = c.drive_compile-status.ensures (g.O.Sink.bytes c.args.out.now);
 }
 
@@ -20,6 +21,7 @@ returns-in-Ok-List-clause-answers g c = record {
   work = ListImage c.in-Ok-List.image.now;
   status = c.drive_list-status.result;
   answer_is = search rules;
+  asked_for = λ plain. inl (c.in-Ok-List.ensures plain);
   leaves = (λ name. refl, c.drive_list-status.ensures.leaves);
 }
 
@@ -28,6 +30,7 @@ returns-in-Ok-Run-clause-answers g c = record {
   work = RunImage c.in-Ok-Run.image.now c.in-Ok-Run.schedule.now c.in-Ok-Run.limit;
   status = c.drive_run-status.result;
   answer_is = search rules;
+  asked_for = λ plain. inl (c.in-Ok-Run.ensures plain);
   leaves = (λ name. refl, c.drive_run-status.ensures.leaves);
 }
 
@@ -36,5 +39,10 @@ returns-in-Ok-Go-clause-answers g c = record {
   work = GoText c.in-Ok-Go.source.now c.in-Ok-Go.schedule.now c.in-Ok-Go.limit;
   status = c.drive_go-status.result;
   answer_is = search rules;
+  asked_for = λ plain. inl (c.in-Ok-Go.ensures plain);
   leaves = (λ name. refl, c.drive_go-status.ensures.leaves);
 }
+
+pub returns-in-Err-Usage-clause-answers : goal.returns-in-Err-Usage-clause-answers
+returns-in-Err-Usage-clause-answers g c =
+    rw c.tell-status.ensures (record { work = Nothing; status = Failed; answer_is = refl; asked_for = λ plain. inl (sym (c.in-Err-Usage.ensures plain)); leaves = (λ name. refl, (refl, inl refl)) })
