@@ -9,6 +9,7 @@ use Rattle.std.proofs.lemmas.List.Sorted.{Contains-permutation, IsPermutation-ap
 use Rattle.std.proofs.lemmas.Map.Keys.{IsDistinct-IsPermutation, IsDistinct-tail}
 use Rattle.clock.specs.declared.delays.Sleeper.{Sleeper}
 use Rattle.clock.specs.declared.heap.Entry.{Entry}
+use Rattle.clock.specs.Numbering.{Numbered, added as one_added, free_number}
 use Rattle.clock.specs.Heaps.{AreDistinct, AreNumbered, IsAmong, IsWithin, by_number, insert, sleeper_of, sleepers_of}
 use Rattle.clock.proofs.Heaps.{placed}
 
@@ -288,6 +289,12 @@ pub one_more_sleeper : (xs ys : List Entry) (sleepers : List Sleeper) (e : Entry
 one_more_sleeper xs ys sleepers e moved n same =
     let a = added xs ys e moved n in
     (ap (map sleeper_of) a.0 ∙ map-append sleeper_of (by_number xs) (e ∷ []) ∙ ap (λ l. l ++ sleeper_of e ∷ []) same, a.1)
+
+-- sleepers and next number after one more
+pub numbered_next : (d : Numbered) (s : Sleeper) (sleepers : List Sleeper) (next : ℕ) → sleepers ≡ d.sleepers ++ s ∷ [] → next ≡ free_number d.next d.sleepers + 1
+    → record { sleepers = sleepers; next = next } ≡ one_added d s
+numbered_next d s sleepers next grown counted =
+    ap (λ l. record { sleepers = l; next = next }) grown ∙ ap (λ n. record { sleepers = d.sleepers ++ s ∷ []; next = n }) counted
 
 pub next_taken : (xs : List Entry) (i : ℕ) (d : Entry) → i < length xs → map sleeper_of (take i xs) ++ sleeper_of (get_or xs i d) ∷ [] ≡ map sleeper_of (take (i + 1) xs)
 next_taken [] i d h = absurd (omega (arith, h))

@@ -3,9 +3,11 @@ use Rattle.std.proofs.Common.{append-nil, arith, ◌≡◌, ◌≤◌, ℕ, ℤ,
 use Rattle.std.specs.Prelude.{int_lt}
 use Rattle.std.proofs.lemmas.Int.{ints}
 use Rattle.std.proofs.lemmas.List.{drop_all}
+use Rattle.clock.specs.declared.delays.Sleeper.{Sleeper}
 use Rattle.clock.specs.declared.heap.Entry.{Entry}
 use Rattle.clock.specs.Heaps.{IsAmong, IsSoonest, by_number, is_due_entry, sleeper_of, sleepers_of}
 use Rattle.clock.specs.Sleepers.{due, is_due, least, least_wake, number_of, waiting}
+use Rattle.clock.specs.Numbering.{Numbered}
 use Rattle.clock.proofs.Adding.{by_number_has, by_test, either, has_by_number}
 use Rattle.clock.proofs.Heaps.{not_sooner}
 
@@ -52,3 +54,9 @@ still_waiting now (y ∷ ys) =
 pub all_told : (tasks : List ℕ) (items : List Entry) (n : ℕ) → length items ≤ n → tasks ++ map (λ e. e.task) (drop n items) ≡ map (λ e. e.task) items
     → tasks ≡ map (λ e. e.task) items
 all_told tasks items n past e = sym (append-nil tasks) ∙ ap (λ l. tasks ++ map (λ e. e.task) l) (sym (drop_all n items past)) ∙ e
+
+-- the sleepers that wait on keep the number that comes next
+pub left_over : (d : Numbered) (next : ℕ) (before left : List Sleeper) (now : ℤ) → left ≡ waiting now before → record { sleepers = before; next = next } ≡ d
+    → record { sleepers = left; next = next } ≡ record d { sleepers = waiting now d.sleepers }
+left_over d next before left now same view =
+    ap {A = List Sleeper} (λ l. record { sleepers = l; next = next }) same ∙ ap {A = Numbered} (λ x. record { sleepers = waiting now x.sleepers; next = x.next }) view

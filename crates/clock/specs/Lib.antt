@@ -2,4 +2,5 @@ pub mod Texts
 pub mod Schedules
 pub mod Capped
 pub mod Sleepers
+pub mod Numbering
 pub mod Heaps

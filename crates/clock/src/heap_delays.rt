@@ -1,5 +1,7 @@
 //! Sleeping tasks in a heap.
 ghost use Rattle.std.specs.Prelude.{◌≡◌, ◌<◌, ◌≤◌, ◌-◌, ◌^◌, [], filter, length, not};
+ghost use Rattle.clock.specs.Numbering.{added, free_number};
+ghost use Rattle.clock.specs.Sleepers.{due, waiting};
 ghost use Rattle.clock.specs.Heaps.{AreDistinct, AreNumbered, IsWithin, by_number, is_due_entry, sleepers_of};
 ghost use Rattle.base.specs.declared.limits.TheConstants.{TASKS};
 
@@ -9,8 +11,8 @@ use arrayvec::ArrayVec;
 use base::limits::TASKS;
 use std::marker::Model;
 
-/// A binary heap, by wake time and then by the number of adding. Where that number would pass the greatest value of 64 bits, the
-/// sleepers are numbered anew from 0 in their order.
+/// A binary heap, by wake time and then by the number of adding. Where the next number is the greatest value of 64 bits, the sleepers
+/// are numbered anew from 0 in their order before one is added.
 #[derive(Drop)]
 pub struct HeapDelays {
     heap: Heap,
@@ -18,26 +20,31 @@ pub struct HeapDelays {
 }
 
 impl Model for HeapDelays {
-    ghost use Rattle.std.specs.Prelude.{List, ◌≤◌, length};
+    ghost use Rattle.std.specs.Prelude.{◌≤◌, length};
     ghost use Rattle.base.specs.declared.limits.TheConstants.{TASKS};
-    ghost use Rattle.clock.specs.declared.delays.Sleeper.{Sleeper as Row};
+    ghost use Rattle.clock.specs.Numbering.{Numbered};
     ghost use Rattle.clock.specs.Heaps.{AreNumbered, sleepers_of};
 
-    ghost Value = { List Row };
+    ghost Value = { Numbered };
 
-    ghost view = { λ d. sleepers_of d.heap };
+    ghost view = { λ d. record { sleepers = sleepers_of d.heap; next = d.next_number } };
 
     ghost invariant = { λ d. (length d.heap ≤ TASKS) × AreNumbered d.next_number d.heap };
 }
 
 impl Delays for HeapDelays {
-    ghost sleepers = { λ d. d };
+    ghost sleepers = { λ d. d.sleepers };
 
-    fn new() -> Self {
+    fn new() -> Self
+        ensures { result ≡ record { sleepers = []; next = 0 } }
+    {
         HeapDelays::numbered_from(0)
     }
 
-    fn add(&mut self, task: u8, wake: i64) {
+    fn add(&mut self, task: u8, wake: i64)
+        requires room { length self.old.sleepers < TASKS }
+        ensures { self.new ≡ added self.old (record { task = task; wake = wake }) }
+    {
         let number = next_free(&mut self.heap, self.next_number);
         self.heap.push(Entry { wake, number, task });
         self.next_number = number + 1;
@@ -48,7 +55,10 @@ impl Delays for HeapDelays {
         Some(first.wake)
     }
 
-    fn expire(&mut self, now: i64) -> ArrayVec<u8, TASKS> {
+    fn expire(&mut self, now: i64) -> ArrayVec<u8, TASKS>
+        ensures tasks { result.items ≡ due now self.old.sleepers }
+        ensures left { self.new ≡ record self.old { sleepers = waiting now self.old.sleepers } }
+    {
         let mut tasks = ArrayVec::new();
         for entry in take_due(&mut self.heap, now).as_slice() {
             tasks.push(entry.task);
@@ -58,14 +68,21 @@ impl Delays for HeapDelays {
 }
 
 impl HeapDelays {
-    /// Nobody sleeps. The first task that is added gets this number.
+    /// Nobody sleeps, and the next number is this one. So the first task that is added gets it, or 0 where it is the greatest value.
     pub fn numbered_from(number: u64) -> HeapDelays
-        ensures { result ≡ [] }
+        ensures { result ≡ record { sleepers = []; next = number } }
     {
         HeapDelays {
             heap: Heap::new(),
             next_number: number,
         }
+    }
+
+    /// The number that the next task gets that is added; where it is the greatest value, all are numbered anew first.
+    pub fn next_number(&self) -> u64
+        ensures { result ≡ self.now.next }
+    {
+        self.next_number
     }
 }
 
@@ -76,6 +93,7 @@ fn next_free(heap: &mut Heap, next: u64) -> u64
     ensures same { sleepers_of heap.new ≡ sleepers_of heap.old }
     ensures long { length heap.new ≡ length heap.old }
     ensures numbered { AreNumbered result heap.new }
+    ensures free { result ≡ free_number next (sleepers_of heap.old) }
     ensures less { result < 2 ^ 64 - 1 }
 {
     if next == u64::MAX {
@@ -92,6 +110,7 @@ fn number_anew(heap: &mut Heap) -> u64
     ensures same { sleepers_of heap.new ≡ sleepers_of heap.old }
     ensures long { length heap.new ≡ length heap.old }
     ensures numbered { AreNumbered result heap.new }
+    ensures count { result ≡ length (sleepers_of heap.old) }
     ensures few { result ≤ TASKS }
 {
     let mut number = 0;

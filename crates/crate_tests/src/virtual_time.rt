@@ -97,12 +97,15 @@ fn those_due_wake_in_their_order(rt: HostRuntime) -> Result<(), Fail> {
     Ok(())
 }
 
-// The numbers reach the greatest value at the third task, and later at the second.
+// The next number is the greatest value at the first task, at the third, and later at the second; behind it numbers are small.
 #[test]
 fn those_due_wake_in_their_order_across_a_numbering_anew(rt: HostRuntime) -> Result<(), Fail> {
-    wakes_in_order(&rt, HeapDelays::numbered_from(u64::MAX));
-    wakes_in_order(&rt, HeapDelays::numbered_from(u64::MAX - 2));
-    wakes_in_order(&rt, HeapDelays::numbered_from(u64::MAX - 5));
+    for (first, next) in [(u64::MAX, 6), (u64::MAX - 2, 6), (u64::MAX - 5, 2)] {
+        let delays = HeapDelays::numbered_from(first);
+        assert_eq!(rt; delays.next_number(), first);
+        let delays = wakes_in_order(&rt, delays);
+        assert_eq!(rt; delays.next_number(), next);
+    }
     Ok(())
 }
 

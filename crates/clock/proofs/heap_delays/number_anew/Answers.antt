@@ -2,7 +2,7 @@ use Rattle.std.proofs.Common.{rules, arith, length, map, ap, pos, take, get_or, 
 use Rattle.clock.specs.declared.heap.Entry.{Entry}
 use Rattle.std.proofs.lemmas.List.{take_all}
 use Rattle.clock.specs.Heaps.{sleeper_of}
-use Rattle.clock.proofs.Adding.{begins_empty, length_by_number, next_taken, one_more_sleeper}
+use Rattle.clock.proofs.Adding.{begins_empty, length_by_number, length_sleepers, next_taken, one_more_sleeper}
 use Rattle.clock.proofs.heap_delays.number_anew.Goals as goal
 
 pub loop-entry-init : goal.loop-entry-init
@@ -30,3 +30,8 @@ pub returns-clause-long : goal.returns-clause-long
 returns-clause-long c =
     let items = ap length (c.as_slice-entry-items.ensures.value ∙ c.take_all-entries.ensures.taken) in
     omega (arith, c.loop-entry.invariant.1, c.loop-entry.auto.entry-index-end, c.loop-entry-test.false, items, length_by_number c.args.heap.now)
+
+pub returns-clause-count : goal.returns-clause-count
+returns-clause-count c =
+    let items = ap length (c.as_slice-entry-items.ensures.value ∙ c.take_all-entries.ensures.taken) in
+    omega (arith, c.loop-entry.invariant.2, c.loop-entry.auto.entry-index-end, c.loop-entry-test.false, items, length_by_number c.args.heap.now, length_sleepers c.args.heap.now)

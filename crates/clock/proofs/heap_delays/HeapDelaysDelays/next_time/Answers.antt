@@ -7,4 +7,4 @@ pub returns : goal.returns
 returns c =
     search rules
     ∙ least_taken c.in_ok-first.first c.self.inside.heap c.in_ok-first.ensures.least.0 c.in_ok-first.ensures.least.1
-    ∙ ap least_wake c.self.view_is
+    ∙ ap (λ d. least_wake d.sleepers) c.self.view_is
