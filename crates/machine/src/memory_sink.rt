@@ -1,5 +1,6 @@
 //! A sink in memory, which keeps to a plan of failures.
-ghost use Rattle.std.specs.Prelude.{◌≡◌, ◌+◌, ◌<◌, ◌≤◌, [], ◌++◌, take, length, IfOk, is_ok, is_some, Some, vec_len, vec_capacity};
+ghost use Rattle.std.specs.Prelude.{◌≡◌, ◌+◌, ◌<◌, ◌≤◌, [], ◌++◌, take, length, IfOk, Some, vec_len, vec_capacity};
+ghost use Rattle.std.specs.Result.{result_ok};
 ghost use Rattle.machine.specs.Written.{failures_of, taken};
 ghost use Rattle.machine.specs.Memory.{next_plan, allowed_of};
 
@@ -111,7 +112,7 @@ impl<L: Ledger> Sink for MemorySink<L> {
         ensures within { IfOk result (λ count. count ≤ length piece.now) }
         ensures bytes { self.new.bytes ≡ self.old.bytes ++ take (taken result) piece.now }
         ensures failures { self.new.failures ≡ self.old.failures + failures_of piece.now result }
-        ensures count { is_ok result ≡ is_some (allowed_of self.old piece.now) }
+        ensures answer { result_ok result ≡ allowed_of self.old piece.now }
         ensures plan { self.new.plan ≡ next_plan self.old.plan }
         ensures room { self.new.room ≡ self.old.room }
     {

@@ -1,5 +1,7 @@
 //! A sink over any writer of std.
-ghost use Rattle.std.specs.Prelude.{◌≡◌, ◌<◌};
+ghost use Rattle.std.specs.Prelude.{◌≡◌, ◌+◌, ◌<◌, ◌≤◌, take, length, IfOk};
+ghost use Rattle.std.specs.Io.KnownBytes.{Appends};
+ghost use Rattle.machine.specs.Written.{failures_of, taken};
 
 use crate::writing::{Sink, SinkError};
 use std::io;
@@ -37,7 +39,11 @@ impl<W: io::Write + Drop, L: Ledger> Sink for WriterSink<W, L> {
 
     ghost failures = { λ s. s.share.amount };
 
-    fn write(&mut self, piece: &[u8]) -> Result<usize, SinkError> {
+    fn write(&mut self, piece: &[u8]) -> Result<usize, SinkError>
+        ensures within { IfOk result (λ count. count ≤ length piece.now) }
+        ensures bytes { Appends (W.contents self.old.writer) (W.contents self.new.writer) (take (taken result) piece.now) }
+        ensures failures { self.new.share.amount ≡ self.old.share.amount + failures_of piece.now result }
+    {
         match self.writer.write(piece) {
             Ok(0) if !piece.is_empty() => {
                 self.book.add(&mut self.share, 1);
