@@ -4,7 +4,7 @@ use crate::image_text::image_of;
 use clock::{Delays, HeapDelays, ListDelays, Schedule};
 use dispatch::{ListReady, Ready, RingReady};
 use image::Image;
-use machine::{Event, Machine, Place};
+use machine::{Event, Machine, TaskState};
 use std::alloc::{AllocError, Global};
 use std::test::Fail;
 
@@ -217,6 +217,13 @@ fn is_inside_any<R: Ready, D: Delays>(machine: &Machine<'_, R, D>, task: u8) -> 
     (0..machine.objects()).any(|object| machine.inside(object).as_slice().contains(&task))
 }
 
+// How many calls of entries haven't come to their end.
+fn queued<R: Ready, D: Delays>(machine: &Machine<'_, R, D>) -> usize {
+    (0..machine.tasks())
+        .filter(|task| matches!(machine.state(*task), TaskState::Queued(_)))
+        .count()
+}
+
 // Whether a task of this active priority may be ready: none above the one that runs may (RM D.2.1).
 fn may_be_ready<R: Ready, D: Delays>(machine: &Machine<'_, R, D>, priority: u8) -> bool {
     match machine.running() {
@@ -234,13 +241,15 @@ fn stands<R: Ready, D: Delays>(machine: &Machine<'_, R, D>, task: u8) -> bool {
         let shared = (0..task).any(|other| {
             is_inside_any(machine, other) && machine.active(other) == priority
         });
-        if shared || !matches!(state, Place::Running | Place::Ready) {
+        if shared || !matches!(state, TaskState::Running | TaskState::Ready) {
             return false;
         }
     }
     match state {
-        Place::Ready => may_be_ready(machine, priority),
-        Place::Queued(object) => !machine.barrier(object) || !machine.inside(object).is_empty(),
+        TaskState::Ready => may_be_ready(machine, priority),
+        TaskState::Queued(object) => {
+            !machine.barrier(object) || !machine.inside(object).is_empty()
+        }
         _ => true,
     }
 }
@@ -271,13 +280,19 @@ pub(crate) struct Met {
 }
 
 impl Met {
-    // Adds what tasks meet where a step has led.
-    fn add<R: Ready, D: Delays>(&mut self, machine: &Machine<'_, R, D>, event: &Event) {
+    // Adds what tasks meet where a step has led, before which so many calls waited: one is no longer there where it was served.
+    fn add<R: Ready, D: Delays>(
+        &mut self,
+        machine: &Machine<'_, R, D>,
+        event: &Event,
+        waited: usize,
+    ) {
         for task in 0..machine.tasks() {
             self.inside |= is_inside_any(machine, task);
-            self.queued |= matches!(machine.state(task), Place::Queued(_));
-            self.served |= matches!(machine.state(task), Place::Served(_));
         }
+        let waiting = queued(machine);
+        self.queued |= 0 < waiting;
+        self.served |= waiting < waited;
         self.line |= matches!(event, Event::Line(_));
         self.done |= matches!(event, Event::Done(_));
     }
@@ -298,11 +313,12 @@ pub(crate) fn runs_alike(
         return false;
     };
     for _ in 0..limit {
+        let waited = queued(&rings);
         let event = rings.step();
         if !are_same(&event, &lists.step()) || !excludes(&rings) || !excludes(&lists) {
             return false;
         }
-        met.add(&rings, &event);
+        met.add(&rings, &event, waited);
         if let Event::Done(_) = event {
             return true;
         }

@@ -1,7 +1,7 @@
 -- At most one task is inside an object.
-use Rattle.std.proofs.Common.{◌≡◌, ℕ, zero, suc, ◌+◌, ◌≤◌, List, [], ◌∷◌, ◌++◌, length, Bool, true, false, cond, refl, sym, ap, ◌∙◌, subst, arith, append-nil, length-append}
+use Rattle.std.proofs.Common.{◌≡◌, ℕ, zero, suc, ◌≤◌, [], ◌∷◌, ◌++◌, length, Bool, true, false, cond, refl, sym, ap, subst, arith, append-nil}
 use Rattle.kernel.specs.Exclusion.{FourStatements}
-use Rattle.kernel.specs.State.{Kernel, inside, inside_among, is_object_open}
+use Rattle.kernel.specs.State.{Kernel, inside_among, is_object_open}
 
 module _ (barrier : ℕ → Bool) (k : Kernel) (four : FourStatements barrier k) (o : ℕ) where
   abbrev is_in : ℕ → Bool

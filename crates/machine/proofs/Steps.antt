@@ -1,14 +1,14 @@
 -- What one step has shown.
-use Rattle.std.proofs.Common.{◌≡◌, ℕ, ◌+◌, List, [], ◌∷◌, ◌++◌, Option, Some, None, refl, sym, ap, ◌∙◌, append-nil}
+use Rattle.std.proofs.Common.{◌≡◌, ℕ, ◌+◌, List, [], ◌∷◌, ◌++◌, Some, None, sym, ap, ◌∙◌, append-nil}
 use Rattle.kernel.specs.State as kernel
 use Rattle.kernel.specs.Text.{line_text}
 use Rattle.image.specs.Code.{code}
 use Rattle.image.specs.Texts.{names_of}
 use Rattle.image_laws.specs.Laws.{OutcomeStays}
 use Rattle.tasking.specs.Held.{kernel_of}
-use Rattle.execution.specs.Held.{HeldWorld, Leads, line_of, world_of, world_with}
-use Rattle.machine.specs.Outcomes.{ending_of, time_of}
-use Rattle.machine.specs.Stands.{IsLast, ShowsText, HoldsWorld, kernel_outcome}
+use Rattle.execution.specs.Held.{HeldWorld, Leads, world_with}
+use Rattle.machine.specs.Outcomes.{ending_of}
+use Rattle.machine.specs.Stands.{IsLast, ShowsText, HoldsWorld}
 use Rattle.machine.specs.declared.reports.Event.{Event}
 use Rattle.machine.specs.declared.reports.Event.TheVariants as events
 use Rattle.machine.specs.declared.reports.Outcome.{Outcome}

@@ -1,4 +1,5 @@
 pub mod Memory
 pub mod Outcomes
 pub mod Stands
+pub mod TaskStates
 pub mod Written

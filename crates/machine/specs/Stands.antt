@@ -1,5 +1,5 @@
 -- When the machine stands for a world of code, and what a step of it shows.
-use Rattle.std.specs.Prelude.{◌≡◌, ℕ, ℤ, [], ◌∷◌, ◌++◌, Option, Some, None}
+use Rattle.std.specs.Prelude.{◌≡◌, ℤ, [], ◌∷◌, ◌++◌, Option, Some, None}
 use Rattle.kernel.specs.State as kernel
 use Rattle.kernel.specs.State.{Kernel}
 use Rattle.kernel.specs.Text.{line_text}

@@ -10,11 +10,13 @@ ghost use Rattle.image.specs.Steps.{is_open};
 ghost use Rattle.image.specs.Texts.{names_of};
 ghost use Rattle.execution.specs.Held.{line_of, world_of};
 ghost use Rattle.machine.specs.Stands.{EndsBy, IsLast, ShowsText, HoldsWorld, kernel_outcome};
+ghost use Rattle.machine.specs.TaskStates.{state_of};
 ghost use Rattle.machine.specs.Written.{AppendsBeginning};
-ghost use Rattle.tasking.specs.Held.{kernel_of, place_of};
+ghost use Rattle.tasking.specs.Held.{kernel_of};
 
 use crate::fault::RunFault;
 use crate::reports::{Event, LineText, Outcome};
+use crate::task_state::TaskState;
 use crate::text::{last_line, line_text};
 use crate::writing::{Sink, write_all};
 use arrayvec::ArrayVec;
@@ -111,10 +113,16 @@ impl<'a, R: Ready, D: Delays> Machine<'a, R, D> {
     }
 
     /// Where a task is (RM 9, D.2.1); a number that no task has has finished.
-    pub fn state(&self, task: u8) -> Place
-        ensures { place_of result ≡ (kernel_of self.now.tasking).place task }
+    pub fn state(&self, task: u8) -> TaskState
+        ensures { result ≡ state_of ((kernel_of self.now.tasking).place task) }
     {
-        self.execution.tasking().place(task)
+        match self.execution.tasking().place(task) {
+            Place::Running => TaskState::Running,
+            Place::Ready => TaskState::Ready,
+            Place::Asleep => TaskState::Delayed,
+            Place::Queued(object) | Place::Served(object) => TaskState::Queued(object),
+            Place::Finished => TaskState::Finished,
+        }
     }
 
     /// The active priority of a task (RM D.3): the greatest of its base priority and the ceilings of its open actions; 0 for a number that

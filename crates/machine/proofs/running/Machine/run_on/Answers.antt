@@ -1,7 +1,7 @@
-use Rattle.std.proofs.Common.{◌≡◌, ◌⊎◌, ◌+◌, ◌-◌, ◌≤◌, ◌∷◌, [], ℕ, Some, None, inl, inr, arith, rules, sym, ap, subst, ◌∙◌, ⊎_elim}
+use Rattle.std.proofs.Common.{◌≡◌, ◌+◌, ◌-◌, ◌≤◌, Some, None, inl, inr, arith, rules, subst, ◌∙◌, ⊎_elim}
 use Rattle.kernel.specs.State as kernel
 use Rattle.tasking.specs.Held.{kernel_of}
-use Rattle.execution.specs.Held.{Leads, line_of, lines_of, world_of}
+use Rattle.execution.specs.Held.{Leads, lines_of}
 use Rattle.machine.proofs.Runs.{Ran, broken_line, ran_line, ran_none, ran_nothing, ran_over}
 use Rattle.machine.proofs.running.Machine.run_on.Goals as goal
 

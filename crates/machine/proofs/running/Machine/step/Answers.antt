@@ -1,8 +1,8 @@
-use Rattle.std.proofs.Common.{◌≡◌, [], ◌∷◌, Some, None, rules, sym, ap, subst, ◌∙◌}
+use Rattle.std.proofs.Common.{◌≡◌, [], ◌∷◌, None, rules, sym, subst}
 use Rattle.kernel.specs.Text.{line_text as text_line}
 use Rattle.image.specs.Texts.{names_of}
 use Rattle.tasking.specs.Held.{kernel_of}
-use Rattle.execution.specs.Held.{Leads, line_of, lines_of}
+use Rattle.execution.specs.Held.{Leads, line_of}
 use Rattle.machine.proofs.Steps.{step_done, step_line, step_over, step_quiet}
 use Rattle.machine.proofs.running.Machine.step.Goals as goal
 
