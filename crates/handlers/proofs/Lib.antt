@@ -5,3 +5,4 @@ mod PlacesHeld
 mod Joined
 mod Regions
 mod Swept
+mod BrokenExamples

@@ -13,3 +13,4 @@ pub mod Unmoved
 pub mod Examples
 pub mod Refuted
 pub mod Scripts
+mod ScriptExamples

@@ -11,3 +11,4 @@ pub mod Broken
 pub mod Rows
 pub mod Loop
 pub mod Examples
+mod SpellingExamples

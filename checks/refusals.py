@@ -1,0 +1,135 @@
+#!/usr/bin/env python3
+"""Calls the program with each of its requests for memory refused in turn, up to the first call in which none is refused.
+
+    refusals.py PROGRAM REFUSING SCRATCH
+
+REFUSING is what refuses, and tells that it did (refuse.c). A call in which a request was refused writes nothing but `no memory`, ends with status 8, and leaves
+the files as they were; the others do what they do with ample memory.
+"""
+import os
+import subprocess
+import sys
+from concurrent.futures import ThreadPoolExecutor
+
+import mnemonics
+from rows import framed, rows_of
+
+HERE = os.path.dirname(os.path.abspath(__file__))
+MOST = 10_000
+JOBS = 2
+
+
+def content(path):
+    """The bytes of a file, None where there is none."""
+    if not os.path.exists(path):
+        return None
+    with open(path, "rb") as file:
+        return file.read()
+
+
+def write(path, data):
+    with open(path, "wb") as file:
+        file.write(data)
+
+
+class Call:
+    """A call of the program in a folder of its own: its words and files, what it writes and its status, and the files that it leaves otherwise."""
+
+    def __init__(self, name, words, files, out, err="", status=0, leaves=()):
+        self.name, self.words, self.files, self.leaves = name, words, files, dict(leaves)
+        self.ample = (out.encode(), err.encode(), status)
+
+    def attempt(self, program, refusing, folder, number):
+        """Whether a request was refused in this call, and what went wrong, if anything did."""
+        for name in {*self.files, *self.leaves}:
+            path = os.path.join(folder, name)
+            if os.path.exists(path):
+                os.remove(path)
+            if name in self.files:
+                write(path, self.files[name])
+        told = os.path.join(folder, "refused")
+        if os.path.exists(told):
+            os.remove(told)
+        environment = {**os.environ, "LD_PRELOAD": refusing, "REFUSE": str(number), "REFUSED": told}
+        run = subprocess.run([program, *self.words], cwd=folder, env=environment, capture_output=True, check=False)
+        was_refused = os.path.exists(told)
+        expected = (b"", b"no memory\n", 8) if was_refused else self.ample
+        if (run.stdout, run.stderr, run.returncode) != expected:
+            return was_refused, f"status {run.returncode}, {run.stdout[-200:]!r}, {run.stderr!r}"
+        for name in {*self.files, *self.leaves}:
+            wanted = self.files.get(name) if was_refused else self.leaves.get(name, self.files.get(name))
+            if content(os.path.join(folder, name)) != wanted:
+                return was_refused, f"{name} is another file"
+        return was_refused, None
+
+    def attempt_all(self, program, refusing, folder):
+        """How many requests were refused, and what went wrong."""
+        os.makedirs(folder)
+        wrong = []
+        for number in range(1, MOST):
+            was_refused, told = self.attempt(program, refusing, folder, number)
+            wrong += [f"{self.name}: request {number}{' refused' if was_refused else ''}: {told}"] if told else []
+            if not was_refused:
+                return number - 1, wrong
+        return MOST, [*wrong, f"{self.name}: no call without a refused request"]
+
+
+def row_of(table, name):
+    """The source of a row of a table, and what it writes."""
+    with open(os.path.join(HERE, "rows", table + ".txt"), encoding="utf-8") as file:
+        row = next(row for row in rows_of(table, file.read().split("\n")) if row["name"] == name)
+    return framed(row["frame"], row), "".join(line + "\n" for line in row.get("out", []))
+
+
+def example(name):
+    folder = os.path.join(HERE, "..", "examples")
+    return content(os.path.join(folder, name + ".adb")), content(os.path.join(folder, name + ".out")).decode()
+
+
+def calls_of(program, folder):
+    """The calls, each of which the program makes once with ample memory first where its image or listing is to be compared."""
+    empty = {"empty": b""}
+    rows = ["a sign takes a whole term, mod and rem keep to their signs, division cuts towards zero", "an exception of a handler passes by the other handlers of its sequence"]
+    (terms, term_lines), (handled, handled_lines) = (row_of("programs", name) for name in rows)
+    found = [
+        Call("go", ["go", "main.adb", "empty", "100000"], {"main.adb": terms, **empty}, term_lines),
+        Call("go with handlers", ["go", "main.adb", "empty", "100000"], {"main.adb": handled, **empty}, handled_lines, status=3),
+        Call("go of a refused text", ["go", "main.adb", "empty", "1"], {"main.adb": b"procedure Main is begin null; end Main;", **empty}, "", "fault 39 at 1:1\n", 2),
+        Call("go with a refused schedule", ["go", "main.adb", "faulty", "1"], {"main.adb": terms, "faulty": b"5 1 7\n4 1 7\n"}, "", "schedule fault 51 at line 2\n", 7),
+    ]
+    for name in ("state_machine", "calculator"):
+        text, lines = example(name)
+        found.append(Call(f"go of {name}", ["go", "main.adb", "empty", "100000"], {"main.adb": text, **empty}, lines))
+    write(os.path.join(folder, "main.adb"), terms)
+    subprocess.run([program, "compile", "main.adb", "main.img"], cwd=folder, check=True)
+    image = content(os.path.join(folder, "main.img"))
+    listing = subprocess.run([sys.executable, os.path.join(HERE, "listing.py"), "main.img"], cwd=folder, check=True, capture_output=True, text=True).stdout
+    words = ["compile", "main.adb", "new.img"]
+    found += [
+        Call("compile to a new file", words, {"main.adb": terms}, "", leaves={"new.img": image}),
+        Call("compile over a file", words, {"main.adb": terms, "new.img": b"what was there"}, "", leaves={"new.img": image}),
+        Call("list", ["list", "main.img"], {"main.img": image}, listing),
+        Call("run", ["run", "main.img", "empty", "100000"], {"main.img": image, **empty}, term_lines),
+        Call("run of a refused image", ["run", "main.img", "empty", "1"], {"main.img": mnemonics.image_of("return_alone 102=00"), **empty}, "", "image fault 43 at byte 102\n", 6),
+        Call("usage", ["go", "main.adb", "empty", "x"], {}, "", "usage\n", 1),
+    ]
+    return found
+
+
+def main():
+    program, refusing, scratch = (os.path.abspath(word) for word in sys.argv[1:])
+    os.makedirs(scratch)
+    calls = calls_of(program, scratch)
+    with ThreadPoolExecutor(JOBS) as pool:
+        tried = list(pool.map(lambda call: call.attempt_all(program, refusing, os.path.join(scratch, call.name)), calls))
+    failed = False
+    for call, (refused, wrong) in zip(calls, tried):
+        for told in wrong:
+            print(f"refusals: {told}", file=sys.stderr)
+        print(f"refusals: {call.name}: {refused} requests for memory refused in turn")
+        failed = failed or wrong or not refused
+    return 1 if failed else 0
+
+
+if __name__ == "__main__":
+    sys.exit(main())

@@ -1,0 +1,222 @@
+#!/usr/bin/env python3
+"""Calls the program for each row of the tables in a folder, and compares every byte that it writes, and its exit status, with the row.
+
+    rows.py PROGRAM FOLDER SCRATCH
+
+A table has rows of one kind, told by its name: programs, refused and spelling have sources, schedules has schedules, images and operations have images,
+words has words.
+
+- A source is called by `go`, then by `compile`, and what was compiled by `run`. Where it is refused, no image is made, and one that was there stays.
+- A row has a name, and lines of a word and what belongs to it: the whole `text`, or what stands in the frame in the place of SPEC and BODY (`spec`, `body`;
+  the frame loses a line without text, and has an empty procedure where it calls one that no `body` has), or an image (`image`, checks/mnemonics.py); a
+  `schedule` and a `limit` (none, 100000); and what is expected: lines of `out`, the line `err`, the exit `status` (0). Lines of one word are joined.
+- A row on one line has what is expected, `: `, and the text, the schedule or the words.
+- Of the image of a row with `cut`, each beginning is too short by what isn't there, and is refused at its end.
+- `\\n`, `\\xNN` and the like stand for bytes, and {5*ab} for a part five times.
+"""
+import os
+import re
+import subprocess
+import sys
+from concurrent.futures import ThreadPoolExecutor
+
+import mnemonics
+
+FRAMED = "    "
+STATUSES = {"fault": 2, "schedule": 7, "image": 6, "usage": 1, "cannot": 1, "accepted": 0}
+DEFAULT_RUN = "procedure Run is begin null; end Run;"
+# A main that calls a procedure of an object, and writes the number of an exception that this leaves.
+CALLING = """label given label caught word 7 word 8 object 20 - 0 0 2 own 11 own 12 task MAIN 5 0
+    sub 4 - 4 0 0 0 1 PCALL 0 1 0 RET 0 0 0 PUT 1 1 0 RET 0 0 0 handler 0 2 0 2"""
+CALLING_PLACES = 4
+JOBS = 2
+
+
+def bytes_of(text):
+    """The bytes that a text of a table stands for."""
+    repeated = re.sub(r"\{(\d+)\*([^{}]*)\}", lambda part: part[2] * int(part[1]), text)
+    return repeated.encode("latin-1").decode("unicode_escape").encode("latin-1")
+
+
+def framed(frame, row):
+    """The text of a row: what it has stands in the place of the frame's marks."""
+    if "text" in row:
+        return bytes_of("\n".join(row["text"]))
+    body = row.get("body", [])
+    if "App.Run;" in "".join(frame) and not any("procedure Run is" in line for line in body):
+        body = [*body, DEFAULT_RUN]
+    parts = {"SPEC": row.get("spec", []), "BODY": body}
+    lines = [line for framed in frame for line in parts.get(framed.strip(), [framed])]
+    return bytes_of("\n".join(lines)) + b"\n"
+
+
+def rows_of(name, lines):
+    """The rows of a table: each a name, with lists of lines by their words, and `source` for the text of a source."""
+    frame, row, is_framed = [], None, False
+    found = []
+    for line in lines:
+        if line.startswith(FRAMED) and is_framed:
+            frame.append(line[len(FRAMED):])
+            continue
+        is_framed = line == "frame"
+        word, _, rest = line.partition(" ")
+        if is_framed:
+            frame, row = [], None
+        elif not line or line.startswith("#"):
+            row = None
+        elif word == "row":
+            row = {"name": rest, "frame": frame}
+            found.append(row)
+        elif row is not None:
+            row.setdefault(word, []).append(rest)
+        else:
+            found.append(short_row(name, line, frame))
+    return found
+
+
+def operation_row(name, written, given):
+    """A row of an operation: its image, and the lines that are written of what it gives or raises."""
+    words = given.split()
+    code = " ".join(words[1:])
+    if words[0] != "code":
+        pushed = [f"PUSH {depth} 0 {operand}" for depth, operand in enumerate(words[:-1])]
+        code = " ".join([*pushed, f"{words[-1]} {len(pushed)} 0 0 PUT 1 0 0 RET 0 0 0"])
+    end = CALLING_PLACES + len(code.split()) // 4
+    out = ["image fault at 0"] if written == "breaks" else [*(f"0 MAIN {line}" for line in written.split(", ")), "ended at 0"]
+    status = ["6" if written == "breaks" else "0"]
+    return {"name": name, "image": [f"{CALLING} sub 1 0 {end} 0 0 3 4 {code}"], "schedule": ["0 1 7\\n"], "limit": ["1000"], "out": out, "status": status}
+
+
+def short_row(name, line, frame):
+    """A row on one line: what is expected, and a text, a schedule, words or an operation."""
+    expected, _, given = re.match(r"(.*?):( |$)(.*)", line).groups()
+    if name == "operations":
+        return operation_row(line, expected, given)
+    status, _, told = expected.partition(" ")
+    if not status.isdigit():
+        status, told = str(STATUSES[status]), expected
+    kind = {"spelling": "text", "schedules": "schedule", "words": "words"}[name]
+    row = {"name": f"{expected}: {given}"[:60], "frame": frame, "err": [told] if told != "accepted" else [], "status": [status], kind: [given]}
+    if told == "accepted":
+        row["out"] = ["0 MAIN a 14", "ended at 0"]
+    return row
+
+
+class Caller:
+    """Calls the program in a folder of its own, and tells where it leaves something else than what is expected."""
+
+    def __init__(self, program, folder):
+        self.program, self.folder = os.path.abspath(program), folder
+        self.calls, self.wrong = 0, []
+        os.makedirs(folder)
+
+    def write(self, name, content):
+        with open(os.path.join(self.folder, name), "wb") as file:
+            file.write(content)
+
+    def read(self, name):
+        path = os.path.join(self.folder, name)
+        if not os.path.exists(path):
+            return None
+        with open(path, "rb") as file:
+            return file.read()
+
+    def call(self, row, words, out, err, status):
+        """Calls the program on the words."""
+        run = subprocess.run([self.program, *words], cwd=self.folder, capture_output=True, check=False)
+        self.calls += 1
+        if (run.stdout, run.stderr, run.returncode) != (out, err, status):
+            self.wrong.append(f"{row['name']}: {' '.join(words)}: status {run.returncode}, {run.stdout[-300:]!r}, {run.stderr!r}; expected {status}, {out[-300:]!r}, {err!r}")
+
+    def same(self, row, what, found, expected):
+        if found != expected:
+            self.wrong.append(f"{row['name']}: {what}")
+
+
+def expected_of(row):
+    """Standard output, standard error and the exit status of a row."""
+    out, err = ("".join(line + "\n" for line in row.get(word, [])).encode() for word in ("out", "err"))
+    return out, err, int(row.get("status", ["0"])[0])
+
+
+def run_source(caller, row):
+    """A source by `go`, and by `compile` and then `run`."""
+    limit = row.get("limit", ["100000"])[0]
+    out, err, status = expected_of(row)
+    caller.write("main.adb", framed(row["frame"], row))
+    caller.write("input", bytes_of("".join(row.get("schedule", []))))
+    caller.call(row, ["go", "main.adb", "input", limit], out, err, status)
+    if status == 2:
+        caller.write("kept.img", b"kept")
+        for image, before in [("kept.img", b"kept"), ("none.img", None)]:
+            caller.call(row, ["compile", "main.adb", image], b"", err, 2)
+            caller.same(row, f"{image} has changed", caller.read(image), before)
+    else:
+        caller.call(row, ["compile", "main.adb", "main.img"], b"", b"", 0)
+        caller.call(row, ["run", "main.img", "input", limit], out, err, status)
+
+
+def run_image(caller, row):
+    """An image by `run`; one that is refused, by `list` too."""
+    out, err, status = expected_of(row)
+    caller.write("main.img", mnemonics.image_of("\n".join(row["image"])))
+    caller.write("input", bytes_of("".join(row.get("schedule", []))))
+    caller.call(row, ["run", "main.img", "input", row.get("limit", ["100000"])[0]], out, err, status)
+    if err:
+        caller.call(row, ["list", "main.img"], b"", err, status)
+    if "cut" in row:
+        image = mnemonics.image_of(row["image"][0])
+        for length in range(len(image)):
+            caller.write("main.img", image[:length])
+            caller.call(row, ["run", "main.img", "input", "1"], b"", f"image fault 41 at byte {length}\n".encode(), 6)
+    if "listed" in row:
+        caller.call(row, ["list", "main.img"], "".join(line + "\n" for line in row["listed"]).encode(), b"", 0)
+
+
+def run_words(caller, row):
+    """The program on words, over the files that words.txt tells of."""
+    thousand = mnemonics.image_of("thousand")
+    files = {
+        "main.adb": b"pragma Profile (Ravenscar);\nprocedure Main is begin null; end Main;\n",
+        "refused.adb": b"procedure Main is begin end Main;",
+        "return.img": mnemonics.image_of("return_alone"),
+        "thousand.img": thousand,
+        "short.img": thousand[:-1],
+        "empty": b"",
+        "faulty": b"0\n",
+    }
+    for name, content in files.items():
+        caller.write(name, content)
+    caller.call(row, row["words"][0].split(), *expected_of(row))
+    files_left = {name: caller.read(name) for name in sorted(os.listdir(caller.folder))}
+    caller.same(row, "files have changed", files_left, files)
+
+
+KINDS = {"programs": run_source, "refused": run_source, "spelling": run_source, "schedules": run_source, "images": run_image, "operations": run_image, "words": run_words}
+
+
+def check_table(program, path, scratch):
+    """Calls the rows of one table; gives how many there are, how many calls that made, and what was wrong."""
+    name = os.path.splitext(os.path.basename(path))[0]
+    with open(path, encoding="utf-8") as file:
+        rows = rows_of(name, file.read().split("\n"))
+    callers = [Caller(program, os.path.join(scratch, f"{name}-{number}")) for number in range(JOBS)]
+    with ThreadPoolExecutor(JOBS) as pool:
+        list(pool.map(lambda caller: [KINDS[name](caller, row) for row in rows[callers.index(caller)::JOBS]], callers))
+    return len(rows), sum(caller.calls for caller in callers), [told for caller in callers for told in caller.wrong]
+
+
+def main():
+    program, folder, scratch = sys.argv[1:]
+    failed = False
+    for path in sorted(os.path.join(folder, name) for name in os.listdir(folder)):
+        rows, calls, wrong = check_table(program, path, scratch)
+        for told in wrong:
+            print(f"rows: {path}: {told}", file=sys.stderr)
+        print(f"rows: {rows} rows of {path}, {calls} calls, {len(wrong)} wrong")
+        failed = failed or not rows or wrong
+    return 1 if failed else 0
+
+
+if __name__ == "__main__":
+    sys.exit(main())

@@ -1,0 +1,25 @@
+-- Worked rows of tasks outside of actions, and of queues whose call has been served.
+use Rattle.std.proofs.Common.{◌≡◌, true, false, None, Ok, refl}
+use Rattle.protected.specs.Actions.{Actions, active_of, calling, has_any, opened_by, queued_at, served, with_queued}
+use Rattle.protected.proofs.Examples.{start, waits}
+
+base_priority : active_of start 0 ≡ 5
+base_priority = refl
+
+other_base_priority : active_of start 1 ≡ 9
+other_base_priority = refl
+
+in_no_action : has_any (opened_by start 0) ≡ false
+in_no_action = refl
+
+nobody_waits : served true (queued_at start 1) ≡ None
+nobody_waits = refl
+
+abbrev has_served : Actions
+has_served = with_queued 1 None waits
+
+nobody_waits_again : served true (queued_at has_served 1) ≡ None
+nobody_waits_again = refl
+
+another_call : calling (queued_at has_served 1) ≡ Ok tt
+another_call = refl
