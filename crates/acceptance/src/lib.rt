@@ -4,7 +4,7 @@
 ghost use Rattle.std.specs.Prelude.{◌≡◌};
 
 #[cfg(test)]
-mod commands;
+mod files;
 #[cfg(test)]
 mod memory;
 #[cfg(test)]

@@ -1,35 +1,13 @@
-//! Tests of what single crates do beyond their clauses: spelling, grammar, rules, images and the machine.
+//! Tests of what the machine and its keepers do beyond what the program runs: lists as well as rings and a heap, and each step by itself.
 #![tactic(auto)]
 
 ghost use Rattle.std.specs.Prelude.{◌≡◌};
 
 #[cfg(test)]
-mod declarations;
+mod both_keepers;
 #[cfg(test)]
 mod exclusion;
 #[cfg(test)]
-mod expressions;
+mod keepers;
 #[cfg(test)]
-mod grammar;
-#[cfg(test)]
-mod image_text;
-#[cfg(test)]
-mod images;
-#[cfg(test)]
-mod names;
-#[cfg(test)]
-mod operations;
-#[cfg(test)]
-mod protected_actions;
-#[cfg(test)]
-mod spelling;
-#[cfg(test)]
-mod statements;
-#[cfg(test)]
-mod tables;
-#[cfg(test)]
-mod task_rows;
-#[cfg(test)]
-mod tasking_scripts;
-#[cfg(test)]
-mod virtual_time;
+mod worked_images;

@@ -1,4 +1,4 @@
-use Rattle.crate_tests.proofs.task_rows.run_both.Given as goal
+use Rattle.crate_tests.proofs.both_keepers.run_both.Given as goal
 
 abbrev pub ghosts-run_both_over-L-Ledger : goal.ghosts-run_both_over-L-Ledger
 ghosts-run_both_over-L-Ledger a = record { name = a.first.name; parts = a.first.parts }
