@@ -11,6 +11,8 @@ words has words.
   the frame loses a line without text, and has an empty procedure where it calls one that no `body` has), or an image (`image`, checks/mnemonics.py); a
   `schedule` and a `limit` (none, 100000); and what is expected: lines of `out`, the line `err`, the exit `status` (0). Lines of one word are joined.
 - A row on one line has what is expected, `: `, and the text, the schedule or the words.
+- A row with `limits` is run with each limit from 0 on: up to the first one that gives the row's lines it writes whole lines of these, no fewer than with the
+  limit before, and then where the limit cut it.
 - Of the image of a row with `cut`, each beginning is too short by what isn't there, and is refused at its end.
 - `\\n`, `\\xNN` and the like stand for bytes, and {5*ab} for a part five times.
 """
@@ -30,6 +32,8 @@ CALLING = """label given label caught word 7 word 8 object 20 - 0 0 2 own 11 own
     sub 4 - 4 0 0 0 1 PCALL 0 1 0 RET 0 0 0 PUT 1 1 0 RET 0 0 0 handler 0 2 0 2"""
 CALLING_PLACES = 4
 JOBS = 2
+MOST_STEPS = 1_000
+STATUS_OF_LIMIT = 5
 
 
 def bytes_of(text):
@@ -128,6 +132,21 @@ class Caller:
         if (run.stdout, run.stderr, run.returncode) != (out, err, status):
             self.wrong.append(f"{row['name']}: {' '.join(words)}: status {run.returncode}, {run.stdout[-300:]!r}, {run.stderr!r}; expected {status}, {out[-300:]!r}, {err!r}")
 
+    def grows(self, row, words, out):
+        """Calls the program on the words with each limit from 0 on."""
+        lines, before = out.splitlines(keepends=True), 0
+        for limit in range(MOST_STEPS):
+            run = subprocess.run([self.program, *words, str(limit)], cwd=self.folder, capture_output=True, check=False)
+            self.calls += 1
+            if run.stdout == out:
+                return
+            *written, last = run.stdout.splitlines(keepends=True) or [b""]
+            is_beginning = written == lines[:len(written)] and before <= len(written) < len(lines)
+            if not is_beginning or not re.fullmatch(rb"step limit at \d+\n", last) or run.stderr or run.returncode != STATUS_OF_LIMIT:
+                self.wrong.append(f"{row['name']}: with limit {limit}: status {run.returncode}, {run.stdout!r}, {run.stderr!r}")
+            before = len(written)
+        self.wrong.append(f"{row['name']}: no limit below {MOST_STEPS} gives its lines")
+
     def same(self, row, what, found, expected):
         if found != expected:
             self.wrong.append(f"{row['name']}: {what}")
@@ -154,6 +173,8 @@ def run_source(caller, row):
     else:
         caller.call(row, ["compile", "main.adb", "main.img"], b"", b"", 0)
         caller.call(row, ["run", "main.img", "input", limit], out, err, status)
+        if "limits" in row:
+            caller.grows(row, ["go", "main.adb", "input"], out)
 
 
 def run_image(caller, row):
@@ -164,6 +185,8 @@ def run_image(caller, row):
     caller.call(row, ["run", "main.img", "input", row.get("limit", ["100000"])[0]], out, err, status)
     if err:
         caller.call(row, ["list", "main.img"], b"", err, status)
+    if "limits" in row:
+        caller.grows(row, ["run", "main.img", "input"], out)
     if "cut" in row:
         image = mnemonics.image_of(row["image"][0])
         for length in range(len(image)):
