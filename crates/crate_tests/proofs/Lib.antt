@@ -1,0 +1,4 @@
+mod BrokenExamples
+mod QueueExamples
+mod ScriptExamples
+mod SpellingExamples

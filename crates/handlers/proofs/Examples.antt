@@ -4,7 +4,7 @@ use Rattle.handlers.specs.declared.rows.Row.{Row}
 use Rattle.handlers.specs.Innermost.{handler_of}
 use Rattle.handlers.specs.Nesting.{are_sound, is_broken_at}
 
-abbrev pub row : ℕ → ℕ → ℕ → ℕ → Row
+abbrev row : ℕ → ℕ → ℕ → ℕ → Row
 row start end_ exception target = record { start = start; end_ = end_; exception = exception; target = target }
 
 -- a block from 2 to 6 that handles exceptions 1 and 2, the block around it for all others, and one beside it

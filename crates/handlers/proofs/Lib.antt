@@ -5,4 +5,3 @@ mod PlacesHeld
 mod Joined
 mod Regions
 mod Swept
-mod BrokenExamples

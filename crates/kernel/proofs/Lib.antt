@@ -13,4 +13,3 @@ pub mod Unmoved
 pub mod Examples
 pub mod Refuted
 pub mod Scripts
-mod ScriptExamples

@@ -15,13 +15,13 @@ abbrev after : (Element → Option (List Token)) → Reading → Option (List To
 after f (Ok e) = f e
 after f (Err b) = None
 
-unfoldable pub read : ℕ → ℕ → List ℕ → Option (List Token)
+read : ℕ → ℕ → List ℕ → Option (List Token)
 read n at [] = Some []
 read zero at (c ∷ text) = None
 read (suc n) at (c ∷ text) = after (λ e. option_map (λ tokens. tokens_of at e ++ tokens) (read n (at + e.length) (drop e.length (c ∷ text)))) (element_at (c ∷ text))
 
 -- what is read is a row to the text's end
-pub row : (n at : ℕ) (text : List ℕ) (tokens : List Token) → read n at text ≡ Some tokens → Row (at + length text) [] at text tokens
+row : (n at : ℕ) (text : List ℕ) (tokens : List Token) → read n at text ≡ Some tokens → Row (at + length text) [] at text tokens
 unfolding read
 row n at [] tokens e = let none : [] ≡ tokens = cc in subst (λ l. Row (at + 0) [] at [] l) none (subst (λ m. Row m [] at [] []) (let same : at ≡ at + 0 = omega arith in same) Here)
 row zero at (c ∷ text) tokens e = cc

@@ -11,4 +11,3 @@ pub mod Broken
 pub mod Rows
 pub mod Loop
 pub mod Examples
-mod SpellingExamples

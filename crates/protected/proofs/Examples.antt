@@ -4,7 +4,7 @@ use Rattle.protected.specs.Actions.{Actions, active_of, calling, has_any, opened
 use Rattle.protected.specs.declared.refusal.Refusal.TheVariants.{AboveCeiling, QueueFull, SameObject}
 
 -- task 0 of priority 5 and task 1 of priority 9; object 0 with ceiling 8 and object 1 with ceiling 10
-abbrev pub start : Actions
+abbrev start : Actions
 start = record { bases = 5 ∷ 9 ∷ []; ceilings = 8 ∷ 10 ∷ []; opened = [] ∷ [] ∷ []; queued = None ∷ None ∷ [] }
 
 allowed : opening start 0 0 ≡ Ok tt
@@ -55,7 +55,7 @@ in_one = refl
 in_none : has_any (opened_by both 1) ≡ false
 in_none = refl
 
-abbrev pub waits : Actions
+abbrev waits : Actions
 waits = with_queued 1 (Some 0) start
 
 first_call : calling (queued_at start 1) ≡ Ok tt

@@ -1,8 +1,10 @@
 -- Rows of which a later one is the first that breaks a rule, worked by computation.
-use Rattle.std.proofs.Common.{◌≡◌, List, [], ◌∷◌, true, false, refl}
+use Rattle.std.proofs.Common.{◌≡◌, ℕ, List, [], ◌∷◌, true, false, refl}
 use Rattle.handlers.specs.declared.rows.Row.{Row}
 use Rattle.handlers.specs.Nesting.{is_broken_at}
-use Rattle.handlers.proofs.Examples.{row}
+
+abbrev row : ℕ → ℕ → ℕ → ℕ → Row
+row start end_ exception target = record { start = start; end_ = end_; exception = exception; target = target }
 
 -- the second row covers nothing
 abbrev empty_behind : List Row

