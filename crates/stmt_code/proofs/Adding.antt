@@ -1,6 +1,6 @@
 -- Code of statements that was added: nothing, statements one behind another, jumps to the ways out, and lines.
 use Rattle.std.proofs.Common.{◌≡◌, ℕ, zero, suc, ◌+◌, ◌-◌, ◌<◌, ◌≤◌, ◌++◌, List, [], ◌∷◌, length, map, take, true, false, Option, Some, None, refl, sym, ap, ◌∙◌, subst, arith, rules}
-use Rattle.std.specs.Prelude.{get_or, nat_eq}
+use Rattle.std.specs.Prelude.{get_or}
 use Rattle.ada_tree.specs.declared.statement.Stmt.{Stmt}
 use Rattle.ada_tree.specs.ExpressionTree.{ExprTree}
 use Rattle.ada_tree.specs.StatementTree as statements
@@ -77,10 +77,6 @@ pub most_beside : (old new : Draft) → IsBeside old new → new.words.most ≡ 
 most_beside old new same = ap (λ w. w.most) same.1
 
 -- ---- instructions of an image
-
-same_self : (n : ℕ) → nat_eq n n ≡ true
-same_self zero = refl
-same_self (suc n) = search rules
 
 module _ (v : Visible) where
   -- ---- a value, and an instruction that takes it

@@ -39,8 +39,7 @@ use Rattle.stmt_code.proofs.draft.Draft.+statement.Answers.Stays as stays
 -- ---- parts of an `if`
 
 pub branch-of_width-requires-clause-wide : goal.branch-of_width-requires-clause-wide
-branch-of_width-requires-clause-wide t c =
-    condition_width c.args.visible.now.scope c.requires.sound (expr_tree c.args.condition.now) c.requires.condition
+branch-of_width-requires-clause-wide t c = condition_width c.args.visible.now.scope c.requires.sound (expr_tree c.args.condition.now) c.requires.condition
 
 pub branch-statements-requires : goal.branch-statements-requires
 branch-statements-requires t c = (search (rules, statements.the_lemmas), (c.requires.sound, (c.requires.entries, c.requires.legal)))
