@@ -1,6 +1,5 @@
 -- The end of an action: who can be served, and who can go on.
 use Rattle.std.proofs.Common.{◌≡◌, inl, ℕ, ◌+◌, ◌<◌, ◌≤◌, List, [], ◌∷◌, length, Bool, true, false, Option, Some, None, refl, sym, ap, ◌∙◌, subst, arith}
-use Rattle.std.specs.Prelude.{slice_get}
 use Rattle.base.specs.declared.limits.TheConstants.{FRAME_WORDS}
 use Rattle.base.specs.declared.schedule.ScheduleLine.{ScheduleLine}
 use Rattle.kernel.specs.Effects as effects
@@ -9,7 +8,7 @@ use Rattle.kernel.specs.Invariant.{HasAction, ServesCall}
 use Rattle.kernel.specs.Laws.{ReachesCallers}
 use Rattle.kernel.specs.PutLaws.{put_other}
 use Rattle.kernel.specs.State.{Action, Reads, Writes, Serves, Kernel}
-use Rattle.kernel.specs.Worlds.{ending, reached, solo_of}
+use Rattle.kernel.specs.Worlds.{reached}
 use Rattle.image.specs.Frames.{TaskState}
 use Rattle.image.specs.Operations.{entry_called, results_of}
 use Rattle.image.specs.Rules.{IsWellFormed}
@@ -20,7 +19,7 @@ use Rattle.image_laws.specs.Laws.{CodeLeadsOn, ImagesHaveSize}
 use Rattle.image_laws.specs.Linked.{Fitting, FitsEntry, IsAwaiting, IsCalling, OwesFor}
 use Rattle.image_laws.specs.Whole.{IsImageTask, RunnerOwes}
 use Rattle.image_laws.specs.Within.{Anytime, Callers}
-use Rattle.task_steps.specs.Acting.{effect_of, given_of, stepped_of}
+use Rattle.task_steps.specs.Acting.{given_of}
 use Rattle.task_steps.specs.declared.acts.Act.{Act}
 use Rattle.task_steps.specs.declared.acts.Effect.TheVariants as acts
 use Rattle.task_steps.specs.declared.acts.Given.{Given}

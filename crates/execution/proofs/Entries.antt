@@ -1,5 +1,5 @@
 -- What is known of a queued caller, and of one that is served.
-use Rattle.std.proofs.Common.{◌≡◌, ℕ, ◌+◌, ◌-◌, ◌<◌, ◌≤◌, List, length, Bool, true, Option, Some, None, refl, sym, ap, ◌∙◌, subst, arith}
+use Rattle.std.proofs.Common.{◌≡◌, ℕ, ◌+◌, ◌<◌, ◌≤◌, length, true, Option, Some, None, refl, sym, ap, ◌∙◌, subst, arith}
 use Rattle.std.proofs.lemmas.Bool.{and_parts, leb-true}
 use Rattle.std.proofs.lemmas.Option.{none-some, same_Some, slice_get_within}
 use Rattle.std.specs.Prelude.{slice_get, nat_le}
@@ -13,9 +13,9 @@ use Rattle.image.specs.Sections.{Sections}
 use Rattle.image.specs.declared.instruction.Operation.{Operation}
 use Rattle.image.specs.declared.instruction.Operation.TheVariants.{Call, EntryCall, ProtectedCall}
 use Rattle.image.specs.declared.subprograms.Subprogram.{Subprogram}
-use Rattle.image_laws.specs.Laws.{CodeLeadsOn, ImagesHaveSize, LeadsOn}
+use Rattle.image_laws.specs.Laws.{CodeLeadsOn, ImagesHaveSize}
 use Rattle.image_laws.specs.Linked.{IsAwaiting, IsCalling}
-use Rattle.image_laws.specs.Shape.{IsWaiting, callee}
+use Rattle.image_laws.specs.Shape.{callee}
 
 -- the subprogram of an entry, whose parameters the caller has on its operand stack
 pub record Entry (i : Sections) (o : ℕ) (f : Frame) : Type 0 where

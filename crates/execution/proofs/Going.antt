@@ -1,26 +1,21 @@
 -- From steps of one task to steps of the world.
-use Rattle.std.proofs.Common.{◌≡◌, ℕ, zero, suc, ◌+◌, List, [], length, Option, Some, None, refl, sym, ap, ◌∙◌, subst}
-use Rattle.base.specs.declared.schedule.ScheduleLine.{ScheduleLine}
+use Rattle.std.proofs.Common.{◌≡◌, ℕ, ◌+◌, Option, Some, None, sym, ap, ◌∙◌, subst}
 use Rattle.kernel.specs.Calm.{IsRunner}
 use Rattle.kernel.specs.PutLaws.{by_put, put_put}
-use Rattle.kernel.specs.RunLaws.{solo_back, step_running}
-use Rattle.kernel.specs.State as kernel
-use Rattle.kernel.specs.State.{Kernel, put}
-use Rattle.kernel.specs.Worlds.{Did, Solo, Tasks, among, ending, put_back, reached, run, solo_of, step}
-use Rattle.kernel.specs.Effects.{after}
+use Rattle.kernel.specs.RunLaws.{solo_back}
+use Rattle.kernel.specs.State.{put}
+use Rattle.kernel.specs.Worlds.{among, put_back, run, solo_of}
 use Rattle.image.specs.Code.{CodeWorld}
-use Rattle.image.specs.Frames.{TaskState, Words}
 use Rattle.image.specs.Rules.{IsWellFormed}
-use Rattle.image.specs.Sections.{Sections}
 use Rattle.image.specs.Steps as code
 use Rattle.image.specs.Steps.{Stepped, behaviour}
 use Rattle.image_laws.specs.Whole.{IsWhole, StepsWhole, UnseenWhole}
 use Rattle.processor.specs.Decoding.{words_in}
-use Rattle.task_steps.specs.Acting.{MemoryRows, ComesToAct, effect_of, given_of, solo_in, stepped_of}
+use Rattle.task_steps.specs.Acting.{ComesToAct, solo_in, stepped_of}
 use Rattle.task_steps.specs.declared.acts.Act.{Act}
 use Rattle.tasking.specs.Held.{kernel_of}
-use Rattle.execution.specs.Held.{HeldWorld, rest_of, task_at, world_of, world_with}
-use Rattle.execution.specs.Settling.{Owes, Settles}
+use Rattle.execution.specs.Held.{HeldWorld, rest_of, task_at, world_of}
+use Rattle.execution.specs.Settling.{Owes}
 
 -- the tasks of one are those of the other but for t
 abbrev pub Others : HeldWorld → HeldWorld → ℕ → Type 0

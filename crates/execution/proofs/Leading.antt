@@ -1,5 +1,5 @@
 -- Steps that lead from what was held to what is held, put together.
-use Rattle.std.proofs.Common.{◌≡◌, ℕ, zero, ◌+◌, List, [], ◌++◌, refl, sym, ap, ◌∙◌, subst}
+use Rattle.std.proofs.Common.{◌≡◌, ℕ, ◌+◌, List, [], refl, sym, ap, ◌∙◌}
 use Rattle.std.proofs.lemmas.List.{append-nil}
 use Rattle.kernel.specs.RunLaws.{run_plus}
 use Rattle.kernel.specs.State.{Line}

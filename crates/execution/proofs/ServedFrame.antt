@@ -1,7 +1,7 @@
 -- The frame that serves a queued caller is the one that code makes.
-use Rattle.std.proofs.Common.{◌≡◌, ℕ, ◌-◌, ℤ, pos, List, [], ◌∷◌, ◌++◌, replicate, drop, Option, Some, None, refl, sym, ap, ◌∙◌}
+use Rattle.std.proofs.Common.{◌≡◌, ℕ, ◌-◌, ℤ, pos, List, [], ◌∷◌, ◌++◌, replicate, Some, None, sym, ap, ◌∙◌}
 use Rattle.std.specs.Prelude.{slice_get, slice_set}
-use Rattle.image.specs.Frames.{Frame, Serving, TaskState, arguments, new_frame}
+use Rattle.image.specs.Frames.{Serving, TaskState, arguments}
 use Rattle.image.specs.Operations.{called, called_if, entry_called, entry_of, parameters_of}
 use Rattle.image.specs.Sections.{Sections, first_place}
 use Rattle.image.specs.Steps.{serving, serving_with, taken}

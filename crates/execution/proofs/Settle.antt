@@ -1,11 +1,10 @@
 -- What each effect comes to.
-use Rattle.std.proofs.Common.{length-set, ◌≡◌, ℕ, ◌+◌, ◌<◌, ◌≤◌, ℤ, List, [], ◌∷◌, length, Bool, Option, Some, None, refl, sym, ap, ◌∙◌, subst, ⊎_elim}
-use Rattle.std.proofs.lemmas.Option.{none-some, same_Some}
-use Rattle.std.specs.Prelude.{slice_get, slice_set}
+use Rattle.std.proofs.Common.{length-set, ◌≡◌, ℕ, ◌<◌, ℤ, List, [], ◌∷◌, length, refl, sym, ap, ◌∙◌, subst, ⊎_elim}
+use Rattle.std.specs.Prelude.{slice_set}
 use Rattle.kernel.specs.Calm.{Calm}
 use Rattle.kernel.specs.Effects as effects
 use Rattle.kernel.specs.Effects.{Effect, Ending, Closes, TakesOver, HandsBack, after}
-use Rattle.kernel.specs.Laws.{QuietStays, ReachesCallers, RunnerIsCalm, SaysOn}
+use Rattle.kernel.specs.Laws.{QuietStays, RunnerIsCalm, SaysOn}
 use Rattle.kernel.specs.PutLaws.{put_other, put_same, same_or_not}
 use Rattle.kernel.specs.State as kernel
 use Rattle.kernel.specs.State.{Kernel, put}
@@ -18,9 +17,8 @@ use Rattle.task_steps.specs.Acting.{effect_of, given_of}
 use Rattle.task_steps.specs.declared.acts.Act.{Act}
 use Rattle.tasking.specs.Held as tasking
 use Rattle.tasking.specs.Held.{kernel_of}
-use Rattle.execution.specs.Held.{HeldWorld, line_of, task_at}
+use Rattle.execution.specs.Held.{HeldWorld, task_at}
 use Rattle.execution.specs.Settling.{CanServe, Owes, Settles, given_tasks, served_tasks}
-use Rattle.execution.specs.declared.line.Line.{Line}
 use Rattle.execution.proofs.Ending.{given_put}
 use Rattle.execution.proofs.Tasks.{task_elsewhere, task_put, task_there}
 

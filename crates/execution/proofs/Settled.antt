@@ -1,18 +1,17 @@
 -- What the kernel has settled is the step of the world.
-use Rattle.std.proofs.Common.{◌≡◌, ℕ, List, refl, sym, ap, ◌∙◌}
+use Rattle.std.proofs.Common.{◌≡◌, ℕ, List, sym, ap, ◌∙◌}
 use Rattle.kernel.specs.Effects.{after}
 use Rattle.kernel.specs.RunLaws.{step_running}
 use Rattle.kernel.specs.State.{Line}
-use Rattle.kernel.specs.Worlds.{Did, Tasks, among, ending, put_back, reached, solo_of, step}
+use Rattle.kernel.specs.Worlds.{Did, Tasks, among, ending, put_back, reached, step}
 use Rattle.image.specs.Code.{CodeWorld}
 use Rattle.image.specs.Frames.{TaskState, Words}
-use Rattle.image.specs.Steps as code
 use Rattle.image.specs.Steps.{Stepped, behaviour}
 use Rattle.processor.specs.Decoding.{words_in}
-use Rattle.task_steps.specs.Acting.{effect_of, given_of, stepped_of}
+use Rattle.task_steps.specs.Acting.{effect_of, given_of}
 use Rattle.task_steps.specs.declared.acts.Act.{Act}
 use Rattle.tasking.specs.Held.{kernel_of}
-use Rattle.execution.specs.Held.{HeldWorld, rest_of, task_at, world_with}
+use Rattle.execution.specs.Held.{HeldWorld, world_with}
 use Rattle.execution.specs.Settling.{Owes, Settles}
 
 module _ (h : HeldWorld) (t : ℕ) where

@@ -1,10 +1,9 @@
 -- The start: tasks at the first instruction of their bodies, priorities and ceilings as the image has them.
-use Rattle.std.proofs.Common.{◌≡◌, ℕ, zero, suc, ◌<◌, ◌≤◌, List, [], ◌∷◌, ◌++◌, drop, length, map, get_or, Option, Some, None, refl, sym, ap, ◌∙◌, subst}
+use Rattle.std.proofs.Common.{◌≡◌, ℕ, zero, suc, ◌<◌, ◌≤◌, List, [], ◌∷◌, ◌++◌, drop, length, map, get_or, refl, sym, ap, ◌∙◌, subst}
 use Rattle.std.proofs.lemmas.List.{append-nil, drop_all, length-map}
 use Rattle.std.specs.Prelude.{slice_get}
 use Rattle.base.specs.declared.limits.TheConstants.{PRIORITIES}
 use Rattle.kernel.specs.Invariant.{Fits}
-use Rattle.kernel.specs.State.{Partition}
 use Rattle.image.specs.Code.{body_of, ceiling_of, initial_state, partition_of, priority_of}
 use Rattle.image.specs.Frames.{TaskState}
 use Rattle.image.specs.ObjectTable.{ObjectRow}

@@ -1,5 +1,5 @@
 -- What a run holds between steps, the world of code that this is, and when steps lead from one to another.
-use Rattle.std.specs.Prelude.{◌≡◌, ℕ, ◌<◌, ◌++◌, ◌∷◌, List, [], get_or, length, Option, Some, None}
+use Rattle.std.specs.Prelude.{◌≡◌, ℕ, ◌++◌, ◌∷◌, List, [], get_or, Option, Some, None}
 use Rattle.base.specs.declared.schedule.ScheduleLine.{ScheduleLine}
 use Rattle.kernel.specs.State as kernel
 use Rattle.kernel.specs.Worlds.{Tasks, among, run}

@@ -18,7 +18,7 @@ use Rattle.task_steps.specs.declared.acts.Act.{Act}
 use Rattle.task_steps.specs.declared.acts.Effect.{Effect}
 use Rattle.task_steps.specs.declared.acts.Effect.TheVariants as acts
 use Rattle.tasking.specs.Held.{kernel_of}
-use Rattle.execution.specs.Held.{HeldWorld, rest_of, task_at}
+use Rattle.execution.specs.Held.{HeldWorld, task_at}
 
 -- the running task t has taken a step from a whole world, and this is what it asks of the kernel
 pub record Owes (h : HeldWorld) (t : ℕ) (a : Act) : Type 0 where

@@ -1,5 +1,5 @@
 //! Runs of images, up to what their steps tell.
-ghost use Rattle.std.specs.Prelude.{◌≡◌, ◌⊎◌, ◌<◌, ◌≤◌, ◌-◌, [], IfOk, IfSome, None, Some};
+ghost use Rattle.std.specs.Prelude.{◌≡◌, ◌⊎◌, ◌<◌, ◌≤◌, ◌+◌, ◌-◌, [], IfOk, IfSome, None, Some};
 ghost use Rattle.image.specs.Code.{start};
 ghost use Rattle.image_laws.specs.Whole.{IsWhole};
 ghost use Rattle.kernel.specs.Calm.{IsRunner};
@@ -14,8 +14,10 @@ use dispatch::Ready;
 use image::Image;
 use image_laws::{effects_named, lines_unread, steps_whole};
 use kernel::laws::somebody_runs;
+use processor::Steps;
 use std::alloc::{AllocError, Global};
-use std::marker::Model;
+use std::marker::{Brand, Model};
+use std::sync::ledger::{Blank, Ledger};
 use task_steps::Memory;
 use tasking::Tasking;
 use tasking::laws::{kept_with_lines, lines_apart};
@@ -67,9 +69,10 @@ impl<'a, R: Ready, D: Delays> Execution<'a, R, D> {
     }
 
     /// Goes on up to a line or an outcome, `limit` steps at most. Nothing is done once there is an outcome.
-    pub fn advance(&mut self, limit: u64) -> Advance
+    pub fn advance<L: Ledger>(&mut self, limit: u64, steps: &mut Steps<L>) -> Advance
         ensures leads { Leads (limit - result.left) self.old self.new (lines_of self.old.image result.line) }
         ensures left { result.left ≤ limit }
+        ensures count { steps.new ≡ steps.old + (limit - result.left) }
         ensures going { IfSome result.line (λ line. (kernel_of self.new.tasking).outcome ≡ None) }
         ensures fewer { IfSome result.line (λ line. result.left < limit) }
         ensures stops { result.line ≡ None → (result.left ≡ 0) ⊎ ((o : KernelOutcome) × ((kernel_of self.new.tasking).outcome ≡ Some o)) }
@@ -79,7 +82,7 @@ impl<'a, R: Ready, D: Delays> Execution<'a, R, D> {
             let Some(task) = self.runner() else {
                 return Advance { left, line: None };
             };
-            let advance = self.advance_task(task, left);
+            let advance = self.advance_task(task, left, steps);
             left = advance.left;
             if advance.line.is_some() {
                 return advance;
@@ -94,18 +97,32 @@ impl<'a, R: Ready, D: Delays> Execution<'a, R, D> {
         ensures going { IfSome result (λ line. (kernel_of self.new.tasking).outcome ≡ None) }
         ensures over { (o : KernelOutcome) → (kernel_of self.old.tasking).outcome ≡ Some o → (result ≡ None) × (self.new ≡ self.old) }
     {
+        self.one_step::<Brand>(Blank::new(1))
+    }
+
+    // The same, where nobody reads how many steps it was.
+    fn one_step<L: Ledger>(&mut self, blank: Blank) -> Option<Line>
+        requires name { blank.name ≡ L.name }
+        requires parts { blank.parts ≡ L.parts }
+        requires some { 0 < L.parts }
+        ensures leads { (kernel_of self.old.tasking).outcome ≡ None → Leads 1 self.old self.new (lines_of self.old.image result) }
+        ensures going { IfSome result (λ line. (kernel_of self.new.tasking).outcome ≡ None) }
+        ensures over { (o : KernelOutcome) → (kernel_of self.old.tasking).outcome ≡ Some o → (result ≡ None) × (self.new ≡ self.old) }
+    {
+        let mut steps = Steps::<L>::new(blank);
         match self.runner() {
             None => None,
-            Some(task) => self.advance_task(task, 1).line,
+            Some(task) => self.advance_task(task, 1, &mut steps).line,
         }
     }
 
     // Steps of the running task, up to the first that asks something of the kernel, and what comes of that.
-    fn advance_task(&mut self, task: u8, limit: u64) -> Advance
+    fn advance_task<L: Ledger>(&mut self, task: u8, limit: u64, steps: &mut Steps<L>) -> Advance
         requires runs { IsRunner (kernel_of self.old.tasking) task }
         requires some { 0 < limit }
         ensures leads { Leads (limit - result.left) self.old self.new (lines_of self.old.image result.line) }
         ensures left { result.left < limit }
+        ensures count { steps.new ≡ steps.old + (limit - result.left) }
         ensures going { IfSome result.line (λ line. (kernel_of self.new.tasking).outcome ≡ None) }
     {
         steps_whole();
@@ -113,7 +130,7 @@ impl<'a, R: Ready, D: Delays> Execution<'a, R, D> {
         lines_unread();
         lines_apart();
         kept_with_lines();
-        let went = self.state.go(task, limit);
+        let went = self.state.go(task, limit, steps);
         let line = match went.act {
             None => None,
             Some(act) => self.state.settle(task, act),

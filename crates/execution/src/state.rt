@@ -1,5 +1,5 @@
 //! What a run holds.
-ghost use Rattle.std.specs.Prelude.{◌≡◌, ◌<◌, ◌≤◌, IfOk, None, ℕ, List, length, map, slice_set};
+ghost use Rattle.std.specs.Prelude.{◌≡◌, ◌+◌, ◌-◌, ◌<◌, ◌≤◌, IfOk, None, ℕ, List, length, map, slice_set};
 ghost use Rattle.base.specs.declared.limits.TheConstants.{OBJECTS, TASKS};
 ghost use Rattle.image.specs.Code.{initial_state, partition_of as image_partition, start};
 ghost use Rattle.image.specs.Rules.{IsWellFormed};
@@ -15,9 +15,10 @@ use dispatch::Ready;
 use image::Image;
 use image_laws::{begins_sound, code_leads_on, frames_have_room, steps_whole};
 use kernel::laws::runner_is_calm;
-use processor::{Program, TaskState};
+use processor::{Program, Steps, TaskState};
 use std::alloc::{AllocError, Global};
 use std::marker::Model;
+use std::sync::ledger::Ledger;
 use task_steps::{Memory, Went, called, first_place, go};
 use tasking::Tasking;
 
@@ -70,10 +71,11 @@ impl<'a, R: Ready, D: Delays> State<'a, R, D> {
     }
 
     /// Steps of the running task, up to the first that asks something of the kernel.
-    pub(crate) fn go(&mut self, task: u8, limit: u64) -> Went
+    pub(crate) fn go<L: Ledger>(&mut self, task: u8, limit: u64, steps: &mut Steps<L>) -> Went
         requires whole { IsWhole self.old.image (world_of self.old) }
         requires runs { IsRunner (kernel_of self.old.tasking) task }
         ensures went { ComesToAct self.old.image self.old.schedule (kernel_of self.old.tasking) task limit result.left (solo_in self.old.image self.old.memory (task_at self.old.image self.old.tasks task)) result.act self.new.memory (task_at self.new.image self.new.tasks task) }
+        ensures count { steps.new ≡ steps.old + (limit - result.left) }
         ensures well_formed { IsWellFormed self.old.image }
         ensures moved { self.new ≡ record self.old { memory = self.new.memory; tasks = slice_set self.old.tasks task (task_at self.new.image self.new.tasks task) } }
     {
@@ -90,6 +92,7 @@ impl<'a, R: Ready, D: Delays> State<'a, R, D> {
             state,
             &mut self.memory,
             limit,
+            steps,
         )
     }
 }

@@ -1,4 +1,4 @@
 mod Inside
 mod Pieces
 mod Runs
-mod Steps
+mod Stepping

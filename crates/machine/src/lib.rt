@@ -12,8 +12,9 @@ mod writing;
 
 pub use fault::RunFault;
 pub use memory_sink::{MemorySink, Plan};
+pub use processor::Steps;
 pub use reports::{Event, LINE_BYTES, LineText, Outcome};
-pub use running::{Machine, run, run_over};
+pub use running::{Machine, run, run_counted, run_over};
 pub use task_state::TaskState;
 pub use writer_sink::WriterSink;
 pub use writing::{Sink, SinkError, write_all};

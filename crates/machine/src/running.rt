@@ -27,8 +27,10 @@ use execution::{Execution, Line};
 use image::Image;
 use image_laws::{lines_grow_on, outcome_stays};
 use kernel::laws::{four_statements_hold, left_unmoved};
+use processor::Steps;
 use std::alloc::Global;
-use std::marker::Model;
+use std::marker::{Brand, Model};
+use std::sync::ledger::{Blank, Ledger};
 use tasking::Place;
 
 /// A machine that runs an image, over keepers of ready and of sleeping tasks. Memory is taken by `start` alone.
@@ -184,7 +186,12 @@ impl<'a, R: Ready, D: Delays> Machine<'a, R, D> {
     }
 
     // Does steps up to an outcome, `limit` of them at most, and writes their lines.
-    fn run_on<S: Sink>(&mut self, limit: u64, sink: &mut S) -> Result<Outcome, RunFault>
+    fn run_on<S: Sink, L: Ledger>(
+        &mut self,
+        limit: u64,
+        sink: &mut S,
+        steps: &mut Steps<L>,
+    ) -> Result<Outcome, RunFault>
         requires stands { HoldsWorld self.old (code self.old.image self.old.schedule 0) }
         ensures lines { OnOk result (Appends (S.bytes sink.old) (S.bytes sink.new) (lines_text (names_of self.old.image) (code self.old.image self.old.schedule limit).kernel.lines)) }
         ensures ends { IfOk result (λ outcome. EndsBy outcome (code self.old.image self.old.schedule limit)) }
@@ -192,13 +199,14 @@ impl<'a, R: Ready, D: Delays> Machine<'a, R, D> {
         ensures fault { IfErr result (λ fault. fault ≡ RunFault.Write) }
         ensures failed { OnErr result (S.failures sink.old < S.failures sink.new) }
         ensures beginning { OnErr result (AppendsBeginning (S.bytes sink.old) (S.bytes sink.new) (lines_text (names_of self.old.image) (code self.old.image self.old.schedule limit).kernel.lines)) }
+        ensures count { steps.new ≤ steps.old + limit }
     {
         outcome_stays();
         lines_grow_on();
         left_unmoved();
         let mut left = limit;
         while 0 < left {
-            let advance = self.execution.advance(left);
+            let advance = self.execution.advance(left, steps);
             left = advance.left;
             match advance.line {
                 Some(line) => {
@@ -225,12 +233,42 @@ impl<'a, R: Ready, D: Delays> Machine<'a, R, D> {
     }
 }
 
-/// Runs an image over these keepers of ready and of sleeping tasks, for at most `limit` steps, and writes its lines and a last line that
-/// says how it ended: the text of the world of code after `limit` steps. The limit on steps is the outcome only where that world has none.
+/// Runs an image over these keepers of ready and of sleeping tasks, and writes its lines and a last line that says how it ended: the text
+/// of the world of code after `limit` steps. It takes at most `limit` steps, each of which is counted. The limit on steps is the outcome
+/// only where the world has none.
 ///
 /// # Errors
 /// `Memory` where memory was refused, before anything is written; `Write` where a write failed, and what was written then is a beginning
 /// of the text.
+pub fn run_counted<R: Ready + Drop, D: Delays + Drop, S: Sink, L: Ledger>(
+    alloc: Global,
+    image: &Image,
+    schedule: &Schedule,
+    limit: u64,
+    sink: &mut S,
+    steps: &mut Steps<L>,
+) -> Result<Outcome, RunFault>
+    ensures text { OnOk result (Appends (S.bytes sink.old) (S.bytes sink.new) (code_text image.now schedule.now limit)) }
+    ensures ends { IfOk result (λ outcome. EndsBy outcome (code image.now schedule.now limit)) }
+    ensures kept { OnOk result (S.failures sink.new ≡ S.failures sink.old) }
+    ensures memory { result ≡ Err RunFault.Memory → sink.new ≡ sink.old }
+    ensures failed { result ≡ Err RunFault.Write → S.failures sink.old < S.failures sink.new }
+    ensures beginning { AppendsBeginning (S.bytes sink.old) (S.bytes sink.new) (code_text image.now schedule.now limit) }
+    ensures count { steps.new ≤ steps.old + limit }
+{
+    let mut machine: Machine<'_, R, D> = Machine::start(alloc, image, schedule)?;
+    let outcome = machine.run_on(limit, sink, steps)?;
+    let text = last_line(image, &outcome);
+    match write_all(sink, text.as_slice()) {
+        Ok(()) => Ok(outcome),
+        Err(_) => Err(RunFault::Write),
+    }
+}
+
+/// Runs an image as `run_counted` does.
+///
+/// # Errors
+/// Those of `run_counted`.
 pub fn run_over<R: Ready + Drop, D: Delays + Drop, S: Sink>(
     alloc: Global,
     image: &Image,
@@ -245,13 +283,30 @@ pub fn run_over<R: Ready + Drop, D: Delays + Drop, S: Sink>(
     ensures failed { result ≡ Err RunFault.Write → S.failures sink.old < S.failures sink.new }
     ensures beginning { AppendsBeginning (S.bytes sink.old) (S.bytes sink.new) (code_text image.now schedule.now limit) }
 {
-    let mut machine: Machine<'_, R, D> = Machine::start(alloc, image, schedule)?;
-    let outcome = machine.run_on(limit, sink)?;
-    let text = last_line(image, &outcome);
-    match write_all(sink, text.as_slice()) {
-        Ok(()) => Ok(outcome),
-        Err(_) => Err(RunFault::Write),
-    }
+    run_with::<R, D, S, Brand>(alloc, image, schedule, limit, sink, Blank::new(1))
+}
+
+// The same, where nobody reads how many steps it was.
+fn run_with<R: Ready + Drop, D: Delays + Drop, S: Sink, L: Ledger>(
+    alloc: Global,
+    image: &Image,
+    schedule: &Schedule,
+    limit: u64,
+    sink: &mut S,
+    blank: Blank,
+) -> Result<Outcome, RunFault>
+    requires name { blank.name ≡ L.name }
+    requires parts { blank.parts ≡ L.parts }
+    requires some { 0 < L.parts }
+    ensures text { OnOk result (Appends (S.bytes sink.old) (S.bytes sink.new) (code_text image.now schedule.now limit)) }
+    ensures ends { IfOk result (λ outcome. EndsBy outcome (code image.now schedule.now limit)) }
+    ensures kept { OnOk result (S.failures sink.new ≡ S.failures sink.old) }
+    ensures memory { result ≡ Err RunFault.Memory → sink.new ≡ sink.old }
+    ensures failed { result ≡ Err RunFault.Write → S.failures sink.old < S.failures sink.new }
+    ensures beginning { AppendsBeginning (S.bytes sink.old) (S.bytes sink.new) (code_text image.now schedule.now limit) }
+{
+    let mut steps = Steps::<L>::new(blank);
+    run_counted::<R, D, S, L>(alloc, image, schedule, limit, sink, &mut steps)
 }
 
 /// The same over rings of ready tasks and a heap of sleeping ones.

@@ -1,6 +1,7 @@
 //! What the code of one task does within its frame: decoded operations and the loop that runs them.
 #![tactic(auto)]
 
+mod counting;
 mod decoding;
 mod frame;
 pub mod laws;
@@ -13,6 +14,7 @@ mod shared;
 mod task_state;
 mod turning;
 
+pub use counting::Steps;
 pub use decoding::decode;
 pub use frame::Frame;
 pub use operation::Operation;

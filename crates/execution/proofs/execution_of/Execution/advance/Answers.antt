@@ -1,4 +1,4 @@
-use Rattle.std.proofs.Common.{◌≡◌, ◌+◌, ◌-◌, ◌≤◌, [], None, arith, rules, sym, ap, subst, ◌∙◌}
+use Rattle.std.proofs.Common.{◌≡◌, ◌+◌, ◌-◌, [], None, arith, rules, subst}
 use Rattle.execution.specs.Held.{Leads, lines_of}
 use Rattle.execution.proofs.Leading.{leads_on}
 use Rattle.execution.proofs.execution_of.Execution.advance.Goals as goal
@@ -28,4 +28,9 @@ loop-left-preserved g c =
           (leads_on (c.args.limit - left) (left - next) c.args.self.now c.loop-left.self c.advance_task-advance.new.self [] led
           (subst (λ l. Leads (left - next) c.loop-left.self c.advance_task-advance.new.self (lines_of c.loop-left.self.image l)) none c.advance_task-advance.ensures.leads)),
       omega (arith, low, fewer),
+      omega (arith, low, fewer, c.loop-left.invariant.2, c.advance_task-advance.ensures.count),
     )
+
+pub returns-then-is_some-clause-count : goal.returns-then-is_some-clause-count
+returns-then-is_some-clause-count g c =
+    omega (arith, c.loop-left.invariant.1, c.loop-left.invariant.2, c.advance_task-advance.ensures.left, c.advance_task-advance.ensures.count)

@@ -1,4 +1,4 @@
-use Rattle.std.proofs.Common.{◌≡◌, ◌-◌, [], Some, None, sym, ap, subst, ◌∙◌}
+use Rattle.std.proofs.Common.{◌-◌, [], sym, ap, subst, ◌∙◌}
 use Rattle.image.specs.Rules.{IsWellFormed}
 use Rattle.kernel.specs.Calm.{IsRunner}
 use Rattle.tasking.specs.Held.{kernel_of}

@@ -1,10 +1,9 @@
-use Rattle.std.proofs.Common.{◌≡◌, ◌<◌, get_or, length, refl, sym, ap, ◌∙◌, subst}
+use Rattle.std.proofs.Common.{◌≡◌, get_or, sym, ap, ◌∙◌, subst}
 use Rattle.std.specs.Prelude.{slice_set}
 use Rattle.image.specs.Code.{initial_state}
-use Rattle.image.specs.Steps.{is_open}
 use Rattle.image_laws.specs.Shape.{IsSound}
 use Rattle.image_laws.specs.Whole.{IsWhole}
-use Rattle.kernel.specs.Calm.{Calm, IsRunner}
+use Rattle.kernel.specs.Calm.{IsRunner}
 use Rattle.task_steps.specs.Acting.{ComesToAct, solo_in}
 use Rattle.tasking.specs.Held.{kernel_of}
 use Rattle.execution.specs.Held.{task_at, world_of}
@@ -29,7 +28,7 @@ returns-clause-went g c =
     let there : c.in-Some.state.now ≡ task_at program c.self.inside.tasks.items task = c.in-Some.ensures.item.3.1 (initial_state program task) ∙ ap (λ n. get_or c.self.inside.tasks.items n (initial_state program task)) c.from.ensures in
     let later : c.go.new.state ≡ task_at program (slice_set c.self.inside.tasks.items c.from.result c.go.new.state) task =
     sym (task_there program c.self.inside.tasks.items c.from.result c.go.new.state c.in-Some.ensures.item.3.0 task (sym c.from.ensures)) in
-    let went = c.go.ensures calm in
+    let went = c.go.ensures.went calm in
     subst
     (λ h. ComesToAct h.image h.schedule (kernel_of h.tasking) task c.args.limit c.go.result.left (solo_in h.image h.memory (task_at h.image h.tasks task)) c.go.result.act c.go.new.memory (task_at program (slice_set c.self.inside.tasks.items c.from.result c.go.new.state) task))
     c.self.view_is

@@ -1,4 +1,4 @@
-use Rattle.std.proofs.Common.{◌≡◌, map, sym, subst, ap, ◌∙◌}
+use Rattle.std.proofs.Common.{◌≡◌, map, ap, ◌∙◌}
 use Rattle.processor.specs.Decoding.{words_in}
 use Rattle.execution.specs.Held.{body_state, task_at}
 use Rattle.execution.proofs.Starting.{tasks_begun}

@@ -1,7 +1,7 @@
 use Rattle.std.proofs.Common.{◌≡◌, ◌++◌, ◌-◌, [], Some, get_or, pos, replicate, rules, sym, ap, ◌∙◌}
 use Rattle.std.specs.Prelude.{slice_get, slice_set}
 use Rattle.image.specs.Code.{initial_state}
-use Rattle.image.specs.Frames.{Serving, arguments}
+use Rattle.image.specs.Frames.{Serving}
 use Rattle.image.specs.Operations.{called, entry_of}
 use Rattle.image.specs.Sections.{first_place}
 use Rattle.execution.specs.Held.{HeldWorld, task_at}

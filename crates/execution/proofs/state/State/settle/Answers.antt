@@ -1,4 +1,4 @@
-use Rattle.std.proofs.Common.{◌≡◌, [], of_z, rules, to_z, w64, sym, ap, refl, subst, ◌∙◌}
+use Rattle.std.proofs.Common.{◌≡◌, [], of_z, rules, to_z, w64, sym, ap, subst, ◌∙◌}
 use Rattle.kernel.specs.Effects.{Breaks, after}
 use Rattle.kernel.specs.Worlds.{ending}
 use Rattle.task_steps.specs.Acting.{effect_of}

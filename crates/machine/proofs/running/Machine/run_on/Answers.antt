@@ -11,6 +11,7 @@ loop-left-init g c =
       subst (λ n. Ran c.args.self.now.image c.args.self.now.schedule n c.args.self.now (g.S.Sink.bytes c.args.sink.now) (g.S.Sink.bytes c.args.sink.now) (g.S.Sink.failures c.args.sink.now) (g.S.Sink.failures c.args.sink.now)) none
           (ran_nothing c.left_unmoved.ensures c.args.self.now (g.S.Sink.bytes c.args.sink.now) (g.S.Sink.failures c.args.sink.now) c.requires.stands),
       omega arith,
+      omega arith,
     )
 
 pub loop-left-preserved : goal.loop-left-preserved
@@ -26,6 +27,7 @@ loop-left-preserved g c =
       subst (λ n. Ran c.args.self.now.image c.args.self.now.schedule n c.advance-advance.new.self (g.S.Sink.bytes c.args.sink.now) (g.S.Sink.bytes c.write_all.new.sink) (g.S.Sink.failures c.args.sink.now) (g.S.Sink.failures c.write_all.new.sink)) sum
           (ran_line _ _ _ _ _ _ _ _ _ c.loop-left.invariant.0 (left - next) c.in-Some.line told _ (c.as_slice.ensures.value ∙ c.text_of-text.ensures) _ _ c.in-Ok.ensures.whole c.in-Ok.ensures.kept),
       omega (arith, low, fewer),
+      omega (arith, low, fewer, c.loop-left.invariant.2, c.advance-advance.ensures.count),
     )
 
 pub returns-in-Err-clause-beginning : goal.returns-in-Err-clause-beginning
@@ -81,3 +83,14 @@ returns-in-None-clause-ends g c =
     (λ (o : (e : kernel.Outcome) × ((kernel_of c.advance-advance.new.self.tasking).outcome ≡ Some e)). inr o)
     (c.advance-advance.ensures.stops none) in
     (ran_over c.outcome_stays.ensures _ _ _ c.args.limit _ _ _ _ _ ran within why _ c.outcome_or_limit.ensures).ends
+
+pub returns-in-Err-clause-count : goal.returns-in-Err-clause-count
+returns-in-Err-clause-count g c =
+    omega (arith, c.loop-left.invariant.1, c.loop-left.invariant.2, c.advance-advance.ensures.left, c.advance-advance.ensures.count)
+
+pub returns-in-None-clause-count : goal.returns-in-None-clause-count
+returns-in-None-clause-count g c =
+    omega (arith, c.loop-left.invariant.1, c.loop-left.invariant.2, c.advance-advance.ensures.left, c.advance-advance.ensures.count)
+
+pub returns-clause-count : goal.returns-clause-count
+returns-clause-count g c = omega (arith, c.loop-left.invariant.1, c.loop-left.invariant.2)

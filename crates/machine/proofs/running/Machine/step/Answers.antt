@@ -3,7 +3,7 @@ use Rattle.kernel.specs.Text.{line_text as text_line}
 use Rattle.image.specs.Texts.{names_of}
 use Rattle.tasking.specs.Held.{kernel_of}
 use Rattle.execution.specs.Held.{Leads, line_of}
-use Rattle.machine.proofs.Steps.{step_done, step_line, step_over, step_quiet}
+use Rattle.machine.proofs.Stepping.{step_done, step_line, step_over, step_quiet}
 use Rattle.machine.proofs.running.Machine.step.Goals as goal
 
 pub returns-in-Some-clause-world : goal.returns-in-Some-clause-world
