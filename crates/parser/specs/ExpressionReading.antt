@@ -175,6 +175,10 @@ folded step b (x ∷ xs) = folded step (step b x) xs
 abbrev pub joined : ExprTree → BinaryOperator × ExprTree → ExprTree
 joined e x = Binary x.0 e x.1
 
+-- operators of the table with their right operands, behind this operand and grouped to the left
+abbrev pub chained : (TokenKind → Option BinaryOperator) → Reader ExprTree → ExprTree → Reader ExprTree
+chained f b left = mapped (folded joined left) (many (begins f) (seq (operator_of f) b))
+
 -- an operand, and operators of the table with their right operands, grouped to the left
 abbrev pub chain_of : Reader ExprTree → (TokenKind → Option BinaryOperator) → Reader ExprTree → Reader ExprTree
 chain_of a f b = mapped (λ x. folded joined x.0 x.1) (seq a (many (begins f) (seq (operator_of f) b)))

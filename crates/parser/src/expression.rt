@@ -1,9 +1,9 @@
 //! Reading expressions.
-ghost use Rattle.std.specs.Prelude.{◌≡◌, map};
-ghost use Rattle.ada_tree.specs.ExpressionTree.{Unary, expr_tree, name_tree, selector_tree, argument_tree, elsif_value_tree};
+ghost use Rattle.std.specs.Prelude.{◌≡◌, map, false, Ok, if◌then◌else◌};
+ghost use Rattle.ada_tree.specs.ExpressionTree.{Unary, Binary, expr_tree, name_tree, selector_tree, argument_tree, elsif_value_tree};
 ghost use Rattle.lexer.specs.declared.word.Word.TheVariants as words;
 ghost use Rattle.lexer.specs.declared.delimiter.Delimiter.TheVariants as marks;
-ghost use Rattle.parser.specs.Reading.{Gives, first, is_next, opened, seq, mapped, skip_mark};
+ghost use Rattle.parser.specs.Reading.{Gives, first, is_next, opened, seq, mapped, nothing, refuse, closed, skip_mark};
 ghost use Rattle.parser.specs.ExpressionReading as reading;
 
 use crate::parser::Parser;
@@ -252,6 +252,17 @@ impl<'a> Parser<'a> {
 
 // Primaries.
 impl<'a> Parser<'a> {
+    /// What was read, unless a token follows that may not.
+    #[inline(never)]
+    fn ended(&self, all: Expr, follows: bool) -> Result<Expr, Refusal>
+        ensures { Gives expr_tree result self.now.rest.now (if follows then refuse false self.now.rest.now else Ok (expr_tree all, self.now.rest.now)) }
+    {
+        if follows {
+            return Err(self.refusal(false));
+        }
+        Ok(all)
+    }
+
     #[cycle(expression)]
     fn elsif_value(&mut self, levels: u8) -> Result<ElsifValue, Refusal>
         ensures { Gives elsif_value_tree result self.new.rest.now (reading.elsif_value_in (reading.values_at levels) self.old.rest.now) }
@@ -311,6 +322,7 @@ impl<'a> Parser<'a> {
     }
 
     #[cycle(expression)]
+    #[inline(never)]
     fn parenthesis(&mut self, levels: u8) -> Result<Expr, Refusal>
         ensures { Gives expr_tree result self.new.rest.now (opened (reading.values levels) reading.parenthesis_in self.old.rest.now) }
     {
@@ -319,6 +331,14 @@ impl<'a> Parser<'a> {
         let all = self.enclosed(inside, place)?;
         self.mark(Delimiter::RightParenthesis)?;
         Ok(all)
+    }
+
+    #[cycle(expression)]
+    #[inline(never)]
+    fn named_primary(&mut self, levels: u8) -> Result<Expr, Refusal>
+        ensures { Gives expr_tree result self.new.rest.now (reading.named_in (reading.values levels) self.old.rest.now) }
+    {
+        Ok(Expr::of_name(self.name(levels)?))
     }
 
     #[cycle(expression)]
@@ -344,7 +364,7 @@ impl<'a> Parser<'a> {
                 self.rest = rest;
                 Ok(Expr::Number(*value, *start))
             }
-            _ => Ok(Expr::of_name(self.name(levels)?)),
+            _ => self.named_primary(levels),
         }
     }
 
@@ -353,16 +373,22 @@ impl<'a> Parser<'a> {
     fn primary(&mut self, levels: u8) -> Result<Expr, Refusal>
         ensures { Gives expr_tree result self.new.rest.now (reading.primary_in (reading.values levels) self.old.rest.now) }
     {
-        let primary = self.open_primary(levels)?;
-        if self.at_selector() {
-            return Err(self.refusal(false));
+        match self.open_primary(levels) {
+            Ok(primary) => self.ended(primary, self.at_selector()),
+            Err(refusal) => Err(refusal),
         }
-        Ok(primary)
     }
 }
 
 // Operations. What stands behind an operator is read by methods of its own, so that the frames that are open at each level stay small.
 impl<'a> Parser<'a> {
+    #[inline(never)]
+    fn binary(&self, operator: BinaryOperator, left: Expr, right: Expr) -> Result<Expr, Refusal>
+        ensures { Gives expr_tree result self.now.rest.now (nothing (Binary operator (expr_tree left) (expr_tree right)) self.now.rest.now) }
+    {
+        Ok(Expr::binary(self.alloc, operator, left, right)?)
+    }
+
     #[cycle(expression)]
     #[inline(never)]
     fn modified(&mut self, levels: u8, operator: UnaryOperator, place: u32) -> Result<Expr, Refusal>
@@ -386,17 +412,29 @@ impl<'a> Parser<'a> {
         }
     }
 
+    /// What follows the first factor of a term.
+    #[cycle(expression)]
+    #[inline(never)]
+    fn product(&mut self, levels: u8, first: Expr) -> Result<Expr, Refusal>
+        ensures { Gives expr_tree result self.new.rest.now (reading.chained reading.multiplying (reading.factor_in (reading.values levels)) (expr_tree first) self.old.rest.now) }
+    {
+        let mut left = first;
+        while let Some(operator) = self.multiplying() {
+            self.pass();
+            let right = self.factor(levels)?;
+            left = self.binary(operator, left, right)?;
+        }
+        Ok(left)
+    }
+
     #[cycle(expression)]
     fn term(&mut self, levels: u8) -> Result<Expr, Refusal>
         ensures { Gives expr_tree result self.new.rest.now (reading.term_in (reading.values levels) self.old.rest.now) }
     {
-        let mut left = self.factor(levels)?;
-        while let Some(operator) = self.multiplying() {
-            self.pass();
-            let right = self.factor(levels)?;
-            left = Expr::binary(self.alloc, operator, left, right)?;
+        match self.factor(levels) {
+            Ok(first) => self.product(levels, first),
+            Err(refusal) => Err(refusal),
         }
-        Ok(left)
     }
 
     #[cycle(expression)]
@@ -421,18 +459,30 @@ impl<'a> Parser<'a> {
         }
     }
 
+    /// What follows the first term of a sum.
+    #[cycle(expression)]
+    #[inline(never)]
+    fn sum(&mut self, levels: u8, first: Expr) -> Result<Expr, Refusal>
+        ensures { Gives expr_tree result self.new.rest.now (reading.chained reading.adding (reading.term_in (reading.values levels)) (expr_tree first) self.old.rest.now) }
+    {
+        let mut left = first;
+        while let Some(operator) = self.adding() {
+            self.pass();
+            let right = self.term(levels)?;
+            left = self.binary(operator, left, right)?;
+        }
+        Ok(left)
+    }
+
     /// A sum: an expression without relations and logical operators, with at most so many more levels.
     #[cycle(expression)]
     pub(crate) fn simple(&mut self, levels: u8) -> Result<Expr, Refusal>
         ensures { Gives expr_tree result self.new.rest.now (reading.simple_at levels self.old.rest.now) }
     {
-        let mut left = self.signed(levels)?;
-        while let Some(operator) = self.adding() {
-            self.pass();
-            let right = self.term(levels)?;
-            left = Expr::binary(self.alloc, operator, left, right)?;
+        match self.signed(levels) {
+            Ok(first) => self.sum(levels, first),
+            Err(refusal) => Err(refusal),
         }
-        Ok(left)
     }
 
     #[cycle(expression)]
@@ -444,10 +494,20 @@ impl<'a> Parser<'a> {
             Some(operator) => {
                 self.pass();
                 let right = self.simple(levels)?;
-                Ok(Expr::binary(self.alloc, operator, left, right)?)
+                self.binary(operator, left, right)
             }
             None => Ok(left),
         }
+    }
+
+    /// What follows the first sum of a relation.
+    #[cycle(expression)]
+    #[inline(never)]
+    fn related(&mut self, levels: u8, left: Expr) -> Result<Expr, Refusal>
+        ensures { Gives expr_tree result self.new.rest.now (closed (reading.begins reading.relational) (reading.compared_in (reading.values levels) (expr_tree left)) self.old.rest.now) }
+    {
+        let relation = self.compared(levels, left)?;
+        self.ended(relation, self.at_relational())
     }
 
     #[cycle(expression)]
@@ -455,12 +515,10 @@ impl<'a> Parser<'a> {
     fn relation(&mut self, levels: u8) -> Result<Expr, Refusal>
         ensures { Gives expr_tree result self.new.rest.now (reading.relation_in (reading.values levels) self.old.rest.now) }
     {
-        let left = self.simple(levels)?;
-        let relation = self.compared(levels, left)?;
-        if self.at_relational() {
-            return Err(self.refusal(false));
+        match self.simple(levels) {
+            Ok(left) => self.related(levels, left),
+            Err(refusal) => Err(refusal),
         }
-        Ok(relation)
     }
 
     #[inline(never)]
@@ -535,17 +593,25 @@ impl<'a> Parser<'a> {
         self.chain(levels, left, operator)
     }
 
+    /// What follows the first relation of an expression.
+    #[cycle(expression)]
+    #[inline(never)]
+    fn completed(&mut self, levels: u8, left: Expr) -> Result<Expr, Refusal>
+        ensures { Gives expr_tree result self.new.rest.now (closed reading.begins_logical (reading.logical_in (reading.values levels) (expr_tree left)) self.old.rest.now) }
+    {
+        let all = self.combined(levels, left)?;
+        self.ended(all, self.at_logical())
+    }
+
     /// An expression, with at most so many more levels.
     #[cycle(expression)]
     #[tactic(auto, unfolding(crate::specs::ExpressionReading::expression_in))]
     pub(crate) fn expression(&mut self, levels: u8) -> Result<Expr, Refusal>
         ensures { Gives expr_tree result self.new.rest.now (reading.expression_at levels self.old.rest.now) }
     {
-        let left = self.relation(levels)?;
-        let all = self.combined(levels, left)?;
-        if self.at_logical() {
-            return Err(self.refusal(false));
+        match self.relation(levels) {
+            Ok(left) => self.completed(levels, left),
+            Err(refusal) => Err(refusal),
         }
-        Ok(all)
     }
 }

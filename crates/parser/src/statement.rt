@@ -16,6 +16,7 @@ use lexer::{Delimiter, Token, TokenKind, Word};
 
 // Statements without statements in them.
 impl<'a> Parser<'a> {
+    #[inline(never)]
     fn null(&mut self) -> Result<Stmt, Refusal>
         ensures { Gives stmt_tree result self.new.rest.now (reading.null_at self.old.rest.now) }
     {
@@ -25,6 +26,7 @@ impl<'a> Parser<'a> {
     }
 
     /// An assignment or a call.
+    #[inline(never)]
     fn named(&mut self, levels: u8) -> Result<Stmt, Refusal>
         ensures { Gives stmt_tree result self.new.rest.now (reading.named_at levels self.old.rest.now) }
     {
@@ -48,6 +50,7 @@ impl<'a> Parser<'a> {
         Ok(Some(condition))
     }
 
+    #[inline(never)]
     fn exit(&mut self, levels: u8) -> Result<Stmt, Refusal>
         ensures { Gives stmt_tree result self.new.rest.now (reading.exit_at levels self.old.rest.now) }
     {
@@ -67,6 +70,7 @@ impl<'a> Parser<'a> {
         Ok(Some(value))
     }
 
+    #[inline(never)]
     fn return_(&mut self, levels: u8) -> Result<Stmt, Refusal>
         ensures { Gives stmt_tree result self.new.rest.now (reading.return_at levels self.old.rest.now) }
     {
@@ -86,6 +90,7 @@ impl<'a> Parser<'a> {
         Ok(Some(name))
     }
 
+    #[inline(never)]
     fn raise(&mut self) -> Result<Stmt, Refusal>
         ensures { Gives stmt_tree result self.new.rest.now (reading.raise_at self.old.rest.now) }
     {
@@ -95,6 +100,7 @@ impl<'a> Parser<'a> {
         Ok(Stmt::Raise(place, name))
     }
 
+    #[inline(never)]
     fn delay(&mut self, levels: u8) -> Result<Stmt, Refusal>
         ensures { Gives stmt_tree result self.new.rest.now (reading.delay_at levels self.old.rest.now) }
     {
@@ -110,6 +116,7 @@ impl<'a> Parser<'a> {
         Ok(Stmt::Delay(place, duration))
     }
 
+    #[inline(never)]
     fn abort(&mut self) -> Result<Stmt, Refusal>
         ensures { Gives stmt_tree result self.new.rest.now (reading.abort_at self.old.rest.now) }
     {
@@ -131,6 +138,7 @@ impl<'a> Parser<'a> {
         Ok(Some(name))
     }
 
+    #[inline(never)]
     fn requeue(&mut self) -> Result<Stmt, Refusal>
         ensures { Gives stmt_tree result self.new.rest.now (reading.requeue_at self.old.rest.now) }
     {
@@ -141,6 +149,7 @@ impl<'a> Parser<'a> {
         Ok(Stmt::Requeue(place, first, second))
     }
 
+    #[inline(never)]
     fn accept(&mut self) -> Result<Stmt, Refusal>
         ensures { Gives stmt_tree result self.new.rest.now (reading.accept_at self.old.rest.now) }
     {
@@ -178,6 +187,7 @@ impl<'a> Parser<'a> {
         self.any()
     }
 
+    #[inline(never)]
     fn select(&mut self) -> Result<Stmt, Refusal>
         ensures { Gives stmt_tree result self.new.rest.now (reading.select_at self.old.rest.now) }
     {
@@ -216,6 +226,7 @@ impl<'a> Parser<'a> {
     }
 
     /// What stands before the statements of a loop, and its place.
+    #[inline(never)]
     fn iteration(&mut self, levels: u8) -> Result<(u32, Iteration), Refusal>
         ensures { Gives (λ x. (x.0, iteration_tree x.1)) result self.new.rest.now (reading.iteration_at levels self.old.rest.now) }
     {
@@ -418,6 +429,7 @@ impl<'a> Parser<'a> {
     }
 
     #[cycle(statement)]
+    #[inline(never)]
     fn loop_statement(&mut self, levels: u8) -> Result<Stmt, Refusal>
         ensures { Gives stmt_tree result self.new.rest.now (opened (readers levels) reading.loop_at self.old.rest.now) }
     {

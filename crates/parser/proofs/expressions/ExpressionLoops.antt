@@ -8,7 +8,9 @@ use Rattle.ada_tree.specs.declared.expression.BinaryOperator.{BinaryOperator}
 use Rattle.ada_tree.specs.ExpressionTree.{ExprTree, SelectorTree, ArgumentTree}
 use Rattle.ada_tree.specs.Language.{Tokens}
 use Rattle.ada_tree.specs.ExpressionGrammar.{Relation, derives}
-use Rattle.parser.specs.Reading.{Reader, first, behind, is_mark, is_word, is_there, taken, mark_of, seq}
+use Rattle.parser.specs.declared.refusal.Refusal.{Refusal}
+use Rattle.parser.specs.declared.refusal.Refusal.TheVariants as refusals
+use Rattle.parser.specs.Reading.{Fails, Reader, first, behind, is_mark, is_word, is_there, taken, mark_of, seq}
 use Rattle.parser.specs.ExpressionReading.{next_of, begins, operator_of, values, values_at, argument_in, selector_in, begins_selector, elsif_value_in}
 use Rattle.parser.specs.ExpressionReading.{relation_in, repeated}
 use Rattle.parser.proofs.general.Exact.{Free}
@@ -50,6 +52,14 @@ pub operator_read : (f : TokenKind → Option BinaryOperator) (a : Reader ExprTr
     → seq (operator_of f) a ts ≡ Ok ((o, t), after)
 operator_read f a [] o next after t is rest h = absurd cc
 operator_read f a (x ∷ ts) o next after t is rest h =
+    let e : operator_of f (x ∷ ts) ≡ Ok (o, ts) = ap (λ (m : Option BinaryOperator). taken m x ts) (sym is) in
+    rw e (rw (ap a (sym rest) ∙ h) refl)
+
+pub operator_fails : (f : TokenKind → Option BinaryOperator) (a : Reader ExprTree) (ts : Tokens) (o : BinaryOperator) (next : Tokens) (e : Refusal)
+    → Some o ≡ next_of f (first ts) → next ≡ behind ts → Fails e (a next) → Fails e (seq (operator_of f) a ts)
+operator_fails f a ts o next refusals.Memory is rest h = tt
+operator_fails f a [] o next (refusals.Broken d) is rest h = absurd cc
+operator_fails f a (x ∷ ts) o next (refusals.Broken d) is rest h =
     let e : operator_of f (x ∷ ts) ≡ Ok (o, ts) = ap (λ (m : Option BinaryOperator). taken m x ts) (sym is) in
     rw e (rw (ap a (sym rest) ∙ h) refl)
 

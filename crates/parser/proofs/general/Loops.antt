@@ -9,8 +9,10 @@ use Rattle.lexer.specs.declared.token.TokenKind.{TokenKind}
 use Rattle.ada_tree.specs.Language.{Tokens}
 use Rattle.parser.specs.declared.refusal.Broken.{Broken}
 use Rattle.parser.specs.declared.refusal.Refusal.{Refusal}
-use Rattle.parser.specs.Reading.{Read, Reader, ◌>>=◌, first, seq, mapped, many_at, many, Fails, Gives, skipped, token_of}
-use Rattle.parser.specs.ExpressionReading.{folded}
+use Rattle.parser.specs.Reading.{Read, Reader, ◌>>=◌, first, seq, mapped, many_at, many, Fails, Gives, skipped, token_of, nothing}
+use Rattle.parser.specs.ExpressionReading.{folded, joined, chained, chain_of, begins, operator_of}
+use Rattle.ada_tree.specs.declared.expression.BinaryOperator.{BinaryOperator}
+use Rattle.ada_tree.specs.ExpressionTree.{ExprTree}
 use Rattle.parser.proofs.general.Exact.{Exact, not_both}
 
 -- the last of a list
@@ -114,6 +116,14 @@ pub next_read : {A : Type 0} (k : TokenKind) (a : Reader A) (ts middle after : T
     → a middle ≡ Ok (x, after) → mapped (λ x. x.1) (seq (skipped k) a) ts ≡ Ok (x, after)
 next_read k a ts middle after place x h i = rw h (rw i refl)
 
+abbrev value_of : {A : Type 0} → A → Read A → A
+value_of other (Ok x) = x.0
+value_of other (Err d) = other
+
+-- what was made, told as what reading nothing gives
+pub made_is : {A : Type 0} (x y : A) (ts after : Tokens) → nothing x ts ≡ Ok (y, after) → y ≡ x
+made_is x y ts after h = sym (ap (value_of y) h)
+
 -- ---- how loops start
 
 abbrev both : {A B : Type 0} → B → List A × Tokens → Read (B × List A)
@@ -131,6 +141,11 @@ pub fold_starts : {A B : Type 0} (step : B → A → B) (p : Option Token → Bo
     → head ts ≡ Ok (b, after)
     → (n : ℕ) × (length after ≤ n) × (still step p a n b after ≡ mapped (λ x. folded step x.0 x.1) (seq head (many p a)) ts)
 fold_starts step p a head ts b after h = (length after, omega arith, both_whole step b (many_at p a (length after) after) ∙ sym (rw h refl))
+
+-- the first operand read, then what follows it
+pub chain_read : (f : TokenKind → Option BinaryOperator) (a b : Reader ExprTree) (ts : Tokens) (left : ExprTree) (middle : Tokens) → a ts ≡ Ok (left, middle)
+    → chain_of a f b ts ≡ chained f b left middle
+chain_read f a b ts left middle h = rw h (sym (both_whole joined left (many (begins f) (seq (operator_of f) b) middle)))
 
 abbrev as_read : {A : Type 0} → List A × Tokens → Read (List A)
 as_read x = Ok (x.0, x.1)

@@ -10,7 +10,7 @@ use Rattle.ada_tree.specs.Language.{Tokens, ◌⨾◌, token_at, identifier, eac
 use Rattle.parser.specs.declared.refusal.Broken.{Broken}
 use Rattle.parser.specs.Reading.{Read, Reader, ◌>>=◌, first, is_kind, is_next, is_first, just, token_of, skipped, named, identifier_of, seq, mapped, many_at}
 use Rattle.parser.specs.Reading.{many, several, separated_by, opened}
-use Rattle.parser.proofs.general.Exact.{Took, Refused, Exact, Free, Both, bind_ok, bind_err}
+use Rattle.parser.proofs.general.Exact.{Took, Exact, Free, Both, bind_ok, bind_err}
 use Rattle.parser.proofs.general.Exact.{chosen, ok_is, ok_not_err, not_both, first-append, regrouped, is_that_kind, entry, exact_entry, exact_seq, exact_mapped}
 use Rattle.parser.proofs.general.Exact.{exact_told, exact_refuse}
 

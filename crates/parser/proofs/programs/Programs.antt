@@ -11,7 +11,7 @@ use Rattle.ada_tree.specs.declared.program.UnitClause.{UnitClause}
 use Rattle.ada_tree.specs.declared.program.MainStatement.{MainStatement}
 use Rattle.ada_tree.specs.ProgramTree.{PackageTree, MainTree, ProgramTree}
 use Rattle.ada_tree.specs.Language.{Tokens, nothing, ◌⨾◌, word_at, mark, identifier, optional, each}
-use Rattle.ada_tree.specs.ProgramGrammar.{item, body, body_item, unit_name, unit_clause, package_declaration, package_body, package_part, main_statement, main}
+use Rattle.ada_tree.specs.ProgramGrammar.{item, body_item, unit_name, unit_clause, package_declaration, package_body, package_part, main_statement, main}
 use Rattle.ada_tree.specs.ProgramGrammar.{pragma_clause, program}
 use Rattle.parser.specs.declared.refusal.Broken.{Broken}
 use Rattle.parser.specs.Reading.{first, is_word, refuse}

@@ -1,19 +1,19 @@
-use Rattle.std.proofs.Common.{rules, map, Some, sym, refl, ap, ◌∙◌}
+use Rattle.std.proofs.Common.{arith, length, map, Some, sym, refl, ap, subst, ◌∙◌}
 use Rattle.lexer.specs.declared.delimiter.Delimiter.TheVariants as marks
 use Rattle.lexer.specs.declared.word.Word.TheVariants as words
 use Rattle.lexer.specs.declared.token.TokenKind.TheVariants as kinds
 use Rattle.ada_tree.specs.ExpressionTree.{expr_tree, selector_tree, argument_tree, elsif_value_tree}
 use Rattle.ada_tree.specs.ExpressionGrammar.{Factor, Term, derives}
-use Rattle.parser.specs.Reading.{first, is_mark, is_word, seq, mapped, skip_mark}
+use Rattle.parser.specs.Reading.{Gives, many, first, is_mark, is_word, seq, mapped, skip_mark}
 use Rattle.parser.specs.ExpressionReading as reading
 use Rattle.parser.specs.ExpressionReading.{term_in, simple_in}
 use Rattle.parser.proofs.general.Several.{Ends}
 use Rattle.parser.proofs.expressions.Expressions.{continues_term}
 use Rattle.parser.proofs.expressions.Operations.{exact_factor, exact_term}
 use Rattle.parser.proofs.expressions.Levelled.{below}
-use Rattle.parser.proofs.general.Loops.{pushed, goes, ends, gives_up, handed_on, fold_starts, many_starts, list_starts, map_none, map_one, map_pushed, next_read}
-use Rattle.parser.proofs.general.Loops.{both_read, first_fails, second_fails, no_longer}
-use Rattle.parser.proofs.expressions.ExpressionLoops.{argument_smaller, selector_smaller, elsif_smaller, operator_read, operator_begins, operator_smaller, logical_smaller}
+use Rattle.parser.proofs.general.Loops.{pushed, goes, ends, gives_up, handed_on, many_starts, list_starts, map_none, map_one, map_pushed, next_read}
+use Rattle.parser.proofs.general.Loops.{both_read, first_fails, second_fails, no_longer, chain_read, made_is}
+use Rattle.parser.proofs.expressions.ExpressionLoops.{argument_smaller, selector_smaller, elsif_smaller, operator_read, operator_fails, operator_begins, no_operator, operator_smaller, logical_smaller}
 use Rattle.parser.proofs.parser.Parser.+expression.Goals as goal
 
 pub argument_list-loop-self-init : goal.argument_list-loop-self-init
@@ -110,31 +110,24 @@ elsif_values-returns-in_err-next t c =
 
 -- ---- chains
 
-pub term-returns-in_err-left : goal.term-returns-in_err-left
-unfolding term_in
-term-returns-in_err-left t c = search rules
+pub product-loop-operator-init : goal.product-loop-operator-init
+product-loop-operator-init t c = (length c.args.self.now.rest.now, omega arith, refl)
 
-pub term-loop-operator-init : goal.term-loop-operator-init
-unfolding term_in
-term-loop-operator-init t c =
-    fold_starts reading.joined (reading.begins reading.multiplying)
-    (seq (reading.operator_of reading.multiplying) (reading.factor_in (reading.values c.args.levels))) (reading.factor_in (reading.values c.args.levels))
-    c.args.self.now.rest.now _ _ c.in_ok-left.ensures
-
-pub term-loop-operator-smaller : goal.term-loop-operator-smaller
-term-loop-operator-smaller t c =
+pub product-loop-operator-smaller : goal.product-loop-operator-smaller
+product-loop-operator-smaller t c =
     let k = c.args.levels in
     operator_smaller reading.multiplying c.loop-operator.self.rest.now c.in-Some.operator c.pass.new.self.rest.now _ c.in-Some.ensures c.pass.ensures
     (no_longer (reading.factor_in (reading.values k)) (derives Factor (Some k)) (λ _. Ends reading.starts_selector) c.pass.new.self.rest.now _ _
     (exact_factor k (reading.values k) (below k)) c.in_ok-right.ensures)
 
-pub term-loop-operator-preserved : goal.term-loop-operator-preserved
-term-loop-operator-preserved t c =
+pub product-loop-operator-preserved : goal.product-loop-operator-preserved
+product-loop-operator-preserved t c =
     let k = c.args.levels in
     let a = reading.factor_in (reading.values k) in
+    let total = reading.chained reading.multiplying a (expr_tree c.args.first) c.args.self.now.rest.now in
     goes reading.joined (reading.begins reading.multiplying) refl (seq (reading.operator_of reading.multiplying) a) c.loop-operator.invariant.0
-    c.loop-operator.self.rest.now (expr_tree c.loop-operator.left) (c.in-Some.operator, expr_tree c.in_ok-right.right) _
-    (reading.term_in (reading.values k) c.args.self.now.rest.now) _ c.in_ok-left-2.ensures
+    c.loop-operator.self.rest.now (expr_tree c.loop-operator.left) (c.in-Some.operator, expr_tree c.in_ok-right.right) _ total _
+    (made_is _ _ _ _ c.in_ok-left.ensures)
     (operator_begins reading.multiplying c.loop-operator.self.rest.now c.in-Some.operator c.in-Some.ensures)
     (operator_read reading.multiplying a c.loop-operator.self.rest.now c.in-Some.operator c.pass.new.self.rest.now _ _ c.in-Some.ensures c.pass.ensures
     c.in_ok-right.ensures)
@@ -143,31 +136,46 @@ term-loop-operator-preserved t c =
     c.in_ok-right.ensures))
     c.loop-operator.invariant.1 c.loop-operator.invariant.2
 
-pub simple-returns-in_err-left : goal.simple-returns-in_err-left
-unfolding simple_in
-simple-returns-in_err-left t c = search rules
+pub product-returns : goal.product-returns
+product-returns t c =
+    let k = c.args.levels in
+    let a = reading.factor_in (reading.values k) in
+    let total = reading.chained reading.multiplying a (expr_tree c.args.first) c.args.self.now.rest.now in
+    ends reading.joined (reading.begins reading.multiplying) refl (seq (reading.operator_of reading.multiplying) a) c.loop-operator.invariant.0
+    c.loop-operator.self.rest.now (expr_tree c.loop-operator.left) total
+    (no_operator reading.multiplying c.loop-operator.self.rest.now (sym c.in_default.is ∙ c.multiplying.ensures)) c.loop-operator.invariant.2
 
-pub simple-loop-operator-init : goal.simple-loop-operator-init
-unfolding simple_in
-simple-loop-operator-init t c =
-    let a = reading.term_in (reading.values c.args.levels) in
-    fold_starts reading.joined (reading.begins reading.adding) (seq (reading.operator_of reading.adding) a) (reading.prefixed reading.sign a)
-    c.args.self.now.rest.now _ _ c.in_ok-left.ensures
+pub product-returns-in_err-right : goal.product-returns-in_err-right
+product-returns-in_err-right t c =
+    let k = c.args.levels in
+    let a = reading.factor_in (reading.values k) in
+    let total = reading.chained reading.multiplying a (expr_tree c.args.first) c.args.self.now.rest.now in
+    handed_on expr_tree _ _ total _ c.from_residual.ensures.1
+    (gives_up reading.joined (reading.begins reading.multiplying) refl (seq (reading.operator_of reading.multiplying) a) c.loop-operator.invariant.0
+    c.loop-operator.self.rest.now (expr_tree c.loop-operator.left) _ total
+    (operator_begins reading.multiplying c.loop-operator.self.rest.now c.in-Some.operator c.in-Some.ensures)
+    (operator_fails reading.multiplying a c.loop-operator.self.rest.now c.in-Some.operator c.pass.new.self.rest.now _ c.in-Some.ensures c.pass.ensures
+    c.in_err-right.ensures)
+    c.loop-operator.invariant.1 c.loop-operator.invariant.2)
 
-pub simple-loop-operator-smaller : goal.simple-loop-operator-smaller
-simple-loop-operator-smaller t c =
+pub sum-loop-operator-init : goal.sum-loop-operator-init
+sum-loop-operator-init t c = (length c.args.self.now.rest.now, omega arith, refl)
+
+pub sum-loop-operator-smaller : goal.sum-loop-operator-smaller
+sum-loop-operator-smaller t c =
     let k = c.args.levels in
     operator_smaller reading.adding c.loop-operator.self.rest.now c.in-Some.operator c.pass.new.self.rest.now _ c.in-Some.ensures c.pass.ensures
     (no_longer (reading.term_in (reading.values k)) (derives Term (Some k)) (λ _. Ends continues_term) c.pass.new.self.rest.now _ _
     (exact_term k (reading.values k) (below k)) c.in_ok-right.ensures)
 
-pub simple-loop-operator-preserved : goal.simple-loop-operator-preserved
-simple-loop-operator-preserved t c =
+pub sum-loop-operator-preserved : goal.sum-loop-operator-preserved
+sum-loop-operator-preserved t c =
     let k = c.args.levels in
     let a = reading.term_in (reading.values k) in
+    let total = reading.chained reading.adding a (expr_tree c.args.first) c.args.self.now.rest.now in
     goes reading.joined (reading.begins reading.adding) refl (seq (reading.operator_of reading.adding) a) c.loop-operator.invariant.0
-    c.loop-operator.self.rest.now (expr_tree c.loop-operator.left) (c.in-Some.operator, expr_tree c.in_ok-right.right) _
-    (reading.simple_in (reading.values k) c.args.self.now.rest.now) _ c.in_ok-left-2.ensures
+    c.loop-operator.self.rest.now (expr_tree c.loop-operator.left) (c.in-Some.operator, expr_tree c.in_ok-right.right) _ total _
+    (made_is _ _ _ _ c.in_ok-left.ensures)
     (operator_begins reading.adding c.loop-operator.self.rest.now c.in-Some.operator c.in-Some.ensures)
     (operator_read reading.adding a c.loop-operator.self.rest.now c.in-Some.operator c.pass.new.self.rest.now _ _ c.in-Some.ensures c.pass.ensures
     c.in_ok-right.ensures)
@@ -175,6 +183,62 @@ simple-loop-operator-preserved t c =
     (no_longer a (derives Term (Some k)) (λ _. Ends continues_term) c.pass.new.self.rest.now _ _ (exact_term k (reading.values k) (below k))
     c.in_ok-right.ensures))
     c.loop-operator.invariant.1 c.loop-operator.invariant.2
+
+pub sum-returns : goal.sum-returns
+sum-returns t c =
+    let k = c.args.levels in
+    let a = reading.term_in (reading.values k) in
+    let total = reading.chained reading.adding a (expr_tree c.args.first) c.args.self.now.rest.now in
+    ends reading.joined (reading.begins reading.adding) refl (seq (reading.operator_of reading.adding) a) c.loop-operator.invariant.0
+    c.loop-operator.self.rest.now (expr_tree c.loop-operator.left) total
+    (no_operator reading.adding c.loop-operator.self.rest.now (sym c.in_default.is ∙ c.adding.ensures)) c.loop-operator.invariant.2
+
+pub sum-returns-in_err-right : goal.sum-returns-in_err-right
+sum-returns-in_err-right t c =
+    let k = c.args.levels in
+    let a = reading.term_in (reading.values k) in
+    let total = reading.chained reading.adding a (expr_tree c.args.first) c.args.self.now.rest.now in
+    handed_on expr_tree _ _ total _ c.from_residual.ensures.1
+    (gives_up reading.joined (reading.begins reading.adding) refl (seq (reading.operator_of reading.adding) a) c.loop-operator.invariant.0
+    c.loop-operator.self.rest.now (expr_tree c.loop-operator.left) _ total
+    (operator_begins reading.adding c.loop-operator.self.rest.now c.in-Some.operator c.in-Some.ensures)
+    (operator_fails reading.adding a c.loop-operator.self.rest.now c.in-Some.operator c.pass.new.self.rest.now _ c.in-Some.ensures c.pass.ensures
+    c.in_err-right.ensures)
+    c.loop-operator.invariant.1 c.loop-operator.invariant.2)
+
+pub term-returns-in-Ok : goal.term-returns-in-Ok
+unfolding term_in
+term-returns-in-Ok t c =
+    let k = c.args.levels in
+    subst (λ z. Gives expr_tree c.product.result c.product.new.self.rest.now z)
+    (sym (chain_read reading.multiplying (reading.factor_in (reading.values k)) (reading.factor_in (reading.values k)) c.args.self.now.rest.now (expr_tree c.in-Ok.first)
+    c.factor.new.self.rest.now c.in-Ok.ensures))
+    c.product.ensures
+
+pub term-returns-in-Err : goal.term-returns-in-Err
+unfolding term_in
+term-returns-in-Err t c =
+    let k = c.args.levels in
+    let a = reading.factor_in (reading.values k) in
+    first_fails (λ x. reading.folded reading.joined x.0 x.1) (reading.factor_in (reading.values k))
+    (many (reading.begins reading.multiplying) (seq (reading.operator_of reading.multiplying) a)) c.args.self.now.rest.now c.in-Err.refusal c.in-Err.ensures
+
+pub simple-returns-in-Ok : goal.simple-returns-in-Ok
+unfolding simple_in
+simple-returns-in-Ok t c =
+    let k = c.args.levels in
+    subst (λ z. Gives expr_tree c.sum.result c.sum.new.self.rest.now z)
+    (sym (chain_read reading.adding (reading.prefixed reading.sign (reading.term_in (reading.values k))) (reading.term_in (reading.values k)) c.args.self.now.rest.now (expr_tree c.in-Ok.first)
+    c.signed.new.self.rest.now c.in-Ok.ensures))
+    c.sum.ensures
+
+pub simple-returns-in-Err : goal.simple-returns-in-Err
+unfolding simple_in
+simple-returns-in-Err t c =
+    let k = c.args.levels in
+    let a = reading.term_in (reading.values k) in
+    first_fails (λ x. reading.folded reading.joined x.0 x.1) (reading.prefixed reading.sign (reading.term_in (reading.values k)))
+    (many (reading.begins reading.adding) (seq (reading.operator_of reading.adding) a)) c.args.self.now.rest.now c.in-Err.refusal c.in-Err.ensures
 
 pub chain-loop-operator-smaller : goal.chain-loop-operator-smaller
 chain-loop-operator-smaller t c =

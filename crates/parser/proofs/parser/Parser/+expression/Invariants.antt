@@ -8,76 +8,91 @@ use Rattle.parser.proofs.general.Loops.{still, pushed}
 use Rattle.parser.proofs.parser.Parser.+expression.Given as goal
 
 abbrev pub decreases-arguments : goal.decreases-arguments
-decreases-arguments l = 24 * l.levels + 0
+decreases-arguments l = 29 * l.levels + 0
 
 abbrev pub decreases-selector : goal.decreases-selector
-decreases-selector l = 24 * l.levels + 1
+decreases-selector l = 29 * l.levels + 1
 
 abbrev pub decreases-selectors : goal.decreases-selectors
-decreases-selectors l = 24 * l.levels + 2
+decreases-selectors l = 29 * l.levels + 2
 
 abbrev pub decreases-name : goal.decreases-name
-decreases-name l = 24 * l.levels + 3
+decreases-name l = 29 * l.levels + 3
+
+abbrev pub decreases-named_primary : goal.decreases-named_primary
+decreases-named_primary l = 29 * l.levels + 4
 
 abbrev pub decreases-conditional : goal.decreases-conditional
-decreases-conditional l = 24 * l.levels + 4
+decreases-conditional l = 29 * l.levels + 5
 
 abbrev pub decreases-parenthesis : goal.decreases-parenthesis
-decreases-parenthesis l = 24 * l.levels + 5
+decreases-parenthesis l = 29 * l.levels + 6
 
 abbrev pub decreases-open_primary : goal.decreases-open_primary
-decreases-open_primary l = 24 * l.levels + 6
+decreases-open_primary l = 29 * l.levels + 7
 
 abbrev pub decreases-primary : goal.decreases-primary
-decreases-primary l = 24 * l.levels + 7
+decreases-primary l = 29 * l.levels + 8
 
 abbrev pub decreases-modified : goal.decreases-modified
-decreases-modified l = 24 * l.levels + 8
+decreases-modified l = 29 * l.levels + 9
 
 abbrev pub decreases-factor : goal.decreases-factor
-decreases-factor l = 24 * l.levels + 9
+decreases-factor l = 29 * l.levels + 10
+
+abbrev pub decreases-product : goal.decreases-product
+decreases-product l = 29 * l.levels + 11
 
 abbrev pub decreases-term : goal.decreases-term
-decreases-term l = 24 * l.levels + 10
+decreases-term l = 29 * l.levels + 12
 
 abbrev pub decreases-negated : goal.decreases-negated
-decreases-negated l = 24 * l.levels + 11
+decreases-negated l = 29 * l.levels + 13
 
 abbrev pub decreases-signed : goal.decreases-signed
-decreases-signed l = 24 * l.levels + 12
+decreases-signed l = 29 * l.levels + 14
+
+abbrev pub decreases-sum : goal.decreases-sum
+decreases-sum l = 29 * l.levels + 15
 
 abbrev pub decreases-simple : goal.decreases-simple
-decreases-simple l = 24 * l.levels + 13
+decreases-simple l = 29 * l.levels + 16
 
 abbrev pub decreases-compared : goal.decreases-compared
-decreases-compared l = 24 * l.levels + 14
+decreases-compared l = 29 * l.levels + 17
+
+abbrev pub decreases-related : goal.decreases-related
+decreases-related l = 29 * l.levels + 18
 
 abbrev pub decreases-relation : goal.decreases-relation
-decreases-relation l = 24 * l.levels + 15
+decreases-relation l = 29 * l.levels + 19
 
 abbrev pub decreases-chain : goal.decreases-chain
-decreases-chain l = 24 * l.levels + 16
+decreases-chain l = 29 * l.levels + 20
 
 abbrev pub decreases-combined : goal.decreases-combined
-decreases-combined l = 24 * l.levels + 17
+decreases-combined l = 29 * l.levels + 21
+
+abbrev pub decreases-completed : goal.decreases-completed
+decreases-completed l = 29 * l.levels + 22
 
 abbrev pub decreases-expression : goal.decreases-expression
-decreases-expression l = 24 * l.levels + 18
+decreases-expression l = 29 * l.levels + 23
 
 abbrev pub decreases-argument : goal.decreases-argument
-decreases-argument l = 24 * l.levels + 19
+decreases-argument l = 29 * l.levels + 24
 
 abbrev pub decreases-argument_list : goal.decreases-argument_list
-decreases-argument_list l = 24 * l.levels + 20
+decreases-argument_list l = 29 * l.levels + 25
 
 abbrev pub decreases-elsif_value : goal.decreases-elsif_value
-decreases-elsif_value l = 24 * l.levels + 21
+decreases-elsif_value l = 29 * l.levels + 26
 
 abbrev pub decreases-elsif_values : goal.decreases-elsif_values
-decreases-elsif_values l = 24 * l.levels + 22
+decreases-elsif_values l = 29 * l.levels + 27
 
 abbrev pub decreases-enclosed : goal.decreases-enclosed
-decreases-enclosed l = 24 * l.levels + 23
+decreases-enclosed l = 29 * l.levels + 28
 
 abbrev pub invariant-argument_list-loop-self : goal.invariant-argument_list-loop-self
 invariant-argument_list-loop-self l =
@@ -106,24 +121,25 @@ invariant-elsif_values-loop-self l =
 abbrev pub decreases-elsif_values-loop-self : goal.decreases-elsif_values-loop-self
 decreases-elsif_values-loop-self l = length l.self.rest.now
 
-abbrev pub invariant-term-loop-operator : goal.invariant-term-loop-operator
-invariant-term-loop-operator l =
+abbrev pub invariant-product-loop-operator : goal.invariant-product-loop-operator
+invariant-product-loop-operator l =
+    let a = reading.factor_in (reading.values l.levels) in
     (n : ℕ) × (length l.self.rest.now ≤ n)
-    × (still reading.joined (reading.begins reading.multiplying)
-    (seq (reading.operator_of reading.multiplying) (reading.factor_in (reading.values l.levels))) n (expr_tree l.left) l.self.rest.now
-    ≡ reading.term_in (reading.values l.levels) l.fn.self.rest.now)
+    × (still reading.joined (reading.begins reading.multiplying) (seq (reading.operator_of reading.multiplying) a) n (expr_tree l.left) l.self.rest.now
+    ≡ reading.chained reading.multiplying a (expr_tree l.fn.first) l.fn.self.rest.now)
 
-abbrev pub decreases-term-loop-operator : goal.decreases-term-loop-operator
-decreases-term-loop-operator l = length l.self.rest.now
+abbrev pub decreases-product-loop-operator : goal.decreases-product-loop-operator
+decreases-product-loop-operator l = length l.self.rest.now
 
-abbrev pub invariant-simple-loop-operator : goal.invariant-simple-loop-operator
-invariant-simple-loop-operator l =
+abbrev pub invariant-sum-loop-operator : goal.invariant-sum-loop-operator
+invariant-sum-loop-operator l =
+    let a = reading.term_in (reading.values l.levels) in
     (n : ℕ) × (length l.self.rest.now ≤ n)
-    × (still reading.joined (reading.begins reading.adding) (seq (reading.operator_of reading.adding) (reading.term_in (reading.values l.levels))) n
-    (expr_tree l.left) l.self.rest.now ≡ reading.simple_in (reading.values l.levels) l.fn.self.rest.now)
+    × (still reading.joined (reading.begins reading.adding) (seq (reading.operator_of reading.adding) a) n (expr_tree l.left) l.self.rest.now
+    ≡ reading.chained reading.adding a (expr_tree l.fn.first) l.fn.self.rest.now)
 
-abbrev pub decreases-simple-loop-operator : goal.decreases-simple-loop-operator
-decreases-simple-loop-operator l = length l.self.rest.now
+abbrev pub decreases-sum-loop-operator : goal.decreases-sum-loop-operator
+decreases-sum-loop-operator l = length l.self.rest.now
 
 abbrev pub invariant-chain-loop-operator : goal.invariant-chain-loop-operator
 invariant-chain-loop-operator l =
