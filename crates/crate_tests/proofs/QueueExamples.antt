@@ -1,5 +1,5 @@
 -- Worked rows of tasks outside of actions, and of queues whose call has been served.
-use Rattle.std.proofs.Common.{◌≡◌, [], ◌∷◌, true, None, Some, Ok, refl}
+use Rattle.std.proofs.Common.{◌≡◌, [], ◌∷◌, true, false, None, Some, Ok, refl}
 use Rattle.protected.specs.Actions.{Actions, active_of, calling, has_any, opened_by, queued_at, served, with_queued}
 
 -- task 0 of priority 5 and task 1 of priority 9, outside of any action
