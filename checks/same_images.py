@@ -11,7 +11,7 @@ import mnemonics
 from rows import rows_of
 
 HERE = os.path.dirname(os.path.abspath(__file__))
-CONSTANT = re.compile(r'/// ([^\n]*)\.\n(?:pub\(crate\) )?const (\w+): &\[u8\] =\s*b"((?:[^"\\]|\\.)*)";', re.S)
+CONSTANT = re.compile(r'/// ([^\n]*)\.\nconst (\w+): &\[u8\] =\s*b"((?:[^"\\]|\\.)*)";', re.S)
 
 
 def main():

@@ -5,7 +5,6 @@ use crate::files::{LINES, files};
 use crate::memory::{Left, call};
 use machine::Plan;
 use std::alloc::{AllocError, Global};
-use std::process::Abort;
 use std::test::Fail;
 
 const NAMES_LISTED: &[u8] = b"exception 1 CONSTRAINT_ERROR
@@ -131,53 +130,59 @@ const REFUSED: [Row<'static>; 12] = [
     ),
 ];
 
-const WRONG_WORDS: [&[&str]; 15] = [
-    &[],
-    &["stop"],
-    &["--help"],
-    &["go"],
-    &["go", "--help"],
-    &["go", "main.adb", "empty"],
-    &["go", "main.adb", "empty", "-1"],
-    &["go", "main.adb", "empty", "18446744073709551616"],
-    &["go", "main.adb", "empty", "1", "more"],
-    &["go", "none.adb", "none", "x"],
-    &["compile", "main.adb"],
-    &["list"],
-    &["list", "return.img", "more"],
-    &["run", "return.img", "empty"],
-    &["run", "none.img", "none", "x"],
+const WRONG: [Row<'static>; 15] = [
+    (&[], 1, b"", b"usage\n"),
+    (&["stop"], 1, b"", b"usage\n"),
+    (&["--help"], 1, b"", b"usage\n"),
+    (&["go"], 1, b"", b"usage\n"),
+    (&["go", "--help"], 1, b"", b"usage\n"),
+    (&["go", "main.adb", "empty"], 1, b"", b"usage\n"),
+    (&["go", "main.adb", "empty", "-1"], 1, b"", b"usage\n"),
+    (
+        &["go", "main.adb", "empty", "18446744073709551616"],
+        1,
+        b"",
+        b"usage\n",
+    ),
+    (
+        &["go", "main.adb", "empty", "1", "more"],
+        1,
+        b"",
+        b"usage\n",
+    ),
+    (&["go", "none.adb", "none", "x"], 1, b"", b"usage\n"),
+    (&["compile", "main.adb"], 1, b"", b"usage\n"),
+    (&["list"], 1, b"", b"usage\n"),
+    (&["list", "return.img", "more"], 1, b"", b"usage\n"),
+    (&["run", "return.img", "empty"], 1, b"", b"usage\n"),
+    (&["run", "none.img", "none", "x"], 1, b"", b"usage\n"),
 ];
 
-fn expect(rt: &impl Abort, left: &Left, status: u8, out: &[u8], err: &[u8]) -> Result<(), Fail> {
-    assert_eq!(rt; left.out.as_slice(), out, "standard output");
-    assert_eq!(rt; left.err.as_slice(), err, "standard error");
-    assert_eq!(rt; left.status, status, "exit status");
-    Ok(())
+fn is_left(left: &Left, status: u8, out: &[u8], err: &[u8]) -> bool {
+    left.status == status && left.out.as_slice() == out && left.err.as_slice() == err
 }
 
-// Calls the program for each row; no file is written.
-fn expect_all(rt: &impl Abort, alloc: Global, rows: &[Row<'_>]) -> Result<(), Fail> {
-    for (words, status, out, err) in rows {
+// The first row whose call leaves something else, or writes a file.
+fn first_other(alloc: Global, rows: &[Row<'_>]) -> Result<Option<usize>, AllocError> {
+    for (number, (words, status, out, err)) in rows.iter().enumerate() {
         let left = call(alloc, words, &files(b""), Plan::TakesAll)?;
-        expect(rt, &left, *status, out, err)?;
-        assert!(rt; left.written.is_none());
+        if !is_left(&left, *status, out, err) || left.written.is_some() {
+            return Ok(Some(number));
+        }
     }
-    Ok(())
+    Ok(None)
 }
 
 #[test]
 fn calls_leave_their_status(rt: HostRuntime) -> Result<(), Fail> {
-    expect_all(&rt, rt.alloc(), &DONE)?;
-    expect_all(&rt, rt.alloc(), &REFUSED)?;
-    for words in WRONG_WORDS {
-        expect_all(&rt, rt.alloc(), &[(words, 1, b"", b"usage\n")])?;
-    }
+    assert_eq!(rt; first_other(rt.alloc(), &DONE)?, None);
+    assert_eq!(rt; first_other(rt.alloc(), &REFUSED)?, None);
+    assert_eq!(rt; first_other(rt.alloc(), &WRONG)?, None);
     Ok(())
 }
 
 // The first lines of the program main.adb, so many of them.
-fn lines_before(alloc: Global, count: usize) -> Result<Vec<u8>, AllocError> {
+fn first_lines(alloc: Global, count: usize) -> Result<Vec<u8>, AllocError> {
     let mut text = Vec::new(alloc);
     for line in LINES.iter().take(count) {
         text.extend_from_slice(line)?;
@@ -185,33 +190,31 @@ fn lines_before(alloc: Global, count: usize) -> Result<Vec<u8>, AllocError> {
     Ok(text)
 }
 
-// Each line is one piece, and a whole run writes six. What doesn't go out whole leaves a beginning of them.
+// Whether the program main.adb leaves its first lines, so many of them, where standard output keeps to a plan.
+fn writes(alloc: Global, plan: Plan, count: usize) -> Result<bool, AllocError> {
+    let words = ["go", "main.adb", "empty", "100000"];
+    let left = call(alloc, &words, &files(b""), plan)?;
+    let text = first_lines(alloc, count)?;
+    Ok(if count < LINES.len() {
+        is_left(&left, 1, &text, b"cannot write\n")
+    } else {
+        is_left(&left, 0, &text, b"")
+    })
+}
+
+// Each line is one piece, and a whole run writes six: a sink fails, or answers 0, at each of them, and at none.
 #[test]
 fn each_write_may_fail(rt: HostRuntime) -> Result<(), Fail> {
-    let alloc = rt.alloc();
-    let words = ["go", "main.adb", "empty", "100000"];
-    for before in 0..7u64 {
-        let at = before + 1;
-        let text = lines_before(alloc, usize::try_from(before).unwrap_or(0))?;
-        let (status, told): (u8, &[u8]) = if before < 6 {
-            (1, b"cannot write\n")
-        } else {
-            (0, b"")
-        };
-        for plan in [Plan::FailsAt(at), Plan::AnswersZeroAt(at)] {
-            let left = call(alloc, &words, &files(b""), plan)?;
-            expect(&rt, &left, status, &text, told)?;
-        }
+    for at in 1..8u8 {
+        let count = usize::from(at.saturating_sub(1));
+        assert!(rt; writes(rt.alloc(), Plan::FailsAt(u64::from(at)), count)?);
+        assert!(rt; writes(rt.alloc(), Plan::AnswersZeroAt(u64::from(at)), count)?);
     }
-    let left = call(alloc, &words, &files(b""), Plan::TakesOne)?;
-    expect(&rt, &left, 0, &lines_before(alloc, 6)?, b"")?;
-    let left = call(
-        alloc,
-        &["list", "return.img"],
-        &files(b""),
-        Plan::FailsAt(1),
-    )?;
-    expect(&rt, &left, 1, b"", b"cannot write\n")
+    assert!(rt; writes(rt.alloc(), Plan::TakesOne, LINES.len())?);
+    let words = ["list", "return.img"];
+    let left = call(rt.alloc(), &words, &files(b""), Plan::FailsAt(1))?;
+    assert!(rt; is_left(&left, 1, b"", b"cannot write\n"));
+    Ok(())
 }
 
 #[test]
@@ -219,15 +222,15 @@ fn a_compiled_image_runs_as_its_source(rt: HostRuntime) -> Result<(), Fail> {
     let alloc = rt.alloc();
     let words = ["compile", "main.adb", "new.img"];
     let compiled = call(alloc, &words, &files(b""), Plan::TakesAll)?;
-    expect(&rt, &compiled, 0, b"", b"")?;
+    assert!(rt; is_left(&compiled, 0, b"", b""));
     let (name, bytes) = compiled.written.as_ref().expect(&rt, "an image");
-    assert_eq!(rt; name.as_str(), "new.img");
+    assert!(rt; name.as_str() == "new.img");
     for limit in ["0", "1", "4", "8", "12", "16", "100"] {
         let words = ["run", "compiled.img", "empty", limit];
         let run = call(alloc, &words, &files(bytes), Plan::TakesAll)?;
         let words = ["go", "main.adb", "empty", limit];
         let went = call(alloc, &words, &files(bytes), Plan::TakesAll)?;
-        expect(&rt, &run, went.status, &went.out, b"")?;
+        assert!(rt; is_left(&run, went.status, &went.out, b""));
     }
     Ok(())
 }

@@ -1,7 +1,7 @@
 //! Worked images write the same lines over lists as over rings and a heap.
 ghost use Rattle.std.specs.Prelude.{◌≡◌};
 
-use crate::worked_images::WORKED;
+use crate::worked_images::worked_images;
 use clock::{ListDelays, Schedule};
 use dispatch::ListReady;
 use image::Image;
@@ -54,11 +54,11 @@ fn run_both_over<L: Ledger, M: Ledger>(
 fn worked_images_write_their_lines(rt: HostRuntime) -> Result<(), Fail> {
     let alloc = rt.alloc();
     let schedule = Schedule::read(alloc, b"500 1 7\n").expect(&rt, "a schedule");
-    for (bytes, lines) in WORKED {
+    for (bytes, lines) in worked_images() {
         let image = load(alloc, bytes).expect(&rt, "an image");
         let written = run_both(alloc, &image, &schedule)?;
-        assert_eq!(rt; written.lists.as_slice(), lines, "over lists");
-        assert_eq!(rt; written.rings.as_slice(), lines, "over rings and a heap");
+        assert!(rt; written.lists.as_slice() == *lines);
+        assert!(rt; written.rings.as_slice() == *lines);
     }
     Ok(())
 }

@@ -3,57 +3,62 @@ ghost use Rattle.std.specs.Prelude.{◌≡◌, ℕ, []};
 
 use clock::{Delays, HeapDelays, ListDelays};
 use dispatch::{ListReady, Ready, RingReady};
-use std::process::Abort;
 use std::test::Fail;
 
-// Rows of sleepers over any keeper of them that is empty.
-fn wakes_in_order<D: Delays>(rt: &impl Abort, mut delays: D) -> D
+// Whether sleepers wake in their order, over any keeper of them that is empty.
+fn wakes_in_order<D: Delays + Drop>(mut delays: D) -> bool
     requires { D.sleepers delays ≡ [] }
-    ensures { D.sleepers result ≡ [] }
 {
-    assert_eq!(rt; delays.next_time(), None);
+    let none = delays.next_time();
     delays.add(3, 50);
     delays.add(1, 20);
     delays.add(2, 50);
     delays.add(4, 20);
-    assert_eq!(rt; delays.next_time(), Some(20));
-    assert_eq!(rt; delays.expire(20).as_slice(), [1, 4].as_slice());
-    assert_eq!(rt; delays.next_time(), Some(50));
-    assert_eq!(rt; delays.expire(60).as_slice(), [3, 2].as_slice());
-    assert_eq!(rt; delays.next_time(), None);
+    let first = delays.next_time();
+    let two = delays.expire(20);
+    let second = delays.next_time();
+    let others = delays.expire(60);
+    let last = delays.next_time();
     delays.add(5, 30);
     delays.add(6, 10);
-    assert_eq!(rt; delays.expire(30).as_slice(), [5, 6].as_slice());
-    delays
+    let both = delays.expire(30);
+    none.is_none()
+        && first == Some(20)
+        && two.as_slice() == [1, 4].as_slice()
+        && second == Some(50)
+        && others.as_slice() == [3, 2].as_slice()
+        && last.is_none()
+        && both.as_slice() == [5, 6].as_slice()
 }
 
-// Rows of ready tasks over any keeper of them that is empty.
-fn takes_the_highest<R: Ready>(rt: &impl Abort, mut ready: R) -> R
+// Whether the head of the highest list is taken, over any keeper of ready tasks that is empty.
+fn takes_the_highest<R: Ready + Drop>(mut ready: R) -> bool
     requires { (p : ℕ) → R.queues ready p ≡ [] }
 {
-    assert_eq!(rt; ready.highest(), None);
+    let none = ready.highest();
     ready.add_tail(3, 5);
     ready.add_tail(4, 5);
     ready.add_head(2, 5);
     ready.add_tail(1, 31);
-    assert_eq!(rt; ready.highest(), Some(31));
-    assert_eq!(rt; ready.take_highest(), Some(1));
-    assert_eq!(rt; ready.take_highest(), Some(2));
-    assert_eq!(rt; ready.take_highest(), Some(3));
-    assert_eq!(rt; ready.take_highest(), Some(4));
-    assert_eq!(rt; ready.take_highest(), None);
-    ready
+    let highest = ready.highest();
+    let taken = [
+        ready.take_highest(),
+        ready.take_highest(),
+        ready.take_highest(),
+        ready.take_highest(),
+        ready.take_highest(),
+    ];
+    none.is_none() && highest == Some(31) && taken == [Some(1), Some(2), Some(3), Some(4), None]
 }
 
 // A heap's numbers reach the greatest value at once, at the third task, and later at the second.
 #[test]
 fn keepers_keep_their_order(rt: HostRuntime) -> Result<(), Fail> {
-    wakes_in_order(&rt, ListDelays::new());
-    wakes_in_order(&rt, HeapDelays::new());
-    wakes_in_order(&rt, HeapDelays::numbered_from(u64::MAX));
-    wakes_in_order(&rt, HeapDelays::numbered_from(u64::MAX - 2));
-    wakes_in_order(&rt, HeapDelays::numbered_from(u64::MAX - 5));
-    takes_the_highest(&rt, ListReady::new());
-    takes_the_highest(&rt, RingReady::new());
+    assert!(rt; wakes_in_order(ListDelays::new()));
+    for first in [0, u64::MAX, u64::MAX - 2, u64::MAX - 5] {
+        assert!(rt; wakes_in_order(HeapDelays::numbered_from(first)));
+    }
+    assert!(rt; takes_the_highest(ListReady::new()));
+    assert!(rt; takes_the_highest(RingReady::new()));
     Ok(())
 }

@@ -3,13 +3,13 @@
 //! checks/rows/images.txt has them as instructions, under the same words; checks/same_images.py compares the two.
 
 /// A single return.
-pub(crate) const RETURN_ALONE: &[u8] =
+const RETURN_ALONE: &[u8] =
     b"ARVN\x00\x01\x00\x01\x00\x01\x00\x00\x00\x01\x00\x04\x00\x00\x00\x00\x00\x00\x10CONSTRAINT_ERROR\
     \x0dPROGRAM_ERROR\x0dSTORAGE_ERROR\x0dTASKING_ERROR\x04\xff\xff\x00\x01\x00\x00\x00\x00\x00\x00\
     \x00\x00\x04MAIN\x0f\x00\x00(\x00\x00\x00\x00\x00\x00\x00\x00\x00\x00\x00\x00";
 
 /// A line `x 1000` and a return.
-pub(crate) const THOUSAND: &[u8] =
+const THOUSAND: &[u8] =
     b"ARVN\x00\x01\x00\x03\x00\x01\x00\x00\x00\x01\x00\x04\x00\x00\x00\x01\x00\x00\x10CONSTRAINT_ERROR\
     \x0dPROGRAM_ERROR\x0dSTORAGE_ERROR\x0dTASKING_ERROR\x01x\x04\xff\xff\x00\x03\x00\x00\x00\x00\x00\
     \x00\x00\x01\x04MAIN\x0f\x00\x00\x01\x00\x00\x00\x00\x00\x00\x00\x00\x00\x00\x03\xe8,\x00\x01\
@@ -330,7 +330,9 @@ const SERVED_WITHOUT_RESULTS: &[u8] =
 /// An image and the lines that it writes, where input 7 of channel 1 comes at 500.
 pub(crate) type Worked<'a> = (&'a [u8], &'a [u8]);
 
-pub(crate) const WORKED: [Worked<'static>; 16] = [
+const WORKED: [Worked<'static>; 18] = [
+    (RETURN_ALONE, b"ended at 0\n"),
+    (THOUSAND, b"0 MAIN x 1000\nended at 0\n"),
     (
         TURNS,
         b"0 A n 1\n0 B n 1\n0 A n 2\n0 B n 2\n0 A n 3\n0 B n 3\nended at 0\n",
@@ -372,3 +374,8 @@ pub(crate) const WORKED: [Worked<'static>; 16] = [
     (SAME_OBJECT, b"0 T pe 1\nended at 0\n"),
     (SERVED_WITHOUT_RESULTS, b"0 C c 1\n0 D on 2\nended at 0\n"),
 ];
+
+/// The images, the two of docs/FORMATS.md first.
+pub(crate) fn worked_images() -> &'static [Worked<'static>] {
+    &WORKED
+}
