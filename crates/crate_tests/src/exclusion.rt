@@ -1,5 +1,5 @@
-//! Images with changed bytes: each is refused, or is written as the bytes that it was loaded from, both pairs of keepers do the same with it, and exclusion holds
-//! after each step.
+//! Images with changed bytes: each is refused, or is written as the bytes that it was loaded from, both pairs of keepers do the same with it,
+//! and exclusion holds after each step.
 use crate::worked_images::worked_images;
 use clock::{Delays, HeapDelays, ListDelays, Schedule};
 use dispatch::{ListReady, Ready, RingReady};
