@@ -9,7 +9,7 @@ use Rattle.adarun.proofs.compilation.compile.Goals as goal
 
 pub returns-in_err-list-clause-refused : goal.returns-in_err-list-clause-refused
 returns-in_err-list-clause-refused c =
-    let is : c.from_residual-in_err-list.result ≡ Err c.in_err-list.field-0.0 = search rules in
+    let is : c.from_residual.result ≡ Err c.in_err-list.field-0.0 = search rules in
     subst (λ r. IfErr r (λ f. RefusesText c.args.source.now f)) (sym is)
     (misspelled c.spelling_numbers.ensures c.args.source.now _ c.in_err-list.ensures.fault c.in_err-list.ensures.least)
 
