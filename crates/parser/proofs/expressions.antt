@@ -3,6 +3,7 @@ pub mod Primaries
 pub mod Operations
 pub mod Relations
 pub mod Logical
+pub mod GoingExpressions
 pub mod Levelled
 pub mod Followers
 pub mod ExpressionLoops

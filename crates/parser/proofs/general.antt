@@ -4,4 +4,5 @@ pub mod MoreExact
 pub mod Loops
 pub mod Lists
 pub mod Deep
+pub mod Going
 pub mod Heads

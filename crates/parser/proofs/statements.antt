@@ -3,3 +3,4 @@ pub mod CompoundStatements
 pub mod Statements
 pub mod Selected
 pub mod DeepStatements
+pub mod GoingStatements

@@ -42,16 +42,21 @@ abbrev pub NoneBegins : Tokens → Tokens → Type 0
 NoneBegins front [] = (t : ProgramTree) → Derives t front → ⊥
 NoneBegins front (x ∷ rest) = (t : ProgramTree) (more : Tokens) → Derives t (front ++ (x ∷ more)) → ⊥
 
+-- The tokens of the front begin a list that some tree derives.
+abbrev pub SomeBegins : Tokens → Type 0
+SomeBegins front = (t : ProgramTree) × (more : Tokens) × Derives t (front ++ more)
+
 -- The next token may open a level, and in front of it stand as many such tokens as levels may be open at once.
 abbrev pub IsTooDeep : Tokens → Tokens → Type 0
 IsTooDeep front back = (is_next opens (first back) ≡ true) × (LEVELS ≤ openers front)
 
--- The fault stands behind the front: at the first token that no derivation allows there, or at the end where none ends there.
+-- The fault stands behind the front, which some derivation begins with: at the first token that none allows there, or at the end where none ends there.
 pub record IsFaulty (ts : Tokens) (f : Fault) : Type 0 where
   pub front : Tokens
   pub back : Tokens
   pub parts : ts ≡ front ++ back
   pub place : f.place ≡ place_behind front back
+  pub some : SomeBegins front
   pub none : NoneBegins front back
   pub number : (f.number ≡ UNEXPECTED_TOKEN) ⊎ ((f.number ≡ TOO_MANY_LEVELS) × IsTooDeep front back)
 

@@ -79,8 +79,8 @@ pub fn parse(alloc: Global, tokens: &[Token]) -> Result<Program, Fault>
     ensures found { IfOk result (λ p. Derives (program_tree p) tokens.now) }
     // What derives the tokens is found, unless memory is refused.
     ensures only { (t : ProgramTree) → Derives t tokens.now → GaveTree result t }
-    // A fault stands at the first token that no derivation allows behind those before it, or at the end; 7 at a token that may open a
-    // level, behind 40 such tokens or more; or memory was refused.
+    // A fault stands at the first token that no derivation allows, or at the end: those before it begin a list that some tree derives.
+    // 7 stands at a token that may open a level, behind 40 such tokens or more. Or memory was refused.
     ensures fault { IfErr result (λ f. IsRefusal tokens.now f) }
 {
     limit_is_depth();

@@ -172,7 +172,7 @@ exact_logical_of =
 
 -- ---- facts on logical operators
 
-abbrev is_logical : BinaryOperator → Bool
+abbrev pub is_logical : BinaryOperator → Bool
 is_logical binary.And = true
 is_logical binary.AndThen = true
 is_logical binary.Or = true
@@ -180,7 +180,7 @@ is_logical binary.OrElse = true
 is_logical binary.Xor = true
 is_logical o = false
 
-logical_is : (o : BinaryOperator) (ts : Tokens) → logical_with o ts → is_logical o ≡ true
+pub logical_is : (o : BinaryOperator) (ts : Tokens) → logical_with o ts → is_logical o ≡ true
 logical_is binary.And ts g = refl
 logical_is binary.AndThen ts g = refl
 logical_is binary.Or ts g = refl
@@ -290,7 +290,7 @@ exact_words_of o =
     (λ x y v r g st t. tt))
     (λ x ts g. g) (λ y ts g. ((tt, tt), g, refl)) (λ x ts t g st. tt) (λ x ts t g st. tt)
 
-exact_repeated : (o : BinaryOperator) → is_logical o ≡ true → Exact (repeated o) (λ _. logical_with o) Free
+pub exact_repeated : (o : BinaryOperator) → is_logical o ≡ true → Exact (repeated o) (λ _. logical_with o) Free
 exact_repeated o h =
     exact_told (repeated o) (λ _. words_of o) (λ _. logical_with o) Free Free (exact_words_of o) (λ x ts g. repeated_to o ts h g)
     (λ x ts g. repeated_back o ts g) (λ x ts t g st. tt) (λ x ts t g st. tt)
@@ -358,7 +358,7 @@ module _ (k : ℕ) (d : Option ExpressionReaders) (b : Below Exacts k d) (o : Bi
 -- ---- which words may follow a tree
 
 -- the words that go on with it
-abbrev again : ExprTree → TokenKind → Bool
+abbrev pub again : ExprTree → TokenKind → Bool
 again (Binary o left right) k = cond (is_logical o) (is_kind (kinds.Word (first_word o)) k) (starts_logical k)
 again e k = starts_logical k
 
@@ -632,7 +632,7 @@ expression_back k (Parenthesized place e) ts g = one_relation k (Parenthesized p
 expression_back k (Conditional place condition value others else_value) ts g =
     one_relation k (Conditional place condition value others else_value) ts (refl, g.1)
 
-abbrev OpenStops : ExprTree → Option Token → Type 0
+abbrev pub OpenStops : ExprTree → Option Token → Type 0
 OpenStops y t = Ends continues_relation t × Ends (again y) t
 
 expression_fits : (k : ℕ) (x y : ExprTree) (v r : Tokens) → Rest k x y v → OpenStops y (first r)
@@ -645,7 +645,7 @@ expression_stop : (k : ℕ) (x y : ExprTree) (v r : Tokens) → Rest k x y v →
 expression_stop k x y v r (inl w) sa sb = (sb.1 (chained_chain k x y v w), sb.0)
 expression_stop k x y v r (inr w) sa sb = (subst (λ (z : Tokens). Ends continues_relation (first (z ++ r))) w.1 sa, sb.0)
 
-exact_open_expression : (k : ℕ) (d : Option ExpressionReaders) → Below Exacts k d → Exact (after (relation_in d) (logical_in d)) (derives Expression (Some k)) OpenStops
+pub exact_open_expression : (k : ℕ) (d : Option ExpressionReaders) → Below Exacts k d → Exact (after (relation_in d) (logical_in d)) (derives Expression (Some k)) OpenStops
 exact_open_expression k d b =
     exact_behind (relation_in d) (logical_in d) (derives Relation (Some k)) (Rest k) (λ _. Ends continues_relation) (λ left. RestStops)
     (derives Expression (Some k)) OpenStops

@@ -467,13 +467,13 @@ term_of k (Named name all) ts g = inl (refl, g.1)
 term_of k (Parenthesized place e) ts g = inl (refl, g.1)
 term_of k (Conditional place condition value others else_value) ts g = inl (refl, g.1)
 
-multiplying_goes : (k : TokenKind) → is_there (multiplying k) ≡ true → starts_selector k ≡ false
+pub multiplying_goes : (k : TokenKind) → is_there (multiplying k) ≡ true → starts_selector k ≡ false
 multiplying_goes (kinds.Delimiter marks.LeftParenthesis) h = absurd cc
 multiplying_goes (kinds.Delimiter marks.Dot) h = absurd cc
 multiplying_goes (kinds.Delimiter marks.Apostrophe) h = absurd cc
 multiplying_goes k h = refl
 
-abbrev multiplies : TokenKind → Bool
+abbrev pub multiplies : TokenKind → Bool
 multiplies k = is_there (multiplying k)
 
 pub exact_term : (k : ℕ) (d : Option ExpressionReaders) → Below Exacts k d → Exact (term_in d) (derives Term (Some k)) (λ _. Ends continues_term)
@@ -517,12 +517,12 @@ simple_one : (k : ℕ) (e : ExprTree) (ts : Tokens) → prefixed_with Simple k e
 simple_one k e ts (inl g) = unary_made Simple k e ts refl g
 simple_one k e ts (inr g) = widen Term Simple k e ts widen_simple g
 
-adding_goes : (k : TokenKind) → is_there (adding k) ≡ true → continues_term k ≡ false
+pub adding_goes : (k : TokenKind) → is_there (adding k) ≡ true → continues_term k ≡ false
 adding_goes (kinds.Delimiter marks.Plus) h = refl
 adding_goes (kinds.Delimiter marks.Minus) h = refl
 adding_goes k h = absurd cc
 
-abbrev adds : TokenKind → Bool
+abbrev pub adds : TokenKind → Bool
 adds k = is_there (adding k)
 
 pub exact_signed : (k : ℕ) (d : Option ExpressionReaders) → Below Exacts k d → Exact (prefixed sign (term_in d)) (prefixed_with Simple k) (λ _. Ends continues_term)

@@ -249,7 +249,7 @@ bare k (Number value place) ts = numeral (Number value place) ts
 bare k (Named name all) ts = as_name k (Named name all) ts
 bare k e ts = ⊥
 
-abbrev BareStops : ExprTree → Option Token → Type 0
+abbrev pub BareStops : ExprTree → Option Token → Type 0
 BareStops (Named name all) o = Ends starts_selector o
 BareStops e o = Unit {0}
 

@@ -182,7 +182,7 @@ relation_back k (Named name all) ts g = one_operand k (Named name all) ts (refl,
 relation_back k (Parenthesized place e) ts g = one_operand k (Parenthesized place e) ts (refl, g.1)
 relation_back k (Conditional place condition value others else_value) ts g = one_operand k (Conditional place condition value others else_value) ts (refl, g.1)
 
-abbrev OpenStops : ExprTree → Option Token → Type 0
+abbrev pub OpenStops : ExprTree → Option Token → Type 0
 OpenStops y t = Ends continues_simple t × (is_relation y ≡ false → Ends compares t)
 
 relation_fits : (k : ℕ) (x y : ExprTree) (v r : Tokens) → compared k x y v → OpenStops y (first r)
@@ -195,7 +195,7 @@ relation_stop : (k : ℕ) (x y : ExprTree) (v r : Tokens) → compared k x y v �
 relation_stop k x y v r (inl w) sa sb = (sb.1 (second_is k x y v w), sb.0)
 relation_stop k x y v r (inr w) sa sb = (subst (λ (z : Tokens). Ends continues_simple (first (z ++ r))) w.1 sa, sb.0)
 
-exact_open_relation : (k : ℕ) (d : Option ExpressionReaders) → Below Exacts k d → Exact (after (simple_in d) (compared_in d)) (derives Relation (Some k)) OpenStops
+pub exact_open_relation : (k : ℕ) (d : Option ExpressionReaders) → Below Exacts k d → Exact (after (simple_in d) (compared_in d)) (derives Relation (Some k)) OpenStops
 exact_open_relation k d b =
     exact_behind (simple_in d) (compared_in d) (derives Simple (Some k)) (compared k) (λ _. Ends continues_simple) (λ left. ComparedStops)
     (derives Relation (Some k)) OpenStops

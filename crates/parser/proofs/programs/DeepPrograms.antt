@@ -79,7 +79,7 @@ deep_record_component k =
     deep_changed k _ (deep_named k
     (deep_past k (kinds.Delimiter marks.Colon) refl (deep_ended k exact_identifier (deep_identifier k) (deep_skipped k semicolon))))
 
-component_list_exact : Exact component_list_at (some record_component) (λ xs o. (is_identifier o ≡ false) × Any o)
+pub component_list_exact : Exact component_list_at (some record_component) (λ xs o. (is_identifier o ≡ false) × Any o)
 component_list_exact =
     exact_several is_identifier component_at record_component Any component_of_exact
     (λ x s r g. at_name (λ o. is_identifier o ≡ true) x.name (λ _ _. refl) s r g) (λ o h. tt) refl
@@ -98,7 +98,7 @@ deep_definition k =
 deep_type : (k : ℕ) → Deep k (type_at k)
 deep_type k = deep_changed k _ (deep_past k (kinds.Word words.Type) refl (deep_named k (deep_past k (kinds.Word words.Is) refl (deep_definition k))))
 
-constraint_exact : (k : ℕ) → Exact (constraint_part k) (optional (constraint (Some k))) ConstraintStops
+pub constraint_exact : (k : ℕ) → Exact (constraint_part k) (optional (constraint (Some k))) ConstraintStops
 constraint_exact k =
     perhaps_exact (is_word words.Range) (past_exact (kinds.Word words.Range) refl (range_exact k))
     (λ x s r g. at_past (λ o. is_word words.Range o ≡ true) (kinds.Word words.Range) (λ _ _. refl) s r g)
@@ -131,7 +131,7 @@ item_as k w = deep_as k (deep_named_item k)
 deep_item : (k : ℕ) → Deep k (item_at k)
 deep_item k = deep_by_word k (item_of k) (item_as k)
 
-item_list_exact : (k : ℕ) → Exact (item_list_at k) (each (item (Some k))) (ManyStops begins_item Any)
+pub item_list_exact : (k : ℕ) → Exact (item_list_at k) (each (item (Some k))) (ManyStops begins_item Any)
 item_list_exact k = exact_many begins_item (item_at k) (item (Some k)) Any (item_exact k) (λ x s r g. (item_starts k x s r g).1) (λ o h. tt) refl
 
 -- ---- bodies
@@ -155,7 +155,7 @@ deep_entry_body k =
 deep_protected_item : (k : ℕ) → Deep k (protected_item_at k)
 deep_protected_item k = deep_if k (is_word words.Entry) (deep_entry_body k) (deep_operation_body k)
 
-protected_item_list_exact : (k : ℕ) → Exact (protected_item_list_at k) (each (protected_item (Some k))) (ManyStops begins_operation Any)
+pub protected_item_list_exact : (k : ℕ) → Exact (protected_item_list_at k) (each (protected_item (Some k))) (ManyStops begins_operation Any)
 protected_item_list_exact k =
     exact_many begins_operation (protected_item_at k) (protected_item (Some k)) Any (protected_item_exact k) (protected_item_begins k) (λ o h. tt) refl
 
@@ -189,7 +189,7 @@ body_item_as k w = deep_as k (deep_changed k _ (deep_item k))
 deep_body_item : (k : ℕ) → Deep k (body_item_at k)
 deep_body_item k = deep_by_word k (body_item_of k) (body_item_as k)
 
-body_item_list_exact : (k : ℕ) → Exact (body_item_list_at k) (each (body_item (Some k))) (ManyStops begins_item Any)
+pub body_item_list_exact : (k : ℕ) → Exact (body_item_list_at k) (each (body_item (Some k))) (ManyStops begins_item Any)
 body_item_list_exact k =
     exact_many begins_item (body_item_at k) (body_item (Some k)) Any (body_item_exact k) (λ x s r g. (body_starts k x s r g).1) (λ o h. tt) refl
 
@@ -203,7 +203,7 @@ deep_unit_clause k =
     deep_changed k _ (deep_placed k (kinds.Word words.With) refl (deep_both k unit_name_exact (deep_unit_name k)
     (deep_past k semicolon refl (deep_past k (kinds.Word words.Use) refl (deep_ended k unit_name_exact (deep_unit_name k) (deep_skipped k semicolon))))))
 
-clause_list_exact : Exact clause_list_at (each unit_clause) (ManyStops (is_word words.With) Any)
+pub clause_list_exact : Exact clause_list_at (each unit_clause) (ManyStops (is_word words.With) Any)
 clause_list_exact =
     exact_many (is_word words.With) unit_clause_at unit_clause Any unit_clause_exact
     (λ x s r g. at_placed (λ o. is_word words.With o ≡ true) (kinds.Word words.With) x.place (λ _ _. refl) s r g) (λ o h. tt) refl
@@ -233,7 +233,7 @@ deep_main_statement k =
     (deep_ended k (exact_token (kinds.Word words.Null) refl) (deep_token k (kinds.Word words.Null)) (deep_skipped k semicolon))
     (deep_named k (deep_past k (kinds.Delimiter marks.Dot) refl (deep_ended k exact_identifier (deep_identifier k) (deep_skipped k semicolon)))))
 
-main_statement_list_exact : Exact main_statement_list_at (some main_statement) (λ xs o. (begins_main_statement o ≡ false) × Any o)
+pub main_statement_list_exact : Exact main_statement_list_at (some main_statement) (λ xs o. (begins_main_statement o ≡ false) × Any o)
 main_statement_list_exact = exact_several begins_main_statement main_statement_at main_statement Any main_statement_exact main_statement_begins (λ o h. tt) refl
 
 deep_main : (k : ℕ) → Deep k (main_at k)
@@ -248,12 +248,12 @@ deep_pragma k =
     deep_changed k _ (deep_placed k (kinds.Word words.Pragma) refl (deep_named k (deep_past k (kinds.Delimiter marks.LeftParenthesis) refl
     (deep_ended k exact_identifier (deep_identifier k) (deep_past k (kinds.Delimiter marks.RightParenthesis) refl (deep_skipped k semicolon))))))
 
-pragma_list_exact : Exact pragma_list_at (each pragma_clause) (ManyStops (is_word words.Pragma) Any)
+pub pragma_list_exact : Exact pragma_list_at (each pragma_clause) (ManyStops (is_word words.Pragma) Any)
 pragma_list_exact =
     exact_many (is_word words.Pragma) pragma_at pragma_clause Any pragma_exact
     (λ x s r g. at_placed (λ o. is_word words.Pragma o ≡ true) (kinds.Word words.Pragma) x.place (λ _ _. refl) s r g) (λ o h. tt) refl
 
-package_part_exact : (k : ℕ) → Exact (package_part_at k) (optional (package_part (Some k))) (PerhapsStops begins_package Free)
+pub package_part_exact : (k : ℕ) → Exact (package_part_at k) (optional (package_part (Some k))) (PerhapsStops begins_package Free)
 package_part_exact k =
     perhaps_exact begins_package (package_exact k) (λ x s r g. at_package (λ o. begins_package o ≡ true) (λ _ _. refl) (λ _ _. refl) k x s r g)
 

@@ -150,7 +150,7 @@ module _ (k : ℕ) where
       exact_after (simple_at k) (index_rest_at k) (derives Simple l) IndexRest (λ _. SimpleStops) RestStops (index l) IndexStops (exact_simple k)
       index_rest_exact index_to index_back index_fits index_stop
 
-  index_end : (y : IndexTree) (s e : ℕ) → IndexStops y (Some (record { kind = kinds.Delimiter marks.RightParenthesis; start = s; end_ = e }))
+  pub index_end : (y : IndexTree) (s e : ℕ) → IndexStops y (Some (record { kind = kinds.Delimiter marks.RightParenthesis; start = s; end_ = e }))
   index_end (OfRange q) s e = refl
   index_end (OfSubtype n) s e = (refl, refl)
 

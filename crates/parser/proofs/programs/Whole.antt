@@ -14,11 +14,13 @@ use Rattle.parser.specs.declared.refusal.Refusal.{Refusal}
 use Rattle.parser.specs.Levels.{opens, openers}
 use Rattle.parser.specs.Reading.{first, Gives, is_next}
 use Rattle.parser.specs.ProgramReading.{whole_at}
-use Rattle.parser.specs.Parsing.{Derives, GaveTree, end_of, place_behind, NoneBegins, IsFaulty, IsRefusal, IsTooDeep, HasOneTree, start_or, place_at, fault_of}
+use Rattle.parser.specs.Parsing.{Derives, GaveTree, end_of, place_behind, SomeBegins, NoneBegins, IsFaulty, IsRefusal, IsTooDeep, HasOneTree, start_or}
+use Rattle.parser.specs.Parsing.{place_at, fault_of}
 use Rattle.parser.specs.Parsing.{answer_of}
 use Rattle.parser.proofs.general.Exact.{ok_is, ok_not_err}
 use Rattle.parser.proofs.programs.Programs.{whole_exact}
 use Rattle.parser.proofs.programs.DeepPrograms.{deep_whole}
+use Rattle.parser.proofs.programs.GoingPrograms.{a_main, goes_whole}
 
 module _ (limit : LimitIsDepth) where
   pub whole_sound : (ts : Tokens) (t : ProgramTree) → whole_at 40 ts ≡ Ok (t, []) → Derives t ts
@@ -87,6 +89,17 @@ number_is : (b : Bool) (x y : ℕ) (Q : Type 0) → (b ≡ true → Q) → (cond
 number_is true x y Q h = inr (refl, h refl)
 number_is false x y Q h = inl refl
 
+some_begins : LimitIsDepth → (ts : Tokens) (b : Broken) (front back : Tokens) → whole_at 40 ts ≡ Err b → ts ≡ front ++ back → b.left ≡ length back
+    → SomeBegins front
+some_begins limit ts b front back e parts left =
+    let g = (goes_whole 39).on ts b e in
+    let whole = (goes_whole 39).all in
+    let same = same_parts g.front g.back front back (sym g.parts ∙ parts) (sym g.left ∙ left) in
+    subst SomeBegins same.0 (elim g.on [
+      | inl none ↦ (whole.0, a_main, whole_sound limit (g.front ++ a_main) whole.0 (ap (λ (z : Tokens). whole_at 40 (z ++ a_main)) none ∙ whole.1))
+      | inr w ↦ (w.1.0, w.0, whole_sound limit (g.front ++ w.0) w.1.0 w.1.1)
+    ])
+
 pub first_fault : LimitIsDepth → (ts : Tokens) (b : Broken) → whole_at 40 ts ≡ Err b → IsFaulty ts (fault_of ts b)
 first_fault limit ts b e =
     let l = (whole_exact 40).local ts b e in
@@ -95,6 +108,7 @@ first_fault limit ts b e =
       back = l.back;
       parts = l.parts;
       place = place_is ts l.front l.back b.left l.parts l.left;
+      some = some_begins limit ts b l.front l.back e l.parts l.left;
       none = none_begins limit l.front l.back (λ g. record { deep = b.deep; left = length g }) l.again;
       number = number_is b.deep 7 6 (IsTooDeep l.front l.back) (λ is. too_deep ts l.front l.back b l.parts l.left is e);
     }

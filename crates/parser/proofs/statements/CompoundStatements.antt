@@ -22,7 +22,7 @@ use Rattle.parser.specs.Reading.{Reader, first, is_first, is_word, mapped}
 use Rattle.parser.specs.MoreReading.{Either, Left, Right, flag, past_word}
 use Rattle.parser.specs.StatementReading.{Readers, elsif_at, elsifs_at, else_at, if_at, choices_of, choices_at, alternative_at, alternatives_at, case_at, Turns}
 use Rattle.parser.specs.StatementReading.{iteration_of, while_at, for_at, iteration_at, loop_at, exception_choice_of, exception_choice_at, handler_at}
-use Rattle.parser.specs.StatementReading.{handlers_at, block_start_of, block_start_at, block_at, begins_statement}
+use Rattle.parser.specs.StatementReading.{handler_list_at, elsif_list_at, alternative_list_at, handlers_at, block_start_of, block_start_at, block_at, begins_statement}
 use Rattle.parser.proofs.general.Exact.{Exact, Free, exact_nothing, exact_either, exact_told}
 use Rattle.parser.proofs.general.Several.{ManyStops, exact_token, exact_skipped, exact_identifier, exact_many, exact_several, exact_separated}
 use Rattle.parser.proofs.general.MoreExact.{Flagged, FlagStops, Any, heads_placed, many_stop, set_stop, EitherSpells, EitherStops, at_head, at_token, at_past}
@@ -131,14 +131,17 @@ module _ (l : ℕ) (statements : Reader StmtTrees) (es : ExactStatements l state
   abbrev pub Part : HandlerTrees → Tokens → Type 0
   Part y = word words.Exception ⨾ SomeHandlers y
 
+  pub handler_list_exact : Exact (handler_list_at statements) (some Handler) (λ xs. HandlerStops)
+  handler_list_exact =
+      exact_several (is_word words.When) (handler_at statements) Handler AllStop handler_exact
+      (λ x s r g. at_past (λ o. is_word words.When o ≡ true) (kinds.Word words.When) (λ _ _. refl) s r g)
+      (when_first AllStop (kinds.Word words.When) (λ _ _. refl)) refl
+
   pub part_exact : Exact (past_word words.Exception (mapped handlers_of (reading.several (is_word words.When) (handler_at statements)))) Part
       (λ _. HandlerStops)
   part_exact =
       past_exact (kinds.Word words.Exception) refl
-      (mapped_exact handlers_of SomeHandlers (λ _. HandlerStops)
-      (exact_several (is_word words.When) (handler_at statements) Handler AllStop handler_exact
-      (λ x s r g. at_past (λ o. is_word words.When o ≡ true) (kinds.Word words.When) (λ _ _. refl) s r g)
-      (when_first AllStop (kinds.Word words.When) (λ _ _. refl)) refl)
+      (mapped_exact handlers_of SomeHandlers (λ _. HandlerStops) handler_list_exact
       handlers_to handlers_back (λ x o st. st) (λ x o st. st))
 
   abbrev pub HandlersStop : HandlerTrees → Option Token → Type 0
@@ -244,12 +247,15 @@ module _ (r : Readers) (es : ExactStatements r.levels r.statements) where
   elsifs_in [] o st = st
   elsifs_in (x ∷ xs) o st = st
 
+  pub elsif_list_exact : Exact (elsif_list_at r) (each Elsif) (ManyStops (is_word words.Elsif) AllStop)
+  elsif_list_exact =
+      exact_many (is_word words.Elsif) (elsif_at r) Elsif AllStop elsif_exact
+      (λ x s r g. at_past (λ o. is_word words.Elsif o ≡ true) (kinds.Word words.Elsif) (λ _ _. refl) s r g)
+      (when_first AllStop (kinds.Word words.Elsif) (λ _ _. refl)) refl
+
   pub elsifs_exact : Exact (elsifs_at r) (λ y. elsifs y l) ElsifsStop
   elsifs_exact =
-      mapped_exact elsifs_of (λ y. elsifs y l) ElsifsStop
-      (exact_many (is_word words.Elsif) (elsif_at r) Elsif AllStop elsif_exact
-      (λ x s r g. at_past (λ o. is_word words.Elsif o ≡ true) (kinds.Word words.Elsif) (λ _ _. refl) s r g)
-      (when_first AllStop (kinds.Word words.Elsif) (λ _ _. refl)) refl)
+      mapped_exact elsifs_of (λ y. elsifs y l) ElsifsStop elsif_list_exact
       elsifs_to elsifs_back elsifs_out elsifs_in
 
   abbrev pub ElseStops : StmtTrees → Option Token → Type 0
@@ -283,14 +289,14 @@ module _ (r : Readers) (es : ExactStatements r.levels r.statements) where
           → else_stmts y l s × ElseStops y (first r)
       else_rest y s r g st h = else_some y s r g st
 
-  else_end : (y : StmtTrees) (s e : ℕ) → ElseStops y (Some (record { kind = end_word; start = s; end_ = e }))
+  pub else_end : (y : StmtTrees) (s e : ℕ) → ElseStops y (Some (record { kind = end_word; start = s; end_ = e }))
   else_end NoStmts s e = refl
   else_end (MoreStmts one rest) s e = refl
 
   abbrev pub End_if : Tokens → Type 0
   End_if = word words.End ⨾ word words.If ⨾ mark marks.Semicolon
 
-  elsifs_stop : (o : Option Token) → is_word words.Elsif o ≡ false → AllStop o → (x : ElsifTrees) → ElsifsStop x o
+  pub elsifs_stop : (o : Option Token) → is_word words.Elsif o ≡ false → AllStop o → (x : ElsifTrees) → ElsifsStop x o
   elsifs_stop o h st NoElsifs = h
   elsifs_stop o h st (MoreElsifs condition body rest) = (h, st)
 
@@ -384,7 +390,7 @@ module _ (r : Readers) (es : ExactStatements r.levels r.statements) where
       (λ y s r g st. not_others y s r g))
       choices_to choices_back choices_out choices_in
 
-  choices_arrow : (x : ChoicesTree) (s e : ℕ) → ChoicesStop x (Some (record { kind = kinds.Delimiter marks.Arrow; start = s; end_ = e }))
+  pub choices_arrow : (x : ChoicesTree) (s e : ℕ) → ChoicesStop x (Some (record { kind = kinds.Delimiter marks.Arrow; start = s; end_ = e }))
   choices_arrow (Values all) s e = (refl, arrow_stops s e)
   choices_arrow (OtherValues place) s e = tt
 
@@ -422,12 +428,15 @@ module _ (r : Readers) (es : ExactStatements r.levels r.statements) where
   abbrev pub AlternativesStop : Option Token → Type 0
   AlternativesStop o = (is_word words.When o ≡ false) × AllStop o
 
+  pub alternative_list_exact : Exact (alternative_list_at r) (some AlternativeParts) (λ xs. AlternativesStop)
+  alternative_list_exact =
+      exact_several (is_word words.When) (alternative_at r) AlternativeParts AllStop alternative_exact
+      (λ x s r g. at_placed (λ o. is_word words.When o ≡ true) (kinds.Word words.When) x.0 (λ _ _. refl) s r g)
+      (when_first AllStop (kinds.Word words.When) (λ _ _. refl)) refl
+
   pub alternatives_exact : Exact (alternatives_at r) (λ y. some_alternatives y l) (λ _. AlternativesStop)
   alternatives_exact =
-      mapped_exact alternatives_of (λ y. some_alternatives y l) (λ _. AlternativesStop)
-      (exact_several (is_word words.When) (alternative_at r) AlternativeParts AllStop alternative_exact
-      (λ x s r g. at_placed (λ o. is_word words.When o ≡ true) (kinds.Word words.When) x.0 (λ _ _. refl) s r g)
-      (when_first AllStop (kinds.Word words.When) (λ _ _. refl)) refl)
+      mapped_exact alternatives_of (λ y. some_alternatives y l) (λ _. AlternativesStop) alternative_list_exact
       alternatives_to alternatives_back (λ x o st. st) (λ x o st. st)
 
   case_back : (y : StmtTree) (ts : Tokens) → CaseParts y l ts

@@ -157,7 +157,7 @@ deep_task_entry : (k : ℕ) → Deep k task_entry_at
 deep_task_entry k =
     deep_changed k _ (deep_placed k (kinds.Word words.Entry) refl (deep_ended k exact_identifier (deep_identifier k) (deep_skipped k semicolon)))
 
-task_entries_exact : Exact task_entries_at (each task_entry) (ManyStops (is_word words.Entry) Any)
+pub task_entries_exact : Exact task_entries_at (each task_entry) (ManyStops (is_word words.Entry) Any)
 task_entries_exact =
     exact_many (is_word words.Entry) task_entry_at task_entry Any task_entry_exact
     (λ x s r g. at_placed (λ o. is_word words.Entry o ≡ true) (kinds.Word words.Entry) x.place (λ _ _. refl) s r g) (λ o h. tt) refl
@@ -168,7 +168,7 @@ deep_task_definition k =
     (deep_both k task_entries_exact (deep_many k (is_word words.Entry) task_entry_at _ _ task_entry_exact (deep_task_entry k))
     (deep_past k (kinds.Word words.End) refl (deep_identifier k))))
 
-task_part_exact : Exact task_definition_part (optional task_definition) (PerhapsStops (is_word words.Is) Free)
+pub task_part_exact : Exact task_definition_part (optional task_definition) (PerhapsStops (is_word words.Is) Free)
 task_part_exact =
     perhaps_exact (is_word words.Is) task_definition_exact (λ x s r g. at_past (λ o. is_word words.Is o ≡ true) (kinds.Word words.Is) (λ _ _. refl) s r g)
 
@@ -190,15 +190,15 @@ deep_component k =
     deep_changed k _ (deep_named k
     (deep_past k (kinds.Delimiter marks.Colon) refl (deep_named k (deep_ended k (initial_exact k) (deep_initial k) (deep_skipped k semicolon)))))
 
-operations_exact : (k : ℕ) → Exact (operations_at k) (each (operation (Some k))) (ManyStops begins_operation Any)
+pub operations_exact : (k : ℕ) → Exact (operations_at k) (each (operation (Some k))) (ManyStops begins_operation Any)
 operations_exact k = exact_many begins_operation (operation_at k) (operation (Some k)) Any (operation_exact k) (operation_begins k) (λ o h. tt) refl
 
-components_exact : (k : ℕ) → Exact (protected_components_at k) (each (protected_component (Some k))) (ManyStops is_identifier Any)
+pub components_exact : (k : ℕ) → Exact (protected_components_at k) (each (protected_component (Some k))) (ManyStops is_identifier Any)
 components_exact k =
     exact_many is_identifier (protected_component_at k) (protected_component (Some k)) Any (protected_component_exact k)
     (λ x s r g. at_name (λ o. is_identifier o ≡ true) x.name (λ _ _. refl) s r g) (λ o h. tt) refl
 
-private_exact : (k : ℕ) → Exact (perhaps (is_word words.Private) (past (kinds.Word words.Private) (protected_components_at k))) (PrivatePart k)
+pub private_exact : (k : ℕ) → Exact (perhaps (is_word words.Private) (past (kinds.Word words.Private) (protected_components_at k))) (PrivatePart k)
     (PerhapsStops (is_word words.Private) (ManyStops is_identifier Any))
 private_exact k =
     perhaps_exact (is_word words.Private) (past_exact (kinds.Word words.Private) refl (components_exact k))

@@ -2,7 +2,7 @@
 use Rattle.lexer.specs.declared.token.TokenKind.TheVariants as kinds
 use Rattle.lexer.specs.declared.word.Word.TheVariants as words
 use Rattle.lexer.specs.declared.delimiter.Delimiter.TheVariants as marks
-use Rattle.std.proofs.Common.{◌≡◌, ℕ, zero, suc, true, List, [], ◌∷◌, ◌++◌, Option, Some, refl, ap, subst, inl, inr}
+use Rattle.std.proofs.Common.{◌≡◌, ℕ, zero, suc, true, false, List, [], ◌∷◌, ◌++◌, Option, Some, refl, ap, subst, inl, inr}
 use Rattle.lexer.specs.declared.token.Token.{Token}
 use Rattle.lexer.specs.declared.word.Word.{Word}
 use Rattle.ada_tree.specs.ExpressionTree.{ExprTree, NameTree}
@@ -14,7 +14,7 @@ use Rattle.ada_tree.specs.StatementGrammar.{iteration, exception_choice, block_d
 use Rattle.parser.specs.Reading.{Reader, first, is_first, is_word, is_mark, seq, mapped, opened, skip_mark}
 use Rattle.parser.specs.MoreReading.{next_word}
 use Rattle.parser.specs.StatementReading.{Readers, elsif_at, if_at, alternative_at, case_at, loop_at, exception_choice_at, handler_at, block_at, statement_of}
-use Rattle.parser.specs.StatementReading.{statement_at, begins_statement, statements_at, readers, readers_at}
+use Rattle.parser.specs.StatementReading.{statement_at, begins_statement, statement_list_at, statements_at, readers, readers_at}
 use Rattle.parser.proofs.general.Exact.{Exact, Free, exact_told}
 use Rattle.parser.proofs.general.Several.{Below, exact_several, exact_opened, exact_next, next_first}
 use Rattle.parser.proofs.general.MoreExact.{Any, heads_placed, at_head, at_past, at_placed, at_name, at_both, mapped_exact, by_word_exact}
@@ -25,7 +25,8 @@ use Rattle.parser.specs.ExpressionReading.{expression_at}
 use Rattle.parser.proofs.general.Heads.{when_first}
 use Rattle.parser.proofs.statements.PlainStatements.{Class, class_of, class_at, Of, null_exact, named_statement, exit_exact, return_exact, raise_exact}
 use Rattle.parser.proofs.statements.PlainStatements.{delay_exact, abort_exact, requeue_exact, accept_exact, select_exact}
-use Rattle.parser.proofs.statements.PlainStatements.{Nulls, Names, Exits, Returns, Raises, Delays, Ifs, Cases, Loops, Blocks, Aborts, Requeues, Accepts, Selects}
+use Rattle.parser.proofs.statements.PlainStatements.{Nulls, Names, Exits, Returns, Raises, Delays, Ifs, Cases, Loops, Blocks, Aborts, Requeues, Accepts}
+use Rattle.parser.proofs.statements.PlainStatements.{Selects}
 use Rattle.parser.proofs.statements.CompoundStatements.{AllStop, ExactStatements, line_stops, line, exception_choice_exact, handler_exact, IfParts, CaseParts}
 use Rattle.parser.proofs.statements.CompoundStatements.{LoopParts, BlockParts, l, elsif_exact, if_exact, alternative_exact, case_exact, loop_exact, block_exact}
 
@@ -187,10 +188,14 @@ statement_below : (k : ℕ) (d : Option Readers) → Below Holds k d → Exact (
 statement_below k d below =
     by_word_exact (statement_of k d) (λ w. Of (class_at w) k) (One k) (of_word k d below) (λ w x s g. g.1) (λ x s r g. ((statement_starts k x s r g).0, g))
 
+statement_list_below : (k : ℕ) (d : Option Readers) → Below Holds k d
+    → Exact (statement_list_at k d) (some (One k)) (λ xs o. (begins_statement o ≡ false) × Any o)
+statement_list_below k d below =
+    exact_several begins_statement (statement_at k d) (One k) Any (statement_below k d below) (λ x s r g. (statement_starts k x s r g).1) (λ o h. tt) refl
+
 statements_below : (k : ℕ) (d : Option Readers) → Below Holds k d → ExactStatements k (statements_at k d)
 statements_below k d below =
-    mapped_exact stmts_of (λ all. stmts all (Some k)) (λ _. AllStop)
-    (exact_several begins_statement (statement_at k d) (One k) Any (statement_below k d below) (λ x s r g. (statement_starts k x s r g).1) (λ o h. tt) refl)
+    mapped_exact stmts_of (λ all. stmts all (Some k)) (λ _. AllStop) (statement_list_below k d below)
     (all_to k) (all_back k) (λ x o st. st.0) (λ x o st. (st, tt))
 
 pub below : (k : ℕ) → Below Holds k (readers k)
@@ -199,6 +204,9 @@ below (suc k) = (refl, statements_below k (readers k) (below k))
 
 pub statement_exact : (k : ℕ) → Exact (statement_at k (readers k)) (One k) Free
 statement_exact k = statement_below k (readers k) (below k)
+
+pub statement_list_exact : (k : ℕ) → Exact (statement_list_at k (readers k)) (some (One k)) (λ xs o. (begins_statement o ≡ false) × Any o)
+statement_list_exact k = statement_list_below k (readers k) (below k)
 
 pub statements_exact : (k : ℕ) → ExactStatements k (statements_at k (readers k))
 statements_exact k = statements_below k (readers k) (below k)

@@ -13,7 +13,8 @@ use Rattle.parser.proofs.expressions.Operations.{exact_factor, exact_term}
 use Rattle.parser.proofs.expressions.Levelled.{below}
 use Rattle.parser.proofs.general.Loops.{pushed, goes, ends, gives_up, handed_on, many_starts, list_starts, map_none, map_one, map_pushed, next_read}
 use Rattle.parser.proofs.general.Loops.{both_read, first_fails, second_fails, no_longer, chain_read, made_is}
-use Rattle.parser.proofs.expressions.ExpressionLoops.{argument_smaller, selector_smaller, elsif_smaller, operator_read, operator_fails, operator_begins, no_operator, operator_smaller, logical_smaller}
+use Rattle.parser.proofs.expressions.ExpressionLoops.{argument_smaller, selector_smaller, elsif_smaller, operator_read, operator_fails, operator_begins}
+use Rattle.parser.proofs.expressions.ExpressionLoops.{no_operator, operator_smaller, logical_smaller}
 use Rattle.parser.proofs.parser.Parser.+expression.Goals as goal
 
 pub argument_list-loop-self-init : goal.argument_list-loop-self-init
@@ -211,7 +212,8 @@ unfolding term_in
 term-returns-in-Ok t c =
     let k = c.args.levels in
     subst (λ z. Gives expr_tree c.product.result c.product.new.self.rest.now z)
-    (sym (chain_read reading.multiplying (reading.factor_in (reading.values k)) (reading.factor_in (reading.values k)) c.args.self.now.rest.now (expr_tree c.in-Ok.first)
+    (sym (chain_read reading.multiplying (reading.factor_in (reading.values k)) (reading.factor_in (reading.values k)) c.args.self.now.rest.now
+    (expr_tree c.in-Ok.first)
     c.factor.new.self.rest.now c.in-Ok.ensures))
     c.product.ensures
 
@@ -228,7 +230,8 @@ unfolding simple_in
 simple-returns-in-Ok t c =
     let k = c.args.levels in
     subst (λ z. Gives expr_tree c.sum.result c.sum.new.self.rest.now z)
-    (sym (chain_read reading.adding (reading.prefixed reading.sign (reading.term_in (reading.values k))) (reading.term_in (reading.values k)) c.args.self.now.rest.now (expr_tree c.in-Ok.first)
+    (sym (chain_read reading.adding (reading.prefixed reading.sign (reading.term_in (reading.values k))) (reading.term_in
+    (reading.values k)) c.args.self.now.rest.now (expr_tree c.in-Ok.first)
     c.signed.new.self.rest.now c.in-Ok.ensures))
     c.sum.ensures
 
