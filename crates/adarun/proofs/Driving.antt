@@ -1,5 +1,5 @@
 -- What the work over files leaves.
-use Rattle.std.proofs.Common.{◌≡◌, ◌<◌, ℕ, List, Option, Bool, true, false, cond, inr, refl, sym, ap, subst}
+use Rattle.std.proofs.Common.{◌≡◌, ◌<◌, ℕ, List, Option, Bool, true, false, cond, inr, refl, sym, ap, subst, Ok, Err}
 use Rattle.std.specs.Prelude.{nat_eq}
 use Rattle.base.specs.declared.faults.TheConstants.{MEMORY_REFUSED}
 use Rattle.lexer.specs.declared.fault.Fault.{Fault}
@@ -7,6 +7,10 @@ use Rattle.machine.specs.declared.reports.Outcome.{Outcome}
 use Rattle.machine.specs.declared.reports.Outcome.TheVariants as outcomes
 use Rattle.clock.specs.Schedules as schedules
 use Rattle.clock.specs.declared.schedule.ScheduleFault.{ScheduleFault}
+use Rattle.command_line.specs.Words.{Answers, Command, Nothing, command_of}
+use Rattle.command_line.specs.declared.Request.{Request}
+use Rattle.command_line.specs.declared.WordsError.{WordsError}
+use Rattle.command_line.specs.declared.WordsError.TheVariants.{Usage}
 use Rattle.adarun.specs.Accepted.{RefusesText}
 use Rattle.adarun.specs.Headline.{Runs}
 use Rattle.adarun.specs.Stopping.{RefusesRunning}
@@ -96,3 +100,11 @@ module _ (contents : Contents) (name schedule : List ℕ) (limit : ℕ) (old new
 -- the status of a sink's failure
 pub failed_keeps : (status : Status) (Same : Type 0) (before after : ℕ) → status ≡ Failed → before < after → KeepsSink status Same before after
 failed_keeps status Same before after is less = subst (λ s. KeepsSink s Same before after) (sym is) (λ e. cc, (λ e. cc, (λ e. cc, (λ e. inr less, λ not. absurd (not refl)))))
+
+-- ---- what the words ask for, by the request that was read
+
+pub asked_as : (command : Command) (read request : Request) → read ≡ request → Answers command (Ok read) → command_of request ≡ command
+asked_as command read request is answers = subst (λ r. command_of r ≡ command) is answers
+
+pub asked_nothing : (command : Command) (error : WordsError) → error ≡ Usage → Answers command (Err error) → Nothing ≡ command
+asked_nothing command error is answers = sym (subst (λ e. Answers command (Err e)) is answers)

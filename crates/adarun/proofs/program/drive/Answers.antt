@@ -1,6 +1,7 @@
-use Rattle.std.proofs.Common.{inl, inr, refl, rules, sym}
+use Rattle.std.proofs.Common.{inl, inr, refl, rules}
 use Rattle.command_line.specs.Words.{CompileText, GoText, ListImage, Nothing, RunImage}
 use Rattle.adarun.specs.declared.program.Status.TheVariants.{Failed, NoMemory}
+use Rattle.adarun.proofs.Driving.{asked_as, asked_nothing}
 use Rattle.adarun.proofs.program.drive.Goals as goal
 
 pub returns-in-Err-Memory-clause-answers : goal.returns-in-Err-Memory-clause-answers
@@ -12,7 +13,7 @@ returns-in-Ok-Compile-clause-answers g c = record {
   work = CompileText c.in-Ok-Compile.source.now c.in-Ok-Compile.image.now;
   status = c.drive_compile-status.result;
   answer_is = search rules;
-  asked_for = λ plain. inl (c.in-Ok-Compile.ensures plain);
+  asked_for = λ plain. inl (asked_as _ _ _ c.in-Ok-Compile.field-0-is (c.in-Ok-Compile.ensures plain));
   leaves = c.drive_compile-status.ensures (g.O.Sink.bytes c.args.out.now);
 }
 
@@ -21,7 +22,7 @@ returns-in-Ok-List-clause-answers g c = record {
   work = ListImage c.in-Ok-List.image.now;
   status = c.drive_list-status.result;
   answer_is = search rules;
-  asked_for = λ plain. inl (c.in-Ok-List.ensures plain);
+  asked_for = λ plain. inl (asked_as _ _ _ c.in-Ok-List.field-0-is (c.in-Ok-List.ensures plain));
   leaves = (λ name. refl, c.drive_list-status.ensures.leaves);
 }
 
@@ -30,7 +31,7 @@ returns-in-Ok-Run-clause-answers g c = record {
   work = RunImage c.in-Ok-Run.image.now c.in-Ok-Run.schedule.now c.in-Ok-Run.limit;
   status = c.drive_run-status.result;
   answer_is = search rules;
-  asked_for = λ plain. inl (c.in-Ok-Run.ensures plain);
+  asked_for = λ plain. inl (asked_as _ _ _ c.in-Ok-Run.field-0-is (c.in-Ok-Run.ensures plain));
   leaves = (λ name. refl, c.drive_run-status.ensures.leaves);
 }
 
@@ -39,10 +40,10 @@ returns-in-Ok-Go-clause-answers g c = record {
   work = GoText c.in-Ok-Go.source.now c.in-Ok-Go.schedule.now c.in-Ok-Go.limit;
   status = c.drive_go-status.result;
   answer_is = search rules;
-  asked_for = λ plain. inl (c.in-Ok-Go.ensures plain);
+  asked_for = λ plain. inl (asked_as _ _ _ c.in-Ok-Go.field-0-is (c.in-Ok-Go.ensures plain));
   leaves = (λ name. refl, c.drive_go-status.ensures.leaves);
 }
 
 pub returns-in-Err-Usage-clause-answers : goal.returns-in-Err-Usage-clause-answers
 returns-in-Err-Usage-clause-answers g c =
-    rw c.tell-status.ensures (record { work = Nothing; status = Failed; answer_is = refl; asked_for = λ plain. inl (sym (c.in-Err-Usage.ensures plain)); leaves = (λ name. refl, (refl, inl refl)) })
+    rw c.tell-status.ensures (record { work = Nothing; status = Failed; answer_is = refl; asked_for = λ plain. inl (asked_nothing _ _ c.in-Err-Usage.field-0-is (c.in-Err-Usage.ensures plain)); leaves = (λ name. refl, (refl, inl refl)) })
