@@ -7,7 +7,7 @@ use Rattle.machine.specs.declared.reports.Outcome.{Outcome}
 use Rattle.machine.specs.declared.reports.Outcome.TheVariants as outcomes
 use Rattle.clock.specs.Schedules as schedules
 use Rattle.clock.specs.declared.schedule.ScheduleFault.{ScheduleFault}
-use Rattle.command_line.specs.Words.{Answers, Command, Nothing, command_of}
+use Rattle.command_line.specs.Words.{AnswersWords, Command, Nothing, command_of}
 use Rattle.command_line.specs.declared.Request.{Request}
 use Rattle.command_line.specs.declared.WordsError.{WordsError}
 use Rattle.command_line.specs.declared.WordsError.TheVariants.{Usage}
@@ -103,8 +103,8 @@ failed_keeps status Same before after is less = subst (λ s. KeepsSink s Same be
 
 -- ---- what the words ask for, by the request that was read
 
-pub asked_as : (command : Command) (read request : Request) → read ≡ request → Answers command (Ok read) → command_of request ≡ command
+pub asked_as : (command : Command) (read request : Request) → read ≡ request → AnswersWords command (Ok read) → command_of request ≡ command
 asked_as command read request is answers = subst (λ r. command_of r ≡ command) is answers
 
-pub asked_nothing : (command : Command) (error : WordsError) → error ≡ Usage → Answers command (Err error) → Nothing ≡ command
-asked_nothing command error is answers = sym (subst (λ e. Answers command (Err e)) is answers)
+pub asked_nothing : (command : Command) (error : WordsError) → error ≡ Usage → AnswersWords command (Err error) → Nothing ≡ command
+asked_nothing command error is answers = sym (subst (λ e. AnswersWords command (Err e)) is answers)

@@ -21,7 +21,7 @@ use Rattle.clap.proofs.WalkLemmas.{first_value-rows}
 use Rattle.command_line.specs.declared.Request.{Request}
 use Rattle.command_line.specs.declared.WordsError.{WordsError}
 use Rattle.command_line.specs.declared.WordsError.TheVariants as errors
-use Rattle.command_line.specs.Words.{Answers, Nothing, asked, is_plain}
+use Rattle.command_line.specs.Words.{AnswersWords, Nothing, asked, is_plain}
 use Rattle.command_line.specs.Finding.{asked_by, asked_in, program_app}
 use Rattle.command_line.proofs.Reading.{IsNoFlag, IsRefusal, Refuses, at, fault_plain, go_refused_more, go_refused_none, go_refused_one, go_refused_two, go_rows, go_taken, level_by, no_flag, one_refused_more, one_refused_none, one_rows, one_taken, run_refused_more, run_refused_none, run_refused_one, run_refused_two, run_rows, run_taken, two_refused_more, two_refused_none, two_refused_one, two_rows, two_taken}
 
@@ -219,7 +219,7 @@ judged (name ∷ rest) h = by _ _ _ _ _ refl refl refl refl refl
 -- ---- what clap answers
 
 pub accepted : (words : List Text) (app : App) (m : ArgMatches) (r : Result Request WordsError) → app ≡ program_app → HasMatchesOf app words m
-    → (is_simple_and_free app ≡ true → fault_of app words ≡ []) → Answers (asked_by (subcommand_rows_of m)) r → ArePlain words → Answers (asked words) r
+    → (is_simple_and_free app ≡ true → fault_of app words ≡ []) → AnswersWords (asked_by (subcommand_rows_of m)) r → ArePlain words → AnswersWords (asked words) r
 unfolding clap_on_literals
 accepted words app m r is has right answers plain = by (judged words plain)
   where
@@ -229,8 +229,8 @@ accepted words app m r is has right answers plain = by (judged words plain)
     found : subcommand_rows_of m ≡ subcommand_of program_app words
     found = (has (ap is_simple is)).1 ∙ ap (λ a. subcommand_of a words) is
 
-    by : Judged words → Answers (asked words) r
-    by (Taken name rows none given same) = subst (λ c. Answers c r) (ap asked_by (found ∙ given) ∙ same) answers
+    by : Judged words → AnswersWords (asked words) r
+    by (Taken name rows none given same) = subst (λ c. AnswersWords c r) (ap asked_by (found ∙ given) ∙ same) answers
     by (Refused wrong nothing) = absurd (none_of (subst IsRefusal whole_right wrong))
       where
         none_of : IsRefusal [] → ⊥
@@ -241,7 +241,7 @@ accepted words app m r is has right answers plain = by (judged words plain)
             by_kinds (k ∷ ks) e Refuses = cc
 
 pub refused : (words : List Text) (app : App) (e : Error) (w : WordsError) → app ≡ program_app → (is_simple_and_free app ≡ true → HasKind (fault_of app words) e)
-    → (kind_of e ≡ kinds.OutOfMemory → w ≡ errors.Memory) → ArePlain words → Answers (asked words) (Err w)
+    → (kind_of e ≡ kinds.OutOfMemory → w ≡ errors.Memory) → ArePlain words → AnswersWords (asked words) (Err w)
 unfolding clap_on_literals
 refused words app e w is kind memory plain = by (judged words plain)
   where
@@ -252,13 +252,13 @@ refused words app e w is kind memory plain = by (judged words plain)
     by_memory (inl out) = memory out
     by_memory (inr nowhere) = absurd nowhere
 
-    nothing_asked : (v : WordsError) → Answers Nothing (Err v)
+    nothing_asked : (v : WordsError) → AnswersWords Nothing (Err v)
     nothing_asked errors.Usage = refl
     nothing_asked errors.Memory = tt
 
-    by : Judged words → Answers (asked words) (Err w)
-    by (Taken name rows none given same) = subst (λ v. Answers (asked words) (Err v)) (sym (by_memory (subst (λ ks. HasKind ks e) none has))) tt
-    by (Refused wrong nothing) = subst (λ c. Answers c (Err w)) (sym nothing) (nothing_asked w)
+    by : Judged words → AnswersWords (asked words) (Err w)
+    by (Taken name rows none given same) = subst (λ v. AnswersWords (asked words) (Err v)) (sym (by_memory (subst (λ ks. HasKind ks e) none has))) tt
+    by (Refused wrong nothing) = subst (λ c. AnswersWords c (Err w)) (sym nothing) (nothing_asked w)
 
 joined : {B : Type 0} (o : Option B) (f : B → Text) (g : B → List Row) (name : Text) (rows : List Row) → Some name ≡ option_map f o
     → Some rows ≡ option_map (λ (p : Text × List Row). p.1) (option_map {U = Text × List Row} (λ b. (f b, g b)) o) → option_map {U = Text × List Row} (λ b. (f b, g b)) o ≡ Some (name, rows)
@@ -269,7 +269,7 @@ joined (Some b) f g name rows n r =
     ap₂ (λ x y. Some (x, y)) first second
 
 pub among : (m : ArgMatches) (name : Text) (f : Found) (r : Result Request WordsError) → Some name ≡ subcommand_name_of m
-    → Some (rows_of f) ≡ option_map (λ (p : Text × List Row). p.1) (subcommand_rows_of m) → Answers (asked_in name (first_value f)) r → Answers (asked_by (subcommand_rows_of m)) r
+    → Some (rows_of f) ≡ option_map (λ (p : Text × List Row). p.1) (subcommand_rows_of m) → AnswersWords (asked_in name (first_value f)) r → AnswersWords (asked_by (subcommand_rows_of m)) r
 among m name f r n rows answers =
     let is = joined (out-ArgMatches m).subcommand _ _ name (rows_of f) n rows in
-    subst (λ c. Answers c r) (sym (ap asked_by is ∙ ap (asked_in name) (λ j id. sym (first_value-rows f id) j))) answers
+    subst (λ c. AnswersWords c r) (sym (ap asked_by is ∙ ap (asked_in name) (λ j id. sym (first_value-rows f id) j))) answers

@@ -49,7 +49,7 @@ command_of (requests.Run image schedule limit) = RunImage image.now schedule.now
 command_of (requests.Go source schedule limit) = GoText source.now schedule.now limit
 
 -- the request is that for the command; the words are refused where there is none; or memory was refused
-abbrev pub Answers : Command → Result Request WordsError → Type 0
-Answers command (Ok request) = command_of request ≡ command
-Answers command (Err errors.Usage) = command ≡ Nothing
-Answers command (Err errors.Memory) = ⊤
+abbrev pub AnswersWords : Command → Result Request WordsError → Type 0
+AnswersWords command (Ok request) = command_of request ≡ command
+AnswersWords command (Err errors.Usage) = command ≡ Nothing
+AnswersWords command (Err errors.Memory) = ⊤

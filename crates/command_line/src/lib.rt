@@ -5,7 +5,7 @@ ghost use Rattle.std.specs.Prelude.{◌≡◌, true, false, map, Some, None, IfO
 ghost use Rattle.std.specs.List.{list_all};
 ghost use Rattle.clap.specs.Words.{App, app_of, first_value, found_of, kind_of, subcommand_rows_of};
 ghost use Rattle.clap.specs.declared.builder.command.Command.TheViews.{out-Command};
-ghost use Rattle.command_line.specs.Words.{Answers, asked, is_digit, is_plain};
+ghost use Rattle.command_line.specs.Words.{AnswersWords, asked, is_digit, is_plain};
 ghost use Rattle.command_line.specs.Finding.{asked_by, asked_in, command_app, program_app};
 ghost use Rattle.command_line.specs.Words as words_of;
 
@@ -55,7 +55,7 @@ pub enum WordsError {
 /// of a value below 2**64; Memory where memory was refused.
 pub fn request_of<'a>(alloc: Global, words: &'a [&'a str]) -> Result<Request<'a>, WordsError>
     // Words of which none begins with `-` ask for just what the table of commands says.
-    ensures { list_all is_plain (map (λ w. w.now) words.now) ≡ true → Answers (asked (map (λ w. w.now) words.now)) result }
+    ensures { list_all is_plain (map (λ w. w.now) words.now) ≡ true → AnswersWords (asked (map (λ w. w.now) words.now)) result }
 {
     let Ok(command) = command(alloc) else {
         return Err(WordsError::Memory);
@@ -68,7 +68,7 @@ pub fn request_of<'a>(alloc: Global, words: &'a [&'a str]) -> Result<Request<'a>
 
 // What the command that was found asks for.
 fn request_among<'a>(matches: &ArgMatches<'a>) -> Result<Request<'a>, WordsError>
-    ensures { Answers (asked_by (subcommand_rows_of matches.now)) result }
+    ensures { AnswersWords (asked_by (subcommand_rows_of matches.now)) result }
 {
     match matches.subcommand() {
         Some((name, found)) => request_in(name, found),
@@ -78,7 +78,7 @@ fn request_among<'a>(matches: &ArgMatches<'a>) -> Result<Request<'a>, WordsError
 
 // What the command of this name asks for, where these words were found for its arguments.
 fn request_in<'a>(name: &str, found: &ArgMatches<'a>) -> Result<Request<'a>, WordsError>
-    ensures { Answers (asked_in name.now (first_value (found_of found.now))) result }
+    ensures { AnswersWords (asked_in name.now (first_value (found_of found.now))) result }
 {
     match name {
         "compile" => Ok(Request::Compile {
