@@ -15,13 +15,6 @@ fn is_inside_any<R: Ready, D: Delays>(machine: &Machine<'_, R, D>, task: u8) -> 
     (0..machine.objects()).any(|object| machine.inside(object).as_slice().contains(&task))
 }
 
-// How many calls of entries haven't come to their end.
-fn queued<R: Ready, D: Delays>(machine: &Machine<'_, R, D>) -> usize {
-    (0..machine.tasks())
-        .filter(|task| matches!(machine.state(*task), TaskState::Queued(_)))
-        .count()
-}
-
 // Whether a task of this active priority may be ready: none above the one that runs may (RM D.2.1).
 fn may_be_ready<R: Ready, D: Delays>(machine: &Machine<'_, R, D>, priority: u8) -> bool {
     match machine.running() {
@@ -83,7 +76,6 @@ fn go_on_alike(
     limit: u16,
 ) -> bool {
     for _ in 0..limit {
-        let waited = queued(&rings);
         let event = rings.step();
         if !are_same(&event, &lists.step()) || !excludes(rings) || !excludes(lists) {
             return false;
