@@ -8,7 +8,7 @@ use Rattle.lexer.specs.Fault.{memory_fault}
 use Rattle.lexer.specs.Spelling.{IsBroken, IsRefusedForMemory, Spells}
 use Rattle.lexer.specs.declared.fault.Fault.{Fault}
 use Rattle.lexer.specs.declared.token.Token.{Token}
-use Rattle.parser.specs.Parsing.{Derives}
+use Rattle.parser.specs.Parsing.{Derives, IsFaulty, IsRefusal}
 use Rattle.image.specs.Sections.{Sections}
 use Rattle.image.specs.Rules.{IsWellFormed}
 use Rattle.ada_link.specs.ada_tree.specs.declared.program.Program.{Program}
@@ -118,6 +118,12 @@ judged_accepted outside unlimited (Err fault) text tree made is_tree same legal 
     inr (inr (inr (fine, (held, tells outside unlimited text tree is_tree fine held fault (subst (λ t. RefusesTree t fault) same refused)))))
 
 -- ---- texts that are not compiled
+
+-- what has tokens, of which no tree derives all
+pub no_tree : (text : List ℕ) (tokens list : List Token) (fault : Fault) → Spells text tokens → list ≡ tokens → IsRefusal list fault → RefusesText text fault
+no_tree text tokens list fault spells same (inl memory) = inl memory
+no_tree text tokens list fault spells same (inr faulty) =
+    inr (inr (inl (record { tokens = tokens; spells = spells; faulty = subst (λ l. IsFaulty l fault) same faulty })))
 
 -- what has no tokens: what is told for want of memory is no rule of spelling
 pub misspelled : SpellingNumbers → (text : List ℕ) (fault : Fault) → IsBroken text fault ⊎ IsRefusedForMemory text fault

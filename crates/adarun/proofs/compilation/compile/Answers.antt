@@ -4,7 +4,7 @@ use Rattle.ada_link.specs.ada_tree.specs.ProgramTree.{program_tree}
 use Rattle.checking.specs.ProgramRules.{IsLegal}
 use Rattle.parser.specs.Parsing.{Derives}
 use Rattle.adarun.specs.Accepted.{CompilesAccepted, IsJudged, RefusesText}
-use Rattle.adarun.proofs.Compiling.{compiles, given, judged, judged_accepted, judged_legal, legal_given, refused_left_out, misspelled, refused_text, restricted_given, tells, unrestricted_text}
+use Rattle.adarun.proofs.Compiling.{compiles, given, judged, judged_accepted, judged_legal, legal_given, refused_left_out, misspelled, no_tree, refused_text, restricted_given, tells, unrestricted_text}
 use Rattle.adarun.proofs.compilation.compile.Goals as goal
 
 pub returns-in_err-list-clause-refused : goal.returns-in_err-list-clause-refused
@@ -12,6 +12,12 @@ returns-in_err-list-clause-refused c =
     let is : c.from_residual.result ≡ Err c.in_err-list.field-0.0 = search rules in
     subst (λ r. IfErr r (λ f. RefusesText c.args.source.now f)) (sym is)
     (misspelled c.spelling_numbers.ensures c.args.source.now _ c.in_err-list.ensures.fault c.in_err-list.ensures.least)
+
+pub returns-in_err-program-clause-refused : goal.returns-in_err-program-clause-refused
+returns-in_err-program-clause-refused c =
+    let is : c.from_residual-in_err-program.result ≡ Err c.in_err-program.field-0.0 = search rules in
+    subst (λ r. IfErr r (λ f. RefusesText c.args.source.now f)) (sym is)
+    (no_tree c.args.source.now _ _ _ c.in_ok-list.ensures.sound c.deref.ensures.value c.in_err-program.ensures.fault)
 
 pub returns-in_err-program-clause-judged : goal.returns-in_err-program-clause-judged
 returns-in_err-program-clause-judged c = λ tree is_tree.
