@@ -4,7 +4,7 @@ use Rattle.std.specs.Prelude.{pos, slice_get, replicate, length, ⊤}
 use Rattle.base.specs.declared.schedule.ScheduleLine.{ScheduleLine}
 use Rattle.kernel.specs.State.{Kernel}
 use Rattle.kernel.specs.Effects.{Effect, Quiet, Says, Delays, Opens, Views, Queues, Ends, Finishes, Dies, Breaks, after, begin}
-use Rattle.kernel.specs.Worlds.{Solo, among, step, ending}
+use Rattle.kernel.specs.Worlds.{Solo, among, step, ending, solo_of}
 use Rattle.kernel.specs.Invariant.{Kept}
 use Rattle.kernel.specs.Laws.{LinesGrow, QuietStays, ReachesCallers, RunnerIsCalm}
 use Rattle.kernel.specs.RunLaws.{run_plus}
@@ -23,9 +23,10 @@ use Rattle.ada_tree.specs.ProgramTree.{ProgramTree}
 use Rattle.checking.specs.ProgramRules.{IsLegal}
 use Rattle.ravenscar.specs.ProgramRules.{IsRestricted}
 use Rattle.meaning.specs.Laws.{CountGivesMeaning}
-use Rattle.meaning.specs.Meeting.{Met, Meets, Moves, Owed, Relation, Runner, Still, Walks}
+use Rattle.meaning.specs.Meeting.{Met, Meets, Owed, Relation, Runner}
+use Rattle.meaning.specs.MeetingLaws.{met_for}
 use Rattle.meaning.specs.Works.{DoesMain, GivenToCaller, Goes, Store, TaskWork, ends_of_calls}
-use Rattle.meaning.specs.Source.{initial_work, partition_of, source_behaviour, source_start, task_items}
+use Rattle.meaning.specs.Source.{SourceWorld, source, initial_work, partition_of, source_behaviour, source_start, task_items}
 use Rattle.meaning.specs.Programs.{OfMain, Program, Task, priority_or_zero, program_of, task_name}
 use Rattle.meaning.specs.SameMeaning.{KeepsCount, frames_of}
 use Rattle.meaning.specs.Compiling.{MeetsUnder, met_keeps_count}
@@ -41,7 +42,7 @@ use Rattle.step_simulation.specs.Laws.{StepsAreMet}
 use Rattle.step_simulation.specs.part_code.specs.Resting.{Shows}
 use Rattle.step_simulation.specs.part_code.specs.Statements.{Numbers}
 use Rattle.step_simulation.specs.part_code.specs.Jumping.{Here}
-use Rattle.step_simulation.specs.Standing.{Around, CodeStands, Follows, Going, Inside, Left, Shares, WorkStands, relation, work_size}
+use Rattle.step_simulation.specs.Standing.{Around, CodeStands, Follows, Going, Inside, Left, Note, Shares, WorkStands, relation, work_size}
 use Rattle.step_simulation.specs.part_code.proofs.Handling.{goes_within}
 use Rattle.package_code.specs.LinkLaws.{LinkedKeepsCount, LinkedMeansTheSame}
 use Rattle.package_code.specs.Linked.{AreMain, IsLinkedProgram}
@@ -80,74 +81,74 @@ module _ (laws : LawsBelow) (p : ProgramTree) (i : Sections) (g : Package) (numb
     single : Single k
     left : Left i program g numbers (after t e k) e w s
 
-  abbrev alone : Relation Store TaskWork GivenToCaller Words TaskState steps.Given
+  abbrev alone : Relation Note Store TaskWork GivenToCaller Words TaskState steps.Given
   alone = record {
     shares = Shares i program g numbers;
-    stands = Stands;
-    leaves = λ k t e w s given gives. Leaves k t e w s;
+    stands = λ note k u w s. Stands k u w s;
+    leaves = λ note k t e w s given gives. Leaves k t e w s;
     size = λ w. work_size w.work;
   }
 
   module _ (schedule : List ScheduleLine) where
+    -- the worlds of the program's run
+    abbrev Sources : SourceWorld → Type 0
+    Sources v = (n : ℕ) × (v ≡ source p schedule n)
+
     -- the worlds of the image's run
     abbrev Keeps : CodeWorld → Type 0
     Keeps w = (m : ℕ) × (w ≡ code i schedule m)
 
-    abbrev Meet : Kernel → ℕ → Solo Store TaskWork → Solo Words TaskState → Type 0
-    Meet k t a b = Met (source_behaviour p schedule) (behaviour i schedule) alone frames_of (most_steps i) k t a b
+    abbrev Meet : Note → Kernel → ℕ → Solo Store TaskWork → Solo Words TaskState → Type 0
+    Meet note k t a b = Met (source_behaviour p schedule) (behaviour i schedule) alone frames_of (most_steps i) note k t a b
 
-    met_alone : (k : Kernel) (a : Solo Store TaskWork) (b : Solo Words TaskState) → Single k
-        → Met (source_behaviour p schedule) (behaviour i schedule) (relation i program g numbers) frames_of (most_steps i) k 0 a b → Meet k 0 a b
-    met_alone k a b s (Still e sh st less) = Still e sh (record { single = s; task = st }) less
-    met_alone k a b s (Moves n c takes low e sh left) = Moves n c takes low e sh (record { single = s; left = left })
-    met_alone k a b s (Walks j n c all many low e sh st) = Walks j n c all many low e sh (record { single = s; task = st })
-
-    met_task : (k : Kernel) (t : ℕ) (a : Solo Store TaskWork) (b : Solo Words TaskState) → Runner k t → Shares i program g numbers a.memory b.memory
-        → Stands k t a.task b.task → Meet k t a b
-    met_task k zero a b runner sh st =
-        met_alone k a b st.single
-        (laws.met i program g numbers linked.code (laws.premises p legal) schedule k 0 runner.calm a.memory b.memory a.task b.task sh st.task)
-    met_task k (suc t) a b runner sh st = absurd (st.single.others t runner.calm.runs.running)
+    met_task : (note : Note) (k : Kernel) (t : ℕ) (a : Solo Store TaskWork) (b : Solo Words TaskState) → Runner k t → Shares i program g numbers a.memory b.memory
+        → Stands k t a.task b.task → Meet note k t a b
+    met_task note k zero a b runner sh st =
+        met_for (source_behaviour p schedule) (behaviour i schedule) (relation i program g numbers) alone frames_of (most_steps i) note note k 0
+        (λ m n h. h) (λ w s h. record { single = st.single; task = h }) (λ e w s given gives h. record { single = st.single; left = h }) (λ w. refl) a b
+        (laws.met i program g numbers linked.code (laws.premises p legal) schedule note k 0 runner.calm a.memory b.memory a.task b.task sh st.task)
+    met_task note k (suc t) a b runner sh st = absurd (st.single.others t runner.calm.runs.running)
 
     others_stand : (k l : Kernel) → Single l → (ones : ℕ → TaskWork) (others : ℕ → TaskState) (v : ℕ) → v ≢ 0 → Stands l v (ones v) (others v)
     others_stand k l s ones others zero ne = absurd (ne refl)
     others_stand k l s ones others (suc v) ne = record { single = s; task = tt }
 
-    owed : (k : Kernel) (t : ℕ) (e : Effect) (ones : ℕ → TaskWork) (others : ℕ → TaskState) (a : TaskWork) (b : TaskState) (x : Option GivenToCaller)
+    owed : (next : Note) (k : Kernel) (t : ℕ) (e : Effect) (ones : ℕ → TaskWork) (others : ℕ → TaskState) (a : TaskWork) (b : TaskState) (x : Option GivenToCaller)
         (y : Option steps.Given)
         → Runner k t
         → ((u : ℕ) → Stands k u (ones u) (others u))
         → Leaves k t e a b
-        → Owed (source_behaviour p schedule) (behaviour i schedule) alone frames_of (most_steps i) k t e ones others a b x y (ending k t e)
-    owed k (suc t) e ones others a b x y runner all left = absurd ((all 0).single.others t runner.calm.runs.running)
-    owed k zero Quiet ones others a b x y runner all left =
+        → Owed (source_behaviour p schedule) (behaviour i schedule) alone frames_of (most_steps i) next k t e ones others a b x y (ending k t e)
+    owed next k (suc t) e ones others a b x y runner all left = absurd ((all 0).single.others t runner.calm.runs.running)
+    owed next k zero Quiet ones others a b x y runner all left =
         let s = single_after 0 Quiet k tt left.single in (record { single = s; task = left.left.stands }, others_stand k (after 0 Quiet k) s ones others)
-    owed k zero (Says label z) ones others a b x y runner all left =
+    owed next k zero (Says label z) ones others a b x y runner all left =
         let s = single_after 0 (Says label z) k tt left.single in
         (record { single = s; task = left.left.stands }, others_stand k (after 0 (Says label z) k) s ones others)
-    owed k zero Finishes ones others a b x y runner all left =
+    owed next k zero Finishes ones others a b x y runner all left =
         let s = single_after 0 Finishes k tt left.single in (record { single = s; task = left.left.stands }, others_stand k (after 0 Finishes k) s ones others)
-    owed k zero (Dies z) ones others a b x y runner all left =
+    owed next k zero (Dies z) ones others a b x y runner all left =
         let s = single_after 0 (Dies z) k tt left.single in (record { single = s; task = left.left.stands }, others_stand k (after 0 (Dies z) k) s ones others)
-    owed k zero Breaks ones others a b x y runner all left = absurd left.left.alone
-    owed k zero (Delays until) ones others a b x y runner all left = absurd left.left.alone
-    owed k zero (Opens o) ones others a b x y runner all left = absurd left.left.alone
-    owed k zero (Views o) ones others a b x y runner all left = absurd left.left.alone
-    owed k zero (Queues o) ones others a b x y runner all left = absurd left.left.alone
-    owed k zero (Ends o) ones others a b x y runner all left = absurd left.left.alone
+    owed next k zero Breaks ones others a b x y runner all left = absurd left.left.alone
+    owed next k zero (Delays until) ones others a b x y runner all left = absurd left.left.alone
+    owed next k zero (Opens o) ones others a b x y runner all left = absurd left.left.alone
+    owed next k zero (Views o) ones others a b x y runner all left = absurd left.left.alone
+    owed next k zero (Queues o) ones others a b x y runner all left = absurd left.left.alone
+    owed next k zero (Ends o) ones others a b x y runner all left = absurd left.left.alone
 
     kept_at : (w : CodeWorld) → Keeps w → Kept (is_open i w.rest.memory) w.kernel
     kept_at w h = subst (λ v. Kept (is_open i v.rest.memory) v.kernel) (sym h.1) (laws.kernel_kept i well_formed schedule h.0)
 
-    meets : Meets (source_behaviour p schedule) (behaviour i schedule) alone frames_of (most_steps i) Keeps
+    meets : Meets (source_behaviour p schedule) (behaviour i schedule) alone frames_of (most_steps i) Sources Keeps
     meets = record {
-      kept = λ w h. (h.0 + 1, ap (step (among (behaviour i schedule))) h.1 ∙ sym (run_plus (among (behaviour i schedule)) h.0 1 (start i)));
+      kept_ones = λ v h. (h.0 + 1, ap (step (among (source_behaviour p schedule))) h.1 ∙ sym (run_plus (among (source_behaviour p schedule)) h.0 1 (source_start p)));
+      kept_others = λ w h. (h.0 + 1, ap (step (among (behaviour i schedule))) h.1 ∙ sym (run_plus (among (behaviour i schedule)) h.0 1 (start i)));
       runner = λ w t h runs. record {
         calm = laws.calm (is_open i w.rest.memory) w.kernel t (kept_at w h) runs;
         reaches = λ e. laws.reaches (is_open i w.rest.memory) w.kernel t e runs.running (kept_at w h);
       };
-      met = λ k t a b runner sh st. met_task k t a b runner sh st;
-      owed = owed;
+      met = λ note k t c d r. met_task note k t (solo_of t c) (solo_of t d) r.runner r.shared (r.stand t);
+      owed = λ note k t c d e a b x y moved. (note, owed note k t e c.tasks d.tasks a.task b.task x y moved.before.runner moved.before.stand moved.leaves);
     }
 
     -- ---- the starts
@@ -292,19 +293,21 @@ module _ (laws : LawsBelow) (p : ProgramTree) (i : Sections) (g : Package) (numb
     }
     stands_first (suc u) = record { single = single_start; task = tt }
 
-    under : MeetsUnder p i alone (most_steps i) (λ s w. (m : ℕ) × (w ≡ code i s m)) schedule
+    under : MeetsUnder p i alone (most_steps i) (λ s v. (n : ℕ) × (v ≡ source p s n)) (λ s w. (m : ℕ) × (w ≡ code i s m)) schedule
     under = record {
       meets = meets;
       starts = record {
         same = ap begin same_partition;
-        keeps = (0, refl);
+        ones = (0, refl);
+        others = (0, refl);
+        note = λ u. [];
         shared = record { sound = sound.store; stands = linked.words };
         stands = stands_first;
       };
     }
 
   pub counted : KeepsCount p i (most_steps i)
-  counted = met_keeps_count p i alone (most_steps i) (λ s w. (m : ℕ) × (w ≡ code i s m)) laws.grow laws.quiet (λ schedule ok. under schedule)
+  counted = met_keeps_count p i alone (most_steps i) (λ s v. (n : ℕ) × (v ≡ source p s n)) (λ s w. (m : ℕ) × (w ≡ code i s m)) laws.grow laws.quiet (λ schedule ok. under schedule)
 
 pub linked_keeps_count : LawsBelow → LinkedKeepsCount
 linked_keeps_count laws p i g numbers well_formed legal restricted linked = counted laws p i g numbers well_formed legal restricted linked

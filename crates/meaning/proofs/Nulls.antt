@@ -85,15 +85,16 @@ module _ (name : Identifier) where
   abbrev limit : TaskState → ℕ
   limit s = 1
 
-  abbrev rel : Relation Store TaskWork GivenToCaller Words TaskState steps.Given
-  rel = record { shares = Shared; stands = Stands; leaves = λ k t e a b p q. (e ≡ Finishes) × Stands k t a b; size = size }
+  -- no task is tied to another one
+  abbrev rel : Relation (Unit {0}) Store TaskWork GivenToCaller Words TaskState steps.Given
+  rel = record { shares = Shared; stands = λ note k u w s. Stands k u w s; leaves = λ note k t e a b p q. (e ≡ Finishes) × Stands k t a b; size = size }
 
   module _ (n : ℕ) (schedule : List ScheduleLine) where
     abbrev p : ProgramTree
     p = null_program name n
 
     abbrev Meet : Kernel → ℕ → Solo Store TaskWork → Solo Words TaskState → Type 0
-    Meet = Met (source_behaviour p schedule) (behaviour code_image schedule) rel frames_of limit
+    Meet = Met (source_behaviour p schedule) (behaviour code_image schedule) rel frames_of limit tt
 
     met_by : (i : ℕ) (k : Kernel) (t : ℕ) (a : Solo Store TaskWork) (b : Solo Words TaskState) → Shared a.memory b.memory → b.task ≡ first_state → a.task.work ≡ Goes (map DoesMain (nulls i)) → Meet k t a b
     met_by zero k t a b sh first e =
@@ -108,14 +109,22 @@ module _ (name : Identifier) where
         Still (ap (λ y. y.effect) is) (ap (λ y. y.solo.memory.variables) is ∙ sh) (record { first = first; left = i; work = ap (λ y. y.solo.task.work) is }) (omega (arith, less, more))
 
     module _ (begins : BeginsKept) (every : KeptByEvery) (unmoved : LeftUnmoved) (reaches : ReachesCallers) (calm : RunnerIsCalm) where
-      meets : Meets (source_behaviour p schedule) (behaviour code_image schedule) rel frames_of limit (Keeps schedule)
+      meets : Meets (source_behaviour p schedule) (behaviour code_image schedule) rel frames_of limit (λ v. Unit {0}) (Keeps schedule)
       meets = record {
-        kept = λ w h. run_kept (among (behaviour code_image schedule)) (closed schedule) (Own schedule) every (behaves schedule unmoved) 1 w h.0 h.1;
+        kept_ones = λ v h. tt;
+        kept_others = λ w h. run_kept (among (behaviour code_image schedule)) (closed schedule) (Own schedule) every (behaves schedule unmoved) 1 w h.0 h.1;
         runner = λ w t h runs. record { calm = calm (closed schedule w.rest) w.kernel t h.1 runs; reaches = λ e. reaches (closed schedule w.rest) w.kernel t e runs.running h.1 };
-        met = λ k t a b runner sh st. met_by st.left k t a b sh st.first st.work;
-        owed = λ k t e ones others a b given gives runner all leaves.
-            subst (λ x. Owed (source_behaviour p schedule) (behaviour code_image schedule) rel frames_of limit k t x ones others a b given gives (ending k t x)) (sym leaves.0)
-            (record { first = leaves.1.first; left = leaves.1.left; work = leaves.1.work }, λ v ne. record { first = (all v).first; left = (all v).left; work = (all v).work });
+        met = λ note k t c d r. met_by (r.stand t).left k t (solo_of t c) (solo_of t d) r.shared (r.stand t).first (r.stand t).work;
+        owed = λ note k t c d e a b given gives m. (
+          tt,
+          subst
+              (λ x. Owed (source_behaviour p schedule) (behaviour code_image schedule) rel frames_of limit tt k t x c.tasks d.tasks a.task b.task given gives
+              (ending k t x))
+              (sym m.leaves.0) (
+                record { first = m.leaves.1.first; left = m.leaves.1.left; work = m.leaves.1.work },
+                λ v ne. let st = m.before.stand v in record { first = st.first; left = st.left; work = st.work },
+              ),
+        );
       }
 
       base_same : (t : ℕ) → (partition_of p).base t ≡ (image.partition_of code_image).base t
@@ -133,10 +142,13 @@ module _ (name : Identifier) where
       stands_first zero = record { first = refl; left = n; work = refl }
       stands_first (suc u) = record { first = initial_first (suc u); left = 0; work = refl }
 
-      starts : Related (source_behaviour p schedule) (behaviour code_image schedule) rel frames_of limit (Keeps schedule) (source_start p) (start code_image)
+      starts : Related (source_behaviour p schedule) (behaviour code_image schedule) rel frames_of limit (λ v. Unit {0}) (Keeps schedule)
+          (source_start p) (start code_image)
       starts = record {
         same = ap begin same_partition;
-        keeps = (
+        ones = tt;
+        note = tt;
+        others = (
           record { bare = λ t. ap (λ f. f t) (unmoved (activated 1 (blank (image.partition_of code_image)))).actions; first = initial_first },
           begins (λ o. false) (image.partition_of code_image) (record { base_low = base_low; ceiling_low = λ o. omega arith }),
         );
@@ -144,7 +156,7 @@ module _ (name : Identifier) where
         stands = stands_first;
       }
 
-      under : MeetsUnder p code_image rel limit Keeps schedule
+      under : MeetsUnder p code_image rel limit (λ s v. Unit {0}) Keeps schedule
       under = record { meets = meets; starts = starts }
 
   task_named : (t : ℕ) → (names_of code_image).task t ≡ (source_names (null_program name 0)).task t
@@ -155,4 +167,5 @@ pub return_means_nulls : BeginsKept → KeptByEvery → LeftUnmoved → LinesGro
 return_means_nulls begins every unmoved grow quiet reaches calm name n =
     let i = return_image name.name in
     count_gives_meaning grow (null_program name n) i (limit name) (record { tasks = task_named name; exceptions = λ x. refl })
-    (met_keeps_count (null_program name n) i (rel name) (limit name) (Keeps name) grow quiet (λ schedule ok. under name n schedule begins every unmoved reaches calm))
+    (met_keeps_count (null_program name n) i (rel name) (limit name) (λ schedule v. Unit {0}) (Keeps name) grow quiet
+    (λ schedule ok. under name n schedule begins every unmoved reaches calm))

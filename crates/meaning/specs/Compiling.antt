@@ -13,21 +13,23 @@ use Rattle.ada_tree.specs.ProgramTree.{ProgramTree}
 use Rattle.meaning.specs.Meeting.{Relation, Meets, Related}
 use Rattle.meaning.specs.Lifting.{steps_of_other, met_paced}
 use Rattle.meaning.specs.Works.{TaskWork, Store, GivenToCaller}
-use Rattle.meaning.specs.Source.{source_start, source_behaviour}
+use Rattle.meaning.specs.Source.{SourceWorld, source_start, source_behaviour}
 use Rattle.meaning.specs.SameMeaning.{frames_of, KeepsCount}
 
--- `rel` says which words stand for which variables and which frames for which work; `Keeps` is an invariant of the code's worlds
-module _ (p : ProgramTree) (i : Sections) (rel : Relation Store TaskWork GivenToCaller Words TaskState steps.Given) (limit : TaskState → ℕ) (Keeps : List ScheduleLine → CodeWorld → Type 0) where
+-- `rel` says which words stand for which variables and which frames for which work, under a note that may be chosen anew behind each step that moves;
+-- `Ones` and `Others` are invariants of the worlds of the program and of the code
+module _ {Note : Type 0} (p : ProgramTree) (i : Sections) (rel : Relation Note Store TaskWork GivenToCaller Words TaskState steps.Given)
+    (limit : TaskState → ℕ) (Ones : List ScheduleLine → SourceWorld → Type 0) (Others : List ScheduleLine → CodeWorld → Type 0) where
   -- under one schedule: each step is met, and the starts are related
   pub record MeetsUnder (schedule : List ScheduleLine) : Type 0 where
-    pub meets : Meets (source_behaviour p schedule) (behaviour i schedule) rel frames_of limit (Keeps schedule)
-    pub starts : Related (source_behaviour p schedule) (behaviour i schedule) rel frames_of limit (Keeps schedule) (source_start p) (start i)
+    pub meets : Meets (source_behaviour p schedule) (behaviour i schedule) rel frames_of limit (Ones schedule) (Others schedule)
+    pub starts : Related (source_behaviour p schedule) (behaviour i schedule) rel frames_of limit (Ones schedule) (Others schedule) (source_start p) (start i)
 
   pub met_keeps_count : LinesGrow → QuietStays → ((schedule : List ScheduleLine) → is_schedule schedule ≡ true → MeetsUnder schedule) → KeepsCount p i limit
   met_keeps_count grow quiet all schedule ok =
       let f = source_behaviour p schedule in
       let g = behaviour i schedule in
       let x = all schedule ok in (
-        steps_of_other f g rel frames_of limit (Keeps schedule) grow quiet x.meets (source_start p) (start i) x.starts,
-        met_paced f g rel frames_of limit (Keeps schedule) grow quiet x.meets (source_start p) (start i) x.starts,
+        steps_of_other f g rel frames_of limit (Ones schedule) (Others schedule) grow quiet x.meets (source_start p) (start i) x.starts,
+        met_paced f g rel frames_of limit (Ones schedule) (Others schedule) grow quiet x.meets (source_start p) (start i) x.starts,
       )

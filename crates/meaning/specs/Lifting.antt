@@ -10,7 +10,7 @@ use Rattle.kernel.specs.PutLaws.{same_or_not, put_same, put_other, put_self}
 use Rattle.kernel.specs.RunLaws.{run_plus, step_running, solo_back, back_back, among_alone, unseen_trans, unseen_run}
 use Rattle.meaning.specs.Same.{ShowSame}
 use Rattle.meaning.specs.Following.{IsFollowed, Waits, Steps, Paced, steps_for, follows_paced, paced_same}
-use Rattle.meaning.specs.Meeting.{Relation, Takes, Last, OwnStep, Over, Within, spent, taken, Counted, Idle, Busy, Begun, received, Met, Still, Moves, Walks, Owed, Meets, Related}
+use Rattle.meaning.specs.Meeting.{Relation, Takes, Last, OwnStep, Over, Within, spent, taken, Counted, Idle, Busy, Begun, received, behind, Met, Still, Moves, Walks, Owed, Reached, Meets, Related}
 
 -- Counted steps are steps
 
@@ -73,16 +73,17 @@ reached_back :
 reached_back b t u None tasks v = sym (put_self u tasks v)
 reached_back b t u (Some g) tasks v = refl
 
-module _ {M S G N T H : Type 0} (f : Behaviour M S G) (g : Behaviour N T H) (rel : Relation M S G N T H) (frames limit : T → ℕ) where
-  module _ (k : Kernel) (t : ℕ) (e : Effect) (ones : ℕ → S) (others : ℕ → T) (a : S) (b : T) (p : Option G) (q : Option H) where
+module _ {Note M S G N T H : Type 0} (f : Behaviour M S G) (g : Behaviour N T H) (rel : Relation Note M S G N T H) (frames limit : T → ℕ) where
+  module _ (note : Note) (k : Kernel) (t : ℕ) (e : Effect) (ones : ℕ → S) (others : ℕ → T) (a : S) (b : T) (p : Option G) (q : Option H) where
     abbrev All : Ending → Type 0
-    All x = (v : ℕ) → rel.stands (after t e k) v (reached f t x p (put t a ones) v) (reached g t x q (put t b others) v)
+    All x = (v : ℕ) → rel.stands note (after t e k) v (reached f t x p (put t a ones) v) (reached g t x q (put t b others) v)
 
     abbrev Debt : Ending → Type 0
-    Debt x = Owed f g rel frames limit k t e ones others a b p q x
+    Debt x = Owed f g rel frames limit note k t e ones others a b p q x
 
     reached_stand : (x : Ending) → ((o u : ℕ) → x ≡ TakesOver o u → u ≢ t) → ((u : ℕ) → x ≡ HandsBack u → u ≢ t) → Debt x → All x
-    reached_stand Closes queued served d v = put_at (rel.stands (after t e k) v) t v a b ones others (λ same. subst (λ n. rel.stands (after t e k) n a b) (sym same) d.0) (d.1 v)
+    reached_stand Closes queued served d v =
+        put_at (rel.stands note (after t e k) v) t v a b ones others (λ same. subst (λ n. rel.stands note (after t e k) n a b) (sym same) d.0) (d.1 v)
     reached_stand (TakesOver o u) queued served d v =
         let l = after t e k in
         let ne = queued o u refl in
@@ -90,27 +91,33 @@ module _ {M S G N T H : Type 0} (f : Behaviour M S G) (g : Behaviour N T H) (rel
         let gu = put_other t u b others ne in
         let ft = put_same t t a ones refl in
         let gt = put_same t t b others refl in
-        put_at (rel.stands l v) u v (f.taken o (put t a ones u)) (g.taken o (put t b others u)) (put t (f.serving o u (put t a ones u) (put t a ones t)) (put t a ones)) (put t (g.serving o u (put t b others u) (put t b others t)) (put t b others))
-        (λ same. subst (λ n. rel.stands l n (f.taken o (put t a ones u)) (g.taken o (put t b others u))) (sym same) (subst (λ x. rel.stands l u (f.taken o x) (g.taken o (put t b others u))) (sym fu) (subst (λ x. rel.stands l u (f.taken o (ones u)) (g.taken o x)) (sym gu) d.1)))
+        put_at (rel.stands note l v) u v (f.taken o (put t a ones u)) (g.taken o (put t b others u))
+        (put t (f.serving o u (put t a ones u) (put t a ones t)) (put t a ones)) (put t (g.serving o u (put t b others u) (put t b others t)) (put t b others))
+        (λ same. subst (λ n. rel.stands note l n (f.taken o (put t a ones u)) (g.taken o (put t b others u))) (sym same)
+        (subst (λ x. rel.stands note l u (f.taken o x) (g.taken o (put t b others u))) (sym fu)
+        (subst (λ x. rel.stands note l u (f.taken o (ones u)) (g.taken o x)) (sym gu) d.1)))
         (λ other.
-        put_at (rel.stands l v) t v (f.serving o u (put t a ones u) (put t a ones t)) (g.serving o u (put t b others u) (put t b others t)) (put t a ones) (put t b others)
+        put_at (rel.stands note l v) t v (f.serving o u (put t a ones u) (put t a ones t)) (g.serving o u (put t b others u) (put t b others t)) (put t a ones)
+        (put t b others)
         (λ same.
-        subst (λ n. rel.stands l n (f.serving o u (put t a ones u) (put t a ones t)) (g.serving o u (put t b others u) (put t b others t))) (sym same)
-        (subst (λ x. rel.stands l t (f.serving o u x (put t a ones t)) (g.serving o u (put t b others u) (put t b others t))) (sym fu)
-        (subst (λ x. rel.stands l t (f.serving o u (ones u) x) (g.serving o u (put t b others u) (put t b others t))) (sym ft)
-        (subst (λ x. rel.stands l t (f.serving o u (ones u) a) (g.serving o u x (put t b others t))) (sym gu)
-        (subst (λ x. rel.stands l t (f.serving o u (ones u) a) (g.serving o u (others u) x)) (sym gt) d.0)))))
-        (λ apart. put_at (rel.stands l v) t v a b ones others (λ same. absurd (apart same)) (λ x. d.2 v apart other)))
+        subst (λ n. rel.stands note l n (f.serving o u (put t a ones u) (put t a ones t)) (g.serving o u (put t b others u) (put t b others t))) (sym same)
+        (subst (λ x. rel.stands note l t (f.serving o u x (put t a ones t)) (g.serving o u (put t b others u) (put t b others t))) (sym fu)
+        (subst (λ x. rel.stands note l t (f.serving o u (ones u) x) (g.serving o u (put t b others u) (put t b others t))) (sym ft)
+        (subst (λ x. rel.stands note l t (f.serving o u (ones u) a) (g.serving o u x (put t b others t))) (sym gu)
+        (subst (λ x. rel.stands note l t (f.serving o u (ones u) a) (g.serving o u (others u) x)) (sym gt) d.0)))))
+        (λ apart. put_at (rel.stands note l v) t v a b ones others (λ same. absurd (apart same)) (λ x. d.2 v apart other)))
     reached_stand (HandsBack u) queued served d v =
         let l = after t e k in
         let ne = served u refl in
         let fu = put_other t u a ones ne in
         let gu = put_other t u b others ne in
-        subst (λ x. rel.stands l v x (reached g t (HandsBack u) q (put t b others) v)) (sym (reached_back f t u p (put t a ones) v))
-        (subst (λ x. rel.stands l v (put u (received f p (put t a ones u)) (put t a ones) v) x) (sym (reached_back g t u q (put t b others) v))
-        (put_at (rel.stands l v) u v (received f p (put t a ones u)) (received g q (put t b others u)) (put t a ones) (put t b others)
-        (λ same. subst (λ n. rel.stands l n (received f p (put t a ones u)) (received g q (put t b others u))) (sym same) (subst (λ x. rel.stands l u (received f p x) (received g q (put t b others u))) (sym fu) (subst (λ x. rel.stands l u (received f p (ones u)) (received g q x)) (sym gu) d.1)))
-        (λ other. put_at (rel.stands l v) t v a b ones others (λ same. subst (λ n. rel.stands l n a b) (sym same) d.0) (λ apart. d.2 v apart other))))
+        subst (λ x. rel.stands note l v x (reached g t (HandsBack u) q (put t b others) v)) (sym (reached_back f t u p (put t a ones) v))
+        (subst (λ x. rel.stands note l v (put u (received f p (put t a ones u)) (put t a ones) v) x) (sym (reached_back g t u q (put t b others) v))
+        (put_at (rel.stands note l v) u v (received f p (put t a ones u)) (received g q (put t b others u)) (put t a ones) (put t b others)
+        (λ same. subst (λ n. rel.stands note l n (received f p (put t a ones u)) (received g q (put t b others u))) (sym same)
+        (subst (λ x. rel.stands note l u (received f p x) (received g q (put t b others u))) (sym fu)
+        (subst (λ x. rel.stands note l u (received f p (ones u)) (received g q x)) (sym gu) d.1)))
+        (λ other. put_at (rel.stands note l v) t v a b ones others (λ same. subst (λ n. rel.stands note l n a b) (sym same) d.0) (λ apart. d.2 v apart other))))
 
   -- the rel.size of what the running task holds
   abbrev weight_of : Option ℕ → Tasks M S → ℕ
@@ -120,16 +127,17 @@ module _ {M S G N T H : Type 0} (f : Behaviour M S G) (g : Behaviour N T H) (rel
   abbrev pub weight : World (Tasks M S) → ℕ
   weight v = weight_of v.kernel.running v.rest
 
-  module _ (Keeps : World (Tasks N T) → Type 0) (grow : LinesGrow) (quiet : QuietStays) (meets : Meets f g rel frames limit Keeps) where
+  module _ (Ones : World (Tasks M S) → Type 0) (Others : World (Tasks N T) → Type 0) (grow : LinesGrow) (quiet : QuietStays)
+      (meets : Meets f g rel frames limit Ones Others) where
     abbrev Rel : World (Tasks M S) → World (Tasks N T) → Type 0
-    Rel = Related f g rel frames limit Keeps
+    Rel = Related f g rel frames limit Ones Others
 
     abbrev Next : World (Tasks M S) → World (Tasks N T) → Type 0
     Next = IsFollowed (among f) (among g) Rel weight (Counted g frames limit)
 
-    kept_run : (n : ℕ) (w : World (Tasks N T)) → Keeps w → Keeps (run (among g) n w)
+    kept_run : (n : ℕ) (w : World (Tasks N T)) → Others w → Others (run (among g) n w)
     kept_run zero w h = h
-    kept_run (suc n) w h = kept_run n (step (among g) w) (meets.kept w h)
+    kept_run (suc n) w h = kept_run n (step (among g) w) (meets.kept_others w h)
 
     module _ (k : Kernel) (c : Tasks M S) (d : Tasks N T) where
       abbrev one : World (Tasks M S)
@@ -142,40 +150,53 @@ module _ {M S G N T H : Type 0} (f : Behaviour M S G) (g : Behaviour N T H) (rel
       idle : Rel one other → ((t : ℕ) → IsRunner k t → ⊥) → step (among f) one ≡ one → step (among g) other ≡ other → Next one other
       idle r nobody ef eg = Steps 0 (Idle nobody refl) (subst (λ v. Rel v (step (among g) other)) (sym ef) (subst (λ w. Rel one w) (sym eg) r))
 
+      -- what is known where task t is to take its step
+      reached_by : {t : ℕ} → IsRunner k t → (r : Rel one other) → Reached f g rel frames limit Ones Others r.note k t c d
+      reached_by {t} runs r = record { ones = r.ones; others = r.others; runner = meets.runner other t r.others runs; shared = r.shared; stand = r.stands }
+
       module _ (t : ℕ) (runs : IsRunner k t) (r : Rel one other) where
-        met_next : Met f g rel frames limit k t (solo_of t c) (solo_of t d) → Next one other
+        met_next : Met f g rel frames limit r.note k t (solo_of t c) (solo_of t d) → Next one other
         met_next (Still q sh st less) =
             let s = (f.act k t (solo_of t c)).solo in
             let e = (f.act k t (solo_of t c)).effect in
-            let calm = (meets.runner other t r.keeps runs).calm in
+            let calm = (meets.runner other t r.others runs).calm in
             let stays : after t e k ≡ k = ap (λ x. after t x k) q ∙ quiet k t calm in
             let there : step (among f) one ≡ record { kernel = k; rest = put_back t c s } =
             step_running (among f) k t c runs ∙ (λ i. record { kernel = stays i; rest = among_alone f t k c (ap (λ x. ending k t x) q) i }) in
-            let stand : (u : ℕ) → rel.stands k u (put t s.task c.tasks u) (d.tasks u) =
-            λ u. subst (λ x. rel.stands k u (put t s.task c.tasks u) x) (put_self t d.tasks u) (put_at (rel.stands k u) t u s.task (d.tasks t) c.tasks d.tasks (λ same. subst (λ n. rel.stands k n s.task (d.tasks t)) (sym same) st) (λ ne. r.stands u)) in
+            let stand : (u : ℕ) → rel.stands r.note k u (put t s.task c.tasks u) (d.tasks u) =
+            λ u. subst (λ x. rel.stands r.note k u (put t s.task c.tasks u) x) (put_self t d.tasks u)
+            (put_at (rel.stands r.note k u) t u s.task (d.tasks t) c.tasks d.tasks (λ same. subst (λ n. rel.stands r.note k n s.task (d.tasks t)) (sym same) st)
+            (λ ne. r.stands u)) in
+            let ones = subst Ones there (meets.kept_ones one r.ones) in
             let lighter = subst (λ o. weight_of o (put_back t c s) < weight_of o c) (sym runs.running) (subst (λ x. rel.size x < rel.size (c.tasks t)) (sym (put_same t t s.task c.tasks refl)) less) in
             Waits
-            (subst (λ v. Rel v other) (sym there) (record { same = refl; keeps = r.keeps; shared = sh; stands = stand }))
+            (subst (λ v. Rel v other) (sym there)
+            (record { same = refl; ones = ones; others = r.others; shared = sh; note = r.note; stands = stand }))
             (subst (λ v. weight v < weight one) (sym there) lighter)
         met_next (Moves n s takes low same sh leaves) =
             let a = f.act k t (solo_of t c) in
             let b = g.act k t s in
-            let runner = meets.runner other t r.keeps runs in
+            let runner = meets.runner other t r.others runs in
             let x = taken_unseen g t frames limit takes in
             let ef = step_running (among f) k t c runs in
             let eg = taken_run g t frames limit x.0 k d s runs x.2 in
-            let owed = meets.owed k t a.effect c.tasks d.tasks a.solo.task b.solo.task a.given b.given runner r.stands leaves in
             let reaches = runner.reaches a.effect in
-            let stand = reached_stand k t a.effect c.tasks d.tasks a.solo.task b.solo.task a.given b.given (ending k t a.effect) (λ o u z. (reaches.queued o u z).2) (λ u z. (reaches.served u z).2) owed in
-            let end : World (Tasks N T) = record { kernel = after t a.effect k; rest = record { memory = b.solo.memory; tasks = reached g t (ending k t a.effect) b.given (put t b.solo.task d.tasks) } } in
-            let to_end : run (among g) (suc x.0) other ≡ end = eg ∙ ap (λ z. record { kernel = after t z k; rest = record { memory = b.solo.memory; tasks = reached g t (ending k t z) b.given (put t b.solo.task d.tasks) } }) same in
-            let keeps = subst Keeps to_end (kept_run (suc x.0) other r.keeps) in
+            let end : World (Tasks N T) = behind g t k a.effect d b.solo b.given in
+            let to_end : run (among g) (suc x.0) other ≡ end = eg ∙ ap (λ z. behind g t k z d b.solo b.given) same in
+            let ones : Ones (behind f t k a.effect c a.solo a.given) = subst Ones ef (meets.kept_ones one r.ones) in
+            let others = subst Others to_end (kept_run (suc x.0) other r.others) in
+            let owed = meets.owed r.note k t c d a.effect a.solo b.solo a.given b.given
+            (record { before = reached_by runs r; ones = ones; others = others; shared = sh; leaves = leaves }) in
+            let stand = reached_stand owed.0 k t a.effect c.tasks d.tasks a.solo.task b.solo.task a.given b.given (ending k t a.effect)
+            (λ o u z. (reaches.queued o u z).2) (λ u z. (reaches.served u z).2) owed.1 in
             Steps x.0 (Busy t n s runs takes low (sym x.1))
-            (subst (λ v. Rel v (run (among g) (suc x.0) other)) (sym ef) (subst (λ w. Rel (record { kernel = after t a.effect k; rest = (among f k t c).rest }) w) (sym to_end) (record { same = refl; keeps = keeps; shared = sh; stands = stand })))
+            (subst (λ v. Rel v (run (among g) (suc x.0) other)) (sym ef)
+            (subst (λ w. Rel (behind f t k a.effect c a.solo a.given) w) (sym to_end)
+            (record { same = refl; ones = ones; others = others; shared = sh; note = owed.0; stands = stand })))
         met_next (Walks j n s takes many low q sh st) =
             let p = (f.act k t (solo_of t c)).solo in
             let e = (f.act k t (solo_of t c)).effect in
-            let calm = (meets.runner other t r.keeps runs).calm in
+            let calm = (meets.runner other t r.others runs).calm in
             let stays : after t e k ≡ k = ap (λ x. after t x k) q ∙ quiet k t calm in
             let there : step (among f) one ≡ record { kernel = k; rest = put_back t c p } =
             step_running (among f) k t c runs ∙ (λ i. record { kernel = stays i; rest = among_alone f t k c (ap (λ x. ending k t x) q) i }) in
@@ -183,11 +204,15 @@ module _ {M S G N T H : Type 0} (f : Behaviour M S G) (g : Behaviour N T H) (rel
             let count : x.0 ≡ suc j = omega (arith, x.1, many) in
             let end : World (Tasks N T) = record { kernel = k; rest = put_back t d s } in
             let to_end : run (among g) (suc j) other ≡ end = unseen_run g t (suc j) d k k s (subst (λ m. Unseen g t m k (solo_of t d) k s) count x.2) in
-            let stand : (u : ℕ) → rel.stands k u (put t p.task c.tasks u) (put t s.task d.tasks u) =
-            λ u. put_at (rel.stands k u) t u p.task s.task c.tasks d.tasks (λ same. subst (λ m. rel.stands k m p.task s.task) (sym same) st) (λ ne. r.stands u) in
-            let keeps = subst Keeps to_end (kept_run (suc j) other r.keeps) in
+            let stand : (u : ℕ) → rel.stands r.note k u (put t p.task c.tasks u) (put t s.task d.tasks u) =
+            λ u. put_at (rel.stands r.note k u) t u p.task s.task c.tasks d.tasks (λ same. subst (λ m. rel.stands r.note k m p.task s.task) (sym same) st)
+            (λ ne. r.stands u) in
+            let others = subst Others to_end (kept_run (suc j) other r.others) in
+            let ones = subst Ones there (meets.kept_ones one r.ones) in
             Steps j (Begun t n s runs takes low (sym many))
-            (subst (λ v. Rel v (run (among g) (suc j) other)) (sym there) (subst (λ w. Rel (record { kernel = k; rest = put_back t c p }) w) (sym to_end) (record { same = refl; keeps = keeps; shared = sh; stands = stand })))
+            (subst (λ v. Rel v (run (among g) (suc j) other)) (sym there)
+            (subst (λ w. Rel (record { kernel = k; rest = put_back t c p }) w) (sym to_end)
+            (record { same = refl; ones = ones; others = others; shared = sh; note = r.note; stands = stand })))
 
       next_at : (o : Option Outcome) (u : Option ℕ) → k.outcome ≡ o → k.running ≡ u → Rel one other → Next one other
       next_at (Some o) u e h r = idle r (λ t runs. cc (e, runs.on)) (ap (λ x. step_of (among f) k c x k.running) e) (ap (λ x. step_of (among g) k d x k.running) e)
@@ -196,7 +221,7 @@ module _ {M S G N T H : Type 0} (f : Behaviour M S G) (g : Behaviour N T H) (rel
           (ap (λ x. step_of (among g) k d x k.running) e ∙ ap (λ x. step_of (among g) k d None x) h)
       next_at None (Some t) e h r =
           let runs : IsRunner k t = record { on = e; running = h } in
-          met_next t runs r (meets.met k t (solo_of t c) (solo_of t d) (meets.runner other t r.keeps runs) r.shared (r.stands t))
+          met_next t runs r (meets.met r.note k t c d (reached_by runs r))
 
     pub next : (v : World (Tasks M S)) (w : World (Tasks N T)) → Rel v w → Next v w
     next v w r = subst (λ k. (r : Rel v (record { kernel = k; rest = w.rest })) → Next v (record { kernel = k; rest = w.rest })) r.same (λ s. next_at v.kernel v.rest w.rest v.kernel.outcome v.kernel.running refl refl s) r

@@ -197,7 +197,7 @@ module _ (this : Scene) where
   met_by s (Ended o h) = let e = calm.runs.on in absurd cc
 
 pub steps_are_met : QuietStays → StepsAreSound → StoresAreAlike → StepsAreMet
-steps_are_met quiet step_soundness alike i program g numbers has premises schedule k t calm store m w s shares stands =
+steps_are_met quiet step_soundness alike i program g numbers has premises schedule note k t calm store m w s shares stands =
     met_by (record {
       quiet = quiet;
       step_soundness = step_soundness;
@@ -209,6 +209,7 @@ steps_are_met quiet step_soundness alike i program g numbers has premises schedu
       premises = premises;
       alike = alike;
       schedule = schedule;
+      note = note;
       k = k;
       t = t;
       calm = calm;

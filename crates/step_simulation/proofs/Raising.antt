@@ -138,7 +138,7 @@ module _ (this : Scene) where
         → work_size y.solo.task.work < work_size w.work
         → MetFrom s
     met_still y is e same stands less =
-        still_by (program_behaviour program schedule) (behaviour i schedule) (relation i program g numbers) frames_of (most_steps i) k t
+        still_by (program_behaviour program schedule) (behaviour i schedule) (relation i program g numbers) frames_of (most_steps i) this.note k t
         (record { memory = store; task = w }) (record { memory = m; task = s }) y is e
         (record { sound = scene.store_after this y is; stands = subst (λ q. StandsFor program g q m) (sym same) shares.stands })
         (record { sound = scene.task_after this y is (ap waits_after e); code = stands })
@@ -149,7 +149,7 @@ module _ (this : Scene) where
         → scene.Meets this y z
         → MetFrom s
     met_step y z is there meets =
-        moves_by (program_behaviour program schedule) (behaviour i schedule) (relation i program g numbers) frames_of (most_steps i) k t
+        moves_by (program_behaviour program schedule) (behaviour i schedule) (relation i program g numbers) frames_of (most_steps i) this.note k t
         (record { memory = store; task = w }) (record { memory = m; task = s })
         1 (record { memory = m; task = s }) y z is there (Last refl) (omega arith) meets.effect
         (record { sound = scene.store_after this y is; stands = meets.words })

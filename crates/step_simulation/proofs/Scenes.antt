@@ -42,7 +42,7 @@ use Rattle.part_code.specs.Resting.{Framed, HeldWord, IsAddressable, Knows, Narr
 use Rattle.part_code.specs.Handling.{GoesBy}
 use Rattle.part_code.specs.Statements.{Numbers}
 use Rattle.part_code.specs.Jumping.{Here, Jumps, There}
-use Rattle.step_simulation.specs.Standing.{AreInner, Around, Catches, CodeStands, Follows, Going, Inside, IsGoingOn, IsSoundWork, LeadsByWays, with_visible, Raised, Shares, StaysAlone, WorkStands, items_size, relation, work_size}
+use Rattle.step_simulation.specs.Standing.{AreInner, Around, Catches, CodeStands, Follows, Going, Inside, IsGoingOn, IsSoundWork, LeadsByWays, Note, with_visible, Raised, Shares, StaysAlone, WorkStands, items_size, relation, work_size}
 use Rattle.step_simulation.specs.Laws.{HasCode}
 use Rattle.step_simulation.proofs.Going.{Drops, earlier, jumps_up, shows_then, way_back, way_out}
 use Rattle.step_simulation.proofs.Catching.{catches}
@@ -59,6 +59,7 @@ pub record Scene : Type 0 where
   pub premises : Premises program
   pub alike : StoresAreAlike
   pub schedule : List ScheduleLine
+  pub note : Note
   pub k : Kernel
   pub t : ℕ
   pub calm : Calm k t
@@ -128,7 +129,7 @@ module _ (this : Scene) where
 
   -- the next step of the task is met from this state of the frames
   abbrev pub MetFrom : TaskState → Type 0
-  MetFrom s = Met (program_behaviour program schedule) (behaviour i schedule) (relation i program g numbers) frames_of (most_steps i) k t
+  MetFrom s = Met (program_behaviour program schedule) (behaviour i schedule) (relation i program g numbers) frames_of (most_steps i) this.note k t
       (record { memory = store; task = w }) (record { memory = m; task = s })
 
   -- at once, or by one instruction of the same subprogram, with which the code of a handler begins
@@ -307,10 +308,10 @@ module _ (this : Scene) where
       { sound = store_after x is; stands = subst (λ q. StandsFor program g q m) (sym same) shares.stands } in
       let l = led b s n (record { memory = m; task = c }) from all low in
       ⊎_elim
-      (λ stays. still_by (program_behaviour program schedule) (behaviour i schedule) (relation i program g numbers) frames_of (most_steps i) k t
+      (λ stays. still_by (program_behaviour program schedule) (behaviour i schedule) (relation i program g numbers) frames_of (most_steps i) this.note k t
       (record { memory = store; task = w }) (record { memory = m; task = b })
       x is e sh (stands b (ap (λ q. q.task) stays)) less)
-      (λ j. walks_by (program_behaviour program schedule) (behaviour i schedule) (relation i program g numbers) frames_of (most_steps i) k t
+      (λ j. walks_by (program_behaviour program schedule) (behaviour i schedule) (relation i program g numbers) frames_of (most_steps i) this.note k t
       (record { memory = store; task = w }) (record { memory = m; task = b })
       j.0 l.0 (record { memory = m; task = c }) x is l.1 j.1 l.2 e sh (stands c refl))
       (begun l.1)
@@ -324,7 +325,7 @@ module _ (this : Scene) where
       → Meet s
   moves_from s n c x y is there all low meets = λ b from.
       let l = led b s n c from all low in
-      moves_by (program_behaviour program schedule) (behaviour i schedule) (relation i program g numbers) frames_of (most_steps i) k t
+      moves_by (program_behaviour program schedule) (behaviour i schedule) (relation i program g numbers) frames_of (most_steps i) this.note k t
       (record { memory = store; task = w }) (record { memory = m; task = b })
       l.0 c x y is there l.1 l.2 meets.effect
       (record { sound = store_after x is; stands = meets.words })

@@ -17,7 +17,7 @@ use Rattle.part_code.specs.expr_code.specs.Coming.{most_steps}
 use Rattle.part_code.specs.expr_code.specs.Computing.{Answers}
 use Rattle.part_code.specs.expr_code.specs.Seeing.{library_of, Package}
 use Rattle.part_code.specs.Statements.{HasProcedures, Numbers}
-use Rattle.step_simulation.specs.Standing.{Shares, WorkStands, relation}
+use Rattle.step_simulation.specs.Standing.{Note, Shares, WorkStands, relation}
 
 -- an image that has the exceptions of a program, the predefined ones among them, and the code of its functions and procedures
 pub record HasCode (i : Sections) (program : Program) (g : Package) (numbers : Numbers) : Type 0 where
@@ -30,8 +30,8 @@ pub record HasCode (i : Sections) (program : Program) (g : Package) (numbers : N
 abbrev pub StepsAreMet : Type 0
 StepsAreMet =
     (i : Sections) (program : Program) (g : Package) (numbers : Numbers) → HasCode i program g numbers → Premises program
-    → (schedule : List ScheduleLine) (k : Kernel) (t : ℕ) → Calm k t → (store : Store) (m : Words) (w : TaskWork) (s : TaskState)
+    → (schedule : List ScheduleLine) (note : Note) (k : Kernel) (t : ℕ) → Calm k t → (store : Store) (m : Words) (w : TaskWork) (s : TaskState)
     → Shares i program g numbers store m
     → WorkStands i program g numbers k w s
-    → Met (program_behaviour program schedule) (behaviour i schedule) (relation i program g numbers) frames_of (most_steps i) k t
+    → Met (program_behaviour program schedule) (behaviour i schedule) (relation i program g numbers) frames_of (most_steps i) note k t
     (record { memory = store; task = w }) (record { memory = m; task = s })

@@ -53,6 +53,10 @@ StaysAlone Finishes = ⊤
 StaysAlone (Dies x) = ⊤
 StaysAlone e = ⊥
 
+-- the addresses that each task has passed in the entry call in which it waits
+abbrev pub Note : Type 0
+Note = ℕ → List ℕ
+
 module _ (i : Sections) (program : Program) (g : Package) (numbers : Numbers) where
   -- places of the subprogram's code
   abbrev pub Inside : ℕ → ℕ → Type 0
@@ -355,11 +359,11 @@ module _ (i : Sections) (program : Program) (g : Package) (numbers : Numbers) wh
     pub sound : IsSoundStore program store
     pub stands : StandsFor program g store m
 
-  abbrev pub relation : Relation Store TaskWork GivenToCaller Words TaskState steps.Given
+  abbrev pub relation : Relation Note Store TaskWork GivenToCaller Words TaskState steps.Given
   relation = record {
     shares = Shares;
-    stands = λ k t w s. WorkStands k w s;
-    leaves = λ k t e w s p q. Left (after t e k) e w s;
+    stands = λ note k t w s. WorkStands k w s;
+    leaves = λ note k t e w s p q. Left (after t e k) e w s;
     size = λ w. work_size
         w.work;
   }
