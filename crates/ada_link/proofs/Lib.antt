@@ -1,4 +1,4 @@
-mod Single
+mod Closing
 mod Meaning
 mod MainCalls
 mod Suited

@@ -1,62 +1,67 @@
 -- A linked image has the meaning of its program.
-use Rattle.std.proofs.Common.{◌≡◌, ◌≢◌, ◌≤◌, ℕ, zero, suc, ◌+◌, List, [], ◌∷◌, map, None, Option, refl, sym, ap, ◌∙◌, subst, arith}
-use Rattle.std.specs.Prelude.{pos, slice_get, replicate, length, ⊤}
+use Rattle.std.proofs.Common.{◌≡◌, ◌<◌, ◌≤◌, ℕ, zero, suc, ◌+◌, List, [], ◌∷◌, map, None, Option, refl, sym, ap, ◌∙◌, subst, arith}
+use Rattle.std.specs.Prelude.{pos, slice_get, replicate, length}
 use Rattle.base.specs.declared.schedule.ScheduleLine.{ScheduleLine}
 use Rattle.kernel.specs.State.{Kernel}
-use Rattle.kernel.specs.Effects.{Effect, Quiet, Says, Delays, Opens, Views, Queues, Ends, Finishes, Dies, Breaks, after, begin}
-use Rattle.kernel.specs.Worlds.{Solo, among, step, ending, solo_of}
-use Rattle.kernel.specs.Invariant.{Kept}
+use Rattle.kernel.specs.Effects.{Effect, after, begin}
+use Rattle.kernel.specs.Worlds.{Solo, Tasks, among, ending, solo_of, step}
 use Rattle.kernel.specs.Laws.{LinesGrow, QuietStays, ReachesCallers, RunnerIsCalm}
 use Rattle.kernel.specs.RunLaws.{run_plus}
 use Rattle.image.specs.Sections.{Sections, end_of, first_place}
-use Rattle.image.specs.Operations.{called, results_of}
+use Rattle.image.specs.Operations.{called, entry_of, results_of}
 use Rattle.image.specs.Rules.{IsWellFormed}
 use Rattle.image.specs.Texts.{name_of, text_at, text_from_one}
 use Rattle.image.specs.Frames.{Inner, Words, TaskState}
 use Rattle.image.specs.Steps.{behaviour, is_open}
 use Rattle.image.specs.Steps as steps
 use Rattle.image.specs.Code as image
-use Rattle.image.specs.Code.{CodeWorld, body_frame, body_of, code, initial_state, priority_of, start}
-use Rattle.image_laws.specs.Laws.{KernelKept}
+use Rattle.image.specs.Code.{body_frame, body_of, initial_state, priority_of}
+use Rattle.image_laws.specs.Laws.{CodeLeadsOn}
+use Rattle.image_laws.specs.Whole.{IsWhole, StartsWhole, StepsWhole}
 use Rattle.ada_tree.specs.declared.program.MainStatement.{MainStatement}
 use Rattle.ada_tree.specs.ProgramTree.{ProgramTree}
 use Rattle.checking.specs.ProgramRules.{IsLegal}
 use Rattle.ravenscar.specs.ProgramRules.{IsRestricted}
 use Rattle.meaning.specs.Laws.{CountGivesMeaning}
-use Rattle.meaning.specs.Meeting.{Met, Meets, Owed, Relation, Runner}
+use Rattle.meaning.specs.Calls as calls
+use Rattle.meaning.specs.Meeting.{Met, Meets, Moved, Owed, Reached, Relation}
 use Rattle.meaning.specs.MeetingLaws.{met_for}
 use Rattle.meaning.specs.Works.{DoesMain, GivenToCaller, Goes, Store, TaskWork, ends_of_calls}
 use Rattle.meaning.specs.Source.{SourceWorld, source, initial_work, partition_of, source_behaviour, source_start, task_items}
 use Rattle.meaning.specs.Programs.{OfMain, Program, Task, priority_or_zero, program_of, task_name}
 use Rattle.meaning.specs.SameMeaning.{KeepsCount, frames_of}
 use Rattle.meaning.specs.Compiling.{MeetsUnder, met_keeps_count}
-use Rattle.step_soundness.specs.Objects.{first_store}
-use Rattle.step_soundness.specs.Laws.{StoresAreAlike}
+use Rattle.step_soundness.specs.Holding.{IsSoundTask}
 use Rattle.step_soundness.specs.Starting.{IsSoundStart}
 use Rattle.program_soundness.specs.BodyLaws.{PremisesHold}
 use Rattle.program_soundness.specs.ProgramLaws.{StartsAreSound}
+use Rattle.program_soundness.specs.RunLaws.{RunsAreSound}
+use Rattle.program_soundness.specs.SoundWorlds.{IsSoundWorld}
+use Rattle.program_soundness.proofs.Awaiting.{runner_awaits}
 use Rattle.expr_code.specs.Coming.{most_steps}
 use Rattle.expr_code.specs.Seeing.{Package}
 use Rattle.step_simulation.specs.part_code.specs.Handling.{unhandled}
-use Rattle.step_simulation.specs.Laws.{StepsAreMet}
-use Rattle.step_simulation.specs.part_code.specs.Resting.{Shows}
+use Rattle.step_simulation.specs.Laws.{IsKnownHere, StepsAreMet}
+use Rattle.step_simulation.specs.part_code.specs.Resting.{Shows, StandsFor}
 use Rattle.step_simulation.specs.part_code.specs.Statements.{Numbers}
 use Rattle.step_simulation.specs.part_code.specs.Jumping.{Here}
-use Rattle.step_simulation.specs.Standing.{Around, CodeStands, Follows, Going, Inside, Left, Note, Shares, WorkStands, relation, work_size}
+use Rattle.step_simulation.specs.Standing.{Around, Catching, CodeStands, Copying, Follows, Going, Inside, Note, Over, Raised, relation, work_size}
 use Rattle.step_simulation.specs.part_code.proofs.Handling.{goes_within}
 use Rattle.package_code.specs.LinkLaws.{LinkedKeepsCount, LinkedMeansTheSame}
 use Rattle.package_code.specs.Linked.{AreMain, IsLinkedProgram}
-use Rattle.ada_link.proofs.Single.{Single, begins_single, single_after}
+use Rattle.ada_link.proofs.Closing.{closes}
 
 pub record LawsBelow : Type 0 where
-  pub kernel_kept : KernelKept
+  pub starts_whole : StartsWhole
+  pub steps_whole : StepsWhole
+  pub leads : CodeLeadsOn
   pub grow : LinesGrow
   pub quiet : QuietStays
   pub reaches : ReachesCallers
   pub calm : RunnerIsCalm
   pub premises : PremisesHold
   pub starts : StartsAreSound
-  pub alike : StoresAreAlike
+  pub runs : RunsAreSound
   pub met : StepsAreMet
 
 module _ (laws : LawsBelow) (p : ProgramTree) (i : Sections) (g : Package) (numbers : Numbers) (well_formed : IsWellFormed i) (legal : IsLegal p)
@@ -67,25 +72,41 @@ module _ (laws : LawsBelow) (p : ProgramTree) (i : Sections) (g : Package) (numb
   abbrev sound : IsSoundStart program
   sound = laws.starts p legal restricted
 
-  -- ---- main stands for its work, and no other task runs
+  abbrev main : Task
+  main = record { name = p.main.name.name; priority = linked.priority; duty = OfMain p.main.statements }
 
-  abbrev TaskStands : Kernel → ℕ → TaskWork → TaskState → Type 0
-  TaskStands k zero w s = WorkStands i program g numbers k w s
-  TaskStands k (suc u) w s = ⊤
+  base_same : (t : ℕ) → priority_or_zero (slice_get (main ∷ []) t)
+      ≡ priority_of (slice_get (record { name = p.main.name.name; priority = linked.priority; subprogram = linked.number } ∷ []) t)
+  base_same zero = refl
+  base_same (suc t) = refl
 
-  record Stands (k : Kernel) (u : ℕ) (w : TaskWork) (s : TaskState) : Type 0 where
-    single : Single k
-    task : TaskStands k u w s
+  same_partition : partition_of p ≡ image.partition_of i
+  same_partition =
+      (λ j. record {
+        tasks = length (linked.sequential.tasks j);
+        objects = linked.sequential.objects j;
+        base = λ t. priority_or_zero (slice_get (linked.sequential.tasks j) t);
+        ceiling = λ o. linked.sequential.ceilings o j;
+      })
+      ∙ (λ j. record { tasks = 1; objects = 0; base = λ t. base_same t j; ceiling = λ o. 0 })
+      ∙ sym (λ j. image.partition_of (record i { tasks = linked.tasks j; objects = linked.objects j }))
 
-  record Leaves (k : Kernel) (t : ℕ) (e : Effect) (w : TaskWork) (s : TaskState) : Type 0 where
-    single : Single k
-    left : Left i program g numbers (after t e k) e w s
+  -- ---- each task of the image stands for its work
 
-  abbrev alone : Relation Note Store TaskWork GivenToCaller Words TaskState steps.Given
-  alone = record {
-    shares = Shares i program g numbers;
-    stands = λ note k u w s. Stands k u w s;
-    leaves = λ note k t e w s given gives. Leaves k t e w s;
+  -- the frames of a task that takes no step stand for its work in the next kernel as well
+  stays : (k l : Kernel) (w : TaskWork) (s : TaskState) → k.outcome ≡ None → CodeStands i program g numbers k w s → CodeStands i program g numbers l w s
+  stays k l w s on (Going items is h) = Going items is h
+  stays k l w s on (Copying vs xs items is h) = Copying vs xs items is h
+  stays k l w s on (Catching items is h) = Catching items is h
+  stays k l w s on (Raised x items f fs is throws inner caught) = Raised x items f fs is throws inner caught
+  stays k l w s on (Over o h) = absurd cc
+
+  -- behind the last task there is neither work nor code
+  abbrev all : Relation Note Store TaskWork GivenToCaller Words TaskState steps.Given
+  all = record {
+    shares = StandsFor program g;
+    stands = λ note k u w s. u < length i.tasks → CodeStands i program g numbers k w s;
+    leaves = λ note k t e w s given gives. CodeStands i program g numbers (after t e k) w s;
     size = λ w. work_size w.work;
   }
 
@@ -94,86 +115,64 @@ module _ (laws : LawsBelow) (p : ProgramTree) (i : Sections) (g : Package) (numb
     abbrev Sources : SourceWorld → Type 0
     Sources v = (n : ℕ) × (v ≡ source p schedule n)
 
-    -- the worlds of the image's run
-    abbrev Keeps : CodeWorld → Type 0
-    Keeps w = (m : ℕ) × (w ≡ code i schedule m)
+    abbrev Before : Note → Kernel → ℕ → Tasks Store TaskWork → Tasks Words TaskState → Type 0
+    Before note k t c d = Reached (source_behaviour p schedule) (behaviour i schedule) all frames_of (most_steps i) Sources (IsWhole i) note k t c d
 
-    abbrev Meet : Note → Kernel → ℕ → Solo Store TaskWork → Solo Words TaskState → Type 0
-    Meet note k t a b = Met (source_behaviour p schedule) (behaviour i schedule) alone frames_of (most_steps i) note k t a b
+    known : (note : Note) (k : Kernel) (t : ℕ) (c : Tasks Store TaskWork) (d : Tasks Words TaskState) → Before note k t c d
+        → IsKnownHere program k t c.memory (c.tasks t)
+    known note k t c d r =
+        let world : IsSoundWorld program (record { kernel = k; rest = c }) =
+        subst (IsSoundWorld program) (sym r.ones.1) (laws.runs program schedule r.ones.0 sound) in
+        let awaits = runner_awaits (calls.is_open program c.memory) k world.kernel t r.runner.calm.runs.running in
+        record {
+          store = world.store;
+          task = subst (λ q. IsSoundTask program c.memory q (c.tasks t)) awaits (world.tasks t);
+          opened = world.actions t;
+          partition = r.others.partition ∙ sym same_partition;
+        }
 
-    met_task : (note : Note) (k : Kernel) (t : ℕ) (a : Solo Store TaskWork) (b : Solo Words TaskState) → Runner k t → Shares i program g numbers a.memory b.memory
-        → Stands k t a.task b.task → Meet note k t a b
-    met_task note k zero a b runner sh st =
-        met_for (source_behaviour p schedule) (behaviour i schedule) (relation i program g numbers) alone frames_of (most_steps i) note note k 0
-        (λ m n h. h) (λ w s h. record { single = st.single; task = h }) (λ e w s given gives h. record { single = st.single; left = h }) (λ w. refl) a b
-        (laws.met i program g numbers linked.code (laws.premises p legal) schedule note k 0 runner.calm a.memory b.memory a.task b.task sh st.task)
-    met_task note k (suc t) a b runner sh st = absurd (st.single.others t runner.calm.runs.running)
+    met : (note : Note) (k : Kernel) (t : ℕ) (c : Tasks Store TaskWork) (d : Tasks Words TaskState) → Before note k t c d
+        → Met (source_behaviour p schedule) (behaviour i schedule) all frames_of (most_steps i) note k t (solo_of t c) (solo_of t d)
+    met note k t c d r =
+        met_for (source_behaviour p schedule) (behaviour i schedule) (relation i program g numbers) all frames_of (most_steps i) note note k t
+        (λ m n h. h) (λ w s h there. h) (λ e w s given gives h. h) (λ w. refl) (solo_of t c) (solo_of t d)
+        (laws.met i program g numbers linked.code (laws.premises p legal) schedule note k t r.runner.calm c.memory d.memory (c.tasks t) (d.tasks t)
+        (known note k t c d r) r.shared (r.stand t (r.others.bounded.running t r.runner.calm.runs.running)))
 
-    others_stand : (k l : Kernel) → Single l → (ones : ℕ → TaskWork) (others : ℕ → TaskState) (v : ℕ) → v ≢ 0 → Stands l v (ones v) (others v)
-    others_stand k l s ones others zero ne = absurd (ne refl)
-    others_stand k l s ones others (suc v) ne = record { single = s; task = tt }
+    -- no object has an entry
+    bare : (o : ℕ) → entry_of (slice_get i.objects o) ≡ None
+    bare o = ap (λ l. entry_of (slice_get l o)) linked.objects
 
-    owed : (next : Note) (k : Kernel) (t : ℕ) (e : Effect) (ones : ℕ → TaskWork) (others : ℕ → TaskState) (a : TaskWork) (b : TaskState) (x : Option GivenToCaller)
-        (y : Option steps.Given)
-        → Runner k t
-        → ((u : ℕ) → Stands k u (ones u) (others u))
-        → Leaves k t e a b
-        → Owed (source_behaviour p schedule) (behaviour i schedule) alone frames_of (most_steps i) next k t e ones others a b x y (ending k t e)
-    owed next k (suc t) e ones others a b x y runner all left = absurd ((all 0).single.others t runner.calm.runs.running)
-    owed next k zero Quiet ones others a b x y runner all left =
-        let s = single_after 0 Quiet k tt left.single in (record { single = s; task = left.left.stands }, others_stand k (after 0 Quiet k) s ones others)
-    owed next k zero (Says label z) ones others a b x y runner all left =
-        let s = single_after 0 (Says label z) k tt left.single in
-        (record { single = s; task = left.left.stands }, others_stand k (after 0 (Says label z) k) s ones others)
-    owed next k zero Finishes ones others a b x y runner all left =
-        let s = single_after 0 Finishes k tt left.single in (record { single = s; task = left.left.stands }, others_stand k (after 0 Finishes k) s ones others)
-    owed next k zero (Dies z) ones others a b x y runner all left =
-        let s = single_after 0 (Dies z) k tt left.single in (record { single = s; task = left.left.stands }, others_stand k (after 0 (Dies z) k) s ones others)
-    owed next k zero Breaks ones others a b x y runner all left = absurd left.left.alone
-    owed next k zero (Delays until) ones others a b x y runner all left = absurd left.left.alone
-    owed next k zero (Opens o) ones others a b x y runner all left = absurd left.left.alone
-    owed next k zero (Views o) ones others a b x y runner all left = absurd left.left.alone
-    owed next k zero (Queues o) ones others a b x y runner all left = absurd left.left.alone
-    owed next k zero (Ends o) ones others a b x y runner all left = absurd left.left.alone
+    owed : (note : Note) (k : Kernel) (t : ℕ) (c : Tasks Store TaskWork) (d : Tasks Words TaskState) (e : Effect) (a : Solo Store TaskWork)
+        (b : Solo Words TaskState) (x : Option GivenToCaller) (y : Option steps.Given)
+        → Moved (source_behaviour p schedule) (behaviour i schedule) all frames_of (most_steps i) Sources (IsWhole i) note k t c d e a b x y
+        → (next : Note)
+        × Owed (source_behaviour p schedule) (behaviour i schedule) all frames_of (most_steps i) next k t e c.tasks d.tasks a.task b.task x y (ending k t e)
+    owed note k t c d e a b x y moved =
+        let before = moved.before in (
+          note,
+          subst
+              (Owed (source_behaviour p schedule) (behaviour i schedule) all frames_of (most_steps i) note k t e c.tasks d.tasks a.task b.task x y)
+              (sym (closes laws.leads i well_formed bare (record { kernel = k; rest = d }) before.others t e))
+              ((λ there. moved.leaves), (λ v other there. stays k (after t e k) (c.tasks v) (d.tasks v) before.runner.calm.runs.on (before.stand v there))),
+        )
 
-    kept_at : (w : CodeWorld) → Keeps w → Kept (is_open i w.rest.memory) w.kernel
-    kept_at w h = subst (λ v. Kept (is_open i v.rest.memory) v.kernel) (sym h.1) (laws.kernel_kept i well_formed schedule h.0)
-
-    meets : Meets (source_behaviour p schedule) (behaviour i schedule) alone frames_of (most_steps i) Sources Keeps
+    meets : Meets (source_behaviour p schedule) (behaviour i schedule) all frames_of (most_steps i) Sources (IsWhole i)
     meets = record {
-      kept_ones = λ v h. (h.0 + 1, ap (step (among (source_behaviour p schedule))) h.1 ∙ sym (run_plus (among (source_behaviour p schedule)) h.0 1 (source_start p)));
-      kept_others = λ w h. (h.0 + 1, ap (step (among (behaviour i schedule))) h.1 ∙ sym (run_plus (among (behaviour i schedule)) h.0 1 (start i)));
+      kept_ones = λ v h. (
+        h.0 + 1,
+        ap (step (among (source_behaviour p schedule))) h.1 ∙ sym (run_plus (among (source_behaviour p schedule)) h.0 1 (source_start p)),
+      );
+      kept_others = λ w h. laws.steps_whole i well_formed schedule w h;
       runner = λ w t h runs. record {
-        calm = laws.calm (is_open i w.rest.memory) w.kernel t (kept_at w h) runs;
-        reaches = λ e. laws.reaches (is_open i w.rest.memory) w.kernel t e runs.running (kept_at w h);
+        calm = laws.calm (is_open i w.rest.memory) w.kernel t h.kept runs;
+        reaches = λ e. laws.reaches (is_open i w.rest.memory) w.kernel t e runs.running h.kept;
       };
-      met = λ note k t c d r. met_task note k t (solo_of t c) (solo_of t d) r.runner r.shared (r.stand t);
-      owed = λ note k t c d e a b x y moved. (note, owed note k t e c.tasks d.tasks a.task b.task x y moved.before.runner moved.before.stand moved.leaves);
+      met = met;
+      owed = owed;
     }
 
     -- ---- the starts
-
-    abbrev main : Task
-    main = record { name = p.main.name.name; priority = linked.priority; duty = OfMain p.main.statements }
-
-    base_same : (t : ℕ) → priority_or_zero (slice_get (main ∷ []) t)
-        ≡ priority_of (slice_get (record { name = p.main.name.name; priority = linked.priority; subprogram = linked.number } ∷ []) t)
-    base_same zero = refl
-    base_same (suc t) = refl
-
-    same_partition : partition_of p ≡ image.partition_of i
-    same_partition =
-        (λ j. record {
-          tasks = length (linked.sequential.tasks j);
-          objects = linked.sequential.objects j;
-          base = λ t. priority_or_zero (slice_get (linked.sequential.tasks j) t);
-          ceiling = λ o. linked.sequential.ceilings o j;
-        })
-        ∙ (λ j. record { tasks = 1; objects = 0; base = λ t. base_same t j; ceiling = λ o. 0 })
-        ∙ sym (λ j. image.partition_of (record i { tasks = linked.tasks j; objects = linked.objects j }))
-
-    single_start : Single (source_start p).kernel
-    single_start = begins_single (partition_of p) (ap length linked.sequential.tasks) (sound.partition.base_low 0)
 
     abbrev Setting : Type 0
     Setting = Around i program g numbers
@@ -282,32 +281,28 @@ module _ (laws : LawsBelow) (p : ProgramTree) (i : Sections) (g : Package) (numb
       inner = tt;
     })
 
-    stands_first : (u : ℕ) → Stands (source_start p).kernel u (initial_work program u) (initial_state i u)
-    stands_first zero = record {
-      single = single_start;
-      task = record {
-        sound = λ m s. laws.alike program None (first_store program) m (initial_work program 0) sound.store s (sound.works 0);
-        code = subst (λ s. CodeStands i program g numbers (source_start p).kernel (initial_work program 0) s) (sym state_is)
-            (subst (λ w. CodeStands i program g numbers (source_start p).kernel w first_state) (sym work_is) (main_stands (source_start p).kernel));
-      };
-    }
-    stands_first (suc u) = record { single = single_start; task = tt }
+    stands_first : (u : ℕ) → u < length i.tasks → CodeStands i program g numbers (source_start p).kernel (initial_work program u) (initial_state i u)
+    stands_first zero there =
+        subst (λ s. CodeStands i program g numbers (source_start p).kernel (initial_work program 0) s) (sym state_is)
+        (subst (λ w. CodeStands i program g numbers (source_start p).kernel w first_state) (sym work_is) (main_stands (source_start p).kernel))
+    stands_first (suc u) there = let e = ap length linked.tasks in absurd (omega (arith, there, e))
 
-    under : MeetsUnder p i alone (most_steps i) (λ s v. (n : ℕ) × (v ≡ source p s n)) (λ s w. (m : ℕ) × (w ≡ code i s m)) schedule
+    under : MeetsUnder p i all (most_steps i) (λ s v. (n : ℕ) × (v ≡ source p s n)) (λ s. IsWhole i) schedule
     under = record {
       meets = meets;
       starts = record {
         same = ap begin same_partition;
         ones = (0, refl);
-        others = (0, refl);
+        others = laws.starts_whole i well_formed;
         note = λ u. [];
-        shared = record { sound = sound.store; stands = linked.words };
+        shared = linked.words;
         stands = stands_first;
       };
     }
 
   pub counted : KeepsCount p i (most_steps i)
-  counted = met_keeps_count p i alone (most_steps i) (λ s v. (n : ℕ) × (v ≡ source p s n)) (λ s w. (m : ℕ) × (w ≡ code i s m)) laws.grow laws.quiet (λ schedule ok. under schedule)
+  counted =
+      met_keeps_count p i all (most_steps i) (λ s v. (n : ℕ) × (v ≡ source p s n)) (λ s. IsWhole i) laws.grow laws.quiet (λ schedule ok. under schedule)
 
 pub linked_keeps_count : LawsBelow → LinkedKeepsCount
 linked_keeps_count laws p i g numbers well_formed legal restricted linked = counted laws p i g numbers well_formed legal restricted linked

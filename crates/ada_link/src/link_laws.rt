@@ -1,26 +1,27 @@
 //! The laws of images with the code of a program whose only task is main, each what a function without work ensures.
 ghost use Rattle.package_code.specs.LinkLaws.{LinkedKeepsCount, LinkedMeansTheSame};
 
-use image_laws::kernel_kept;
+use image_laws::{code_leads_on, steps_whole};
 use kernel::laws::{lines_grow, quiet_stays, reaches_callers, runner_is_calm};
 use meaning::laws::count_gives_meaning;
 use program_soundness::body_laws::premises_hold;
 use program_soundness::program_laws::starts_are_sound;
+use program_soundness::run_laws::runs_are_sound;
 use step_simulation::laws::steps_are_met;
-use step_soundness::laws::stores_are_alike;
 
 /// A well-formed image that has the code of an accepted program keeps the count of steps.
 pub fn linked_keeps_count()
     ensures { LinkedKeepsCount }
 {
-    kernel_kept();
+    code_leads_on();
+    steps_whole();
     lines_grow();
     quiet_stays();
     reaches_callers();
     runner_is_calm();
     premises_hold();
     starts_are_sound();
-    stores_are_alike();
+    runs_are_sound();
     steps_are_met();
 }
 

@@ -17,7 +17,7 @@ mod Objects
 mod Barriers
 mod Priorities
 mod Firsts
-mod Awaiting
+pub mod Awaiting
 mod Outcomes
 mod Entries
 mod Others

@@ -44,13 +44,13 @@ use Rattle.part_code.specs.expr_code.proofs.Coming.{acts, after_first}
 use Rattle.part_code.specs.expr_code.proofs.Coming as coming
 use Rattle.part_code.specs.expr_code.proofs.Calling.{enters, inner as callee, refused, replicated}
 use Rattle.part_code.specs.expr_code.specs.declared.visible.Visible.{Visible}
-use Rattle.part_code.specs.Resting.{AreHeld, Framed, NarrowsFrame, RestsWith}
+use Rattle.part_code.specs.Resting.{AreHeld, Framed, NarrowsFrame, RestsWith, StandsFor}
 use Rattle.part_code.specs.Copying.{AreCopies, ArePlaced, actuals_on, addresses_of, copies_on, held_at, left_out, passed_actuals, passed_expression, passed_words, taken}
 use Rattle.part_code.specs.declared.call.Destination.{Destination}
 use Rattle.part_code.specs.Handling.{GoesBy, unhandled}
 use Rattle.part_code.specs.Statements.{IsCall, IsProcedureCode, Numbers, parameter_subtype, shapes_of}
 use Rattle.part_code.specs.Jumping.{Here, Jumps, There}
-use Rattle.step_simulation.specs.Standing.{Going, LeadsByWays, LeadsEnd, Shares, WaitsFor, items_size, work_size}
+use Rattle.step_simulation.specs.Standing.{Going, LeadsByWays, LeadsEnd, WaitsFor, items_size, work_size}
 use Rattle.step_simulation.specs.Laws.{HasCode}
 use Rattle.step_simulation.proofs.Going.{declares_end, declares_follow, earlier, jumps_up, narrows_same, parameters_end, parameters_follow, same_end}
 use Rattle.step_simulation.proofs.Sizes.{item_counts}
@@ -121,7 +121,7 @@ module _ (this : Scene) where
   abbrev m : Words
   m = this.m
 
-  abbrev shares : Shares i program g numbers store m
+  abbrev shares : StandsFor program g store m
   shares = this.shares
 
   abbrev w : TaskWork
@@ -410,8 +410,6 @@ module _ (this : Scene) where
               enters quiet i number proc.s proc.there schedule k t m f fs mid [] words here (passed_many z ez) (few n e),
               record {
                 effect = refl;
-                waits = refl;
-                alone = tt;
                 code = Going (body_of q z.targets items) refl (record {
                   around = around;
                   follows = parameters_follow i program g numbers (left_out q.parameters) around proc.begins proc.begun number first proc.first
@@ -424,7 +422,7 @@ module _ (this : Scene) where
                       ∙ declares_end i program g numbers q.body.declarations (statements_of q z.targets items));
                   inner = (refl, scene.inner_placed this f fs mid [] inner);
                 });
-                words = shares.stands;
+                words = shares;
               },
             )
 
@@ -592,12 +590,10 @@ module _ (this : Scene) where
         (omega (arith, x.0, y.1, up, on_), λ some. omega (arith, x.0, y.1, up, on_))
         (record {
           effect = refl;
-          waits = refl;
-          alone = tt;
           code = copy.copying_stands this vs xs items o older (after t Quiet k) next below outer ds r.7 r.17 (omega (arith, counted, many, same, targets)) r.18 r.20
               waits.next r.19 r.21 waits.rests waits.outside refl (omega (arith, d, l)) (inner_next c (suc c.place) stack below inner.1)
               (goes_within i outer.raised c.place (suc c.place) r.7 r.7 r.22 (omega arith) (omega arith)) waits.handles;
-          words = shares.stands;
+          words = shares;
         }))
       where
         following : (place : ℕ) → place + 1 ≡ suc place

@@ -29,11 +29,11 @@ use Rattle.step_soundness.specs.meaning.specs.Works.{Item, Does, Goes, Activatio
 use Rattle.part_code.specs.expr_code.specs.Views.{At, in_frame, placed, view_of}
 use Rattle.part_code.specs.expr_code.specs.Coming.{most_steps, on}
 use Rattle.part_code.specs.expr_code.specs.Seeing.{Package, Sees}
-use Rattle.part_code.specs.Resting.{Framed}
+use Rattle.part_code.specs.Resting.{Framed, StandsFor}
 use Rattle.part_code.specs.Handling.{Handling}
 use Rattle.part_code.specs.Statements.{AreAlternatives, AreStatements, Numbers, Ways}
 use Rattle.part_code.specs.Jumping.{Here, There}
-use Rattle.step_simulation.specs.Standing.{CodeStands, Going, Shares, items_size, work_size}
+use Rattle.step_simulation.specs.Standing.{CodeStands, Going, items_size, work_size}
 use Rattle.step_simulation.proofs.Going.{before_ends, before_follows, earlier, jumps_up, narrows_same}
 use Rattle.step_simulation.proofs.Sizes.{before_size, item_counts}
 use Rattle.step_simulation.proofs.Scenes.{Scene}
@@ -73,7 +73,7 @@ module _ (this : Scene) where
   abbrev m : Words
   m = this.m
 
-  abbrev shares : Shares i program g numbers store m
+  abbrev shares : StandsFor program g store m
   shares = this.shares
 
   abbrev w : TaskWork
@@ -268,14 +268,11 @@ module _ (this : Scene) where
             (spends_takes (behaviour i schedule) t frames_of (most_steps i) ((r.1 - mid) + 1) k (in_frame m (placed f start []) fs) spends
             (spends_takes (behaviour i schedule) t frames_of (most_steps i) 1 k (in_frame m (placed f start []) fs) taken.spends (Last refl)))
             (omega (arith, x.0, y.1, up, le, up'))
-            (λ other same. record {
-              sound = scene.task_after this (source.goes now all') (there ∙ ap (λ o. source.alternative now o items) found) refl;
-              code = subst (λ q. CodeStands i program g numbers k (source.goes now all').solo.task q) (sym same)
-                  (Going all' refl (scene.goes_on this s all' w.own (seeing r.2 h.around) start f.locals
-                  (before_follows i program g numbers body h.around r.2 f.subprogram start joint items fs w.callers taken.statements u2 start_in joint_in
-                  leads.reaches
-                  (earlier i program g numbers items (seeing r.2 h.around) r.2 f.subprogram joint r.1 fs w.callers (There taken.jump u3 Here)
-                  (narrows_same g r.2) joint_in r.5))
-                  rests h.outside (h.depth ∙ sym (before_ends i program g numbers body items)) h.inner));
-            })
+            (λ other same. subst (λ q. CodeStands i program g numbers k (source.goes now all').solo.task q) (sym same)
+            (Going all' refl (scene.goes_on this s all' w.own (seeing r.2 h.around) start f.locals
+            (before_follows i program g numbers body h.around r.2 f.subprogram start joint items fs w.callers taken.statements u2 start_in joint_in
+            leads.reaches
+            (earlier i program g numbers items (seeing r.2 h.around) r.2 f.subprogram joint r.1 fs w.callers (There taken.jump u3 Here)
+            (narrows_same g r.2) joint_in r.5))
+            rests h.outside (h.depth ∙ sym (before_ends i program g numbers body items)) h.inner)))
             (subst (λ q. suc (items_size all') < work_size q) (sym is) (omega (arith, size, total)))

@@ -31,12 +31,12 @@ use Rattle.part_code.specs.expr_code.specs.Views.{in_frame, placed}
 use Rattle.part_code.specs.expr_code.specs.Coming.{Comes, on}
 use Rattle.part_code.specs.expr_code.specs.Seeing.{Package}
 use Rattle.part_code.specs.expr_code.specs.declared.visible.Visible.{Visible}
-use Rattle.part_code.specs.Resting.{RestsWith, Shows}
+use Rattle.part_code.specs.Resting.{RestsWith, Shows, StandsFor}
 use Rattle.part_code.specs.Copying.{AreCopies, ArePlaced, address_of, addresses_of, copies_on}
 use Rattle.part_code.specs.declared.call.Destination.{Destination}
 use Rattle.part_code.specs.Handling.{GoesBy}
 use Rattle.part_code.specs.Statements.{Numbers}
-use Rattle.step_simulation.specs.Standing.{CodeStands, Copying, Going, IsCopying, Shares, items_size, work_size}
+use Rattle.step_simulation.specs.Standing.{CodeStands, Copying, Going, IsCopying, items_size, work_size}
 use Rattle.part_code.proofs.Holding.{held_kept}
 use Rattle.part_code.proofs.Handling.{goes_within}
 use Rattle.step_simulation.proofs.Scenes.{Scene}
@@ -99,7 +99,7 @@ module _ (this : Scene) where
   abbrev m : Words
   m = this.m
 
-  abbrev shares : Shares i program g numbers store m
+  abbrev shares : StandsFor program g store m
   shares = this.shares
 
   abbrev w : TaskWork
@@ -217,7 +217,7 @@ module _ (this : Scene) where
 
         shaped : (d : Destination) → ArePlaced a.visible.names (d ∷ []) (x ∷ []) → has_shape (shape_of a.visible.names.scope d.subtype) v ≡ true
         shaped d p =
-            let task = this.sound store shares.sound in
+            let task = this.known.task in
             let sound = subst (λ q. IsWorkOf program None w.own task.scope task.outer task.around q) is task.work in
             let knows = scene.sees_here this a.visible items f fs h.rests in
             let known = ap is_some p.0.known.1 in
@@ -255,7 +255,7 @@ module _ (this : Scene) where
             (λ y ey.
             let same = passed_is x.subtype v y ey in
             let put = copy.puts schedule k t m f fs store w.own (place_of now items) x y rest
-            (record { scope = refl; functions = refl; variables = refl; components = refl }) refl refl shares.stands h.rests.rests
+            (record { scope = refl; functions = refl; variables = refl; components = refl }) refl refl shares h.rests.rests
             (scene.sees_here this a.visible items f fs h.rests) h.outside p.0
             (subst (λ q. has_shape (shape_of a.visible.names.scope d.subtype) q ≡ true) same fit) in
             let next : ℕ → Frame = λ q. record { subprogram = f.subprogram; place = q; locals = put.locals; stack = rest; role = f.role } in (
@@ -263,8 +263,6 @@ module _ (this : Scene) where
               put.acts ∙ ap (λ q. steps.does Quiet put.words (next q) fs None None) (sym end),
               record {
                 effect = refl;
-                waits = refl;
-                alone = tt;
                 code = copying_stands vs xs items (activation_with x y w.own) w.callers (after t Quiet k) (next c.0) fs a ds h.to p.1 (let e = h.many in omega (arith, e)) le c.4
                     next_in r h.follows
                     (record {

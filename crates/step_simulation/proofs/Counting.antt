@@ -30,11 +30,11 @@ use Rattle.part_code.specs.expr_code.specs.Views.{in_frame, placed}
 use Rattle.part_code.specs.expr_code.specs.Coming.{most_steps}
 use Rattle.part_code.specs.expr_code.specs.Seeing.{Package}
 use Rattle.part_code.specs.expr_code.proofs.Coming.{acts}
-use Rattle.part_code.specs.Resting.{Framed, RestsWith}
+use Rattle.part_code.specs.Resting.{Framed, RestsWith, StandsFor}
 use Rattle.part_code.specs.Counting.{Bounds, GoesOn, IsCounted, IsRange, bounds, in_turn, number_bounds, turn_first, turn_last, with_last, with_parameter}
 use Rattle.part_code.specs.Statements.{Numbers}
 use Rattle.part_code.specs.Jumping.{Here}
-use Rattle.step_simulation.specs.Standing.{CodeStands, Going, Shares, in_range, items_size, work_size}
+use Rattle.step_simulation.specs.Standing.{CodeStands, Going, in_range, items_size, work_size}
 use Rattle.step_simulation.proofs.Going.{before_ends, before_follows, jumps_up, narrows_same, rest_of}
 use Rattle.step_simulation.proofs.Sizes.{before_size, item_counts}
 use Rattle.step_simulation.proofs.Turning as turn
@@ -76,7 +76,7 @@ module _ (this : Scene) where
   abbrev m : Words
   m = this.m
 
-  abbrev shares : Shares i program g numbers store m
+  abbrev shares : StandsFor program g store m
   shares = this.shares
 
   abbrev w : TaskWork
@@ -152,11 +152,8 @@ module _ (this : Scene) where
         (spends_takes (behaviour i schedule) t frames_of (most_steps i) (n' + 1) k end first
         (spends_takes (behaviour i schedule) t frames_of (most_steps i) 1 k end second (Last refl)))
         low
-        (λ other e. record {
-          sound = scene.task_after this (left_with own items) is refl;
-          code = subst (λ q. CodeStands i program g numbers k (left_with own items).solo.task q) (sym e)
-              (Going items refl (scene.goes_on this s items own a target locals follows rests outside depth inner));
-        })
+        (λ other e. subst (λ q. CodeStands i program g numbers k (left_with own items).solo.task q) (sym e)
+        (Going items refl (scene.goes_on this s items own a target locals follows rests outside depth inner)))
         less
 
     -- ---- the range
@@ -407,8 +404,6 @@ module _ (this : Scene) where
             (omega (arith, x.0, y.1, up, u3, u4, u5, u6), λ some. omega (arith, x.0, y.1, up, u3, u4, u5, u6))
             (record {
               effect = refl;
-              waits = refl;
-              alone = tt;
               code = Going (source.before body loop) refl (scene.goes_on this s (source.before body loop) own' turn_setting c.start on.locals
                   (before_follows i program g numbers body turn_setting c.inner f.subprogram c.start c.back loop fs w.callers r.5 u2 start_in back_in
                   (c.shows, (λ q view z. r.4.reaches q view (c.shows q view z)), λ q view z. r.4.handles q view (c.shows q view z)) (
@@ -431,5 +426,5 @@ module _ (this : Scene) where
                     r.7,
                   ))
                   on.rests h.outside (h.depth ∙ sym (before_ends i program g numbers body loop)) h.inner);
-              words = shares.stands;
+              words = shares;
             }))

@@ -20,11 +20,11 @@ use Rattle.step_soundness.specs.meaning.specs.Programs.{Program}
 use Rattle.step_soundness.specs.meaning.specs.SourceSteps as source
 use Rattle.step_soundness.specs.meaning.specs.SourceSteps.{here_of, place_of, program_behaviour, with_value, work_step}
 use Rattle.step_soundness.specs.meaning.specs.Works.{Item, Declares, DeclaresParameter, Sequence, Does, DoesMain, Repeats, RepeatsWhile, RepeatsFor, Handles, EndsHandler, EndsCall, Goes, Activation, Store, TaskWork}
-use Rattle.step_soundness.specs.Laws.{StepsAreSound, StoresAreAlike}
+use Rattle.step_soundness.specs.Laws.{StepsAreSound}
 use Rattle.part_code.specs.expr_code.specs.Seeing.{Package}
-use Rattle.part_code.specs.Resting.{Framed}
+use Rattle.part_code.specs.Resting.{Framed, StandsFor}
 use Rattle.part_code.specs.Statements.{IsCalleeCode, IsPutCode, Numbers}
-use Rattle.step_simulation.specs.Standing.{Catching, CodeStands, Copying, Going, IsCatching, Over as Ended, Raised, Shares, items_size, work_size}
+use Rattle.step_simulation.specs.Standing.{Catching, CodeStands, Copying, Going, IsCatching, Over as Ended, Raised, items_size, work_size}
 use Rattle.step_simulation.specs.Laws.{HasCode, StepsAreMet}
 use Rattle.step_simulation.proofs.Scenes.{AtOnce, Keeping, Scene}
 use Rattle.step_simulation.proofs.Scenes as scene
@@ -73,7 +73,7 @@ module _ (this : Scene) where
   abbrev m : Words
   m = this.m
 
-  abbrev shares : Shares i program g numbers store m
+  abbrev shares : StandsFor program g store m
   shares = this.shares
 
   abbrev w : TaskWork
@@ -196,8 +196,8 @@ module _ (this : Scene) where
   met_by s (Raised x items g' gs is throws inner caught) = raising.met_raised this s x items g' gs is throws inner caught
   met_by s (Ended o h) = let e = calm.runs.on in absurd cc
 
-pub steps_are_met : QuietStays → StepsAreSound → StoresAreAlike → StepsAreMet
-steps_are_met quiet step_soundness alike i program g numbers has premises schedule note k t calm store m w s shares stands =
+pub steps_are_met : QuietStays → StepsAreSound → StepsAreMet
+steps_are_met quiet step_soundness i program g numbers has premises schedule note k t calm store m w s known shares stands =
     met_by (record {
       quiet = quiet;
       step_soundness = step_soundness;
@@ -207,7 +207,6 @@ steps_are_met quiet step_soundness alike i program g numbers has premises schedu
       numbers = numbers;
       has = has;
       premises = premises;
-      alike = alike;
       schedule = schedule;
       note = note;
       k = k;
@@ -217,5 +216,5 @@ steps_are_met quiet step_soundness alike i program g numbers has premises schedu
       m = m;
       shares = shares;
       w = w;
-      sound = stands.sound;
-    }) s stands.code
+      known = known;
+    }) s stands

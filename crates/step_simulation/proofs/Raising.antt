@@ -24,7 +24,6 @@ use Rattle.step_soundness.specs.meaning.specs.SameMeaning.{frames_of}
 use Rattle.step_soundness.specs.meaning.specs.SourceSteps as source
 use Rattle.step_soundness.specs.meaning.specs.SourceSteps.{before, handler_for, program_behaviour, work_step}
 use Rattle.step_soundness.specs.meaning.specs.Works.{Item, Declares, DeclaresParameter, Sequence, Does, DoesMain, Repeats, RepeatsWhile, RepeatsFor, Handles, EndsHandler, EndsCall, EndsAction, EndsServed, Queued, Goes, Raising, Activation, Store, Target, TaskWork}
-use Rattle.step_soundness.specs.Holding.{waits_after}
 use Rattle.step_soundness.specs.Objects.{IsException}
 use Rattle.part_code.specs.expr_code.specs.Views.{At, in_frame, placed}
 use Rattle.part_code.specs.expr_code.specs.Coming.{Throws, most_steps}
@@ -33,7 +32,7 @@ use Rattle.part_code.specs.expr_code.proofs.Coming.{acts}
 use Rattle.part_code.specs.expr_code.proofs.Coming as coming
 use Rattle.part_code.specs.Resting.{StandsFor}
 use Rattle.part_code.specs.Statements.{Numbers}
-use Rattle.step_simulation.specs.Standing.{AreInner, Catches, Catching, CaughtIf, CodeStands, IsSoundWork, Over as Ended, Raised, Shares, items_size, relation, work_size}
+use Rattle.step_simulation.specs.Standing.{AreInner, Catches, Catching, CaughtIf, CodeStands, Over as Ended, Raised, items_size, relation, work_size}
 use Rattle.step_simulation.specs.Laws.{HasCode}
 use Rattle.step_simulation.proofs.Catching.{handling_here}
 use Rattle.step_simulation.proofs.Going.{jumps_up}
@@ -87,14 +86,11 @@ module _ (this : Scene) where
   abbrev m : Words
   m = this.m
 
-  abbrev shares : Shares i program g numbers store m
+  abbrev shares : StandsFor program g store m
   shares = this.shares
 
   abbrev w : TaskWork
   w = this.w
-
-  abbrev sound : IsSoundWork i program g numbers w
-  sound = this.sound
 
   abbrev now : source.Here
   now = scene.now this
@@ -140,9 +136,7 @@ module _ (this : Scene) where
     met_still y is e same stands less =
         still_by (program_behaviour program schedule) (behaviour i schedule) (relation i program g numbers) frames_of (most_steps i) this.note k t
         (record { memory = store; task = w }) (record { memory = m; task = s }) y is e
-        (record { sound = scene.store_after this y is; stands = subst (λ q. StandsFor program g q m) (sym same) shares.stands })
-        (record { sound = scene.task_after this y is (ap waits_after e); code = stands })
-        less
+        (subst (λ q. StandsFor program g q m) (sym same) shares) stands less
 
     -- the step of code that raises
     met_step : (y : source.SourceStepped) (z : steps.Stepped) → work_step now w.work ≡ y → act i schedule k t (record { memory = m; task = s }) ≡ z
@@ -151,9 +145,7 @@ module _ (this : Scene) where
     met_step y z is there meets =
         moves_by (program_behaviour program schedule) (behaviour i schedule) (relation i program g numbers) frames_of (most_steps i) this.note k t
         (record { memory = store; task = w }) (record { memory = m; task = s })
-        1 (record { memory = m; task = s }) y z is there (Last refl) (omega arith) meets.effect
-        (record { sound = scene.store_after this y is; stands = meets.words })
-        (record { alone = meets.alone; stands = record { sound = scene.task_after this y is meets.waits; code = meets.code } })
+        1 (record { memory = m; task = s }) y z is there (Last refl) (omega arith) meets.effect meets.words meets.code
 
     -- an item is dropped
     met_dropped : (i' : Item) (items : List Item) (f : Frame) (fs : List Frame) → w.work ≡ Raising x (i' ∷ items)
@@ -196,10 +188,8 @@ module _ (this : Scene) where
             (throws.throws schedule k t m ∙ lands x h.target f fs h.taken)
             (record {
               effect = refl;
-              waits = refl;
-              alone = tt;
               code = Catching (before body (EndsHandler x ∷ items)) refl h.catching;
-              words = shares.stands;
+              words = shares;
             })
         by_handler None found h =
             met_dropped (Handles hs) items f fs is (ap (λ q. work_step now q) is ∙ ap (λ o. source.handled now x o items) found) throws inner h
@@ -209,7 +199,7 @@ module _ (this : Scene) where
     met_last f fs is throws c =
         met_step (source.works now (Dies x) (Goes [])) (steps.does (Dies x) m (record f { stack = [] }) [] (Some x) None) (ap (λ q. work_step now q) is)
         (throws.throws schedule k t m ∙ ap (λ q. unwind i m x f q) c.1 ∙ dies x f c.0)
-        (record { effect = refl; waits = refl; alone = tt; code = Ended (kernels.Unhandled x t) refl; words = shares.stands })
+        (record { effect = refl; code = Ended (kernels.Unhandled x t) refl; words = shares })
 
     pub met_raised : (items : List Item) (f : Frame) (fs : List Frame) → w.work ≡ Raising x items → Throws i x s f fs → Removable f fs
         → Caught x f fs w.own w.callers items → MetFrom s

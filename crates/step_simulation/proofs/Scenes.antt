@@ -28,8 +28,8 @@ use Rattle.step_soundness.specs.meaning.specs.SameMeaning.{frames_of}
 use Rattle.step_soundness.specs.meaning.specs.SourceSteps as source
 use Rattle.step_soundness.specs.meaning.specs.SourceSteps.{here_of, place_of, program_behaviour, with_value, work_step}
 use Rattle.step_soundness.specs.meaning.specs.Works.{Item, Does, Goes, Activation, Store, TaskWork, ends_of_calls, frames_left}
-use Rattle.step_soundness.specs.Holding.{IsSoundStep, IsSoundStore, IsSoundTask, waits_after}
-use Rattle.step_soundness.specs.Laws.{Premises, StepsAreSound, StoresAreAlike}
+use Rattle.step_soundness.specs.Holding.{IsSoundStep}
+use Rattle.step_soundness.specs.Laws.{Premises, StepsAreSound}
 use Rattle.step_soundness.specs.Objects.{IsException}
 use Rattle.step_soundness.specs.Opened.{opened_in}
 use Rattle.part_code.specs.expr_code.specs.Views.{At, in_frame, placed, view_of}
@@ -42,8 +42,8 @@ use Rattle.part_code.specs.Resting.{Framed, HeldWord, IsAddressable, Knows, Narr
 use Rattle.part_code.specs.Handling.{GoesBy}
 use Rattle.part_code.specs.Statements.{Numbers}
 use Rattle.part_code.specs.Jumping.{Here, Jumps, There}
-use Rattle.step_simulation.specs.Standing.{AreInner, Around, Catches, CodeStands, Follows, Going, Inside, IsGoingOn, IsSoundWork, LeadsByWays, Note, with_visible, Raised, Shares, StaysAlone, WorkStands, items_size, relation, work_size}
-use Rattle.step_simulation.specs.Laws.{HasCode}
+use Rattle.step_simulation.specs.Standing.{AreInner, Around, Catches, CodeStands, Follows, Going, Inside, IsGoingOn, LeadsByWays, Note, with_visible, Raised, items_size, relation, work_size}
+use Rattle.step_simulation.specs.Laws.{HasCode, IsKnownHere}
 use Rattle.step_simulation.proofs.Going.{Drops, earlier, jumps_up, shows_then, way_back, way_out}
 use Rattle.step_simulation.proofs.Catching.{catches}
 
@@ -57,7 +57,6 @@ pub record Scene : Type 0 where
   pub numbers : Numbers
   pub has : HasCode i program g numbers
   pub premises : Premises program
-  pub alike : StoresAreAlike
   pub schedule : List ScheduleLine
   pub note : Note
   pub k : Kernel
@@ -65,9 +64,9 @@ pub record Scene : Type 0 where
   pub calm : Calm k t
   pub store : Store
   pub m : Words
-  pub shares : Shares i program g numbers store m
+  pub shares : StandsFor program g store m
   pub w : TaskWork
-  pub sound : IsSoundWork i program g numbers w
+  pub known : IsKnownHere program k t store w
 
 module _ (this : Scene) where
   abbrev quiet : QuietStays
@@ -94,9 +93,6 @@ module _ (this : Scene) where
   abbrev premises : Premises program
   premises = this.premises
 
-  abbrev alike : StoresAreAlike
-  alike = this.alike
-
   abbrev schedule : List ScheduleLine
   schedule = this.schedule
 
@@ -115,14 +111,14 @@ module _ (this : Scene) where
   abbrev m : Words
   m = this.m
 
-  abbrev shares : Shares i program g numbers store m
+  abbrev shares : StandsFor program g store m
   shares = this.shares
 
   abbrev w : TaskWork
   w = this.w
 
-  abbrev sound : IsSoundWork i program g numbers w
-  sound = this.sound
+  abbrev known : IsKnownHere program k t store w
+  known = this.known
 
   abbrev pub now : source.Here
   now = here_of program schedule k t (record { memory = store; task = w })
@@ -161,22 +157,15 @@ module _ (this : Scene) where
   -- ---- the step of the source is sound
 
   pub step_sound : IsSoundStep now (opened_in (source.items_of w.work)) (work_step now w.work)
-  step_sound = step_soundness program schedule k t (record { memory = store; task = w }) premises shares.sound (sound store shares.sound)
+  step_sound = step_soundness program schedule k t (record { memory = store; task = w }) premises known.store known.task
 
   module _ (x : source.SourceStepped) (is : work_step now w.work ≡ x) where
     step_is : IsSoundStep now (opened_in (source.items_of w.work)) x
     step_is = subst (λ y. IsSoundStep now (opened_in (source.items_of w.work)) y) is step_sound
 
-    pub store_after : IsSoundStore program x.solo.memory
-    store_after = step_is.store.sound
-
-    pub task_after : waits_after x.effect ≡ None → IsSoundWork i program g numbers x.solo.task
-    task_after none m' s' = alike program None x.solo.memory m' x.solo.task store_after s'
-        (subst (λ q. IsSoundTask program x.solo.memory q x.solo.task) none step_is.task)
-
   -- what is raised is an exception
   pub raises_known : (x : ℕ) (items : List Item) → work_step now w.work ≡ source.raises now x items → IsException program x
-  raises_known x items is = (task_after (source.raises now x items) is refl store shares.sound).work.0
+  raises_known x items is = (step_is (source.raises now x items) is).task.work.0
 
   -- no step of a sound task is without meaning
   pub has_meaning : (items : List Item) → work_step now w.work ≡ source.means_nothing now items → ⊥
@@ -186,19 +175,19 @@ module _ (this : Scene) where
 
   pub is_small : (f : Frame) → length f.locals ≤ 65536 → (fs : List Frame) → IsAddressable (view_of i schedule k m f fs)
   is_small f small fs regions.Locals = small
-  is_small f small fs regions.Plain = shares.stands.plain
+  is_small f small fs regions.Plain = shares.plain
   is_small f small fs regions.Object = of_object (own_object i f)
     where
       of_object : (o : Option ℕ) → length (object_words o m) ≤ 65536
       of_object None = omega arith
-      of_object (Some o) = shares.stands.objects o
+      of_object (Some o) = shares.objects o
 
   pub sees_package : (items : List Item) (f : Frame) (fs : List Frame) → length f.locals ≤ 65536
       → SeesPackage g (place_of now items) (view_of i schedule k m f fs)
   sees_package items f fs small =
-      shares.stands.shared (place_of now items) (view_of i schedule k m f fs)
+      shares.shared (place_of now items) (view_of i schedule k m f fs)
       (record { scope = refl; functions = refl; variables = refl; components = refl }) refl refl refl refl (is_small f small fs)
-      (shares.sound.functions (place_of now items))
+      (known.store.functions (place_of now items))
 
   -- a frame has the words of its own that it ought to have
   has_room : (v : Framed) (a : Activation) (locals : List ℤ) → Rests g v a locals → v.room ≤ length locals
@@ -207,8 +196,8 @@ module _ (this : Scene) where
       let p : Place = record (place_of now []) { locals = a.locals; within = a.within } in
       let view = view_of i schedule k m f [] in
       (rests.sees p view
-      (shares.stands.shared p view (record { scope = refl; functions = refl; variables = refl; components = refl }) refl refl refl refl
-      (is_small f rests.small []) (shares.sound.functions p)) refl refl refl).room
+      (shares.shared p view (record { scope = refl; functions = refl; variables = refl; components = refl }) refl refl refl refl
+      (is_small f rests.small []) (known.store.functions p)) refl refl refl).room
 
   pub sees_here : {held : List HeldWord} (v : Framed) (items : List Item) (f : Frame) (fs : List Frame) → RestsWith g v held w.own f.locals
       → Knows g v (place_of now items) (view_of i schedule k m f fs)
@@ -264,8 +253,6 @@ module _ (this : Scene) where
   -- what code stands for after a step of the source with this effect
   pub record Meets (x : source.SourceStepped) (y : steps.Stepped) : Type 0 where
     pub effect : y.effect ≡ x.effect
-    pub waits : waits_after x.effect ≡ None
-    pub alone : StaysAlone x.effect
     pub code : CodeStands i program g numbers (after t x.effect k) x.solo.task y.solo.task
     pub words : StandsFor program g x.solo.memory y.solo.memory
 
@@ -300,12 +287,11 @@ module _ (this : Scene) where
   pub quiet_from : (s : TaskState) (n : ℕ) (c : TaskState) (x : source.SourceStepped) → work_step now w.work ≡ x → x.effect ≡ Quiet → x.solo.memory ≡ store
       → Takes (behaviour i schedule) t frames_of (most_steps i) (frames_of s) n k (record { memory = m; task = s }) k (record { memory = m; task = c })
       → IsLow s n
-      → ((s' : TaskState) → s' ≡ c → WorkStands i program g numbers k x.solo.task s')
+      → ((s' : TaskState) → s' ≡ c → CodeStands i program g numbers k x.solo.task s')
       → work_size x.solo.task.work < work_size w.work
       → Meet s
   quiet_from s n c x is e same all low stands less = λ b from.
-      let sh : Shares i program g numbers x.solo.memory m = record
-      { sound = store_after x is; stands = subst (λ q. StandsFor program g q m) (sym same) shares.stands } in
+      let sh : StandsFor program g x.solo.memory m = subst (λ q. StandsFor program g q m) (sym same) shares in
       let l = led b s n (record { memory = m; task = c }) from all low in
       ⊎_elim
       (λ stays. still_by (program_behaviour program schedule) (behaviour i schedule) (relation i program g numbers) frames_of (most_steps i) this.note k t
@@ -327,16 +313,14 @@ module _ (this : Scene) where
       let l = led b s n c from all low in
       moves_by (program_behaviour program schedule) (behaviour i schedule) (relation i program g numbers) frames_of (most_steps i) this.note k t
       (record { memory = store; task = w }) (record { memory = m; task = b })
-      l.0 c x y is there l.1 l.2 meets.effect
-      (record { sound = store_after x is; stands = meets.words })
-      (record { alone = meets.alone; stands = record { sound = task_after x is meets.waits; code = meets.code } })
+      l.0 c x y is there l.1 l.2 meets.effect meets.words meets.code
 
   pub met_quiet_on : (base : List ℤ) (f : Frame) (fs : List Frame) (n : ℕ) (c : TaskState) (x : source.SourceStepped) → work_step now w.work ≡ x → x.effect ≡ Quiet
       → x.solo.memory ≡ store
       → (all : Takes (behaviour i schedule) t frames_of (most_steps i) (suc (length fs)) n k (in_frame m (placed f f.place base) fs) k
       (record { memory = m; task = c }))
       → n < most_steps i (in_frame m f fs).task
-      → ((s : TaskState) → s ≡ c → WorkStands i program g numbers k x.solo.task s)
+      → ((s : TaskState) → s ≡ c → CodeStands i program g numbers k x.solo.task s)
       → work_size x.solo.task.work < work_size w.work
       → Meet (in_frame m (placed f f.place base) fs).task
   met_quiet_on base f fs n c x is e same all low stands less =
@@ -372,12 +356,9 @@ module _ (this : Scene) where
       let f' = placed f place left in
       let raised = source.raises now x items in
       let all = spends_takes (behaviour i schedule) t frames_of (most_steps i) n' k (record { memory = m; task = comes.0 }) first comes.3 in
-      let stands : (s : TaskState) → Throws i x s f' fs → WorkStands i program g numbers k raised.solo.task s =
-      λ s throws. record {
-        sound = task_after raised is refl;
-        code = Raised x items f' fs refl throws (inner_placed f fs place left inner)
-            (handled x place left (raises_known x items is) refl comes.4 comes.5);
-      } in
+      let stands : (s : TaskState) → Throws i x s f' fs → CodeStands i program g numbers k raised.solo.task s =
+      λ s throws. Raised x items f' fs refl throws (inner_placed f fs place left inner)
+      (handled x place left (raises_known x items is) refl comes.4 comes.5) in
       met_quiet_on base f fs (n + n') comes.0 raised is refl refl all (omega (arith, low)) (λ s e. stands s (subst (λ q. Throws i x q f' fs)
       (sym e) comes.6)) less
   met_value_on base start f fs n from n' to stack Meaningless items go first comes low is less inner handled last = absurd (has_meaning items is)
@@ -409,7 +390,7 @@ module _ (this : Scene) where
       → (all : Takes (behaviour i schedule) t frames_of (most_steps i) (suc (length fs)) n k (in_frame m (placed f f.place []) fs) k
       (record { memory = m; task = c }))
       → n < most_steps i (in_frame m f fs).task
-      → ((s : TaskState) → s ≡ c → WorkStands i program g numbers k x.solo.task s)
+      → ((s : TaskState) → s ≡ c → CodeStands i program g numbers k x.solo.task s)
       → work_size x.solo.task.work < work_size w.work
       → Meet (in_frame m (placed f f.place []) fs).task
   met_quiet f fs n c x = met_quiet_on [] f fs n c x
@@ -448,7 +429,7 @@ module _ (this : Scene) where
       → Meet s
   met_still s x is e same stands less =
       quiet_from s 1 s x is e same (Last refl) (omega arith, λ some. omega (arith, some))
-      (λ s' there. record { sound = task_after x is (ap waits_after e); code = subst (λ q. CodeStands i program g numbers k x.solo.task q) (sym there) stands })
+      (λ s' there. subst (λ q. CodeStands i program g numbers k x.solo.task q) (sym there) stands)
       less
 
   -- ---- going on
@@ -547,10 +528,8 @@ module _ (this : Scene) where
         → Meets (source.goes now items) (steps.does Quiet m (goes_at f place f.locals) fs None None)
     goes_to items a place follows rests outside depth inner = record {
       effect = refl;
-      waits = refl;
-      alone = tt;
       code = Going items refl (goes_on items w.own a place f.locals follows rests outside depth inner);
-      words = shares.stands;
+      words = shares;
     }
 
     pub met_end : w.work ≡ Goes [] → (h : IsAtItems []) → Meet s
@@ -567,8 +546,6 @@ module _ (this : Scene) where
         (λ q. steps.returns_to i schedule k t m (placed f at []) q q f.role []) r.2)
         (record {
           effect = refl;
-          waits = refl;
-          alone = tt;
           code = Going [] refl (record {
             around = h.around;
             follows = (
@@ -591,7 +568,7 @@ module _ (this : Scene) where
             depth = refl;
             inner = tt;
           });
-          words = shares.stands;
+          words = shares;
         })
 
     -- the code of the next items is reached by jumps

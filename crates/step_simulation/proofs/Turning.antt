@@ -34,13 +34,13 @@ use Rattle.part_code.specs.expr_code.specs.Coming.{Comes, most_steps, on, size_o
 use Rattle.part_code.specs.expr_code.specs.Seeing.{Package}
 use Rattle.part_code.specs.expr_code.proofs.Coming.{acts, after_first}
 use Rattle.part_code.specs.expr_code.proofs.Coming as coming
-use Rattle.part_code.specs.Resting.{Framed, HeldWord, RestsWith, Shows}
+use Rattle.part_code.specs.Resting.{Framed, HeldWord, RestsWith, Shows, StandsFor}
 use Rattle.part_code.proofs.Holding.{held_kept}
 use Rattle.part_code.specs.Handling.{GoesBy}
 use Rattle.part_code.specs.Storing.{Arrives, Assigned, Assigns, Puts, assigned, assigned_to, declared, declared_from, object_declared}
 use Rattle.part_code.specs.Statements.{AreStatements, IsOtherwise, IsPutCode, IsWhile, Numbers, within_loop}
 use Rattle.part_code.specs.Jumping.{Here, Jumps, There}
-use Rattle.step_simulation.specs.Standing.{Going, LeadsByWays, LeadsInto, ReachesWays, in_loop, Shares, items_size, work_size}
+use Rattle.step_simulation.specs.Standing.{Going, LeadsByWays, LeadsInto, ReachesWays, in_loop, items_size, work_size}
 use Rattle.step_simulation.proofs.Going.{before_ends, before_follows, earlier, into, jumps_up, narrows_same, way_out}
 use Rattle.step_simulation.proofs.Sizes.{item_counts}
 use Rattle.part_code.proofs.Handling.{goes_within}
@@ -83,7 +83,7 @@ module _ (this : Scene) where
   abbrev m : Words
   m = this.m
 
-  abbrev shares : Shares i program g numbers store m
+  abbrev shares : StandsFor program g store m
   shares = this.shares
 
   abbrev w : TaskWork
@@ -530,8 +530,6 @@ module _ (this : Scene) where
           put.acts,
           record {
             effect = refl;
-            waits = refl;
-            alone = tt;
             code = Going items refl
                 (scene.goes_on this s items own' (seeing later a) (suc mid) put.locals
                 (earlier i program g numbers items (seeing later a) later f.subprogram (suc mid) to fs w.callers jumps (narrows_same g later) inside rest)
@@ -618,7 +616,7 @@ module _ (this : Scene) where
         stored_meets items now' later mid to (store_after' z store) (own_after z w.own) a left jumps
         (omega (arith, x.0, up, low), omega (arith, y.1, high)) code.same here rest (outside z) depth inner put)
         (code.arrives schedule k t m f fs store w.own (place_of now items) this.has.functions calm
-        (record { scope = refl; functions = refl; variables = refl; components = refl }) refl refl shares.stands here.rests
+        (record { scope = refl; functions = refl; variables = refl; components = refl }) refl refl shares here.rests
         (scene.sees_here this now' items f fs here) before (ap (λ n. FRAMES - suc n) (sym depth))))
 
     -- an `out` parameter
@@ -739,10 +737,8 @@ module _ (this : Scene) where
               (λ j. steps.does (Says (named j) z) m (goes_at f (next j) f.locals) fs None None),
           record {
             effect = refl;
-            waits = refl;
-            alone = tt;
             code = Going items refl (scene.goes_on this s items w.own (seeing r.2 h.around) r.1 f.locals r.5 rests h.outside h.depth h.inner);
-            words = shares.stands;
+            words = shares;
           },
         )))
       where

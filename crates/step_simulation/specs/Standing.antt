@@ -5,7 +5,7 @@ use Rattle.part_code.specs.ada_tree.specs.StatementTree.{NoHandlers, MoreHandler
 use Rattle.part_code.specs.base.specs.declared.schedule.ScheduleLine.{ScheduleLine}
 use Rattle.part_code.specs.handlers.specs.Innermost.{handler_of}
 use Rattle.kernel.specs.State.{Kernel, Outcome}
-use Rattle.kernel.specs.Effects.{Effect, Quiet, Says, Finishes, Dies, after}
+use Rattle.kernel.specs.Effects.{Quiet, after}
 use Rattle.part_code.specs.image.specs.Sections.{Sections, first_place}
 use Rattle.part_code.specs.image.specs.Operations.{called, results_of}
 use Rattle.part_code.specs.image.specs.Frames.{Inner, Frame, TaskState, Words}
@@ -16,7 +16,6 @@ use Rattle.step_soundness.specs.meaning.specs.Meeting.{Relation}
 use Rattle.step_soundness.specs.meaning.specs.Programs.{Program}
 use Rattle.step_soundness.specs.meaning.specs.Works.{Item, Declares, DeclaresParameter, Sequence, Does, DoesMain, Repeats, RepeatsWhile, RepeatsFor, Handles, EndsHandler, EndsCall, EndsServed, Work, Goes, Copies, Raising, Activation, GivenToCaller, Store, Target, TaskWork, ends_of_calls}
 use Rattle.step_soundness.specs.meaning.specs.SourceSteps.{before, handler_for}
-use Rattle.step_soundness.specs.Holding.{IsSoundStore, IsSoundTask}
 use Rattle.part_code.specs.expr_code.specs.Views.{At, placed}
 use Rattle.part_code.specs.expr_code.specs.Coming.{Throws, size_of}
 use Rattle.part_code.specs.expr_code.specs.Seeing.{Package}
@@ -44,14 +43,6 @@ abbrev pub work_size : Work → ℕ
 work_size (Goes items) = suc (items_size items)
 work_size (Copies vs xs items) = suc (suc (items_size items))
 work_size (Raising x items) = items_size items
-
--- what a task does alone, so that no other task, queue or action notices it
-abbrev pub StaysAlone : Effect → Type 0
-StaysAlone Quiet = ⊤
-StaysAlone (Says label value) = ⊤
-StaysAlone Finishes = ⊤
-StaysAlone (Dies x) = ⊤
-StaysAlone e = ⊥
 
 -- the addresses that each task has passed in the entry call in which it waits
 abbrev pub Note : Type 0
@@ -343,27 +334,12 @@ module _ (i : Sections) (program : Program) (g : Package) (numbers : Numbers) wh
         → CodeStands k w s
     Over : (o : Outcome) → k.outcome ≡ Some o → CodeStands k w s
 
-  -- the task's work breaks no rule, whatever the store is
-  abbrev pub IsSoundWork : TaskWork → Type 0
-  IsSoundWork w = (m : Store) → IsSoundStore program m → IsSoundTask program m None w
-
-  pub record WorkStands (k : Kernel) (w : TaskWork) (s : TaskState) : Type 0 where
-    pub sound : IsSoundWork w
-    pub code : CodeStands k w s
-
-  pub record Left (k : Kernel) (e : Effect) (w : TaskWork) (s : TaskState) : Type 0 where
-    pub alone : StaysAlone e
-    pub stands : WorkStands k w s
-
-  pub record Shares (store : Store) (m : Words) : Type 0 where
-    pub sound : IsSoundStore program store
-    pub stands : StandsFor program g store m
-
+  -- Words stand for variables and components, and frames for the work of each task; after its step the frames stand for what it has still to do, in the kernel
+  -- behind the effect. That work breaks no rule is said nowhere here: it is so in each world of the program's runs.
   abbrev pub relation : Relation Note Store TaskWork GivenToCaller Words TaskState steps.Given
   relation = record {
-    shares = Shares;
-    stands = λ note k t w s. WorkStands k w s;
-    leaves = λ note k t e w s p q. Left (after t e k) e w s;
-    size = λ w. work_size
-        w.work;
+    shares = StandsFor program g;
+    stands = λ note k t w s. CodeStands k w s;
+    leaves = λ note k t e w s p q. CodeStands (after t e k) w s;
+    size = λ w. work_size w.work;
   }

@@ -2,7 +2,7 @@
 ghost use Rattle.step_simulation.specs.Laws.{StepsAreMet};
 
 use kernel::laws::quiet_stays;
-use step_soundness::laws::{steps_are_sound, stores_are_alike};
+use step_soundness::laws::steps_are_sound;
 
 /// Each step of a task is met by the code that stands for its work.
 pub fn steps_are_met()
@@ -10,5 +10,4 @@ pub fn steps_are_met()
 {
     quiet_stays();
     steps_are_sound();
-    stores_are_alike();
 }
