@@ -1,4 +1,5 @@
 mod Closing
+mod LinkedTasks
 mod Meaning
 mod MainCalls
 mod Suited

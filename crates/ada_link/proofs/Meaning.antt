@@ -1,24 +1,22 @@
 -- A linked image has the meaning of its program.
-use Rattle.std.proofs.Common.{◌≡◌, ◌<◌, ◌≤◌, ℕ, zero, suc, ◌+◌, List, [], ◌∷◌, map, None, Option, refl, sym, ap, ◌∙◌, subst, arith}
-use Rattle.std.specs.Prelude.{pos, slice_get, replicate, length}
+use Rattle.std.proofs.Common.{◌≡◌, ◌<◌, ℕ, ◌+◌, List, [], None, Option, refl, sym, ap, ◌∙◌, subst}
+use Rattle.std.specs.Prelude.{slice_get, length}
 use Rattle.base.specs.declared.schedule.ScheduleLine.{ScheduleLine}
 use Rattle.kernel.specs.State.{Kernel}
 use Rattle.kernel.specs.Effects.{Effect, after, begin}
 use Rattle.kernel.specs.Worlds.{Solo, Tasks, among, ending, solo_of, step}
 use Rattle.kernel.specs.Laws.{LinesGrow, QuietStays, ReachesCallers, RunnerIsCalm}
 use Rattle.kernel.specs.RunLaws.{run_plus}
-use Rattle.image.specs.Sections.{Sections, end_of, first_place}
-use Rattle.image.specs.Operations.{called, entry_of, results_of}
+use Rattle.image.specs.Sections.{Sections}
+use Rattle.image.specs.Operations.{entry_of}
 use Rattle.image.specs.Rules.{IsWellFormed}
-use Rattle.image.specs.Texts.{name_of, text_at, text_from_one}
-use Rattle.image.specs.Frames.{Inner, Words, TaskState}
+use Rattle.image.specs.Texts.{text_from_one}
+use Rattle.image.specs.Frames.{Words, TaskState}
 use Rattle.image.specs.Steps.{behaviour, is_open}
 use Rattle.image.specs.Steps as steps
 use Rattle.image.specs.Code as image
-use Rattle.image.specs.Code.{body_frame, body_of, initial_state, priority_of}
 use Rattle.image_laws.specs.Laws.{CodeLeadsOn}
 use Rattle.image_laws.specs.Whole.{IsWhole, StartsWhole, StepsWhole}
-use Rattle.ada_tree.specs.declared.program.MainStatement.{MainStatement}
 use Rattle.ada_tree.specs.ProgramTree.{ProgramTree}
 use Rattle.checking.specs.ProgramRules.{IsLegal}
 use Rattle.ravenscar.specs.ProgramRules.{IsRestricted}
@@ -26,9 +24,9 @@ use Rattle.meaning.specs.Laws.{CountGivesMeaning}
 use Rattle.meaning.specs.Calls as calls
 use Rattle.meaning.specs.Meeting.{Met, Meets, Moved, Owed, Reached, Relation}
 use Rattle.meaning.specs.MeetingLaws.{met_for}
-use Rattle.meaning.specs.Works.{DoesMain, GivenToCaller, Goes, Store, TaskWork, ends_of_calls}
-use Rattle.meaning.specs.Source.{SourceWorld, source, initial_work, partition_of, source_behaviour, source_start, task_items}
-use Rattle.meaning.specs.Programs.{OfMain, Program, Task, priority_or_zero, program_of, task_name}
+use Rattle.meaning.specs.Works.{GivenToCaller, Store, TaskWork}
+use Rattle.meaning.specs.Source.{SourceWorld, source, partition_of, source_behaviour, source_start}
+use Rattle.meaning.specs.Programs.{Program, program_of}
 use Rattle.meaning.specs.SameMeaning.{KeepsCount, frames_of}
 use Rattle.meaning.specs.Compiling.{MeetsUnder, met_keeps_count}
 use Rattle.step_soundness.specs.Holding.{IsSoundTask}
@@ -40,16 +38,14 @@ use Rattle.program_soundness.specs.SoundWorlds.{IsSoundWorld}
 use Rattle.program_soundness.proofs.Awaiting.{runner_awaits}
 use Rattle.expr_code.specs.Coming.{most_steps}
 use Rattle.expr_code.specs.Seeing.{Package}
-use Rattle.step_simulation.specs.part_code.specs.Handling.{unhandled}
 use Rattle.step_simulation.specs.Laws.{IsKnownHere, StepsAreMet}
-use Rattle.step_simulation.specs.part_code.specs.Resting.{Shows, StandsFor}
+use Rattle.step_simulation.specs.part_code.specs.Resting.{StandsFor}
 use Rattle.step_simulation.specs.part_code.specs.Statements.{Numbers}
-use Rattle.step_simulation.specs.part_code.specs.Jumping.{Here}
-use Rattle.step_simulation.specs.Standing.{Around, Catching, CodeStands, Copying, Follows, Going, Inside, Note, Over, Raised, relation, work_size}
-use Rattle.step_simulation.specs.part_code.proofs.Handling.{goes_within}
+use Rattle.step_simulation.specs.Standing.{Catching, CodeStands, Copying, Going, Note, Over, Raised, relation, work_size}
 use Rattle.package_code.specs.LinkLaws.{LinkedKeepsCount, LinkedMeansTheSame}
-use Rattle.package_code.specs.Linked.{AreMain, IsLinkedProgram}
+use Rattle.package_code.specs.Linked.{IsLinkedProgram}
 use Rattle.ada_link.proofs.Closing.{closes}
+use Rattle.ada_link.proofs.LinkedTasks.{as_many, same_name, same_priority, tasks_stand}
 
 pub record LawsBelow : Type 0 where
   pub starts_whole : StartsWhole
@@ -72,24 +68,15 @@ module _ (laws : LawsBelow) (p : ProgramTree) (i : Sections) (g : Package) (numb
   abbrev sound : IsSoundStart program
   sound = laws.starts p legal restricted
 
-  abbrev main : Task
-  main = record { name = p.main.name.name; priority = linked.priority; duty = OfMain p.main.statements }
-
-  base_same : (t : ℕ) → priority_or_zero (slice_get (main ∷ []) t)
-      ≡ priority_of (slice_get (record { name = p.main.name.name; priority = linked.priority; subprogram = linked.number } ∷ []) t)
-  base_same zero = refl
-  base_same (suc t) = refl
-
   same_partition : partition_of p ≡ image.partition_of i
   same_partition =
       (λ j. record {
-        tasks = length (linked.sequential.tasks j);
-        objects = linked.sequential.objects j;
-        base = λ t. priority_or_zero (slice_get (linked.sequential.tasks j) t);
-        ceiling = λ o. linked.sequential.ceilings o j;
+        tasks = as_many program i g numbers program.tasks i.tasks linked.tasks j;
+        objects = linked.unprotected j;
+        base = λ u. same_priority program i g numbers program.tasks i.tasks linked.tasks u j;
+        ceiling = λ o. linked.ceilings o j;
       })
-      ∙ (λ j. record { tasks = 1; objects = 0; base = λ t. base_same t j; ceiling = λ o. 0 })
-      ∙ sym (λ j. image.partition_of (record i { tasks = linked.tasks j; objects = linked.objects j }))
+      ∙ sym (λ j. image.partition_of (record i { objects = linked.objects j }))
 
   -- ---- each task of the image stands for its work
 
@@ -174,119 +161,6 @@ module _ (laws : LawsBelow) (p : ProgramTree) (i : Sections) (g : Package) (numb
 
     -- ---- the starts
 
-    abbrev Setting : Type 0
-    Setting = Around i program g numbers
-
-    -- nothing of its own is visible in main
-    abbrev around : Setting
-    around = record {
-      visible = linked.begins;
-      ways = record { exit = None; return = None; handled = None };
-      raised = unhandled;
-      held = [];
-      behind = linked.begins;
-      ending = linked.begins;
-      handling = linked.begins;
-    }
-
-    abbrev In : ℕ → Type 0
-    In place = Inside i program g numbers linked.number place
-
-    shown : Shows g linked.begins linked.begins
-    shown q view h = h
-
-    all_in : (place : ℕ) → first_place i linked.number ≤ place → place ≤ linked.stop → In place
-    all_in place low high =
-        let ended : end_of (called i linked.number) ≡ linked.s.end_ = ap end_of linked.there in
-        let within = linked.within in
-        let up = linked.up in
-        (low, omega (arith, low, high, within, up, ended))
-
-    ends_here : Follows i program g numbers around linked.number linked.stop [] [] []
-    ends_here = (
-      record {
-        at = linked.stop;
-        jumps = Here;
-        return = linked.return;
-        results = ap results_of linked.there ∙ linked.results;
-        outermost = record { exit = refl; handled = refl; raised = λ x. refl };
-        from_inside = all_in linked.stop linked.up (omega arith);
-        to_inside = all_in linked.stop linked.up (omega arith);
-      },
-      refl,
-      refl,
-    )
-
-    main_follows : (all : List MainStatement) (from : ℕ) → AreMain i program g numbers from linked.stop all → In from
-        → Follows i program g numbers around linked.number from (map DoesMain all) [] []
-    main_follows [] from code x = subst (λ q. Follows i program g numbers around linked.number q [] [] []) (sym code) ends_here
-    main_follows (s ∷ rest) from code x =
-        let le = code.1 in
-        let up = code.2 in
-        let mid_in = all_in code.0 (omega (arith, x.0, le)) (omega (arith, up)) in (
-          from,
-          code.0,
-          linked.begins,
-          record {
-            jumps = Here;
-            narrows = record { shows = shown; reserved = refl };
-            reaches = (shown, shown, shown);
-            from_inside = x;
-            up = le;
-            to_inside = mid_in;
-          },
-          code.3,
-          main_follows rest code.0 code.4 mid_in,
-          goes_within i unhandled (first_place i linked.number) from code.0 linked.stop linked.uncovered x.0 up,
-        )
-
-    main_ends : (all : List MainStatement) → 0 ≡ ends_of_calls (map DoesMain all)
-    main_ends [] = refl
-    main_ends (s ∷ rest) = main_ends rest
-
-    abbrev first_work : TaskWork
-    first_work = record { work = Goes (map DoesMain p.main.statements); own = record { within = None; locals = [] }; callers = [] }
-
-    abbrev first_state : TaskState
-    first_state = record {
-      frame = record {
-        subprogram = linked.number;
-        place = first_place i linked.number;
-        locals = replicate linked.s.locals (pos 0);
-        stack = [];
-        role = Inner;
-      };
-      callers = [];
-      raising = None;
-    }
-
-    work_is : initial_work program 0 ≡ first_work
-    work_is = ap (λ ts. record { work = Goes (task_items (slice_get ts 0)); own = record { within = None; locals = [] }; callers = [] }) linked.sequential.tasks
-
-    state_is : initial_state i 0 ≡ first_state
-    state_is =
-        ap (λ ts. let n = body_of (slice_get ts 0) in record { frame = body_frame i n (called i n); callers = []; raising = None }) linked.tasks
-        ∙ ap (λ s. record { frame = body_frame i linked.number s; callers = []; raising = None }) linked.there
-
-    main_stands : (k : Kernel) → CodeStands i program g numbers k first_work first_state
-    main_stands k = Going (map DoesMain p.main.statements) refl (record {
-      around = around;
-      follows = main_follows p.main.statements (first_place i linked.number) linked.statements
-          (all_in (first_place i linked.number) (omega arith) (let up = linked.up in omega (arith, up)));
-      rests = linked.rests;
-      outside = refl;
-      stack = refl;
-      going = refl;
-      depth = main_ends p.main.statements;
-      inner = tt;
-    })
-
-    stands_first : (u : ℕ) → u < length i.tasks → CodeStands i program g numbers (source_start p).kernel (initial_work program u) (initial_state i u)
-    stands_first zero there =
-        subst (λ s. CodeStands i program g numbers (source_start p).kernel (initial_work program 0) s) (sym state_is)
-        (subst (λ w. CodeStands i program g numbers (source_start p).kernel w first_state) (sym work_is) (main_stands (source_start p).kernel))
-    stands_first (suc u) there = let e = ap length linked.tasks in absurd (omega (arith, there, e))
-
     under : MeetsUnder p i all (most_steps i) (λ s v. (n : ℕ) × (v ≡ source p s n)) (λ s. IsWhole i) schedule
     under = record {
       meets = meets;
@@ -296,7 +170,7 @@ module _ (laws : LawsBelow) (p : ProgramTree) (i : Sections) (g : Package) (numb
         others = laws.starts_whole i well_formed;
         note = λ u. [];
         shared = linked.words;
-        stands = stands_first;
+        stands = tasks_stand program i g numbers (source_start p).kernel program.tasks i.tasks linked.tasks;
       };
     }
 
@@ -307,18 +181,11 @@ module _ (laws : LawsBelow) (p : ProgramTree) (i : Sections) (g : Package) (numb
 pub linked_keeps_count : LawsBelow → LinkedKeepsCount
 linked_keeps_count laws p i g numbers well_formed legal restricted linked = counted laws p i g numbers well_formed legal restricted linked
 
-task_named : (name : List ℕ) (priority number t : ℕ) (statements : List MainStatement)
-    → name_of (slice_get (record { name = name; priority = priority; subprogram = number } ∷ []) t)
-    ≡ text_at (map task_name (record { name = name; priority = priority; duty = OfMain statements } ∷ [])) t
-task_named name priority number zero statements = refl
-task_named name priority number (suc t) statements = refl
-
 pub linked_means_the_same : CountGivesMeaning → LinkedKeepsCount → LinkedMeansTheSame
 linked_means_the_same count counts p i g numbers well_formed legal restricted linked =
     count p i (most_steps i)
     (record {
-      tasks = λ t. ap (λ ts. name_of (slice_get ts t)) linked.tasks ∙ task_named p.main.name.name linked.priority linked.number t p.main.statements
-          ∙ sym (ap (λ ts. text_at (map task_name ts) t) linked.sequential.tasks);
+      tasks = λ u. same_name (program_of p) i g numbers (program_of p).tasks i.tasks linked.tasks u;
       exceptions = λ x. ap (λ names. text_from_one names x) linked.exceptions;
     })
     (counts p i g numbers well_formed legal restricted linked)

@@ -16,7 +16,7 @@ use Rattle.stmt_code.specs.Subprograms.{AddsMain}
 use Rattle.step_simulation.specs.part_code.specs.MainCalls.{AreCalls}
 use Rattle.stmt_code.specs.declared.draft.Draft.{Draft}
 use Rattle.stmt_code.specs.declared.subprogram.SubprogramWords.{SubprogramWords}
-use Rattle.package_code.specs.Linked.{AreMain}
+use Rattle.package_code.proofs.LinkedMain.{AreMain}
 
 -- each call names a procedure without parameters, which has the number that is told
 pub record IsMainCall (program : Program) (numbers : Numbers) (v : Visible) (name : List ℕ) : Type 0 where

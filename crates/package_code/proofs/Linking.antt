@@ -50,7 +50,7 @@ use Rattle.stmt_code.specs.Subprograms.{AddsProcedure, fresh}
 use Rattle.stmt_code.specs.declared.draft.Draft.{Draft}
 use Rattle.stmt_code.specs.declared.subprogram.SubprogramWords.{SubprogramWords}
 use Rattle.package_code.specs.LinkLaws.{LinkedKeepsCount, LinkedMeansTheSame}
-use Rattle.package_code.specs.Linked.{IsLinkedProgram, IsSequential}
+use Rattle.package_code.specs.Linked.{IsLinkedProgram}
 use Rattle.package_code.specs.Package.{IsInFront, IsInOrder, IsPackageOf}
 use Rattle.package_code.proofs.NamedExceptions.{exceptions_are_named}
 use Rattle.package_code.proofs.CodedPackage.{HasBodies, ada_linkd}
@@ -59,7 +59,7 @@ use Rattle.package_code.proofs.EmittedFunctions.{function_emitted}
 use Rattle.package_code.proofs.EmittedMain.{AreMainCalls, main_emitted, main_returns, main_within}
 use Rattle.package_code.proofs.InFront.{LawsOfNames}
 use Rattle.package_code.proofs.InOrder.{package_in_order}
-use Rattle.package_code.proofs.LinkedMain.{DoesMain, main_linked}
+use Rattle.package_code.proofs.LinkedMain.{DoesMain, IsSequential, main_linked}
 use Rattle.package_code.specs.Directory.{AreTold}
 use Rattle.package_code.specs.Laws.{SectionsMeanTheSame}
 use Rattle.package_code.specs.Program.{HasProgram, main_row}

@@ -1,5 +1,5 @@
 -- Which frames of code stand for which work of a task.
-use Rattle.std.specs.Prelude.{◌≡◌, ◌≤◌, ℕ, suc, ◌+◌, ◌*◌, ℤ, pos, List, [], ◌∷◌, length, Option, Some, None, ◌<◌, ⊤}
+use Rattle.std.specs.Prelude.{◌≡◌, ◌≤◌, ℕ, suc, ◌+◌, ◌*◌, ℤ, pos, List, [], ◌∷◌, length, Option, Some, None, ◌<◌}
 use Rattle.part_code.specs.ada_tree.specs.Size.{declaration_size, stmt_size, stmts_size}
 use Rattle.part_code.specs.ada_tree.specs.StatementTree.{NoHandlers, MoreHandlers, StmtTrees}
 use Rattle.part_code.specs.base.specs.declared.schedule.ScheduleLine.{ScheduleLine}
