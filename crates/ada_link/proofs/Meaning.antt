@@ -22,7 +22,7 @@ use Rattle.checking.specs.ProgramRules.{IsLegal}
 use Rattle.ravenscar.specs.ProgramRules.{IsRestricted}
 use Rattle.meaning.specs.Laws.{CountGivesMeaning}
 use Rattle.meaning.specs.Calls as calls
-use Rattle.meaning.specs.Meeting.{Met, Meets, Moved, Owed, Reached, Relation}
+use Rattle.meaning.specs.Meeting.{Before, Met, Meets, Moved, Owed, Relation}
 use Rattle.meaning.specs.MeetingLaws.{met_for}
 use Rattle.meaning.specs.Works.{GivenToCaller, Store, TaskWork}
 use Rattle.meaning.specs.Source.{SourceWorld, source, partition_of, source_behaviour, source_start}
@@ -102,10 +102,10 @@ module _ (laws : LawsBelow) (p : ProgramTree) (i : Sections) (g : Package) (numb
     abbrev Sources : SourceWorld → Type 0
     Sources v = (n : ℕ) × (v ≡ source p schedule n)
 
-    abbrev Before : Note → Kernel → ℕ → Tasks Store TaskWork → Tasks Words TaskState → Type 0
-    Before note k t c d = Reached (source_behaviour p schedule) (behaviour i schedule) all frames_of (most_steps i) Sources (IsWhole i) note k t c d
+    abbrev Here : Note → Kernel → ℕ → Tasks Store TaskWork → Tasks Words TaskState → Type 0
+    Here note k t c d = Before (source_behaviour p schedule) (behaviour i schedule) all frames_of (most_steps i) Sources (IsWhole i) note k t c d
 
-    known : (note : Note) (k : Kernel) (t : ℕ) (c : Tasks Store TaskWork) (d : Tasks Words TaskState) → Before note k t c d
+    known : (note : Note) (k : Kernel) (t : ℕ) (c : Tasks Store TaskWork) (d : Tasks Words TaskState) → Here note k t c d
         → IsKnownHere program k t c.memory (c.tasks t)
     known note k t c d r =
         let world : IsSoundWorld program (record { kernel = k; rest = c }) =
@@ -118,7 +118,7 @@ module _ (laws : LawsBelow) (p : ProgramTree) (i : Sections) (g : Package) (numb
           partition = r.others.partition ∙ sym same_partition;
         }
 
-    met : (note : Note) (k : Kernel) (t : ℕ) (c : Tasks Store TaskWork) (d : Tasks Words TaskState) → Before note k t c d
+    met : (note : Note) (k : Kernel) (t : ℕ) (c : Tasks Store TaskWork) (d : Tasks Words TaskState) → Here note k t c d
         → Met (source_behaviour p schedule) (behaviour i schedule) all frames_of (most_steps i) note k t (solo_of t c) (solo_of t d)
     met note k t c d r =
         met_for (source_behaviour p schedule) (behaviour i schedule) (relation i program g numbers) all frames_of (most_steps i) note note k t

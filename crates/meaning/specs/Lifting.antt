@@ -10,7 +10,7 @@ use Rattle.kernel.specs.PutLaws.{same_or_not, put_same, put_other, put_self}
 use Rattle.kernel.specs.RunLaws.{run_plus, step_running, solo_back, back_back, among_alone, unseen_trans, unseen_run}
 use Rattle.meaning.specs.Same.{ShowSame}
 use Rattle.meaning.specs.Following.{IsFollowed, Waits, Steps, Paced, steps_for, follows_paced, paced_same}
-use Rattle.meaning.specs.Meeting.{Relation, Takes, Last, OwnStep, Over, Within, spent, taken, Counted, Idle, Busy, Begun, received, behind, Met, Still, Moves, Walks, Owed, Reached, Meets, Related}
+use Rattle.meaning.specs.Meeting.{Relation, Takes, Last, OwnStep, Over, Within, spent, taken, Counted, Idle, Busy, Begun, received, behind, Met, Still, Moves, Walks, Owed, Before, Meets, Related}
 
 -- Counted steps are steps
 
@@ -151,7 +151,7 @@ module _ {Note M S G N T H : Type 0} (f : Behaviour M S G) (g : Behaviour N T H)
       idle r nobody ef eg = Steps 0 (Idle nobody refl) (subst (λ v. Rel v (step (among g) other)) (sym ef) (subst (λ w. Rel one w) (sym eg) r))
 
       -- what is known where task t is to take its step
-      reached_by : {t : ℕ} → IsRunner k t → (r : Rel one other) → Reached f g rel frames limit Ones Others r.note k t c d
+      reached_by : {t : ℕ} → IsRunner k t → (r : Rel one other) → Before f g rel frames limit Ones Others r.note k t c d
       reached_by {t} runs r = record { ones = r.ones; others = r.others; runner = meets.runner other t r.others runs; shared = r.shared; stand = r.stands }
 
       module _ (t : ℕ) (runs : IsRunner k t) (r : Rel one other) where

@@ -149,7 +149,7 @@ module _ {Note M S G N T H : Type 0} (f : Behaviour M S G) (g : Behaviour N T H)
   module _ (Ones : World (Tasks M S) → Type 0) (Others : World (Tasks N T) → Type 0) where
     -- What is known where task t is to take a step: it runs in kernel k, the worlds of both sides over this kernel keep their invariants, and memories and
     -- all tasks stand for one another under the note.
-    pub record Reached (note : Note) (k : Kernel) (t : ℕ) (c : Tasks M S) (d : Tasks N T) : Type 0 where
+    pub record Before (note : Note) (k : Kernel) (t : ℕ) (c : Tasks M S) (d : Tasks N T) : Type 0 where
       pub ones : Ones (record { kernel = k; rest = c })
       pub others : Others (record { kernel = k; rest = d })
       pub runner : Runner k t
@@ -160,7 +160,7 @@ module _ {Note M S G N T H : Type 0} (f : Behaviour M S G) (g : Behaviour N T H)
     -- before it, that the worlds behind it keep their invariants too, and what stands for one another of memories and task.
     pub record Moved (note : Note) (k : Kernel) (t : ℕ) (c : Tasks M S) (d : Tasks N T) (e : Effect) (a : Solo M S) (b : Solo N T)
         (p : Option G) (q : Option H) : Type 0 where
-      pub before : Reached note k t c d
+      pub before : Before note k t c d
       pub ones : Ones (behind f t k e c a p)
       pub others : Others (behind g t k e d b q)
       pub shared : rel.shares a.memory b.memory
@@ -174,7 +174,7 @@ module _ {Note M S G N T H : Type 0} (f : Behaviour M S G) (g : Behaviour N T H)
       -- which tells what is known of the running task
       pub runner : (w : World (Tasks N T)) (t : ℕ) → Others w → IsRunner w.kernel t → Runner w.kernel t
       -- each step is met
-      pub met : (note : Note) (k : Kernel) (t : ℕ) (c : Tasks M S) (d : Tasks N T) → Reached note k t c d
+      pub met : (note : Note) (k : Kernel) (t : ℕ) (c : Tasks M S) (d : Tasks N T) → Before note k t c d
           → Met note k t (solo_of t c) (solo_of t d)
       -- and where it moves, there is a note under which all tasks stand behind it, those among them that its effect has reached
       pub owed :
