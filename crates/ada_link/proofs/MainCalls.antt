@@ -15,9 +15,9 @@ use Rattle.checking.specs.ProgramRules.{IsLegal}
 use Rattle.ravenscar.specs.ProgramRules.{IsRestricted}
 use Rattle.meaning.specs.Calls.{procedure_among, procedure_here}
 use Rattle.meaning.specs.Programs.{Procedure, Program, program_of}
-use Rattle.step_soundness.specs.Fitting.{formal_of}
-use Rattle.step_soundness.specs.Judged.{IsMainStatement}
-use Rattle.step_soundness.specs.Objects.{first_store}
+use Rattle.program_soundness.specs.step_soundness.specs.Fitting.{formal_of}
+use Rattle.program_soundness.specs.step_soundness.specs.Judged.{IsMainStatement}
+use Rattle.program_soundness.specs.step_soundness.specs.Objects.{first_store}
 use Rattle.program_soundness.specs.Fronts.{declared_in, start_in}
 use Rattle.program_soundness.proofs.Agreed.{OffersAll, same_twice}
 use Rattle.program_soundness.proofs.Assembled as assembled

@@ -29,8 +29,8 @@ use Rattle.meaning.specs.Source.{SourceWorld, source, partition_of, source_behav
 use Rattle.meaning.specs.Programs.{Program, program_of}
 use Rattle.meaning.specs.SameMeaning.{KeepsCount, frames_of}
 use Rattle.meaning.specs.Compiling.{MeetsUnder, met_keeps_count}
-use Rattle.step_soundness.specs.Holding.{IsSoundTask}
-use Rattle.step_soundness.specs.Starting.{IsSoundStart}
+use Rattle.program_soundness.specs.step_soundness.specs.Holding.{IsSoundTask}
+use Rattle.program_soundness.specs.step_soundness.specs.Starting.{IsSoundStart}
 use Rattle.program_soundness.specs.BodyLaws.{PremisesHold}
 use Rattle.program_soundness.specs.ProgramLaws.{StartsAreSound}
 use Rattle.program_soundness.specs.RunLaws.{RunsAreSound}

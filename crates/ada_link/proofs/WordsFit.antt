@@ -20,7 +20,7 @@ use Rattle.ravenscar.specs.ProgramRules.{IsRestricted}
 use Rattle.program_soundness.specs.size_rules.specs.ProgramSizes.{size_faults}
 use Rattle.meaning.specs.Programs.{Program, items_among, object_named, program_of, variables_among}
 use Rattle.expr_soundness.proofs.Parts.{subtype_values}
-use Rattle.step_soundness.specs.Objects.{AreSoundObjects}
+use Rattle.program_soundness.specs.step_soundness.specs.Objects.{AreSoundObjects}
 use Rattle.program_soundness.specs.Fronts.{declared_in, front, start_in}
 use Rattle.program_soundness.proofs.BodyProfiles.{named_is, subtype_kept}
 use Rattle.program_soundness.proofs.Listing.{taken_next}
