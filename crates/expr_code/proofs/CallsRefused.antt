@@ -1,13 +1,16 @@
 -- What refuses the code of an address, of an actual parameter, or of a call refuses that of what it is a part of.
 use Rattle.std.proofs.Common.{◌≡◌, ◌≤◌, ◌+◌, ◌*◌, ℕ, zero, suc, List, [], ◌∷◌, length, map, take, Bool, true, false, ◌&&◌, ◌||◌, not, Option, Some, None, refl, sym, ap, ◌∙◌, subst, arith}
-use Rattle.std.specs.Prelude.{max, slice_get}
+use Rattle.std.specs.Prelude.{is_some, max, slice_get}
 use Rattle.ada_tree.specs.declared.expression.Argument.{Argument}
 use Rattle.ada_tree.specs.declared.expression.Identifier.{Identifier}
 use Rattle.ada_tree.specs.ExpressionTree as tree
 use Rattle.ada_tree.specs.ExpressionTree.{argument_tree, argument_trees, ArgumentTree, ArgumentTrees, Arguments, ExprTree, MoreSelectors, NoSelectors, SelectorTrees, Value}
 use Rattle.ada_tree.specs.Size.{argument_size, arguments_size, total}
 use Rattle.types.specs.declared.entity.FormalParameter.{FormalParameter}
+use Rattle.types.specs.declared.entity.PredefinedOperation.{PredefinedOperation}
 use Rattle.types.specs.declared.entity.Subtype.{Subtype}
+use Rattle.types.specs.declared.standing.Callee.{Callee}
+use Rattle.types.specs.declared.standing.Standing.TheVariants as standing
 use Rattle.types.specs.Entities.{Profile}
 use Rattle.types.specs.Evaluating.{fixed_value}
 use Rattle.types.specs.Scopes.{entity_at, number_of, Scope}
@@ -17,8 +20,8 @@ use Rattle.expr_soundness.specs.SoundScopes.{AreIn, SoundScope}
 use Rattle.expr_soundness.proofs.Positions.{same_some}
 use Rattle.expr_code.specs.Code.{here}
 use Rattle.expr_code.specs.Emitting.{IsLegalExpression}
-use Rattle.expr_code.specs.Refusing.{are_passable, argument_outside, argument_peak, arguments_outside, arguments_peak, is_callable, is_called, is_made, is_passable, IsRefused, RefusesActual, RefusesActuals, RefusesAddress, RefusesExpression, RefusesPath, words_below}
-use Rattle.expr_code.specs.Seeing.{NamesProfile, profile_named, subprogram_of, subprogram_profile}
+use Rattle.expr_code.specs.Refusing.{are_passable, argument_outside, argument_peak, arguments_outside, arguments_peak, is_callable, is_called, is_made, is_outside, is_passable, IsRefused, RefusesActual, RefusesActuals, RefusesAddress, RefusesExpression, RefusesPath, words_below}
+use Rattle.expr_code.specs.Seeing.{NamesProfile, operation_named, operation_of, profile_named, subprogram_of, subprogram_profile}
 use Rattle.expr_code.specs.declared.code.Code.{Code}
 use Rattle.expr_code.specs.declared.refusal.Refusal.{Refusal}
 use Rattle.expr_code.specs.declared.visible.Visible.{Visible}
@@ -129,17 +132,38 @@ module _ (v : Visible) where
         higher : (a b : ℕ) → n + max 1 a ≤ b → l ≤ depth + b
         higher a b h = omega (arith, h, many, high)
 
-  -- ---- calls
+-- ---- calls
 
+-- whether code is made of a function's name, by what is told of it as one of the language and of the program
+callee_made : (v : Visible) (first : Identifier) (operation : Option PredefinedOperation) (profile : Option Profile)
+    → operation_named v.scope first.name ≡ operation
+    → profile_named v.scope first.name ≡ profile
+    → (is_some (operation_named v.scope first.name) || is_callable v.scope (subprogram_of v first.name) (profile_named v.scope first.name))
+    ≡ (is_some operation || is_callable v.scope (subprogram_of v first.name) profile)
+callee_made v first operation profile one two = λ j. is_some (one j) || is_callable v.scope (subprogram_of v first.name) (two j)
+
+-- what is neither
+pub unknown_outside : (v : Visible) (first : Identifier) (f : Callee) (selectors : SelectorTrees) → fixed_value (standing_of v.scope first selectors) ≡ None
+    → stands_first v.scope (number_of v.scope first.name) ≡ standing.Callee f → operation_named v.scope first.name ≡ None
+    → profile_named v.scope first.name ≡ None → is_outside v (tree.Named first selectors) ≡ true
+unknown_outside v first f selectors valueless stands operation profile =
+    begin_outside v first selectors valueless (ap (is_made v first) stands ∙ callee_made v first None None operation profile)
+
+module _ (v : Visible) where
   module _ (first : Identifier) (profile : Profile) (names : NamesProfile v.scope first.name profile) where
     profile_is : profile_named v.scope first.name ≡ Some profile
     profile_is =
         ap (λ o. elim o [ None ↦ None | Some n ↦ subprogram_profile (entity_at v.scope n) ]) names.numbered
         ∙ ap subprogram_profile names.stands
 
+    of_program : operation_named v.scope first.name ≡ None
+    of_program =
+        ap (λ o. elim o [ None ↦ None | Some n ↦ operation_of (entity_at v.scope n) ]) names.numbered
+        ∙ ap operation_of names.stands
+
     made_is : is_made v first (stands_first v.scope (number_of v.scope first.name))
         ≡ (is_called v.scope (subprogram_of v first.name) profile && are_passable v.scope profile.formals)
-    made_is = ap (is_made v first) (stands v first profile names) ∙ ap (is_callable v.scope (subprogram_of v first.name)) profile_is
+    made_is = ap (is_made v first) (stands v first profile names) ∙ callee_made v first None (Some profile) of_program profile_is
 
     -- what the function itself refuses
     not_called : is_called v.scope (subprogram_of v first.name) profile ≡ false → is_made v first (stands_first v.scope (number_of v.scope first.name)) ≡ false
@@ -182,7 +206,7 @@ module _ (v : Visible) where
         whole = tree.Named first (MoreSelectors (Arguments a) NoSelectors)
 
         abbrev below : ℕ
-        below = words_below (stands_first v.scope (number_of v.scope first.name))
+        below = words_below v.scope (stands_first v.scope (number_of v.scope first.name))
 
         high : (l n k : ℕ) → l ≤ depth + n → l ≤ depth + max (k + n) 1
         high l n k h = omega (arith, h)

@@ -1,12 +1,12 @@
 -- Code of expressions whose values are checked against a subtype.
-use Rattle.std.proofs.Common.{◌≡◌, ℕ, ℤ, ◌+◌, true, false, Some, refl, sym, ap, ◌∙◌, subst, arith}
+use Rattle.std.proofs.Common.{◌≡◌, ℕ, ℤ, ◌+◌, true, false, None, Option, Some, refl, sym, ap, ◌∙◌, subst, arith}
 use Rattle.std.specs.Prelude.{pos}
 use Rattle.kernel.specs.Laws.{QuietStays}
 use Rattle.ada_tree.specs.ExpressionTree.{ExprTree}
 use Rattle.image.specs.Sections.{Sections}
 use Rattle.image.specs.declared.instruction.Operation.TheVariants as op
 use Rattle.types.specs.declared.entity.Subtype.{Subtype}
-use Rattle.types.specs.Entities.{Booleans, Integers}
+use Rattle.types.specs.Entities.{Booleans, Integers, TypeForm}
 use Rattle.types.specs.Evaluations.{Gives}
 use Rattle.types.specs.Evaluating.{Calls, passed, value_with}
 use Rattle.types.specs.Laws.{ValuesHaveWords}
@@ -25,7 +25,7 @@ use Rattle.expr_soundness.specs.expr_rules.specs.Laws.{suits}
 use Rattle.expr_soundness.specs.expr_rules.specs.NameRules.{mismatch}
 use Rattle.expr_soundness.specs.expr_rules.specs.Typing.{is_booleans, is_integers, own_of}
 use Rattle.expr_soundness.specs.expr_rules.proofs.TypeShapes.{boolean_value, numeric_value}
-use Rattle.expr_soundness.specs.expr_rules.proofs.TypedLaw.{as_number, as_truth, back_empty, front_empty, integral_numeric}
+use Rattle.expr_soundness.specs.expr_rules.proofs.TypedLaw.{as_number, as_truth, back_empty, front_empty}
 use Rattle.expr_soundness.specs.Agreeing.{Agrees}
 use Rattle.expr_soundness.specs.Answers.{CallsAnswer}
 use Rattle.expr_soundness.specs.Laws.{ExpressionsAreTyped}
@@ -35,7 +35,7 @@ use Rattle.expr_soundness.proofs.Parts.{subtype_values}
 use Rattle.expr_code.specs.Views.{At}
 use Rattle.expr_code.specs.Code.{Adds, here}
 use Rattle.expr_code.specs.Computing.{AlwaysPasses, ComputesChecked, ComesToNumber}
-use Rattle.expr_code.specs.Emitting.{EmitsChecked, EmitsExpression, IsFit, IsLegalExpression, WantedFits}
+use Rattle.expr_code.specs.Emitting.{EmitsChecked, EmitsExpression, has_numbers, IsFit, IsLegalExpression, WantedFits}
 use Rattle.expr_code.specs.Seeing.{library_of, Package, Sees, Suits}
 use Rattle.expr_code.specs.declared.code.Code.{Code}
 use Rattle.expr_code.specs.declared.visible.Visible.{Visible}
@@ -69,11 +69,22 @@ pub shaped : ExpressionsAreTyped → (v : Visible) (t : Subtype) (e : ExprTree) 
 shaped laws v t e h calls p agrees answers x is = subtype_values v.scope t x ∙ ap (suits v.scope (Typed t.type_number)) (sym is) ∙ suited laws v t e h calls p agrees answers
 
 -- numbers and truth values take one word
-pub single_number : ValuesHaveWords → (s : Scope) (t : Subtype) → is_integers (form_at s t.type_number) ≡ true → words_of s t ≡ 1
-single_number words s t integers =
-    let own = Typed t.type_number in
-    let has = subtype_values s t (Number (pos 0)) ∙ numeric_value s own (integral_numeric s own integers) (Number (pos 0)) in
+one_number : ValuesHaveWords → (s : Scope) (t : Subtype) → has_numbers (form_at s t.type_number) ≡ true → words_of s t ≡ 1
+one_number words s t numbers =
+    let has = subtype_values s t (Number (pos 0)) ∙ numeric_value s (Typed t.type_number) numbers (Number (pos 0)) in
     sym (words (shape_of s t) (Number (pos 0)) has).sized
+
+pub integers_numbers : (o : Option TypeForm) → is_integers o ≡ true → has_numbers o ≡ true
+integers_numbers (Some Integers) h = refl
+integers_numbers o h = cc
+
+pub single_number : ValuesHaveWords → (s : Scope) (t : Subtype) → is_integers (form_at s t.type_number) ≡ true → words_of s t ≡ 1
+single_number words s t integers = one_number words s t (integers_numbers (form_at s t.type_number) integers)
+
+-- what has numbers is a type
+numbers_known : (o : Option TypeForm) → has_numbers o ≡ true → (form : TypeForm) × (o ≡ Some form)
+numbers_known (Some form) h = (form, refl)
+numbers_known None h = cc
 
 single_truth : ValuesHaveWords → (s : Scope) (t : Subtype) → form_at s t.type_number ≡ Some Booleans → words_of s t ≡ 1
 single_truth words s t form =
@@ -81,9 +92,12 @@ single_truth words s t form =
     sym (words (shape_of s t) (Truth false) has).sized
 
 module _ (laws : ExpressionsAreTyped) (i : Sections) (v : Visible) (unit : Package) (t : Subtype) (e : ExprTree) (h : IsFit v.scope t e) where
+  comes_to_number : has_numbers (form_at v.scope t.type_number) ≡ true → ComesToNumber i (library_of unit) (Sees unit v) e
+  comes_to_number numbers calls p view x sound sees is =
+      as_number v.scope (Typed t.type_number) x numbers (ap (suits v.scope (Typed t.type_number)) (sym is) ∙ of_type laws v unit t e h calls p view sound sees)
+
   pub is_a_number : form_at v.scope t.type_number ≡ Some Integers → ComesToNumber i (library_of unit) (Sees unit v) e
-  is_a_number form calls p view x sound sees is =
-      as_number v.scope (Typed t.type_number) x (integral_numeric v.scope (Typed t.type_number) (ap is_integers form)) (ap (suits v.scope (Typed t.type_number)) (sym is) ∙ of_type laws v unit t e h calls p view sound sees)
+  is_a_number form = comes_to_number (ap has_numbers form)
 
   always_passes : form_at v.scope t.type_number ≡ Some Booleans → AlwaysPasses i (library_of unit) (Sees unit v) t e
   always_passes form calls p view x sound sees is =
@@ -113,8 +127,8 @@ module _ (quiet : QuietStays) (laws : ExpressionsAreTyped) (words : ValuesHaveWo
     third : Adds high (depth + 1 + 1 + 1) op.CheckRange new
     third = subst (λ n. Adds high n op.CheckRange new) (r ∙ ap (λ n. n + 1) (q ∙ ap (λ n. n + 1) p)) check
 
-    pub checked_emits : form_at v.scope t.type_number ≡ Some Integers → EmitsChecked v old depth t e new
-    checked_emits form =
+    pub checked_emits : has_numbers (form_at v.scope t.type_number) ≡ true → EmitsChecked v old depth t e new
+    checked_emits numbers =
         let a = added_here mid low (depth + 1) (op.Push t.first) first in
         let b = added_here low high (depth + 1 + 1) (op.Push t.last) second in
         let c = added_here high new (depth + 1 + 1 + 1) op.CheckRange third in
@@ -134,7 +148,8 @@ module _ (quiet : QuietStays) (laws : ExpressionsAreTyped) (words : ValuesHaveWo
               let next : here low ≡ here mid + 1 = omega (arith, a) in
               let last : here high ≡ here mid + 2 = omega (arith, a, b) in
               subst (λ n. ComputesChecked i (library_of unit) (Sees unit v) (here old) n t e) (sym end)
-              (computes_checked quiet i (library_of unit) (Sees unit v) (here old) (here mid) t e le (inner.computes i (holds_before i (here old) mid new after g) unit) (is_a_number laws i v unit t e h form)
+              (computes_checked quiet i (library_of unit) (Sees unit v) (here old) (here mid) t e le
+              (inner.computes i (holds_before i (here old) mid new after g) unit) (comes_to_number laws i v unit t e h numbers)
               (at_first, subst (λ n. At i n (op.Push t.last)) next at_second, subst (λ n. At i n op.CheckRange) last at_third));
           flows = flows_then (Suits v) old mid new depth (depth + 1) (depth + 1) inner.extends after inner.flows
               (flows_then (Suits v) mid low new (depth + 1) (depth + 1 + 1) (depth + 1) ea (extends_trans low high new eb ec)
@@ -142,7 +157,7 @@ module _ (quiet : QuietStays) (laws : ExpressionsAreTyped) (words : ValuesHaveWo
               (flows_then (Suits v) low high new (depth + 1 + 1) (depth + 1 + 1 + 1) (depth + 1) eb ec
               (instruction_flows (Suits v) low high (depth + 1 + 1) (depth + 1 + 1 + 1) (op.Push t.last) second (record { operands = refl; names = λ i s k. refl; takes = λ i s k. omega arith; leaves = λ i s k. omega arith; stays = refl; is_none = refl }))
               (instruction_flows (Suits v) high new (depth + 1 + 1 + 1) (depth + 1) op.CheckRange third (record { operands = refl; names = λ i s k. refl; takes = λ i s k. omega arith; leaves = λ i s k. omega arith; stays = refl; is_none = refl }))));
-          known = (Integers, form);
-          single = single_number words v.scope t (ap is_integers form);
+          known = numbers_known (form_at v.scope t.type_number) numbers;
+          single = one_number words v.scope t numbers;
           typed = shaped laws v t e h;
         }

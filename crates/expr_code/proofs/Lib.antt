@@ -27,4 +27,5 @@ mod FitShapes
 mod LegalNames
 mod NamesRefused
 mod CallsRefused
+pub mod Language
 pub mod Shallow

@@ -16,9 +16,10 @@ use Rattle.types.specs.Evaluating.{fixed_value}
 use Rattle.types.specs.Layouts.{capped, words_of}
 use Rattle.types.specs.Scopes.{form_at, number_of}
 use Rattle.types.specs.Standings.{standing_of, stands_first}
-use Rattle.expr_soundness.specs.expr_rules.specs.Typing.{is_booleans, is_integers}
+use Rattle.expr_soundness.specs.expr_rules.specs.Typing.{is_booleans}
 use Rattle.image.specs.Rules.{is_block}
 use Rattle.expr_code.specs.Code.{here}
+use Rattle.expr_code.specs.Emitting.{has_numbers}
 use Rattle.expr_code.specs.Going.{path_size}
 use Rattle.expr_code.specs.Refusing.{arguments_outside, checked_peak, HasUnfitObject, is_made, is_outside, is_passable, IsRefusedBeside, IsUnfit, peak, RefusesChecked, RefusesExpression, RefusesPath, selector_outside, selector_peak, selectors_outside, selectors_peak, words_below}
 use Rattle.expr_code.specs.Seeing.{slot_of}
@@ -52,12 +53,12 @@ module _ (v : Visible) (first : Identifier) (selectors : SelectorTrees) (valuele
   -- what stands behind it
   pub name_refused : {a : Type 0} (old : Code) (depth m l : ℕ) (p : Bool) (why : Refusal) → (a → HasUnfitObject v)
       → m ≤ here old + 20 * (1 + selectors_size selectors)
-      → l ≤ depth + selectors_peak v.scope (words_below begins) selectors
+      → l ≤ depth + selectors_peak v.scope (words_below v.scope begins) selectors
       → (p ≡ true → is_outside v named ≡ true)
       → IsRefusedBeside a m l p why
       → RefusesExpression v old depth named why
   name_refused old depth m l p why unfit up high outside r =
-      let more = le-max_right (width_of v.scope named) (selectors_peak v.scope (words_below begins) selectors) in
+      let more = le-max_right (width_of v.scope named) (selectors_peak v.scope (words_below v.scope begins) selectors) in
       refused_beside _ _ _ _ _ _ unfit (omega (arith, up)) (omega (arith, high, more)) outside why r
 
 -- ---- objects and parts
@@ -74,7 +75,7 @@ module _ (v : Visible) (first : Identifier) (slot : Slot) (r : Role) (t : Subtyp
         → m ≤ here old + 20 * (1 + selectors_size selectors) → l ≤ depth + 1
         → IsRefusedBeside (is_block told ≡ false) m l false why → RefusesExpression v old depth (tree.Named first selectors) why
     load_refused old depth m l told last why is keeps up high refused =
-        let some = selectors_some v.scope (words_below (stands_first v.scope (number_of v.scope first.name))) selectors in
+        let some = selectors_some v.scope (words_below v.scope (stands_first v.scope (number_of v.scope first.name))) selectors in
         name_refused v first selectors valueless old depth m l false why (λ h. unfit_object (keeps (no_block v.scope last told is h))) up
         (omega (arith, high, some)) (λ h. cc) refused
 
@@ -151,5 +152,5 @@ module _ (v : Visible) where
       where
         outside : (not (is_passable v.scope index) || is_outside v e) ≡ true → selectors_outside v at_index ≡ true
         outside h =
-            let here_ : is_outside v e ≡ true = ap (λ o. not (is_integers o || is_booleans o) || is_outside v e) (sym form) ∙ h in
+            let here_ : is_outside v e ≡ true = ap (λ o. not (has_numbers o || is_booleans o) || is_outside v e) (sym form) ∙ h in
             or_left (arguments_outside v (MoreArguments (Value e) NoArguments)) false (or_left (is_outside v e) false here_)

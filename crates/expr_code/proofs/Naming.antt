@@ -195,14 +195,18 @@ module _ (quiet : QuietStays) (i : Sections) where
         (subst (λ ws. Spends (behaviour i schedule) t frames_of (most_steps i) (suc (length fs)) 1 k (in_frame m (placed f from base) fs) k (in_frame m (placed f (suc from) (reverse ws ++ base)) fs)) (sym (fixed_word v))
         (pushes quiet i schedule k t m calm from (scalar_word v) here f fs base (suc from) (omega arith))))
 
-    -- the time
-    pub computes_clock : (from : ℕ) (first : Identifier) → NamesMeaning sight first NoSelectors (IsPredefined predefined.Clock) → SeesTime sight → At i from op.Clock → Computes i library sight from (suc from) (tree.Named first NoSelectors)
-    computes_clock from first names time here calls left answers schedule k t m f fs p base calm sees is =
+    -- the time, also with parentheses that have nothing in them
+    pub computes_clock : (from : ℕ) (first : Identifier) (selectors : SelectorTrees)
+        → ((calls : Calls) (p : Place) → name_with calls p (IsPredefined predefined.Clock) selectors ≡ Gives (Number p.now))
+        → NamesMeaning sight first selectors (IsPredefined predefined.Clock) → SeesTime sight → At i from op.Clock
+        → Computes i library sight from (suc from) (tree.Named first selectors)
+    computes_clock from first selectors alone names time here calls left answers schedule k t m f fs p base calm sees is =
         let view = view_of i schedule k m f fs in
         let named = names p view sees in
         let next : from + 1 ≡ suc from = omega arith in
         subst (λ v. Comes i schedule k t m (placed f from base) fs (suc from - from) (suc from) (on base) v)
-        (sym (named_value calls p first NoSelectors (IsPredefined predefined.Clock) named.0 named.1 ∙ ap (λ z. Gives (Number z)) (time p view sees).0))
+        (sym (named_value calls p first selectors (IsPredefined predefined.Clock) named.0 named.1 ∙ alone calls p
+        ∙ ap (λ z. Gives (Number z)) (time p view sees).0))
         (more quiet i schedule k t m calm (placed f from base) fs 1 (suc from - from) (suc from) (on base) (Gives (Number k.now)) (omega arith)
         (steps quiet i schedule k t m calm (placed f from base) (placed f (suc from) (k.now ∷ base)) fs
         (acts quiet i from op.Clock here schedule k t m f fs base ∙ ap (λ n. does Quiet m (placed f n (k.now ∷ base)) fs None None) next)))

@@ -73,7 +73,7 @@ module _ (s : Scope) where
   pub peak_some : (e : ExprTree) → 1 ≤ peak s e
   peak_some (tree.Number z place) = omega arith
   peak_some (tree.Named first selectors) =
-      let below = words_below (stands_first s (number_of s first.name)) in
+      let below = words_below s (stands_first s (number_of s first.name)) in
       let some = selectors_some below selectors in
       let up = le-max_right (width_of s (tree.Named first selectors)) (selectors_peak s below selectors) in
       omega (arith, some, up)

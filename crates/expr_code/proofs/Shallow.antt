@@ -261,10 +261,11 @@ module _ (v : Visible) (depth : ℕ) where
   -- ---- names
 
   module _ (first : Identifier) (selectors : SelectorTrees) where
-    pub named_shallow : (a b : Code) (n : ℕ) → n ≤ depth + selectors_peak v.scope (words_below (stands_first v.scope (number_of v.scope first.name))) selectors
+    pub named_shallow : (a b : Code) (n : ℕ)
+        → n ≤ depth + selectors_peak v.scope (words_below v.scope (stands_first v.scope (number_of v.scope first.name))) selectors
         → IsShallow a b n → IsShallow a b (depth + peak v.scope (tree.Named first selectors))
     named_shallow a b n up p =
-        let below = words_below (stands_first v.scope (number_of v.scope first.name)) in
+        let below = words_below v.scope (stands_first v.scope (number_of v.scope first.name)) in
         let more = le-max_right (width_of v.scope (tree.Named first selectors)) (selectors_peak v.scope below selectors) in
         shallow_more a b n (depth + peak v.scope (tree.Named first selectors)) (omega (arith, up, more)) p
 
@@ -272,7 +273,7 @@ module _ (v : Visible) (depth : ℕ) where
       → IsShallow a b (depth + peak v.scope (tree.Named first (MoreSelectors (Arguments (MoreArguments (Value e) NoArguments)) NoSelectors)))
   argument_shallow first e a b p =
       named_shallow first (MoreSelectors (Arguments (MoreArguments (Value e) NoArguments)) NoSelectors) a b (depth + checked_peak (peak v.scope e))
-      (up (words_below (stands_first v.scope (number_of v.scope first.name))) (peak v.scope e)) p
+      (up (words_below v.scope (stands_first v.scope (number_of v.scope first.name))) (peak v.scope e)) p
     where
       up : (k n : ℕ) → depth + max 3 n ≤ depth + max (k + max (max 3 n) (suc 0)) 1
       up k n = omega arith
@@ -283,7 +284,7 @@ module _ (v : Visible) (depth : ℕ) where
       → IsShallow a c (depth + peak v.scope (tree.Named first (MoreSelectors (Arguments (argument_trees all)) NoSelectors)))
   call_shallow first all a b c height high p q =
       named_shallow first (MoreSelectors (Arguments (argument_trees all)) NoSelectors) a c (depth + arguments_peak v.scope (argument_trees all))
-      (up (words_below (stands_first v.scope (number_of v.scope first.name))) (arguments_peak v.scope (argument_trees all)))
+      (up (words_below v.scope (stands_first v.scope (number_of v.scope first.name))) (arguments_peak v.scope (argument_trees all)))
       (shallow_next a b c height (depth + arguments_peak v.scope (argument_trees all)) high p q)
     where
       up : (k n : ℕ) → depth + n ≤ depth + max (k + n) 1
@@ -324,7 +325,7 @@ module _ (v : Visible) (depth : ℕ) where
       let some = selectors_some v.scope 1 all in
       let n = depth + selectors_peak v.scope 1 all in
       named_shallow first all a d n
-      (let same = ap (λ w. selectors_peak v.scope (words_below w) all) stands in omega (arith, same))
+      (let same = ap (λ w. selectors_peak v.scope (words_below v.scope w) all) stands in omega (arith, same))
       (shallow_next a c d one n (omega (arith, is, some)) (address_shallow all a b c depth (omega arith) p q) s)
 
   pub component_shallow : (name : Identifier) (a b c : Code) (one two : ℕ) → one ≡ depth + 1 → two ≡ one + 1 → IsShallow a b one → IsShallow b c two

@@ -41,7 +41,8 @@ use Rattle.expr_soundness.proofs.Goods.{Good, fixed_suits, good_all, good_first,
 use Rattle.expr_soundness.proofs.Positions.{named}
 use Rattle.expr_soundness.specs.expr_rules.specs.Laws.{is_value_of}
 use Rattle.expr_code.specs.Branches.{Branch, branch_of, in_front}
-use Rattle.expr_code.specs.Emitting.{IsFit, IsLegalExpression, WantedFits}
+use Rattle.expr_code.specs.Emitting.{has_numbers, IsFit, IsLegalExpression, WantedFits}
+use Rattle.expr_code.specs.Refusing.{is_passable}
 use Rattle.expr_code.specs.Seeing.{NamesProfile}
 use Rattle.expr_code.specs.Widths.{AreSingle, AreWide, own_words, width_of}
 use Rattle.expr_code.proofs.Conversions.{integers, with_argument}
@@ -550,15 +551,11 @@ module _ (s : Scope) where
 
     -- ---- what is checked against a subtype
 
-    -- a type of numbers or truth values
-    abbrev is_passable : Subtype → Bool
-    is_passable t = is_integers (form_at s t.type_number) || is_booleans (form_at s t.type_number)
+    passable_one : (t : Subtype) → is_passable s t ≡ true → own_words s (Typed t.type_number) ≡ 1
+    passable_one t h = elim (either (has_numbers (form_at s t.type_number)) (is_booleans (form_at s t.type_number)) h)
+        [ inl i ↦ numeric_one (Typed t.type_number) i | inr b ↦ boolean_one (Typed t.type_number) b ]
 
-    passable_one : (t : Subtype) → is_passable t ≡ true → own_words s (Typed t.type_number) ≡ 1
-    passable_one t h = elim (either (is_integers (form_at s t.type_number)) (is_booleans (form_at s t.type_number)) h)
-        [ inl i ↦ integral_one (Typed t.type_number) i | inr b ↦ boolean_one (Typed t.type_number) b ]
-
-    pub fit_width : (t : Subtype) (e : ExprTree) → IsFit s t e → is_passable t ≡ true → width_of s e ≡ 1
+    pub fit_width : (t : Subtype) (e : ExprTree) → IsFit s t e → is_passable s t ≡ true → width_of s e ≡ 1
     fit_width t e h passable = by_wanted h.wanted h.fits (own_of s e)
         (fits h.wanted (own_of s e) (start_of e) (known e h.wanted (front_empty inside ends h.unbroken)) (back_empty inside ends h.unbroken))
       where
@@ -575,11 +572,14 @@ module _ (s : Scope) where
         by_wanted AnyInteger same own f = integral_one own f.wanted
         by_wanted Anything same own f = absurd same
 
+    pub numbers_fit_width : (t : Subtype) (e : ExprTree) → IsFit s t e → has_numbers (form_at s t.type_number) ≡ true → width_of s e ≡ 1
+    numbers_fit_width t e h numbers = fit_width t e h (ap (λ b. b || is_booleans (form_at s t.type_number)) numbers)
+
     pub integers_fit_width : (t : Subtype) (e : ExprTree) → IsFit s t e → form_at s t.type_number ≡ Some Integers → width_of s e ≡ 1
-    integers_fit_width t e h form = fit_width t e h (ap (λ o. is_integers o || is_booleans o) form)
+    integers_fit_width t e h form = numbers_fit_width t e h (ap has_numbers form)
 
     pub booleans_fit_width : (t : Subtype) (e : ExprTree) → IsFit s t e → form_at s t.type_number ≡ Some Booleans → width_of s e ≡ 1
-    booleans_fit_width t e h form = fit_width t e h (ap (λ o. is_integers o || is_booleans o) form)
+    booleans_fit_width t e h form = fit_width t e h (ap (λ o. has_numbers o || is_booleans o) form)
 
     -- ---- names
 

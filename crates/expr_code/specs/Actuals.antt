@@ -1,6 +1,7 @@
 -- What code promises that computes the actual parameters of a call, and the call (RM 6.4).
 use Rattle.std.specs.Prelude.{◌≡◌, ℕ, ◌+◌, ◌*◌, ◌≤◌, List, [], ◌∷◌, ◌++◌, map, Some, slice_get}
-use Rattle.ada_tree.specs.ExpressionTree.{ArgumentTree, ArgumentTrees, ExprTree, MoreArguments, Value}
+use Rattle.ada_tree.specs.declared.expression.Identifier.{Identifier}
+use Rattle.ada_tree.specs.ExpressionTree.{Arguments, ArgumentTree, ArgumentTrees, ExprTree, MoreArguments, MoreSelectors, Named, NoArguments, NoSelectors, Value}
 use Rattle.ada_tree.specs.Size.{argument_size, total}
 use Rattle.image.specs.Sections.{Sections}
 use Rattle.image.specs.declared.instruction.Operation.TheVariants as op
@@ -31,6 +32,10 @@ IsPassedLegally s f a = argument_faults s (formal_slot f) a ≡ []
 -- ... in those for the first formals
 abbrev pub ArePassedLegally : Scope → List FormalParameter → List ArgumentTree → Type 0
 ArePassedLegally s formals all = (k : ℕ) (f : FormalParameter) (a : ArgumentTree) → slice_get formals k ≡ Some f → slice_get all k ≡ Some a → IsPassedLegally s f a
+
+-- a name with one expression behind it, in parentheses
+abbrev pub applied_to : Identifier → ExprTree → ExprTree
+applied_to first e = Named first (MoreSelectors (Arguments (MoreArguments (Value e) NoArguments)) NoSelectors)
 
 -- these arguments in front of others
 abbrev pub arguments_in_front : List ArgumentTree → ArgumentTrees → ArgumentTrees

@@ -1,5 +1,5 @@
 -- What methods that add the code of expressions promise.
-use Rattle.std.specs.Prelude.{◌≡◌, ℕ, ◌+◌, ◌*◌, ◌≤◌, List, [], ◌∷◌, Bool, true, false, Option, Some, ⊤}
+use Rattle.std.specs.Prelude.{◌≡◌, ℕ, ◌+◌, ◌*◌, ◌≤◌, List, [], ◌∷◌, Bool, true, false, ◌||◌, Option, Some, ⊤}
 use Rattle.image.specs.Sections.{Sections}
 use Rattle.ada_tree.specs.declared.expression.Operand.{Operand}
 use Rattle.ada_tree.specs.ExpressionTree.{ExprTree, chain_tree, expr_tree}
@@ -16,7 +16,7 @@ use Rattle.types.specs.Values.{Value}
 use Rattle.expr_soundness.specs.expr_rules.specs.declared.own.Wanted.{Wanted}
 use Rattle.expr_soundness.specs.expr_rules.specs.declared.own.Wanted.TheVariants.{Anything, AnyInteger, OfType}
 use Rattle.expr_soundness.specs.expr_rules.specs.ExpressionRules.{faults_in, faults_of}
-use Rattle.expr_soundness.specs.expr_rules.specs.Typing.{is_integers}
+use Rattle.expr_soundness.specs.expr_rules.specs.Typing.{is_integers, is_spans, is_times}
 use Rattle.expr_soundness.specs.Agreeing.{Agrees}
 use Rattle.expr_soundness.specs.Answers.{CallsAnswer}
 use Rattle.expr_code.specs.Code.{here, Extends, Holds}
@@ -31,6 +31,10 @@ abbrev pub is_composite : Option TypeForm → Bool
 is_composite (Some (Arrays index many element)) = true
 is_composite (Some (Records components)) = true
 is_composite form = false
+
+-- types whose values are numbers: integers, and those of Ada.Real_Time (RM D.8)
+abbrev pub has_numbers : Option TypeForm → Bool
+has_numbers form = is_integers form || (is_times form || is_spans form)
 
 -- no rule is broken in the expression, where something fit is expected of it
 pub record IsLegalExpression (s : Scope) (e : ExprTree) : Type 0 where

@@ -8,22 +8,24 @@ use Rattle.ada_tree.specs.declared.expression.Operand.{Operand}
 use Rattle.ada_tree.specs.ExpressionTree.{expr_tree, ExprTree, Number, Named, Parenthesized, Conditional, Unary, Binary, ElsifValueTrees, NoElsifValues, MoreElsifValues, SelectorTrees, NoSelectors, MoreSelectors, SelectorTree, Component, Arguments, Attribute, ArgumentTrees, NoArguments, MoreArguments, ArgumentTree, Value, Text}
 use Rattle.ada_tree.specs.Size.{argument_size, arguments_size, expr_size, selectors_size}
 use Rattle.types.specs.declared.entity.FormalParameter.{FormalParameter}
+use Rattle.types.specs.declared.entity.PredefinedOperation.TheVariants as predefined
 use Rattle.types.specs.declared.entity.Role.{Role}
 use Rattle.types.specs.declared.entity.Subtype.{Subtype}
+use Rattle.types.specs.declared.standing.Callee.TheVariants as callee
 use Rattle.types.specs.declared.standing.Standing.{Standing}
 use Rattle.types.specs.declared.standing.Standing.TheVariants as standing
-use Rattle.types.specs.Entities.{Profile}
+use Rattle.types.specs.Entities.{Entity, Predefined, Profile}
 use Rattle.types.specs.Evaluating.{fixed_value}
 use Rattle.types.specs.Layouts.{words_of}
-use Rattle.types.specs.Scopes.{form_at, number_of, Scope}
+use Rattle.types.specs.Scopes.{entity_at, form_at, number_of, Scope}
 use Rattle.types.specs.Shapes.{Shape, Shapes, Repeated, Grouped, NoShapes, MoreShapes, shape_of, words}
 use Rattle.types.specs.Standings.{standing_of, stands_first}
-use Rattle.expr_soundness.specs.expr_rules.specs.Typing.{is_booleans, is_integers}
+use Rattle.expr_soundness.specs.expr_rules.specs.Typing.{is_booleans}
 use Rattle.expr_code.specs.Branches.{Branch, branches_size}
 use Rattle.expr_code.specs.Code.{here}
-use Rattle.expr_code.specs.Emitting.{is_composite}
+use Rattle.expr_code.specs.Emitting.{has_numbers, is_composite}
 use Rattle.expr_code.specs.OperatorCode.{binary_operation}
-use Rattle.expr_code.specs.Seeing.{profile_named, slot_of, subprogram_of}
+use Rattle.expr_code.specs.Seeing.{operation_named, profile_named, slot_of, subprogram_of}
 use Rattle.expr_code.specs.Widths.{width_of}
 use Rattle.expr_code.specs.declared.code.Code.{Code}
 use Rattle.expr_code.specs.declared.refusal.Refusal.{Refusal}
@@ -41,16 +43,23 @@ operand_peak operator right = if is_none (binary_operation operator) then max 2 
 abbrev pub checked_peak : (value : ℕ) → ℕ
 checked_peak value = max 3 value
 
--- the words that stand below what is in the parentheses of a name: its address, where the name is that of an object
-abbrev pub words_below : Standing → ℕ
-words_below (standing.Part r t) = 1
-words_below w = 0
+-- the word below the argument of Milliseconds: the microseconds of one (RM D.8)
+abbrev pub factors_below : Option Entity → ℕ
+factors_below (Some (Predefined predefined.Milliseconds p)) = 1
+factors_below e = 0
+
+-- the words that stand below what is in the parentheses of a name: its address, where the name is that of an object, and that factor
+abbrev pub words_below : Scope → Standing → ℕ
+words_below s (standing.Part r t) = 1
+words_below s (standing.Callee (callee.Direct n)) = factors_below (entity_at s n)
+words_below s w = 0
 
 abbrev mutual
   -- the words that the code of an expression has on the operand stack at most, those of its value among them
   pub peak : Scope → ExprTree → ℕ
   peak s (Number z place) = 1
-  peak s (Named first selectors) = max (width_of s (Named first selectors)) (selectors_peak s (words_below (stands_first s (number_of s first.name))) selectors)
+  peak s (Named first selectors) =
+      max (width_of s (Named first selectors)) (selectors_peak s (words_below s (stands_first s (number_of s first.name))) selectors)
   peak s (Parenthesized place e) = peak s e
   peak s (Unary operator place e) = peak s e
   peak s (Binary operator a b) = max (peak s a) (operand_peak operator (peak s b))
@@ -82,9 +91,9 @@ abbrev mutual
 
 -- ---- what code isn't made for yet
 
--- code checks integers, and passes integers and truth values: no times, no spans, and nothing of more than one word
+-- code passes numbers, which it checks, and truth values: nothing of more than one word
 abbrev pub is_passable : Scope → Subtype → Bool
-is_passable s t = is_integers (form_at s t.type_number) || is_booleans (form_at s t.type_number)
+is_passable s t = has_numbers (form_at s t.type_number) || is_booleans (form_at s t.type_number)
 
 abbrev pub are_passable : Scope → List FormalParameter → Bool
 are_passable s [] = true
@@ -99,16 +108,17 @@ is_single s (Some t) = nat_eq (words_of s t) 1
 abbrev pub is_called : Scope → (number : Option ℕ) → Profile → Bool
 is_called s number p = is_some number && is_single s p.result
 
--- ... and with parameters that code passes; an operation of the language has no profile here
+-- ... and with parameters that code passes; a function of the language has no profile here
 abbrev pub is_callable : Scope → (number : Option ℕ) → Option Profile → Bool
 is_callable s number (Some p) = is_called s number p && are_passable s p.formals
 is_callable s number None = false
 
--- Whether code is made of a name that begins like this: with an object that has a place, with a type in front of what is converted, or with a function that code
--- may call; not with a protected object, in front of its function. Nothing else begins a legal name without a known value.
+-- Whether code is made of a name that begins like this: with an object that has a place, with a type in front of what is converted, with a function of the
+-- language, or with one that code may call; not with a protected object, in front of its function. Nothing else begins a legal name without a known value.
 abbrev pub is_made : Visible → Identifier → Standing → Bool
 is_made v first (standing.Part r t) = is_some (slot_of v first.name)
-is_made v first (standing.Callee f) = is_callable v.scope (subprogram_of v first.name) (profile_named v.scope first.name)
+is_made v first (standing.Callee f) =
+    is_some (operation_named v.scope first.name) || is_callable v.scope (subprogram_of v first.name) (profile_named v.scope first.name)
 is_made v first (standing.Protected n) = false
 is_made v first w = true
 

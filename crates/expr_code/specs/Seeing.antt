@@ -8,8 +8,9 @@ use Rattle.image.specs.declared.instruction.Region.{Region}
 use Rattle.image.specs.declared.instruction.Region.TheVariants as regions
 use Rattle.image.specs.declared.subprograms.Subprogram as code
 use Rattle.types.specs.Values.{Value}
+use Rattle.types.specs.declared.entity.PredefinedOperation.{PredefinedOperation}
 use Rattle.types.specs.declared.entity.Subtype.{Subtype}
-use Rattle.types.specs.Entities.{Entity, Profile, Subprogram}
+use Rattle.types.specs.Entities.{Entity, Predefined, Profile, Subprogram}
 use Rattle.types.specs.Places.{Function, IsFunction, IsObject, Place, function_of, meaning_of}
 use Rattle.types.specs.Evaluating.{formal_subtype}
 use Rattle.types.specs.Scopes.{Scope, entity_at, number_of}
@@ -49,6 +50,21 @@ pub record NamesProfile (s : Scope) (name : List ℕ) (profile : Profile) : Type
   pub number : ℕ
   pub numbered : number_of s name ≡ Some number
   pub stands : entity_at s number ≡ Some (Subprogram profile)
+
+-- the function of the language that the name is, if it is one (RM D.8, and Control_IO)
+abbrev pub operation_of : Option Entity → Option PredefinedOperation
+operation_of (Some (Predefined o p)) = Some o
+operation_of e = None
+
+abbrev pub operation_named : Scope → (name : List ℕ) → Option PredefinedOperation
+operation_named s name = elim (number_of s name) [ None ↦ None | Some n ↦ operation_of (entity_at s n) ]
+
+-- the name is that of this function of the language
+pub record NamesOperation (s : Scope) (name : List ℕ) (operation : PredefinedOperation) : Type 0 where
+  pub number : ℕ
+  pub profile : Profile
+  pub numbered : number_of s name ≡ Some number
+  pub stands : entity_at s number ≡ Some (Predefined operation profile)
 
 -- ---- the package
 

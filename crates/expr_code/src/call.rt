@@ -1,8 +1,13 @@
-//! The code of calls of functions (RM 6.4): the actual parameters in order, each checked against the subtype of its formal, and the call.
-ghost use Rattle.std.specs.Prelude.{◌≡◌, ◌+◌, map, not, take, length, IfErr, IfOk, OnOk};
+//! The code of calls of functions (RM 6.4). Of one of the program: the actual parameters in order, each checked against the subtype of its formal, and the call.
+ghost use Rattle.std.specs.Prelude.{◌≡◌, ◌+◌, map, None, not, take, length, IfErr, IfOk, OnOk};
 ghost use Rattle.ada_tree.specs.ExpressionTree.{argument_tree, argument_trees, Arguments, MoreSelectors, Named, NoSelectors};
 ghost use Rattle.ada_tree.specs.declared.declaration.Mode.TheVariants.{In};
+ghost use Rattle.types.specs.declared.standing.Callee.{Callee};
+ghost use Rattle.types.specs.declared.standing.Standing.TheVariants as standing;
 ghost use Rattle.types.specs.Entities.{profile_value};
+ghost use Rattle.types.specs.Evaluating.{fixed_value};
+ghost use Rattle.types.specs.Scopes.{number_of};
+ghost use Rattle.types.specs.Standings.{standing_of, stands_first};
 ghost use Rattle.expr_soundness.specs.Agreeing.{parameter_subtype};
 ghost use Rattle.expr_code.specs.Emitting.{EmitsExpression, IsLegalExpression};
 ghost use Rattle.expr_code.specs.Actuals.{AddsCall, ArePassedLegally, EmitsActual, EmitsActuals, IsPassedLegally};
@@ -23,9 +28,63 @@ use types::laws::values_have_words;
 use types::{FormalParameter, Profile};
 
 impl Code {
-    /// Adds the code of a call of the function with this name and profile.
+    /// Adds the code of a call of the function with this name: one of the language, or of the program.
     #[cycle(expression)]
-    pub(crate) fn call(
+    pub(crate) fn with_actuals(
+        &mut self,
+        visible: &Visible,
+        depth: u16,
+        first: &Identifier,
+        arguments: &[Argument],
+    ) -> Result<(), Refusal>
+        requires sound { SoundScope visible.now.scope }
+        requires stands { (f : Callee) × (stands_first visible.now.scope (number_of visible.now.scope first.now.name) ≡ standing.Callee f) }
+        requires legal { IsLegalExpression visible.now.scope (Named first.now (MoreSelectors (Arguments (argument_trees arguments.now)) NoSelectors)) }
+        requires valueless { fixed_value (standing_of visible.now.scope first.now (MoreSelectors (Arguments (argument_trees arguments.now)) NoSelectors)) ≡ None }
+        ensures width { OnOk result (width_of visible.now.scope (Named first.now (MoreSelectors (Arguments (argument_trees arguments.now)) NoSelectors)) ≡ 1) }
+        ensures refused { IfErr result (λ why. RefusesExpression visible.now self.old depth (Named first.now (MoreSelectors (Arguments (argument_trees arguments.now)) NoSelectors)) why) }
+        ensures kept { IfErr result (λ why. Extends self.old self.new) }
+        ensures shallow { OnOk result (IsShallow self.old self.new (depth + peak visible.now.scope (Named first.now (MoreSelectors (Arguments (argument_trees arguments.now)) NoSelectors)))) }
+        ensures emits { OnOk result (EmitsExpression visible.now self.old depth 1 (Named first.now (MoreSelectors (Arguments (argument_trees arguments.now)) NoSelectors)) self.new) }
+    {
+        match visible.predefined(&first.name) {
+            Some(operation) => self.predefined(visible, depth, operation, first, arguments),
+            None => match visible.profile(&first.name) {
+                Some(profile) => self.call(visible, depth, first, profile, arguments),
+                None => Err(Refusal::Outside),
+            },
+        }
+    }
+
+    /// Adds that of a call without actual parameters.
+    pub(crate) fn without_actuals(
+        &mut self,
+        visible: &Visible,
+        depth: u16,
+        first: &Identifier,
+    ) -> Result<(), Refusal>
+        requires sound { SoundScope visible.now.scope }
+        requires stands { (f : Callee) × (stands_first visible.now.scope (number_of visible.now.scope first.now.name) ≡ standing.Callee f) }
+        requires legal { IsLegalExpression visible.now.scope (Named first.now NoSelectors) }
+        requires valueless { fixed_value (standing_of visible.now.scope first.now NoSelectors) ≡ None }
+        ensures width { OnOk result (width_of visible.now.scope (Named first.now NoSelectors) ≡ 1) }
+        ensures refused { IfErr result (λ why. RefusesExpression visible.now self.old depth (Named first.now NoSelectors) why) }
+        ensures kept { IfErr result (λ why. Extends self.old self.new) }
+        ensures shallow { OnOk result (IsShallow self.old self.new (depth + peak visible.now.scope (Named first.now NoSelectors))) }
+        ensures emits { OnOk result (EmitsExpression visible.now self.old depth 1 (Named first.now NoSelectors) self.new) }
+    {
+        match visible.predefined(&first.name) {
+            Some(operation) => self.predefined_alone(visible, depth, operation, first),
+            None => match visible.profile(&first.name) {
+                Some(profile) => self.call_alone(visible, depth, first, profile),
+                None => Err(Refusal::Outside),
+            },
+        }
+    }
+
+    // Adds that of a call of the function of the program with this name and profile.
+    #[cycle(expression)]
+    fn call(
         &mut self,
         visible: &Visible,
         depth: u16,
@@ -47,8 +106,8 @@ impl Code {
         self.invoke(visible, height, first, profile)
     }
 
-    /// Adds that of a call without actual parameters.
-    pub(crate) fn call_alone(
+    // The same without actual parameters.
+    fn call_alone(
         &mut self,
         visible: &Visible,
         depth: u16,

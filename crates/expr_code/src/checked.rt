@@ -4,7 +4,7 @@ ghost use Rattle.image.specs.Rules.{is_block};
 ghost use Rattle.ada_tree.specs.ExpressionTree.{expr_tree};
 ghost use Rattle.types.specs.Layouts.{words_of};
 ghost use Rattle.types.specs.Scopes.{form_at};
-ghost use Rattle.expr_code.specs.Emitting.{EmitsChecked, EmitsFitting, is_composite, IsFit};
+ghost use Rattle.expr_code.specs.Emitting.{EmitsChecked, EmitsFitting, has_numbers, is_composite, IsFit};
 ghost use Rattle.expr_code.specs.Code.{Extends, IsShallow};
 ghost use Rattle.expr_code.specs.Refusing.{RefusesChecked, RefusesFitting, checked_peak, peak};
 ghost use Rattle.expr_soundness.specs.SoundScopes.{SoundScope};
@@ -21,7 +21,7 @@ use types::laws::values_have_words;
 use types::{Subtype, TypeForm};
 
 impl Code {
-    /// Adds the code of an expression whose value is to lie in a subtype, and of the check that it does, where that is one of integers.
+    /// Adds the code of an expression whose value is to lie in a subtype, and of the check that it does, where that is one of numbers.
     #[cycle(expression)]
     pub fn checked(
         &mut self,
@@ -41,17 +41,40 @@ impl Code {
         expressions_are_typed();
         values_have_words();
         match visible.scope.form(subtype.type_number) {
-            Some(TypeForm::Integer) => {
-                self.of_width(visible, depth, 1, e)?;
-                let one = above(depth)?;
-                let two = above(one)?;
-                self.emit(one, Operation::Push(subtype.first))?;
-                self.emit(two, Operation::Push(subtype.last))?;
-                self.emit(above(two)?, Operation::CheckRange)
-            }
+            Some(TypeForm::Integer) => self.ranged(visible, depth, subtype, e),
+            Some(TypeForm::Time) => self.ranged(visible, depth, subtype, e),
+            Some(TypeForm::TimeSpan) => self.ranged(visible, depth, subtype, e),
             Some(TypeForm::Boolean) => self.of_width(visible, depth, 1, e),
             _ => Err(Refusal::Outside),
         }
+    }
+
+    // The same of a subtype of numbers: the value, between the subtype's first and last.
+    #[cycle(expression)]
+    fn ranged(
+        &mut self,
+        visible: &Visible,
+        depth: u16,
+        subtype: Subtype,
+        e: &Expr,
+    ) -> Result<(), Refusal>
+        requires sound { SoundScope visible.now.scope }
+        requires fit { IsFit visible.now.scope subtype (expr_tree e.now) }
+        requires numbers { has_numbers (form_at visible.now.scope subtype.type_number) ≡ true }
+        ensures refused { IfErr result (λ why. RefusesChecked visible.now self.old depth subtype (expr_tree e.now) why) }
+        ensures kept { IfErr result (λ why. Extends self.old self.new) }
+        ensures shallow { OnOk result (IsShallow self.old self.new (depth + checked_peak (peak visible.now.scope (expr_tree e.now)))) }
+        ensures emits { OnOk result (EmitsChecked visible.now self.old depth subtype (expr_tree e.now) self.new) }
+    {
+        quiet_stays();
+        expressions_are_typed();
+        values_have_words();
+        self.of_width(visible, depth, 1, e)?;
+        let one = above(depth)?;
+        let two = above(one)?;
+        self.emit(one, Operation::Push(subtype.first))?;
+        self.emit(two, Operation::Push(subtype.last))?;
+        self.emit(above(two)?, Operation::CheckRange)
     }
 
     /// The same of a subtype of whatever words. Tells how many words the value takes.

@@ -9,6 +9,7 @@ mod expression;
 mod name;
 mod operation;
 mod part;
+mod predefined;
 mod refusal;
 mod visible;
 

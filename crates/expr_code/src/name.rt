@@ -175,15 +175,12 @@ impl Code {
         ensures emits { IfOk result (λ width. EmitsExpression visible.now self.old depth width (Named first.now (selector_trees selectors.now)) self.new) }
     {
         arguments_by_parts();
-        let Some(profile) = visible.profile(&first.name) else {
-            return Err(Refusal::Outside);
-        };
         let [selector] = selectors else {
             return Err(Refusal::Outside);
         };
         match selector {
             Selector::Arguments(arguments) => {
-                self.call(visible, depth, first, profile, arguments)?;
+                self.with_actuals(visible, depth, first, arguments)?;
                 Ok(1)
             }
             Selector::Component(_) | Selector::Attribute(_) => Err(Refusal::Outside),
@@ -235,13 +232,10 @@ impl Code {
                 Some(slot) => self.object(visible, depth, slot, subtype, name),
                 None => Err(Refusal::Outside),
             },
-            Standing::Callee(_) => match visible.profile(&name.name) {
-                Some(profile) => {
-                    self.call_alone(visible, depth, name, profile)?;
-                    Ok(1)
-                }
-                None => Err(Refusal::Outside),
-            },
+            Standing::Callee(_) => {
+                self.without_actuals(visible, depth, name)?;
+                Ok(1)
+            }
             _ => Err(Refusal::Outside),
         }
     }

@@ -3,14 +3,14 @@ ghost use Rattle.std.specs.Prelude.{◌≡◌, ◌∷◌, ◌++◌, [], false, l
 ghost use Rattle.types.specs.Entities.{profile_value};
 ghost use Rattle.expr_code.specs.Entries.{entry_at};
 ghost use Rattle.expr_code.specs.Refusing.{IsRefused};
-ghost use Rattle.expr_code.specs.Seeing.{NamesProfile, profile_named, slot_of, subprogram_of};
+ghost use Rattle.expr_code.specs.Seeing.{NamesOperation, NamesProfile, operation_named, profile_named, slot_of, subprogram_of};
 
 use crate::refusal::Refusal;
 use image::Region;
 use lexer::Text;
 use std::alloc::Global;
 use std::marker::Model;
-use types::{Entity, Profile, Scope};
+use types::{Entity, PredefinedOperation, Profile, Scope};
 
 /// Where the first word of an object stands: its region, and how many words stand in front of it there.
 #[derive(Clone, Copy, PartialEq, Eq, Debug)]
@@ -111,6 +111,17 @@ impl Visible {
         let number = self.scope.number_of(name)?;
         match self.scope.entity(number) {
             Some(Entity::Subprogram(profile)) => Some(profile),
+            _ => None,
+        }
+    }
+    /// The function of the language that has this name, if it is one (RM D.8, and Control_IO).
+    pub fn predefined(&self, name: &Text) -> Option<PredefinedOperation>
+        ensures is { result ≡ operation_named self.now.scope name.now }
+        ensures names { IfSome result (λ operation. NamesOperation self.now.scope name.now operation) }
+    {
+        let number = self.scope.number_of(name)?;
+        match self.scope.entity(number) {
+            Some(Entity::Predefined(operation, _)) => Some(*operation),
             _ => None,
         }
     }

@@ -1,3 +1,4 @@
+mod Calls
 mod Forms
 mod Kept
 mod Refused
@@ -33,8 +34,9 @@ use Rattle.expr_code.specs.Refusing.{peak, RefusesExpression}
 use Rattle.expr_code.proofs.Refusals.{operand_refused, second_word_refused, sized_all}
 use Rattle.expr_code.proofs.Shallow.{bare_tree, passed_shallow, path_shallow, shallow_self}
 use Rattle.expr_code.proofs.Selecting.{one_selector, selects_next, whole_selects}
-use Rattle.expr_code.proofs.Widths.{call_width, chain_words, conversion_width, booleans_fit_width, fixed_width, integers_fit_width, part_width, unary_width}
+use Rattle.expr_code.proofs.Widths.{call_width, chain_words, conversion_width, booleans_fit_width, fixed_width, numbers_fit_width, part_width, unary_width}
 use Rattle.expr_code.proofs.code.Code.+expression.Goals as goal
+use Rattle.expr_code.proofs.code.Code.+expression.Answers.Calls as calls
 use Rattle.expr_code.proofs.code.Code.+expression.Answers.Forms as forms
 use Rattle.expr_code.proofs.code.Code.+expression.Answers.Kept as kept
 use Rattle.expr_code.proofs.code.Code.+expression.Answers.Refused as refused
@@ -251,32 +253,35 @@ elsifs-returns-clause-adds t c =
 
 -- ---- checks and conversions
 
-pub checked-of_width-requires : goal.checked-of_width-requires
-checked-of_width-requires t c =
+pub ranged-of_width-requires : goal.ranged-of_width-requires
+ranged-of_width-requires t c =
     let s = c.args.visible.now.scope in (
       search (rules, expressions.the_lemmas),
-      (c.requires.sound, (fit_legal s c.args.subtype _ c.requires.fit, integers_fit_width s c.requires.sound c.args.subtype _ c.requires.fit (search rules))),
+      (
+        c.requires.sound,
+        (fit_legal s c.args.subtype _ c.requires.fit, numbers_fit_width s c.requires.sound c.args.subtype _ c.requires.fit c.requires.numbers),
+      ),
     )
 
-pub checked-of_width-requires-in-Some-Boolean : goal.checked-of_width-requires-in-Some-Boolean
-checked-of_width-requires-in-Some-Boolean t c =
+pub checked-of_width-requires : goal.checked-of_width-requires
+checked-of_width-requires t c =
     let s = c.args.visible.now.scope in (
       search (rules, expressions.the_lemmas),
       (c.requires.sound, (fit_legal s c.args.subtype _ c.requires.fit, booleans_fit_width s c.requires.sound c.args.subtype _ c.requires.fit (search rules))),
     )
 
-pub checked-returns-in_ok-above-in-Some-Integer-clause-emits : goal.checked-returns-in_ok-above-in-Some-Integer-clause-emits
-checked-returns-in_ok-above-in-Some-Integer-clause-emits t c =
+pub ranged-returns-clause-emits : goal.ranged-returns-clause-emits
+ranged-returns-clause-emits t c =
     on_ok_weaker _ (λ p. checked_emits c.quiet_stays.ensures c.expressions_are_typed.ensures c.values_have_words.ensures c.args.visible.now _ _
-    c.args.depth c.args.subtype _ c.requires.fit c.in_ok-of_width-in-Some-Integer.ensures.emits
-    _ _ _ _ _ _ _ _ c.in_ok-one-in-Some-Integer.ensures.more c.in_ok-two-in-Some-Integer.ensures.more c.in_ok-above-in-Some-Integer.ensures.more
+    c.args.depth c.args.subtype _ c.requires.fit c.in_ok-of_width.ensures.emits
+    _ _ _ _ _ _ _ _ c.in_ok-one.ensures.more c.in_ok-two.ensures.more c.in_ok-above.ensures.more
     (search rules) (search rules)
-    c.in_ok-emit-in-Some-Integer.ensures.adds c.in_ok-emit-in-Some-Integer-2.ensures.adds p (search rules)) c.emit-in-Some-Integer-2.ensures.adds
+    c.in_ok-emit.ensures.adds c.in_ok-emit-2.ensures.adds p c.requires.numbers) c.emit-3.ensures.adds
 
 pub checked-returns-in-Some-Boolean-clause-emits : goal.checked-returns-in-Some-Boolean-clause-emits
 checked-returns-in-Some-Boolean-clause-emits t c =
     on_ok_weaker _ (λ p. unchecked_emits c.quiet_stays.ensures c.expressions_are_typed.ensures c.values_have_words.ensures c.args.visible.now _ _
-    c.args.depth c.args.subtype _ c.requires.fit p (search rules)) c.of_width-in-Some-Boolean.ensures.emits
+    c.args.depth c.args.subtype _ c.requires.fit p (search rules)) c.of_width.ensures.emits
 
 pub conversion-returns-in-Expr-clause-width : goal.conversion-returns-in-Expr-clause-width
 conversion-returns-in-Expr-clause-width t c =
@@ -310,13 +315,13 @@ name-returns-in_ok-emit-in-Some-clause-emits t c =
     fixed_emits c.quiet_stays.ensures c.args.visible.now _ _ c.args.depth c.args.name.now.first _ _ c.in-Some.value (search rules) c.requires.legal
     (sym (ap fixed_value c.standing.ensures) ∙ sym c.fixed_value.ensures ∙ c.in-Some.is) c.in_ok-emit-in-Some.ensures.adds
 
-pub called-returns-in_ok-call-in-Arguments-clause-emits : goal.called-returns-in_ok-call-in-Arguments-clause-emits
-called-returns-in_ok-call-in-Arguments-clause-emits t c =
+pub called-returns-in_ok-with_actuals-in-Arguments-clause-emits : goal.called-returns-in_ok-with_actuals-in-Arguments-clause-emits
+called-returns-in_ok-with_actuals-in-Arguments-clause-emits t c =
     let tree = ap selector_tree c.in-Arguments.is ∙ c.arguments_by_parts.ensures c.in-Arguments.arguments ∙ ap (λ l. Arguments (argument_trees l))
     (sym c.deref.ensures.value) in
     let same = one_selector c.args.selectors.now c.selector-item.result _ c.in-len1.len_at_least c.in-len1.len_below c.selector-item.is tree in
-    subst (λ x. EmitsExpression c.args.visible.now c.args.self.now c.args.depth 1 (Named c.args.first.now x) c.call.new.self) (sym same)
-    c.in_ok-call-in-Arguments.ensures.emits
+    subst (λ x. EmitsExpression c.args.visible.now c.args.self.now c.args.depth 1 (Named c.args.first.now x) c.with_actuals.new.self) (sym same)
+    c.in_ok-with_actuals-in-Arguments.ensures.emits
 
 -- ---- parts of objects
 
@@ -394,101 +399,82 @@ select-returns-in-Arguments-clause-emits t c =
 -- ---- calls
 
 pub call-actuals-requires : goal.call-actuals-requires
-call-actuals-requires t c = (
-  search (rules, expressions.the_lemmas),
-  (
-    c.requires.sound,
-    (
-      as_many c.args.visible.now c.args.first.now _ c.requires.names c.args.arguments.now c.requires.legal ∙ ap length (sym c.deref.ensures.value),
-      (
-        subst AreIn (sym c.deref.ensures.value)
-            (call_ins c.args.visible.now c.args.first.now _ c.requires.names (argument_trees c.args.arguments.now) c.requires.sound c.requires.legal),
-        subst (λ l. ArePassedLegally c.args.visible.now.scope l (map argument_tree c.args.arguments.now)) (sym c.deref.ensures.value)
-            (all_legal c.args.visible.now c.args.first.now _ c.requires.names c.args.arguments.now c.requires.legal),
-      ),
-    ),
-  ),
-)
+call-actuals-requires = calls.call-actuals-requires
 
 pub call-returns-clause-width : goal.call-returns-clause-width
-call-returns-clause-width t c =
-    on_ok_weaker _ (λ p. call_width c.args.visible.now.scope c.args.first.now _ p.result c.requires.names p.is p.single
-    (argument_trees c.args.arguments.now)) c.invoke.ensures.adds
+call-returns-clause-width = calls.call-returns-clause-width
 
 pub call-returns-clause-refused : goal.call-returns-clause-refused
-call-returns-clause-refused t c =
-    let v = c.args.visible.now in
-    let before = (subst (λ l. EmitsActuals v c.args.self.now c.args.depth (map parameter_subtype (take (length c.args.arguments.now) l))
-    (map argument_tree c.args.arguments.now) c.in_ok-height.height c.actuals.new.self) c.deref.ensures.value c.in_ok-height.ensures.emits).sized in
-    let counts = sizes_are c.args.arguments.now in
-    let high = counted_high v c.args.arguments.now in
-    let told = c.in_ok-height.ensures.high in
-    IfErr-weaker _ _ _ (λ why p. call_refused v c.args.first.now _ c.requires.names c.args.self.now c.args.depth why (argument_trees c.args.arguments.now) _ _
-    (omega (arith, before, counts)) (omega (arith, high, told)) p) c.invoke.ensures.refused
+call-returns-clause-refused = calls.call-returns-clause-refused
 
 pub call-returns-clause-emits : goal.call-returns-clause-emits
-call-returns-clause-emits t c =
-    on_ok_weaker _ (λ p. call_emits c.args.visible.now c.args.first.now _ c.requires.names c.quiet_stays.ensures c.args.arguments.now c.requires.legal
-    _ _ _ c.args.depth _
-    (subst (λ l. EmitsActuals c.args.visible.now c.args.self.now c.args.depth (map parameter_subtype (take (length c.args.arguments.now) l))
-    (map argument_tree c.args.arguments.now) c.in_ok-height.height c.actuals.new.self)
-    c.deref.ensures.value c.in_ok-height.ensures.emits) p) c.invoke.ensures.adds
+call-returns-clause-emits = calls.call-returns-clause-emits
 
 pub actuals-returns-clause-emits : goal.actuals-returns-clause-emits
-actuals-returns-clause-emits t c =
-    all_actuals c.args.visible.now c.args.self.now c.loop-index.self c.args.depth c.loop-index.height c.args.formals.now c.args.arguments.now
-    c.loop-index.index c.loop-index.auto.index-end c.loop-index-test.false
-    c.loop-index.invariant.0
+actuals-returns-clause-emits = calls.actuals-returns-clause-emits
 
 pub actuals-returns-in_err-actual-clause-refused : goal.actuals-returns-in_err-actual-clause-refused
-actuals-returns-in_err-actual-clause-refused t c =
-    let v = c.args.visible.now in
-    let formal = got c.args.formals.now c.loop-index.index c.in-Some.formal.now
-    (ltb-true c.loop-index.index (length c.args.formals.now) (sym c.in-Some.ensures.lookup.0)) c.in-Some.ensures.lookup.1 in
-    let argument = got c.args.arguments.now c.loop-index.index _ c.loop-index-test.true c.index-arguments-index.is in
-    let before = c.loop-index.invariant.0.sized in
-    let whole = actual_refused v c.args.self.now c.loop-index.self c.args.depth c.loop-index.height c.args.formals.now c.args.arguments.now c.loop-index.index _
-    c.in_err-actual.field-0.0 argument c.loop-index.invariant.1 c.in-Some.formal.now formal before c.in_err-actual.ensures.refused in
-    search (rules, whole)
+actuals-returns-in_err-actual-clause-refused = calls.actuals-returns-in_err-actual-clause-refused
 
 pub actuals-returns-in_err-height-clause-refused : goal.actuals-returns-in_err-height-clause-refused
-actuals-returns-in_err-height-clause-refused t c =
-    let argument = got c.args.arguments.now c.loop-index.index _ c.loop-index-test.true c.index-arguments-index.is in
-    let whole = word_passed c.args.visible.now c.args.self.now c.loop-index.self c.args.depth c.loop-index.height c.args.formals.now c.args.arguments.now
-    c.loop-index.index _ c.in_err-height.field-0.0 argument c.loop-index.invariant.1 _ _ (omega arith) (omega arith) c.in_err-height.ensures.refused in
-    search (rules, whole)
+actuals-returns-in_err-height-clause-refused = calls.actuals-returns-in_err-height-clause-refused
 
 pub actuals-actual-requires : goal.actuals-actual-requires
-actuals-actual-requires t c =
-    let formal = got c.args.formals.now c.loop-index.index c.in-Some.formal.now
-    (ltb-true c.loop-index.index (length c.args.formals.now) (sym c.in-Some.ensures.lookup.0)) c.in-Some.ensures.lookup.1 in (
-      search (rules, expressions.the_lemmas),
-      (
-        c.requires.sound,
-        (
-          in_at c.args.formals.now c.loop-index.index c.in-Some.formal.now formal c.requires.ins,
-          c.requires.legal c.loop-index.index c.in-Some.formal.now _ formal
-              (mapped argument_tree c.args.arguments.now c.loop-index.index _
-              (got c.args.arguments.now c.loop-index.index _ c.loop-index-test.true c.index-arguments-index.is)),
-        ),
-      ),
-    )
+actuals-actual-requires = calls.actuals-actual-requires
 
 pub actuals-loop-index-preserved : goal.actuals-loop-index-preserved
-actuals-loop-index-preserved t c =
-    let formal = got c.args.formals.now c.loop-index.index c.in-Some.formal.now
-    (ltb-true c.loop-index.index (length c.args.formals.now) (sym c.in-Some.ensures.lookup.0)) c.in-Some.ensures.lookup.1 in
-    let told = c.loop-index.invariant.1 in
-    let more = c.in_ok-height.ensures.more in (
-      actuals_next c.quiet_stays.ensures c.values_have_words.ensures c.args.visible.now c.args.self.now _ _ c.args.depth _ _ c.args.formals.now
-          c.args.arguments.now c.loop-index.index c.in-Some.formal.now _ formal
-          (got c.args.arguments.now c.loop-index.index _ c.loop-index-test.true c.index-arguments-index.is) c.in_ok-height.ensures.more c.loop-index.invariant.0
-          c.in_ok-actual.ensures.emits,
-      omega (arith, told, more),
-      passed_shallow c.args.visible.now c.args.depth c.args.arguments.now c.loop-index.index c.loop-index.height _ c.args.self.now c.loop-index.self
-          c.actual.new.self (got c.args.arguments.now c.loop-index.index _ c.loop-index-test.true c.index-arguments-index.is) told c.loop-index.invariant.2
-          c.in_ok-actual.ensures.shallow,
-    )
+actuals-loop-index-preserved = calls.actuals-loop-index-preserved
+
+pub milliseconds-checked-requires : goal.milliseconds-checked-requires
+milliseconds-checked-requires = calls.milliseconds-checked-requires
+
+pub milliseconds-returns-in_err-checked-clause-kept : goal.milliseconds-returns-in_err-checked-clause-kept
+milliseconds-returns-in_err-checked-clause-kept = calls.milliseconds-returns-in_err-checked-clause-kept
+
+pub milliseconds-returns-in_err-above-clause-kept : goal.milliseconds-returns-in_err-above-clause-kept
+milliseconds-returns-in_err-above-clause-kept = calls.milliseconds-returns-in_err-above-clause-kept
+
+pub milliseconds-returns-clause-kept : goal.milliseconds-returns-clause-kept
+milliseconds-returns-clause-kept = calls.milliseconds-returns-clause-kept
+
+pub milliseconds-returns-clause-emits : goal.milliseconds-returns-clause-emits
+milliseconds-returns-clause-emits = calls.milliseconds-returns-clause-emits
+
+pub of_number-checked-requires : goal.of_number-checked-requires
+of_number-checked-requires = calls.of_number-checked-requires
+
+pub of_number-returns-in-Milliseconds-clause-width : goal.of_number-returns-in-Milliseconds-clause-width
+of_number-returns-in-Milliseconds-clause-width = calls.of_number-returns-in-Milliseconds-clause-width
+
+pub of_number-returns-in-Microseconds-clause-width : goal.of_number-returns-in-Microseconds-clause-width
+of_number-returns-in-Microseconds-clause-width = calls.of_number-returns-in-Microseconds-clause-width
+
+pub of_number-returns-in-Read-clause-width : goal.of_number-returns-in-Read-clause-width
+of_number-returns-in-Read-clause-width = calls.of_number-returns-in-Read-clause-width
+
+pub of_number-returns-in-Microseconds-clause-emits : goal.of_number-returns-in-Microseconds-clause-emits
+of_number-returns-in-Microseconds-clause-emits = calls.of_number-returns-in-Microseconds-clause-emits
+
+pub of_one-of_number-requires : goal.of_one-of_number-requires
+of_one-of_number-requires = calls.of_one-of_number-requires
+
+pub of_one-returns-in_default-clause-refused : goal.of_one-returns-in_default-clause-refused
+of_one-returns-in_default-clause-refused = calls.of_one-returns-in_default-clause-refused
+
+pub of_one-returns-in_default-2-clause-refused : goal.of_one-returns-in_default-2-clause-refused
+of_one-returns-in_default-2-clause-refused = calls.of_one-returns-in_default-2-clause-refused
+
+pub predefined-returns-in-Clock-clause-width : goal.predefined-returns-in-Clock-clause-width
+predefined-returns-in-Clock-clause-width = calls.predefined-returns-in-Clock-clause-width
+
+pub predefined-returns-in-Clock-clause-emits : goal.predefined-returns-in-Clock-clause-emits
+predefined-returns-in-Clock-clause-emits = calls.predefined-returns-in-Clock-clause-emits
+
+pub read-of_width-requires : goal.read-of_width-requires
+read-of_width-requires = calls.read-of_width-requires
+
+pub read-returns-clause-emits : goal.read-returns-clause-emits
+read-returns-clause-emits = calls.read-returns-clause-emits
 
 -- ---- parts
 
@@ -500,14 +486,14 @@ part-path-requires t c = (
 
 -- ---- refusals of names, parts, conversions and calls
 
-pub called-call-requires : goal.called-call-requires
-called-call-requires = refused.called-call-requires
+pub called-with_actuals-requires : goal.called-with_actuals-requires
+called-with_actuals-requires = refused.called-with_actuals-requires
 
-pub called-returns-in_err-call-in-Arguments-clause-refused : goal.called-returns-in_err-call-in-Arguments-clause-refused
-called-returns-in_err-call-in-Arguments-clause-refused = refused.called-returns-in_err-call-in-Arguments-clause-refused
+pub called-returns-in_err-with_actuals-in-Arguments-clause-refused : goal.called-returns-in_err-with_actuals-in-Arguments-clause-refused
+called-returns-in_err-with_actuals-in-Arguments-clause-refused = refused.called-returns-in_err-with_actuals-in-Arguments-clause-refused
 
-pub called-returns-in_default-selectors-2-clause-refused : goal.called-returns-in_default-selectors-2-clause-refused
-called-returns-in_default-selectors-2-clause-refused = refused.called-returns-in_default-selectors-2-clause-refused
+pub called-returns-in_default-2-clause-refused : goal.called-returns-in_default-2-clause-refused
+called-returns-in_default-2-clause-refused = refused.called-returns-in_default-2-clause-refused
 
 pub converted-returns-in_default-2-clause-refused : goal.converted-returns-in_default-2-clause-refused
 converted-returns-in_default-2-clause-refused = refused.converted-returns-in_default-2-clause-refused
@@ -568,8 +554,8 @@ short_circuit-returns-in-OrElse-clause-shallow = stack.short_circuit-returns-in-
 pub short_circuit-returns-in_default-clause-shallow : goal.short_circuit-returns-in_default-clause-shallow
 short_circuit-returns-in_default-clause-shallow = stack.short_circuit-returns-in_default-clause-shallow
 
-pub checked-returns-in_ok-above-in-Some-Integer-clause-shallow : goal.checked-returns-in_ok-above-in-Some-Integer-clause-shallow
-checked-returns-in_ok-above-in-Some-Integer-clause-shallow = stack.checked-returns-in_ok-above-in-Some-Integer-clause-shallow
+pub ranged-returns-clause-shallow : goal.ranged-returns-clause-shallow
+ranged-returns-clause-shallow = stack.ranged-returns-clause-shallow
 
 pub checked-returns-in-Some-Boolean-clause-shallow : goal.checked-returns-in-Some-Boolean-clause-shallow
 checked-returns-in-Some-Boolean-clause-shallow = stack.checked-returns-in-Some-Boolean-clause-shallow
@@ -580,8 +566,8 @@ conversion-returns-in-Expr-clause-shallow = stack.conversion-returns-in-Expr-cla
 pub name-returns-in_ok-emit-in-Some-clause-shallow : goal.name-returns-in_ok-emit-in-Some-clause-shallow
 name-returns-in_ok-emit-in-Some-clause-shallow = stack.name-returns-in_ok-emit-in-Some-clause-shallow
 
-pub called-returns-in_ok-call-in-Arguments-clause-shallow : goal.called-returns-in_ok-call-in-Arguments-clause-shallow
-called-returns-in_ok-call-in-Arguments-clause-shallow = stack.called-returns-in_ok-call-in-Arguments-clause-shallow
+pub called-returns-in_ok-with_actuals-in-Arguments-clause-shallow : goal.called-returns-in_ok-with_actuals-in-Arguments-clause-shallow
+called-returns-in_ok-with_actuals-in-Arguments-clause-shallow = stack.called-returns-in_ok-with_actuals-in-Arguments-clause-shallow
 
 pub element-returns-clause-shallow : goal.element-returns-clause-shallow
 element-returns-clause-shallow = stack.element-returns-clause-shallow
@@ -711,26 +697,26 @@ elsifs-returns-in_err-raised-clause-kept = kept.elsifs-returns-in_err-raised-cla
 pub elsifs-returns-in_err-close-clause-kept : goal.elsifs-returns-in_err-close-clause-kept
 elsifs-returns-in_err-close-clause-kept = kept.elsifs-returns-in_err-close-clause-kept
 
-pub checked-returns-in_err-of_width-in-Some-Integer-clause-kept : goal.checked-returns-in_err-of_width-in-Some-Integer-clause-kept
-checked-returns-in_err-of_width-in-Some-Integer-clause-kept = kept.checked-returns-in_err-of_width-in-Some-Integer-clause-kept
+pub ranged-returns-in_err-of_width-clause-kept : goal.ranged-returns-in_err-of_width-clause-kept
+ranged-returns-in_err-of_width-clause-kept = kept.ranged-returns-in_err-of_width-clause-kept
 
-pub checked-returns-in_err-one-in-Some-Integer-clause-kept : goal.checked-returns-in_err-one-in-Some-Integer-clause-kept
-checked-returns-in_err-one-in-Some-Integer-clause-kept = kept.checked-returns-in_err-one-in-Some-Integer-clause-kept
+pub ranged-returns-in_err-one-clause-kept : goal.ranged-returns-in_err-one-clause-kept
+ranged-returns-in_err-one-clause-kept = kept.ranged-returns-in_err-one-clause-kept
 
-pub checked-returns-in_err-two-in-Some-Integer-clause-kept : goal.checked-returns-in_err-two-in-Some-Integer-clause-kept
-checked-returns-in_err-two-in-Some-Integer-clause-kept = kept.checked-returns-in_err-two-in-Some-Integer-clause-kept
+pub ranged-returns-in_err-two-clause-kept : goal.ranged-returns-in_err-two-clause-kept
+ranged-returns-in_err-two-clause-kept = kept.ranged-returns-in_err-two-clause-kept
 
-pub checked-returns-in_err-emit-in-Some-Integer-clause-kept : goal.checked-returns-in_err-emit-in-Some-Integer-clause-kept
-checked-returns-in_err-emit-in-Some-Integer-clause-kept = kept.checked-returns-in_err-emit-in-Some-Integer-clause-kept
+pub ranged-returns-in_err-emit-clause-kept : goal.ranged-returns-in_err-emit-clause-kept
+ranged-returns-in_err-emit-clause-kept = kept.ranged-returns-in_err-emit-clause-kept
 
-pub checked-returns-in_err-emit-in-Some-Integer-2-clause-kept : goal.checked-returns-in_err-emit-in-Some-Integer-2-clause-kept
-checked-returns-in_err-emit-in-Some-Integer-2-clause-kept = kept.checked-returns-in_err-emit-in-Some-Integer-2-clause-kept
+pub ranged-returns-in_err-emit-2-clause-kept : goal.ranged-returns-in_err-emit-2-clause-kept
+ranged-returns-in_err-emit-2-clause-kept = kept.ranged-returns-in_err-emit-2-clause-kept
 
-pub checked-returns-in_err-above-in-Some-Integer-clause-kept : goal.checked-returns-in_err-above-in-Some-Integer-clause-kept
-checked-returns-in_err-above-in-Some-Integer-clause-kept = kept.checked-returns-in_err-above-in-Some-Integer-clause-kept
+pub ranged-returns-in_err-above-clause-kept : goal.ranged-returns-in_err-above-clause-kept
+ranged-returns-in_err-above-clause-kept = kept.ranged-returns-in_err-above-clause-kept
 
-pub checked-returns-in_ok-above-in-Some-Integer-clause-kept : goal.checked-returns-in_ok-above-in-Some-Integer-clause-kept
-checked-returns-in_ok-above-in-Some-Integer-clause-kept = kept.checked-returns-in_ok-above-in-Some-Integer-clause-kept
+pub ranged-returns-clause-kept : goal.ranged-returns-clause-kept
+ranged-returns-clause-kept = kept.ranged-returns-clause-kept
 
 pub checked-returns-in-Some-Boolean-clause-kept : goal.checked-returns-in-Some-Boolean-clause-kept
 checked-returns-in-Some-Boolean-clause-kept = kept.checked-returns-in-Some-Boolean-clause-kept

@@ -177,47 +177,47 @@ elsifs-returns-in_err-close-clause-kept t c =
 
 -- ---- checks
 
-pub checked-returns-in_err-of_width-in-Some-Integer-clause-kept : goal.checked-returns-in_err-of_width-in-Some-Integer-clause-kept
-checked-returns-in_err-of_width-in-Some-Integer-clause-kept t c =
-    let whole = as_before _ _ c.in_err-of_width-in-Some-Integer.ensures.restored in
+pub ranged-returns-in_err-of_width-clause-kept : goal.ranged-returns-in_err-of_width-clause-kept
+ranged-returns-in_err-of_width-clause-kept t c =
+    let whole = as_before _ _ c.in_err-of_width.ensures.restored in
     search (rules, whole)
 
-pub checked-returns-in_err-one-in-Some-Integer-clause-kept : goal.checked-returns-in_err-one-in-Some-Integer-clause-kept
-checked-returns-in_err-one-in-Some-Integer-clause-kept t c =
-    let whole = c.in_ok-of_width-in-Some-Integer.ensures.emits.extends in
+pub ranged-returns-in_err-one-clause-kept : goal.ranged-returns-in_err-one-clause-kept
+ranged-returns-in_err-one-clause-kept t c =
+    let whole = c.in_ok-of_width.ensures.emits.extends in
     search (rules, whole)
 
-pub checked-returns-in_err-two-in-Some-Integer-clause-kept : goal.checked-returns-in_err-two-in-Some-Integer-clause-kept
-checked-returns-in_err-two-in-Some-Integer-clause-kept t c =
-    let whole = c.in_ok-of_width-in-Some-Integer.ensures.emits.extends in
+pub ranged-returns-in_err-two-clause-kept : goal.ranged-returns-in_err-two-clause-kept
+ranged-returns-in_err-two-clause-kept t c =
+    let whole = c.in_ok-of_width.ensures.emits.extends in
     search (rules, whole)
 
-pub checked-returns-in_err-emit-in-Some-Integer-clause-kept : goal.checked-returns-in_err-emit-in-Some-Integer-clause-kept
-checked-returns-in_err-emit-in-Some-Integer-clause-kept t c =
-    let whole = then_kept c.in_ok-of_width-in-Some-Integer.ensures.emits.extends c.in_err-emit-in-Some-Integer.ensures.kept in
+pub ranged-returns-in_err-emit-clause-kept : goal.ranged-returns-in_err-emit-clause-kept
+ranged-returns-in_err-emit-clause-kept t c =
+    let whole = then_kept c.in_ok-of_width.ensures.emits.extends c.in_err-emit.ensures.kept in
     search (rules, whole)
 
-pub checked-returns-in_err-emit-in-Some-Integer-2-clause-kept : goal.checked-returns-in_err-emit-in-Some-Integer-2-clause-kept
-checked-returns-in_err-emit-in-Some-Integer-2-clause-kept t c =
-    let whole = then_kept c.in_ok-of_width-in-Some-Integer.ensures.emits.extends (added_kept c.in_ok-emit-in-Some-Integer.ensures.adds
-    c.in_err-emit-in-Some-Integer-2.ensures.kept) in
+pub ranged-returns-in_err-emit-2-clause-kept : goal.ranged-returns-in_err-emit-2-clause-kept
+ranged-returns-in_err-emit-2-clause-kept t c =
+    let whole = then_kept c.in_ok-of_width.ensures.emits.extends (added_kept c.in_ok-emit.ensures.adds
+    c.in_err-emit-2.ensures.kept) in
     search (rules, whole)
 
-pub checked-returns-in_err-above-in-Some-Integer-clause-kept : goal.checked-returns-in_err-above-in-Some-Integer-clause-kept
-checked-returns-in_err-above-in-Some-Integer-clause-kept t c =
-    let whole = then_kept c.in_ok-of_width-in-Some-Integer.ensures.emits.extends (added_kept
-    c.in_ok-emit-in-Some-Integer.ensures.adds (added_extends _ _ _ _ c.in_ok-emit-in-Some-Integer-2.ensures.adds)) in
+pub ranged-returns-in_err-above-clause-kept : goal.ranged-returns-in_err-above-clause-kept
+ranged-returns-in_err-above-clause-kept t c =
+    let whole = then_kept c.in_ok-of_width.ensures.emits.extends (added_kept
+    c.in_ok-emit.ensures.adds (added_extends _ _ _ _ c.in_ok-emit-2.ensures.adds)) in
     search (rules, whole)
 
-pub checked-returns-in_ok-above-in-Some-Integer-clause-kept : goal.checked-returns-in_ok-above-in-Some-Integer-clause-kept
-checked-returns-in_ok-above-in-Some-Integer-clause-kept t c =
-    IfErr-weaker _ _ _ (λ why p. then_kept (then_kept c.in_ok-of_width-in-Some-Integer.ensures.emits.extends (added_kept
-    c.in_ok-emit-in-Some-Integer.ensures.adds (added_extends _ _ _ _ c.in_ok-emit-in-Some-Integer-2.ensures.adds))) p)
-    c.emit-in-Some-Integer-2.ensures.kept
+pub ranged-returns-clause-kept : goal.ranged-returns-clause-kept
+ranged-returns-clause-kept t c =
+    IfErr-weaker _ _ _ (λ why p. then_kept (then_kept c.in_ok-of_width.ensures.emits.extends (added_kept
+    c.in_ok-emit.ensures.adds (added_extends _ _ _ _ c.in_ok-emit-2.ensures.adds))) p)
+    c.emit-3.ensures.kept
 
 pub checked-returns-in-Some-Boolean-clause-kept : goal.checked-returns-in-Some-Boolean-clause-kept
 checked-returns-in-Some-Boolean-clause-kept t c =
-    IfErr-weaker _ _ _ (λ why p. as_before _ _ p) c.of_width-in-Some-Boolean.ensures.restored
+    IfErr-weaker _ _ _ (λ why p. as_before _ _ p) c.of_width.ensures.restored
 
 -- ---- parts of objects
 

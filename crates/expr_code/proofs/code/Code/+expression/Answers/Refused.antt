@@ -1,11 +1,12 @@
 -- What refuses the code of expressions, answered for the methods that add it.
-use Rattle.std.proofs.Common.{inr, ◌+◌, ◌*◌, arith, map, rules, refl, sym, ap, ◌∙◌, ◌≤◌, ◌∷◌, [], subst}
+use Rattle.std.proofs.Common.{inr, ◌≡◌, ◌+◌, ◌*◌, None, arith, map, rules, refl, sym, ap, ◌∙◌, ◌≤◌, ◌∷◌, [], subst}
 use Rattle.ada_tree.specs.declared.expression.Expr as expressions
 use Rattle.ada_tree.specs.ExpressionTree.{argument_trees, Arguments, expr_tree, MoreSelectors, Named, NoSelectors, selector_tree, selector_trees}
 use Rattle.expr_code.specs.Branches.{AddsBranches, branch_of}
 use Rattle.expr_code.specs.Emitting.{EmitsExpression, IsLegalExpression}
+use Rattle.types.specs.Evaluating.{fixed_value}
 use Rattle.types.specs.Scopes.{number_of}
-use Rattle.types.specs.Standings.{stands_first}
+use Rattle.types.specs.Standings.{standing_of, stands_first}
 use Rattle.expr_code.proofs.Going.{index_integers, one_argument, path_counts}
 use Rattle.expr_code.proofs.FitShapes.{large_unfit, many_unfit}
 use Rattle.expr_code.proofs.LegalNames.{array_part, begins_otherwise, called_once, converted_once, one_converted}
@@ -189,29 +190,38 @@ elsifs-returns-in_err-close-clause-refused t c =
 
 -- ---- refusals of names, parts, conversions and calls
 
-pub called-call-requires : goal.called-call-requires
-called-call-requires t c =
+pub called-with_actuals-requires : goal.called-with_actuals-requires
+called-with_actuals-requires t c =
     let tree = ap selector_tree c.in-Arguments.is ∙ c.arguments_by_parts.ensures c.in-Arguments.arguments ∙ ap (λ l. Arguments (argument_trees l))
     (sym c.deref.ensures.value) in
     let same = one_selector c.args.selectors.now c.selector-item.result _ c.in-len1.len_at_least c.in-len1.len_below c.selector-item.is tree in (
       search (rules, expressions.the_lemmas),
-      (c.requires.sound, (search rules, subst (λ x. IsLegalExpression c.args.visible.now.scope (Named c.args.first.now x)) same c.requires.legal)),
+      (
+        c.requires.sound,
+        (
+          c.requires.stands,
+          (
+            subst (λ x. IsLegalExpression c.args.visible.now.scope (Named c.args.first.now x)) same c.requires.legal,
+            subst (λ x. fixed_value (standing_of c.args.visible.now.scope c.args.first.now x) ≡ None) same c.requires.valueless,
+          ),
+        ),
+      ),
     )
 
-pub called-returns-in_err-call-in-Arguments-clause-refused : goal.called-returns-in_err-call-in-Arguments-clause-refused
-called-returns-in_err-call-in-Arguments-clause-refused t c =
+pub called-returns-in_err-with_actuals-in-Arguments-clause-refused : goal.called-returns-in_err-with_actuals-in-Arguments-clause-refused
+called-returns-in_err-with_actuals-in-Arguments-clause-refused t c =
     let tree = ap selector_tree c.in-Arguments.is ∙ c.arguments_by_parts.ensures c.in-Arguments.arguments ∙ ap (λ l. Arguments (argument_trees l))
     (sym c.deref.ensures.value) in
     let same = one_selector c.args.selectors.now c.selector-item.result _ c.in-len1.len_at_least c.in-len1.len_below c.selector-item.is tree in
-    let why = c.in_err-call-in-Arguments.field-0.0 in
+    let why = c.in_err-with_actuals-in-Arguments.field-0.0 in
     let whole = subst (λ x. RefusesExpression c.args.visible.now c.args.self.now c.args.depth (Named c.args.first.now x) why) (sym same)
-    c.in_err-call-in-Arguments.ensures.refused in
+    c.in_err-with_actuals-in-Arguments.ensures.refused in
     search (rules, whole)
 
-pub called-returns-in_default-selectors-2-clause-refused : goal.called-returns-in_default-selectors-2-clause-refused
-called-returns-in_default-selectors-2-clause-refused t c =
+pub called-returns-in_default-2-clause-refused : goal.called-returns-in_default-2-clause-refused
+called-returns-in_default-2-clause-refused t c =
     absurd (called_once c.args.visible.now.scope c.requires.sound c.args.first.now c.args.selectors.now c.requires.stands.0 c.requires.stands.1
-    c.requires.legal (omega (arith, c.in_default-selectors.len_at_least)))
+    c.requires.legal (omega (arith, c.in_default.len_at_least)))
 
 pub converted-returns-in_default-2-clause-refused : goal.converted-returns-in_default-2-clause-refused
 converted-returns-in_default-2-clause-refused t c =

@@ -104,17 +104,17 @@ short_circuit-returns-in_default-clause-shallow t c =
     c.patch-in_default.new.self _ _ c.requires.short c.in_ok-one.ensures.more c.in_ok-above.ensures.more c.in_ok-emit.ensures.adds.shallow
     c.in_ok-emit-2.ensures.adds.shallow c.in_ok-emit-3.ensures.adds.shallow c.in_ok-of_width.ensures.shallow c.patch-in_default.ensures.patches.deepest
 
-pub checked-returns-in_ok-above-in-Some-Integer-clause-shallow : goal.checked-returns-in_ok-above-in-Some-Integer-clause-shallow
-checked-returns-in_ok-above-in-Some-Integer-clause-shallow t c =
+pub ranged-returns-clause-shallow : goal.ranged-returns-clause-shallow
+ranged-returns-clause-shallow t c =
     on_ok_weaker _ (λ p. check_shallow c.args.visible.now c.args.depth (expr_tree c.args.e.now) c.args.self.now c.of_width.new.self
-    c.emit.new.self c.emit-in-Some-Integer.new.self c.emit-in-Some-Integer-2.new.self _ _ _ c.in_ok-one-in-Some-Integer.ensures.more
-    c.in_ok-two-in-Some-Integer.ensures.more c.in_ok-above-in-Some-Integer.ensures.more c.in_ok-of_width-in-Some-Integer.ensures.shallow
-    c.in_ok-emit-in-Some-Integer.ensures.adds.shallow c.in_ok-emit-in-Some-Integer-2.ensures.adds.shallow p.shallow) c.emit-in-Some-Integer-2.ensures.adds
+    c.emit.new.self c.emit-2.new.self c.emit-3.new.self _ _ _ c.in_ok-one.ensures.more
+    c.in_ok-two.ensures.more c.in_ok-above.ensures.more c.in_ok-of_width.ensures.shallow
+    c.in_ok-emit.ensures.adds.shallow c.in_ok-emit-2.ensures.adds.shallow p.shallow) c.emit-3.ensures.adds
 
 pub checked-returns-in-Some-Boolean-clause-shallow : goal.checked-returns-in-Some-Boolean-clause-shallow
 checked-returns-in-Some-Boolean-clause-shallow t c =
-    on_ok_weaker _ (λ p. unchecked_shallow c.args.visible.now c.args.depth (expr_tree c.args.e.now) c.args.self.now c.of_width-in-Some-Boolean.new.self p)
-    c.of_width-in-Some-Boolean.ensures.shallow
+    on_ok_weaker _ (λ p. unchecked_shallow c.args.visible.now c.args.depth (expr_tree c.args.e.now) c.args.self.now c.of_width.new.self p)
+    c.of_width.ensures.shallow
 
 pub conversion-returns-in-Expr-clause-shallow : goal.conversion-returns-in-Expr-clause-shallow
 conversion-returns-in-Expr-clause-shallow t c =
@@ -130,13 +130,13 @@ name-returns-in_ok-emit-in-Some-clause-shallow t c =
     word_deep c.args.visible.now c.args.depth (Named (name_tree c.args.name.now).first (name_tree c.args.name.now).selectors) _ _ c.args.depth (omega arith)
     c.in_ok-emit-in-Some.ensures.adds.shallow
 
-pub called-returns-in_ok-call-in-Arguments-clause-shallow : goal.called-returns-in_ok-call-in-Arguments-clause-shallow
-called-returns-in_ok-call-in-Arguments-clause-shallow t c =
+pub called-returns-in_ok-with_actuals-in-Arguments-clause-shallow : goal.called-returns-in_ok-with_actuals-in-Arguments-clause-shallow
+called-returns-in_ok-with_actuals-in-Arguments-clause-shallow t c =
     let tree = ap selector_tree c.in-Arguments.is ∙ c.arguments_by_parts.ensures c.in-Arguments.arguments ∙ ap (λ l. Arguments (argument_trees l))
     (sym c.deref.ensures.value) in
     let same = one_selector c.args.selectors.now c.selector-item.result _ c.in-len1.len_at_least c.in-len1.len_below c.selector-item.is tree in
-    subst (λ x. IsShallow c.args.self.now c.call.new.self (c.args.depth + peak c.args.visible.now.scope (Named c.args.first.now x))) (sym same)
-    c.in_ok-call-in-Arguments.ensures.shallow
+    subst (λ x. IsShallow c.args.self.now c.with_actuals.new.self (c.args.depth + peak c.args.visible.now.scope (Named c.args.first.now x))) (sym same)
+    c.in_ok-with_actuals-in-Arguments.ensures.shallow
 
 pub element-returns-clause-shallow : goal.element-returns-clause-shallow
 element-returns-clause-shallow t c =
