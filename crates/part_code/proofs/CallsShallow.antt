@@ -23,7 +23,7 @@ use Rattle.expr_code.specs.declared.code.Code.{Code}
 use Rattle.expr_code.specs.declared.visible.Visible.{Visible}
 use Rattle.expr_code.proofs.Shallow.{shallow_as, shallow_more, shallow_next, shallow_self, shallow_then}
 use Rattle.part_code.specs.Lines.{line_behind, line_in}
-use Rattle.part_code.specs.Passing.{AddsCheck, AddsCopy, AddsValue, EmitsTarget, actuals_behind, copied_width}
+use Rattle.part_code.specs.Passing.{AddsCheck, AddsCopy, AddsRange, AddsValue, EmitsTarget, actuals_behind, copied_width}
 use Rattle.part_code.specs.Needs.{actual_needs, actuals_needs, check_words, copied_needs, copies_needs, copy_needs, in_needs, in_out_needs, target_needs}
 use Rattle.part_code.specs.Suiting.{passed_width}
 use Rattle.part_code.specs.declared.call.Destination.{Destination}
@@ -68,17 +68,20 @@ no_line s fs (MoreSelectors x rest) all is count legal = cc
 
 -- ---- checks
 
-pub check_shallow : (o : Option TypeForm) (old : Code) (depth : ℕ) (t : Subtype) (new : Code) → AddsCheck o old depth t new
-    → IsShallow old new (depth + check_words o)
-check_shallow (Some Integers) old depth t new a =
+range_shallow : (old : Code) (depth : ℕ) (t : Subtype) (new : Code) → AddsRange old depth t new → IsShallow old new (depth + 2)
+range_shallow old depth t new a =
     shallow_then old a.two new (depth + 2)
     (shallow_next old a.one a.two (depth + 1) (depth + 2) (omega arith) (shallow_more old a.one depth (depth + 2) (omega arith) a.first.shallow) a.last.shallow)
     a.check.shallow
+
+pub check_shallow : (o : Option TypeForm) (old : Code) (depth : ℕ) (t : Subtype) (new : Code) → AddsCheck o old depth t new
+    → IsShallow old new (depth + check_words o)
+check_shallow (Some Integers) old depth t new a = range_shallow old depth t new a
+check_shallow (Some Times) old depth t new a = range_shallow old depth t new a
+check_shallow (Some Spans) old depth t new a = range_shallow old depth t new a
 check_shallow (Some Booleans) old depth t new a = shallow_as old old new (depth + 0) (ap (λ c. c.deepest) a) (shallow_self old (depth + 0))
 check_shallow (Some (Arrays index many element)) old depth t new a = shallow_as old old new (depth + 0) (ap (λ c. c.deepest) a) (shallow_self old (depth + 0))
 check_shallow (Some (Records components)) old depth t new a = shallow_as old old new (depth + 0) (ap (λ c. c.deepest) a) (shallow_self old (depth + 0))
-check_shallow (Some Times) old depth t new a = absurd a
-check_shallow (Some Spans) old depth t new a = absurd a
 check_shallow None old depth t new a = absurd a
 
 -- ---- one actual parameter

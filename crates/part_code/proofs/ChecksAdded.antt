@@ -1,5 +1,5 @@
 -- Code that was added to check a value on top of the operand stack, and to copy values back (RM 6.4.1).
-use Rattle.std.proofs.Common.{◌≡◌, ℕ, suc, ◌+◌, ◌≤◌, ◌<◌, ◌⊎◌, inl, inr, ℤ, List, [], ◌∷◌, ◌++◌, length, take, Option, Some, None, refl, sym, ap, ◌∙◌, subst, arith}
+use Rattle.std.proofs.Common.{◌≡◌, ℕ, suc, ◌+◌, ◌≤◌, ◌<◌, ◌⊎◌, inl, inr, true, ℤ, List, [], ◌∷◌, ◌++◌, length, take, Option, Some, None, refl, sym, ap, ◌∙◌, subst, arith}
 use Rattle.std.specs.Prelude.{get_or, pos}
 use Rattle.std.proofs.lemmas.List.{length-append}
 use Rattle.kernel.specs.Laws.{QuietStays}
@@ -55,7 +55,7 @@ range_adds old one two new depth a b x y t first last next more p q r = record {
 }
 
 module _ (quiet : QuietStays) (sized : ValuesHaveWords) (v : Visible) (old new : Code) (depth : ℕ) (t : Subtype) (some : 1 ≤ depth) where
-  module _ (form : form_at v.scope t.type_number ≡ Some Integers) (a : AddsRange old depth t new) where
+  module _ (numbers : has_numbers (form_at v.scope t.type_number) ≡ true) (a : AddsRange old depth t new) where
     one_here : here a.one ≡ suc (here old)
     one_here = added_here old a.one depth (op.Push t.first) a.first
 
@@ -107,7 +107,7 @@ module _ (quiet : QuietStays) (sized : ValuesHaveWords) (v : Visible) (old new :
           let end : here new ≡ here old + 3 = omega (arith, one_here, two_here, new_here) in
           subst (λ z. ChecksValue quiet i z.scope shown t (here old) (here new)) (sym is)
           (subst (λ n. ChecksValue quiet i v.scope shown t (here old) n) (sym end)
-          (value_checked quiet i v.scope shown t (library_of g) (here old) (ap (λ n. has_numbers (form_at v.scope n)) same ∙ ap has_numbers form)
+          (value_checked quiet i v.scope shown t (library_of g) (here old) (ap (λ n. has_numbers (form_at v.scope n)) same ∙ numbers)
           (at_first, subst (λ n. At i n (op.Push t.last)) next at_last, subst (λ n. At i n op.CheckRange) last at_check)));
     }
 
@@ -125,12 +125,12 @@ module _ (quiet : QuietStays) (sized : ValuesHaveWords) (v : Visible) (old new :
   is_checked a = by_form (form_at v.scope t.type_number) refl a
     where
       by_form : (o : Option TypeForm) → form_at v.scope t.type_number ≡ o → AddsCheck o old depth t new → IsChecked quiet v old depth t new
-      by_form (Some Integers) is a = checked_range is a
+      by_form (Some Integers) is a = checked_range (ap has_numbers is) a
+      by_form (Some Times) is a = checked_range (ap has_numbers is) a
+      by_form (Some Spans) is a = checked_range (ap has_numbers is) a
       by_form (Some Booleans) is a = unchecked Booleans is tt a
       by_form (Some (Arrays index many element)) is a = unchecked (Arrays index many element) is tt a
       by_form (Some (Records components)) is a = unchecked (Records components) is tt a
-      by_form (Some Times) is a = absurd a
-      by_form (Some Spans) is a = absurd a
       by_form None is a = absurd a
 
 -- ---- copies

@@ -49,6 +49,14 @@ logical_too b t (Repeated n x) e = cc
 logical_too b t (Grouped xs) e = cc
 logical_too b t Shapeless e = cc
 
+timed_too : (b t : Subtype) (x : Shape) → narrowed b x ≡ Timed → narrowed t x ≡ Timed
+timed_too b t (Ranged z) e = cc
+timed_too b t Logical e = cc
+timed_too b t Timed e = refl
+timed_too b t (Repeated n x) e = cc
+timed_too b t (Grouped xs) e = cc
+timed_too b t Shapeless e = cc
+
 -- the word is that of the initial value, and all of it
 pub record IsWord (s : Scope) (t : Subtype) (word : ℤ) : Type 0 where
   pub words : value_words (initial s t) ≡ word ∷ []
@@ -56,6 +64,13 @@ pub record IsWord (s : Scope) (t : Subtype) (word : ℤ) : Type 0 where
 
 some_word : (a b : ℤ) → Some a ≡ Some b → a ≡ b
 some_word a b h = cc
+
+timed_word : (s : Scope) (t : Subtype) (word : ℤ)
+    → narrowed (base_range_of t.type_number) (shape_or_none (slice_get (shapes s) t.type_number)) ≡ Timed → Some (pos 0) ≡ Some word → IsWord s t word
+timed_word s t word is first =
+    let shape : shape_of s t ≡ Timed =
+    timed_too (base_range_of t.type_number) t (shape_or_none (slice_get (shapes s) t.type_number)) is in
+    record { words = ap (λ x. value_words (initial_of x)) shape ∙ ap (λ z. z ∷ []) (some_word (pos 0) word first); single = ap words shape }
 
 word_by_form : (s : Scope) (t : Subtype) (word : ℤ) (form : TypeForm) → form_at s t.type_number ≡ Some form → first_word (Some form) t ≡ Some word
     → IsWord s t word
@@ -69,8 +84,8 @@ word_by_form s t word Booleans is first =
     let shape : shape_of s t ≡ Logical =
     logical_too (base_range_of t.type_number) t (shape_or_none (slice_get (shapes s) t.type_number)) found.2 in
     record { words = ap (λ x. value_words (initial_of x)) shape ∙ ap (λ z. z ∷ []) (some_word (pos 0) word first); single = ap words shape }
-word_by_form s t word Times is first = cc
-word_by_form s t word Spans is first = cc
+word_by_form s t word Times is first = timed_word s t word (shape_by_form s t.type_number Times is).2 first
+word_by_form s t word Spans is first = timed_word s t word (shape_by_form s t.type_number Spans is).2 first
 word_by_form s t word (Arrays index many element) is first = cc
 word_by_form s t word (Records components) is first = cc
 

@@ -10,10 +10,10 @@ use Rattle.types.specs.declared.entity.Subtype.{Subtype}
 use Rattle.types.specs.Entities as entity
 use Rattle.types.specs.Entities.{Arrays, Booleans, Entity, Integers, Records, Spans, Times, TypeForm}
 use Rattle.types.specs.Layouts.{words_of}
-use Rattle.types.specs.Scopes.{Named, Scope, base_range_of, entity_of, form_at, form_of}
-use Rattle.types.specs.Shapes.{Grouped, Logical, Ranged, Repeated, Shape, Shapeless, Shapes, Timed, component_shapes, entity_shape, fields_words, initial, initial_fields, initial_of, narrowed, repeated, shape_of, shape_or_none, shapes, shapes_after, value_words, values_words, words, words_of_parts}
+use Rattle.types.specs.Scopes.{Named, Scope, entity_of, form_at, form_of}
+use Rattle.types.specs.Shapes.{Grouped, Repeated, Shape, Shapeless, Shapes, component_shapes, entity_shape, fields_words, initial, initial_fields, initial_of, narrowed, repeated, shape_of, shape_or_none, shapes, shapes_after, value_words, values_words, words, words_of_parts}
 use Rattle.types.specs.Laws.{InitialValuesHaveShape, ValuesHaveWords}
-use Rattle.expr_soundness.proofs.Parts.{shape_by_form, shape_found}
+use Rattle.expr_soundness.proofs.Parts.{shape_found}
 use Rattle.expr_soundness.specs.SoundScopes.{SoundScope}
 use Rattle.expr_code.specs.Code.{here}
 use Rattle.expr_code.specs.Refusing.{HasUnfitObject, IsRefused, IsUnfit, RefusesChecked, RefusesFitting, checked_peak, is_fit, is_outside, is_passable, peak}
@@ -141,25 +141,13 @@ shapeless s n none = by_name (slice_get s n) refl
         ∙ no_type (shapes_after [] (take n s)) m.entity (ap (λ o. form_of (entity_of o)) (sym is) ∙ none)
     by_name None is = ap shape_or_none (ap (slice_get (shapes s)) (sym here) ∙ shapes_end [] s n is)
 
-timed_too : (b t : Subtype) (x : Shape) → narrowed b x ≡ Timed → narrowed t x ≡ Timed
-timed_too b t (Ranged f) e = cc
-timed_too b t Logical e = cc
-timed_too b t Timed e = refl
-timed_too b t (Repeated n x) e = cc
-timed_too b t (Grouped xs) e = cc
-timed_too b t Shapeless e = cc
-
 pub lacking : (s : Scope) (t : Subtype) (o : Option TypeForm) → form_at s t.type_number ≡ o → lacks_single o ≡ true → is_composite o ≡ false
     → lacks_word (shape_of s t) ≡ true
 lacking s t None is lacks single = ap (λ x. lacks_word (narrowed t x)) (shapeless s t.type_number is)
 lacking s t (Some Integers) is lacks single = cc
 lacking s t (Some Booleans) is lacks single = cc
-lacking s t (Some Times) is lacks single =
-    let n = t.type_number in
-    ap lacks_word (timed_too (base_range_of n) t (shape_or_none (slice_get (shapes s) n)) (shape_by_form s n Times is).1)
-lacking s t (Some Spans) is lacks single =
-    let n = t.type_number in
-    ap lacks_word (timed_too (base_range_of n) t (shape_or_none (slice_get (shapes s) n)) (shape_by_form s n Spans is).1)
+lacking s t (Some Times) is lacks single = cc
+lacking s t (Some Spans) is lacks single = cc
 lacking s t (Some (Arrays index many element)) is lacks single = cc
 lacking s t (Some (Records components)) is lacks single = cc
 

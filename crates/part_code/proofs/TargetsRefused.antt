@@ -22,9 +22,9 @@ use Rattle.types.specs.Layouts.{words_of}
 use Rattle.types.specs.Scopes.{Scope, form_at, number_of}
 use Rattle.types.specs.Shapes.{shape_of}
 use Rattle.types.specs.Standings.{select_all, standing_of, stands_first}
-use Rattle.expr_soundness.specs.expr_rules.specs.Typing.{is_booleans, is_integers}
+use Rattle.expr_soundness.specs.expr_rules.specs.Typing.{is_booleans}
 use Rattle.expr_code.specs.Code.{here}
-use Rattle.expr_code.specs.Emitting.{is_composite}
+use Rattle.expr_code.specs.Emitting.{has_numbers, is_composite}
 use Rattle.expr_code.specs.Refusing.{HasUnfitObject, IsRefused, IsRefusedBeside, IsUnfit, RefusesAddress, RefusesFitting, checked_peak, is_fit, is_outside, peak}
 use Rattle.expr_code.specs.Seeing.{slot_of}
 use Rattle.expr_code.specs.declared.code.Code.{Code}
@@ -33,7 +33,7 @@ use Rattle.expr_code.specs.declared.visible.Slot.{Slot}
 use Rattle.expr_code.specs.declared.visible.Visible.{Visible}
 use Rattle.expr_code.proofs.Growing.{added_here}
 use Rattle.expr_code.proofs.Refusals.{or_left, or_right, refused_beside, selectors_some}
-use Rattle.part_code.specs.Passing.{AddsCheck, EmitsTarget, holds_variables}
+use Rattle.part_code.specs.Passing.{AddsCheck, AddsRange, EmitsTarget, holds_variables}
 use Rattle.part_code.specs.Needs.{IsNeeding, IsPartFit, Needs, actual_needs, address_needs, beyond, check_words, copied_needs, copy_needs, destination_at, destinations_for, destinations_if, destinations_named, has_unfit, in_needs, in_out_needs, is_taken, target_needs, words_at}
 use Rattle.part_code.specs.declared.call.Destination.{Destination}
 use Rattle.part_code.proofs.AssignmentsRefused.{address_refused}
@@ -51,16 +51,15 @@ over p k l h = omega (arith, h)
 
 -- ---- checks
 
-pub check_refused : (s : Scope) (t : Subtype) (m n depth : ℕ) (why : Refusal) → m ≤ n → form_at s t.type_number ≡ Some Integers
+pub check_refused : (s : Scope) (t : Subtype) (m n depth : ℕ) (why : Refusal) → m ≤ n → check_words (form_at s t.type_number) ≡ 2
     → IsRefused m (depth + 2) false why → IsRefused n (depth + check_words (form_at s t.type_number)) (not (is_taken s t)) why
-check_refused s t m n depth why up is r =
-    let two = ap check_words is in
+check_refused s t m n depth why up two r =
     refused_beside m n (depth + 2) (depth + check_words (form_at s t.type_number)) false (not (is_taken s t)) (λ x. x) up (omega (arith, two))
     (never (not (is_taken s t))) why r
 
-pub untaken : (s : Scope) (t : Subtype) (o : Option TypeForm) → form_at s t.type_number ≡ o → ((is_integers o || is_booleans o) || is_composite o) ≡ false
+pub untaken : (s : Scope) (t : Subtype) (o : Option TypeForm) → form_at s t.type_number ≡ o → ((has_numbers o || is_booleans o) || is_composite o) ≡ false
     → not (is_taken s t) ≡ true
-untaken s t o is h = ap (λ p. not ((is_integers p || is_booleans p) || is_composite p)) is ∙ ap not h
+untaken s t o is h = ap (λ p. not ((has_numbers p || is_booleans p) || is_composite p)) is ∙ ap not h
 
 -- ---- targets
 
@@ -273,15 +272,18 @@ pub copy_unstored : (v : Visible) (height : ℕ) (d : Destination) → holds_var
 copy_unstored v height d h = ap (λ b. not (b && is_taken v.scope d.subtype)) h
 
 -- a check has three instructions at most
-pub checked_few : (o : Option TypeForm) (old : Code) (depth : ℕ) (t : Subtype) (new : Code) → AddsCheck o old depth t new → here new ≤ here old + 3
-checked_few (Some Integers) old depth t new a =
+range_few : (old : Code) (depth : ℕ) (t : Subtype) (new : Code) → AddsRange old depth t new → here new ≤ here old + 3
+range_few old depth t new a =
     let one = added_here old a.one depth (op.Push t.first) a.first in
     let two = added_here a.one a.two (depth + 1) (op.Push t.last) a.last in
     let three = added_here a.two new (depth + 2) op.CheckRange a.check in
     omega (arith, one, two, three)
+
+pub checked_few : (o : Option TypeForm) (old : Code) (depth : ℕ) (t : Subtype) (new : Code) → AddsCheck o old depth t new → here new ≤ here old + 3
+checked_few (Some Integers) old depth t new a = range_few old depth t new a
+checked_few (Some Times) old depth t new a = range_few old depth t new a
+checked_few (Some Spans) old depth t new a = range_few old depth t new a
 checked_few (Some Booleans) old depth t new a = (let same = ap here a in omega (arith, same))
 checked_few (Some (Arrays index many element)) old depth t new a = (let same = ap here a in omega (arith, same))
 checked_few (Some (Records components)) old depth t new a = (let same = ap here a in omega (arith, same))
-checked_few (Some Times) old depth t new a = absurd a
-checked_few (Some Spans) old depth t new a = absurd a
 checked_few None old depth t new a = absurd a

@@ -8,7 +8,7 @@ use Rattle.image.specs.declared.instruction.Operation.TheVariants as op
 use Rattle.image.specs.declared.instruction.Region.{Region}
 use Rattle.image.specs.declared.instruction.Region.TheVariants as regions
 use Rattle.types.specs.declared.entity.Subtype.{Subtype}
-use Rattle.types.specs.Entities.{Booleans, Integers, TypeForm}
+use Rattle.types.specs.Entities.{Booleans, Integers, Spans, Times, TypeForm}
 use Rattle.types.specs.Layouts.{words_of}
 use Rattle.types.specs.Scopes.{Scope, form_at}
 use Rattle.types.specs.Shapes.{initial, value_words}
@@ -64,6 +64,8 @@ store_operation x = stored_in x.region x.offset
 abbrev pub first_word : Option TypeForm → Subtype → Option ℤ
 first_word (Some Integers) t = Some t.first
 first_word (Some Booleans) t = Some (pos 0)
+first_word (Some Times) t = Some (pos 0)
+first_word (Some Spans) t = Some (pos 0)
 first_word form t = None
 
 -- an instruction was added that puts it on the operand stack

@@ -15,7 +15,7 @@ use Rattle.types.specs.declared.entity.FormalParameter.{FormalParameter}
 use Rattle.types.specs.declared.entity.Subtype.{Subtype}
 use Rattle.types.specs.declared.standing.Standing.{Standing}
 use Rattle.types.specs.declared.standing.Standing.TheVariants as standing
-use Rattle.types.specs.Entities.{Booleans, Entity, Integers, Object, Profile, TypeForm}
+use Rattle.types.specs.Entities.{Booleans, Entity, Integers, Object, Profile, Spans, Times, TypeForm}
 use Rattle.types.specs.Layouts.{words_of}
 use Rattle.types.specs.Scopes.{Scope, form_at, number_of}
 use Rattle.types.specs.Scopes as scopes
@@ -120,12 +120,12 @@ locals_visible v taken (d ∷ ds) = locals_visible (local_visible v taken d) (ta
 
 -- ---- declarations
 
--- code has no word for the value of an object without initial value: one of times or spans, or what is no value
+-- code has no word for the value of an object without initial value: what is no value
 abbrev mutual
   pub lacks_word : Shape → Bool
   lacks_word (Ranged first) = false
   lacks_word Logical = false
-  lacks_word Timed = true
+  lacks_word Timed = false
   lacks_word (Repeated many x) = lacks_word x
   lacks_word (Grouped parts) = lack_word parts
   lacks_word Shapeless = true
@@ -138,6 +138,8 @@ abbrev mutual
 abbrev pub lacks_single : Option TypeForm → Bool
 lacks_single (Some Integers) = false
 lacks_single (Some Booleans) = false
+lacks_single (Some Times) = false
+lacks_single (Some Spans) = false
 lacks_single form = true
 
 abbrev pub single_needs : Visible → Subtype → Option ExprTree → Needs
@@ -265,6 +267,8 @@ target_needs depth v e = beyond
 -- a number is checked beside both bounds
 abbrev pub check_words : Option TypeForm → ℕ
 check_words (Some Integers) = 2
+check_words (Some Times) = 2
+check_words (Some Spans) = 2
 check_words form = 0
 
 -- of one of mode `in out` the value too, so many words above the address, which is checked against the subtype of the parameter

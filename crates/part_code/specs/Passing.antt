@@ -13,7 +13,7 @@ use Rattle.types.specs.declared.entity.FormalParameter.{FormalParameter}
 use Rattle.types.specs.declared.entity.Role.{Role}
 use Rattle.types.specs.declared.entity.Subtype.{Subtype}
 use Rattle.types.specs.declared.standing.Standing.TheVariants as standing
-use Rattle.types.specs.Entities.{Arrays, Booleans, Integers, Records, TypeForm}
+use Rattle.types.specs.Entities.{Arrays, Booleans, Integers, Records, Spans, Times, TypeForm}
 use Rattle.types.specs.Evaluating.{Calls}
 use Rattle.types.specs.Evaluations.{Gives}
 use Rattle.types.specs.Layouts.{words_of}
@@ -137,6 +137,8 @@ pub record AddsRange (old : Code) (depth : ℕ) (t : Subtype) (new : Code) : Typ
 -- ... of a value of such a type
 abbrev pub AddsCheck : Option TypeForm → (old : Code) → (depth : ℕ) → Subtype → (new : Code) → Type 0
 AddsCheck (Some Integers) old depth t new = AddsRange old depth t new
+AddsCheck (Some Times) old depth t new = AddsRange old depth t new
+AddsCheck (Some Spans) old depth t new = AddsRange old depth t new
 AddsCheck (Some Booleans) old depth t new = new ≡ old
 AddsCheck (Some (Arrays index many element)) old depth t new = new ≡ old
 AddsCheck (Some (Records components)) old depth t new = new ≡ old

@@ -95,7 +95,7 @@ fn add_range(code: &mut Code, depth: u16, subtype: Subtype) -> Result<(), Refusa
     code.emit(raised(depth, 2)?, Operation::CheckRange)
 }
 
-// Adds the check of a value on top of it, where that is one of integers.
+// Adds the check of a value on top of it, where that is a number.
 fn add_check(
     code: &mut Code,
     visible: &Visible,
@@ -110,8 +110,8 @@ fn add_check(
         Some(TypeForm::Boolean) => Ok(()),
         Some(TypeForm::Array(..)) => Ok(()),
         Some(TypeForm::Record(_)) => Ok(()),
-        Some(TypeForm::Time) => Err(Refusal::Outside),
-        Some(TypeForm::TimeSpan) => Err(Refusal::Outside),
+        Some(TypeForm::Time) => add_range(code, depth, subtype),
+        Some(TypeForm::TimeSpan) => add_range(code, depth, subtype),
         None => Err(Refusal::Outside),
     }
 }

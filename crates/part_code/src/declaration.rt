@@ -39,6 +39,8 @@ fn add_initial(
         None => match visible.scope.form(subtype.type_number) {
             Some(TypeForm::Integer) => code.emit(0, Operation::Push(subtype.first)),
             Some(TypeForm::Boolean) => code.emit(0, Operation::Push(0)),
+            Some(TypeForm::Time) => code.emit(0, Operation::Push(0)),
+            Some(TypeForm::TimeSpan) => code.emit(0, Operation::Push(0)),
             _ => Err(Refusal::Outside),
         },
     }
@@ -71,6 +73,8 @@ fn push_initial(
     match visible.scope.form(subtype.type_number) {
         Some(TypeForm::Integer) => push_word(code, height, subtype.first),
         Some(TypeForm::Boolean) => push_word(code, height, 0),
+        Some(TypeForm::Time) => push_word(code, height, 0),
+        Some(TypeForm::TimeSpan) => push_word(code, height, 0),
         Some(TypeForm::Array(_, many, element)) => {
             for _ in 0..*many {
                 top = push_initial(code, visible, top, *element)?;
@@ -83,8 +87,6 @@ fn push_initial(
             }
             Ok(top)
         }
-        Some(TypeForm::Time) => Err(Refusal::Outside),
-        Some(TypeForm::TimeSpan) => Err(Refusal::Outside),
         None => Err(Refusal::Outside),
     }
 }

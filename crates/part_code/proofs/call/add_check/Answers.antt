@@ -1,7 +1,8 @@
 use Rattle.std.proofs.Common.{◌∙◌, ap, arith, refl, sym}
 use Rattle.std.specs.Prelude.{None, option_map, Some}
 use Rattle.std.proofs.lemmas.Result.{IfErr-weaker}
-use Rattle.types.specs.Entities.{form_value, Spans, Times}
+use Rattle.types.specs.Entities.{form_value}
+use Rattle.part_code.specs.Needs.{check_words}
 use Rattle.part_code.proofs.TargetsRefused.{check_refused, untaken}
 use Rattle.part_code.proofs.call.add_check.Goals as goal
 
@@ -10,17 +11,22 @@ returns-in-Some-Integer-clause-refused c =
     IfErr-weaker _ _ _
     (λ why r.
     check_refused c.args.visible.now.scope c.args.subtype _ _ c.args.depth why (omega arith)
-    (sym c.in-Some-Integer.ensures ∙ ap (λ f. Some (form_value f)) c.in-Some-Integer.field-0-is) r) c.add_range.ensures.refused
+    (ap check_words (sym c.in-Some-Integer.ensures ∙ ap (λ f. Some (form_value f)) c.in-Some-Integer.field-0-is)) r) c.add_range.ensures.refused
 
 pub returns-in-Some-Time-clause-refused : goal.returns-in-Some-Time-clause-refused
 returns-in-Some-Time-clause-refused c =
-    untaken c.args.visible.now.scope c.args.subtype (Some Times)
-    (sym c.in-Some-Time.ensures ∙ ap (λ f. Some (form_value f)) c.in-Some-Time.field-0-is) refl
+    IfErr-weaker _ _ _
+    (λ why r.
+    check_refused c.args.visible.now.scope c.args.subtype _ _ c.args.depth why (omega arith)
+    (ap check_words (sym c.in-Some-Time.ensures ∙ ap (λ f. Some (form_value f)) c.in-Some-Time.field-0-is)) r) c.add_range-in-Some-Time.ensures.refused
 
 pub returns-in-Some-TimeSpan-clause-refused : goal.returns-in-Some-TimeSpan-clause-refused
 returns-in-Some-TimeSpan-clause-refused c =
-    untaken c.args.visible.now.scope c.args.subtype (Some Spans)
-    (sym c.in-Some-TimeSpan.ensures ∙ ap (λ f. Some (form_value f)) c.in-Some-TimeSpan.field-0-is) refl
+    IfErr-weaker _ _ _
+    (λ why r.
+    check_refused c.args.visible.now.scope c.args.subtype _ _ c.args.depth why (omega arith)
+    (ap check_words (sym c.in-Some-TimeSpan.ensures ∙ ap (λ f. Some (form_value f)) c.in-Some-TimeSpan.field-0-is)) r)
+    c.add_range-in-Some-TimeSpan.ensures.refused
 
 pub returns-in-None-clause-refused : goal.returns-in-None-clause-refused
 returns-in-None-clause-refused c =

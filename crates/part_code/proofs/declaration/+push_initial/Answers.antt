@@ -102,12 +102,31 @@ returns-in-Some-Boolean-clause-refused t c =
 
 pub returns-in-Some-Time-clause-refused : goal.returns-in-Some-Time-clause-refused
 returns-in-Some-Time-clause-refused t c =
-    lacking c.args.visible.now.scope c.args.subtype (Some Times) (sym c.in-Some-Time.ensures ∙ ap (λ f. Some (form_value f)) c.in-Some-Time.field-0-is) refl refl
+    IfErr-weaker _ _ _
+    (λ why r.
+    word_refused c.args.visible.now.scope c.args.subtype c.args.code.now c.args.height why (pos 0) (Some Times)
+    (sym c.in-Some-Time.ensures ∙ ap (λ f. Some (form_value f)) c.in-Some-Time.field-0-is) refl r) c.push_word-in-Some-Time.ensures.refused
+
+pub returns-in-Some-Time-clause-pushes : goal.returns-in-Some-Time-clause-pushes
+returns-in-Some-Time-clause-pushes t c = IfOk-weaker _ _ _
+    (λ top p.
+    word_pushed c.args.visible.now.scope c.args.subtype c.args.code.now c.push_word-in-Some-Time.new.code c.args.height top _ (pos 0) (search rules)
+    (Some Times) (sym c.in-Some-Time.ensures ∙ ap (λ f. Some (form_value f)) c.in-Some-Time.field-0-is) refl p)
+    c.push_word-in-Some-Time.ensures.pushes
 
 pub returns-in-Some-TimeSpan-clause-refused : goal.returns-in-Some-TimeSpan-clause-refused
 returns-in-Some-TimeSpan-clause-refused t c =
-    lacking c.args.visible.now.scope c.args.subtype (Some Spans) (sym c.in-Some-TimeSpan.ensures ∙ ap (λ f. Some (form_value f)) c.in-Some-TimeSpan.field-0-is)
-    refl refl
+    IfErr-weaker _ _ _
+    (λ why r.
+    word_refused c.args.visible.now.scope c.args.subtype c.args.code.now c.args.height why (pos 0) (Some Spans)
+    (sym c.in-Some-TimeSpan.ensures ∙ ap (λ f. Some (form_value f)) c.in-Some-TimeSpan.field-0-is) refl r) c.push_word-in-Some-TimeSpan.ensures.refused
+
+pub returns-in-Some-TimeSpan-clause-pushes : goal.returns-in-Some-TimeSpan-clause-pushes
+returns-in-Some-TimeSpan-clause-pushes t c = IfOk-weaker _ _ _
+    (λ top p.
+    word_pushed c.args.visible.now.scope c.args.subtype c.args.code.now c.push_word-in-Some-TimeSpan.new.code c.args.height top _ (pos 0) (search rules)
+    (Some Spans) (sym c.in-Some-TimeSpan.ensures ∙ ap (λ f. Some (form_value f)) c.in-Some-TimeSpan.field-0-is) refl p)
+    c.push_word-in-Some-TimeSpan.ensures.pushes
 
 pub returns-in-None-clause-refused : goal.returns-in-None-clause-refused
 returns-in-None-clause-refused t c =

@@ -44,3 +44,17 @@ returns-in-Some-Boolean-clause-shallow c =
     (λ (p : Adds c.args.code.now 0 (op.Push (pos 0)) c.emit-in-Some-Boolean.new.self).
     single_none c.args.visible.now c.args.subtype (optional_tree expr_tree c.args.value.now) _ _ (ap (optional_tree expr_tree) c.in-None.is) p.shallow)
     c.emit-in-Some-Boolean.ensures.adds
+
+pub returns-in-Some-Time-clause-shallow : goal.returns-in-Some-Time-clause-shallow
+returns-in-Some-Time-clause-shallow c =
+    on_ok_weaker c.emit-in-Some-Time.result
+    (λ (p : Adds c.args.code.now 0 (op.Push (pos 0)) c.emit-in-Some-Time.new.self).
+    single_none c.args.visible.now c.args.subtype (optional_tree expr_tree c.args.value.now) _ _ (ap (optional_tree expr_tree) c.in-None.is) p.shallow)
+    c.emit-in-Some-Time.ensures.adds
+
+pub returns-in-Some-TimeSpan-clause-shallow : goal.returns-in-Some-TimeSpan-clause-shallow
+returns-in-Some-TimeSpan-clause-shallow c =
+    on_ok_weaker c.emit-in-Some-TimeSpan.result
+    (λ (p : Adds c.args.code.now 0 (op.Push (pos 0)) c.emit-in-Some-TimeSpan.new.self).
+    single_none c.args.visible.now c.args.subtype (optional_tree expr_tree c.args.value.now) _ _ (ap (optional_tree expr_tree) c.in-None.is) p.shallow)
+    c.emit-in-Some-TimeSpan.ensures.adds
