@@ -18,7 +18,7 @@ use Rattle.types.specs.declared.entity.Subtype.{Subtype}
 use Rattle.types.specs.declared.standing.Callee.TheVariants as callee
 use Rattle.types.specs.declared.standing.Standing.{Standing}
 use Rattle.types.specs.declared.standing.Standing.TheVariants as standing
-use Rattle.types.specs.Entities.{Entity, Integers, Profile, Put, TypeForm}
+use Rattle.types.specs.Entities.{Entity, Integers, Profile, Put, Spans, Times, TypeForm}
 use Rattle.types.specs.Layouts.{words_of}
 use Rattle.types.specs.Scopes.{Scope, base_range_of, form_at, integer_type, number_of, profile_of}
 use Rattle.types.specs.Shapes.{shape_of}
@@ -89,6 +89,8 @@ total_append size (x ∷ xs) ys = let more = total_append size xs ys in omega (a
 
 check_few : (o : Option TypeForm) → check_words o ≤ 2
 check_few (Some Integers) = omega arith
+check_few (Some Times) = omega arith
+check_few (Some Spans) = omega arith
 check_few o = omega arith
 
 -- ---- actual parameters that are spelled

@@ -18,20 +18,20 @@ use Rattle.expr_soundness.specs.expr_rules.specs.declared.own.Wanted.{Wanted}
 use Rattle.expr_soundness.specs.expr_rules.specs.declared.own.Wanted.TheVariants.{Anything, OfType}
 use Rattle.expr_soundness.specs.expr_rules.specs.ExpressionRules.{elsif_faults, faults_of, name_faults, selector_faults, selectors_faults, target_faults}
 use Rattle.expr_soundness.specs.expr_rules.specs.NameRules.{component_rule, is_doubtful, part_rule, variable_rule}
-use Rattle.expr_soundness.specs.expr_rules.specs.Typing.{boolean_wanted, is_booleans, is_integers, own_of_standing, typed_wanted}
+use Rattle.expr_soundness.specs.expr_rules.specs.Typing.{boolean_wanted, is_booleans, own_of_standing, typed_wanted}
 use Rattle.expr_soundness.specs.expr_rules.proofs.TypedLaw.{back_empty, front_empty, unbroken}
 use Rattle.program_soundness.specs.stmt_rules.specs.SimpleRules.{assigned_wanted, assignment_faults}
 use Rattle.expr_soundness.specs.SoundScopes.{SoundScope}
 use Rattle.expr_soundness.proofs.Expressions.{not_false}
 use Rattle.expr_soundness.proofs.Goods.{part_unbroken}
-use Rattle.ada_link.specs.expr_code.specs.Emitting.{IsLegalExpression, is_composite}
+use Rattle.ada_link.specs.expr_code.specs.Emitting.{IsLegalExpression, has_numbers, is_composite}
 use Rattle.ada_link.specs.expr_code.specs.Refusing.{elsifs_outside, is_outside, selectors_outside}
 use Rattle.ada_link.specs.expr_code.specs.Seeing.{slot_of}
 use Rattle.ada_link.specs.expr_code.specs.Widths.{AreWide, width_of}
 use Rattle.ada_link.specs.expr_code.specs.declared.visible.Slot.{Slot}
 use Rattle.ada_link.specs.expr_code.specs.declared.visible.Visible.{Visible}
 use Rattle.ada_link.specs.expr_code.proofs.Fitting.{composite_width}
-use Rattle.ada_link.specs.expr_code.proofs.Widths.{binary_width, boolean_one, integral_one, unary_width, words_by_type}
+use Rattle.ada_link.specs.expr_code.proofs.Widths.{binary_width, boolean_one, numeric_one, unary_width, words_by_type}
 use Rattle.ada_link.specs.part_code.specs.Moving.{are_moved, is_held, is_moved, moves, names_composite}
 use Rattle.ada_link.specs.part_code.specs.Needs.{address_needs, assigned_needs, is_object, is_stored, is_taken, stored_needs, takes_value, words_at}
 use Rattle.source_laws.specs.Depths.{IsSmallVisible}
@@ -93,16 +93,21 @@ module _ (v : Visible) (small : IsSmallVisible v) where
 
   -- ---- targets
 
+  no_number : (t : Subtype) → has_numbers (form_at s t.type_number) ≡ true → 2 ≤ words_of s t → ⊥
+  no_number t numbers wide =
+      let one = numeric_one s (Typed t.type_number) numbers in
+      let same = words_by_type s t in
+      omega (arith, wide, one, same)
+
   by_form : (t : Subtype) (o : Option TypeForm) → form_at s t.type_number ≡ o → is_taken s t ≡ true → 2 ≤ words_of s t → is_composite o ≡ true
   by_form t (Some (Arrays index many element)) is taken wide = refl
   by_form t (Some (Records components)) is taken wide = refl
-  by_form t (Some Integers) is taken wide =
-      absurd (let one = integral_one s (Typed t.type_number) (ap is_integers is) in let same = words_by_type s t in omega (arith, wide, one, same))
+  by_form t (Some Integers) is taken wide = absurd (no_number t (ap has_numbers is) wide)
+  by_form t (Some Times) is taken wide = absurd (no_number t (ap has_numbers is) wide)
+  by_form t (Some Spans) is taken wide = absurd (no_number t (ap has_numbers is) wide)
   by_form t (Some Booleans) is taken wide =
       absurd (let one = boolean_one s (Typed t.type_number) (ap is_booleans is) in let same = words_by_type s t in omega (arith, wide, one, same))
-  by_form t (Some Times) is taken wide = absurd (let never = sym taken ∙ ap (λ x. (is_integers x || is_booleans x) || is_composite x) is in cc)
-  by_form t (Some Spans) is taken wide = absurd (let never = sym taken ∙ ap (λ x. (is_integers x || is_booleans x) || is_composite x) is in cc)
-  by_form t None is taken wide = absurd (let never = sym taken ∙ ap (λ x. (is_integers x || is_booleans x) || is_composite x) is in cc)
+  by_form t None is taken wide = absurd (let never = sym taken ∙ ap (λ x. (has_numbers x || is_booleans x) || is_composite x) is in cc)
 
   composite_component : (place : ℕ) (name : _) (o : Option TypeForm) → component_rule place name o ≡ [] → is_composite o ≡ true
   composite_component place name (Some (Records components)) h = refl

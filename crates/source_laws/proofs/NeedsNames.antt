@@ -1,11 +1,12 @@
 -- A legal name whose value has more than one word is that of a variable, or of a part of one, whose words have a place.
 use Rattle.std.proofs.Common.{◌≡◌, ◌≤◌, ◌⊎◌, inl, inr, ◌++◌, ℕ, zero, suc, [], ◌∷◌, List, Bool, true, false, ◌&&◌, ◌||◌, not, Option, Some, None, refl, sym, ap, ◌∙◌, subst, arith}
-use Rattle.std.specs.Prelude.{bytes_eq, codes, cond, is_none, is_some}
+use Rattle.std.specs.Prelude.{bytes_eq, codes, cond, is_none, is_some, nat_eq}
 use Rattle.std.proofs.lemmas.Bool.{and_parts, or_parts}
 use Rattle.ada_tree.specs.declared.expression.Identifier.{Identifier}
 use Rattle.ada_tree.specs.ExpressionTree.{Arguments, Attribute, Component, MoreSelectors, NoSelectors, SelectorTree, SelectorTrees}
 use Rattle.ada_tree.specs.ExpressionTree as tree
 use Rattle.ada_link.specs.base.specs.declared.faults.TheConstants.{NAME_NOT_VISIBLE}
+use Rattle.types.specs.declared.entity.PredefinedOperation.{PredefinedOperation}
 use Rattle.types.specs.declared.entity.Role.{Role}
 use Rattle.types.specs.declared.entity.Role.TheVariants as role
 use Rattle.types.specs.declared.entity.Subtype.{Subtype}
@@ -16,7 +17,7 @@ use Rattle.types.specs.declared.standing.Standing.TheVariants as standing
 use Rattle.types.specs.Entities.{Arrays, Constant, Doubtful, Entity, Entry, Exception, Integers, LibraryUnit, Literal, Object, OfSubtype, OfType, Predefined, Profile, Protected, Put, Records, Subprogram, Task, TypeForm}
 use Rattle.types.specs.Evaluating.{fixed_value}
 use Rattle.types.specs.Layouts.{words_of}
-use Rattle.types.specs.Scopes.{Scope, form_at, is_visible, number_of, profile_of}
+use Rattle.types.specs.Scopes.{Scope, entity_at, form_at, is_visible, number_of, profile_of}
 use Rattle.types.specs.Standings.{array_attribute, bounds_stand, call_stands, callee_profile, component_of, component_stands, conversion_stands, element_stands, is_single, object_attribute, part_of, result_stands, select, select_all, standing_of, stands_first, stands_for, subtype_attribute}
 use Rattle.expr_soundness.specs.expr_rules.specs.ExpressionRules.{selector_faults, selectors_faults}
 use Rattle.expr_soundness.specs.expr_rules.specs.Faults.{rule}
@@ -24,7 +25,7 @@ use Rattle.expr_soundness.specs.expr_rules.specs.NameRules.{value_rule}
 use Rattle.expr_soundness.specs.expr_rules.specs.Typing.{is_integers, own_of_standing}
 use Rattle.expr_soundness.specs.expr_rules.specs.declared.own.Own.TheVariants.{Typed}
 use Rattle.expr_soundness.specs.expr_rules.proofs.TypedLaw.{front_empty, same_number, unbroken}
-use Rattle.expr_soundness.specs.SoundScopes.{IsSoundConstant, SoundScope}
+use Rattle.expr_soundness.specs.SoundScopes.{IsSoundConstant, IsSoundPredefined, SoundScope}
 use Rattle.expr_soundness.proofs.Expressions.{not_false}
 use Rattle.expr_soundness.proofs.Goods.{no_constant_parts, no_integer_parts, part_unbroken}
 use Rattle.expr_soundness.proofs.Positions.{IsNamed, named}
@@ -32,11 +33,12 @@ use Rattle.ada_link.specs.expr_code.specs.Emitting.{IsLegalExpression}
 use Rattle.ada_link.specs.expr_code.specs.Entries.{entry_at}
 use Rattle.ada_link.specs.expr_code.specs.Refusing.{are_passable, is_callable, is_called, is_made, is_outside, selectors_outside}
 use Rattle.ada_link.specs.expr_code.specs.Refusing as refusing
-use Rattle.ada_link.specs.expr_code.specs.Seeing.{profile_named, slot_of, subprogram_of, subprogram_profile}
+use Rattle.ada_link.specs.expr_code.specs.Seeing.{operation_named, operation_of, profile_named, slot_of, subprogram_of, subprogram_profile}
 use Rattle.ada_link.specs.expr_code.specs.Widths.{own_words, width_of}
 use Rattle.ada_link.specs.expr_code.specs.declared.visible.Slot.{Slot}
 use Rattle.ada_link.specs.expr_code.specs.declared.visible.Visible.{Visible}
-use Rattle.ada_link.specs.expr_code.proofs.Widths.{fixed_width, integral_one, words_by_type}
+use Rattle.ada_link.specs.expr_code.proofs.Language.{gives_number}
+use Rattle.ada_link.specs.expr_code.proofs.Widths.{fixed_width, integral_one, numeric_one, words_by_type}
 use Rattle.ada_link.specs.part_code.specs.Moving.{source_at, source_by, variable_at}
 use Rattle.ada_link.specs.part_code.specs.Passing.{holds_variables}
 use Rattle.ada_link.specs.part_code.specs.declared.moving.Source.{Source}
@@ -267,6 +269,13 @@ module _ (v : Visible) (small : IsSmallVisible v) (first : Identifier) (selector
         (and_parts (is_some (subprogram_of v first.name)) (refusing.is_single s p.result)
         (and_parts (is_called s (subprogram_of v first.name) p) (are_passable s p.formals) k).0).1
 
+    -- a function of the language gives a number
+    language_single : (o : PredefinedOperation) (p : Profile) → IsSoundPredefined s o p → refusing.is_single s p.result ≡ true
+    language_single o p h =
+        let gives = gives_number s o p h in
+        ap (refusing.is_single s) gives.result
+        ∙ ap (λ n. nat_eq n 1) (sym (words_by_type s gives.subtype) ∙ numeric_one s (Typed gives.subtype.type_number) gives.numbers)
+
     no_callable : (o : Option Profile) → o ≡ None → is_callable s (subprogram_of v first.name) o ≡ true → ⊥
     no_callable None is h = cc
     no_callable (Some p) is h = cc
@@ -278,8 +287,19 @@ module _ (v : Visible) (small : IsSmallVisible v) (first : Identifier) (selector
       profile_is : (e : Entity) → x.entity ≡ e → profile_named s first.name ≡ subprogram_profile (Some e)
       profile_is e is = ap (profile_by s) x.numbered ∙ ap subprogram_profile (x.stands ∙ ap Some is)
 
+      operation_is : (e : Entity) → x.entity ≡ e → operation_named s first.name ≡ operation_of (Some e)
+      operation_is e is =
+          ap (λ o. elim o [ None ↦ None | Some n ↦ operation_of (entity_at s n) ]) x.numbered ∙ ap operation_of (x.stands ∙ ap Some is)
+
       made_as : (w : Standing) → stands_first s (number_of s first.name) ≡ w → is_made v first w ≡ true
       made_as w is = subst (λ u. is_made v first u ≡ true) is made_if
+
+      -- what is no function of the language is one that code may call
+      callable_as : (e : Entity) → x.entity ≡ e → operation_of (Some e) ≡ None → stands_for x.number (Some e) ≡ standing.Callee (callee.Direct x.number)
+          → is_callable s (subprogram_of v first.name) (profile_named s first.name) ≡ true
+      callable_as e is none stands =
+          subst (λ o. (is_some o || is_callable s (subprogram_of v first.name) (profile_named s first.name)) ≡ true) (operation_is e is ∙ none)
+          (made_as (standing.Callee (callee.Direct x.number)) (begins_is e is ∙ stands))
 
       -- ... a variable whose words have a place
       object_there : (r : Role) (t : Subtype) → x.entity ≡ Object r t → (r ≡ role.LoopParameter → ⊥)
@@ -310,14 +330,13 @@ module _ (v : Visible) (small : IsSmallVisible v) (first : Identifier) (selector
       by_entity (Subprogram p) is =
           absurd (closed_not (standing.Callee (callee.Direct x.number)) (begins_is (Subprogram p) is)
           (callee_closed s x.number p (ap profile_of (x.stands ∙ ap Some is))
-          (callable_result (profile_named s first.name) p (profile_is (Subprogram p) is)
-          (made_as (standing.Callee (callee.Direct x.number)) (begins_is (Subprogram p) is)))))
+          (callable_result (profile_named s first.name) p (profile_is (Subprogram p) is) (callable_as (Subprogram p) is refl refl))))
       by_entity (Entry p) is =
-          absurd (no_callable (profile_named s first.name) (profile_is (Entry p) is)
-          (made_as (standing.Callee (callee.Direct x.number)) (begins_is (Entry p) is)))
+          absurd (no_callable (profile_named s first.name) (profile_is (Entry p) is) (callable_as (Entry p) is refl refl))
       by_entity (Predefined o p) is =
-          absurd (no_callable (profile_named s first.name) (profile_is (Predefined o p) is)
-          (made_as (standing.Callee (callee.Direct x.number)) (begins_is (Predefined o p) is)))
+          absurd (closed_not (standing.Callee (callee.Direct x.number)) (begins_is (Predefined o p) is)
+          (callee_closed s x.number p (ap profile_of (x.stands ∙ ap Some is))
+          (language_single o p (sound.each x.number (Predefined o p) (x.stands ∙ ap Some is)))))
       by_entity Put is = absurd (closed_not standing.Put (begins_is Put is) (put_closed s))
       by_entity (Task priority) is = absurd (closed_not standing.Task (begins_is (Task priority) is) (task_closed s))
       by_entity (Protected o) is = absurd (let never = made_as (standing.Protected x.number) (begins_is (Protected o) is) in cc)

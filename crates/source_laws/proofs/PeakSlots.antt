@@ -8,13 +8,15 @@ use Rattle.ada_tree.specs.declared.expression.Identifier.{Identifier}
 use Rattle.ada_tree.specs.ExpressionTree.{Arguments, ArgumentTrees, ExprTree, MoreSelectors, NoSelectors, SelectorTree, SelectorTrees, Value}
 use Rattle.ada_tree.specs.ExpressionTree as tree
 use Rattle.types.specs.declared.entity.FormalParameter.{FormalParameter}
+use Rattle.types.specs.declared.entity.PredefinedOperation.TheVariants as predefined
 use Rattle.types.specs.declared.entity.Role.{Role}
 use Rattle.types.specs.declared.entity.Subtype.{Subtype}
 use Rattle.types.specs.declared.standing.Callee.{Callee}
+use Rattle.types.specs.declared.standing.Callee.TheVariants as callee
 use Rattle.types.specs.declared.standing.Standing.{Standing}
 use Rattle.types.specs.declared.standing.Standing.TheVariants as standing
-use Rattle.types.specs.Entities.{Arrays, Booleans, Integers, Profile, Records, Spans, Times, TypeForm}
-use Rattle.types.specs.Scopes.{Scope, form_at, is_visible, number_of}
+use Rattle.types.specs.Entities.{Arrays, Booleans, Entity, Integers, Predefined, Profile, Records, Spans, Times, TypeForm}
+use Rattle.types.specs.Scopes.{Scope, entity_at, form_at, is_visible, number_of}
 use Rattle.types.specs.Standings.{call_stands, callee_profile, conversion_stands, count, element_stands, is_single, result_stands, select, select_all, standing_of, stands_first, stands_for}
 use Rattle.types.specs.Statics.{start_of}
 use Rattle.expr_soundness.specs.expr_rules.specs.declared.names.Slot.{Slot}
@@ -33,7 +35,7 @@ use Rattle.expr_soundness.proofs.Expressions.{not_false}
 use Rattle.expr_soundness.proofs.Goods.{Good, GoodCallee, good_first, good_select, no_constant_parts, part_unbroken, sound_form}
 use Rattle.expr_soundness.proofs.Positions.{named}
 use Rattle.ada_link.specs.expr_code.specs.Emitting.{IsLegalExpression}
-use Rattle.ada_link.specs.expr_code.specs.Refusing.{words_below}
+use Rattle.ada_link.specs.expr_code.specs.Refusing.{factors_below, words_below}
 use Rattle.ada_link.specs.expr_code.specs.Widths.{own_words, width_of}
 use Rattle.ada_link.specs.expr_code.proofs.Widths.{Fits, boolean_one, fits, integral_one, known, numeric_one}
 use Rattle.source_laws.specs.Depths.{AreScalar, FewFormals, is_scalar_form}
@@ -75,8 +77,13 @@ module _ (s : Scope) where
       (scalar_words f.subtype.type_number (form_at s f.subtype.type_number) refl scalar.0)
   narrow_formals (f ∷ fs) ins scalar (suc k) less = narrow_formals fs ins.1 scalar.1 k (omega (arith, less))
 
-  pub below_low : (w : Standing) → words_below w ≤ 1
+  factors_low : (o : Option Entity) → factors_below o ≤ 1
+  factors_low (Some (Predefined predefined.Milliseconds p)) = omega arith
+  factors_low o = omega arith
+
+  pub below_low : (w : Standing) → words_below s w ≤ 1
   below_low (standing.Part r t) = omega arith
+  below_low (standing.Callee (callee.Direct n)) = factors_low (entity_at s n)
   below_low w = omega arith
 
   single_index : (r : Role) (index : Subtype) (many : ℕ) (element : Subtype) (b : Bool)

@@ -207,9 +207,9 @@ module _ (s : Scope) (sound : SoundScope s) where
           → peak s e ≤ max (width_of s e) (2 + waiting (made_by e) + 12 * expr_depth e)
       peak_low (tree.Number z place) l ts d h = number_bound 1
       peak_low (tree.Named first selectors) l ts d h =
-          name_bound (width_of s (tree.Named first selectors)) (selectors_peak s (words_below (begins s sound few first selectors)) selectors)
+          name_bound (width_of s (tree.Named first selectors)) (selectors_peak s (words_below s (begins s sound few first selectors)) selectors)
           (selectors_depth selectors)
-          (selectors_low first.place (begins s sound few first selectors) selectors l d.1 (words_below (begins s sound few first selectors))
+          (selectors_low first.place (begins s sound few first selectors) selectors l d.1 (words_below s (begins s sound few first selectors))
           (below_low s (begins s sound few first selectors)) d.4 (value_path s sound few first selectors h))
       peak_low (tree.Parenthesized place e) None ts d h =
           parenthesized_bound (peak s e) (width_of s e) (waiting (made_by e)) (expr_depth e) (peak_low e None d.4.0 d.4.3.1 (inside_legal place e h))
