@@ -32,6 +32,8 @@ fn push_default(words: &mut Vec<i64>, scope: &Scope, subtype: Subtype) -> Result
     match scope.form(subtype.type_number) {
         Some(TypeForm::Integer) => push_word(words, subtype.first),
         Some(TypeForm::Boolean) => push_word(words, 0),
+        Some(TypeForm::Time) => push_word(words, 0),
+        Some(TypeForm::TimeSpan) => push_word(words, 0),
         Some(TypeForm::Array(_, many, element)) => {
             for _ in 0..*many {
                 push_default(words, scope, *element)?;
@@ -44,8 +46,6 @@ fn push_default(words: &mut Vec<i64>, scope: &Scope, subtype: Subtype) -> Result
             }
             Ok(())
         }
-        Some(TypeForm::Time) => Err(Refusal::Outside),
-        Some(TypeForm::TimeSpan) => Err(Refusal::Outside),
         None => Err(Refusal::Outside),
     }
 }

@@ -50,6 +50,20 @@ returns-in-Some-Boolean-clause-words t c = on_ok_weaker c.push_word-in-Some-Bool
     (Some Booleans) (sym c.in-Some-Boolean.ensures ∙ ap (λ f. Some (form_value f)) c.in-Some-Boolean.field-0-is) refl p)
     c.push_word-in-Some-Boolean.ensures.words
 
+pub returns-in-Some-Time-clause-words : goal.returns-in-Some-Time-clause-words
+returns-in-Some-Time-clause-words t c = on_ok_weaker c.push_word-in-Some-Time.result
+    (λ p.
+    scalar_words c.args.scope.now c.args.subtype c.args.words.now.items c.push_word-in-Some-Time.new.words.items _ (pos 0) (search rules)
+    (Some Times) (sym c.in-Some-Time.ensures ∙ ap (λ f. Some (form_value f)) c.in-Some-Time.field-0-is) refl p)
+    c.push_word-in-Some-Time.ensures.words
+
+pub returns-in-Some-TimeSpan-clause-words : goal.returns-in-Some-TimeSpan-clause-words
+returns-in-Some-TimeSpan-clause-words t c = on_ok_weaker c.push_word-in-Some-TimeSpan.result
+    (λ p.
+    scalar_words c.args.scope.now c.args.subtype c.args.words.now.items c.push_word-in-Some-TimeSpan.new.words.items _ (pos 0) (search rules)
+    (Some Spans) (sym c.in-Some-TimeSpan.ensures ∙ ap (λ f. Some (form_value f)) c.in-Some-TimeSpan.field-0-is) refl p)
+    c.push_word-in-Some-TimeSpan.ensures.words
+
 pub returns-after-loop-clause-words : goal.returns-after-loop-clause-words
 returns-after-loop-clause-words t c =
     let form = sym c.in-Some-Array.ensures ∙ ap (λ f. Some (form_value f)) c.in-Some-Array.field-0-is in
@@ -96,12 +110,11 @@ returns-in-Some-Boolean-clause-refused t c =
 
 pub returns-in-Some-Time-clause-refused : goal.returns-in-Some-Time-clause-refused
 returns-in-Some-Time-clause-refused t c =
-    lacking c.args.scope.now c.args.subtype (Some Times) (sym c.in-Some-Time.ensures ∙ ap (λ f. Some (form_value f)) c.in-Some-Time.field-0-is) refl refl
+    IfErr-weaker _ _ _ (λ why r. plain_lacks (lacks_word (shape_of c.args.scope.now c.args.subtype)) why r) c.push_word-in-Some-Time.ensures.refused
 
 pub returns-in-Some-TimeSpan-clause-refused : goal.returns-in-Some-TimeSpan-clause-refused
 returns-in-Some-TimeSpan-clause-refused t c =
-    lacking c.args.scope.now c.args.subtype (Some Spans) (sym c.in-Some-TimeSpan.ensures ∙ ap (λ f. Some (form_value f)) c.in-Some-TimeSpan.field-0-is)
-    refl refl
+    IfErr-weaker _ _ _ (λ why r. plain_lacks (lacks_word (shape_of c.args.scope.now c.args.subtype)) why r) c.push_word-in-Some-TimeSpan.ensures.refused
 
 pub returns-in-None-clause-refused : goal.returns-in-None-clause-refused
 returns-in-None-clause-refused t c =
