@@ -9,8 +9,6 @@ use Rattle.ada_tree.specs.Size.{argument_size, arguments_size, total}
 use Rattle.types.specs.declared.entity.FormalParameter.{FormalParameter}
 use Rattle.types.specs.declared.entity.PredefinedOperation.{PredefinedOperation}
 use Rattle.types.specs.declared.entity.Subtype.{Subtype}
-use Rattle.types.specs.declared.standing.Callee.{Callee}
-use Rattle.types.specs.declared.standing.Standing.TheVariants as standing
 use Rattle.types.specs.Entities.{Profile}
 use Rattle.types.specs.Evaluating.{fixed_value}
 use Rattle.types.specs.Scopes.{entity_at, number_of, Scope}
@@ -20,7 +18,7 @@ use Rattle.expr_soundness.specs.SoundScopes.{AreIn, SoundScope}
 use Rattle.expr_soundness.proofs.Positions.{same_some}
 use Rattle.expr_code.specs.Code.{here}
 use Rattle.expr_code.specs.Emitting.{IsLegalExpression}
-use Rattle.expr_code.specs.Refusing.{are_passable, argument_outside, argument_peak, arguments_outside, arguments_peak, is_callable, is_called, is_made, is_outside, is_passable, IsRefused, RefusesActual, RefusesActuals, RefusesAddress, RefusesExpression, RefusesPath, words_below}
+use Rattle.expr_code.specs.Refusing.{are_passable, argument_outside, argument_peak, arguments_outside, arguments_peak, is_callable, is_called, is_made, is_passable, IsRefused, RefusesActual, RefusesActuals, RefusesAddress, RefusesExpression, RefusesPath, words_below}
 use Rattle.expr_code.specs.Seeing.{NamesProfile, operation_named, operation_of, profile_named, subprogram_of, subprogram_profile}
 use Rattle.expr_code.specs.declared.code.Code.{Code}
 use Rattle.expr_code.specs.declared.refusal.Refusal.{Refusal}
@@ -141,13 +139,6 @@ callee_made : (v : Visible) (first : Identifier) (operation : Option PredefinedO
     → (is_some (operation_named v.scope first.name) || is_callable v.scope (subprogram_of v first.name) (profile_named v.scope first.name))
     ≡ (is_some operation || is_callable v.scope (subprogram_of v first.name) profile)
 callee_made v first operation profile one two = λ j. is_some (one j) || is_callable v.scope (subprogram_of v first.name) (two j)
-
--- what is neither
-pub unknown_outside : (v : Visible) (first : Identifier) (f : Callee) (selectors : SelectorTrees) → fixed_value (standing_of v.scope first selectors) ≡ None
-    → stands_first v.scope (number_of v.scope first.name) ≡ standing.Callee f → operation_named v.scope first.name ≡ None
-    → profile_named v.scope first.name ≡ None → is_outside v (tree.Named first selectors) ≡ true
-unknown_outside v first f selectors valueless stands operation profile =
-    begin_outside v first selectors valueless (ap (is_made v first) stands ∙ callee_made v first None None operation profile)
 
 module _ (v : Visible) where
   module _ (first : Identifier) (profile : Profile) (names : NamesProfile v.scope first.name profile) where

@@ -1,12 +1,11 @@
 -- Code of calls of functions of the language: Clock, Milliseconds, Microseconds, Read.
-use Rattle.std.proofs.Common.{◌≡◌, ◌≢◌, ◌≤◌, ◌+◌, ◌*◌, ◌++◌, ◌<◌, ℕ, suc, List, [], ◌∷◌, get_or, length, Bool, true, false, not, ◌||◌, Option, Some, None, refl, sym, ap, ◌∙◌, subst, arith}
-use Rattle.std.specs.Prelude.{max, pos, slice_get}
+use Rattle.std.proofs.Common.{◌≡◌, ◌≢◌, ◌+◌, ◌++◌, ℕ, List, [], ◌∷◌, length, true, Option, Some, None, refl, sym, ap, ◌∙◌, subst, arith}
+use Rattle.std.specs.Prelude.{pos, slice_get}
 use Rattle.kernel.specs.Laws.{QuietStays}
 use Rattle.ada_tree.specs.declared.expression.Argument.{Argument}
 use Rattle.ada_tree.specs.declared.expression.Identifier.{Identifier}
 use Rattle.ada_tree.specs.ExpressionTree as tree
 use Rattle.ada_tree.specs.ExpressionTree.{argument_tree, argument_trees, ArgumentTree, ArgumentTrees, Arguments, ExprTree, MoreArguments, MoreSelectors, NoArguments, NoSelectors, SelectorTrees}
-use Rattle.ada_tree.specs.Size.{expr_size}
 use Rattle.image.specs.declared.instruction.Operation.{Operation}
 use Rattle.image.specs.declared.instruction.Operation.TheVariants as op
 use Rattle.types.specs.declared.entity.PredefinedOperation.{PredefinedOperation}
@@ -26,21 +25,19 @@ use Rattle.expr_soundness.specs.expr_rules.specs.declared.own.Own.TheVariants.{T
 use Rattle.expr_soundness.specs.expr_rules.specs.declared.own.Wanted.TheVariants.{OfType}
 use Rattle.expr_soundness.specs.expr_rules.specs.ExpressionRules.{argument_faults, arguments_faults}
 use Rattle.expr_soundness.specs.expr_rules.specs.NameRules.{call_slot, count_rule, end_rule, formal_slot, formal_slot_or, part_rule, profile_formals, slot_at}
-use Rattle.expr_soundness.specs.expr_rules.specs.Typing.{is_booleans, is_spans, is_times, own_of_standing}
+use Rattle.expr_soundness.specs.expr_rules.specs.Typing.{is_spans, is_times, own_of_standing}
 use Rattle.expr_soundness.specs.expr_rules.proofs.TypedLaw.{back_empty, front_empty}
 use Rattle.expr_soundness.specs.Laws.{ExpressionsAreTyped}
 use Rattle.expr_soundness.specs.SoundScopes.{integer_formal, IsSoundPredefined, SoundScope}
 use Rattle.expr_soundness.proofs.Applying.{one_count}
 use Rattle.expr_code.specs.Actuals.{applied_to}
-use Rattle.expr_code.specs.Code.{Adds, here, IsShallow}
+use Rattle.expr_code.specs.Code.{Adds, here}
 use Rattle.expr_code.specs.Computing.{Computes, ComputesChecked}
 use Rattle.expr_code.specs.Emitting.{EmitsChecked, EmitsExpression, has_numbers, IsFit, IsLegalExpression}
 use Rattle.expr_code.specs.Naming.{NamesMeaning, SeesTime}
-use Rattle.expr_code.specs.Refusing.{arguments_outside, checked_peak, factors_below, HasUnfitObject, is_outside, is_passable, IsRefused, IsRefusedBeside, peak, RefusesChecked, RefusesExpression, words_below}
 use Rattle.expr_code.specs.Seeing.{library_of, NamesOperation, Package, Sees, Suits}
 use Rattle.expr_code.specs.Widths.{own_words, width_of}
 use Rattle.expr_code.specs.declared.code.Code.{Code}
-use Rattle.expr_code.specs.declared.refusal.Refusal.{Refusal}
 use Rattle.expr_code.specs.declared.visible.Visible.{Visible}
 use Rattle.expr_code.proofs.Actuals.{counted}
 use Rattle.expr_code.proofs.Checking.{integers_numbers, is_a_number}
@@ -48,10 +45,7 @@ use Rattle.expr_code.proofs.Flowing.{flows_then, instruction_flows}
 use Rattle.expr_code.proofs.Growing.{added_at, added_extends, added_here, extends_trans, holds_before, holds_later}
 use Rattle.expr_code.proofs.LegalNames.{parts_unbroken}
 use Rattle.expr_code.proofs.Names.{legal_here}
-use Rattle.expr_code.proofs.NamesRefused.{behind_outside, name_refused}
 use Rattle.expr_code.proofs.Naming.{computes_clock, computes_microseconds, computes_milliseconds, computes_read}
-use Rattle.expr_code.proofs.Refusals.{instruction_refused, or_left, peak_some}
-use Rattle.expr_code.proofs.Shallow.{named_shallow, shallow_more, shallow_next}
 use Rattle.expr_code.proofs.Widths.{numeric_one}
 
 -- ---- what the functions take and give
@@ -88,13 +82,6 @@ one_formal s predefined.Clock p other h = absurd (other refl)
 one_formal s predefined.Milliseconds p other h = h.takes
 one_formal s predefined.Microseconds p other h = h.takes
 one_formal s predefined.Read p other h = h.takes
-
--- a single one
-pub only_argument : (all : List Argument) (x : Argument) → 1 ≤ length all → length all < 2 → x ≡ get_or all 0 x
-    → argument_trees all ≡ MoreArguments (argument_tree x) NoArguments
-only_argument [] x more less is = absurd (omega (arith, more))
-only_argument (a ∷ []) x more less is = ap (λ y. MoreArguments (argument_tree y) NoArguments) (sym is)
-only_argument (a ∷ b ∷ all) x more less is = absurd (omega (arith, less))
 
 -- these actual parameters behind the name
 abbrev pub given : ArgumentTrees → SelectorTrees
@@ -169,14 +156,6 @@ module _ (s : Scope) (sound : SoundScope s) (first : Identifier) (o : Predefined
   pub one_fit : (e : ExprTree) → o ≢ predefined.Clock → IsLegalExpression s (applied_to first e) → IsFit s integer e
   one_fit e other legal = record { wanted = OfType integer_type; fits = refl; unbroken = one_legal (tree.Value e) other legal }
 
-  -- it is no label
-  pub no_label : (all : List Argument) (x : Argument) (label : List ℕ) (place : ℕ) → 1 ≤ length all → length all < 2 → x ≡ get_or all 0 x
-      → argument_tree x ≡ tree.Text label place → o ≢ predefined.Clock → IsLegalExpression s (tree.Named first (given (argument_trees all))) → ⊥
-  no_label all x label place more less is text other legal =
-      let one = only_argument all x more less is ∙ ap (λ y. MoreArguments y NoArguments) text in
-      let h = one_legal (tree.Text label place) other (subst (λ a. IsLegalExpression s (tree.Named first (given a))) one legal) in
-      cc
-
   -- there are neither none nor two
   pub counts_one : (all : List Argument) → o ≢ predefined.Clock → IsLegalExpression s (tree.Named first (given (argument_trees all))) → length all ≡ 1
   counts_one all other legal = sym (counted all) ∙ one_argument (argument_trees all) legal other
@@ -203,11 +182,6 @@ module _ (s : Scope) (sound : SoundScope s) (first : Identifier) (o : Predefined
 
   pub with_width : (a : ArgumentTrees) → width_of s (tree.Named first (given a)) ≡ 1
   with_width a = width (given a) (with_given a)
-
--- the word below the argument of Milliseconds
-factor_is : (s : Scope) (sound : SoundScope s) (first : Identifier) (names : NamesOperation s first.name predefined.Milliseconds)
-    → words_below s (stands_first s (number_of s first.name)) ≡ 1
-factor_is s sound first names = ap (words_below s) (stands s sound first predefined.Milliseconds names) ∙ ap factors_below names.stands
 
 -- ---- what was added
 
@@ -340,121 +314,3 @@ module _ (quiet : QuietStays) (v : Visible) (sound : SoundScope v.scope) (first 
               (instruction_flows (Suits v) mid new (depth + 1) (depth + 1) op.ReadInput last
               (record { operands = refl; names = λ i s k. refl; takes = λ i s k. omega arith; leaves = λ i s k. omega arith; stays = refl; is_none = refl }));
         }
-
--- ---- why it is refused
-
-module _ (v : Visible) (depth : ℕ) where
-  -- an instruction of any expression
-  pub emit_refused : (e : ExprTree) (old : Code) (m h : ℕ) (why : Refusal) → m ≤ here old + 20 * expr_size e → h ≤ depth + 1 → IsRefused m h false why
-      → RefusesExpression v old depth e why
-  emit_refused e old m h why up high r = let some = peak_some v.scope e in instruction_refused _ _ _ _ _ _ up (omega (arith, high, some)) why r
-
-  module _ (sound : SoundScope v.scope) (first : Identifier) (o : PredefinedOperation) (names : NamesOperation v.scope first.name o) (e : ExprTree) (old : Code)
-      (why : Refusal) where
-    abbrev below : ℕ
-    below = words_below v.scope (stands_first v.scope (number_of v.scope first.name))
-
-    no_value : fixed_value (standing_of v.scope first (with_one e)) ≡ None
-    no_value = valueless v.scope sound first o names (with_one e) (with_given v.scope sound first o names (MoreArguments (tree.Value e) NoArguments))
-
-    inside : is_outside v e ≡ true → is_outside v (applied_to first e) ≡ true
-    inside h =
-        behind_outside v first (with_one e) no_value
-        (or_left (arguments_outside v (MoreArguments (tree.Value e) NoArguments)) false (or_left (is_outside v e) false h))
-
-    -- its argument, above so many words
-    above_refused : (m l k : ℕ) (b : Bool) → k ≡ below → m ≤ here old + 20 * (3 + expr_size e) → l ≤ depth + (k + max 3 (peak v.scope e))
-        → (b ≡ true → is_outside v e ≡ true)
-        → IsRefusedBeside (HasUnfitObject v) m l b why → RefusesExpression v old depth (applied_to first e) why
-    above_refused m l k b is up high out r =
-        name_refused v first (with_one e) no_value old depth m l b why (λ h. h) (omega (arith, up)) (most below (peak v.scope e) (omega (arith, is, high)))
-        (λ h. inside (out h)) r
-      where
-        most : (i j : ℕ) → l ≤ depth + (i + max 3 j) → l ≤ depth + max (i + max (max 3 j) (suc 0)) 1
-        most i j h = omega (arith, h)
-
-    -- an integer that is passed
-    passed_outside : (not (is_passable v.scope integer) || is_outside v e) ≡ true → is_outside v e ≡ true
-    passed_outside h = ap (λ o. not (has_numbers o || is_booleans o) || is_outside v e) (sym sound.integer) ∙ h
-
-    pub microseconds_refused : RefusesChecked v old depth integer e why → RefusesExpression v old depth (applied_to first e) why
-    microseconds_refused r =
-        above_refused (here old + (20 * expr_size e + 3)) (depth + checked_peak (peak v.scope e)) below (not (is_passable v.scope integer) || is_outside v e)
-        refl (omega arith) (more below (peak v.scope e)) passed_outside r
-      where
-        more : (i j : ℕ) → depth + max 3 j ≤ depth + (i + max 3 j)
-        more i j = omega arith
-
-    pub channel_refused : RefusesExpression v old depth e why → RefusesExpression v old depth (applied_to first e) why
-    channel_refused r =
-        above_refused (here old + 20 * expr_size e) (depth + peak v.scope e) below (is_outside v e) refl (omega arith) (more below (peak v.scope e)) (λ h. h) r
-      where
-        more : (i j : ℕ) → depth + j ≤ depth + (i + max 3 j)
-        more i j = omega arith
-
-  module _ (sound : SoundScope v.scope) (first : Identifier) (names : NamesOperation v.scope first.name predefined.Milliseconds) (e : ExprTree) (old : Code)
-      (why : Refusal) where
-    abbrev one_below : 1 ≡ words_below v.scope (stands_first v.scope (number_of v.scope first.name))
-    one_below = sym (factor_is v.scope sound first names)
-
-    pub factor_refused : (low : Code) (one : ℕ) → here low ≤ here old + 1 → one ≡ depth + 1 → RefusesChecked v low one integer e why
-        → RefusesExpression v old depth (applied_to first e) why
-    factor_refused low one up is r =
-        above_refused sound first predefined.Milliseconds names e old why (here low + (20 * expr_size e + 3)) (one + checked_peak (peak v.scope e)) 1
-        (not (is_passable v.scope integer) || is_outside v e) one_below (omega (arith, up)) (more (peak v.scope e))
-        (passed_outside sound first predefined.Milliseconds names e old why) r
-      where
-        more : (j : ℕ) → one + max 3 j ≤ depth + (1 + max 3 j)
-        more j = omega (arith, is)
-
-    -- its instructions
-    pub product_refused : (m l : ℕ) → m ≤ here old + 20 * (3 + expr_size e) → l ≤ depth + 4 → IsRefused m l false why
-        → RefusesExpression v old depth (applied_to first e) why
-    product_refused m l up high r =
-        above_refused sound first predefined.Milliseconds names e old why m l 1 false one_below up (more (peak v.scope e)) (λ h. cc)
-        (instruction_refused (HasUnfitObject v) m m l l false (omega arith) (omega arith) why r)
-      where
-        more : (j : ℕ) → l ≤ depth + (1 + max 3 j)
-        more j = omega (arith, high)
-
-  -- ---- words on the operand stack
-
-  pub read_shallow : (first : Identifier) (e : ExprTree) (a b c : Code) (one : ℕ) → one ≡ depth + 1 → IsShallow a b (depth + peak v.scope e) → IsShallow b c one
-      → IsShallow a c (depth + peak v.scope (applied_to first e))
-  read_shallow first e a b c one is p q =
-      let n = depth + max 3 (peak v.scope e) in
-      named_shallow v depth first (with_one e) a c n
-      (most (words_below v.scope (stands_first v.scope (number_of v.scope first.name))) (peak v.scope e))
-      (shallow_next a b c one n (least (peak v.scope e)) (shallow_more a b (depth + peak v.scope e) n (whole (peak v.scope e)) p) q)
-    where
-      most : (i j : ℕ) → depth + max 3 j ≤ depth + max (i + max (max 3 j) (suc 0)) 1
-      most i j = omega arith
-
-      least : (j : ℕ) → one ≤ depth + max 3 j
-      least j = omega (arith, is)
-
-      whole : (j : ℕ) → depth + j ≤ depth + max 3 j
-      whole j = omega arith
-
-  pub product_shallow : (sound : SoundScope v.scope) (first : Identifier) → NamesOperation v.scope first.name predefined.Milliseconds
-      → (e : ExprTree) (a b c d : Code) (one two : ℕ) → one ≡ depth + 1 → two ≡ one + 1 → IsShallow a b depth → IsShallow b c (one + checked_peak (peak v.scope e)) → IsShallow c d two
-      → IsShallow a d (depth + peak v.scope (applied_to first e))
-  product_shallow sound first names e a b c d one two is more p q r =
-      let n = depth + (1 + max 3 (peak v.scope e)) in
-      named_shallow v depth first (with_one e) a d n
-      (most (words_below v.scope (stands_first v.scope (number_of v.scope first.name))) (peak v.scope e) (factor_is v.scope sound first names))
-      (shallow_next a c d two n (last (peak v.scope e))
-      (shallow_next a b c (one + checked_peak (peak v.scope e)) n (within (peak v.scope e))
-      (shallow_more a b depth n (least (peak v.scope e)) p) q) r)
-    where
-      most : (i j : ℕ) → i ≡ 1 → depth + (1 + max 3 j) ≤ depth + max (i + max (max 3 j) (suc 0)) 1
-      most i j h = omega (arith, h)
-
-      last : (j : ℕ) → two ≤ depth + (1 + max 3 j)
-      last j = omega (arith, is, more)
-
-      within : (j : ℕ) → one + max 3 j ≤ depth + (1 + max 3 j)
-      within j = omega (arith, is)
-
-      least : (j : ℕ) → depth ≤ depth + (1 + max 3 j)
-      least j = omega arith

@@ -21,7 +21,7 @@ use kernel::laws::quiet_stays;
 use types::{PredefinedOperation, Subtype};
 
 impl Code {
-    /// Adds the code of a call of this function of the language, whose name it is, and tells the one word of its result.
+    /// Adds the code of a call of this function of the language, with its actual parameters.
     #[cycle(expression)]
     pub(crate) fn predefined(
         &mut self,
