@@ -151,7 +151,7 @@ module _ (s g : Scope) (x : Extends s g) where
       let e = entity_number s name n h in
       ap (stands_first g) (number_stays s g name n x h) ∙ ap (stands_for n) (entity_stays s g n e.0 x e.1) ∙ sym (ap (stands_first s) h ∙ ap (stands_for n) e.1)
 
-  static_keeps : Keeps s (static_place g)
+  pub static_keeps : Keeps s (static_place g)
   static_keeps first selectors v h = by_number (number_of s first.name) refl
     where
       by_number : (o : Option ℕ) → number_of s first.name ≡ o → fixed_name (static_place g) first selectors ≡ Some v
@@ -202,7 +202,7 @@ module _ (law : StaticIsValue) (s : Scope) (sound : SoundScope s) (g : Scope) (x
       ap (λ w. fixed_value (select_all g w selectors)) (ap (stands_first g) (number_stays s g first.name o.number x o.numbered) ∙ ap (stands_for o.number) (entity_stays s g o.number _ x o.stands))
       ∙ all_valueless g selectors (standing.Callee (callee.Direct o.number)) refl
 
-  operation_value : (first : Identifier) (test : PredefinedOperation → Bool) (o : IsOperation s sound first test) (selectors : SelectorTrees)
+  pub operation_value : (first : Identifier) (test : PredefinedOperation → Bool) (o : IsOperation s sound first test) (selectors : SelectorTrees)
       → val (static_place g) (Named first selectors) ≡ name_with (call 0) (static_place g) (IsPredefined o.operation) selectors
   operation_value first test o selectors =
       ap (λ f. elim f [ Some v ↦ Gives (value_of v) | None ↦ name_with (call 0) (static_place g) (meaning_in_scope g (number_of g first.name)) selectors ]) (operation_fixed first test o selectors)

@@ -1,5 +1,5 @@
 mod Statics
-mod Extending
+pub mod Extending
 mod Subtypes
 mod Initials
 mod Declared
@@ -17,6 +17,7 @@ mod Objects
 mod Barriers
 mod Priorities
 mod Firsts
+pub mod FirstValues
 pub mod Awaiting
 mod Outcomes
 mod Entries
