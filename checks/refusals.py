@@ -4,8 +4,7 @@
     refusals.py PROGRAM REFUSING SCRATCH
 
 REFUSING is what refuses, and tells that it did (refuse.c). A call in which a request was refused writes nothing but `no memory`, ends with status 8, and leaves
-the files as they were; the others do what they do with ample memory. So do, today, calls in which `collect` was refused and asked again for less: how many these
-are is told (docs/PROOF.md, "Only tested").
+the files as they were; the others do what they do with ample memory.
 """
 import os
 import subprocess
@@ -41,7 +40,7 @@ class Call:
         self.ample = (out.encode(), err.encode(), status)
 
     def attempt(self, program, refusing, folder, number):
-        """Whether a request was refused in this call, whether the call went on all the same, and what went wrong, if anything did."""
+        """Whether a request was refused in this call, and what went wrong, if anything did."""
         for name in {*self.files, *self.leaves}:
             path = os.path.join(folder, name)
             if os.path.exists(path):
@@ -55,28 +54,25 @@ class Call:
         run = subprocess.run([program, *self.words], cwd=folder, env=environment, capture_output=True, check=False)
         was_refused = os.path.exists(told)
         found = (run.stdout, run.stderr, run.returncode)
-        went_on = was_refused and found == self.ample
-        gave_up = was_refused and not went_on
-        expected = (b"", b"no memory\n", 8) if gave_up else self.ample
+        expected = (b"", b"no memory\n", 8) if was_refused else self.ample
         if found != expected:
-            return was_refused, went_on, f"status {run.returncode}, {run.stdout[-200:]!r}, {run.stderr!r}"
+            return was_refused, f"status {run.returncode}, {run.stdout[-200:]!r}, {run.stderr!r}"
         for name in {*self.files, *self.leaves}:
-            wanted = self.files.get(name) if gave_up else self.leaves.get(name, self.files.get(name))
+            wanted = self.files.get(name) if was_refused else self.leaves.get(name, self.files.get(name))
             if content(os.path.join(folder, name)) != wanted:
-                return was_refused, went_on, f"{name} is another file"
-        return was_refused, went_on, None
+                return was_refused, f"{name} is another file"
+        return was_refused, None
 
     def attempt_all(self, program, refusing, folder):
-        """How many requests were refused, after how many of these the call went on, and what went wrong."""
+        """How many requests were refused, and what went wrong."""
         os.makedirs(folder)
-        wrong, passed_over = [], 0
+        wrong = []
         for number in range(1, MOST):
-            was_refused, went_on, told = self.attempt(program, refusing, folder, number)
-            passed_over += went_on
+            was_refused, told = self.attempt(program, refusing, folder, number)
             wrong += [f"{self.name}: request {number}{' refused' if was_refused else ''}: {told}"] if told else []
             if not was_refused:
-                return number - 1, passed_over, wrong
-        return MOST, passed_over, [*wrong, f"{self.name}: no call without a refused request"]
+                return number - 1, wrong
+        return MOST, [*wrong, f"{self.name}: no call without a refused request"]
 
 
 def row_of(table, name):
@@ -105,6 +101,9 @@ def calls_of(program, folder):
     for name in ("state_machine", "calculator"):
         text, lines = example(name)
         found.append(Call(f"go of {name}", ["go", "main.adb", "empty", "100000"], {"main.adb": text, **empty}, lines))
+    text, lines = example("sampler")
+    schedule = content(os.path.join(HERE, "..", "examples", "sampler.schedule"))
+    found.append(Call("go of sampler", ["go", "main.adb", "input", "100000"], {"main.adb": text, "input": schedule}, lines))
     write(os.path.join(folder, "main.adb"), terms)
     subprocess.run([program, "compile", "main.adb", "main.img"], cwd=folder, check=True)
     image = content(os.path.join(folder, "main.img"))
@@ -128,10 +127,10 @@ def main():
     with ThreadPoolExecutor(JOBS) as pool:
         tried = list(pool.map(lambda call: call.attempt_all(program, refusing, os.path.join(scratch, call.name)), calls))
     failed = False
-    for call, (refused, passed_over, wrong) in zip(calls, tried):
+    for call, (refused, wrong) in zip(calls, tried):
         for told in wrong:
             print(f"refusals: {told}", file=sys.stderr)
-        print(f"refusals: {call.name}: {refused} requests for memory refused in turn, {passed_over} of which it asked for again with less")
+        print(f"refusals: {call.name}: {refused} requests for memory refused in turn")
         failed = failed or wrong or not refused
     return 1 if failed else 0
 

@@ -142,11 +142,21 @@ fn initial_tasking<R: Ready, D: Delays>(
 fn priorities(alloc: Global, image: &Image) -> Result<Vec<u8>, AllocError>
     ensures { IfOk result (λ bases. bases.items ≡ map (λ t. t.priority) image.now.tasks) }
 {
-    image.tasks().iter().map(|t| t.priority).collect(alloc)
+    let tasks = image.tasks();
+    let mut bases = Vec::new(alloc);
+    for task in tasks {
+        bases.push(task.priority)?;
+    }
+    Ok(bases)
 }
 
 fn ceilings(alloc: Global, image: &Image) -> Result<Vec<u8>, AllocError>
     ensures { IfOk result (λ ceilings. ceilings.items ≡ map (λ o. o.ceiling) image.now.objects) }
 {
-    image.objects().iter().map(|o| o.ceiling()).collect(alloc)
+    let objects = image.objects();
+    let mut ceilings = Vec::new(alloc);
+    for object in objects {
+        ceilings.push(object.ceiling())?;
+    }
+    Ok(ceilings)
 }

@@ -85,7 +85,7 @@ fn sweep(alloc: Global, rows: &[Row]) -> Result<bool, AllocError>
 fn copied(alloc: Global, rows: &[Row]) -> Result<Vec<Row>, AllocError>
     ensures { IfOk result (λ copy. copy.items ≡ rows.now) }
 {
-    rows.iter().copied().collect(alloc)
+    rows.to_vec(alloc)
 }
 
 // The rows in the order of their starts, and the longest first where they start together.

@@ -6,6 +6,7 @@ ghost use Rattle.image.specs.Rules.{IsWellFormed};
 ghost use Rattle.image.specs.Sections.{ends_of};
 ghost use Rattle.image.specs.WordRanges.{ImageFits};
 
+use crate::subprograms::subprogram_ends;
 use crate::{Draft, ImageFault, Instr, Object, Parts, Subprogram, Task, Text};
 use handlers::{Row, Table};
 use std::alloc::{AllocError, Global};
@@ -128,9 +129,7 @@ impl Parts {
         ensures refused { IfErr result (λ fault. fault ≡ memory_fault) }
     {
         self.rows
-            .iter()
-            .copied()
-            .collect(alloc)
+            .to_vec(alloc)
             .map_err(|_: AllocError| ImageFault::memory())
     }
 
@@ -139,10 +138,6 @@ impl Parts {
         ensures ok { IfOk result (λ ends. ends.items ≡ ends_of self.now.subprograms) }
         ensures refused { IfErr result (λ fault. fault ≡ memory_fault) }
     {
-        self.subprograms
-            .iter()
-            .map(|s| s.end_)
-            .collect(alloc)
-            .map_err(|_: AllocError| ImageFault::memory())
+        subprogram_ends(alloc, &self.subprograms).map_err(|_: AllocError| ImageFault::memory())
     }
 }

@@ -23,5 +23,5 @@ pub use fault::ImageFault;
 pub use instruction::{Instr, Operation, Region};
 pub use objects::{Barrier, Object};
 pub use sections::Parts;
-pub use subprograms::{Kind, Subprogram};
+pub use subprograms::{Kind, Subprogram, subprogram_ends};
 pub use tasks::Task;

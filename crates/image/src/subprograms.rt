@@ -1,4 +1,8 @@
 //! Subprograms.
+ghost use Rattle.std.specs.Prelude.{◌≡◌, IfOk};
+ghost use Rattle.image.specs.Sections.{ends_of};
+
+use std::alloc::{AllocError, Global};
 
 /// What a subprogram is, and the object that it belongs to.
 #[derive(Clone, Copy, PartialEq, Eq, Debug)]
@@ -29,4 +33,18 @@ pub struct Subprogram {
     pub locals: u16,
     /// The greatest depth of its operand stack.
     pub stack: u16,
+}
+
+/// The place after the last instruction of each subprogram, in their order.
+///
+/// # Errors
+/// Where memory was refused.
+pub fn subprogram_ends(alloc: Global, subprograms: &[Subprogram]) -> Result<Vec<u16>, AllocError>
+    ensures { IfOk result (λ ends. ends.items ≡ ends_of subprograms.now) }
+{
+    let mut ends = Vec::new(alloc);
+    for subprogram in subprograms {
+        ends.push(subprogram.end_)?;
+    }
+    Ok(ends)
 }

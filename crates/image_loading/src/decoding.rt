@@ -257,7 +257,11 @@ impl RawSections {
 fn texts(alloc: Global, texts: &[RawText]) -> Result<Vec<Text>, AllocError>
     ensures { IfOk result (λ v. v.items ≡ map text_from texts.now) }
 {
-    texts.iter().map(|t| t.text()).collect(alloc)
+    let mut made = Vec::new(alloc);
+    for text in texts {
+        made.push(text.text())?;
+    }
+    Ok(made)
 }
 
 fn objects(alloc: Global, objects: &[RawObject]) -> Result<Vec<Object>, AllocError>
@@ -273,13 +277,21 @@ fn objects(alloc: Global, objects: &[RawObject]) -> Result<Vec<Object>, AllocErr
 fn subprograms(alloc: Global, subprograms: &[RawSubprogram]) -> Result<Vec<Subprogram>, AllocError>
     ensures { IfOk result (λ v. v.items ≡ map subprogram_from subprograms.now) }
 {
-    subprograms.iter().map(|s| s.subprogram()).collect(alloc)
+    let mut made = Vec::new(alloc);
+    for subprogram in subprograms {
+        made.push(subprogram.subprogram())?;
+    }
+    Ok(made)
 }
 
 fn tasks(alloc: Global, tasks: &[RawTask]) -> Result<Vec<Task>, AllocError>
     ensures { IfOk result (λ v. v.items ≡ map task_from tasks.now) }
 {
-    tasks.iter().map(|t| t.task()).collect(alloc)
+    let mut made = Vec::new(alloc);
+    for task in tasks {
+        made.push(task.task())?;
+    }
+    Ok(made)
 }
 
 fn rows(alloc: Global, rows: &[Row]) -> Result<Vec<Row>, AllocError>
@@ -291,5 +303,9 @@ fn rows(alloc: Global, rows: &[Row]) -> Result<Vec<Row>, AllocError>
 fn instructions(alloc: Global, instructions: &[RawInstruction]) -> Result<Vec<Instr>, AllocError>
     ensures { IfOk result (λ v. v.items ≡ map instruction_of instructions.now) }
 {
-    instructions.iter().map(|x| x.instruction()).collect(alloc)
+    let mut made = Vec::new(alloc);
+    for instruction in instructions {
+        made.push(instruction.instruction())?;
+    }
+    Ok(made)
 }
