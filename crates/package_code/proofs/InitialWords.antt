@@ -1,14 +1,24 @@
 -- The words of objects without initial value, part by part.
 use Rattle.std.proofs.Common.{◌≡◌, ℕ, suc, ◌+◌, ◌<◌, ℤ, List, [], ◌∷◌, ◌++◌, append_assoc, get_or, length, Option, Some, sym, ap, ◌∙◌, arith, take}
 use Rattle.std.proofs.Math.Seq.{take-suc}
+use Rattle.ada_tree.specs.ExpressionTree.{ExprTree}
+use Rattle.image.specs.WordRanges.{Fits64}
 use Rattle.types.specs.Entities.{Arrays, Records, TypeForm}
 use Rattle.types.specs.Scopes.{Scope, form_at}
 use Rattle.types.specs.declared.entity.RecordComponent.{RecordComponent}
 use Rattle.types.specs.Shapes.{Shape, component_shapes, fields_words, initial, initial_fields, initial_of, repeated, shape_among, shapes, value_words, values_words}
-use Rattle.types.specs.Values.{Value}
+use Rattle.types.specs.Statics.{StaticIsValue}
+use Rattle.types.specs.Values.{Value, value_of}
 use Rattle.types.specs.declared.entity.Subtype.{Subtype}
+use Rattle.types.specs.declared.entity.Value.{Value as Scalar}
+use Rattle.types.specs.declared.entity.Value.TheVariants as scalar
+use Rattle.type_rules.specs.ObjectRules.{fixed_scalar}
+use Rattle.expr_soundness.specs.meaning.specs.Programs.{given_or, initial_value}
 use Rattle.expr_soundness.specs.SoundScopes.{SoundScope}
+use Rattle.program_soundness.proofs.Extending.{extends_self}
+use Rattle.program_soundness.proofs.FirstValues.{IsWord, fixed_is_first}
 use Rattle.expr_code.proofs.Going.{grouped_shape, repeated_shape}
+use Rattle.expr_code.specs.Naming.{scalar_word}
 use Rattle.step_simulation.specs.part_code.proofs.Initials.{fields_more, initial_word, repeated_more}
 use Rattle.step_simulation.specs.part_code.specs.Emitting.{first_word}
 
@@ -52,3 +62,16 @@ module _ (s : Scope) (t : Subtype) (old new : List ℤ) where
       → new ≡ old ++ told ∷ [] → new ≡ old ++ value_words (initial s t)
   scalar_words told word same form is first h =
       h ∙ ap (λ z. old ++ z ∷ []) same ∙ ap (λ l. old ++ l) (sym (initial_word s t word (ap (λ o. first_word o t) is ∙ first)).words)
+
+-- ---- a value that is given
+
+-- what its text tells of it is its value at the start
+pub given_words : StaticIsValue → (s : Scope) → SoundScope s → (t : Subtype) (value : Option ExprTree) (e : ExprTree) (c : Scalar) → value ≡ Some e
+    → fixed_scalar s (Some t) e ≡ Some c → Fits64 (scalar_word c) → value_words (value_of c) ≡ value_words (initial_value s t value)
+given_words law s sound t value e c given known fits =
+    sym (ap (λ o. value_words (initial_value s t o)) given
+    ∙ ap (λ r. value_words (given_or r (initial s t))) (fixed_is_first law s sound s (extends_self s) t e c known (word_of_scalar c fits)))
+  where
+    word_of_scalar : (c : Scalar) → Fits64 (scalar_word c) → IsWord c
+    word_of_scalar (scalar.Number z) h = h
+    word_of_scalar (scalar.Truth b) h = tt

@@ -1,5 +1,5 @@
 -- When an accepted program is refused, by its text alone: memory was refused, it has what no code is made of yet, or it passes a limit of images.
-use Rattle.std.specs.Prelude.{◌≡◌, ℕ, zero, suc, ◌+◌, ◌<◌, Bool, true, false, ◌||◌, ◌&&◌, not, nat_eq, List, [], ◌∷◌, length, Option, Some, None, bytes_eq, is_some, ◌⊎◌, if◌then◌else◌}
+use Rattle.std.specs.Prelude.{◌≡◌, ℕ, zero, suc, ◌+◌, ◌<◌, Bool, true, false, ◌||◌, ◌&&◌, not, nat_eq, List, [], ◌∷◌, length, Option, Some, None, bytes_eq, is_none, ◌⊎◌, if◌then◌else◌}
 use Rattle.std.specs.List.{list_all}
 use Rattle.base.specs.Names.{is_label, is_name}
 use Rattle.base.specs.declared.limits.TheConstants.{EXCEPTIONS, ROWS, SUBPROGRAMS, WORDS}
@@ -11,7 +11,7 @@ use Rattle.types.specs.declared.entity.Subtype.{Subtype}
 use Rattle.types.specs.Layouts.{total}
 use Rattle.types.specs.Scopes.{Scope}
 use Rattle.types.specs.Shapes.{shape_of, value_words}
-use Rattle.types.specs.Statics.{static_fault}
+use Rattle.type_rules.specs.ObjectRules.{fixed_scalar}
 use Rattle.type_rules.specs.SubtypeNames.{subtype_of}
 use Rattle.declaring.specs.ProtectedRules.{protected_count}
 use Rattle.expr_soundness.specs.meaning.specs.Programs.{initial_value, program_of, returned, subtype_named}
@@ -59,10 +59,11 @@ seen_at t place =
 
 -- ---- variables
 
--- its first words are told by no word: the given value isn't static, or those of its subtype are times or spans
+-- Its text doesn't tell its first words: the given value breaks a rule of initial values, or what is named isn't the type of a value. No variable of an accepted
+-- program is so.
 abbrev pub lacks_first_words : Scope → Subtype → Option ExprTree → Bool
 lacks_first_words s t None = lacks_word (shape_of s t)
-lacks_first_words s t (Some e) = is_some (static_fault s e)
+lacks_first_words s t (Some e) = is_none (fixed_scalar s (Some t) e)
 
 abbrev pub is_outside_variable : Scope → Option Subtype → Option ExprTree → Bool
 is_outside_variable s None value = true

@@ -2,17 +2,21 @@
 ghost use Rattle.std.specs.Prelude.{◌≡◌, ◌∷◌, ◌++◌, [], false, IfErr, OnOk};
 ghost use Rattle.ada_tree.specs.ExpressionTree.{expr_tree};
 ghost use Rattle.ada_tree.specs.StatementTree.{optional_tree};
+ghost use Rattle.image.specs.WordRanges.{Fits64};
 ghost use Rattle.types.specs.Shapes.{initial, shape_of, value_words};
+ghost use Rattle.types.specs.Values.{value_of};
 ghost use Rattle.expr_soundness.specs.meaning.specs.Programs.{initial_value};
 ghost use Rattle.expr_soundness.specs.SoundScopes.{SoundScope};
+ghost use Rattle.expr_code.specs.Naming.{scalar_word};
 ghost use Rattle.expr_code.specs.Refusing.{IsRefused};
 ghost use Rattle.step_simulation.specs.part_code.specs.Needs.{lacks_word};
 ghost use Rattle.package_code.specs.Refusing.{lacks_first_words};
 
 use ada_tree::Expr;
 use expr_code::{Refusal, scalar_word};
+use type_rules::fixed_scalar;
 use types::laws::static_is_value;
-use types::{Scope, Subtype, TypeForm, static_value};
+use types::{Scope, Subtype, TypeForm, Value};
 
 // Adds a word.
 fn push_word(words: &mut Vec<i64>, word: i64) -> Result<(), Refusal>
@@ -50,7 +54,17 @@ fn push_default(words: &mut Vec<i64>, scope: &Scope, subtype: Subtype) -> Result
     }
 }
 
-/// Adds the words of the initial value of a variable of a package: of the static one that is given, or that of an object without.
+// Adds the word of a value that is known.
+fn push_fixed(words: &mut Vec<i64>, value: Value) -> Result<(), Refusal>
+    ensures words { OnOk result (words.new.items ≡ words.old.items ++ value_words (value_of value)) }
+    ensures fits { Fits64 (scalar_word value) }
+    ensures refused { IfErr result (λ why. IsRefused 0 0 false why) }
+{
+    let word = scalar_word(value);
+    push_word(words, word)
+}
+
+/// Adds the words of the initial value of a variable of a package: of the one that is given, whose text tells it, or that of an object without.
 pub(crate) fn push_initial(
     words: &mut Vec<i64>,
     scope: &Scope,
@@ -63,9 +77,9 @@ pub(crate) fn push_initial(
 {
     static_is_value();
     match value {
-        Some(value) => match static_value(scope, value) {
-            Ok(value) => push_word(words, scalar_word(value)),
-            Err(_) => Err(Refusal::Outside),
+        Some(value) => match fixed_scalar(scope, Some(subtype), value) {
+            Some(first) => push_fixed(words, first),
+            None => Err(Refusal::Outside),
         },
         None => push_default(words, scope, subtype),
     }
