@@ -59,8 +59,8 @@ seen_at t place =
 
 -- ---- variables
 
--- Its text doesn't tell its first words: the given value breaks a rule of initial values, or what is named isn't the type of a value. No variable of an accepted
--- program is so.
+-- Its text doesn't tell its first words: the given value breaks a rule of initial values, or what is named isn't the type of a value. No variable of an
+-- accepted program is so.
 abbrev pub lacks_first_words : Scope → Subtype → Option ExprTree → Bool
 lacks_first_words s t None = lacks_word (shape_of s t)
 lacks_first_words s t (Some e) = is_none (fixed_scalar s (Some t) e)
