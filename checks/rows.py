@@ -3,7 +3,7 @@
 
     rows.py PROGRAM FOLDER SCRATCH
 
-A table has rows of one kind, told by its name: programs, time, refused and spelling have sources, schedules has schedules, images and operations have images,
+A table has rows of one kind, told by its name: programs, time, delays, refused and spelling have sources, schedules has schedules, images and operations have images,
 words has words.
 
 - A source is called by `go`, then by `compile`, and what was compiled by `run`. Where it is refused, no image is made, and one that was there stays.
@@ -12,7 +12,7 @@ words has words.
   `schedule` and a `limit` (none, 100000); and what is expected: lines of `out`, the line `err`, the exit `status` (0). Lines of one word are joined.
 - A row on one line has what is expected, `: `, and the text, the schedule or the words.
 - A row with `limits` is run with each limit from 0 on: up to the first one that gives the row's lines it writes whole lines of these, no fewer than with the
-  limit before, and then where the limit cut it.
+  limit before, and then where the limit cut it, at a time between those of the lines around.
 - Of the image of a row with `cut`, each beginning is too short by what isn't there, and is refused at its end.
 - `\\n`, `\\xNN` and the like stand for bytes, and {5*ab} for a part five times.
 """
@@ -106,6 +106,12 @@ def short_row(name, line, frame):
     return row
 
 
+def time_of(line):
+    """The time of a line, which begins with it, or of a last line, which ends with it."""
+    words = line.split()
+    return int(words[0] if words[0].isdigit() else words[-1])
+
+
 class Caller:
     """Calls the program in a folder of its own, and tells where it leaves something else than what is expected."""
 
@@ -142,7 +148,9 @@ class Caller:
                 return
             *written, last = run.stdout.splitlines(keepends=True) or [b""]
             is_beginning = written == lines[:len(written)] and before <= len(written) < len(lines)
-            if not is_beginning or not re.fullmatch(rb"step limit at \d+\n", last) or run.stderr or run.returncode != STATUS_OF_LIMIT:
+            cut = re.fullmatch(rb"step limit at (\d+)\n", last)
+            is_in_time = cut and is_beginning and time_of(([b"0 "] + lines)[len(written)]) <= int(cut[1]) <= time_of(lines[len(written)])
+            if not is_in_time or run.stderr or run.returncode != STATUS_OF_LIMIT:
                 self.wrong.append(f"{row['name']}: with limit {limit}: status {run.returncode}, {run.stdout!r}, {run.stderr!r}")
             before = len(written)
         self.wrong.append(f"{row['name']}: no limit below {MOST_STEPS} gives its lines")
@@ -215,7 +223,7 @@ def run_words(caller, row):
     caller.same(row, "files have changed", files_left, files)
 
 
-KINDS = {"programs": run_source, "time": run_source, "refused": run_source, "spelling": run_source, "schedules": run_source, "images": run_image, "operations": run_image, "words": run_words}
+KINDS = {"programs": run_source, "time": run_source, "delays": run_source, "refused": run_source, "spelling": run_source, "schedules": run_source, "images": run_image, "operations": run_image, "words": run_words}
 
 
 def check_table(program, path, scratch):

@@ -1,10 +1,11 @@
 #!/usr/bin/env python3
-"""Runs sequential programs, and compares what they write with what is stored.
+"""Runs programs, and compares what they write with what is stored.
 
     sequential.py FOLDER SCRATCH COMMAND WORD..
 
-Each text NAME.adb of the folder writes NAME.out; each row of values.txt there, if there is one, leads to its number or its exception. The command gets the
-text's name as its last word: `./run` runs the compiled program, `examples/gnat/run` what GNAT makes of it.
+Each text NAME.adb of the folder writes NAME.out, on the schedule NAME.schedule, if there is one; each row of values.txt there, if there is one, leads to its
+number or its exception. The command gets the text's name, and that of the schedule, as its last words: `./run` runs the compiled program, `examples/gnat/run`
+what GNAT makes of it.
 """
 import os
 import subprocess
@@ -59,7 +60,9 @@ def texts_of(folder, scratch):
 
 def is_written(command, source, lines):
     """Whether the command writes these lines of the text, and ends with their status; else it is told what it does."""
-    run = subprocess.run(command + [source], capture_output=True, text=True, check=False)
+    schedule = os.path.splitext(source)[0] + ".schedule"
+    words = [source, schedule] if os.path.exists(schedule) else [source]
+    run = subprocess.run(command + words, capture_output=True, text=True, check=False)
     if run.stdout == lines and run.returncode == status_of(lines):
         return True
     with open(source, encoding="utf-8") as file:

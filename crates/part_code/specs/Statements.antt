@@ -18,7 +18,7 @@ use Rattle.ada_tree.specs.declared.statement.ExceptionChoice.{ExceptionChoice}
 use Rattle.ada_tree.specs.declared.program.MainStatement.{MainStatement}
 use Rattle.ada_tree.specs.declared.program.MainStatement.TheVariants as main
 use Rattle.ada_tree.specs.ExpressionTree.{ExprTree, SelectorTrees, NoSelectors, MoreSelectors, Arguments, MoreArguments, NoArguments, NameTree, Text, Value}
-use Rattle.ada_tree.specs.StatementTree.{DeclarationTree, LocalObject, Forever, While, For, StmtTree, Null, Assignment, Call, Exit, Return, Raise, If, Case, Loop, Block, ChoicesTree, AlternativeTrees, NoAlternatives, MoreAlternatives, StmtTrees, NoStmts, MoreStmts, ElsifTrees, NoElsifs, MoreElsifs, HandlerTrees, NoHandlers, MoreHandlers}
+use Rattle.ada_tree.specs.StatementTree.{DeclarationTree, LocalObject, Forever, While, For, StmtTree, Null, Assignment, Call, Exit, Return, Raise, DelayUntil, If, Case, Loop, Block, ChoicesTree, AlternativeTrees, NoAlternatives, MoreAlternatives, StmtTrees, NoStmts, MoreStmts, ElsifTrees, NoElsifs, MoreElsifs, HandlerTrees, NoHandlers, MoreHandlers}
 use Rattle.types.specs.declared.entity.Subtype.{Subtype}
 use Rattle.types.specs.Entities.{Put}
 use Rattle.types.specs.Places.{Place}
@@ -133,6 +133,11 @@ module _ (i : Sections) (program : Program) (g : Package) (numbers : Numbers) wh
       (x : ℕ) × (exception_number program name.name ≡ Some x) × At i from (op.Push (pos x)) × At i (suc from) op.Raise × (to ≡ suc (suc from))
   IsRaised w from to None = (word : ℕ) × (w.handled ≡ Some word) × At i from (op.LoadLocal word) × At i (suc from) op.Raise × (to ≡ suc (suc from))
 
+  -- a test that no action is open, in front of the time, and the delay (RM 9.5.1, 9.6)
+  abbrev pub IsDelay : Framed → (from to : ℕ) → ExprTree → Type 0
+  IsDelay v from to e =
+      (mid : ℕ) × (suc from ≤ mid) × At i from op.CheckBlocking × IsValue v (suc from) mid e × At i mid op.DelayUntil × (to ≡ suc mid)
+
   -- ---- declarations
 
   abbrev pub IsDeclared : (v : Framed) → (from to : ℕ) → (later : Framed) → DeclarationTree → Type 0
@@ -234,6 +239,7 @@ module _ (i : Sections) (program : Program) (g : Package) (numbers : Numbers) wh
     IsStatement v w r from to (Exit place (Some e)) = IsConditionalExit v w.exit from to e × GoesBy i r from to
     IsStatement v w r from to (Return place None) = IsJump w.return from to
     IsStatement v w r from to (Raise place name) = IsRaised w from to name × GoesBy i r from to
+    IsStatement v w r from to (DelayUntil place e) = IsDelay v from to e × GoesBy i r from to
     IsStatement v w r from to (If place e body elsifs others) =
         IsBranch v r from to e (λ a b. AreStatements v w r a b body) (λ a b. IsOtherwise v w r a b elsifs (λ x y. AreStatements v w r x y others))
     IsStatement v w r from to (Case place e all) =

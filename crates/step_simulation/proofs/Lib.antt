@@ -9,4 +9,5 @@ mod Choosing
 mod Copying
 mod Calling
 mod Counting
+mod Delaying
 mod Matching

@@ -33,6 +33,7 @@ use Rattle.step_simulation.proofs.Choosing as choose
 use Rattle.step_simulation.proofs.Copying as copy
 use Rattle.step_simulation.proofs.Calling as calls
 use Rattle.step_simulation.proofs.Counting as count
+use Rattle.step_simulation.proofs.Delaying as delay
 use Rattle.step_simulation.proofs.Raising as raising
 use Rattle.step_simulation.proofs.Sequences as sequences
 
@@ -157,6 +158,7 @@ module _ (this : Scene) where
     met_statement (Exit place (Some e)) items is h = turn.met_exit_when this s place e items is h
     met_statement (Return place None) items is h = scene.met_return this s place items is h
     met_statement (Raise place name) items is h = raising.met_raise this s place name items is h
+    met_statement (DelayUntil place e) items is h = delay.met_delay this s place e items is h
     met_statement (If place e body elsifs others) items is h = turn.met_if this s place e body elsifs others items is h
     met_statement (Case place e all) items is h = choose.met_case this s place e all items is h
     met_statement (Loop place Forever body) items is h = turn.met_forever this s place body items is h

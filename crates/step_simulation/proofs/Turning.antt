@@ -700,6 +700,30 @@ module _ (this : Scene) where
             of_home InPackage = refl
             of_home (InObject o) = refl
 
+    -- ---- numbers, of lines and of delays
+
+    abbrev pub number_of_value : Value → Val ℤ
+    number_of_value (Number z) = Gives z
+    number_of_value v = Meaningless
+
+    -- what goes on with a value goes on with its number, where nothing else has a meaning
+    pub by_number : (v : Val Value) (items : List Item) (go : Value → source.SourceStepped) (of : ℤ → source.SourceStepped)
+        → ((x : Value) → go x ≡ with_value now (number_of_value x) items of)
+        → with_value now v items go ≡ with_value now (and_then v number_of_value) items of
+    by_number (Gives x) items go of same = same x
+    by_number (Raises y) items go of same = refl
+    by_number Meaningless items go of same = refl
+
+    -- the word of a number
+    pub number_comes : (v : Val Value) (from to : ℕ) → Comes i schedule k t m (placed f from []) fs (to - from) to (on []) v
+        → Comes i schedule k t m (placed f from []) fs (to - from) to (λ z. z ∷ []) (and_then v number_of_value)
+    number_comes (Gives (Number z)) from to h = h
+    number_comes (Gives (Truth b)) from to h = tt
+    number_comes (Gives (Array vs)) from to h = tt
+    number_comes (Gives (Record vs)) from to h = tt
+    number_comes (Raises y) from to h = h
+    number_comes Meaningless from to h = tt
+
     -- ---- lines
 
     pub met_put : (name : NameTree) (label : _) (at : ℕ) (e : ExprTree) (items : List Item) → w.work ≡ Goes (Does (tree.Call name) ∷ items)
@@ -728,7 +752,8 @@ module _ (this : Scene) where
         (number_comes (source.evaluate now items e) r.0 mid (scene.evaluates this r.2 r.0 mid on (λ calls p. value_with calls p e) items f fs code.3 rests
         h.depth))
         (omega (arith, x.0, y.1, up, le, end))
-        (ap (λ q. work_step now q) is ∙ same ∙ by_number (source.evaluate now items e))
+        (ap (λ q. work_step now q) is ∙ same ∙ by_number (source.evaluate now items e) items (source.put_line now label items)
+        (λ z. source.works now (Says label z) (Goes items)) line_numbers)
         (subst (λ q. items_size items < work_size q) (sym is) (let c = item_counts (Does (tree.Call name)) items in omega (arith, c))) h.inner
         (handled_at items (and_then (source.evaluate now items e) number_of_value) h r.2 r.0 r.1 mid refl leads r.5 r.4.1 (omega (arith, end)))
         (λ z ez. (
@@ -742,25 +767,9 @@ module _ (this : Scene) where
           },
         )))
       where
-        number_of_value : Value → Val ℤ
-        number_of_value (Number z) = Gives z
-        number_of_value v = Meaningless
-
-        by_number : (v : Val Value)
-            → with_value now v items (source.put_line now label items) ≡ with_value now (and_then v number_of_value) items
-            (λ z. source.works now (Says label z) (Goes items))
-        by_number (Gives (Number z)) = refl
-        by_number (Gives (Truth b)) = refl
-        by_number (Gives (Array vs)) = refl
-        by_number (Gives (Record vs)) = refl
-        by_number (Raises y) = refl
-        by_number Meaningless = refl
-
-        number_comes : (v : Val Value) (from to : ℕ) → Comes i schedule k t m (placed f from []) fs (to - from) to (on []) v
-            → Comes i schedule k t m (placed f from []) fs (to - from) to (λ z. z ∷ []) (and_then v number_of_value)
-        number_comes (Gives (Number z)) from to h = h
-        number_comes (Gives (Truth b)) from to h = tt
-        number_comes (Gives (Array vs)) from to h = tt
-        number_comes (Gives (Record vs)) from to h = tt
-        number_comes (Raises y) from to h = h
-        number_comes Meaningless from to h = tt
+        line_numbers : (v : Value)
+            → source.put_line now label items v ≡ with_value now (number_of_value v) items (λ z. source.works now (Says label z) (Goes items))
+        line_numbers (Number z) = refl
+        line_numbers (Truth b) = refl
+        line_numbers (Array vs) = refl
+        line_numbers (Record vs) = refl

@@ -17,6 +17,7 @@ mod Opening
 mod Repeating
 mod Testing
 mod Putting
+mod Delaying
 mod Running
 mod Keeping
 mod Called

@@ -3,7 +3,7 @@ use Rattle.std.specs.Prelude.{ℕ, ◌+◌, ◌*◌, Bool, true, false, not, Lis
 use Rattle.ada_tree.specs.declared.expression.Identifier.{Identifier}
 use Rattle.ada_tree.specs.declared.statement.ExceptionChoice.{ExceptionChoice}
 use Rattle.ada_tree.specs.ExpressionTree.{ExprTree}
-use Rattle.ada_tree.specs.StatementTree.{AlternativeTrees, Assignment, Block, Call, Case, DeclarationTree, ElsifTrees, Exit, For, Forever, HandlerTrees, If, IterationTree, Loop, MoreAlternatives, MoreElsifs, MoreHandlers, MoreStmts, NoAlternatives, NoElsifs, NoHandlers, NoStmts, Null, RangeTree, Raise, Return, StmtTree, StmtTrees, While}
+use Rattle.ada_tree.specs.StatementTree.{AlternativeTrees, Assignment, Block, Call, Case, DeclarationTree, DelayUntil, ElsifTrees, Exit, For, Forever, HandlerTrees, If, IterationTree, Loop, MoreAlternatives, MoreElsifs, MoreHandlers, MoreStmts, NoAlternatives, NoElsifs, NoHandlers, NoStmts, Null, RangeTree, Raise, Return, StmtTree, StmtTrees, While}
 use Rattle.ada_tree.specs.Size.{expr_size}
 use Rattle.declaring.specs.BodyNames.{loop_scope}
 use Rattle.expr_code.specs.Code.{here}
@@ -114,6 +114,7 @@ abbrev mutual
   stmt_needs a (Exit place condition) = both (beyond_if (not a.looped)) (needs_if_any a.visible condition)
   stmt_needs a (Return place value) = return_needs a.returns value
   stmt_needs a (Raise place name) = raise_needs a name
+  stmt_needs a (DelayUntil place e) = value_needs a.visible e
   stmt_needs a (If place condition body elsifs others) =
       both (value_needs a.visible condition) (both (stmts_needs a body) (both (elsifs_needs a elsifs) (stmts_needs a others)))
   stmt_needs a (Case place value all) = both (value_needs a.visible value) (alternatives_needs a all)

@@ -113,7 +113,7 @@ impl Draft {
             }
             Stmt::Raise(place, name) => self.raise(visible, leaving, *place, name),
             Stmt::Delay(..) => Err(Refusal::Outside),
-            Stmt::DelayUntil(..) => Err(Refusal::Outside),
+            Stmt::DelayUntil(place, until) => self.delay_until(visible, *place, until),
             Stmt::Abort(..) => Err(Refusal::Outside),
             Stmt::Requeue(..) => Err(Refusal::Outside),
             Stmt::Accept(..) => Err(Refusal::Outside),

@@ -539,7 +539,7 @@ statements-returns-clause-emits = added.statements-returns-clause-emits
 pub statements-returns-clause-same : goal.statements-returns-clause-same
 statements-returns-clause-same = added.statements-returns-clause-same
 
--- ---- refusals: parts of an `if`
+-- ---- refusals
 
 pub branch-returns-in_err-of_width-clause-refused : goal.branch-returns-in_err-of_width-clause-refused
 branch-returns-in_err-of_width-clause-refused = refused.branch-returns-in_err-of_width-clause-refused
@@ -555,8 +555,6 @@ branch-returns-clause-refused = refused.branch-returns-clause-refused
 
 pub elsifs-returns-in_err-branch-clause-refused : goal.elsifs-returns-in_err-branch-clause-refused
 elsifs-returns-in_err-branch-clause-refused = refused.elsifs-returns-in_err-branch-clause-refused
-
--- ---- refusals: alternatives
 
 pub alternative-returns-in_err-next-clause-refused : goal.alternative-returns-in_err-next-clause-refused
 alternative-returns-in_err-next-clause-refused = refused.alternative-returns-in_err-next-clause-refused
@@ -584,8 +582,6 @@ case-returns-in_err-emit-clause-refused = refused.case-returns-in_err-emit-claus
 
 pub case-returns-clause-refused : goal.case-returns-clause-refused
 case-returns-clause-refused = refused.case-returns-clause-refused
-
--- ---- refusals: loops
 
 pub repeated-returns-in_err-head-in-Forever-clause-refused : goal.repeated-returns-in_err-head-in-Forever-clause-refused
 repeated-returns-in_err-head-in-Forever-clause-refused = refused.repeated-returns-in_err-head-in-Forever-clause-refused
@@ -632,15 +628,11 @@ counted-returns-in_err-last-clause-refused = refused.counted-returns-in_err-last
 pub counted-returns-in_err-end-clause-refused : goal.counted-returns-in_err-end-clause-refused
 counted-returns-in_err-end-clause-refused = refused.counted-returns-in_err-end-clause-refused
 
--- ---- refusals: blocks
-
 pub block-returns-in_err-declarations-clause-refused : goal.block-returns-in_err-declarations-clause-refused
 block-returns-in_err-declarations-clause-refused = refused.block-returns-in_err-declarations-clause-refused
 
 pub block-returns-in_err-statements-clause-refused : goal.block-returns-in_err-statements-clause-refused
 block-returns-in_err-statements-clause-refused = refused.block-returns-in_err-statements-clause-refused
-
--- ---- refusals: a statement
 
 pub statement-returns-in_err-branch-in-If-clause-refused : goal.statement-returns-in_err-branch-in-If-clause-refused
 statement-returns-in_err-branch-in-If-clause-refused = refused.statement-returns-in_err-branch-in-If-clause-refused
@@ -668,6 +660,12 @@ statements-returns-in_err-statement-clause-refused = refused.statements-returns-
 
 pub statement-returns-in-Raise-clause-emits : goal.statement-returns-in-Raise-clause-emits
 statement-returns-in-Raise-clause-emits = added.statement-returns-in-Raise-clause-emits
+
+pub statement-returns-in-DelayUntil-clause-emits : goal.statement-returns-in-DelayUntil-clause-emits
+statement-returns-in-DelayUntil-clause-emits = added.statement-returns-in-DelayUntil-clause-emits
+
+pub statement-returns-in-DelayUntil-clause-stays : goal.statement-returns-in-DelayUntil-clause-stays
+statement-returns-in-DelayUntil-clause-stays = stays.statement-returns-in-DelayUntil-clause-stays
 
 pub statement-returns-in-Raise-clause-stays : goal.statement-returns-in-Raise-clause-stays
 statement-returns-in-Raise-clause-stays = stays.statement-returns-in-Raise-clause-stays

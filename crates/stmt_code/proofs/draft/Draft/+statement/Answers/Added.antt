@@ -185,6 +185,13 @@ statement-returns-in-Raise-clause-emits t c =
     (λ p. subst (λ x. EmitsStatement c.args.visible.now (ways_of c.args.leaving) c.args.self.now x c.raise.new.self) (sym (ap stmt_tree c.in-Raise.is)) p)
     c.raise.ensures.emits
 
+pub statement-returns-in-DelayUntil-clause-emits : goal.statement-returns-in-DelayUntil-clause-emits
+statement-returns-in-DelayUntil-clause-emits t c =
+    on_ok_weaker _
+    (λ p.
+    subst (λ x. EmitsStatement c.args.visible.now (ways_of c.args.leaving) c.args.self.now x c.delay_until.new.self) (sym (ap stmt_tree c.in-DelayUntil.is)) p)
+    (c.delay_until.ensures.emits (ways_of c.args.leaving))
+
 pub statement-repeated-requires : goal.statement-repeated-requires
 statement-repeated-requires t c =
     let s = c.args.visible.now.scope in

@@ -526,8 +526,9 @@ statement-returns-in-Delay-clause-refused t c =
 
 pub statement-returns-in-DelayUntil-clause-refused : goal.statement-returns-in-DelayUntil-clause-refused
 statement-returns-in-DelayUntil-clause-refused t c =
-    subst (λ x. RefusesStatement c.args.visible.now (ways_of c.args.leaving) c.args.self.now x refusal.Outside)
-    (sym (ap stmt_tree c.in-DelayUntil.is)) (inl refl)
+    IfErr-weaker _ _ _
+    (λ why r. subst (λ x. RefusesStatement c.args.visible.now (ways_of c.args.leaving) c.args.self.now x why) (sym (ap stmt_tree c.in-DelayUntil.is)) r)
+    c.delay_until.ensures.refused
 
 pub statement-returns-in-Abort-clause-refused : goal.statement-returns-in-Abort-clause-refused
 statement-returns-in-Abort-clause-refused t c =

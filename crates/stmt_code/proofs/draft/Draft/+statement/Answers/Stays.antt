@@ -202,3 +202,10 @@ statement-returns-in-Call-clause-stays t c =
     on_ok_weaker _
     (λ r. subst (λ x. StaysStatement c.args.visible.now (ways_of c.args.leaving) c.args.self.now x c.call.new.self) (sym (ap stmt_tree c.in-Call.is)) r)
     c.call.ensures.stays
+
+pub statement-returns-in-DelayUntil-clause-stays : goal.statement-returns-in-DelayUntil-clause-stays
+statement-returns-in-DelayUntil-clause-stays t c =
+    on_ok_weaker _
+    (λ r.
+    subst (λ x. StaysStatement c.args.visible.now (ways_of c.args.leaving) c.args.self.now x c.delay_until.new.self) (sym (ap stmt_tree c.in-DelayUntil.is)) r)
+    c.delay_until.ensures.stays
