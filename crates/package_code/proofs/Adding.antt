@@ -6,21 +6,21 @@ use Rattle.std.proofs.lemmas.List.{length-map}
 use Rattle.ada_tree.specs.declared.expression.Identifier.{Identifier}
 use Rattle.ada_tree.specs.ExpressionTree.{ExprTree}
 use Rattle.ada_tree.specs.StatementTree.{DeclarationTree, MoreStmts, NoStmts, Return, StmtTrees, SubprogramTree}
-use Rattle.ada_tree.specs.ProgramTree.{BodyItemTree, BodyTree, ProgramTree, SubprogramBody}
+use Rattle.ada_tree.specs.ProgramTree.{BodyItemTree, BodyTree, ProgramTree, SubprogramBody, TaskBody}
 use Rattle.types.specs.declared.entity.Subtype.{Subtype}
 use Rattle.types.specs.Scopes.{Named, Scope, with_name}
 use Rattle.expr_soundness.specs.expr_rules.specs.declared.own.Wanted.TheVariants.{OfType}
 use Rattle.expr_soundness.specs.expr_rules.specs.ExpressionRules.{faults_of}
 use Rattle.expr_soundness.specs.expr_rules.proofs.TypedLaw.{back_empty, front_empty, judged, unbroken}
 use Rattle.type_rules.specs.ProfileRules.{formals_faults, profile_faults, result_faults}
-use Rattle.type_rules.specs.SubtypeNames.{subtype_of}
+use Rattle.type_rules.specs.SubtypeNames.{end_rule, subtype_of}
 use Rattle.declaring.specs.BodyNames.{formals_scope}
-use Rattle.declaring.specs.LocalRules.{locals_faults, locals_scope}
+use Rattle.declaring.specs.LocalRules.{fixed_locals_faults, locals_faults, locals_scope}
 use Rattle.program_soundness.specs.stmt_rules.specs.declared.around.Around.{Around}
 use Rattle.program_soundness.specs.stmt_rules.specs.declared.around.BodyKind.TheVariants as kind
 use Rattle.program_soundness.specs.stmt_rules.specs.SimpleRules.{result_wanted}
-use Rattle.program_soundness.specs.stmt_rules.specs.StatementRules.{handlers_faults, in_body, stmts_faults}
-use Rattle.legality.specs.BodyRules.{body_faults, function_body_faults, has_no_declarations, head_faults, is_function_body, kind_of, type_number}
+use Rattle.program_soundness.specs.stmt_rules.specs.StatementRules.{handlers_faults, in_body, sequence_faults, stmts_faults}
+use Rattle.legality.specs.BodyRules.{body_faults, function_body_faults, has_no_declarations, head_faults, is_function_body, kind_of, task_body_faults, task_rule, type_number}
 use Rattle.program_soundness.specs.checking.specs.ProgramRules.{IsLegal}
 use Rattle.ravenscar.specs.ProgramRules.{IsRestricted}
 use Rattle.expr_soundness.specs.meaning.specs.Programs.{Parameter, Program, parameter, program_of, returned, subtype_named}
@@ -30,16 +30,21 @@ use Rattle.expr_soundness.proofs.Positions.{same_some}
 use Rattle.program_soundness.specs.Fronts.{declared_in, front, scope_at, start_in}
 use Rattle.program_soundness.specs.BodyLaws.{NamesAreKnown, PremisesHold}
 use Rattle.program_soundness.proofs.Called.{head_legal}
+use Rattle.program_soundness.proofs.OneList.{both_empty}
 use Rattle.program_soundness.proofs.WiderScopes.{none_unseen, with_all}
 use Rattle.program_soundness.proofs.Formals.{AreNew, all_named, named_formal, new_behind, sound_all}
+use Rattle.program_soundness.proofs.Beginning.{locals_legal}
 use Rattle.program_soundness.proofs.BodyProfiles.{named_is, subtype_kept}
 use Rattle.program_soundness.proofs.Trees.{tree_package}
+use Rattle.program_soundness.proofs.Walked.{legal_at, scope_next}
 use Rattle.program_soundness.proofs.Whole.{IsPackage, kept, known_subtype}
 use Rattle.expr_code.specs.Emitting.{IsFit}
 use Rattle.stmt_code.specs.Emitting.{IsLegalRun}
 use Rattle.package_code.proofs.NewParameters.{body_unbroken, formals_text, parameters_new}
 use Rattle.package_code.proofs.Reordered.{longer}
 use Rattle.package_code.specs.Laws.{BodiesMayBeAdded, MayBeAdded, NamesAreSound}
+use Rattle.package_code.specs.Walking.{of_task}
+use Rattle.package_code.proofs.Coded.{coded_by}
 
 pub names_sound : PremisesHold → NamesAreSound
 names_sound premises t legal = (premises t legal).sound
@@ -206,5 +211,55 @@ module _ (scopes : ScopesAreSound) (known : NamesAreKnown) (premises : PremisesH
     result = known_result;
   }
 
+-- ---- the body of a task, which has no parameters
+
+module _ (scopes : ScopesAreSound) (known : NamesAreKnown) (premises : PremisesHold) (t : ProgramTree) (legal : IsLegal t) (restricted : IsRestricted t)
+    (k : ℕ) (name : Identifier) (b : BodyTree) (at : slice_get (declared_in t.package_) k ≡ Some (TaskBody name b)) where
+  abbrev before_task : Scope
+  before_task = scope_at (start_in t.package_) (declared_in t.package_) k
+
+  same_scope : front t (suc k) ≡ before_task
+  same_scope = scope_next (start_in t.package_) (declared_in t.package_) k (TaskBody name b) at
+
+  legal_task : task_body_faults before_task name b ≡ []
+  legal_task =
+      legal_at (start_in t.package_) (declared_in t.package_) k (TaskBody name b) at (tree_package t legal restricted (premises t legal).sound).list.legal
+
+  abbrev in_task : Around
+  in_task = in_body kind.Task
+
+  parts : (locals_faults before_task b.declarations ≡ [])
+      × (stmts_faults (locals_scope before_task b.declarations) in_task b.statements ≡ [])
+      × (handlers_faults (locals_scope before_task b.declarations) in_task b.handlers ≡ [])
+  parts =
+      let later = locals_scope before_task b.declarations in
+      let three = front_empty _ (end_rule name b.end_name) legal_task in
+      let two = front_empty _ (sequence_faults later in_task b.statements b.handlers) three in
+      let sequence = back_empty _ (sequence_faults later in_task b.statements b.handlers) three in (
+        locals_legal before_task b.declarations (back_empty (task_rule before_task name) (fixed_locals_faults before_task b.declarations) two),
+        front_empty (stmts_faults later in_task b.statements) (handlers_faults later in_task b.handlers) sequence,
+        back_empty (stmts_faults later in_task b.statements) (handlers_faults later in_task b.handlers) sequence,
+      )
+
+  pub task_legal : body_faults (front t (suc k)) kind.Task b ≡ []
+  task_legal = subst (λ s. body_faults s kind.Task b ≡ []) (sym same_scope) (both_empty _ _ parts.0 (both_empty _ _ parts.1 parts.2))
+
+  pub task_added : MayBeAdded t (front t (suc k)) (of_task name b).head b
+  task_added = record {
+    front = (known t legal restricted).fronts (suc k);
+    sound = (known t legal restricted).fronts (suc k);
+    new_names = omega arith;
+    legal = subst (λ s. IsLegalRun s b.declarations b.statements b.handlers) (sym same_scope) (record {
+      declared = parts.0;
+      statements = record { around = in_task; unbroken = parts.1 };
+      handled = record { around = in_task; before = []; unbroken = parts.2 };
+    });
+    fit = λ r value some is. (let none : None ≡ Some r = some in cc);
+    result = λ r some. (let none : None ≡ Some r = some in cc);
+  }
+
 pub bodies_added : ScopesAreSound → NamesAreKnown → PremisesHold → BodiesMayBeAdded
-bodies_added scopes known premises t legal restricted place d b at = body_added scopes known premises t legal restricted place d b at
+bodies_added scopes known premises t legal restricted place x c at is =
+    coded_by (λ y e. slice_get (declared_in t.package_) place ≡ Some y → MayBeAdded t (front t (suc place)) e.head e.body)
+    (λ d b there. body_added scopes known premises t legal restricted place d b there)
+    (λ name b there. task_added scopes known premises t legal restricted place name b there) x c is at

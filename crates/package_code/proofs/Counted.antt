@@ -1,4 +1,4 @@
--- Which body is that of a subprogram, by its number, and how many instructions the code of each has.
+-- Which body is that of a subprogram of the image, by its number, and how many instructions the code of each has.
 use Rattle.std.proofs.Common.{◌≡◌, ◌⊎◌, inl, inr, ℕ, zero, suc, ◌+◌, ◌-◌, ◌<◌, ◌≤◌, List, [], ◌∷◌, ◌++◌, length, Option, Some, None, refl, sym, ap, ◌∙◌, subst, arith, length-append, take_all}
 use Rattle.std.specs.Prelude.{slice_get, take}
 use Rattle.std.proofs.lemmas.Option.{slice_get_within}
@@ -7,7 +7,7 @@ use Rattle.ada_tree.specs.declared.expression.Identifier.{Identifier}
 use Rattle.ada_tree.specs.ExpressionTree.{ExprTree}
 use Rattle.ada_tree.specs.StatementTree as tree
 use Rattle.ada_tree.specs.StatementTree.{MoreStmts, NoStmts, StmtTree, StmtTrees, SubprogramTree}
-use Rattle.ada_tree.specs.ProgramTree.{BodyItemTree, BodyTree, ProgramTree, SubprogramBody}
+use Rattle.ada_tree.specs.ProgramTree.{BodyItemTree, BodyTree, ProgramTree, SubprogramBody, TaskBody}
 use Rattle.ada_tree.specs.Size.{expr_size, size_if_any, stmts_size}
 use Rattle.types.specs.Scopes.{Scope}
 use Rattle.image.specs.Operations.{called}
@@ -26,31 +26,39 @@ use Rattle.stmt_code.specs.declared.draft.Draft.{Draft}
 use Rattle.stmt_code.specs.declared.subprogram.SubprogramWords.{SubprogramWords}
 use Rattle.package_code.specs.Counts.{bodies_among, bodies_before, bounds_from, instructions_bound, or_zero}
 use Rattle.package_code.specs.Laws.{SectionsAreBounded}
-use Rattle.package_code.specs.Program.{HasProgram, main_row}
-use Rattle.package_code.specs.Walking.{AddsSubprogram, AddsValueFunction, HasBody, begins_at, row_of}
+use Rattle.package_code.specs.Program.{HasProgram}
+use Rattle.package_code.specs.Walking.{AddsSubprogram, AddsValueFunction, Coded, HasBody, begins_at, coded, of_subprogram, of_task, row_of}
 use Rattle.package_code.specs.declared.directory.Directory.{Directory}
 use Rattle.package_code.specs.declared.walk.Walk.{Walk}
-use Rattle.package_code.proofs.Linking.{called_front, called_main, first_is, first_main}
+use Rattle.package_code.proofs.Coded.{bounded_by}
+use Rattle.package_code.proofs.Linking.{called_front, called_main, first_is, first_main, main_row}
 
 -- ---- bodies by their numbers
 
 -- the body with this number among items, and its place
 record IsNumbered (items : List BodyItemTree) (number : ℕ) : Type 0 where
   place : ℕ
-  head : SubprogramTree
-  body : BodyTree
-  at : slice_get items place ≡ Some (SubprogramBody head body)
+  item : BodyItemTree
+  code : Coded
+  at : slice_get items place ≡ Some item
+  is : coded item ≡ Some code
   before : bodies_among (take place items) ≡ number
 
 body_numbered : (items : List BodyItemTree) (number : ℕ) → number < bodies_among items → IsNumbered items number
 body_numbered [] number less = absurd (omega (arith, less))
-body_numbered (SubprogramBody d b ∷ items) zero less = record { place = 0; head = d; body = b; at = refl; before = refl }
+body_numbered (SubprogramBody d b ∷ items) zero less =
+    record { place = 0; item = SubprogramBody d b; code = of_subprogram d b; at = refl; is = refl; before = refl }
 body_numbered (SubprogramBody d b ∷ items) (suc number) less =
     let h = body_numbered items number (omega (arith, less)) in
-    record { place = suc h.place; head = h.head; body = h.body; at = h.at; before = ap suc h.before }
+    record { place = suc h.place; item = h.item; code = h.code; at = h.at; is = h.is; before = ap suc h.before }
+body_numbered (TaskBody name b ∷ items) zero less =
+    record { place = 0; item = TaskBody name b; code = of_task name b; at = refl; is = refl; before = refl }
+body_numbered (TaskBody name b ∷ items) (suc number) less =
+    let h = body_numbered items number (omega (arith, less)) in
+    record { place = suc h.place; item = h.item; code = h.code; at = h.at; is = h.is; before = ap suc h.before }
 body_numbered (x ∷ items) number less =
     let h = body_numbered items number less in
-    record { place = suc h.place; head = h.head; body = h.body; at = h.at; before = h.before }
+    record { place = suc h.place; item = h.item; code = h.code; at = h.at; is = h.is; before = h.before }
 
 module _ (t : ProgramTree) where
   same_place : (place n : ℕ) (fs : List Formal) (b : BodyTree)
@@ -58,20 +66,25 @@ module _ (t : ProgramTree) where
   same_place place n fs b = (let e : suc place + n ≡ place + suc n = omega arith in ap (λ k. procedure_bound (front t (suc k)) fs b) e)
 
   -- the bound of a body stands at its number
-  bound_there : (items : List BodyItemTree) (place n : ℕ) (d : SubprogramTree) (b : BodyTree) → slice_get items n ≡ Some (SubprogramBody d b)
-      → slice_get (bounds_from t place items) (bodies_among (take n items)) ≡ Some (procedure_bound (front t (suc (place + n))) d.formals b)
-  bound_there [] place n d b h = cc
-  bound_there (x ∷ items) place zero d b h =
-      subst (λ y. slice_get (bounds_from t place (y ∷ items)) 0 ≡ Some (procedure_bound (front t (suc (place + 0))) d.formals b))
-      (sym (same_some x (SubprogramBody d b) h))
-      (let e : place ≡ place + 0 = omega arith in ap (λ k. Some (procedure_bound (front t (suc k)) d.formals b)) e)
-  bound_there (SubprogramBody c q ∷ items) place (suc n) d b h =
-      bound_there items (suc place) n d b h ∙ ap Some (same_place place n d.formals b)
-  bound_there (x ∷ items) place (suc n) d b h = bound_there items (suc place) n d b h ∙ ap Some (same_place place n d.formals b)
+  bound_there : (items : List BodyItemTree) (place n : ℕ) (x : BodyItemTree) (c : Coded) → slice_get items n ≡ Some x → coded x ≡ Some c
+      → slice_get (bounds_from t place items) (bodies_among (take n items)) ≡ Some (procedure_bound (front t (suc (place + n))) c.head.formals c.body)
+  bound_there [] place n x c h is = cc
+  bound_there (y ∷ items) place zero x c h is =
+      subst (λ z. slice_get (bounds_from t place (z ∷ items)) 0 ≡ Some (procedure_bound (front t (suc (place + 0))) c.head.formals c.body))
+      (sym (same_some y x h))
+      (subst (λ l. slice_get (l ++ bounds_from t (suc place) items) 0 ≡ Some (procedure_bound (front t (suc (place + 0))) c.head.formals c.body))
+      (sym (bounded_by t place x c is))
+      (let e : place ≡ place + 0 = omega arith in ap (λ k. Some (procedure_bound (front t (suc k)) c.head.formals c.body)) e))
+  bound_there (SubprogramBody d b ∷ items) place (suc n) x c h is =
+      bound_there items (suc place) n x c h is ∙ ap Some (same_place place n c.head.formals c.body)
+  bound_there (TaskBody name b ∷ items) place (suc n) x c h is =
+      bound_there items (suc place) n x c h is ∙ ap Some (same_place place n c.head.formals c.body)
+  bound_there (y ∷ items) place (suc n) x c h is = bound_there items (suc place) n x c h is ∙ ap Some (same_place place n c.head.formals c.body)
 
   bounds_many : (items : List BodyItemTree) (place : ℕ) → length (bounds_from t place items) ≡ bodies_among items
   bounds_many [] place = refl
   bounds_many (SubprogramBody d b ∷ items) place = ap suc (bounds_many items (suc place))
+  bounds_many (TaskBody name b ∷ items) place = ap suc (bounds_many items (suc place))
   bounds_many (x ∷ items) place = bounds_many items (suc place)
 
   abbrev items : List BodyItemTree
@@ -80,11 +93,12 @@ module _ (t : ProgramTree) where
   abbrev bounds : List ℕ
   bounds = bounds_from t 0 items
 
-  bound_of_body : (place : ℕ) (d : SubprogramTree) (b : BodyTree) → slice_get items place ≡ Some (SubprogramBody d b)
-      → instructions_bound t (bodies_before t place) ≡ procedure_bound (front t (suc place)) d.formals b
-  bound_of_body place d b at =
-      ap or_zero (front_at bounds (main_bound t.main.statements ∷ []) (bodies_before t place) (procedure_bound (front t (suc place)) d.formals b)
-      (bound_there items 0 place d b at ∙ (let e : 0 + place ≡ place = omega arith in ap (λ k. Some (procedure_bound (front t (suc k)) d.formals b)) e)))
+  bound_of_body : (place : ℕ) (x : BodyItemTree) (c : Coded) → slice_get items place ≡ Some x → coded x ≡ Some c
+      → instructions_bound t (bodies_before t place) ≡ procedure_bound (front t (suc place)) c.head.formals c.body
+  bound_of_body place x c at is =
+      ap or_zero (front_at bounds (main_bound t.main.statements ∷ []) (bodies_before t place) (procedure_bound (front t (suc place)) c.head.formals c.body)
+      (bound_there items 0 place x c at is
+      ∙ (let e : 0 + place ≡ place = omega arith in ap (λ k. Some (procedure_bound (front t (suc k)) c.head.formals c.body)) e)))
 
   bound_of_main : instructions_bound t (bodies_among items) ≡ main_bound t.main.statements
   bound_of_main =
@@ -121,10 +135,11 @@ adds_few t d b v old words new adds = by_result d.result adds
 -- the subprogram with this number is that of a body
 pub record IsOfBody (t : ProgramTree) (directory : Directory) (number : ℕ) (w : Walk) : Type 0 where
   pub place : ℕ
-  pub d : SubprogramTree
-  pub b : BodyTree
-  pub at : slice_get (declared_in t.package_) place ≡ Some (SubprogramBody d b)
-  pub body : HasBody t directory place d b w
+  pub item : BodyItemTree
+  pub code : Coded
+  pub at : slice_get (declared_in t.package_) place ≡ Some item
+  pub is : coded item ≡ Some code
+  pub body : HasBody t directory place code w
   pub same : body.number ≡ number
 
 module _ (t : ProgramTree) (i : Sections) (h : HasProgram t i) where
@@ -144,26 +159,27 @@ module _ (t : ProgramTree) (i : Sections) (h : HasProgram t i) where
   pub owner_of : (number : ℕ) → number < length rows → IsOfBody t h.directory number h.walk
   owner_of number less =
       let n : IsNumbered all number = body_numbered all number (omega (arith, less, many)) in
-      let within = slice_get_within all n.place (SubprogramBody n.head n.body) n.at in
+      let within = slice_get_within all n.place n.item n.at in
       let place : n.place < h.walk.place = (let w = h.whole in omega (arith, w, within)) in
-      let body : HasBody t h.directory n.place n.head n.body h.walk = h.walked.bodies n.place n.head n.body place n.at in
-      record { place = n.place; d = n.head; b = n.body; at = n.at; body = body; same = body.counted ∙ n.before }
+      let body : HasBody t h.directory n.place n.code h.walk = h.walked.bodies n.place n.item n.code place n.at n.is in
+      record { place = n.place; item = n.item; code = n.code; at = n.at; is = n.is; body = body; same = body.counted ∙ n.before }
 
   size_body : (number : ℕ) → number < length rows → size_of i number ≤ instructions_bound t number
   size_body number less =
       let x = owner_of number less in
-      let body : HasBody t h.directory x.place x.d x.b h.walk = x.body in
+      let c : Coded = x.code in
+      let body : HasBody t h.directory x.place c h.walk = x.body in
       let same : body.number ≡ number = x.same in
-      let row : Subprogram = row_of body.words (here body.new.code) in
+      let row : Subprogram = row_of c.kind body.words (here body.new.code) in
       let there : called i number ≡ Some row = called_front t i h number row (ap (slice_get rows) (sym same) ∙ body.there) in
       let begins : first_place i number ≡ here body.old.code = first_is t i h number (omega (arith, less)) ∙ ap (begins_at rows) (sym same) ∙ body.begins in
       let size = size_is number (here body.old.code) (here body.new.code) row there refl begins in
-      let few = adds_few t x.d x.b body.seen body.old body.words body.new body.adds in
-      let scope : procedure_bound body.seen.scope x.d.formals x.b ≡ procedure_bound (front t (suc x.place)) x.d.formals x.b =
-      ap (λ s. procedure_bound s x.d.formals x.b) body.scope in
-      let bound : instructions_bound t number ≡ procedure_bound (front t (suc x.place)) x.d.formals x.b =
-      ap (instructions_bound t) (sym same ∙ body.counted) ∙ bound_of_body t x.place x.d x.b x.at in
-      under (size_of i number) (here body.new.code) (here body.old.code) (procedure_bound body.seen.scope x.d.formals x.b)
+      let few = adds_few t c.head c.body body.seen body.old body.words body.new body.adds in
+      let scope : procedure_bound body.seen.scope c.head.formals c.body ≡ procedure_bound (front t (suc x.place)) c.head.formals c.body =
+      ap (λ s. procedure_bound s c.head.formals c.body) body.scope in
+      let bound : instructions_bound t number ≡ procedure_bound (front t (suc x.place)) c.head.formals c.body =
+      ap (instructions_bound t) (sym same ∙ body.counted) ∙ bound_of_body t x.place x.item c x.at x.is in
+      under (size_of i number) (here body.new.code) (here body.old.code) (procedure_bound body.seen.scope c.head.formals c.body)
       (instructions_bound t number) size few (scope ∙ sym bound)
     where
       under : (size last first mid bound : ℕ) → size ≡ last - first → last ≤ first + mid → mid ≡ bound → size ≤ bound

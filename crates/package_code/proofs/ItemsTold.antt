@@ -4,7 +4,7 @@ use Rattle.std.specs.Prelude.{slice_get}
 use Rattle.std.proofs.lemmas.List.{take-take}
 use Rattle.ada_tree.specs.declared.expression.Identifier.{Identifier}
 use Rattle.ada_tree.specs.StatementTree.{AlternativeTrees, Block, Call, Case, ElsifTrees, HandlerTrees, If, Loop, MoreAlternatives, MoreElsifs, MoreHandlers, MoreStmts, NoAlternatives, NoElsifs, NoHandlers, NoStmts, StmtTree, StmtTrees, SubprogramTree}
-use Rattle.ada_tree.specs.ProgramTree.{BodyItemTree, BodyTree, ProgramTree, SubprogramBody}
+use Rattle.ada_tree.specs.ProgramTree.{BodyItemTree, BodyTree, ProgramTree, SubprogramBody, TaskBody}
 use Rattle.types.specs.Layouts.{total}
 use Rattle.program_soundness.specs.Fronts.{front}
 use Rattle.program_soundness.proofs.Listing.{same_some, taken_at, taken_next}
@@ -15,6 +15,8 @@ use Rattle.stmt_code.specs.WholeRefusals.{body_labels}
 use Rattle.step_simulation.specs.part_code.proofs.Within.{Within, in_left, of_right}
 use Rattle.package_code.specs.Counts.{bounds_from}
 use Rattle.package_code.specs.Refusing.{item_labels, item_needs, item_rows, items_labels, items_needs, items_rows}
+use Rattle.package_code.specs.Walking.{Coded, coded, of_task}
+use Rattle.package_code.proofs.Coded.{bounded_by}
 
 -- ---- bounds
 
@@ -40,23 +42,31 @@ module _ (t : ProgramTree) where
   abbrev bound_at : SubprogramTree → BodyTree → (place : ℕ) → ℕ
   bound_at d b place = procedure_bound (front t (suc place)) d.formals b
 
-  pub bound_within : (items : List BodyItemTree) (k n : ℕ) (d : SubprogramTree) (b : BodyTree) → slice_get items n ≡ Some (SubprogramBody d b)
-      → total (bounds_from t k (take n items)) + bound_at d b (k + n) ≤ total (bounds_from t k items)
-  bound_within [] k n d b h = cc
-  bound_within (x ∷ items) k zero d b h =
-      subst (λ y. 0 + bound_at d b (k + 0) ≤ total (bounds_from t k (y ∷ items))) (sym (same_some x (SubprogramBody d b) h))
-      (first_of (bound_at d b (k + 0)) (bound_at d b k) (total (bounds_from t (suc k) items)) (ap (bound_at d b) (plus_none k)))
-  bound_within (SubprogramBody c q ∷ items) k (suc n) d b h =
-      later_of (bound_at c q k) (total (bounds_from t (suc k) (take n items))) (bound_at d b (suc k + n)) (bound_at d b (k + suc n))
-      (total (bounds_from t (suc k) items)) (ap (bound_at d b) (plus_next k n)) (bound_within items (suc k) n d b h)
-  bound_within (x ∷ items) k (suc n) d b h =
-      other_of (total (bounds_from t (suc k) (take n items))) (bound_at d b (suc k + n)) (bound_at d b (k + suc n))
-      (total (bounds_from t (suc k) items)) (ap (bound_at d b) (plus_next k n)) (bound_within items (suc k) n d b h)
+  pub bound_within : (items : List BodyItemTree) (k n : ℕ) (x : BodyItemTree) (c : Coded) → slice_get items n ≡ Some x → coded x ≡ Some c
+      → total (bounds_from t k (take n items)) + bound_at c.head c.body (k + n) ≤ total (bounds_from t k items)
+  bound_within [] k n x c h is = cc
+  bound_within (y ∷ items) k zero x c h is =
+      subst (λ z. 0 + bound_at c.head c.body (k + 0) ≤ total (bounds_from t k (z ∷ items))) (sym (same_some y x h))
+      (subst (λ l. 0 + bound_at c.head c.body (k + 0) ≤ total (l ++ bounds_from t (suc k) items)) (sym (bounded_by t k x c is))
+      (first_of (bound_at c.head c.body (k + 0)) (bound_at c.head c.body k) (total (bounds_from t (suc k) items))
+      (ap (bound_at c.head c.body) (plus_none k))))
+  bound_within (SubprogramBody e q ∷ items) k (suc n) x c h is =
+      later_of (bound_at e q k) (total (bounds_from t (suc k) (take n items))) (bound_at c.head c.body (suc k + n)) (bound_at c.head c.body (k + suc n))
+      (total (bounds_from t (suc k) items)) (ap (bound_at c.head c.body) (plus_next k n)) (bound_within items (suc k) n x c h is)
+  bound_within (TaskBody name q ∷ items) k (suc n) x c h is =
+      later_of (bound_at (of_task name q).head q k) (total (bounds_from t (suc k) (take n items))) (bound_at c.head c.body (suc k + n))
+      (bound_at c.head c.body (k + suc n)) (total (bounds_from t (suc k) items)) (ap (bound_at c.head c.body) (plus_next k n))
+      (bound_within items (suc k) n x c h is)
+  bound_within (y ∷ items) k (suc n) x c h is =
+      other_of (total (bounds_from t (suc k) (take n items))) (bound_at c.head c.body (suc k + n)) (bound_at c.head c.body (k + suc n))
+      (total (bounds_from t (suc k) items)) (ap (bound_at c.head c.body) (plus_next k n)) (bound_within items (suc k) n x c h is)
 
   bounds_more : (xs ys : List BodyItemTree) (k : ℕ) → total (bounds_from t k xs) ≤ total (bounds_from t k (xs ++ ys))
   bounds_more [] ys k = omega arith
   bounds_more (SubprogramBody d b ∷ xs) ys k =
       more_of (bound_at d b k) (total (bounds_from t (suc k) xs)) (total (bounds_from t (suc k) (xs ++ ys))) (bounds_more xs ys (suc k))
+  bounds_more (TaskBody name b ∷ xs) ys k =
+      more_of (bound_at (of_task name b).head b k) (total (bounds_from t (suc k) xs)) (total (bounds_from t (suc k) (xs ++ ys))) (bounds_more xs ys (suc k))
   bounds_more (x ∷ xs) ys k = bounds_more xs ys (suc k)
 
   -- of items with one more
@@ -65,15 +75,15 @@ module _ (t : ProgramTree) where
   bounds_next items n x h =
       subst (λ l. total (bounds_from t 0 (take n items)) ≤ total (bounds_from t 0 l)) (sym (taken_next items n x h)) (bounds_more (take n items) (x ∷ []) 0)
 
-  pub bound_next : (items : List BodyItemTree) (n : ℕ) (d : SubprogramTree) (b : BodyTree) → slice_get items n ≡ Some (SubprogramBody d b)
-      → total (bounds_from t 0 (take n items)) + bound_at d b n ≤ total (bounds_from t 0 (take (suc n) items))
-  bound_next items n d b h =
+  pub bound_next : (items : List BodyItemTree) (n : ℕ) (x : BodyItemTree) (c : Coded) → slice_get items n ≡ Some x → coded x ≡ Some c
+      → total (bounds_from t 0 (take n items)) + bound_at c.head c.body n ≤ total (bounds_from t 0 (take (suc n) items))
+  bound_next items n x c h is =
       let less : n ≤ suc n = omega arith in
       let front : take n (take (suc n) items) ≡ take n items = take-take n (suc n) items less in
       let none : 0 + n ≡ n = omega arith in
-      subst (λ l. total (bounds_from t 0 l) + bound_at d b n ≤ total (bounds_from t 0 (take (suc n) items))) front
-      (subst (λ m. total (bounds_from t 0 (take n (take (suc n) items))) + bound_at d b m ≤ total (bounds_from t 0 (take (suc n) items))) none
-      (bound_within (take (suc n) items) 0 n d b (taken_at items (suc n) n (SubprogramBody d b) (omega arith) h)))
+      subst (λ l. total (bounds_from t 0 l) + bound_at c.head c.body n ≤ total (bounds_from t 0 (take (suc n) items))) front
+      (subst (λ m. total (bounds_from t 0 (take n (take (suc n) items))) + bound_at c.head c.body m ≤ total (bounds_from t 0 (take (suc n) items))) none
+      (bound_within (take (suc n) items) 0 n x c (taken_at items (suc n) n x (omega arith) h) is))
 
   -- ---- needs
 
@@ -147,14 +157,18 @@ mutual
 abbrev labels_by : (before : List (List ℕ)) → BodyTree → Option Identifier → List (List ℕ)
 labels_by before b o = elim o [ None ↦ body_labels before b | Some r ↦ before ]
 
+body_grows : (before : List (List ℕ)) (b : BodyTree) → length before ≤ length (body_labels before b)
+body_grows before b =
+    more_labels before (stmts_labels before b.statements) (handlers_labels (stmts_labels before b.statements) b.handlers)
+    (stmts_grow before b.statements) (handlers_grow (stmts_labels before b.statements) b.handlers)
+
 item_grows : (before : List (List ℕ)) (x : BodyItemTree) → length before ≤ length (item_labels before x)
 item_grows before (SubprogramBody d b) = by_result d.result
   where
     by_result : (o : Option Identifier) → length before ≤ length (labels_by before b o)
-    by_result None =
-        more_labels before (stmts_labels before b.statements) (handlers_labels (stmts_labels before b.statements) b.handlers)
-        (stmts_grow before b.statements) (handlers_grow (stmts_labels before b.statements) b.handlers)
+    by_result None = body_grows before b
     by_result (Some r) = omega arith
+item_grows before (TaskBody name b) = body_grows before b
 item_grows before x = omega arith
 
 items_grow : (before : List (List ℕ)) (items : List BodyItemTree) → length before ≤ length (items_labels before items)

@@ -12,6 +12,11 @@ mod MadeFrames
 mod CodedBodies
 pub mod CodedPackage
 mod LinkedMain
+pub mod Coded
+pub mod TaskNames
+pub mod TaskRows
+pub mod TasksAdded
+mod EmittedTasks
 mod EmittedFormals
 mod EmittedParts
 mod EmittedFrames

@@ -1,39 +1,25 @@
--- An image has the code of a program whose only task is main: what is left to show is what it holds and what its instructions do.
-use Rattle.std.proofs.Common.{◌≡◌, ℕ, suc, ◌≤◌, List, [], ◌∷◌, length, map, None, Some, refl, sym, ap, ◌∙◌, subst, arith}
+-- The code of main begins with its work: what is left to show is what its instructions do.
+use Rattle.std.proofs.Common.{◌≡◌, ℕ, suc, ◌≤◌, List, [], ◌∷◌, map, None, Some, refl, sym, ap, ◌∙◌, subst, arith}
 use Rattle.std.specs.Prelude.{pos, replicate}
 use Rattle.ada_tree.specs.declared.program.MainStatement.{MainStatement}
 use Rattle.ada_tree.specs.ProgramTree.{ProgramTree}
 use Rattle.image.specs.Operations.{called, results_of}
-use Rattle.image.specs.Rules.{IsWellFormed}
 use Rattle.image.specs.Sections.{Sections, end_of, first_place}
 use Rattle.image.specs.declared.instruction.Operation.TheVariants as op
 use Rattle.image.specs.declared.subprograms.Subprogram.{Subprogram}
-use Rattle.image_laws.specs.Laws.{ImagesHaveSize}
-use Rattle.types.specs.Places.{ceiling_of}
-use Rattle.program_soundness.specs.checking.specs.ProgramRules.{IsLegal}
-use Rattle.ravenscar.specs.ProgramRules.{IsRestricted}
-use Rattle.expr_soundness.specs.meaning.specs.Programs.{OfMain, Program, program_of}
+use Rattle.image.specs.declared.tasks.Task as rows
+use Rattle.expr_soundness.specs.meaning.specs.Programs.{OfMain, Program, Task, program_of}
+use Rattle.expr_soundness.specs.meaning.specs.Source.{duty_items}
 use Rattle.expr_soundness.specs.meaning.specs.Works.{DoesMain as DoesStatement}
-use Rattle.program_soundness.specs.Fronts.{declared_in}
 use Rattle.expr_code.specs.Seeing.{Package}
 use Rattle.expr_code.specs.Views.{At}
 use Rattle.step_simulation.specs.part_code.specs.Handling.{GoesBy, unhandled}
 use Rattle.step_simulation.specs.part_code.specs.Jumping.{Here}
-use Rattle.step_simulation.specs.Laws.{HasCode}
 use Rattle.step_simulation.specs.part_code.specs.Resting.{Framed, RestsWith, Shows}
 use Rattle.step_simulation.specs.part_code.specs.Statements.{IsMainStatementCode, Numbers}
 use Rattle.step_simulation.specs.Standing.{Around, Follows, Inside}
 use Rattle.step_simulation.specs.part_code.proofs.Handling.{goes_within}
-use Rattle.package_code.specs.Linked.{AreLinkedTasks, IsLinkedProgram, IsLinkedTask}
-use Rattle.package_code.specs.Package.{IsInFront, IsPackageOf}
-use Rattle.package_code.proofs.FirstWords.{first_words}
-use Rattle.package_code.proofs.InFront.{LawsOfNames, bare_rests, few_locals}
-
--- main alone is a task, and there are no protected objects
-pub record IsSequential (p : ProgramTree) (priority : ℕ) : Type 0 where
-  pub tasks : (program_of p).tasks ≡ record { name = p.main.name.name; priority = priority; duty = OfMain p.main.statements } ∷ []
-  pub objects : (program_of p).objects ≡ 0
-  pub ceilings : (o : ℕ) → ceiling_of (program_of p).scope o ≡ 0
+use Rattle.package_code.specs.Linked.{IsLinkedTask}
 
 -- the code of main's statements, one behind the other
 abbrev pub AreMain : (i : Sections) (program : Program) (g : Package) (numbers : Numbers) (from to : ℕ) → List MainStatement → Type 0
@@ -41,14 +27,9 @@ AreMain i program g numbers from to [] = from ≡ to
 AreMain i program g numbers from to (s ∷ rest) =
     (mid : ℕ) × (from ≤ mid) × (mid ≤ to) × IsMainStatementCode i program g numbers from mid s × AreMain i program g numbers mid to rest
 
--- its tables, the code of main, and that of the package's subprograms
+-- the code of main, in the subprogram with this number
 pub record DoesMain (t : ProgramTree) (i : Sections) (g : Package) (numbers : Numbers) : Type 0 where
-  pub priority : ℕ
-  pub sequential : IsSequential t priority
-  pub exceptions : i.exceptions ≡ (program_of t).exceptions
-  pub objects : i.objects ≡ []
   pub number : ℕ
-  pub tasks : i.tasks ≡ record { name = t.main.name.name; priority = priority; subprogram = number } ∷ []
   pub s : Subprogram
   pub there : called i number ≡ Some s
   pub results : s.results ≡ 0
@@ -58,7 +39,6 @@ pub record DoesMain (t : ProgramTree) (i : Sections) (g : Package) (numbers : Nu
   pub statements : AreMain i (program_of t) g numbers (first_place i number) stop t.main.statements
   pub return : At i stop op.Return
   pub uncovered : GoesBy i unhandled (first_place i number) stop
-  pub code : HasCode i (program_of t) g numbers
 
 -- ---- the code of main begins with its work
 
@@ -102,7 +82,7 @@ module _ (t : ProgramTree) (i : Sections) (g : Package) (numbers : Numbers) (v :
       from_inside = all_in does.stop does.up (omega arith);
       to_inside = all_in does.stop does.up (omega arith);
     },
-    refl,
+    (λ ret is. let none : None ≡ Some ret = is in cc),
     refl,
   )
 
@@ -129,40 +109,18 @@ module _ (t : ProgramTree) (i : Sections) (g : Package) (numbers : Numbers) (v :
         goes_within i unhandled (first_place i does.number) from code.0 does.stop does.uncovered x.0 up,
       )
 
-  pub linked_main : RestsWith g v [] (record { within = None; locals = [] }) (replicate does.s.locals (pos 0))
-      → IsLinkedTask program i g numbers (record { name = t.main.name.name; priority = does.priority; duty = OfMain t.main.statements })
-      (record { name = t.main.name.name; priority = does.priority; subprogram = does.number })
-  linked_main rests = record {
-    name = refl;
-    priority = refl;
+  pub linked_main : RestsWith g v [] (record { within = None; locals = [] }) (replicate does.s.locals (pos 0)) → (x : Task) (row : rows.Task)
+      → x.duty ≡ OfMain t.main.statements
+      → row.name ≡ x.name → row.priority ≡ x.priority → row.subprogram ≡ does.number → IsLinkedTask program i g numbers x row
+  linked_main rests x row duty name priority number = record {
+    name = name;
+    priority = priority;
     s = does.s;
-    there = does.there;
+    there = ap (called i) number ∙ does.there;
     around = around;
-    begins = main_follows t.main.statements (first_place i does.number) does.statements
-        (all_in (first_place i does.number) (omega arith) (let up = does.up in omega (arith, up)));
+    begins = subst (λ n. Follows i program g numbers around n (first_place i n) (duty_items x.duty) [] []) (sym number)
+        (subst (λ d. Follows i program g numbers around does.number (first_place i does.number) (duty_items d) [] []) (sym duty)
+        (main_follows t.main.statements (first_place i does.number) does.statements
+        (all_in (first_place i does.number) (omega arith) (let up = does.up in omega (arith, up)))));
     rests = rests;
   }
-
--- ---- the whole
-
-module _ (laws : LawsOfNames) (sizes : ImagesHaveSize) (t : ProgramTree) (legal : IsLegal t) (restricted : IsRestricted t) (i : Sections)
-    (well_formed : IsWellFormed i) (g : Package) (of_program : IsPackageOf t i g) (numbers : Numbers) (v : Framed)
-    (behind : IsInFront t g v (length (declared_in t.package_))) (reserved : v.reserved ≡ []) where
-  pub main_linked : (does : DoesMain t i g numbers) → v.room ≤ does.s.locals → IsLinkedProgram t i g numbers
-  main_linked does room =
-      let rests = bare_rests laws t legal restricted i g of_program v (length (declared_in t.package_)) behind reserved does.s.locals room
-      (few_locals i well_formed does.number does.s does.there).1 in
-      record {
-        exceptions = does.exceptions;
-        unprotected = does.sequential.objects;
-        ceilings = does.sequential.ceilings;
-        objects = does.objects;
-        tasks =
-            subst (λ tasks. AreLinkedTasks (program_of t) i g numbers tasks i.tasks) (sym does.sequential.tasks)
-            (subst
-            (AreLinkedTasks (program_of t) i g numbers
-            (record { name = t.main.name.name; priority = does.priority; duty = OfMain t.main.statements } ∷ []))
-            (sym does.tasks) (linked_main t i g numbers v does rests, tt));
-        code = does.code;
-        words = first_words laws t legal restricted i g of_program sizes well_formed;
-      }

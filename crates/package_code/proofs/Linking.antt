@@ -1,6 +1,6 @@
 -- A well-formed image that was put together from an accepted program has the program's code, and so its meaning.
-use Rattle.std.proofs.Common.{◌≡◌, ℕ, zero, suc, ◌+◌, ◌≤◌, List, [], ◌∷◌, ◌++◌, length, map, Bool, true, false, cond, ◌&&◌, inl, inr, Option, None, Some, refl, sym, ap, ◌∙◌, subst, arith, append-nil, append_assoc}
-use Rattle.std.specs.Prelude.{bytes_eq, slice_get}
+use Rattle.std.proofs.Common.{◌≡◌, ℕ, zero, suc, ◌+◌, ◌≤◌, List, [], ◌∷◌, ◌++◌, length, map, Bool, true, false, cond, ◌&&◌, inl, inr, Option, None, Some, refl, sym, ap, ◌∙◌, subst, arith, append-nil, append_assoc, take_all, ◌⊎◌}
+use Rattle.std.specs.Prelude.{bytes_eq, pos, replicate, slice_get}
 use Rattle.std.proofs.lemmas.List.Elements.{All-nil, All-weaker}
 use Rattle.std.proofs.lemmas.Option.{slice_get_within}
 use Rattle.image_laws.specs.kernel.specs.Laws.{QuietStays}
@@ -9,12 +9,14 @@ use Rattle.ada_tree.specs.declared.program.MainStatement.{MainStatement}
 use Rattle.ada_tree.specs.declared.program.MainStatement.TheVariants as main
 use Rattle.ada_tree.specs.ExpressionTree.{ExprTree}
 use Rattle.ada_tree.specs.StatementTree.{SubprogramTree}
-use Rattle.ada_tree.specs.ProgramTree.{BodyTree, ProgramTree, SubprogramBody}
+use Rattle.ada_tree.specs.ProgramTree.{BodyItemTree, BodyTree, ProgramTree, SubprogramBody, TaskBody}
 use Rattle.image_laws.specs.handlers.specs.declared.rows.Row.{Row}
 use Rattle.image.specs.Operations.{called, results_of}
 use Rattle.image.specs.Rules.{IsWellFormed}
 use Rattle.image.specs.Sections.{Sections, first_place}
+use Rattle.image.specs.declared.subprograms.Kind.TheVariants as kinds
 use Rattle.image.specs.declared.subprograms.Subprogram.{Subprogram}
+use Rattle.image.specs.declared.tasks.Task as rows
 use Rattle.image_laws.specs.Laws.{ImagesHaveSize}
 use Rattle.types.specs.Entities.{Entity, Protected}
 use Rattle.types.specs.Laws.{InitialValuesHaveShape}
@@ -24,8 +26,8 @@ use Rattle.declaring.specs.ProtectedRules.{one_if_protected, protected_count}
 use Rattle.program_soundness.specs.checking.specs.ProgramRules.{IsLegal}
 use Rattle.ravenscar.specs.ProgramRules.{IsRestricted}
 use Rattle.expr_soundness.specs.meaning.specs.Calls.{procedure_among, procedure_here}
-use Rattle.expr_soundness.specs.meaning.specs.Programs.{Procedure, Program, base_priority, main_task, package_bodies, program_of, returned}
-use Rattle.expr_soundness.specs.meaning.specs.Source.{initial_work, task_items}
+use Rattle.expr_soundness.specs.meaning.specs.Programs.{OfBody, OfMain, Procedure, Program, Task, items_among, main_task, package_bodies, package_items, program_of, returned, tasks_among}
+use Rattle.expr_soundness.specs.meaning.specs.Source.{duty_items, initial_work, task_items}
 use Rattle.expr_soundness.specs.meaning.specs.Works.{DoesMain as DoesStatement, Store, TaskWork}
 use Rattle.program_soundness.specs.step_soundness.specs.Holding.{IsSoundTask}
 use Rattle.program_soundness.specs.step_soundness.specs.Judged.{IsReady, Judged}
@@ -33,7 +35,8 @@ use Rattle.program_soundness.specs.step_soundness.specs.Objects.{first_store}
 use Rattle.program_soundness.specs.Fronts.{declared_in, front}
 use Rattle.program_soundness.proofs.Callables.{function_by, procedure_by, subprogram_body}
 use Rattle.program_soundness.proofs.WiderScopes.{same_bytes}
-use Rattle.program_soundness.proofs.Listing.{front_at, or_else_some, same_some}
+use Rattle.program_soundness.proofs.Listing.{Has, front_at, has_either, or_else_some, same_some}
+use Rattle.program_soundness.proofs.Trees.{tasks_are}
 use Rattle.expr_code.specs.Code.{Extends, Holds, here}
 use Rattle.expr_code.specs.Computing.{IsFunctionCode}
 use Rattle.expr_code.specs.Seeing.{Package, library_of, told_of}
@@ -44,26 +47,34 @@ use Rattle.stmt_code.specs.Emitting.{HasLabels, IsHandled}
 use Rattle.step_simulation.specs.part_code.specs.Handling.{GoesBy, unhandled}
 use Rattle.step_simulation.specs.part_code.specs.Raising.{AreNamed}
 use Rattle.step_simulation.specs.Laws.{HasCode}
-use Rattle.step_simulation.specs.part_code.specs.Resting.{Framed}
+use Rattle.step_simulation.specs.part_code.specs.Resting.{Framed, RestsWith}
+use Rattle.step_simulation.specs.Standing.{Follows}
 use Rattle.step_simulation.specs.part_code.specs.Statements.{IsProcedureCode, Numbers}
 use Rattle.stmt_code.specs.Subprograms.{AddsProcedure, fresh}
 use Rattle.stmt_code.specs.declared.draft.Draft.{Draft}
 use Rattle.stmt_code.specs.declared.subprogram.SubprogramWords.{SubprogramWords}
 use Rattle.package_code.specs.LinkLaws.{LinkedKeepsCount, LinkedMeansTheSame}
-use Rattle.package_code.specs.Linked.{IsLinkedProgram}
+use Rattle.package_code.specs.Linked.{AreLinkedTasks, IsLinkedProgram, IsLinkedTask}
 use Rattle.package_code.specs.Package.{IsInFront, IsInOrder, IsPackageOf}
 use Rattle.package_code.proofs.NamedExceptions.{exceptions_are_named}
 use Rattle.package_code.proofs.CodedPackage.{HasBodies, ada_linkd}
 use Rattle.package_code.proofs.EmittedBodies.{procedure_emitted}
 use Rattle.package_code.proofs.EmittedFunctions.{function_emitted}
 use Rattle.package_code.proofs.EmittedMain.{AreMainCalls, main_emitted, main_returns, main_within}
-use Rattle.package_code.proofs.InFront.{LawsOfNames}
+use Rattle.package_code.proofs.EmittedTasks.{task_begins}
+use Rattle.package_code.proofs.FirstWords.{first_words}
+use Rattle.package_code.proofs.InFront.{LawsOfNames, bare_rests, few_locals}
 use Rattle.package_code.proofs.InOrder.{package_in_order}
-use Rattle.package_code.proofs.LinkedMain.{DoesMain, IsSequential, main_linked}
+use Rattle.package_code.proofs.LinkedMain.{DoesMain, linked_main}
+use Rattle.package_code.proofs.Numbered.{bodies_numbered}
+use Rattle.package_code.proofs.TaskRows.{HasTaskBody, task_found}
 use Rattle.package_code.specs.Directory.{AreTold}
 use Rattle.package_code.specs.Laws.{SectionsMeanTheSame}
-use Rattle.package_code.specs.Program.{HasProgram, main_row}
-use Rattle.package_code.specs.Walking.{AddsSubprogram, AddsValueFunction, HasBody, LieInFront, begins_at, row_of}
+use Rattle.package_code.specs.Counts.{bodies_among, bodies_before}
+use Rattle.package_code.specs.Program.{HasProgram}
+use Rattle.package_code.specs.Refusing.{number_in}
+use Rattle.package_code.specs.Tasks.{HasDuty, HasTask, HaveTasks}
+use Rattle.package_code.specs.Walking.{AddsSubprogram, AddsValueFunction, Coded, HasBody, LieInFront, begins_at, coded, of_subprogram, of_task, row_of}
 use Rattle.package_code.specs.declared.directory.Directory.{Directory}
 use Rattle.package_code.proofs.BodyRows.{goes_by_own, goes_past}
 use Rattle.package_code.proofs.Walked.{begins_kept, rows_in_front}
@@ -177,6 +188,10 @@ module _ (program : Program) (d : Directory) (v : Visible) (told : AreTold progr
 
 -- ---- what the image holds
 
+-- main's row, by its words and where it ends
+abbrev pub main_row : SubprogramWords → (end : ℕ) → Subprogram
+main_row words end = row_of kinds.TaskBody words end
+
 module _ (t : ProgramTree) (i : Sections) (h : HasProgram t i) where
   abbrev program : Program
   program = program_of t
@@ -228,23 +243,26 @@ module _ (t : ProgramTree) (i : Sections) (h : HasProgram t i) where
   pub holds_main : Holds i (here h.walk.draft.code) h.draft.code
   holds_main k x le e = ap (λ l. slice_get l k) h.instructions ∙ e
 
+  many : length all ≡ bodies_before t (length (declared_in t.package_))
+  many = h.walked.many ∙ ap (bodies_before t) h.whole
+
   -- those of bodies: main has none
   rows_are : i.rows ≡ h.walk.draft.rows.items
   rows_are = h.rows ∙ ap (λ r. r.items) h.main.rows
 
   -- ---- bodies
 
-  pub body_there : (place : ℕ) (d : SubprogramTree) (b : BodyTree) → slice_get (declared_in t.package_) place ≡ Some (SubprogramBody d b)
-      → HasBody t h.directory place d b h.walk
-  body_there place d b at =
+  pub body_there : (place : ℕ) (x : BodyItemTree) (c : Coded) → slice_get (declared_in t.package_) place ≡ Some x → coded x ≡ Some c
+      → HasBody t h.directory place c h.walk
+  body_there place x c at is =
       let w = h.whole in
-      let up = slice_get_within (declared_in t.package_) place (SubprogramBody d b) at in
-      h.walked.bodies place d b (omega (arith, w, up)) at
+      let up = slice_get_within (declared_in t.package_) place x at in
+      h.walked.bodies place x c (omega (arith, w, up)) at is
 
-  module _ (place : ℕ) (d : SubprogramTree) (b : BodyTree) (body : HasBody t h.directory place d b h.walk) where
+  module _ (place : ℕ) (c : Coded) (body : HasBody t h.directory place c h.walk) where
     pub begins_there : first_place i body.number ≡ here body.old.code
     begins_there =
-        let up = slice_get_within all body.number (row_of body.words (here body.new.code)) body.there in
+        let up = slice_get_within all body.number (row_of c.kind body.words (here body.new.code)) body.there in
         first_is body.number (omega (arith, up)) ∙ body.begins
 
     pub holds_there : Holds i (here body.old.code) body.new.code
@@ -259,7 +277,7 @@ module _ (t : ProgramTree) (i : Sections) (h : HasProgram t i) where
         rows_are ∙ body.kept.rows ∙ ap (λ l. l ++ body.kept.later) more ∙ append_assoc body.old.rows.items own body.kept.later
 
     -- what a procedure raises goes on by the rows that were added with its code
-    handled_there : AreNamed program → (adds : AddsProcedure body.seen body.old d.formals b body.words body.new)
+    handled_there : AreNamed program → (adds : AddsProcedure body.seen body.old c.head.formals c.body body.words body.new)
         → IsHandled i program (record body.old { code = adds.initial; words = adds.framed }) adds.run adds.runs.rows unhandled
     handled_there named adds = record {
       named = named;
@@ -284,29 +302,33 @@ module _ (t : ProgramTree) (i : Sections) (h : HasProgram t i) where
     of_program = package_in_order laws t legal restricted i g ordered
 
     module _ (place : ℕ) (d : SubprogramTree) (b : BodyTree) (at : slice_get (declared_in t.package_) place ≡ Some (SubprogramBody d b)) where
-      abbrev body : HasBody t h.directory place d b h.walk
-      body = body_there place d b at
+      abbrev code_of : Coded
+      code_of = of_subprogram d b
+
+      abbrev body : HasBody t h.directory place code_of h.walk
+      body = body_there place (SubprogramBody d b) code_of at refl
 
       abbrev row : Subprogram
-      row = row_of body.words (here body.new.code)
+      row = row_of kinds.Plain body.words (here body.new.code)
 
       there : called i body.number ≡ Some row
       there = called_front body.number row body.there
 
       first : first_place i body.number ≡ here body.old.code
-      first = begins_there place d b body
+      first = begins_there place code_of body
 
       holds : Holds i (here body.old.code) body.new.code
-      holds = holds_there place d b body
+      holds = holds_there place code_of body
 
       labels : HasLabels i body.new.labels
-      labels = labels_there place d b body
+      labels = labels_there place code_of body
 
       procedure_there : d.result ≡ None → IsProcedureCode i program g numbers (procedure_by program.scope (subprogram_body None d b)) body.number
       procedure_there none =
           let adds = as_procedure t d b body.seen body.old body.words body.new body.adds none in
           procedure_emitted laws quiet shaped t legal restricted i well_formed g of_program numbers place d b at body.seen body.old body.new body.words
-          adds body.number row there first refl refl (ap results_of there) refl holds labels (handled_there place d b body (exceptions_are_named laws.premises t legal restricted) adds)
+          adds body.number row there first refl refl (ap results_of there) refl holds labels
+          (handled_there place code_of body (exceptions_are_named laws.premises t legal restricted) adds)
           (λ name q n found told. procedure_numbered program h.directory name q n found told)
           (in_front _ (suc place) body.scope body.told)
 
@@ -317,7 +339,7 @@ module _ (t : ProgramTree) (i : Sections) (h : HasProgram t i) where
           subst (λ e. IsFunctionCode i (library_of g) (function_by program.scope (subprogram_body None d b) r e) body.number)
           (same_some y.value value (sym y.returns ∙ returns))
           (function_emitted laws shaped t legal restricted i well_formed g of_program numbers place d b at r some y.value y.result y.named body.seen body.old
-          body.new body.words y.adds body.number row there first refl refl refl refl holds (uncovered_there place d b body y.adds.rows)
+          body.new body.words y.adds body.number row there first refl refl refl refl holds (uncovered_there place code_of body y.adds.rows)
           (in_front _ (suc place) body.scope body.told))
 
       -- the number is the one that is told of the name
@@ -341,30 +363,18 @@ module _ (t : ProgramTree) (i : Sections) (h : HasProgram t i) where
 
     -- ---- main
 
-    abbrev priority : ℕ
-    priority = base_priority program.scope t.main.aspect
-
-    sequential : IsSequential t priority
-    sequential = record {
-      tasks = ap (λ l. l ++ main_task program.scope t ∷ []) (h.are.tasks (package_bodies t.package_));
-      objects = h.unprotected;
-      ceilings = λ o. no_ceilings program.scope o h.unprotected;
-    }
-
     calls : AreMainCalls program numbers h.walk.visible t.main.statements
     calls =
-        let task : IsSoundTask program (first_store program) None (initial_work program 0) = (laws.starts t legal restricted).works 0 in
-        calls_ready program h.directory h.walk.visible h.walked.told (first_store program) (initial_work program 0) task t.main.statements
-        (subst (λ l. IsReady program (initial_work program 0).own task.scope task.outer task.around (task_items (slice_get l 0))) sequential.tasks task.work)
+        let tasks : List Task = tasks_among program.scope (package_bodies t.package_) (package_items t.package_) in
+        let task : IsSoundTask program (first_store program) None (initial_work program (length tasks)) =
+        (laws.starts t legal restricted).works (length tasks) in
+        calls_ready program h.directory h.walk.visible h.walked.told (first_store program) (initial_work program (length tasks)) task t.main.statements
+        (subst (λ x. IsReady program (initial_work program (length tasks)).own task.scope task.outer task.around (task_items x))
+        (get_last tasks (main_task program.scope t)) task.work)
 
     does : DoesMain t i g numbers
     does = record {
-      priority = priority;
-      sequential = sequential;
-      exceptions = h.exceptions ∙ h.are.exceptions;
-      objects = h.objects;
       number = length all;
-      tasks = h.tasks;
       s = main_row h.words (here h.draft.code);
       there = called_main;
       results = h.main.results;
@@ -381,16 +391,83 @@ module _ (t : ProgramTree) (i : Sections) (h : HasProgram t i) where
           (rows_are ∙ sym (append-nil h.walk.draft.rows.items))
           (subst (λ n. LieInFront n h.walk.draft.rows.items) (sym first_main) (rows_in_front all h.walk.draft h.walked.rows))
           (All-nil (λ q. here h.main.called ≤ q.start));
-      code = code;
     }
 
     abbrev seen : Framed
     seen = record { names = h.walk.visible; room = 0; reserved = [] }
 
+    -- ---- tasks
+
+    main_rests : RestsWith g seen [] (record { within = None; locals = [] }) (replicate does.s.locals (pos 0))
+    unfolding does
+    main_rests =
+        bare_rests laws t legal restricted i g of_program seen (length (declared_in t.package_))
+        (in_front seen (length (declared_in t.package_)) (h.walked.scope ∙ ap (front t) h.whole) h.walked.told) refl does.s.locals (omega arith)
+        (few_locals i well_formed (length all) does.s called_main).1
+
+    -- a task with a body: the row names the subprogram of the body with its name
+    linked_body : (x : Task) (line : rows.Task) → HasTask t x line → HasTaskBody (declared_in t.package_) x → IsLinkedTask program i g numbers x line
+    linked_body x line has f =
+        let c : Coded = of_task f.own f.body in
+        let body : HasBody t h.directory f.place c h.walk = body_there f.place (TaskBody f.own f.body) c f.at refl in
+        let s : Subprogram = row_of kinds.TaskBody body.words (here body.new.code) in
+        let called_so : called i body.number ≡ Some s = called_front body.number s body.there in
+        let counted = (bodies_numbered laws.premises t legal restricted f.place (TaskBody f.own f.body) c f.at refl).0 in
+        let told : HasDuty t x line.subprogram (OfBody f.body) = subst (HasDuty t x line.subprogram) f.duty has.duty in
+        let same : line.subprogram ≡ body.number =
+        same_some line.subprogram body.number (sym told ∙ ap (number_in t) (sym f.named) ∙ counted ∙ ap Some (sym body.counted)) in
+        let r = task_begins laws t legal restricted i well_formed g of_program numbers f.place f.body body.seen body.old body.new body.words body.adds
+        body.number s called_so (begins_there f.place c body) refl refl refl (holds_there f.place c body) (labels_there f.place c body)
+        (handled_there f.place c body (exceptions_are_named laws.premises t legal restricted) body.adds)
+        (λ name q n found told. procedure_numbered program h.directory name q n found told) (in_front _ (suc f.place) body.scope body.told) in
+        record {
+          name = has.name;
+          priority = has.priority;
+          s = s;
+          there = ap (called i) same ∙ called_so;
+          around = r.0;
+          begins = subst (λ n. Follows i program g numbers r.0 n (first_place i n) (duty_items x.duty) [] []) (sym same)
+              (subst (λ d. Follows i program g numbers r.0 body.number (first_place i body.number) (duty_items d) [] []) (sym f.duty) r.1);
+          rests = r.2;
+        }
+
+    linked_task : (x : Task) (line : rows.Task) → Has program.tasks x → HasTask t x line → IsLinkedTask program i g numbers x line
+    unfolding does
+    linked_task x line among has =
+        by_case (has_either (tasks_among program.scope (declared_in t.package_) (items_among (declared_in t.package_))) (main_task program.scope t ∷ []) x
+        (subst (λ l. Has l x) (tasks_are t) among))
+      where
+        main : x ≡ main_task program.scope t → IsLinkedTask program i g numbers x line
+        main same =
+            let duty : x.duty ≡ OfMain t.main.statements = ap (λ y. y.duty) same in
+            linked_main t i g numbers seen does main_rests x line duty has.name has.priority
+            (subst (HasDuty t x line.subprogram) duty has.duty
+            ∙ sym (many ∙ ap bodies_among (take_all (length (declared_in t.package_)) (declared_in t.package_) (omega arith))))
+
+        by_case : Has (tasks_among program.scope (declared_in t.package_) (items_among (declared_in t.package_))) x ⊎ Has (main_task program.scope t ∷ []) x
+            → IsLinkedTask program i g numbers x line
+        by_case (inl k) = linked_body x line has (task_found program.scope (declared_in t.package_) (items_among (declared_in t.package_)) x k)
+        by_case (inr (inl e)) = main (sym e)
+        by_case (inr (inr k)) = absurd k
+
+    linked_tasks : (xs : List Task) (table : List rows.Task) → ((x : Task) → Has xs x → Has program.tasks x) → HaveTasks t xs table
+        → AreLinkedTasks program i g numbers xs table
+    linked_tasks [] [] among has = tt
+    linked_tasks (x ∷ xs) (line ∷ table) among has =
+        (linked_task x line (among x (inl refl)) has.0, linked_tasks xs table (λ y k. among y (inr k)) has.1)
+    linked_tasks [] (line ∷ table) among has = absurd has
+    linked_tasks (x ∷ xs) [] among has = absurd has
+
     pub sections_linked : ImagesHaveSize → IsLinkedProgram t i g numbers
-    sections_linked sizes =
-        main_linked laws sizes t legal restricted i well_formed g of_program numbers seen
-        (in_front seen (length (declared_in t.package_)) (h.walked.scope ∙ ap (front t) h.whole) h.walked.told) refl does (omega arith)
+    sections_linked sizes = record {
+      exceptions = h.exceptions ∙ h.are.exceptions;
+      unprotected = h.unprotected;
+      ceilings = λ o. no_ceilings program.scope o h.unprotected;
+      objects = h.objects;
+      tasks = linked_tasks program.tasks i.tasks (λ x among. among) h.tasks;
+      code = code;
+      words = first_words laws t legal restricted i g of_program sizes well_formed;
+    }
 
 pub sections_mean_the_same : LawsOfNames → QuietStays → InitialValuesHaveShape → ImagesHaveSize → LinkedMeansTheSame → LinkedKeepsCount → SectionsMeanTheSame
 sections_mean_the_same laws quiet shaped sizes means keeps t i legal restricted well_formed h =

@@ -1,22 +1,18 @@
 -- Which number is told of the name of a body: how many bodies stand in front of it, since no two bodies of an accepted program have one name.
-use Rattle.std.proofs.Common.{◌≡◌, ℕ, zero, suc, ◌+◌, ◌<◌, List, [], ◌∷◌, ◌++◌, drop, get_or, length, map, take, Bool, true, false, ◌||◌, inl, inr, Option, Some, None, refl, sym, ap, ◌∙◌, subst, arith}
-use Rattle.std.specs.List.{list_any}
+use Rattle.std.proofs.Common.{◌≡◌, ℕ, zero, suc, ◌+◌, ◌<◌, List, [], ◌∷◌, ◌++◌, drop, get_or, length, map, take, Bool, true, false, inl, inr, Option, Some, None, refl, sym, ap, ◌∙◌, subst, arith}
 use Rattle.std.specs.Prelude.{bytes_eq, if◌then◌else◌, replicate, slice_get, slice_set}
-use Rattle.std.proofs.lemmas.Bool.{or_parts}
 use Rattle.std.proofs.lemmas.List.{length-replicate}
 use Rattle.std.proofs.lemmas.Option.{slice_get_within}
 use Rattle.ada_tree.specs.declared.program.BodyItem.{BodyItem}
-use Rattle.ada_tree.specs.StatementTree.{SubprogramTree}
-use Rattle.ada_tree.specs.ProgramTree.{BodyItemTree, BodyTree, SubprogramBody, body_item_tree}
+use Rattle.ada_tree.specs.ProgramTree.{BodyItemTree, SubprogramBody, TaskBody, body_item_tree}
 use Rattle.types.specs.Places.{or_else}
 use Rattle.types.specs.Scopes.{Scope, number_of}
-use Rattle.expr_soundness.specs.expr_rules.proofs.TypedLaw.{unbroken}
+use Rattle.expr_soundness.specs.meaning.specs.Programs.{program_of}
 use Rattle.program_soundness.specs.Fronts.{declared_in, start_in}
 use Rattle.program_soundness.specs.BodyLaws.{PremisesHold}
 use Rattle.program_soundness.proofs.Listing.{or_else_none, same_some}
-use Rattle.program_soundness.proofs.OneList.{is_subprogram_body, matched_at}
 use Rattle.program_soundness.proofs.Trees.{tree_package}
-use Rattle.program_soundness.proofs.WiderScopes.{bytes_same, equal_bytes, same_bytes}
+use Rattle.program_soundness.proofs.WiderScopes.{bytes_same, same_bytes}
 use Rattle.expr_soundness.proofs.Positions.{found_at, number_place}
 use Rattle.expr_code.specs.Refusing.{IsRefused}
 use Rattle.expr_code.specs.Seeing.{told_of}
@@ -27,7 +23,10 @@ use Rattle.package_code.specs.Counts.{bodies_among}
 use Rattle.package_code.specs.Directory.{HaveBodyNumbers, HasManyBodies, numbered_item, numbered_once, numbered_with}
 use Rattle.package_code.specs.Laws.{BodiesAreNumbered}
 use Rattle.package_code.specs.Refusing.{number_among}
+use Rattle.package_code.specs.Walking.{Coded, coded, of_subprogram, of_task}
+use Rattle.package_code.proofs.Coded.{coded_by}
 use Rattle.package_code.proofs.GlobalsRefused.{split_at}
+use Rattle.package_code.proofs.TaskNames.{name_numbered, unlike_names}
 use Rattle.package_code.proofs.Variables.{long_set, none_told, set_other, set_told, was_none}
 
 -- ---- tables of numbers
@@ -91,20 +90,21 @@ module _ (s : Scope) (numbers : List (Option ℕ)) (many : length numbers ≡ le
 
 -- ---- of bodies one behind another
 
+among_later : (before : ℕ) (xs : List BodyItemTree) (x : BodyItemTree) (name : List ℕ) (c : Bool)
+    → number_among (suc before) (xs ++ x ∷ []) name
+    ≡ or_else (number_among (suc before) xs name) (number_among (suc before + bodies_among xs) (x ∷ []) name)
+    → (if c then Some before else number_among (suc before) (xs ++ x ∷ []) name)
+    ≡ or_else (if c then Some before else number_among (suc before) xs name) (number_among (before + suc (bodies_among xs)) (x ∷ []) name)
+among_later before xs x name true later = refl
+among_later before xs x name false later =
+    (let e : suc before + bodies_among xs ≡ before + suc (bodies_among xs) = omega arith in
+    later ∙ ap (λ n. or_else (number_among (suc before) xs name) (number_among n (x ∷ []) name)) e)
+
 among_both : (before : ℕ) (xs : List BodyItemTree) (x : BodyItemTree) (name : List ℕ)
     → number_among before (xs ++ x ∷ []) name ≡ or_else (number_among before xs name) (number_among (before + bodies_among xs) (x ∷ []) name)
 among_both before [] x name = (let e : before ≡ before + 0 = omega arith in ap (λ n. number_among n (x ∷ []) name) e)
-among_both before (SubprogramBody d b ∷ xs) x name = by_test (bytes_eq d.name.name name) (among_both (suc before) xs x name)
-  where
-    by_test : (c : Bool)
-        → number_among (suc before) (xs ++ x ∷ []) name
-        ≡ or_else (number_among (suc before) xs name) (number_among (suc before + bodies_among xs) (x ∷ []) name)
-        → (if c then Some before else number_among (suc before) (xs ++ x ∷ []) name)
-        ≡ or_else (if c then Some before else number_among (suc before) xs name) (number_among (before + suc (bodies_among xs)) (x ∷ []) name)
-    by_test true later = refl
-    by_test false later =
-        (let e : suc before + bodies_among xs ≡ before + suc (bodies_among xs) = omega arith in
-        later ∙ ap (λ n. or_else (number_among (suc before) xs name) (number_among n (x ∷ []) name)) e)
+among_both before (SubprogramBody d b ∷ xs) x name = among_later before xs x name (bytes_eq d.name.name name) (among_both (suc before) xs x name)
+among_both before (TaskBody own b ∷ xs) x name = among_later before xs x name (bytes_eq own.name name) (among_both (suc before) xs x name)
 among_both before (y ∷ xs) x name = among_both before xs x name
 
 long_once : (numbers : List (Option ℕ)) (k one : ℕ) (p : Option (Option ℕ)) → length (numbered_once numbers k one p) ≡ length numbers
@@ -136,21 +136,30 @@ one_numbered s items x old new one counted h is = by_item x is
           ∙ ap (λ f. or_else (number_among 0 items name) (f name)) none));
     }
 
-    by_item : (y : BodyItemTree) → new ≡ numbered_item s old one y → HaveBodyNumbers s (items ++ y ∷ []) new
-    by_item (SubprogramBody d b) same = record {
-      many = ap length same ∙ long_with old (number_of s d.name.name) one ∙ h.many;
+    -- a body of this name
+    named : (y : BodyItemTree) (own : List ℕ) → new ≡ numbered_with old (number_of s own) one
+        → ((n : ℕ) (name : List ℕ) → number_among n (y ∷ []) name ≡ (if bytes_eq own name then Some n else None))
+        → HaveBodyNumbers s (items ++ y ∷ []) new
+    named y own same among = record {
+      many = ap length same ∙ long_with old (number_of s own) one ∙ h.many;
       told = λ name k seen.
           (let e : one ≡ 0 + bodies_among items = omega (arith, counted) in
-          ap (λ l. told_of s l name) same ∙ numbers_told s old h.many d.name.name name one k seen
-          ∙ ap (λ o. or_else o (if bytes_eq d.name.name name then Some one else None)) (h.told name k seen)
-          ∙ ap (λ n. or_else (number_among 0 items name) (if bytes_eq d.name.name name then Some n else None)) e
-          ∙ sym (among_both 0 items (SubprogramBody d b) name));
+          ap (λ l. told_of s l name) same ∙ numbers_told s old h.many own name one k seen
+          ∙ ap (λ o. or_else o (if bytes_eq own name then Some one else None)) (h.told name k seen)
+          ∙ ap (λ n. or_else (number_among 0 items name) (if bytes_eq own name then Some n else None)) e
+          ∙ ap (λ o. or_else (number_among 0 items name) o) (sym (among (0 + bodies_among items) name))
+          ∙ sym (among_both 0 items y name));
     }
+
+    by_item : (y : BodyItemTree) → new ≡ numbered_item s old one y → HaveBodyNumbers s (items ++ y ∷ []) new
+    by_item (SubprogramBody d b) same = named (SubprogramBody d b) d.name.name same (λ n name. refl)
+    by_item (TaskBody own b) same = named (TaskBody own b) own.name same (λ n name. refl)
     by_item y same = kept y refl same
 
 bodies_joined : (xs ys : List BodyItemTree) → bodies_among (xs ++ ys) ≡ bodies_among xs + bodies_among ys
 bodies_joined [] ys = omega arith
 bodies_joined (SubprogramBody d b ∷ xs) ys = (let rest = bodies_joined xs ys in omega (arith, rest))
+bodies_joined (TaskBody name b ∷ xs) ys = (let rest = bodies_joined xs ys in omega (arith, rest))
 bodies_joined (x ∷ xs) ys = bodies_joined xs ys
 
 -- one item of them more
@@ -185,29 +194,46 @@ items_refused all n x next refusal.Limit less is counted (inr (inr r)) = absurd 
 
 -- ---- bodies of an accepted program
 
-body_numbered : (items : List BodyItemTree) (before place : ℕ) (d : SubprogramTree) (b : BodyTree) → slice_get items place ≡ Some (SubprogramBody d b)
-    → list_any (is_subprogram_body d.name) (take place items) ≡ false → number_among before items d.name.name ≡ Some (before + bodies_among (take place items))
-body_numbered [] before place d b at none = cc
-body_numbered (x ∷ items) before zero d b at none =
-    subst (λ y. number_among before (y ∷ items) d.name.name ≡ Some (before + 0)) (sym (same_some x (SubprogramBody d b) at))
-    (let e : before ≡ before + 0 = omega arith in
-    ap (λ c. if c then Some before else number_among (suc before) items d.name.name) (bytes_same d.name.name) ∙ ap Some e)
-body_numbered (SubprogramBody c q ∷ items) before (suc place) d b at none =
-    let parts = or_parts (is_subprogram_body d.name (SubprogramBody c q)) (list_any (is_subprogram_body d.name) (take place items)) none in
+-- no body in front has its name
+abbrev IsFirst : (items : List BodyItemTree) (place : ℕ) → Coded → Type 0
+IsFirst items place c =
+    (n : ℕ) (y : BodyItemTree) (e : Coded) → n < place → slice_get items n ≡ Some y → coded y ≡ Some e → bytes_eq e.head.name.name c.head.name.name ≡ false
+
+numbered_later : (before : ℕ) (items : List BodyItemTree) (name : List ℕ) (place : ℕ) (test : Bool) → test ≡ false
+    → number_among (suc before) items name ≡ Some (suc before + bodies_among (take place items))
+    → (if test then Some before else number_among (suc before) items name) ≡ Some (before + suc (bodies_among (take place items)))
+numbered_later before items name place test is later =
     let e : suc before + bodies_among (take place items) ≡ before + suc (bodies_among (take place items)) = omega arith in
-    ap (λ v. if v then Some before else number_among (suc before) items d.name.name) (unlike (bytes_eq c.name.name d.name.name) refl parts.0)
-    ∙ body_numbered items (suc before) place d b at parts.1 ∙ ap Some e
+    ap (λ v. if v then Some before else number_among (suc before) items name) is ∙ later ∙ ap Some e
+
+body_numbered : (items : List BodyItemTree) (before place : ℕ) (x : BodyItemTree) (c : Coded) → slice_get items place ≡ Some x → coded x ≡ Some c
+    → IsFirst items place c → number_among before items c.head.name.name ≡ Some (before + bodies_among (take place items))
+body_numbered [] before place x c at is first = cc
+body_numbered (y ∷ items) before zero x c at is first =
+    subst (λ z. number_among before (z ∷ items) c.head.name.name ≡ Some (before + 0)) (sym (same_some y x at))
+    (coded_by (λ z e. number_among before (z ∷ items) e.head.name.name ≡ Some (before + 0))
+    (λ d b. here d.name.name (number_among (suc before) items d.name.name)) (λ name b. here name.name (number_among (suc before) items name.name)) x c is)
   where
-    unlike : (v : Bool) → bytes_eq c.name.name d.name.name ≡ v → bytes_eq d.name.name c.name.name ≡ false → bytes_eq c.name.name d.name.name ≡ false
-    unlike false e h = e
-    unlike true e h = absurd (let bad = sym h ∙ equal_bytes d.name.name c.name.name (sym (same_bytes c.name.name d.name.name e)) in cc)
-body_numbered (x ∷ items) before (suc place) d b at none = body_numbered items before place d b at none
+    here : (name : List ℕ) (other : Option ℕ) → (if bytes_eq name name then Some before else other) ≡ Some (before + 0)
+    here name other = (let e : before ≡ before + 0 = omega arith in ap (λ b. if b then Some before else other) (bytes_same name) ∙ ap Some e)
+body_numbered (SubprogramBody d b ∷ items) before (suc place) x c at is first =
+    numbered_later before items c.head.name.name place (bytes_eq d.name.name c.head.name.name)
+    (first 0 (SubprogramBody d b) (of_subprogram d b) (omega arith) refl refl)
+    (body_numbered items (suc before) place x c at is (λ n y e less there code. first (suc n) y e (omega (arith, less)) there code))
+body_numbered (TaskBody name b ∷ items) before (suc place) x c at is first =
+    numbered_later before items c.head.name.name place (bytes_eq name.name c.head.name.name)
+    (first 0 (TaskBody name b) (of_task name b) (omega arith) refl refl)
+    (body_numbered items (suc before) place x c at is (λ n y e less there code. first (suc n) y e (omega (arith, less)) there code))
+body_numbered (y ∷ items) before (suc place) x c at is first =
+    body_numbered items before place x c at is (λ n y e less there code. first (suc n) y e (omega (arith, less)) there code)
 
 pub bodies_numbered : PremisesHold → BodiesAreNumbered
-bodies_numbered premises t legal restricted place d b at =
+bodies_numbered premises t legal restricted place x c at is =
     let all = declared_in t.package_ in
     let w = tree_package t legal restricted (premises t legal).sound in
-    let matched : (list_any (is_subprogram_body d.name) (take place all) || _) ≡ false =
-    unbroken _ d.name.place _ (matched_at (start_in t.package_) all w.list place (SubprogramBody d b) at) in
-    let e : 0 + bodies_among (take place all) ≡ bodies_among (take place all) = omega arith in
-    body_numbered all 0 place d b at (or_parts (list_any (is_subprogram_body d.name) (take place all)) _ matched).0 ∙ ap Some e
+    let e : 0 + bodies_among (take place all) ≡ bodies_among (take place all) = omega arith in (
+      body_numbered all 0 place x c at is
+          (λ n y d less there code. unlike_names (program_of t) (start_in t.package_) all w n place y d x c less there code at is)
+          ∙ ap Some e,
+      name_numbered (program_of t) (start_in t.package_) all w place x c at is,
+    )

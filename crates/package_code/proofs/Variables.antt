@@ -5,12 +5,12 @@ use Rattle.std.proofs.lemmas.List.{length-replicate}
 use Rattle.base.specs.Names.{predefined}
 use Rattle.ada_tree.specs.declared.expression.Identifier.{Identifier}
 use Rattle.ada_tree.specs.StatementTree.{ObjectTree}
-use Rattle.ada_tree.specs.ProgramTree.{BodyItemTree, ItemTree, OfException, OfObject, OfTask}
+use Rattle.ada_tree.specs.ProgramTree.{ItemTree, OfException, OfObject}
 use Rattle.image.specs.declared.instruction.Region.TheVariants as regions
 use Rattle.types.specs.Places.{Object}
 use Rattle.types.specs.Scopes.{Scope, number_of}
 use Rattle.types.specs.Shapes.{value_words}
-use Rattle.expr_soundness.specs.meaning.specs.Programs.{exceptions_among, initial_value, object_named, subtype_or_integer, tasks_among, variables_among}
+use Rattle.expr_soundness.specs.meaning.specs.Programs.{exceptions_among, initial_value, object_named, subtype_or_integer, variables_among}
 use Rattle.expr_soundness.proofs.Positions.{found_at, number_place, same_some}
 use Rattle.expr_code.specs.Entries.{entry_at}
 use Rattle.expr_code.specs.Seeing.{told_of}
@@ -134,31 +134,12 @@ exceptions_both [] ys = refl
 exceptions_both (OfException name ∷ xs) ys = ap (λ l. name.name ∷ l) (exceptions_both xs ys)
 exceptions_both (x ∷ xs) ys = exceptions_both xs ys
 
-both_none : {X : Type 0} (xs ys : List X) → xs ++ ys ≡ [] → (xs ≡ []) × (ys ≡ [])
-both_none [] ys h = (refl, h)
-both_none (x ∷ xs) ys h = cc
-
--- none of them is that of a task
-abbrev HasNoTasks : Scope → List ItemTree → Type 0
-HasNoTasks s items = (bodies : List BodyItemTree) → tasks_among s bodies items ≡ []
-
-tasks_both : (s : Scope) (xs ys : List ItemTree) → HasNoTasks s xs → HasNoTasks s ys → HasNoTasks s (xs ++ ys)
-tasks_both s xs ys h k bodies = appended xs (h bodies) ∙ k bodies
-  where
-    appended : (xs : List ItemTree) → tasks_among s bodies xs ≡ [] → tasks_among s bodies (xs ++ ys) ≡ tasks_among s bodies ys
-    appended [] e = refl
-    appended (OfTask d ∷ xs) e =
-        let parts = both_none _ (tasks_among s bodies xs) e in
-        ap (λ l. l ++ tasks_among s bodies (xs ++ ys)) parts.0 ∙ appended xs parts.1
-    appended (x ∷ xs) e = appended xs e
-
 -- ---- what is told of declarations, and of one more
 
--- a declaration that declares no variable, no exception and no task
+-- a declaration that declares no variable and no exception
 pub adds_nothing : (s : Scope) (i : ItemTree) (g : Globals) → variables_among s (i ∷ []) ≡ [] → exceptions_among (i ∷ []) ≡ []
-    → HasNoTasks s (i ∷ [])
     → AddsItems s g (i ∷ []) g
-adds_nothing s i g no_variables no_exceptions no_tasks = record { are = told }
+adds_nothing s i g no_variables no_exceptions = record { are = told }
   where
     told : (front : List ItemTree) → AreGlobals s front g → AreGlobals s (front ++ i ∷ []) g
     told front are =
@@ -172,13 +153,12 @@ adds_nothing s i g no_variables no_exceptions no_tasks = record { are = told }
           exceptions = are.exceptions
               ∙ ap (λ l. predefined ++ l)
               (sym (exceptions_both front (i ∷ []) ∙ ap (λ l. exceptions_among front ++ l) no_exceptions ∙ append-nil (exceptions_among front)));
-          tasks = tasks_both s front (i ∷ []) are.tasks no_tasks;
         }
 
 -- a constant
 pub adds_constant : (s : Scope) (d : ObjectTree) (g : Globals) → d.constant ≡ true → AddsItems s g (OfObject d ∷ []) g
 adds_constant s d g constant =
-    adds_nothing s (OfObject d) g (ap (λ b. (if b then [] else object_named s d.name d.subtype d.value ∷ []) ++ []) constant) refl (λ bodies. refl)
+    adds_nothing s (OfObject d) g (ap (λ b. (if b then [] else object_named s d.name d.subtype d.value ∷ []) ++ []) constant) refl
 
 -- an exception
 pub adds_exception : (s : Scope) (name : Identifier) (old new : Globals) → new.slots ≡ old.slots → new.words ≡ old.words
@@ -199,7 +179,6 @@ adds_exception s name old new slots words exceptions = record { are = told }
           exceptions = exceptions ∙ ap (λ l. l ++ name.name ∷ []) are.exceptions
               ∙ append_assoc predefined (exceptions_among front) (name.name ∷ [])
               ∙ ap (λ l. predefined ++ l) (sym (exceptions_both front (OfException name ∷ [])));
-          tasks = tasks_both s front (OfException name ∷ []) are.tasks (λ bodies. refl);
         }
 
 -- a variable
@@ -216,7 +195,6 @@ added_variable s front d old new variable h are =
       within = within;
       exceptions = ap (λ z. z.items) h.exceptions ∙ are.exceptions
           ∙ ap (λ l. predefined ++ l) (sym (exceptions_both front (OfObject d ∷ []) ∙ append-nil (exceptions_among front)));
-      tasks = tasks_both s front (OfObject d ∷ []) are.tasks (λ bodies. refl);
     }
   where
     all : List Object
@@ -291,5 +269,4 @@ no_globals s g slots words exceptions = record {
   words = words;
   within = λ name x h. (let none = sym (ap (λ l. told_of s l name) slots ∙ none_told s (length s) name) ∙ h in cc);
   exceptions = exceptions ∙ sym (append-nil predefined);
-  tasks = λ bodies. refl;
 }

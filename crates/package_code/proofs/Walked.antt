@@ -1,11 +1,11 @@
 -- How far a walk over a package is: in front of it, behind a declaration, and behind a body, with the rows of handlers that it has.
-use Rattle.std.proofs.Common.{◌≡◌, ℕ, zero, suc, ◌+◌, ◌<◌, ◌≤◌, List, [], ◌∷◌, ◌++◌, length, ◌⊎◌, inl, inr, Option, Some, refl, sym, ap, ◌∙◌, subst, arith, append-nil, append_assoc, length-append}
+use Rattle.std.proofs.Common.{◌≡◌, ℕ, zero, suc, ◌+◌, ◌<◌, ◌≤◌, List, [], ◌∷◌, ◌++◌, length, ◌⊎◌, inl, inr, Some, refl, sym, ap, ◌∙◌, subst, arith, append-nil, append_assoc, length-append}
 use Rattle.std.proofs.lemmas.List.Elements.{All-append, All-nil, All-weaker}
 use Rattle.std.proofs.lemmas.Option.{slice_get_within}
 use Rattle.std.specs.Prelude.{slice_get, take}
 use Rattle.ada_tree.specs.declared.expression.Identifier.{Identifier}
 use Rattle.ada_tree.specs.StatementTree.{SubprogramTree}
-use Rattle.ada_tree.specs.ProgramTree.{BodyItemTree, BodyTree, ItemTree, OfItem, ProgramTree, SubprogramBody}
+use Rattle.ada_tree.specs.ProgramTree.{BodyItemTree, BodyTree, ItemTree, OfItem, ProgramTree, SubprogramBody, TaskBody}
 use Rattle.image_laws.specs.handlers.specs.declared.rows.Row.{Row}
 use Rattle.image.specs.Sections.{end_of}
 use Rattle.image.specs.declared.subprograms.Subprogram.{Subprogram}
@@ -29,9 +29,10 @@ use Rattle.stmt_code.proofs.RowsAdded.{rows_kept, rows_then}
 use Rattle.package_code.specs.Counts.{bodies_among, bodies_before}
 use Rattle.package_code.specs.Directory.{AreTold, TellsNext}
 use Rattle.package_code.specs.Laws.{MayBeAdded}
-use Rattle.package_code.specs.Walking.{AddsBody, AddsSubprogram, BeginsWalk, HasBody, HasRows, IsDraftKept, IsWalked, LieInFront, LiesInOne, begins_at, row_of}
+use Rattle.package_code.specs.Walking.{AddsBody, AddsSubprogram, BeginsWalk, Coded, HasBody, HasRows, IsDraftKept, IsWalked, LieInFront, LiesInOne, begins_at, coded, of_subprogram, of_task, row_of}
 use Rattle.package_code.specs.declared.directory.Directory.{Directory}
 use Rattle.package_code.specs.declared.walk.Walk.{Walk}
+use Rattle.package_code.proofs.Coded.{counts_one}
 use Rattle.package_code.proofs.Seen.{first_front}
 use Rattle.package_code.proofs.Told.{Grows, item_grows, subprogram_grows, told_next, unseen_told}
 
@@ -157,20 +158,14 @@ among_next : (items : List BodyItemTree) (n : ℕ) (x : BodyItemTree) → slice_
 among_next [] n x h = cc
 among_next (y ∷ items) zero x h = (let e = ap (λ z. bodies_among (z ∷ [])) (same_some y x h) in omega (arith, e))
 among_next (SubprogramBody d b ∷ items) (suc n) x h = (let more = among_next items n x h in omega (arith, more))
+among_next (TaskBody name b ∷ items) (suc n) x h = (let more = among_next items n x h in omega (arith, more))
 among_next (y ∷ items) (suc n) x h = among_next items n x h
 
 -- ---- the walk
 
-abbrev head_of : SubprogramTree → Option BodyItemTree → SubprogramTree
-head_of other (Some (SubprogramBody d b)) = d
-head_of other o = other
-
-abbrev body_of : BodyTree → Option BodyItemTree → BodyTree
-body_of other (Some (SubprogramBody d b)) = b
-body_of other o = other
-
-same_body : (d e : SubprogramTree) (b c : BodyTree) → Some (SubprogramBody d b) ≡ Some (SubprogramBody e c) → (d ≡ e) × (b ≡ c)
-same_body d e b c h = (ap (head_of d) h, ap (body_of b) h)
+-- one item is the code of one body
+same_code : (x y : BodyItemTree) (c e : Coded) → Some x ≡ Some y → coded x ≡ Some c → coded y ≡ Some e → c ≡ e
+same_code x y c e h is other = same_some c e (sym is ∙ ap coded (same_some x y h) ∙ other)
 
 module _ (t : ProgramTree) (directory : Directory) where
   abbrev all : List BodyItemTree
@@ -191,7 +186,7 @@ module _ (t : ProgramTree) (directory : Directory) where
   walk_begins s names w begins is known = record {
     scope = begins.visible.scope ∙ is ∙ sym (ap (front t) begins.place ∙ first_front (start_in t.package_) all);
     told = unseen_told whole directory s w.visible begins.visible;
-    bodies = λ n d b less at. absurd (let place = begins.place in omega (arith, less, place));
+    bodies = λ n x c less at is. absurd (let place = begins.place in omega (arith, less, place));
     end = ap (λ l. begins_at l (length l)) begins.subprograms ∙ sym (ap length begins.instructions);
     many = ap length begins.subprograms ∙ sym (ap (bodies_before t) begins.place);
     exceptions = begins.exceptions ∙ known;
@@ -199,11 +194,11 @@ module _ (t : ProgramTree) (directory : Directory) where
   }
 
   -- what bodies have stays while more are added
-  moved : (old new : Walk) (place : ℕ) (d : SubprogramTree) (b : BodyTree) (more : List Subprogram) → IsDraftKept old.draft new.draft
+  moved : (old new : Walk) (place : ℕ) (c : Coded) (more : List Subprogram) → IsDraftKept old.draft new.draft
       → new.subprograms.items ≡ old.subprograms.items ++ more
-      → HasBody t directory place d b old → HasBody t directory place d b new
-  moved old new place d b more kept subprograms has =
-      let within = slice_get_within old.subprograms.items has.number (row_of has.words (here has.new.code)) has.there in
+      → HasBody t directory place c old → HasBody t directory place c new
+  moved old new place c more kept subprograms has =
+      let within = slice_get_within old.subprograms.items has.number (row_of c.kind has.words (here has.new.code)) has.there in
       record {
         seen = has.seen;
         scope = has.scope;
@@ -219,7 +214,7 @@ module _ (t : ProgramTree) (directory : Directory) where
         numbered = has.numbered;
         counted = has.counted;
         there = ap (λ l. slice_get l has.number) subprograms
-            ∙ item_kept old.subprograms.items more has.number (row_of has.words (here has.new.code)) has.there;
+            ∙ item_kept old.subprograms.items more has.number (row_of c.kind has.words (here has.new.code)) has.there;
         begins = ap (λ l. begins_at l has.number) subprograms ∙ begins_kept old.subprograms.items more has.number (omega (arith, within)) ∙ has.begins;
         kept = kept_then has.new old.draft new.draft has.kept kept;
       }
@@ -238,7 +233,7 @@ module _ (t : ProgramTree) (directory : Directory) where
   declared_next old new i walked at place draft subprograms scope told = record {
     scope = scope ∙ ap (front t) (sym next);
     told = told;
-    bodies = λ n d b less there. by_place n d b there (last_or_before n old.place (omega (arith, less, place)));
+    bodies = λ n x c less there is. by_place n x c there is (last_or_before n old.place (omega (arith, less, place)));
     end = ap (λ l. begins_at l.items (length l.items)) subprograms ∙ walked.end ∙ ap (λ z. here z.code) (sym draft);
     many = ap (λ l. length l.items) subprograms ∙ walked.many ∙ sym (ap (bodies_before t) next ∙ more_before old.place (OfItem i) at ∙ plus_none (bodies_before t old.place));
     exceptions = ap (λ z. z.exceptions.items) draft ∙ walked.exceptions;
@@ -248,27 +243,31 @@ module _ (t : ProgramTree) (directory : Directory) where
       next : new.place ≡ suc old.place
       next = omega (arith, place)
 
-      by_place : (n : ℕ) (d : SubprogramTree) (b : BodyTree) → slice_get all n ≡ Some (SubprogramBody d b) → (n ≡ old.place) ⊎ (n < old.place)
-          → HasBody t directory n d b new
-      by_place n d b there (inl same) = absurd (let both = sym at ∙ ap (slice_get all) (sym same) ∙ there in cc)
-      by_place n d b there (inr less) =
-          moved old new n d b [] (subst (IsDraftKept old.draft) (sym draft) (kept_self old.draft)) (ap (λ l. l.items) subprograms ∙ sym (append-nil old.subprograms.items))
-          (walked.bodies n d b less there)
+      no_code : (x : BodyItemTree) (c : Coded) → Some (OfItem i) ≡ Some x → coded x ≡ Some c → ⊥
+      no_code x c h is = let none : coded (OfItem i) ≡ Some c = ap coded (same_some (OfItem i) x h) ∙ is in cc
+
+      by_place : (n : ℕ) (x : BodyItemTree) (c : Coded) → slice_get all n ≡ Some x → coded x ≡ Some c → (n ≡ old.place) ⊎ (n < old.place)
+          → HasBody t directory n c new
+      by_place n x c there is (inl same) = absurd (no_code x c (sym at ∙ ap (slice_get all) (sym same) ∙ there) is)
+      by_place n x c there is (inr less) =
+          moved old new n c [] (subst (IsDraftKept old.draft) (sym draft) (kept_self old.draft))
+          (ap (λ l. l.items) subprograms ∙ sym (append-nil old.subprograms.items))
+          (walked.bodies n x c less there is)
 
   -- behind a body, whose code was added where its name is visible
-  pub body_next : (old mid after new : Walk) (d : SubprogramTree) (b : BodyTree) → IsWalked t directory old
-      → slice_get all old.place ≡ Some (SubprogramBody d b)
+  pub body_next : (old mid after new : Walk) (item : BodyItemTree) (c : Coded) → IsWalked t directory old
+      → slice_get all old.place ≡ Some item → coded item ≡ Some c
       → mid.draft ≡ old.draft → mid.subprograms ≡ old.subprograms → mid.visible.scope ≡ front t (suc old.place) → AreTold whole directory mid.visible
-      → AddsBody t directory d b mid after
+      → AddsBody t directory c mid after
       → new.place ≡ old.place + 1 → new.draft ≡ after.draft → new.subprograms ≡ after.subprograms → new.visible ≡ after.visible
       → IsWalked t directory new
-  body_next old mid after new d b walked at draft subprograms scope told adds place new_draft new_subprograms new_visible = record {
+  body_next old mid after new item c walked at is draft subprograms scope told adds place new_draft new_subprograms new_visible = record {
     scope = ap (λ v. v.scope) seen ∙ scope ∙ ap (front t) (sym next);
     told = subst (AreTold whole directory) (sym seen) told;
-    bodies = λ n e c less there. by_place n e c there (last_or_before n old.place (omega (arith, less, place)));
+    bodies = λ n x e less there coded_as. by_place n x e there coded_as (last_or_before n old.place (omega (arith, less, place)));
     end = ap (λ l. begins_at l (length l)) rows ∙ begins_behind old.subprograms.items row ∙ ap (λ z. here z.code) (sym new_draft);
     many = ap length rows ∙ length-append old.subprograms.items (row ∷ []) ∙ ap (λ n. n + 1) walked.many
-        ∙ sym (ap (bodies_before t) next ∙ more_before old.place (SubprogramBody d b) at);
+        ∙ sym (ap (bodies_before t) next ∙ more_before old.place item at ∙ ap (λ n. bodies_before t old.place + n) (counts_one item c is []));
     exceptions = ap (λ e. e.items) kept.exceptions ∙ walked.exceptions;
     rows = subst (λ l. HasRows l new.draft) (sym rows)
         (rows_more old.subprograms.items row old.draft new.draft walked.rows keeps.rows keeps.extends walked.end (ap (λ z. here z.code) (sym new_draft)));
@@ -281,15 +280,15 @@ module _ (t : ProgramTree) (directory : Directory) where
       seen = new_visible ∙ adds.visible
 
       row : Subprogram
-      row = row_of adds.words (here after.draft.code)
+      row = row_of c.kind adds.words (here after.draft.code)
 
       rows : new.subprograms.items ≡ old.subprograms.items ++ row ∷ []
       rows = ap (λ l. l.items) new_subprograms ∙ adds.row ∙ ap (λ l. l.items ++ row ∷ []) subprograms
 
-      added : AddsSubprogram t d b mid.visible old.draft adds.words new.draft
+      added : AddsSubprogram t c.head c.body mid.visible old.draft adds.words new.draft
       added =
-          subst (AddsSubprogram t d b mid.visible old.draft adds.words) (sym new_draft)
-          (subst (λ z. AddsSubprogram t d b mid.visible z adds.words after.draft) draft adds.adds)
+          subst (AddsSubprogram t c.head c.body mid.visible old.draft adds.words) (sym new_draft)
+          (subst (λ z. AddsSubprogram t c.head c.body mid.visible z adds.words after.draft) draft adds.adds)
 
       keeps : KeepsRules mid.visible old.draft adds.words new.draft
       keeps =
@@ -299,7 +298,7 @@ module _ (t : ProgramTree) (directory : Directory) where
       kept : IsDraftKept old.draft new.draft
       kept = kept_by old.draft new.draft keeps.extends keeps.labels keeps.rows
 
-      this : HasBody t directory old.place d b new
+      this : HasBody t directory old.place c new
       this = record {
         seen = mid.visible;
         scope = scope;
@@ -315,19 +314,18 @@ module _ (t : ProgramTree) (directory : Directory) where
         numbered = adds.numbered ∙ ap (λ l. Some (length l.items)) subprograms;
         counted = walked.many;
         there = ap (λ l. slice_get l (length old.subprograms.items)) rows ∙ get_last old.subprograms.items row
-            ∙ ap (λ z. Some (row_of adds.words (here z.code))) (sym new_draft);
+            ∙ ap (λ z. Some (row_of c.kind adds.words (here z.code))) (sym new_draft);
         begins = ap (λ l. begins_at l (length old.subprograms.items)) rows
             ∙ begins_kept old.subprograms.items (row ∷ []) (length old.subprograms.items) (omega arith) ∙ walked.end;
         kept = kept_self new.draft;
       }
 
-      by_place : (n : ℕ) (e : SubprogramTree) (c : BodyTree) → slice_get all n ≡ Some (SubprogramBody e c) → (n ≡ old.place) ⊎ (n < old.place)
-          → HasBody t directory n e c new
-      by_place n e c there (inl same) =
-          let both = same_body d e b c (sym at ∙ ap (slice_get all) (sym same) ∙ there) in
-          subst (λ k. HasBody t directory k e c new) (sym same)
-          (subst (λ z. HasBody t directory old.place z c new) both.0 (subst (λ z. HasBody t directory old.place d z new) both.1 this))
-      by_place n e c there (inr less) = moved old new n e c (row ∷ []) kept rows (walked.bodies n e c less there)
+      by_place : (n : ℕ) (x : BodyItemTree) (e : Coded) → slice_get all n ≡ Some x → coded x ≡ Some e → (n ≡ old.place) ⊎ (n < old.place)
+          → HasBody t directory n e new
+      by_place n x e there coded_as (inl same) =
+          let code = same_code item x c e (sym at ∙ ap (slice_get all) (sym same) ∙ there) is coded_as in
+          subst (λ k. HasBody t directory k e new) (sym same) (subst (λ z. HasBody t directory old.place z new) code this)
+      by_place n x e there coded_as (inr less) = moved old new n e (row ∷ []) kept rows (walked.bodies n x e less there coded_as)
 
   -- behind what code does there
   pub declared_goes : (old new : Walk) (i : ItemTree) (scope told_in : Scope) (name : Identifier) (later : Visible) → IsWalked t directory old
@@ -364,12 +362,27 @@ module _ (t : ProgramTree) (directory : Directory) where
     may_be_added added = subst (λ s. MayBeAdded t s d b) (sym scope_there) added
 
     pub body_goes : (mid after new : Walk) → mid.visible ≡ later → mid.draft ≡ old.draft → mid.subprograms ≡ old.subprograms
-        → AddsBody t directory d b mid after
+        → AddsBody t directory (of_subprogram d b) mid after
         → new.place ≡ old.place + 1 → new.draft ≡ after.draft → new.subprograms ≡ after.subprograms → new.visible ≡ after.visible
         → IsWalked t directory new
     body_goes mid after new visible draft subprograms adds place new_draft new_subprograms new_visible =
-        body_next old mid after new d b walked at draft subprograms (ap (λ v. v.scope) visible ∙ scope_there)
+        body_next old mid after new (SubprogramBody d b) (of_subprogram d b) walked at refl draft subprograms (ap (λ v. v.scope) visible ∙ scope_there)
         (subst (AreTold whole directory) (sym visible)
         (told_next whole directory old.visible seen later d.name.name walked.told refl refl
         (subst (Grows old.visible.scope d.name.name) (sym goes) (subprogram_grows old.visible.scope d)) tells))
         adds place new_draft new_subprograms new_visible
+
+  -- behind the body of a task, which makes no name visible
+  module _ (old : Walk) (name : Identifier) (b : BodyTree) (walked : IsWalked t directory old) (at : slice_get all old.place ≡ Some (TaskBody name b)) where
+    pub task_scope : old.visible.scope ≡ front t (suc old.place)
+    task_scope = walked.scope ∙ sym (scope_next (start_in t.package_) all old.place (TaskBody name b) at)
+
+    pub task_may_be_added : MayBeAdded t (front t (suc old.place)) (of_task name b).head b → MayBeAdded t old.visible.scope (of_task name b).head b
+    task_may_be_added added = subst (λ s. MayBeAdded t s (of_task name b).head b) (sym task_scope) added
+
+    pub task_goes : (after new : Walk) → AddsBody t directory (of_task name b) old after
+        → new.place ≡ old.place + 1 → new.draft ≡ after.draft → new.subprograms ≡ after.subprograms → new.visible ≡ after.visible
+        → IsWalked t directory new
+    task_goes after new adds place new_draft new_subprograms new_visible =
+        body_next old old after new (TaskBody name b) (of_task name b) walked at refl refl refl task_scope walked.told adds place new_draft new_subprograms
+        new_visible

@@ -1,6 +1,6 @@
 -- What bodies see of the package: the places of its variables and the subprograms of its bodies, each by the name.
 use Rattle.std.specs.Prelude.{◌≡◌, ◌<◌, ◌⊎◌, ℕ, suc, List, [], ◌∷◌, ◌++◌, length, Option, Some, None, replicate, slice_get, slice_set, ⊤}
-use Rattle.ada_tree.specs.ProgramTree.{BodyItemTree, ProgramTree, SubprogramBody}
+use Rattle.ada_tree.specs.ProgramTree.{BodyItemTree, ProgramTree, SubprogramBody, TaskBody}
 use Rattle.types.specs.Scopes.{Scope, number_of}
 use Rattle.expr_soundness.specs.meaning.specs.Programs.{program_of}
 use Rattle.expr_code.specs.Seeing.{slot_of, subprogram_of, told_of}
@@ -61,6 +61,7 @@ numbered_with all (Some number) one = numbered_once all number one (slice_get al
 -- a body has the next number
 abbrev pub numbered_item : Scope → List (Option ℕ) → (one : ℕ) → BodyItemTree → List (Option ℕ)
 numbered_item s all one (SubprogramBody d b) = numbered_with all (number_of s d.name.name) one
+numbered_item s all one (TaskBody name b) = numbered_with all (number_of s name.name) one
 numbered_item s all one item = all
 
 -- of each visible name is told which of these bodies has it

@@ -3,13 +3,13 @@ use Rattle.std.specs.Prelude.{◌≡◌, ◌<◌, ℕ, Bool, true, false, ◌||�
 use Rattle.base.specs.Names.{predefined}
 use Rattle.base.specs.declared.limits.TheConstants.{WORDS}
 use Rattle.ada_tree.specs.StatementTree.{ObjectTree}
-use Rattle.ada_tree.specs.ProgramTree.{BodyItemTree, ItemTree, OfObject}
+use Rattle.ada_tree.specs.ProgramTree.{ItemTree, OfObject}
 use Rattle.image.specs.declared.instruction.Region.TheVariants as regions
 use Rattle.types.specs.declared.entity.Subtype.{Subtype}
 use Rattle.types.specs.Scopes.{Scope, number_of}
 use Rattle.types.specs.Shapes.{value_words}
 use Rattle.type_rules.specs.SubtypeNames.{subtype_of}
-use Rattle.expr_soundness.specs.meaning.specs.Programs.{exceptions_among, initial_value, tasks_among, variables_among}
+use Rattle.expr_soundness.specs.meaning.specs.Programs.{exceptions_among, initial_value, variables_among}
 use Rattle.expr_code.specs.Seeing.{told_of}
 use Rattle.expr_code.specs.declared.refusal.Refusal.{Refusal}
 use Rattle.expr_code.specs.declared.refusal.Refusal.TheVariants as refusal
@@ -18,8 +18,8 @@ use Rattle.package_code.specs.Refusing.{is_outside_item, is_outside_variable}
 use Rattle.package_code.specs.Package.{first_words_of, place_among}
 use Rattle.package_code.specs.declared.globals.Globals.{Globals}
 
--- The variables among these declarations stand one behind another, in the order of the text, and none of the declarations is one of a task. Names are told by
--- their numbers in `s`, in which all of the package is visible.
+-- The variables among these declarations stand one behind another, in the order of the text. Names are told by their numbers in `s`, in which all of the
+-- package is visible.
 pub record AreGlobals (s : Scope) (items : List ItemTree) (g : Globals) : Type 0 where
   pub slots : (name : List ℕ) → told_of s g.slots.items name ≡ place_among 0 (variables_among s items) name
   -- an entry for each name
@@ -28,7 +28,6 @@ pub record AreGlobals (s : Scope) (items : List ItemTree) (g : Globals) : Type 0
   -- each of them has a word
   pub within : (name : List ℕ) (slot : Slot) → told_of s g.slots.items name ≡ Some slot → slot.offset < length g.words.items
   pub exceptions : g.exceptions.items ≡ predefined ++ exceptions_among items
-  pub tasks : (bodies : List BodyItemTree) → tasks_among s bodies items ≡ []
 
 -- these declarations were added, whatever stands in front of them
 pub record AddsItems (s : Scope) (old : Globals) (items : List ItemTree) (new : Globals) : Type 0 where

@@ -1,11 +1,11 @@
 -- What is proved of code that is put together from a program, as statements; each is the contract of a public function.
 use Rattle.std.specs.Prelude.{◌≡◌, ◌+◌, ◌≤◌, ℕ, suc, [], length, true, false, Some, is_some, slice_get}
-use Rattle.base.specs.declared.limits.TheConstants.{EXCEPTIONS, LABELS, SUBPROGRAMS, WORDS}
+use Rattle.base.specs.declared.limits.TheConstants.{EXCEPTIONS, LABELS, SUBPROGRAMS, TASKS, WORDS}
 use Rattle.ada_tree.specs.declared.expression.Identifier.{Identifier}
 use Rattle.ada_tree.specs.ExpressionTree.{ExprTree}
 use Rattle.ada_tree.specs.StatementTree.{SubprogramTree}
-use Rattle.ada_tree.specs.ProgramTree.{BodyTree, ProgramTree, SubprogramBody}
-use Rattle.types.specs.Scopes.{Scope}
+use Rattle.ada_tree.specs.ProgramTree.{BodyItemTree, BodyTree, ProgramTree}
+use Rattle.types.specs.Scopes.{Scope, number_of}
 use Rattle.image.specs.Rules.{IsWellFormed}
 use Rattle.image.specs.Sections.{Sections}
 use Rattle.declaring.specs.BodyNames.{formals_scope}
@@ -26,6 +26,8 @@ use Rattle.package_code.specs.Globals.{refuses_items}
 use Rattle.package_code.specs.Package.{first_words_of}
 use Rattle.package_code.specs.Program.{HasProgram, KeepsTables}
 use Rattle.package_code.specs.Refusing.{number_in, program_labels, program_needs, seen_at}
+use Rattle.package_code.specs.Tasks.{AreKnownTasks}
+use Rattle.package_code.specs.Walking.{Coded, coded}
 
 -- the names of an accepted program are sound
 abbrev pub NamesAreSound : Type 0
@@ -41,33 +43,38 @@ pub record MayBeAdded (t : ProgramTree) (s : Scope) (d : SubprogramTree) (b : Bo
       → IsFit (formals_scope s d.formals) (subtype_named (program_of t).scope r) value
   pub result : (r : Identifier) → d.result ≡ Some r → is_some (subtype_of (program_of t).scope r) ≡ true
 
--- that is so of each body of an accepted program
+-- that is so of each body of an accepted program, of a subprogram or a task
 abbrev pub BodiesMayBeAdded : Type 0
-BodiesMayBeAdded = (t : ProgramTree) → IsLegal t → IsRestricted t → (place : ℕ) (d : SubprogramTree) (b : BodyTree)
-    → slice_get (declared_in t.package_) place ≡ Some (SubprogramBody d b)
-    → MayBeAdded t (front t (suc place)) d b
+BodiesMayBeAdded = (t : ProgramTree) → IsLegal t → IsRestricted t → (place : ℕ) (item : BodyItemTree) (c : Coded)
+    → slice_get (declared_in t.package_) place ≡ Some item → coded item ≡ Some c
+    → MayBeAdded t (front t (suc place)) c.head c.body
 
 -- main calls procedures of the package without parameters
 abbrev pub MainMayBeAdded : Type 0
 MainMayBeAdded = (t : ProgramTree) → IsLegal t → IsRestricted t → CallsProcedures (front t (length (declared_in t.package_))) t.main.statements
 
--- no two bodies of an accepted program have one name: each has the number of its name
+-- no two bodies of an accepted program have one name: each has the number of its name, which is visible behind the package
 abbrev pub BodiesAreNumbered : Type 0
-BodiesAreNumbered = (t : ProgramTree) → IsLegal t → IsRestricted t → (place : ℕ) (d : SubprogramTree) (b : BodyTree)
-    → slice_get (declared_in t.package_) place ≡ Some (SubprogramBody d b)
-    → number_in t d.name.name ≡ Some (bodies_before t place)
+BodiesAreNumbered = (t : ProgramTree) → IsLegal t → IsRestricted t → (place : ℕ) (item : BodyItemTree) (c : Coded)
+    → slice_get (declared_in t.package_) place ≡ Some item → coded item ≡ Some c
+    → (number_in t c.head.name.name ≡ Some (bodies_before t place)) × (is_some (number_of (program_of t).scope c.head.name.name) ≡ true)
+
+-- each task that is declared in an accepted program has one body
+abbrev pub TasksHaveBodies : Type 0
+TasksHaveBodies = (t : ProgramTree) → IsLegal t → IsRestricted t → AreKnownTasks t (package_items t.package_)
 
 -- no two variables of an accepted program have one name: what is not told of its declarations has no code yet
 abbrev pub VariablesArePlaced : Type 0
 VariablesArePlaced = (t : ProgramTree) → IsLegal t → IsRestricted t → refuses_items (program_of t).scope [] (package_items t.package_) ≡ true
     → (program_needs t).outside ≡ true
 
--- a program has no more labels, subprograms, main's among them, and exceptions, and its variables no more words, than an image
+-- a program has no more labels, subprograms and tasks, main's among them, and exceptions, and its variables no more words, than an image
 pub record HasFew (t : ProgramTree) : Type 0 where
   pub labels : length (program_labels t) ≤ LABELS
   pub words : length (first_words_of (program_of t).variables) ≤ WORDS
   pub subprograms : suc (bodies_among (declared_in t.package_)) ≤ SUBPROGRAMS
   pub exceptions : length (program_of t).exceptions ≤ EXCEPTIONS
+  pub tasks : length (program_of t).tasks ≤ TASKS
 
 -- that is so of accepted ones
 abbrev pub TablesAreSmall : Type 0

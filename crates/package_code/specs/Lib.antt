@@ -6,5 +6,6 @@ pub mod Refusing
 pub mod Globals
 pub mod Directory
 pub mod Walking
+pub mod Tasks
 pub mod Program
 pub mod Laws

@@ -1,29 +1,26 @@
 -- What the sections of an image have that was put together from a program.
-use Rattle.std.specs.Prelude.{◌≡◌, ℕ, [], ◌∷◌, ◌++◌, length, Bool, ◌&&◌, true, nat_le}
+use Rattle.std.specs.Prelude.{◌≡◌, [], ◌∷◌, ◌++◌, length, Bool, ◌&&◌, true, nat_le}
 use Rattle.std.specs.List.{list_all}
 use Rattle.base.specs.Names.{is_label, is_name}
-use Rattle.base.specs.declared.limits.TheConstants.{EXCEPTIONS, LABELS, ROWS, SUBPROGRAMS, WORDS}
+use Rattle.base.specs.declared.limits.TheConstants.{EXCEPTIONS, LABELS, ROWS, SUBPROGRAMS, TASKS, WORDS}
 use Rattle.ada_tree.specs.ProgramTree.{ProgramTree}
 use Rattle.image.specs.Sections.{Sections}
 use Rattle.image.specs.declared.subprograms.Kind.TheVariants as kinds
-use Rattle.image.specs.declared.subprograms.Subprogram.{Subprogram}
 use Rattle.declaring.specs.ProtectedRules.{protected_count}
-use Rattle.expr_soundness.specs.meaning.specs.Programs.{base_priority, package_items, program_of}
+use Rattle.expr_soundness.specs.meaning.specs.Programs.{package_items, program_of}
 use Rattle.program_soundness.specs.Fronts.{declared_in}
 use Rattle.expr_code.specs.Code.{here}
 use Rattle.stmt_code.specs.Subprograms.{AddsMain, KeepsRules}
 use Rattle.stmt_code.specs.declared.draft.Draft.{Draft}
 use Rattle.stmt_code.specs.declared.subprogram.SubprogramWords.{SubprogramWords}
 use Rattle.package_code.specs.Globals.{AreGlobals}
+use Rattle.package_code.specs.Tasks.{HaveTasks}
 use Rattle.package_code.specs.Walking.{IsWalked, row_of}
 use Rattle.package_code.specs.declared.directory.Directory.{Directory}
 use Rattle.package_code.specs.declared.globals.Globals.{Globals}
 use Rattle.package_code.specs.declared.walk.Walk.{Walk}
 
-abbrev pub main_row : SubprogramWords → (end : ℕ) → Subprogram
-main_row words end = record (row_of words end) { kind = kinds.TaskBody }
-
--- The variables, the bodies and main of the program have what they need there, main behind all others. No task, and no protected object, is declared.
+-- The variables, the tasks, the bodies and main of the program have what they need there, main behind all others. No protected object is declared.
 pub record HasProgram (t : ProgramTree) (i : Sections) : Type 0 where
   pub globals : Globals
   pub are : AreGlobals (program_of t).scope (package_items t.package_) globals
@@ -41,12 +38,8 @@ pub record HasProgram (t : ProgramTree) (i : Sections) : Type 0 where
   pub labels : i.labels ≡ draft.labels
   pub plain_words : i.plain_words ≡ globals.words.items
   pub objects : i.objects ≡ []
-  pub subprograms : i.subprograms ≡ walk.subprograms.items ++ main_row words (here draft.code) ∷ []
-  pub tasks : i.tasks ≡ record {
-    name = t.main.name.name;
-    priority = base_priority (program_of t).scope t.main.aspect;
-    subprogram = length walk.subprograms.items;
-  } ∷ []
+  pub subprograms : i.subprograms ≡ walk.subprograms.items ++ row_of kinds.TaskBody words (here draft.code) ∷ []
+  pub tasks : HaveTasks t (program_of t).tasks i.tasks
   pub rows : i.rows ≡ draft.rows.items
   pub instructions : i.instructions ≡ draft.code.instructions.items
 
@@ -58,8 +51,8 @@ has_texts i = list_all is_name i.exceptions && (list_all is_label i.labels && li
 abbrev pub is_within_limits : Sections → Bool
 is_within_limits i =
     nat_le (length i.subprograms) SUBPROGRAMS
-    && (nat_le (length i.exceptions) EXCEPTIONS
-    && (nat_le (length i.labels) LABELS && (nat_le (length i.plain_words) WORDS && nat_le (length i.rows) ROWS)))
+    && (nat_le (length i.tasks) TASKS && (nat_le (length i.exceptions) EXCEPTIONS
+    && (nat_le (length i.labels) LABELS && (nat_le (length i.plain_words) WORDS && nat_le (length i.rows) ROWS))))
 
 pub record KeepsTables (i : Sections) : Type 0 where
   pub texts : has_texts i ≡ true

@@ -2,11 +2,11 @@
 use Rattle.std.specs.Prelude.{◌≡◌, ℕ, zero, suc, ◌+◌, ◌<◌, Bool, true, false, ◌||◌, ◌&&◌, not, nat_eq, List, [], ◌∷◌, length, Option, Some, None, bytes_eq, is_none, ◌⊎◌, if◌then◌else◌}
 use Rattle.std.specs.List.{list_all}
 use Rattle.base.specs.Names.{is_label, is_name}
-use Rattle.base.specs.declared.limits.TheConstants.{EXCEPTIONS, ROWS, SUBPROGRAMS, WORDS}
+use Rattle.base.specs.declared.limits.TheConstants.{EXCEPTIONS, ROWS, SUBPROGRAMS, TASKS, WORDS}
 use Rattle.ada_tree.specs.declared.declaration.Formal.{Formal}
 use Rattle.ada_tree.specs.ExpressionTree.{ExprTree}
 use Rattle.ada_tree.specs.StatementTree.{SubprogramTree}
-use Rattle.ada_tree.specs.ProgramTree.{BodyItemTree, BodyTree, ItemTree, OfItem, OfObject, OfProtected, OfTask, ProgramTree, ProtectedBody, SubprogramBody, TaskBody}
+use Rattle.ada_tree.specs.ProgramTree.{BodyItemTree, BodyTree, ItemTree, OfItem, OfObject, OfProtected, ProgramTree, ProtectedBody, SubprogramBody, TaskBody}
 use Rattle.types.specs.declared.entity.Subtype.{Subtype}
 use Rattle.types.specs.Layouts.{total}
 use Rattle.types.specs.Scopes.{Scope}
@@ -29,10 +29,11 @@ use Rattle.package_code.specs.Package.{first_words_of, place_among}
 
 -- ---- what is told of names
 
--- the number of the body with this name: how many other bodies stand in front of it
+-- the number of the body with this name, of a subprogram or a task: how many other bodies stand in front of it
 abbrev pub number_among : (before : ℕ) → List BodyItemTree → (name : List ℕ) → Option ℕ
 number_among before [] name = None
 number_among before (SubprogramBody d b ∷ rest) name = if bytes_eq d.name.name name then Some before else number_among (suc before) rest name
+number_among before (TaskBody own b ∷ rest) name = if bytes_eq own.name name then Some before else number_among (suc before) rest name
 number_among before (item ∷ rest) name = number_among before rest name
 
 abbrev pub number_in : ProgramTree → (name : List ℕ) → Option ℕ
@@ -69,10 +70,9 @@ abbrev pub is_outside_variable : Scope → Option Subtype → Option ExprTree �
 is_outside_variable s None value = true
 is_outside_variable s (Some t) value = lacks_first_words s t value || nat_eq (length (value_words (initial_value s t value))) 0
 
--- code is made of no tasks and no protected objects
+-- code is made of no protected objects
 abbrev pub is_outside_item : Scope → ItemTree → Bool
 is_outside_item s (OfObject d) = not d.constant && is_outside_variable s (subtype_of s d.subtype) d.value
-is_outside_item s (OfTask d) = true
 is_outside_item s (OfProtected d) = true
 is_outside_item s d = false
 
@@ -94,7 +94,7 @@ subprogram_needs t v exceptions d b =
 abbrev pub item_needs : ProgramTree → (place : ℕ) → BodyItemTree → Needs
 item_needs t place (OfItem d) = beyond_if (is_outside_item (program_of t).scope d)
 item_needs t place (SubprogramBody d b) = subprogram_needs t (seen_at t (suc place)) (program_of t).exceptions d b
-item_needs t place (TaskBody name b) = beyond
+item_needs t place (TaskBody name b) = procedure_needs (seen_at t (suc place)) (program_of t).exceptions [] b
 item_needs t place (ProtectedBody name items end_name) = beyond
 
 -- of items that stand from this place on
@@ -116,6 +116,7 @@ subprogram_labels before d b = elim d.result [ None ↦ body_labels before b | S
 
 abbrev pub item_labels : (before : List (List ℕ)) → BodyItemTree → List (List ℕ)
 item_labels before (SubprogramBody d b) = subprogram_labels before d b
+item_labels before (TaskBody name b) = body_labels before b
 item_labels before item = before
 
 abbrev pub items_labels : (before : List (List ℕ)) → List BodyItemTree → List (List ℕ)
@@ -132,6 +133,7 @@ subprogram_rows before d b = elim d.result [ None ↦ body_rows before b | Some 
 
 abbrev pub item_rows : (before : ℕ) → BodyItemTree → ℕ
 item_rows before (SubprogramBody d b) = subprogram_rows before d b
+item_rows before (TaskBody name b) = body_rows before b
 item_rows before item = before
 
 abbrev pub items_rows : (before : ℕ) → List BodyItemTree → ℕ
@@ -147,9 +149,10 @@ program_rows t = items_rows 0 (declared_in t.package_)
 abbrev pub RefusesCode : ProgramTree → Refusal → Type 0
 RefusesCode t why = IsNeeding (program_bound t) (program_needs t) why ⊎ HasManyLabels (program_labels t) why
 
--- it has more subprograms, main's among them, or more exceptions than an image
+-- it has more subprograms or tasks, main's among them, or more exceptions than an image
 abbrev pub HasMany : ProgramTree → Refusal → Type 0
-HasMany t refusal.Limit = (SUBPROGRAMS < suc (bodies_among (declared_in t.package_))) ⊎ (EXCEPTIONS < length (program_of t).exceptions)
+HasMany t refusal.Limit =
+    (SUBPROGRAMS < suc (bodies_among (declared_in t.package_))) ⊎ ((EXCEPTIONS < length (program_of t).exceptions) ⊎ (TASKS < length (program_of t).tasks))
 HasMany t why = ⊥
 
 -- ... or more rows of handlers
@@ -164,7 +167,8 @@ HasManyWords t why = ⊥
 
 -- what is a name or a label in a tree is spelled as one; trees of source texts are spelled so
 abbrev pub is_spelled : ProgramTree → Bool
-is_spelled t = list_all is_name (program_of t).exceptions && (list_all is_label (program_labels t) && is_name t.main.name.name)
+is_spelled t =
+    list_all is_name (program_of t).exceptions && (list_all is_label (program_labels t) && list_all (λ x. is_name x.name) (program_of t).tasks)
 
 abbrev pub IsMisspelt : ProgramTree → Refusal → Type 0
 IsMisspelt t refusal.Outside = is_spelled t ≡ false

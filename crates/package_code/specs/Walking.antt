@@ -1,12 +1,13 @@
 -- What a walk over the declarations and bodies of a package adds: the code of each body, one behind another, each a subprogram, and the rows of its handlers.
-use Rattle.std.specs.Prelude.{◌≡◌, ◌+◌, ◌<◌, ◌≤◌, ◌⊎◌, ℕ, zero, suc, List, [], ◌∷◌, ◌++◌, length, Some, None, slice_get, take}
+use Rattle.std.specs.Prelude.{◌≡◌, ◌+◌, ◌<◌, ◌≤◌, ◌⊎◌, ℕ, zero, suc, List, [], ◌∷◌, ◌++◌, length, Option, Some, None, slice_get, take}
 use Rattle.std.specs.List.{All}
 use Rattle.ada_tree.specs.declared.expression.Identifier.{Identifier}
 use Rattle.ada_tree.specs.ExpressionTree.{ExprTree}
 use Rattle.ada_tree.specs.StatementTree.{SubprogramTree}
-use Rattle.ada_tree.specs.ProgramTree.{BodyItemTree, BodyTree, ProgramTree, SubprogramBody}
+use Rattle.ada_tree.specs.ProgramTree.{BodyItemTree, BodyTree, ProgramTree, SubprogramBody, TaskBody}
 use Rattle.image_laws.specs.handlers.specs.declared.rows.Row.{Row}
 use Rattle.image.specs.Sections.{end_of}
+use Rattle.image.specs.declared.subprograms.Kind.{Kind}
 use Rattle.image.specs.declared.subprograms.Kind.TheVariants as kinds
 use Rattle.image.specs.declared.subprograms.Subprogram.{Subprogram}
 use Rattle.types.specs.declared.entity.Subtype.{Subtype}
@@ -37,6 +38,24 @@ StandFrom whole from part = (n : ℕ) (item : BodyItemTree) → slice_get part n
 
 -- ---- one body
 
+-- a body with code of its own: its head, and what kind of subprogram it is
+pub record Coded : Type 0 where
+  pub head : SubprogramTree
+  pub body : BodyTree
+  pub kind : Kind
+
+abbrev pub of_subprogram : SubprogramTree → BodyTree → Coded
+of_subprogram d b = record { head = d; body = b; kind = kinds.Plain }
+
+-- a task's is given nothing, and gives nothing back
+abbrev pub of_task : Identifier → BodyTree → Coded
+of_task name b = record { head = record { place = name.place; name = name; formals = []; result = None }; body = b; kind = kinds.TaskBody }
+
+abbrev pub coded : BodyItemTree → Option Coded
+coded (SubprogramBody d b) = Some (of_subprogram d b)
+coded (TaskBody name b) = Some (of_task name b)
+coded item = None
+
 -- the code of a function was added, which returns the value of one expression
 pub record AddsValueFunction (t : ProgramTree) (d : SubprogramTree) (b : BodyTree) (r : Identifier) (v : Visible) (old : Draft) (words : SubprogramWords) (new : Draft)
     : Type 0 where
@@ -56,10 +75,10 @@ abbrev pub IsCalledSubprogram : ProgramTree → SubprogramTree → Scope → Sub
 IsCalledSubprogram t d s words =
     elim d.result [ None ↦ IsCalledProcedure s d.formals words | Some r ↦ IsCalledFunction s d.formals (subtype_named (program_of t).scope r) words ]
 
--- the subprogram with these words that ends there
-abbrev pub row_of : SubprogramWords → (end : ℕ) → Subprogram
-row_of words end = record {
-  kind = kinds.Plain;
+-- the subprogram of this kind with these words that ends there
+abbrev pub row_of : Kind → SubprogramWords → (end : ℕ) → Subprogram
+row_of kind words end = record {
+  kind = kind;
   end_ = end;
   parameters = words.passed;
   results = words.results;
@@ -68,13 +87,13 @@ row_of words end = record {
 }
 
 -- The body was added, and is the next subprogram; its code keeps the rules of images. Its number is the one that the directory tells of its name.
-pub record AddsBody (t : ProgramTree) (directory : Directory) (d : SubprogramTree) (b : BodyTree) (old new : Walk) : Type 0 where
+pub record AddsBody (t : ProgramTree) (directory : Directory) (c : Coded) (old new : Walk) : Type 0 where
   pub words : SubprogramWords
-  pub adds : AddsSubprogram t d b old.visible old.draft words new.draft
-  pub called : IsCalledSubprogram t d old.visible.scope words
+  pub adds : AddsSubprogram t c.head c.body old.visible old.draft words new.draft
+  pub called : IsCalledSubprogram t c.head old.visible.scope words
   pub keeps : KeepsRules old.visible old.draft words new.draft
-  pub numbered : told_of (program_of t).scope directory.numbers.items d.name.name ≡ Some (length old.subprograms.items)
-  pub row : new.subprograms.items ≡ old.subprograms.items ++ row_of words (here new.draft.code) ∷ []
+  pub numbered : told_of (program_of t).scope directory.numbers.items c.head.name.name ≡ Some (length old.subprograms.items)
+  pub row : new.subprograms.items ≡ old.subprograms.items ++ row_of c.kind words (here new.draft.code) ∷ []
   pub visible : new.visible ≡ old.visible
   pub place : new.place ≡ old.place
 
@@ -111,21 +130,21 @@ abbrev pub LieInFront : (place : ℕ) → List Row → Type 0
 LieInFront place rows = All (λ q. q.end_ ≤ place) rows
 
 -- the body at this place of the package has its code, and its subprogram; the rows in front of its own lie in front of its code
-pub record HasBody (t : ProgramTree) (directory : Directory) (place : ℕ) (d : SubprogramTree) (b : BodyTree) (w : Walk) : Type 0 where
+pub record HasBody (t : ProgramTree) (directory : Directory) (place : ℕ) (c : Coded) (w : Walk) : Type 0 where
   pub seen : Visible
   pub scope : seen.scope ≡ front t (suc place)
   pub told : AreTold (program_of t).scope directory seen
   pub old : Draft
   pub new : Draft
   pub words : SubprogramWords
-  pub adds : AddsSubprogram t d b seen old words new
-  pub called : IsCalledSubprogram t d seen.scope words
+  pub adds : AddsSubprogram t c.head c.body seen old words new
+  pub called : IsCalledSubprogram t c.head seen.scope words
   pub keeps : KeepsRules seen old words new
   pub before : LieInFront (here old.code) old.rows.items
   pub number : ℕ
-  pub numbered : told_of (program_of t).scope directory.numbers.items d.name.name ≡ Some number
+  pub numbered : told_of (program_of t).scope directory.numbers.items c.head.name.name ≡ Some number
   pub counted : number ≡ bodies_before t place
-  pub there : slice_get w.subprograms.items number ≡ Some (row_of words (here new.code))
+  pub there : slice_get w.subprograms.items number ≡ Some (row_of c.kind words (here new.code))
   pub begins : begins_at w.subprograms.items number ≡ here old.code
   pub kept : IsDraftKept new w.draft
 
@@ -162,9 +181,9 @@ pub record BeginsWalk (s : Scope) (names : List (List ℕ)) (w : Walk) : Type 0 
 pub record IsWalked (t : ProgramTree) (directory : Directory) (w : Walk) : Type 0 where
   pub scope : w.visible.scope ≡ front t w.place
   pub told : AreTold (program_of t).scope directory w.visible
-  pub bodies : (place : ℕ) (d : SubprogramTree) (b : BodyTree) → place < w.place
-      → slice_get (declared_in t.package_) place ≡ Some (SubprogramBody d b)
-      → HasBody t directory place d b w
+  pub bodies : (place : ℕ) (item : BodyItemTree) (c : Coded) → place < w.place
+      → slice_get (declared_in t.package_) place ≡ Some item → coded item ≡ Some c
+      → HasBody t directory place c w
   pub end : begins_at w.subprograms.items (length w.subprograms.items) ≡ here w.draft.code
   pub many : length w.subprograms.items ≡ bodies_before t w.place
   pub exceptions : w.draft.exceptions.items ≡ (program_of t).exceptions

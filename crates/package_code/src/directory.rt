@@ -82,7 +82,10 @@ fn number_item(
             next.checked_add(1).ok_or(Refusal::Limit)
         }
         BodyItem::Item(_) => Ok(next),
-        BodyItem::Task(_, _) => Ok(next),
+        BodyItem::Task(name, _) => {
+            set(numbers, scope.number_of(&name.name), next);
+            next.checked_add(1).ok_or(Refusal::Limit)
+        }
         BodyItem::Protected(_, _, _) => Ok(next),
     }
 }
@@ -138,6 +141,13 @@ pub(crate) fn unseen(alloc: Global, scope: Scope) -> Result<Visible, Refusal>
 }
 
 impl Directory {
+    /// The number of the subprogram that is the body with this name, which stands in `whole`, in which all of the package is visible.
+    pub(crate) fn number(&self, whole: &Scope, name: &Text) -> Option<u16>
+        ensures { result ≡ told_of whole.now self.now.numbers.items name.now }
+    {
+        entry(whole, &self.numbers, name)
+    }
+
     /// Tells what is known of a name that has become visible, if it is a new one.
     pub(crate) fn tell(
         &self,

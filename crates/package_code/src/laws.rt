@@ -1,5 +1,5 @@
 //! The laws of bodies that the walk over them rests on, each what a function without work ensures.
-ghost use Rattle.package_code.specs.Laws.{BodiesAreNumbered, BodiesMayBeAdded};
+ghost use Rattle.package_code.specs.Laws.{BodiesAreNumbered, BodiesMayBeAdded, TasksHaveBodies};
 
 use expr_soundness::laws::scopes_are_sound;
 use program_soundness::body_laws::{names_are_known, premises_hold};
@@ -16,6 +16,13 @@ pub fn bodies_may_be_added()
 /// Each body of an accepted program has the number of its name, since no two of them have one name.
 pub fn bodies_are_numbered()
     ensures { BodiesAreNumbered }
+{
+    premises_hold();
+}
+
+/// Each task that is declared in an accepted program has one body, whose number is told of its name.
+pub fn tasks_have_bodies()
+    ensures { TasksHaveBodies }
 {
     premises_hold();
 }

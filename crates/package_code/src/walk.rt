@@ -2,7 +2,7 @@
 ghost use Rattle.std.specs.Prelude.{◌≡◌, ◌+◌, false, is_none, is_some, length, map, slice_get, true, None, Some, IfErr, IfOk, OnOk};
 ghost use Rattle.ada_tree.specs.ExpressionTree.{expr_tree};
 ghost use Rattle.ada_tree.specs.StatementTree.{MoreStmts, NoStmts, stmt_tree, stmt_trees, subprogram_tree};
-ghost use Rattle.ada_tree.specs.ProgramTree.{OfItem, SubprogramBody, body_item_tree, body_tree, item_tree, program_tree};
+ghost use Rattle.ada_tree.specs.ProgramTree.{OfItem, SubprogramBody, TaskBody, body_item_tree, body_tree, item_tree, program_tree};
 ghost use Rattle.program_soundness.specs.checking.specs.ProgramRules.{IsLegal};
 ghost use Rattle.ravenscar.specs.ProgramRules.{IsRestricted};
 ghost use Rattle.expr_soundness.specs.meaning.specs.Programs.{program_of, returned, subtype_named};
@@ -16,7 +16,7 @@ ghost use Rattle.stmt_code.specs.Subprograms.{IsCalledFunction, KeepsRules};
 ghost use Rattle.package_code.specs.Directory.{IsDirectory};
 ghost use Rattle.package_code.specs.Laws.{MayBeAdded};
 ghost use Rattle.package_code.specs.Refusing.{RefusesCode};
-ghost use Rattle.package_code.specs.Walking.{AddsAsTold, AddsBody, AddsSubprogram, AddsValueFunction, BeginsWalk, IsAsTold, IsCalledSubprogram, IsWalked, RefusesBody, StandFrom, row_of};
+ghost use Rattle.package_code.specs.Walking.{AddsAsTold, AddsBody, AddsSubprogram, AddsValueFunction, BeginsWalk, IsAsTold, IsCalledSubprogram, IsWalked, RefusesBody, StandFrom, of_subprogram, of_task, row_of};
 
 use crate::directory::{Directory, unseen};
 use crate::laws::{bodies_are_numbered, bodies_may_be_added};
@@ -81,7 +81,7 @@ fn result_subtype(scope: &Scope, name: &Identifier) -> Subtype
 
 /// The subprogram of the code that was added last, with these words.
 pub fn row(kind: Kind, words: SubprogramWords, draft: &Draft) -> Result<image::Subprogram, Refusal>
-    ensures row { IfOk result (λ row. row ≡ record (row_of words (here draft.now.code)) { kind = kind }) }
+    ensures row { IfOk result (λ row. row ≡ row_of kind words (here draft.now.code)) }
     ensures refused { IfErr result (λ why. IsRefused (here draft.now.code) 0 false why) }
 {
     let end_ = u16::try_from(draft.code.instructions.len()).map_err(|_| Refusal::Limit)?;
@@ -173,13 +173,34 @@ impl Walk {
         requires added { MayBeAdded (program_tree accepted.now) self.old.visible.scope (subprogram_tree subprogram.now) (body_tree body.now) }
         requires entries { HasEntries self.old.visible }
         requires numbered { told_of (program_of (program_tree accepted.now)).scope directory.now.numbers.items (subprogram_tree subprogram.now).name.name ≡ Some (length self.old.subprograms.items) }
-        ensures adds { OnOk result (AddsBody (program_tree accepted.now) directory.now (subprogram_tree subprogram.now) (body_tree body.now) self.old self.new) }
+        ensures adds { OnOk result (AddsBody (program_tree accepted.now) directory.now (of_subprogram (subprogram_tree subprogram.now) (body_tree body.now)) self.old self.new) }
         ensures told { OnOk result (AddsAsTold self.old.draft (subprogram_tree subprogram.now) (body_tree body.now) self.new.draft) }
         ensures refused { IfErr result (λ why. RefusesBody (program_tree accepted.now) self.old.visible self.old.draft (subprogram_tree subprogram.now) (body_tree body.now) why) }
     {
         let words = self.code(accepted, subprogram, body)?;
         self.subprograms
             .push(row(Kind::Plain, words, &self.draft)?)?;
+        Ok(())
+    }
+
+    // Adds the body of a task, whose name has the number that the directory tells.
+    fn task_body(
+        &mut self,
+        accepted: &Accepted,
+        directory: &Directory,
+        name: &Identifier,
+        body: &Body,
+    ) -> Result<(), Refusal>
+        requires added { MayBeAdded (program_tree accepted.now) self.old.visible.scope (of_task name.now (body_tree body.now)).head (body_tree body.now) }
+        requires entries { HasEntries self.old.visible }
+        requires numbered { told_of (program_of (program_tree accepted.now)).scope directory.now.numbers.items name.now.name ≡ Some (length self.old.subprograms.items) }
+        ensures adds { OnOk result (AddsBody (program_tree accepted.now) directory.now (of_task name.now (body_tree body.now)) self.old self.new) }
+        ensures told { OnOk result (AddsAsTold self.old.draft (of_task name.now (body_tree body.now)).head (body_tree body.now) self.new.draft) }
+        ensures refused { IfErr result (λ why. RefusesBody (program_tree accepted.now) self.old.visible self.old.draft (of_task name.now (body_tree body.now)).head (body_tree body.now) why) }
+    {
+        let words = self.draft.procedure(&mut self.visible, &[], body)?;
+        self.subprograms
+            .push(row(Kind::TaskBody, words, &self.draft)?)?;
         Ok(())
     }
 
@@ -233,6 +254,32 @@ impl Walk {
         Ok(())
     }
 
+    // Goes on behind the body of a task, which makes no name visible.
+    fn task(
+        &mut self,
+        accepted: &Accepted,
+        directory: &Directory,
+        name: &Identifier,
+        body: &Body,
+    ) -> Result<(), Refusal>
+        requires legal { IsLegal (program_tree accepted.now) }
+        requires restricted { IsRestricted (program_tree accepted.now) }
+        requires walked { IsWalked (program_tree accepted.now) directory.now self.old }
+        requires directory { IsDirectory (program_tree accepted.now) directory.now }
+        requires told { IsAsTold (program_tree accepted.now) self.old }
+        requires at { slice_get (declared_in (program_tree accepted.now).package_) self.old.place ≡ Some (TaskBody name.now (body_tree body.now)) }
+        ensures walked { OnOk result (IsWalked (program_tree accepted.now) directory.now self.new) }
+        ensures place { OnOk result (self.new.place ≡ self.old.place + 1) }
+        ensures told { OnOk result (IsAsTold (program_tree accepted.now) self.new) }
+        ensures refused { IfErr result (λ why. RefusesCode (program_tree accepted.now) why) }
+    {
+        bodies_are_numbered();
+        bodies_may_be_added();
+        self.task_body(accepted, directory, name, body)?;
+        self.place += 1;
+        Ok(())
+    }
+
     // Goes on behind declarations.
     fn declarations(
         &mut self,
@@ -279,7 +326,7 @@ impl Walk {
                 BodyItem::Subprogram(subprogram, body) => {
                     self.subprogram(accepted, directory, subprogram, body)?;
                 }
-                BodyItem::Task(_, _) => return Err(Refusal::Outside),
+                BodyItem::Task(name, body) => self.task(accepted, directory, name, body)?,
                 BodyItem::Protected(_, _, _) => return Err(Refusal::Outside),
             }
         }

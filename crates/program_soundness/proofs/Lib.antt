@@ -15,7 +15,7 @@ mod Globals
 mod Variables
 mod Objects
 mod Barriers
-mod Priorities
+pub mod Priorities
 mod Firsts
 pub mod FirstValues
 pub mod Awaiting

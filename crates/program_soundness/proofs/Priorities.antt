@@ -38,7 +38,7 @@ within_low highest other (Some (Array vs)) h = h
 within_low highest other (Some (Record fs)) h = h
 within_low highest other None h = h
 
-aspect_low : (s : Scope) (highest other : ℕ) (a : Option AspectTree) → other ≤ highest → priority_of s highest other a ≤ highest
+pub aspect_low : (s : Scope) (highest other : ℕ) (a : Option AspectTree) → other ≤ highest → priority_of s highest other a ≤ highest
 aspect_low s highest other (Some a) h = within_low highest other (static_scalar s (wanted.OfType integer_type) None a.value) h
 aspect_low s highest other None h = h
 

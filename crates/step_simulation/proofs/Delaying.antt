@@ -1,5 +1,5 @@
 -- Steps of `delay until`.
-use Rattle.std.proofs.Common.{◌≡◌, ℕ, suc, ◌+◌, ◌-◌, ◌<◌, ◌≤◌, ℤ, List, [], ◌∷◌, length, Option, Some, None, true, false, refl, sym, ap, ◌∙◌, subst, arith}
+use Rattle.std.proofs.Common.{◌≡◌, ℕ, suc, ◌+◌, ◌-◌, ◌<◌, List, [], ◌∷◌, length, None, true, false, refl, sym, ap, ◌∙◌, subst, arith}
 use Rattle.std.specs.Prelude.{if◌then◌else◌}
 use Rattle.kernel.specs.State.{Action, Reads, Writes, Serves}
 use Rattle.kernel.specs.Effects.{Quiet, Delays, is_inside_any}
@@ -13,7 +13,7 @@ use Rattle.part_code.specs.image.specs.Steps.{behaviour}
 use Rattle.part_code.specs.image.specs.declared.instruction.Operation.TheVariants as op
 use Rattle.part_code.specs.ada_tree.specs.ExpressionTree.{ExprTree}
 use Rattle.part_code.specs.ada_tree.specs.StatementTree.{DelayUntil, MoreHandlers, NoHandlers}
-use Rattle.part_code.specs.types.specs.Evaluations.{Val, Gives, Meaningless, and_then}
+use Rattle.part_code.specs.types.specs.Evaluations.{and_then}
 use Rattle.part_code.specs.types.specs.Evaluating.{value_with}
 use Rattle.part_code.specs.types.specs.Values.{Value, Number, Truth, Array, Record}
 use Rattle.step_soundness.specs.Laws.{Matches}

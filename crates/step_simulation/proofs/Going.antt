@@ -92,6 +92,9 @@ module _ (i : Sections) (program : Program) (g : Package) (numbers : Numbers) wh
     to_inside = h.to_inside;
   }
 
+  same_out : (a : Setting) (more : Framed) (n from : ℕ) → LeadsOut i program g numbers a n from → LeadsOut i program g numbers (seeing more a) n from
+  same_out a more n from h = earlier_out a more n from from Here h.from_inside h
+
   abbrev LeadEnd : Setting → (n from : ℕ) → Framed → List (List ℕ) → List ℕ → Type 0
   LeadEnd a n from now names addresses = LeadsEnd i program g numbers a n from now names addresses
 
@@ -179,7 +182,11 @@ module _ (i : Sections) (program : Program) (g : Package) (numbers : Numbers) wh
 
   pub earlier : (items : List Item) (a : Setting) (more : Framed) (n x y : ℕ) (fs : List Frame) (os : List Activation)
       → Jump x y → NarrowsFrame g more a.visible → In n x → Follow a n y items fs os → Follow (seeing more a) n x items fs os
-  earlier [] a more n x y fs os j nar ins h = (earlier_out a more n x y j ins h.0, h.1, h.2)
+  earlier [] a more n x y fs os j nar ins h = (
+    earlier_out a more n x y j ins h.0,
+    (λ ret is. let r = h.1 ret is in (nar.reserved ∙ r.0, same_out a more n ret r.1)),
+    h.2,
+  )
   earlier (Declares d ∷ items) a more n x y fs os j nar ins h = (h.0, h.1, h.2, h.3, earlier_leads a more n x y h.0 h.1 h.2 j nar ins h.4, h.5, h.6, h.7, h.8)
   earlier (DeclaresParameter d ∷ items) a more n x y fs os j nar ins h =
       (h.0, h.1, h.2, h.3, earlier_into a.visible more n x y h.0 h.1 h.2 j nar ins h.4, h.5, h.6, h.7)
@@ -513,7 +520,14 @@ module _ (i : Sections) (program : Program) (g : Package) (numbers : Numbers) wh
   pub way_back : (items : List Item) (a : Setting) (n from e : ℕ) (fs : List Frame) (os : List Activation) → Follow a n from items fs os
       → a.ways.return ≡ Some e
       → IsBack a n e items fs os
-  way_back [] a n from e fs os h is = let none = h.1 in absurd cc
+  way_back [] a n from e fs os h is =
+      let r = h.1 e is in record {
+        end = seeing a.ending a;
+        visible = refl;
+        follows = (same_out a a.ending n e r.1, (λ ret there. (refl, same_out a a.ending n ret (h.1 ret there).1)), h.2);
+        ends = refl;
+        drops = record { held = λ locals x. x; apart = λ x. x ∙ r.0 };
+      }
   way_back (Declares d ∷ items) a n from e fs os h is =
       back_seeing a h.3 n e items (Declares d) fs os (h.4.narrows.reserved ∙ sym h.5.reserved) refl refl
       (way_back items (seeing h.3 a) n h.1 e fs os h.7 is)

@@ -1,4 +1,4 @@
-mod Going
+pub mod Going
 mod Sizes
 mod Catching
 mod Raising

@@ -197,7 +197,8 @@ module _ (i : Sections) (program : Program) (g : Package) (numbers : Numbers) wh
 
   -- The code at a place of the subprogram goes on with the items, above these frames and activations.
   abbrev pub Follows : Around → (n from : ℕ) → List Item → List Frame → List Activation → Type 0
-  Follows a n from [] fs os = LeadsOut a n from × (a.ways.return ≡ None) × (fs ≡ [])
+  Follows a n from [] fs os =
+      LeadsOut a n from × ((ret : ℕ) → a.ways.return ≡ Some ret → (a.visible.reserved ≡ a.ending.reserved) × LeadsOut a n ret) × (fs ≡ [])
   Follows a n from (Declares d ∷ items) fs os =
       (at : ℕ) × (to : ℕ) × (now : Framed) × (later : Framed) × LeadsByWays a n from at to now × NarrowsFrame g later now
       × IsDeclared i program g numbers now at to later d

@@ -11,14 +11,21 @@ returns-in-Type-clause-adds c =
     let s = c.args.scope.now in
     let g = c.args.self.now in
     subst (λ i. AddsItems s g (item_tree i ∷ []) g) (sym c.in-Type.is)
-    (adds_nothing s (item_tree (item.Type c.in-Type.field-0)) g refl refl (λ bodies. refl))
+    (adds_nothing s (item_tree (item.Type c.in-Type.field-0)) g refl refl)
 
 pub returns-in-Subprogram-clause-adds : goal.returns-in-Subprogram-clause-adds
 returns-in-Subprogram-clause-adds c =
     let s = c.args.scope.now in
     let g = c.args.self.now in
     subst (λ i. AddsItems s g (item_tree i ∷ []) g) (sym c.in-Subprogram.is)
-    (adds_nothing s (item_tree (item.Subprogram c.in-Subprogram.field-0)) g refl refl (λ bodies. refl))
+    (adds_nothing s (item_tree (item.Subprogram c.in-Subprogram.field-0)) g refl refl)
+
+pub returns-in-Task-clause-adds : goal.returns-in-Task-clause-adds
+returns-in-Task-clause-adds c =
+    let s = c.args.scope.now in
+    let g = c.args.self.now in
+    subst (λ i. AddsItems s g (item_tree i ∷ []) g) (sym c.in-Task.is)
+    (adds_nothing s (item_tree (item.Task c.in-Task.field-0)) g refl refl)
 
 pub returns-in-Object-clause-adds : goal.returns-in-Object-clause-adds
 returns-in-Object-clause-adds c =

@@ -17,12 +17,11 @@ subprogram-requires-clause-at c =
     c.loop-item.item-index c.item-item.result c.requires.at c.loop-item.invariant.1.1 c.loop-item-test.true c.item-item.is
     ∙ ap (λ x. Some (body_item_tree x)) c.in-Subprogram.is
 
-pub returns-in-Task-clause-refused : goal.returns-in-Task-clause-refused
-returns-in-Task-clause-refused c =
-    item_refused (program_tree c.args.accepted.now) c.loop-item.self.place _
-    (stands_at (declared_in (program_tree c.args.accepted.now).package_) c.args.self.now.place c.loop-item.self.place body_item_tree c.args.items.now
+pub task-requires-clause-at : goal.task-requires-clause-at
+task-requires-clause-at c =
+    stands_at (declared_in (program_tree c.args.accepted.now).package_) c.args.self.now.place c.loop-item.self.place body_item_tree c.args.items.now
     c.loop-item.item-index c.item-item.result c.requires.at c.loop-item.invariant.1.1 c.loop-item-test.true c.item-item.is
-    ∙ ap (λ x. Some (body_item_tree x)) c.in-Task.is) refl
+    ∙ ap (λ x. Some (body_item_tree x)) c.in-Task.is
 
 pub returns-in-Protected-clause-refused : goal.returns-in-Protected-clause-refused
 returns-in-Protected-clause-refused c =
