@@ -1,4 +1,5 @@
--- A legal program has no more exceptions and subprograms than an image: its declarations are counted so, and each body has one, or is one.
+-- A legal program has no more exceptions than an image, and no more subprograms than their limit: its declarations are counted so, and each body has one, or is
+-- one.
 use Rattle.std.proofs.Common.{◌≡◌, ℕ, zero, suc, ◌+◌, ◌≤◌, List, [], ◌∷◌, ◌++◌, append-nil, append_assoc, drop, length, length-append, map, take, ◌⊎◌, inl, inr, Bool, true, false, ◌||◌, Option, Some, None, refl, sym, ap, ◌∙◌, subst, arith, take_all}
 use Rattle.std.specs.List.{list_any}
 use Rattle.std.specs.Prelude.{bytes_eq, slice_get}
@@ -6,10 +7,10 @@ use Rattle.std.proofs.lemmas.Bool.{or_parts}
 use Rattle.std.proofs.lemmas.List.{take-append-drop}
 use Rattle.base.specs.Names.{predefined}
 use Rattle.base.specs.declared.faults.TheConstants.{DECLARED_TWICE}
-use Rattle.base.specs.declared.limits.TheConstants.{EXCEPTIONS, PROCEDURES, SUBPROGRAMS}
+use Rattle.base.specs.declared.limits.TheConstants.{EXCEPTIONS, PROCEDURES}
 use Rattle.ada_tree.specs.declared.expression.Identifier.{Identifier}
 use Rattle.ada_tree.specs.StatementTree.{SubprogramTree}
-use Rattle.ada_tree.specs.ProgramTree.{BodyItemTree, BodyTree, ItemTree, OfException, OfItem, OfSubprogram, PackageTree, ProgramTree, SubprogramBody}
+use Rattle.ada_tree.specs.ProgramTree.{BodyItemTree, BodyTree, ItemTree, OfException, OfItem, OfSubprogram, PackageTree, SubprogramBody}
 use Rattle.image.specs.RuleLaws.{slice_get_inside}
 use Rattle.types.specs.Entities.{Doubtful, Entity, Profile, Subprogram}
 use Rattle.types.specs.Scopes.{Scope, is_visible, standard}
@@ -18,24 +19,19 @@ use Rattle.declaring.specs.ItemRules.{item_scope, items_scope}
 use Rattle.meaning.specs.type_rules.specs.SubtypeNames.{declared_twice, named_entity}
 use Rattle.program_soundness.specs.legality.specs.BodyRules.{body_name_faults, function_body_faults, is_subprogram}
 use Rattle.declaring.specs.PackageNames.{body_item_scope, inside_scope, specified_scope}
-use Rattle.checking.specs.ProgramRules.{IsLegal}
-use Rattle.ravenscar.specs.ProgramRules.{IsRestricted}
 use Rattle.program_soundness.specs.size_rules.specs.declared.thing.Kind.TheVariants as kind
 use Rattle.program_soundness.specs.size_rules.specs.Limits.{Things, place_of_kind, places_of, words_faults}
 use Rattle.program_soundness.specs.size_rules.specs.PackageSizes.{body_item_things, body_items_things, frame_faults, item_things, items_things, package_inside, package_things}
 use Rattle.program_soundness.specs.size_rules.specs.ProgramSizes.{declared_faults, exception_faults, label_faults, optional_size_faults, protected_object_faults, subprogram_faults, task_faults}
-use Rattle.meaning.specs.Programs.{Program, exceptions_among, items_among, package_items, program_of}
-use Rattle.program_soundness.specs.BodyLaws.{PremisesHold}
-use Rattle.program_soundness.specs.Fronts.{declared_in, front, scope_at, start_in}
+use Rattle.meaning.specs.Programs.{Program, exceptions_among, items_among, package_items}
+use Rattle.program_soundness.specs.Fronts.{declared_in, scope_at, start_in}
 use Rattle.program_soundness.proofs.Called.{head_legal}
 use Rattle.program_soundness.proofs.Listing.{none_passes, same_some, taken_next}
 use Rattle.program_soundness.proofs.OneList.{is_subprogram_body, matched_at}
-use Rattle.program_soundness.proofs.Trees.{tree_package}
 use Rattle.program_soundness.proofs.Walked.{Origin, declared_one, declares, body_item_kind, origin}
 use Rattle.program_soundness.proofs.Walked as walked
 use Rattle.program_soundness.proofs.WiderScopes.{equal_bytes, same_bytes, seen_some, some_seen, stands}
 use Rattle.program_soundness.proofs.Whole.{IsPackage, kept, known_kind, no_doubt, subprogram_is, subprogram_item}
-use Rattle.package_code.specs.Counts.{bodies_among}
 use Rattle.package_code.proofs.Differing.{AreAmong, AreDiffering, differing_more, is_of, no_more_than}
 use Rattle.ada_link.proofs.LabelsFit.{within_limit}
 use Rattle.package_code.proofs.ItemsTold.{none_taken}
@@ -47,14 +43,14 @@ places_both : (k : _) (xs ys : Things) → places_of k (xs ++ ys) ≡ places_of 
 places_both k [] ys = refl
 places_both k (x ∷ xs) ys = ap (λ l. place_of_kind k x ++ l) (places_both k xs ys) ∙ sym (append_assoc (place_of_kind k x) (places_of k xs) (places_of k ys))
 
-many_both : (k : _) (xs ys : Things) → length (places_of k (xs ++ ys)) ≡ length (places_of k xs) + length (places_of k ys)
+pub many_both : (k : _) (xs ys : Things) → length (places_of k (xs ++ ys)) ≡ length (places_of k xs) + length (places_of k ys)
 many_both k xs ys = ap length (places_both k xs ys) ∙ length-append (places_of k xs) (places_of k ys)
 
 -- one more, or no fewer
-one_more_than : (a b m n : ℕ) → a ≤ b → n ≡ m + b → m ≡ 1 → suc a ≤ n
+pub one_more_than : (a b m n : ℕ) → a ≤ b → n ≡ m + b → m ≡ 1 → suc a ≤ n
 one_more_than a b m n h e one = omega (arith, h, e, one)
 
-no_fewer_than : (a b m n : ℕ) → a ≤ b → n ≡ m + b → a ≤ n
+pub no_fewer_than : (a b m n : ℕ) → a ≤ b → n ≡ m + b → a ≤ n
 no_fewer_than a b m n h e = omega (arith, h, e)
 
 -- ---- exceptions
@@ -87,7 +83,7 @@ exceptions_bodies k own s (x ∷ rest) =
     (exceptions_bodies k own (body_item_scope s x) rest)
     (many_both k (body_item_things s x) (body_items_things (body_item_scope s x) rest))
 
-declared_none : (p : PackageTree) → optional_size_faults (Some p) ≡ [] → declared_faults (package_things p) ≡ []
+pub declared_none : (p : PackageTree) → optional_size_faults (Some p) ≡ [] → declared_faults (package_things p) ≡ []
 declared_none p h = front_empty (declared_faults (package_things p)) (label_faults (package_inside p)) (front_empty _ (frame_faults p) h)
 
 exceptions_by : (k : _) (p : PackageTree) → length (places_of k (package_things p)) ≤ 32
@@ -121,15 +117,10 @@ exceptions_few (Some p) h =
 
 -- ---- subprograms, by their names
 
-abbrev body_names : List BodyItemTree → List (List ℕ)
+abbrev pub body_names : List BodyItemTree → List (List ℕ)
 body_names [] = []
 body_names (SubprogramBody d b ∷ rest) = d.name.name ∷ body_names rest
 body_names (x ∷ rest) = body_names rest
-
-names_many : (items : List BodyItemTree) → length (body_names items) ≡ bodies_among items
-names_many [] = refl
-names_many (SubprogramBody d b ∷ rest) = ap suc (names_many rest)
-names_many (x ∷ rest) = names_many rest
 
 -- those that are counted
 abbrev counted_body : Bool → List ℕ → List (List ℕ)
@@ -368,52 +359,44 @@ module _ (program : Program) (s : Scope) (all : List BodyItemTree) (w : IsPackag
       by_test false e k later = let n = later k in (suc n.0, n.1, n.2, n.3, n.4)
   named_at (x ∷ rest) q h = let n = named_at rest q h in (suc n.0, n.1, n.2, n.3, n.4)
 
-  pub bodies_few : (k : _) → IsDeclared (λ xs. places_of k xs) → bodies_among all ≤ length (places_of k (body_items_things s all))
+  bodies_few : (k : _) → IsDeclared (λ xs. places_of k xs) → length (body_names all) ≤ length (places_of k (body_items_things s all))
   bodies_few k own =
       let few = no_more_than (body_names all) (counted_names s all) differing
       (λ q h.
       let n = named_at all q h in
       subst (λ z. is_of (counted_names s all) z ≡ true) (sym n.4) (counted_there n.0 n.1 n.2 n.3)) in
-      let up = counted_few k own s all in
-      let many = names_many all in
-      over_ (bodies_among all) (length (body_names all)) (length (counted_names s all)) (length (places_of k (body_items_things s all))) many few up
+      over_ (length (body_names all)) (length (counted_names s all)) (length (places_of k (body_items_things s all))) few (counted_few k own s all)
     where
-      over_ : (a b c d : ℕ) → b ≡ a → b ≤ c → c ≤ d → a ≤ d
-      over_ a b c d e h i = omega (arith, e, h, i)
+      over_ : (a b c : ℕ) → a ≤ b → b ≤ c → a ≤ c
+      over_ a b c h i = omega (arith, h, i)
+
+-- what is counted of one kind in the whole package is within the limit of its kind
+pub within_kind : (k : _) (p : PackageTree) (limit n : ℕ) → length (places_of k (package_things p)) ≤ limit
+    → n ≤ length (places_of k (body_items_things (start_in (Some p)) (declared_in (Some p)))) → n ≤ limit
+within_kind k p limit n few up =
+    let front = items_things (inside_scope standard p) p.declaration.items in
+    let behind = body_items_things (specified_scope standard p) p.body.items in
+    under n (length (places_of k (body_items_things (start_in (Some p)) (declared_in (Some p))))) (length (places_of k front)) (length (places_of k behind))
+    (length (places_of k (package_things p))) up (things_joined k (inside_scope standard p) p.declaration.items p.body.items)
+    (many_both k front behind) few
+  where
+    under : (n a b c d : ℕ) → n ≤ a → a ≡ b + c → d ≡ b + c → d ≤ limit → n ≤ limit
+    under n a b c d h e f up_to = omega (arith, h, e, f, up_to)
 
 subprograms_by : (k : _) (p : PackageTree) (n : ℕ) → length (places_of k (package_things p)) ≤ PROCEDURES
     → (IsDeclared (λ xs. places_of k xs) → n ≤ length (places_of k (body_items_things (start_in (Some p)) (declared_in (Some p)))))
     → IsDeclared (λ xs. places_of k xs) → n ≤ PROCEDURES
-subprograms_by k p n few up own =
-    let front = items_things (inside_scope standard p) p.declaration.items in
-    let behind = body_items_things (specified_scope standard p) p.body.items in
-    under n (length (places_of k (body_items_things (start_in (Some p)) (declared_in (Some p))))) (length (places_of k front)) (length (places_of k behind))
-    (length (places_of k (package_things p))) (up own) (things_joined k (inside_scope standard p) p.declaration.items p.body.items)
-    (many_both k front behind) few
-  where
-    under : (n a b c d : ℕ) → n ≤ a → a ≡ b + c → d ≡ b + c → d ≤ PROCEDURES → n ≤ PROCEDURES
-    under n a b c d h e f up_to = omega (arith, h, e, f, up_to)
+subprograms_by k p n few up own = within_kind k p PROCEDURES n few (up own)
 
-module _ (program : Program) (o : Option PackageTree) (w : IsPackage program (start_in o) (declared_in o)) where
-  subprograms_in : optional_size_faults o ≡ [] → bodies_among (declared_in o) ≤ PROCEDURES
-  subprograms_in h = by_package o w h
-    where
-      by_package : (q : Option PackageTree) → IsPackage program (start_in q) (declared_in q) → optional_size_faults q ≡ []
-          → bodies_among (declared_in q) ≤ PROCEDURES
-      by_package None v none_faulty = omega arith
-      by_package (Some p) v none_faulty =
-          let ts = package_things p in
-          let none : subprogram_faults ts ≡ [] =
-          front_empty (subprogram_faults ts) (task_faults ts) (front_empty (subprogram_faults ts ++ task_faults ts) (protected_object_faults ts)
-          (front_empty (subprogram_faults ts ++ task_faults ts ++ protected_object_faults ts) (exception_faults ts)
-          (front_empty (subprogram_faults ts ++ task_faults ts ++ protected_object_faults ts ++ exception_faults ts) (words_faults _ ts)
-          (declared_none p none_faulty)))) in
-          subprograms_by kind.Subprogram p (bodies_among (declared_in (Some p))) (within_limit PROCEDURES (places_of kind.Subprogram ts) none)
-          (λ own. bodies_few program (start_in (Some p)) (declared_in (Some p)) v kind.Subprogram own) (λ s d. refl)
-
-pub subprograms_few : PremisesHold → (t : ProgramTree) → IsLegal t → IsRestricted t → optional_size_faults t.package_ ≡ []
-    → suc (bodies_among (declared_in t.package_)) ≤ SUBPROGRAMS
-subprograms_few premises t legal restricted h =
-    let w = tree_package t legal restricted (premises t legal).sound in
-    let few = subprograms_in (program_of t) t.package_ w h in
-    omega (arith, few)
+pub subprograms_within : (program : Program) (o : Option PackageTree) → IsPackage program (start_in o) (declared_in o) → optional_size_faults o ≡ []
+    → length (body_names (declared_in o)) ≤ PROCEDURES
+subprograms_within program None w h = omega arith
+subprograms_within program (Some p) w h =
+    let ts = package_things p in
+    let none : subprogram_faults ts ≡ [] =
+    front_empty (subprogram_faults ts) (task_faults ts) (front_empty (subprogram_faults ts ++ task_faults ts) (protected_object_faults ts)
+    (front_empty (subprogram_faults ts ++ task_faults ts ++ protected_object_faults ts) (exception_faults ts)
+    (front_empty (subprogram_faults ts ++ task_faults ts ++ protected_object_faults ts ++ exception_faults ts) (words_faults _ ts)
+    (declared_none p h)))) in
+    subprograms_by kind.Subprogram p (length (body_names (declared_in (Some p)))) (within_limit PROCEDURES (places_of kind.Subprogram ts) none)
+    (λ own. bodies_few program (start_in (Some p)) (declared_in (Some p)) w kind.Subprogram own) (λ s d. refl)

@@ -2,22 +2,25 @@
 use Rattle.std.proofs.Common.{◌≡◌, ℕ, zero, suc, ◌-◌, ◌<◌, ◌⊎◌, inl, inr, List, [], ◌∷◌, length, Some, refl, sym, ap, ◌∙◌, subst, arith, length-append}
 use Rattle.std.specs.Prelude.{slice_get}
 use Rattle.std.proofs.lemmas.Option.{slice_get_within}
-use Rattle.ada_tree.specs.ProgramTree.{ProgramTree}
+use Rattle.ada_tree.specs.ProgramTree.{BodyItemTree, ProgramTree}
 use Rattle.image.specs.Operations.{called}
 use Rattle.image.specs.Rules.{last_end}
 use Rattle.image.specs.RuleLaws.{begin_of, begin_of-next}
 use Rattle.image.specs.Sections.{Sections, end_of, first_place}
 use Rattle.image.specs.declared.subprograms.Subprogram.{Subprogram}
+use Rattle.types.specs.Scopes.{Scope}
 use Rattle.checking.specs.ProgramRules.{IsLegal}
 use Rattle.ravenscar.specs.ProgramRules.{IsRestricted}
 use Rattle.program_soundness.proofs.Listing.{same_some}
 use Rattle.expr_code.specs.Code.{here}
 use Rattle.stmt_code.specs.Emitting.{HasLabels}
-use Rattle.stmt_code.specs.Whole.{AreAllKept, KeepsSubprogramRules, KeptCodePasses, PassesOnCode}
-use Rattle.package_code.specs.Program.{HasProgram, main_row}
-use Rattle.package_code.specs.Walking.{row_of}
+use Rattle.stmt_code.specs.declared.subprogram.SubprogramWords.{SubprogramWords}
+use Rattle.stmt_code.specs.Whole.{AreAllKept, IsOutside, KeepsSubprogramRules, KeptCodePasses, PassesOnCode}
+use Rattle.package_code.specs.Program.{HasProgram}
+use Rattle.package_code.specs.Walking.{Coded, HasBody, IsCalledSubprogram, coded, row_of}
+use Rattle.package_code.proofs.Coded.{coded_by}
 use Rattle.package_code.proofs.InFront.{LawsOfNames}
-use Rattle.package_code.proofs.Linking.{begins_there, called_front, called_main, first_main, holds_main, holds_there, labels_there}
+use Rattle.package_code.proofs.Linking.{begins_there, called_front, called_main, first_main, holds_main, holds_there, labels_there, main_row}
 use Rattle.ada_link.proofs.Suited.{front_suited}
 use Rattle.package_code.proofs.Counted.{IsOfBody, owner_of}
 use Rattle.package_code.proofs.Walked.{last_or_before}
@@ -36,6 +39,14 @@ begins : (i : Sections) (n : ℕ) → first_place i n ≡ begin_of 0 i.subprogra
 begins i zero = refl
 begins i (suc n) = refl
 
+-- no body belongs to a protected object, and that of a task is given nothing, and gives nothing back
+bare_body : (t : ProgramTree) (x : BodyItemTree) (c : Coded) → coded x ≡ Some c → (s : Scope) (words : SubprogramWords)
+    → IsCalledSubprogram t c.head s words → (end : ℕ) → IsOutside (row_of c.kind words end)
+bare_body t x c is s words called_by end =
+    coded_by (λ y e. IsCalledSubprogram t e.head s words → IsOutside (row_of e.kind words end))
+    (λ d b h. record { object = refl; bare = λ never. cc })
+    (λ name b h. record { object = refl; bare = λ task. (h.passed [] refl, h.results [] refl) }) x c is called_by
+
 module _ (laws : LawsOfNames) (passes : KeptCodePasses) (t : ProgramTree) (legal : IsLegal t) (restricted : IsRestricted t) (i : Sections) (h : HasProgram t i)
   where
     abbrev rows : List Subprogram
@@ -49,17 +60,18 @@ module _ (laws : LawsOfNames) (passes : KeptCodePasses) (t : ProgramTree) (legal
 
     body_kept : (n : ℕ) → IsOfBody t h.directory n h.walk → IsKeptThere n
     body_kept n x =
-        let body = x.body in
-        let row : Subprogram = row_of body.words (here body.new.code) in
+        let body : HasBody t h.directory x.place x.code h.walk = x.body in
+        let row : Subprogram = row_of x.code.kind body.words (here body.new.code) in
         subst IsKeptThere x.same
         (record {
           s = row;
           there = called_front t i h body.number row body.there;
-          kept = subst (λ p. KeepsSubprogramRules i p row) (sym (begins_there t i h x.place x.d x.b body))
-              (passes.added body.seen body.old body.new body.words body.keeps i row (holds_there t i h x.place x.d x.b body) (labels_there t i h x.place x.d x.b body)
+          kept = subst (λ p. KeepsSubprogramRules i p row) (sym (begins_there t i h x.place x.code body))
+              (passes.added body.seen body.old body.new body.words body.keeps i row (holds_there t i h x.place x.code body)
+              (labels_there t i h x.place x.code body)
               (record { parameters = refl; results = refl; locals = refl; stack = refl })
               (front_suited laws t legal restricted i h body.seen (suc x.place) body.scope body.told row) refl
-              (record { object = refl; bare = λ never. cc }));
+              (bare_body t x.item x.code x.is body.seen.scope body.words body.called (here body.new.code)));
         })
 
     main_kept : IsKeptThere (length rows)

@@ -233,7 +233,7 @@ item_counted s (SubprogramBody d b) = by_result d.result
     by_result None = body_counted s d.formals b
     by_result (Some r) = only_counted s d.formals b
 item_counted s (OfItem d) = none_counted
-item_counted s (TaskBody name b) = only_counted s [] b
+item_counted s (TaskBody name b) = body_counted s [] b
 item_counted s (ProtectedBody name items end_name) = operations_counted s items
 
 items_counted : (s : Scope) (items : List BodyItemTree) → IsCounted (λ labels. items_labels labels items) (body_items_inside s items)

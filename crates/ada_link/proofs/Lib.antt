@@ -11,5 +11,7 @@ mod Refusals
 mod LabelsFit
 mod WordsFit
 mod CountsFit
+mod TasksFit
+mod TaskLines
 mod Tables
 mod MemoryAlone

@@ -3,7 +3,7 @@ use Rattle.std.proofs.Common.{◌≡◌, ℕ, zero, suc, ◌≤◌, List, [], �
 use Rattle.std.specs.Prelude.{bytes_eq, is_none, option_map, slice_get}
 use Rattle.ada_tree.specs.declared.program.MainStatement.{MainStatement}
 use Rattle.ada_tree.specs.declared.program.MainStatement.TheVariants as main
-use Rattle.ada_tree.specs.ProgramTree.{BodyItemTree, ProgramTree}
+use Rattle.ada_tree.specs.ProgramTree.{BodyItemTree, ProgramTree, SubprogramBody}
 use Rattle.types.specs.Entities.{Profile, Subprogram}
 use Rattle.types.specs.Scopes.{Named, Scope, number_of}
 use Rattle.checking.specs.ProgramRules.{IsLegal}
@@ -24,6 +24,7 @@ use Rattle.expr_code.specs.Seeing.{subprogram_of, told_of}
 use Rattle.step_simulation.specs.part_code.specs.Needs.{are_unknown}
 use Rattle.package_code.specs.Laws.{MainIsKnown}
 use Rattle.package_code.specs.Refusing.{number_in, seen_at, told_behind}
+use Rattle.package_code.specs.Walking.{of_subprogram}
 use Rattle.package_code.proofs.CodedPackage.{procedure_stands}
 use Rattle.package_code.proofs.InFront.{LawsOfNames, last_is, whole}
 use Rattle.ada_link.proofs.MainCalls.{AreFound, main_found}
@@ -107,7 +108,7 @@ module _ (laws : LawsOfNames) (t : ProgramTree) (legal : IsLegal t) (restricted 
       (ap (λ l. procedure_among l None name) (sym (w.procedures ∙ procedures_are program.scope all)) ∙ among) in
       let named : x.d.name.name ≡ name = ap (λ y. y.name) (sym x.is ∙ u.is) ∙ u.named in
       let e = body_entity program start all w x.place x.d x.b x.at in
-      let number = bodies_numbered laws.premises t legal restricted x.place x.d x.b x.at in
+      let number = (bodies_numbered laws.premises t legal restricted x.place (SubprogramBody x.d x.b) (of_subprogram x.d x.b) x.at refl).0 in
       ap is_none (told_there name e.profile (ap (stands program.scope) (sym named) ∙ e.stands_) ∙ ap (number_in t) (sym named) ∙ number)
 
   none_unknown : (xs : List MainStatement) → AreFound program xs → are_unknown (seen_at t last) xs ≡ false

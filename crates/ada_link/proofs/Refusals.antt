@@ -3,10 +3,9 @@ use Rattle.std.proofs.Common.{◌≡◌, ℕ, zero, suc, ◌+◌, ◌≤◌, ◌
 use Rattle.std.specs.List.{list_all}
 use Rattle.std.specs.Prelude.{nat_eq, nat_le, not}
 use Rattle.base.specs.Names.{is_label, is_name}
-use Rattle.base.specs.declared.limits.TheConstants.{EXCEPTIONS, INSTRUCTIONS, LABELS, ROWS, SUBPROGRAMS, WORDS}
+use Rattle.base.specs.declared.limits.TheConstants.{EXCEPTIONS, INSTRUCTIONS, LABELS, ROWS, SUBPROGRAMS, TASKS, WORDS}
 use Rattle.ada_tree.specs.ProgramTree.{BodyItemTree, ItemTree, OfItem, PackageTree, ProgramTree}
 use Rattle.image.specs.Sections.{Sections}
-use Rattle.image.specs.declared.tasks.Task.{Task}
 use Rattle.types.specs.Layouts.{total}
 use Rattle.types.specs.Scopes.{Scope}
 use Rattle.declaring.specs.ProtectedRules.{protected_count}
@@ -27,10 +26,11 @@ use Rattle.package_code.specs.Globals.{AreGlobals, RefusesGlobals, refuses_items
 use Rattle.package_code.specs.Laws.{HasFew}
 use Rattle.package_code.specs.Program.{HasProgram, has_texts, is_within_limits}
 use Rattle.package_code.specs.Refusing.{RefusesCode, RefusesSections, RefusesLinking, is_spelled, items_labels, items_needs, items_rows, number_among, program_bound, program_labels, program_needs, program_rows, seen_at}
-use Rattle.package_code.specs.Walking.{IsAsTold}
+use Rattle.package_code.specs.Walking.{IsAsTold, IsWalked}
 use Rattle.package_code.specs.declared.directory.Directory.{Directory}
 use Rattle.package_code.specs.declared.globals.Globals.{Globals}
 use Rattle.package_code.specs.declared.walk.Walk.{Walk}
+use Rattle.ada_link.proofs.TaskLines.{as_many_tasks, names_told}
 
 -- ---- bodies stand in the package's body
 
@@ -110,6 +110,11 @@ module _ (t : ProgramTree) where
 
   -- ---- main
 
+  -- main's number is how many bodies there are
+  pub walked_bodies : (walk : Walk) {directory : Directory} → IsWalked t directory walk → walk.place ≡ length all
+      → length walk.subprograms.items ≡ bodies_among all
+  walked_bodies walk walked last = walked.many ∙ ap bodies_among (ap (λ n. take n all) last ∙ take_all (length all) all (omega arith))
+
   module _ (walk : Walk) (told : IsAsTold t walk) (last : walk.place ≡ length all) where
     few : here walk.draft.code ≤ total (bounds_from t 0 all)
     few =
@@ -140,7 +145,7 @@ module _ (t : ProgramTree) where
         up : (a s m : ℕ) → a ≤ s → a + m ≤ s + m
         up a s m h = omega (arith, h)
 
-    -- as many subprograms as bodies
+    -- main's number, behind those of all bodies
     pub task_refused : (many : ℕ) → many ≡ bodies_before t walk.place → (why : Refusal) → IsRefused many 0 false why → RefusesSections t why
     task_refused many is refusal.Memory r = inl (inl tt)
     task_refused many is refusal.Outside r = absurd (let never : false ≡ true = r in cc)
@@ -160,22 +165,15 @@ module _ (t : ProgramTree) where
   -- ---- tables
 
   module _ (i : Sections) (h : HasProgram t i) (labels : i.labels ≡ program_labels t) (rows : length i.rows ≡ program_rows t) where
-    abbrev main_named : Task → Bool
-    main_named x = is_name x.name
-
-    and_true : (b : Bool) → (b && true) ≡ b
-    and_true true = refl
-    and_true false = refl
-
     texts_are : has_texts i ≡ is_spelled t
     texts_are =
-        λ j. list_all is_name (exceptions j) && (list_all is_label (labels j) && main_is j)
+        λ j. list_all is_name (exceptions j) && (list_all is_label (labels j) && named j)
       where
         exceptions : i.exceptions ≡ (program_of t).exceptions
         exceptions = h.exceptions ∙ h.are.exceptions
 
-        main_is : list_all main_named i.tasks ≡ is_name t.main.name.name
-        main_is = ap (list_all main_named) h.tasks ∙ and_true (is_name t.main.name.name)
+        named : list_all (λ x. is_name x.name) i.tasks ≡ list_all (λ x. is_name x.name) (program_of t).tasks
+        named = names_told t (program_of t).tasks i.tasks h.tasks
 
     pub texts_refused : has_texts i ≡ false → RefusesSections t refusal.Outside
     texts_refused missed = inr (inr (inr (inr (sym texts_are ∙ missed))))
@@ -190,20 +188,22 @@ module _ (t : ProgramTree) where
     many : length i.subprograms ≡ suc (bodies_among all)
     many =
         let a = ap length h.subprograms ∙ length-append h.walk.subprograms.items _ in
-        let b = h.walked.many ∙ ap bodies_among (ap (λ n. take n all) h.whole ∙ take_all (length all) all (omega arith)) in
+        let b = walked_bodies h.walk h.walked h.whole in
         omega (arith, a, b)
 
     pub limits_refused : is_within_limits i ≡ false → RefusesSections t refusal.Limit
     limits_refused missed =
         either (nat_le (length i.subprograms) SUBPROGRAMS) _ (RefusesSections t refusal.Limit) missed
         (λ e. inr (inr (inl (inl (let up = beyond_ (length i.subprograms) SUBPROGRAMS e in omega (arith, up, many))))))
+        (λ rest. either (nat_le (length i.tasks) TASKS) _ (RefusesSections t refusal.Limit) rest
+        (λ e. inr (inr (inl (inr (inr (subst (λ n. TASKS < n) (as_many_tasks t (program_of t).tasks i.tasks h.tasks) (beyond_ (length i.tasks) TASKS e)))))))
         (λ rest. either (nat_le (length i.exceptions) EXCEPTIONS) _ (RefusesSections t refusal.Limit) rest
-        (λ e. inr (inr (inl (inr (subst (λ l. EXCEPTIONS < length l) (h.exceptions ∙ h.are.exceptions) (beyond_ (length i.exceptions) EXCEPTIONS e))))))
+        (λ e. inr (inr (inl (inr (inl (subst (λ l. EXCEPTIONS < length l) (h.exceptions ∙ h.are.exceptions) (beyond_ (length i.exceptions) EXCEPTIONS e)))))))
         (λ rest. either (nat_le (length i.labels) LABELS) _ (RefusesSections t refusal.Limit) rest
         (λ e. inl (inr (subst (λ l. LABELS < length l) labels (beyond_ (length i.labels) LABELS e))))
         (λ rest. either (nat_le (length i.plain_words) WORDS) (nat_le (length i.rows) ROWS) (RefusesSections t refusal.Limit) rest
         (λ e. inr (inl (subst (λ l. WORDS < length l) (h.plain_words ∙ h.are.words) (beyond_ (length i.plain_words) WORDS e))))
-        (λ e. inr (inr (inr (inl (subst (λ n. ROWS < n) rows (beyond_ (length i.rows) ROWS e)))))))))
+        (λ e. inr (inr (inr (inl (subst (λ n. ROWS < n) rows (beyond_ (length i.rows) ROWS e))))))))))
 
   -- ---- no legal program has too many
 
@@ -217,6 +217,7 @@ module _ (t : ProgramTree) where
   few_refused few refusal.Memory (inr (inl h)) = absurd h
   few_refused few refusal.Outside (inr (inl h)) = absurd h
   few_refused few refusal.Limit (inr (inr (inl (inl h)))) = absurd (let up = few.subprograms in omega (arith, h, up))
-  few_refused few refusal.Limit (inr (inr (inl (inr h)))) = absurd (let up = few.exceptions in omega (arith, h, up))
+  few_refused few refusal.Limit (inr (inr (inl (inr (inl h))))) = absurd (let up = few.exceptions in omega (arith, h, up))
+  few_refused few refusal.Limit (inr (inr (inl (inr (inr h))))) = absurd (let up = few.tasks in omega (arith, h, up))
   few_refused few refusal.Memory (inr (inr (inl h))) = absurd h
   few_refused few refusal.Outside (inr (inr (inl h))) = absurd h

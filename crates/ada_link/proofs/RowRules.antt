@@ -16,8 +16,9 @@ use Rattle.expr_code.specs.Code.{here}
 use Rattle.stmt_code.specs.Emitting.{FindsException}
 use Rattle.step_simulation.specs.part_code.specs.Rows.{LiesWithin}
 use Rattle.stmt_code.proofs.Whole.{number_here, number_later}
-use Rattle.package_code.specs.Program.{HasProgram, main_row}
+use Rattle.package_code.specs.Program.{HasProgram}
 use Rattle.package_code.specs.Walking.{HasRows, LiesInOne, begins_at}
+use Rattle.package_code.proofs.Linking.{main_row}
 use Rattle.package_code.proofs.Walked.{begins_kept, rows_are}
 
 -- ---- the subprogram that holds a place

@@ -3,12 +3,13 @@ use Rattle.std.proofs.Common.{◌≡◌, ℕ, suc, ◌+◌, ◌<◌, List, [], �
 use Rattle.ada_tree.specs.declared.declaration.Formal.{Formal}
 use Rattle.ada_tree.specs.declared.declaration.Mode.TheVariants as mode
 use Rattle.ada_tree.specs.declared.expression.Identifier.{Identifier}
-use Rattle.ada_tree.specs.ProgramTree.{ProgramTree}
+use Rattle.ada_tree.specs.ProgramTree.{ProgramTree, SubprogramBody}
 use Rattle.ada_tree.specs.Size.{total}
 use Rattle.image.specs.Operations.{called}
 use Rattle.image.specs.Rules.{has_region}
 use Rattle.image.specs.Sections.{Sections}
 use Rattle.image.specs.declared.instruction.Region.TheVariants as regions
+use Rattle.image.specs.declared.subprograms.Kind.TheVariants as kinds
 use Rattle.image.specs.declared.subprograms.Subprogram.{Subprogram}
 use Rattle.types.specs.declared.entity.FormalParameter.{FormalParameter}
 use Rattle.types.specs.declared.entity.Subtype.{Subtype}
@@ -40,7 +41,7 @@ use Rattle.step_simulation.specs.part_code.specs.Suiting.{IsCallableProcedure, S
 use Rattle.package_code.specs.Directory.{AreTold}
 use Rattle.package_code.specs.Package.{IsPackageOf}
 use Rattle.package_code.specs.Program.{HasProgram}
-use Rattle.package_code.specs.Walking.{HasBody, row_of}
+use Rattle.package_code.specs.Walking.{Coded, HasBody, of_subprogram, row_of}
 use Rattle.package_code.proofs.InFront.{LawsOfNames, front_sound, front_words, kept_behind, names, whole}
 use Rattle.package_code.proofs.InOrder.{package_in_order}
 use Rattle.package_code.proofs.Linking.{body_there, called_front, in_front, ordered, package_of, with_one, without}
@@ -133,11 +134,14 @@ module _ (laws : LawsOfNames) (t : ProgramTree) (legal : IsLegal t) (restricted 
       abbrev there : bodies.HasBody program (start_in t.package_) (declared_in t.package_) w name profile
       there = bodies.subprogram_there program (start_in t.package_) (declared_in t.package_) w name profile stands_whole
 
-      abbrev body : HasBody t h.directory there.place there.subprogram there.body h.walk
-      body = body_there t i h there.place there.subprogram there.body there.at
+      abbrev code_of : Coded
+      code_of = of_subprogram there.subprogram there.body
+
+      abbrev body : HasBody t h.directory there.place code_of h.walk
+      body = body_there t i h there.place (SubprogramBody there.subprogram there.body) code_of there.at refl
 
       abbrev row : Subprogram
-      row = row_of body.words (here body.new.code)
+      row = row_of kinds.Plain body.words (here body.new.code)
 
       numbered : body.number ≡ number
       numbered =

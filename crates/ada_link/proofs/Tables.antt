@@ -1,4 +1,4 @@
--- An accepted program has no more labels, subprograms and exceptions, and its variables no more words, than an image.
+-- An accepted program has no more labels, subprograms, exceptions and tasks, and its variables no more words, than an image.
 use Rattle.std.proofs.Common.{◌≡◌, []}
 use Rattle.meaning.specs.expr_rules.proofs.TypedLaw.{back_empty}
 use Rattle.ada_tree.specs.ProgramTree.{ProgramTree}
@@ -6,9 +6,10 @@ use Rattle.checking.specs.ProgramLayouts.{WordsHaveRoom}
 use Rattle.checking.specs.ProgramRules.{IsLegal}
 use Rattle.program_soundness.specs.size_rules.specs.ProgramSizes.{size_faults}
 use Rattle.package_code.specs.Laws.{TablesAreSmall}
-use Rattle.ada_link.proofs.CountsFit.{exceptions_few, subprograms_few}
+use Rattle.ada_link.proofs.CountsFit.{exceptions_few}
 use Rattle.package_code.proofs.InFront.{LawsOfNames}
 use Rattle.ada_link.proofs.LabelsFit.{labels_few}
+use Rattle.ada_link.proofs.TasksFit.{subprograms_few, tasks_few}
 use Rattle.ada_link.proofs.WordsFit.{words_few}
 
 sizes_legal : (t : ProgramTree) → IsLegal t → size_faults t ≡ []
@@ -22,4 +23,5 @@ tables_small laws room t legal restricted =
       words = words_few laws t legal restricted room sizes;
       subprograms = subprograms_few laws.premises t legal restricted sizes;
       exceptions = exceptions_few t.package_ sizes;
+      tasks = tasks_few t sizes;
     }

@@ -1,22 +1,19 @@
 -- What was put together from an accepted program is well-formed: its code keeps the rules, and so do its tables.
-use Rattle.std.proofs.Common.{◌≡◌, ℕ, suc, ◌+◌, ◌≤◌, pos, negsuc, List, [], ◌∷◌, ◌++◌, length, Bool, true, false, ◌&&◌, ◌||◌, not, Option, Some, None, refl, sym, ap, ◌∙◌, subst, arith}
-use Rattle.std.specs.Prelude.{bytes_eq, nat_le, slice_get, sum_by}
+use Rattle.std.proofs.Common.{◌≡◌, ℕ, suc, ◌+◌, ◌≤◌, List, [], ◌∷◌, ◌++◌, length, Bool, true, false, ◌&&◌, ◌||◌, not, refl, sym, ap, ◌∙◌, subst, arith, length-append}
+use Rattle.std.specs.Prelude.{bytes_eq, nat_le, sum_by}
 use Rattle.std.specs.List.{list_all}
-use Rattle.std.proofs.lemmas.Bool.{and_from, and_parts, le-leb, leb-true, lt-ltb}
+use Rattle.std.proofs.lemmas.Bool.{and_from, and_parts, le-leb}
 use Rattle.base.specs.Names.{is_label, is_name, predefined}
-use Rattle.base.specs.declared.limits.TheConstants.{EXCEPTIONS, INSTRUCTIONS, LABELS, OBJECTS, ROWS, SUBPROGRAMS, TASK_PRIORITY, TASKS, WORDS}
-use Rattle.ada_tree.specs.StatementTree.{AspectTree}
+use Rattle.base.specs.declared.limits.TheConstants.{EXCEPTIONS, INSTRUCTIONS, LABELS, OBJECTS, ROWS, SUBPROGRAMS, TASKS, WORDS}
 use Rattle.ada_tree.specs.ProgramTree.{ProgramTree}
-use Rattle.image.specs.RuleLaws.{list_all-at}
-use Rattle.image.specs.Rules.{IsWellFormed, all_begun, all_nested, all_placed, begins_with, covers_places, depths_agree, has_body, has_counts, has_depth, has_ends, has_entry, has_object, in_holder, is_closed, is_object, is_row_within, is_subprogram, is_task, is_task_body, is_within, jumps_stay_inside, jumps_within, keeps_depth, named_things_exist, names_things, none_or, tables_agree, where_ends}
+use Rattle.image.specs.Rules.{IsWellFormed, all_begun, all_nested, all_placed, begins_with, covers_places, depths_agree, has_body, has_counts, has_depth, has_ends, has_entry, has_object, in_holder, is_closed, is_object, is_row_within, is_subprogram, is_task, is_within, jumps_stay_inside, jumps_within, keeps_depth, named_things_exist, names_things, tables_agree, where_ends}
 use Rattle.image.specs.Sections.{Sections}
-use Rattle.image.specs.declared.tasks.Task.{Task}
-use Rattle.types.specs.Scopes.{Scope, integer_type}
-use Rattle.types.specs.Values.{Array, Number, Record, Truth, Value}
-use Rattle.meaning.specs.expr_rules.specs.StaticRules.{static_scalar}
-use Rattle.meaning.specs.expr_rules.specs.declared.own.Wanted.TheVariants as wanted
-use Rattle.declaring.specs.TaskRules.{default_priority, priority_of, priority_within}
-use Rattle.meaning.specs.Programs.{base_priority, exceptions_among, package_items, program_of}
+use Rattle.meaning.specs.Programs.{exceptions_among, items_among, main_task, package_items, program_of, tasks_among}
+use Rattle.checking.specs.ProgramRules.{IsLegal}
+use Rattle.ravenscar.specs.ProgramRules.{IsRestricted}
+use Rattle.program_soundness.specs.BodyLaws.{PremisesHold}
+use Rattle.program_soundness.specs.Fronts.{declared_in}
+use Rattle.program_soundness.proofs.Trees.{tasks_are}
 use Rattle.program_soundness.proofs.WiderScopes.{bytes_same}
 use Rattle.expr_code.specs.Code.{here}
 use Rattle.stmt_code.specs.Whole.{KeptCodePasses, PassesOnCode}
@@ -24,8 +21,8 @@ use Rattle.package_code.specs.Laws.{SectionsAreWellFormed}
 use Rattle.package_code.specs.Program.{HasProgram, KeepsTables}
 use Rattle.package_code.proofs.InFront.{LawsOfNames}
 use Rattle.ada_link.proofs.KeptCode.{code_passes, long}
-use Rattle.package_code.proofs.Linking.{called_main}
 use Rattle.ada_link.proofs.RowRules.{rows_cover, rows_find, rows_known, rows_nested, rows_within}
+use Rattle.ada_link.proofs.TaskLines.{as_many_tasks, tasks_right, tasks_there}
 
 -- ---- tests
 
@@ -38,38 +35,10 @@ begun_with : (front more : List (List ℕ)) → begins_with front (front ++ more
 begun_with [] more = refl
 begun_with (name ∷ front) more = and_from (bytes_eq name name) (begins_with front (front ++ more)) (bytes_same name) (begun_with front more)
 
--- ---- the priority of main
-
-within_low : (highest other : ℕ) (v : Option Value) → other ≤ highest → priority_within highest other v ≤ highest
-within_low highest other (Some (Number (pos n))) h = by_test (nat_le n highest) refl
-  where
-    by_test : (b : Bool) → nat_le n highest ≡ b → elim b [ true ↦ n | false ↦ other ] ≤ highest
-    by_test true e = leb-true n highest e
-    by_test false e = h
-within_low highest other (Some (Number (negsuc n))) h = h
-within_low highest other (Some (Truth b)) h = h
-within_low highest other (Some (Array vs)) h = h
-within_low highest other (Some (Record fs)) h = h
-within_low highest other None h = h
-
-aspect_low : (s : Scope) (highest other : ℕ) (aspect : Option AspectTree) → other ≤ highest → priority_of s highest other aspect ≤ highest
-aspect_low s highest other (Some a) h = within_low highest other (static_scalar s (wanted.OfType integer_type) None a.value) h
-aspect_low s highest other None h = h
-
-priority_low : (s : Scope) (aspect : Option AspectTree) → base_priority s aspect ≤ TASK_PRIORITY
-priority_low s aspect = aspect_low s TASK_PRIORITY default_priority aspect (omega arith)
-
 -- ---- the image
 
-module _ (t : ProgramTree) (i : Sections) (h : HasProgram t i) (tables : KeepsTables i) (many : length i.subprograms ≡ suc (length h.walk.subprograms.items))
-    (p : PassesOnCode i) where
-  abbrev task : Task
-  task = record {
-    name = t.main.name.name;
-    priority = base_priority (program_of t).scope t.main.aspect;
-    subprogram = length h.walk.subprograms.items;
-  }
-
+module _ (premises : PremisesHold) (t : ProgramTree) (legal : IsLegal t) (restricted : IsRestricted t) (i : Sections) (h : HasProgram t i)
+    (tables : KeepsTables i) (many : length i.subprograms ≡ suc (length h.walk.subprograms.items)) (p : PassesOnCode i) where
   -- ---- code
 
   jumps : jumps_stay_inside i ≡ true
@@ -79,17 +48,13 @@ module _ (t : ProgramTree) (i : Sections) (h : HasProgram t i) (tables : KeepsTa
       (and_from (all_placed (jumps_within i) 0 i.instructions) _ p.jumps
       (and_from (list_all (is_closed i) i.subprograms) (list_all (is_row_within i) i.rows) p.closed (rows_within t i h p.ends))))
 
-  main_there : list_all (has_body i) i.tasks ≡ true
-  main_there =
-      ap (list_all (has_body i)) h.tasks
-      ∙ and_from (has_body i task) true (lt-ltb task.subprogram (length i.subprograms) (omega (arith, many))) refl
-
   named : named_things_exist i ≡ true
   named =
       let there = all_placed (λ place x. in_holder i place (λ s. names_things i s x.operation)) 0 i.instructions in
       and_from (where_ends i there) _ (asked (has_ends i) there p.named)
       (and_from (list_all (has_object i) i.subprograms) _ p.have_objects
-      (and_from (list_all (has_entry i) i.objects) (list_all (has_body i) i.tasks) (ap (list_all (has_entry i)) h.objects) main_there))
+      (and_from (list_all (has_entry i) i.objects) (list_all (has_body i) i.tasks) (ap (list_all (has_entry i)) h.objects)
+      (tasks_there premises t legal restricted i h)))
 
   depths : depths_agree i ≡ true
   depths =
@@ -107,22 +72,8 @@ module _ (t : ProgramTree) (i : Sections) (h : HasProgram t i) (tables : KeepsTa
   labels_spelled : list_all is_label i.labels ≡ true
   labels_spelled = (and_parts (list_all is_label i.labels) _ (and_parts (list_all is_name i.exceptions) _ tables.texts).1).0
 
-  main_named : is_name t.main.name.name ≡ true
-  main_named =
-      list_all-at (λ t. is_name t.name) i.tasks 0 task
-      (and_parts (list_all is_label i.labels) _ (and_parts (list_all is_name i.exceptions) _ tables.texts).1).1
-      (ap (λ l. slice_get l 0) h.tasks)
-
-  main_right : list_all (is_task i) i.tasks ≡ true
-  main_right =
-      let body = none_or (slice_get i.subprograms task.subprogram) (λ s. is_task_body s.kind) in
-      ap (list_all (is_task i)) h.tasks
-      ∙ and_from (is_task i task) true
-      (and_from (is_name task.name) (nat_le task.priority TASK_PRIORITY && body) main_named
-      (and_from (nat_le task.priority TASK_PRIORITY) body
-      (le-leb task.priority TASK_PRIORITY (priority_low (program_of t).scope t.main.aspect))
-      (ap (λ o. none_or o (λ s. is_task_body s.kind)) (called_main t i h))))
-      refl
+  tasks_named : list_all (λ line. is_name line.name) i.tasks ≡ true
+  tasks_named = (and_parts (list_all is_label i.labels) _ (and_parts (list_all is_name i.exceptions) _ tables.texts).1).1
 
   exceptions_are : i.exceptions ≡ predefined ++ exceptions_among (package_items t.package_)
   exceptions_are = h.exceptions ∙ h.are.exceptions
@@ -133,6 +84,12 @@ module _ (t : ProgramTree) (i : Sections) (h : HasProgram t i) (tables : KeepsTa
       let f : length (predefined ++ exceptions_among (package_items t.package_)) ≡ suc (suc (suc (suc (length (exceptions_among (package_items t.package_)))))) =
       refl in
       omega (arith, e, f)
+
+  some_task : 1 ≤ length i.tasks
+  some_task =
+      let all = tasks_among (program_of t).scope (declared_in t.package_) (items_among (declared_in t.package_)) in
+      let a = as_many_tasks t (program_of t).tasks i.tasks h.tasks ∙ ap length (tasks_are t) ∙ length-append all (main_task (program_of t).scope t ∷ []) in
+      omega (arith, a)
 
   some_code : 1 ≤ length i.instructions
   some_code =
@@ -156,7 +113,8 @@ module _ (t : ProgramTree) (i : Sections) (h : HasProgram t i) (tables : KeepsTa
       let g = nat_le (length i.labels) LABELS in
       let k = nat_le (length i.plain_words + sum_by (λ o. length o.words) i.objects) WORDS in
       let few = and_parts (nat_le (length i.subprograms) SUBPROGRAMS) _ tables.limits in
-      let fewer = and_parts (nat_le (length i.exceptions) EXCEPTIONS) _ few.1 in
+      let tasks = and_parts (nat_le (length i.tasks) TASKS) _ few.1 in
+      let fewer = and_parts (nat_le (length i.exceptions) EXCEPTIONS) _ tasks.1 in
       let last = and_parts (nat_le (length i.labels) LABELS) _ fewer.1 in
       let ends = and_parts (nat_le (length i.plain_words) WORDS) (nat_le (length i.rows) ROWS) last.1 in
       let words : length i.plain_words + sum_by (λ o. length o.words) i.objects ≡ length i.plain_words + 0 =
@@ -166,7 +124,8 @@ module _ (t : ProgramTree) (i : Sections) (h : HasProgram t i) (tables : KeepsTa
       (le-leb (length i.instructions) INSTRUCTIONS few_code))
       (and_from b (c && (d && (e && (f && (g && k)))))
       (and_from (nat_le 1 (length i.subprograms)) (nat_le (length i.subprograms) SUBPROGRAMS) (le-leb 1 (length i.subprograms) (omega (arith, many))) few.0)
-      (and_from c (d && (e && (f && (g && k)))) (ap (λ l. is_within 1 (length l) TASKS) h.tasks)
+      (and_from c (d && (e && (f && (g && k))))
+      (and_from (nat_le 1 (length i.tasks)) (nat_le (length i.tasks) TASKS) (le-leb 1 (length i.tasks) some_task) tasks.0)
       (and_from d (e && (f && (g && k)))
       (and_from (nat_le 4 (length i.exceptions)) (nat_le (length i.exceptions) EXCEPTIONS) (le-leb 4 (length i.exceptions) four) fewer.0)
       (and_from e (f && (g && k)) (ap (λ l. nat_le (length l) OBJECTS) h.objects)
@@ -188,7 +147,7 @@ module _ (t : ProgramTree) (i : Sections) (h : HasProgram t i) (tables : KeepsTa
       (and_from (has_ends i) (d && (e && (f && (g && (j && (k && (m && o))))))) p.ends
       (and_from d (e && (f && (g && (j && (k && (m && o)))))) p.subprograms
       (and_from e (f && (g && (j && (k && (m && o))))) (ap (all_placed (is_object i) 0) h.objects)
-      (and_from f (g && (j && (k && (m && o)))) main_right
+      (and_from f (g && (j && (k && (m && o)))) (tasks_right premises t legal restricted i h tasks_named)
       (and_from g (j && (k && (m && o)))
       (ap (begins_with predefined) exceptions_are ∙ begun_with predefined (exceptions_among (package_items t.package_)))
       (and_from j (k && (m && o)) exceptions_named
@@ -200,4 +159,4 @@ module _ (t : ProgramTree) (i : Sections) (h : HasProgram t i) (tables : KeepsTa
 
 pub sections_well_formed : LawsOfNames → KeptCodePasses → SectionsAreWellFormed
 sections_well_formed laws passes t i legal restricted h tables =
-    well_formed t i h tables (long laws passes t legal restricted i h) (code_passes laws passes t legal restricted i h)
+    well_formed laws.premises t legal restricted i h tables (long laws passes t legal restricted i h) (code_passes laws passes t legal restricted i h)

@@ -1,4 +1,4 @@
-//! The sections of the image of a program whose only task is main.
+//! The sections of the image of a program without protected objects.
 ghost use Rattle.std.specs.Prelude.{◌≡◌, false, length, IfErr, IfOk};
 ghost use Rattle.std.specs.List.{list_all};
 ghost use Rattle.base.specs.Names.{is_label, is_name};
@@ -11,33 +11,29 @@ ghost use Rattle.package_code.specs.Refusing.{RefusesSections, RefusesLinking, p
 use crate::laws::{
     main_is_known, main_may_be_added, names_are_sound, tables_are_small, variables_are_placed,
 };
-use base::limits::{EXCEPTIONS, LABELS, ROWS, SUBPROGRAMS, TASK_PRIORITY, WORDS};
+use base::limits::{EXCEPTIONS, LABELS, ROWS, SUBPROGRAMS, TASKS, WORDS};
 use base::names::{is_label, is_name};
-use declaring::{DEFAULT_PRIORITY, priority_of};
 use expr_code::Refusal;
 use image::{Kind, Object, Parts, Task};
 use lexer::Text;
-use package_code::{Directory, Globals, Walk, globals_of, number_bodies, row, walk_over};
+use package_code::{
+    Directory, Globals, Walk, globals_of, number_bodies, row, task_row, task_rows, walk_over,
+};
 use ravenscar::Accepted;
 use std::alloc::Global;
 
-// The task that is main, whose subprogram has this number.
+// The row of main, whose subprogram has this number.
 fn main_task(accepted: &Accepted, number: usize) -> Result<Task, Refusal>
     ensures refused { IfErr result (λ why. IsRefused number 0 false why) }
     ensures task { let t = program_tree accepted.now in IfOk result (λ task. task ≡ record { name = t.main.name.name; priority = base_priority (program_of t).scope t.main.aspect; subprogram = number }) }
 {
     let subprogram = u16::try_from(number).map_err(|_| Refusal::Limit)?;
     let main = &accepted.program().main;
-    let scope = accepted.scope();
-    Ok(Task {
-        name: main.name.name.clone()?,
-        priority: priority_of(scope, TASK_PRIORITY, DEFAULT_PRIORITY, main.aspect.as_ref()),
-        subprogram,
-    })
+    task_row(accepted.scope(), &main.name, &main.aspect, subprogram)
 }
 
-// The code of its subprograms one behind another, in the order of their bodies, with their rows of handlers, that of main behind them, and the variables in the
-// order of their declarations.
+// The code of its subprograms and tasks one behind another, in the order of their bodies, with their rows of handlers, that of main behind them, and the
+// variables and tasks in the order of their declarations.
 fn put_together(alloc: Global, accepted: &Accepted) -> Result<Parts, Refusal>
     ensures program { IfOk result (λ parts. HasProgram (program_tree accepted.now) parts) }
     ensures labels { IfOk result (λ parts. parts.labels ≡ program_labels (program_tree accepted.now)) }
@@ -68,7 +64,7 @@ fn put_together(alloc: Global, accepted: &Accepted) -> Result<Parts, Refusal>
         ..
     } = walk;
     let main = draft.main(&visible, &program.main.statements)?;
-    let mut tasks = Vec::new(alloc);
+    let mut tasks = task_rows(alloc, accepted, &directory)?;
     tasks.push(main_task(accepted, subprograms.len())?)?;
     subprograms.push(row(Kind::TaskBody, main, &draft)?)?;
     Ok(Parts {
@@ -113,6 +109,7 @@ fn is_within_limits(parts: &Parts) -> bool
     ensures { result ≡ is_within_limits parts.now }
 {
     parts.subprograms.len() <= SUBPROGRAMS
+        && parts.tasks.len() <= TASKS
         && parts.exceptions.len() <= EXCEPTIONS
         && parts.labels.len() <= LABELS
         && parts.plain_words.len() <= WORDS
@@ -135,11 +132,12 @@ fn within_tables(alloc: Global, accepted: &Accepted) -> Result<Parts, Refusal>
     Ok(parts)
 }
 
-/// The sections of the image of an accepted program (docs/FORMATS.md): the code of its subprograms one behind another, in the order of their bodies, with their
-/// rows of handlers, that of main behind them, and the variables in the order of their declarations. They make a well-formed image (`sections_are_well_formed`).
+/// The sections of the image of an accepted program (docs/FORMATS.md): the code of its subprograms and tasks one behind another, in the order of their bodies,
+/// with their rows of handlers, that of main behind them, the variables and the tasks in the order of their declarations, and main as the last task (RM 10.2).
+/// They make a well-formed image (`sections_are_well_formed`).
 ///
 /// # Errors
-/// `Outside` where the program has tasks, protected objects, or what has no code yet (docs/CODEGEN.md), or a text that is no name or label; `Limit` where the bound on
+/// `Outside` where the program has protected objects, or what has no code yet (docs/CODEGEN.md), or a text that is no name or label; `Limit` where the bound on
 /// its instructions, the choices of its handlers, or the words of a frame or of an object, pass those of images (specs/Refusing); `Memory` where memory was
 /// refused.
 pub(crate) fn sections(alloc: Global, accepted: &Accepted) -> Result<Parts, Refusal>

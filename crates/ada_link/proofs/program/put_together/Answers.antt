@@ -3,7 +3,7 @@ use Rattle.ada_tree.specs.StatementTree.{optional_tree}
 use Rattle.ada_tree.specs.ProgramTree.{package_tree, program_tree}
 use Rattle.image.specs.declared.tasks.Task.{Task}
 use Rattle.declaring.specs.ProtectedRules.{protected_count}
-use Rattle.meaning.specs.Programs.{base_priority, package_bodies, package_items, program_of}
+use Rattle.meaning.specs.Programs.{base_priority, main_task, package_bodies, package_items, program_of, tasks_among}
 use Rattle.expr_soundness.specs.SoundScopes.{SoundScope}
 use Rattle.program_soundness.specs.Fronts.{front}
 use Rattle.stmt_code.specs.Subprograms.{AddsMain, CallsProcedures}
@@ -14,7 +14,9 @@ use Rattle.expr_code.specs.declared.refusal.Refusal.TheVariants as refusal
 use Rattle.package_code.specs.Refusing.{RefusesSections}
 use Rattle.package_code.specs.Directory.{HaveBodyNumbers, HasManyBodies}
 use Rattle.package_code.specs.Globals.{AreGlobals, RefusesGlobals}
-use Rattle.ada_link.proofs.Refusals.{bodies_refused, code_refused, directory_told, globals_refused, labels_told, main_refused, plain_refused, protected_refused, row_refused, rows_told, task_refused}
+use Rattle.package_code.specs.Tasks.{HaveTasks}
+use Rattle.package_code.proofs.TasksAdded.{have_both}
+use Rattle.ada_link.proofs.Refusals.{bodies_refused, code_refused, directory_told, globals_refused, labels_told, main_refused, plain_refused, protected_refused, row_refused, rows_told, task_refused, walked_bodies}
 use Rattle.ada_link.proofs.program.put_together.Goals as goal
 
 pub globals_of-requires : goal.globals_of-requires
@@ -54,8 +56,9 @@ returns-clause-program c =
     let none : c.protected_count.result ≡ 0 = search rules in
     let number : c.len.result ≡ length walk.subprograms.items = search rules in
     let task : Task = c.in_ok-main_task.field-0 in
-    let task_at : ℕ → Task = λ n.
-    record { name = t.main.name.name; priority = base_priority (program_of t).scope t.main.aspect; subprogram = n } in
+    let same : task ≡ record { name = t.main.name.name; priority = base_priority (program_of t).scope t.main.aspect; subprogram = c.len.result } =
+    c.in_ok-main_task.ensures.task in
+    let declared = tasks_among (program_of t).scope (package_bodies t.package_) (package_items t.package_) in
     let are = subst (λ z. AreGlobals z (package_items t.package_) c.in_ok-slots.field-0) c.scope-scope.ensures
     (subst (λ p. AreGlobals c.scope-scope.result.now (package_items (optional_tree package_tree p.package_)) c.in_ok-slots.field-0)
     c.program-program.ensures.same c.in_ok-slots.ensures.globals) in
@@ -78,11 +81,30 @@ returns-clause-program c =
       plain_words = refl;
       objects = c.new.ensures.items;
       subprograms = c.in_ok-push-2.ensures.items ∙ ap (λ x. walk.subprograms.items ++ x ∷ []) c.in_ok-row.ensures.row;
-      tasks = subst (λ n. c.push.new.self.items ≡ task_at n ∷ []) number
-          (c.in_ok-push.ensures.items ∙ ap (λ l. l ++ task ∷ []) c.new-tasks.ensures.items ∙ ap (λ x. x ∷ []) c.in_ok-main_task.ensures.task);
+      tasks = subst (HaveTasks t (program_of t).tasks) (sym c.in_ok-push.ensures.items)
+          (have_both t declared (main_task (program_of t).scope t ∷ []) c.in_ok-tasks.tasks.items (task ∷ []) c.in_ok-tasks.ensures.have (
+            record {
+              name = ap (λ x. x.name) same;
+              priority = ap (λ x. x.priority) same;
+              duty = ap (λ x. x.subprogram) same ∙ number ∙ walked_bodies t walk c.in_ok-walk.ensures.walked c.in_ok-walk.ensures.whole;
+            },
+            tt,
+          ));
       rows = refl;
       instructions = refl;
     }
+
+pub task_rows-requires : goal.task_rows-requires
+task_rows-requires c =
+    let t = program_tree c.args.accepted.now in
+    let g = c.in_ok-slots.field-0 in
+    let are = subst (λ z. AreGlobals z (package_items t.package_) g) c.scope-scope.ensures
+    (subst (λ p. AreGlobals c.scope-scope.result.now (package_items (optional_tree package_tree p.package_)) g) c.program-program.ensures.same
+    c.in_ok-slots.ensures.globals) in
+    let numbered = subst (λ z. HaveBodyNumbers z (package_bodies t.package_) c.in_ok-numbers.numbers.items) c.scope-scope.ensures
+    (subst (λ p. HaveBodyNumbers c.scope-scope.result.now (package_bodies (optional_tree package_tree p.package_)) c.in_ok-numbers.numbers.items)
+    c.program-program.ensures.same c.in_ok-numbers.ensures.numbered) in
+    record { directory = directory_told t g c.in_ok-numbers.numbers.items _ are numbered refl refl }
 
 pub returns-clause-labels : goal.returns-clause-labels
 returns-clause-labels c =
@@ -134,6 +156,11 @@ returns-in_err-main-clause-refused c =
     (subst (λ l. RefusesMain walk.visible walk.draft.code l (main_bound l) why)
     (c.deref.ensures.value ∙ ap (λ p. p.main.statements.items) c.program-program.ensures.same) c.in_err-main.ensures.refused) in
     search (rules, whole, c.from_residual-in_err-main.ensures)
+
+pub returns-in_err-tasks-clause-refused : goal.returns-in_err-tasks-clause-refused
+returns-in_err-tasks-clause-refused c =
+    let whole = plain_refused (program_tree c.args.accepted.now) c.in_err-tasks.field-0.0 c.in_err-tasks.ensures.refused in
+    search (rules, whole, c.from_residual-in_err-tasks.ensures)
 
 pub returns-in_err-main_task-clause-refused : goal.returns-in_err-main_task-clause-refused
 returns-in_err-main_task-clause-refused c =
