@@ -39,6 +39,7 @@ use Rattle.ada_link.specs.package_code.proofs.InFront.{known_inside}
 use Rattle.source_laws.specs.Small.{IsSmall, body_loops, small_words}
 use Rattle.source_laws.specs.Depths.{FewFormals, formals_take}
 use Rattle.source_laws.specs.Visible.{CalleesHaveFew, FrontsAreSmall, FrontsKeepLimits}
+use Rattle.source_laws.proofs.CodeCounted.{few_at}
 use Rattle.source_laws.proofs.FewCallees.{few_called, fronts_call, start_calls}
 use Rattle.source_laws.proofs.VisibleWords.{same_words}
 
@@ -175,7 +176,7 @@ module _ (premises : PremisesHold) (names : NamesAreKnown) (scopes : ScopesAreSo
       let body_same =
       formals_same x.place x.subprogram x.body x.at x.subprogram.formals p.formals (formals_named x.place x.subprogram x.body x.at)
       (profile_formals whole (formal_parameters whole x.subprogram.formals) x.subprogram.result p x.own) in
-      let fits = small.bodies x.place x.subprogram x.body x.at in
+      let fits = (few_at t tokens small x.place (SubprogramBody x.subprogram x.body) x.at).0 in
       under (formals_take (front t place) p.formals) (formals_take whole p.formals)
       (formals_words (here x.place x.subprogram x.body x.at) (inside x.place x.subprogram x.body x.at) x.subprogram.formals)
       (body_words (inside x.place x.subprogram x.body x.at) x.body) (body_loops x.body) front_same body_same fits

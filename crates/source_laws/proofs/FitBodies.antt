@@ -75,15 +75,14 @@ frames_legal (Some p) h =
     frames_joined (inside_scope standard p) p.declaration.items p.body.items
     ∙ back_empty (declared_faults (package_things p) ++ label_faults (package_inside p)) (frame_faults p) h
 
-frame_at : (s : Scope) (all : List BodyItemTree) (k : ℕ) (d : SubprogramTree) (b : BodyTree) → slice_get all k ≡ Some (SubprogramBody d b)
-    → frames.body_items_faults s all ≡ []
-    → size.body_faults (scope_at s all k) d.formals b ≡ []
-frame_at s [] k d b at h = cc
-frame_at s (x ∷ xs) zero d b at h =
-    subst (λ y. frames.body_item_faults s y ≡ []) (same_some x (SubprogramBody d b) at)
-    (front_empty (frames.body_item_faults s x) (frames.body_items_faults (body_item_scope s x) xs) h)
-frame_at s (x ∷ xs) (suc k) d b at h =
-    frame_at (body_item_scope s x) xs k d b at (back_empty (frames.body_item_faults s x) (frames.body_items_faults (body_item_scope s x) xs) h)
+frame_at : (s : Scope) (all : List BodyItemTree) (k : ℕ) (x : BodyItemTree) → slice_get all k ≡ Some x → frames.body_items_faults s all ≡ []
+    → frames.body_item_faults (scope_at s all k) x ≡ []
+frame_at s [] k x at h = cc
+frame_at s (y ∷ xs) zero x at h =
+    subst (λ z. frames.body_item_faults s z ≡ []) (same_some y x at)
+    (front_empty (frames.body_item_faults s y) (frames.body_items_faults (body_item_scope s y) xs) h)
+frame_at s (y ∷ xs) (suc k) x at h =
+    frame_at (body_item_scope s y) xs k x at (back_empty (frames.body_item_faults s y) (frames.body_items_faults (body_item_scope s y) xs) h)
 
 -- ---- behind the name of a body
 
@@ -120,6 +119,10 @@ body_inside stay s d b outer served =
             ap (λ u. words_of u t) more.1 ∙ ap words (stay s more.0 t (known_inside s t known)),
           );
     }
+
+-- a task's body declares nothing around it
+same_inside : (s : Scope) → Serves s → IsInside s s
+same_inside s h = record { outer = h; served = h; back = λ name t is. is; same = λ t known. (known, refl) }
 
 -- ---- bodies
 
@@ -162,55 +165,67 @@ module _ (adding : WordsAddUp) (stay : ShapesStay) (s : Scope) (v : Visible) (fs
 
 -- ---- the bodies of a text
 
-record IsFramed (t : ProgramTree) (place : ℕ) (d : SubprogramTree) (b : BodyTree) : Type 0 where
-  things : FewThings (body_things (front t place) d.formals b)
+record IsFramed (t : ProgramTree) (place : ℕ) (fs : List Formal) (b : BodyTree) : Type 0 where
+  things : FewThings (body_things (front t place) fs b)
   inside : IsInside (front t place) (front t (suc place))
 
+abbrev IsItemFramed : ProgramTree → (place : ℕ) → BodyItemTree → Type 0
+IsItemFramed t place (SubprogramBody d b) = IsFramed t place d.formals b
+IsItemFramed t place (TaskBody name b) = IsFramed t place [] b
+IsItemFramed t place x = Unit {0}
+
 abbrev AreFramed : ProgramTree → (place : ℕ) → List BodyItemTree → Type 0
-AreFramed t place xs = (k : ℕ) (d : SubprogramTree) (b : BodyTree) → slice_get xs k ≡ Some (SubprogramBody d b) → IsFramed t (behind place k) d b
+AreFramed t place xs = (k : ℕ) (x : BodyItemTree) → slice_get xs k ≡ Some x → IsItemFramed t (behind place k) x
 
 module _ (adding : WordsAddUp) (stay : ShapesStay) (t : ProgramTree) where
-  subprogram_fit : (place : ℕ) (d : SubprogramTree) (b : BodyTree) → IsFramed t place d b
+  module _ (place : ℕ) (fs : List Formal) (b : BodyTree) (framed : IsFramed t place fs b) where
+    abbrev one : Things
+    one = formals_things (front t place) fs
+
+    abbrev two : Things
+    two = locals_things (front t place) b.declarations
+
+    abbrev three : Things
+    three = stmts_things (front t place) b.statements
+
+    abbrev four : Things
+    four = handlers_things (front t place) b.handlers
+
+    behind_formals : IsInside (front t place) (formals_scope (front t (suc place)) fs)
+    behind_formals =
+        formals_inside stay (front t place) (front t (suc place)) framed.inside fs
+        (few_front adding one two (few_front adding (one ++ two) three (few_front adding (one ++ two ++ three) four framed.things)))
+
+    run_of_body_fit : IsFit (procedure_needs (seen_at t (suc place)) (program_of t).exceptions fs b)
+    run_of_body_fit =
+        procedure_fit adding stay (front t place) (seen_at t (suc place)) fs behind_formals (program_of t).exceptions b
+        (few_back adding one two (few_front adding (one ++ two) three (few_front adding (one ++ two ++ three) four framed.things)))
+        (few_back adding (one ++ two) three (few_front adding (one ++ two ++ three) four framed.things))
+        (few_back adding (one ++ two ++ three) four framed.things)
+
+  subprogram_fit : (place : ℕ) (d : SubprogramTree) (b : BodyTree) → IsFramed t place d.formals b
       → IsFit (subprogram_needs t (seen_at t (suc place)) (program_of t).exceptions d b)
   subprogram_fit place d b framed = by_result d.result
     where
-      one : Things
-      one = formals_things (front t place) d.formals
-
-      two : Things
-      two = locals_things (front t place) b.declarations
-
-      three : Things
-      three = stmts_things (front t place) b.statements
-
-      four : Things
-      four = handlers_things (front t place) b.handlers
-
-      inside : IsInside (front t place) (formals_scope (front t (suc place)) d.formals)
-      inside =
-          formals_inside stay (front t place) (front t (suc place)) framed.inside d.formals
-          (few_front adding one two (few_front adding (one ++ two) three (few_front adding (one ++ two ++ three) four framed.things)))
-
       by_result : (r : Option Identifier) → IsFit (elim r [
         | None ↦ procedure_needs (seen_at t (suc place)) (program_of t).exceptions d.formals b
         | Some x ↦ function_if_any (seen_at t (suc place)) d.formals (subtype_named (program_of t).scope x) (returned b.statements)
       ])
-      by_result None =
-          procedure_fit adding stay (front t place) (seen_at t (suc place)) d.formals inside (program_of t).exceptions b
-          (few_back adding one two (few_front adding (one ++ two) three (few_front adding (one ++ two ++ three) four framed.things)))
-          (few_back adding (one ++ two) three (few_front adding (one ++ two ++ three) four framed.things))
-          (few_back adding (one ++ two ++ three) four framed.things)
+      by_result None = run_of_body_fit place d.formals b framed
       by_result (Some x) =
-          function_fit adding stay (front t place) (seen_at t (suc place)) d.formals inside (subtype_named (program_of t).scope x) (returned b.statements)
+          function_fit adding stay (front t place) (seen_at t (suc place)) d.formals (behind_formals place d.formals b framed)
+          (subtype_named (program_of t).scope x) (returned b.statements)
 
   items_fit : (place : ℕ) (xs : List BodyItemTree) → AreFramed t place xs → IsFit (items_needs t place xs)
   items_fit place [] framed = refl
   items_fit place (SubprogramBody d b ∷ rest) framed =
-      both_fit (item_needs t place (SubprogramBody d b)) (items_needs t (suc place) rest) (subprogram_fit place d b (framed 0 d b refl))
-      (items_fit (suc place) rest (λ k e c at. framed (suc k) e c at))
-  items_fit place (OfItem x ∷ rest) framed = items_fit (suc place) rest (λ k e c at. framed (suc k) e c at)
-  items_fit place (TaskBody name b ∷ rest) framed = items_fit (suc place) rest (λ k e c at. framed (suc k) e c at)
-  items_fit place (ProtectedBody name items end_name ∷ rest) framed = items_fit (suc place) rest (λ k e c at. framed (suc k) e c at)
+      both_fit (item_needs t place (SubprogramBody d b)) (items_needs t (suc place) rest)
+      (subprogram_fit place d b (framed 0 (SubprogramBody d b) refl)) (items_fit (suc place) rest (λ k x at. framed (suc k) x at))
+  items_fit place (TaskBody name b ∷ rest) framed =
+      both_fit (item_needs t place (TaskBody name b)) (items_needs t (suc place) rest)
+      (run_of_body_fit place [] b (framed 0 (TaskBody name b) refl)) (items_fit (suc place) rest (λ k x at. framed (suc k) x at))
+  items_fit place (OfItem y ∷ rest) framed = items_fit (suc place) rest (λ k x at. framed (suc k) x at)
+  items_fit place (ProtectedBody name items end_name ∷ rest) framed = items_fit (suc place) rest (λ k x at. framed (suc k) x at)
 
 -- ---- accepted texts
 
@@ -235,11 +250,12 @@ module _ (adding : WordsAddUp) (premises : PremisesHold) (names : NamesAreKnown)
   same_whole : (place : ℕ) (u : Subtype) → IsKnown (front t place) u → words_of whole u ≡ words_of (front t place) u
   same_whole place u known = same_at premises names scopes stay room t legal restricted place u known
 
+  sizes_legal : (place : ℕ) (x : BodyItemTree) → slice_get all place ≡ Some x → frames.body_item_faults (front t place) x ≡ []
+  sizes_legal place x at = frame_at start all place x at (frames_legal t.package_ (back_empty _ (size_faults t) legal))
+
   things_at : (place : ℕ) (d : SubprogramTree) (b : BodyTree) → slice_get all place ≡ Some (SubprogramBody d b)
       → FewThings (body_things (front t place) d.formals b)
-  things_at place d b at =
-      adding.within FRAME_WORDS (body_things (front t place) d.formals b)
-      (frame_at start all place d b at (frames_legal t.package_ (back_empty _ (size_faults t) legal)))
+  things_at place d b at = adding.within FRAME_WORDS (body_things (front t place) d.formals b) (sizes_legal place (SubprogramBody d b) at)
 
   -- the formals of what is called, by those of its body
   abbrev AreWithin : List FormalParameter → Type 0
@@ -297,16 +313,23 @@ module _ (adding : WordsAddUp) (premises : PremisesHold) (names : NamesAreKnown)
       }
 
   framed : ((place : ℕ) → KeepsLimits (front t place)) → AreFramed t 0 all
-  framed limits k d b at = subst (λ n. IsFramed t n d b) (let same = behind_is 0 k in omega (arith, same)) (framed_at k at)
+  framed limits k x at = subst (λ n. IsItemFramed t n x) (let same = behind_is 0 k in omega (arith, same)) (framed_at k x at)
     where
-      framed_at : (place : ℕ) → slice_get all place ≡ Some (SubprogramBody d b) → IsFramed t place d b
-      framed_at place there =
+      framed_at : (place : ℕ) (y : BodyItemTree) → slice_get all place ≡ Some y → IsItemFramed t place y
+      framed_at place (SubprogramBody d b) there =
           let next = scope_next start all place (SubprogramBody d b) there in
           record {
             things = things_at place d b there;
             inside = subst (IsInside (front t place)) (sym next)
                 (body_inside stay (front t place) d b (front_serves place (limits place)) (subst Serves next (front_serves (suc place) (limits (suc place)))));
           }
+      framed_at place (TaskBody name b) there =
+          record {
+            things = adding.within FRAME_WORDS (body_things (front t place) [] b) (sizes_legal place (TaskBody name b) there);
+            inside = subst (IsInside (front t place)) (sym (scope_next start all place (TaskBody name b) there))
+                (same_inside (front t place) (front_serves place (limits place)));
+          }
+      framed_at place y there = tt
 
 pub nothing_unfit : WordsAddUp → PremisesHold → NamesAreKnown → ScopesAreSound → ShapesStay → WordsHaveRoom → FrontsKeepLimits → NothingIsUnfit
 nothing_unfit adding premises names scopes stay room limits limit t tokens spelled legal restricted =

@@ -5,7 +5,7 @@ use Rattle.ada_tree.specs.declared.declaration.Mode.{Mode}
 use Rattle.ada_tree.specs.declared.declaration.Mode.TheVariants as mode
 use Rattle.ada_tree.specs.declared.expression.Identifier.{Identifier}
 use Rattle.ada_tree.specs.ExpressionTree.{Conditional, ElsifValueTrees, MoreElsifValues, NoElsifValues, Parenthesized, ArgumentTree, ArgumentTrees, ExprTree, MoreArguments, Named, NameTree, NoArguments, Text, Value}
-use Rattle.ada_tree.specs.StatementTree.{AlternativeTrees, Assignment, Block, Call, Case, ChoicesTree, DeclarationTree, ElsifTrees, Exit, For, Forever, HandlerTrees, If, IterationTree, LocalObject, LocalProtected, LocalTask, Loop, MoreAlternatives, MoreElsifs, MoreHandlers, MoreStmts, NoAlternatives, NoElsifs, NoHandlers, NoStmts, OtherValues, Raise, Return, StmtTree, StmtTrees, Values, While}
+use Rattle.ada_tree.specs.StatementTree.{AlternativeTrees, Assignment, Block, Call, Case, ChoicesTree, DeclarationTree, DelayUntil, ElsifTrees, Exit, For, Forever, HandlerTrees, If, IterationTree, LocalObject, LocalProtected, LocalTask, Loop, MoreAlternatives, MoreElsifs, MoreHandlers, MoreStmts, NoAlternatives, NoElsifs, NoHandlers, NoStmts, OtherValues, Raise, Return, StmtTree, StmtTrees, Values, While}
 use Rattle.types.specs.declared.entity.FormalParameter.{FormalParameter}
 use Rattle.types.specs.declared.entity.Subtype.{Subtype}
 use Rattle.types.specs.Entities.{Profile, Subprogram}
@@ -192,6 +192,7 @@ module _ (adding : WordsAddUp) (stay : ShapesStay) (s : Scope) where
     stmt_fit (Exit place condition) a inside h = if_any_fit a.visible inside.served condition
     stmt_fit (Return place value) a inside h = return_fit a.returns value
     stmt_fit (Raise place name) a inside h = raise_fit a name
+    stmt_fit (DelayUntil place e) a inside h = seen_fit a.visible inside.served
     stmt_fit (If place condition body elsifs others) a inside h =
         let one = stmts_things s body in
         let two = elsifs_things s elsifs in

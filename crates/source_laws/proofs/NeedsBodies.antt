@@ -20,7 +20,7 @@ use Rattle.ada_link.specs.expr_code.specs.declared.visible.Visible.{Visible}
 use Rattle.ada_link.specs.expr_code.proofs.Widths.{fit_width}
 use Rattle.ada_link.specs.part_code.specs.Bounds.{body_words, handlers_words, locals_words, stmts_words}
 use Rattle.ada_link.specs.part_code.specs.Formals.{passed_for, slot_for}
-use Rattle.ada_link.specs.part_code.specs.Needs.{Needs, all_given, are_wordless, both, formals_frame, formals_needs, locals_needs, outs_needs, stacked}
+use Rattle.ada_link.specs.part_code.specs.Needs.{all_given, both, formals_frame, formals_needs, locals_needs, outs_needs, stacked}
 use Rattle.ada_link.specs.stmt_code.specs.Refusing.{behind_locals, handlers_needs, run_needs, sequence_needs, stmts_needs}
 use Rattle.ada_link.specs.stmt_code.specs.Refusing as code
 use Rattle.ada_link.specs.stmt_code.specs.WholeRefusals.{formals_placed, formals_visible, returned_needs}

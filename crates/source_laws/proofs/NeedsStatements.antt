@@ -11,7 +11,7 @@ use Rattle.ada_tree.specs.ExpressionTree.{ExprTree}
 use Rattle.ada_tree.specs.Language.{Limit, Tokens, ◌⨾◌, each, inside, mark, optional, word, word_at}
 use Rattle.ada_tree.specs.StatementGrammar.{block_declarations, declaration, iteration, range}
 use Rattle.ada_tree.specs.StatementGrammar as grammar
-use Rattle.ada_tree.specs.StatementTree.{AlternativeTrees, Assignment, Block, Call, Case, ChoicesTree, DeclarationTree, ElsifTrees, Exit, For, Forever, HandlerTrees, If, IterationTree, Loop, MoreAlternatives, MoreElsifs, MoreHandlers, MoreStmts, NoAlternatives, NoElsifs, NoHandlers, NoStmts, Null, OtherValues, Raise, Return, StmtTree, StmtTrees, Values, While}
+use Rattle.ada_tree.specs.StatementTree.{AlternativeTrees, Assignment, Block, Call, Case, ChoicesTree, DeclarationTree, DelayUntil, ElsifTrees, Exit, For, Forever, HandlerTrees, If, IterationTree, Loop, MoreAlternatives, MoreElsifs, MoreHandlers, MoreStmts, NoAlternatives, NoElsifs, NoHandlers, NoStmts, Null, OtherValues, Raise, Return, StmtTree, StmtTrees, Values, While}
 use Rattle.types.specs.declared.entity.Value.{Value as Scalar}
 use Rattle.types.specs.Scopes.{Scope}
 use Rattle.expr_soundness.specs.expr_rules.specs.declared.own.Wanted.{Wanted}
@@ -39,7 +39,7 @@ use Rattle.source_laws.proofs.NeedsCalls.{call_fits}
 use Rattle.source_laws.proofs.NeedsLocals.{locals_fit}
 use Rattle.source_laws.proofs.NeedsScopes.{bounds_legal, one_held, small_loop}
 use Rattle.source_laws.proofs.NeedsShapes.{nothing_unfit}
-use Rattle.source_laws.proofs.NeedsValues.{condition_low, integer_low, selecting_low}
+use Rattle.source_laws.proofs.NeedsValues.{condition_low, integer_low, selecting_low, until_low}
 
 -- ---- levels that are opened
 
@@ -158,6 +158,9 @@ mutual
       (exit_fits a condition l d.4.0 d.4.3 small.names (back_empty (exit_rule b place) (optional_condition_faults a.visible.scope condition) h) a.taken 0)
   stmt_fits (Return place value) a b l ts d h small few out = return_fits a.returns value a.taken 0 (depth_if_any expr_depth value)
   stmt_fits (Raise place name) a b l ts d h small few out = raise_fits a name a.taken 0 0
+  stmt_fits (DelayUntil place e) a b l ts d h small few out =
+      value_fits a.visible small.names 0 e a.taken 0 (expr_depth e)
+      (until_low a.visible.scope small.names place e l d.4.4.0 d.4.4.3 (record { around = b; unbroken = h })) (omega arith) (omega arith)
   stmt_fits (If place condition body elsifs others) a b l ts d h small few out =
       let s = a.visible.scope in
       let x = opened l (IfParts place condition body elsifs others) ts d in

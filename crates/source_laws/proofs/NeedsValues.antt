@@ -1,10 +1,12 @@
 -- How many words of the operand stack the expressions of statements take, by what is expected of them.
 use Rattle.std.proofs.Common.{◌≡◌, ◌≤◌, ◌⊎◌, inl, inr, ◌+◌, ◌*◌, ℕ, max, [], true, false, Bool, ◌||◌, refl, sym, ap, ◌∙◌, arith}
+use Rattle.std.specs.Prelude.{not}
 use Rattle.ada_link.specs.base.specs.declared.faults.TheConstants.{NO_MEANING}
 use Rattle.ada_tree.specs.Depth.{expr_depth}
 use Rattle.ada_tree.specs.ExpressionGrammar.{Expression, Production, derives, expression, made_by}
 use Rattle.ada_tree.specs.ExpressionTree.{ExprTree}
 use Rattle.ada_tree.specs.Language.{Limit, Tokens}
+use Rattle.ada_tree.specs.StatementTree.{DelayUntil}
 use Rattle.types.specs.declared.entity.Subtype.{Subtype}
 use Rattle.types.specs.Layouts.{words_of}
 use Rattle.types.specs.Scopes.{Scope}
@@ -14,15 +16,16 @@ use Rattle.expr_soundness.specs.expr_rules.specs.declared.own.Own.TheVariants.{T
 use Rattle.expr_soundness.specs.expr_rules.specs.declared.own.Wanted.TheVariants.{AnyInteger, Anything, OfType}
 use Rattle.expr_soundness.specs.expr_rules.specs.ExpressionRules.{faults_in, faults_of}
 use Rattle.expr_soundness.specs.expr_rules.specs.NameRules.{mismatch}
-use Rattle.expr_soundness.specs.expr_rules.specs.Typing.{is_boolean, is_integral, own_of}
-use Rattle.expr_soundness.specs.expr_rules.proofs.TypedLaw.{back_empty, front_empty, same_number, unbroken}
+use Rattle.expr_soundness.specs.expr_rules.specs.Typing.{is_boolean, is_integral, is_time, own_of}
+use Rattle.expr_soundness.specs.expr_rules.proofs.TypedLaw.{back_empty, front_empty, same_number, time_numeric, unbroken}
 use Rattle.program_soundness.specs.stmt_rules.specs.CaseRules.{discrete_rule, is_discrete, selecting_faults}
-use Rattle.program_soundness.specs.stmt_rules.specs.SimpleRules.{condition_faults}
+use Rattle.program_soundness.specs.stmt_rules.specs.SimpleRules.{condition_faults, time_rule, time_wanted}
 use Rattle.expr_soundness.proofs.Expressions.{not_false}
 use Rattle.ada_link.specs.expr_code.specs.Emitting.{IsLegalExpression}
 use Rattle.ada_link.specs.expr_code.specs.Refusing.{peak}
 use Rattle.ada_link.specs.expr_code.specs.Widths.{own_words, width_of}
-use Rattle.ada_link.specs.expr_code.proofs.Widths.{Fits, boolean_one, condition_width, fits, integral_one, known, words_by_type}
+use Rattle.ada_link.specs.expr_code.proofs.Widths.{Fits, boolean_one, condition_width, fits, integral_one, known, numeric_one, words_by_type}
+use Rattle.ada_link.specs.stmt_code.specs.Emitting.{IsLegalStatement}
 use Rattle.source_laws.specs.Depths.{IsSmallScope}
 use Rattle.source_laws.proofs.PeakBounds.{through}
 use Rattle.source_laws.proofs.Peaks.{legal_of, peak_low, waiting, waits}
@@ -67,6 +70,21 @@ module _ (s : Scope) (small : IsSmallScope s) where
       let rest = discrete_rule s (own_of s e) (start_of e) in
       single_low Expression e l ts d (omega arith) (legal_of s small.sound Anything e (front_empty whole rest h))
       (discrete_one (own_of s e) (start_of e) (back_empty whole rest h))
+
+  time_one : (own : Own) (place : ℕ) → time_rule s own place ≡ [] → own_words s own ≡ 1
+  time_one Unknown place h = refl
+  time_one Universal place h = refl
+  time_one (Typed n) place h =
+      numeric_one s (Typed n) (time_numeric s (Typed n) (not_false (is_time s (Typed n)) (unbroken _ place (not (is_time s (Typed n))) h)))
+
+  -- what is waited for, a time
+  pub until_low : (place : ℕ) (e : ExprTree) (l : Limit) (ts : Tokens) → expression l e ts → IsLegalStatement s (DelayUntil place e)
+      → peak s e ≤ 6 + 12 * expr_depth e
+  until_low place e l ts d h =
+      let whole = faults_of s (time_wanted s) e in
+      let rest = time_rule s (own_of s e) (start_of e) in
+      single_low Expression e l ts d (omega arith) (legal_of s small.sound (time_wanted s) e (front_empty whole rest h.unbroken))
+      (time_one (own_of s e) (start_of e) (back_empty whole rest h.unbroken))
 
   -- ---- values of a type
 

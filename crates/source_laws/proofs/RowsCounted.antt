@@ -2,7 +2,7 @@
 use Rattle.std.proofs.Common.{◌≡◌, ℕ, ◌+◌, ◌≤◌, List, [], ◌∷◌, ◌++◌, length, map, Option, Some, None, arith}
 use Rattle.ada_tree.specs.declared.expression.Identifier.{Identifier}
 use Rattle.ada_tree.specs.StatementTree.{AlternativeTrees, Block, Case, ElsifTrees, HandlerTrees, If, Loop, MoreAlternatives, MoreElsifs, MoreHandlers, MoreStmts, NoAlternatives, NoElsifs, NoHandlers, NoStmts, StmtTree, StmtTrees, SubprogramTree}
-use Rattle.ada_tree.specs.ProgramTree.{BodyItemTree, BodyTree, ItemTree, OfItem, PackageTree, ProgramTree, SubprogramBody}
+use Rattle.ada_tree.specs.ProgramTree.{BodyItemTree, BodyTree, ItemTree, OfItem, PackageTree, ProgramTree, SubprogramBody, TaskBody}
 use Rattle.ada_tree.specs.Size.{alternatives_size, body_item_size, body_size, elsifs_size, handlers_size, item_size, package_size, size, size_if_any, stmt_size, stmts_size, total}
 use Rattle.program_soundness.specs.Fronts.{declared_in}
 use Rattle.ada_link.specs.part_code.specs.Rows.{alternatives_rows, body_rows, elsifs_rows, handlers_rows, stmt_rows, stmts_rows}
@@ -80,6 +80,7 @@ subprogram_counted d b before = by_result d.result
 
 item_counted : (x : BodyItemTree) (before : ℕ) → item_rows before x ≤ before + body_item_size x
 item_counted (SubprogramBody d b) before = subprogram_counted d b before
+item_counted (TaskBody name b) before = let up = body_counted b before in omega (arith, up)
 item_counted x before = unmoved before (body_item_size x)
 
 items_counted : (xs : List BodyItemTree) (before : ℕ) → items_rows before xs ≤ before + total body_item_size xs

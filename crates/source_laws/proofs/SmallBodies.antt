@@ -21,6 +21,7 @@ use Rattle.expr_soundness.specs.expr_rules.proofs.TypedLaw.{front_empty}
 use Rattle.expr_soundness.specs.type_rules.specs.ProfileRules.{formals_faults, function_faults, profile_faults, result_faults}
 use Rattle.program_soundness.specs.declaring.specs.BodyNames.{formals_scope}
 use Rattle.program_soundness.specs.declaring.specs.ProtectedRules.{protected_count}
+use Rattle.program_soundness.specs.stmt_rules.specs.declared.around.BodyKind.TheVariants as kind
 use Rattle.program_soundness.specs.legality.specs.BodyRules.{body_name_faults, function_body_faults, kind_of, own_name_faults}
 use Rattle.checking.specs.ProgramRules.{IsLegal}
 use Rattle.program_soundness.specs.ravenscar.specs.ProgramRules.{IsRestricted}
@@ -38,73 +39,85 @@ use Rattle.ada_link.specs.stmt_code.specs.WholeRefusals.{procedure_needs}
 use Rattle.ada_link.specs.expr_code.specs.declared.visible.Slot.{Slot}
 use Rattle.ada_link.specs.package_code.specs.Package.{place_among}
 use Rattle.ada_link.specs.package_code.specs.Refusing.{RefusesLinking, slot_in, told_behind, function_if_any, item_needs, items_needs, program_needs, seen_at}
-use Rattle.ada_link.specs.package_code.proofs.Adding.{body_legal, value_legal}
+use Rattle.ada_link.specs.package_code.specs.Walking.{Coded, coded, of_subprogram, of_task}
+use Rattle.ada_link.specs.package_code.proofs.Adding.{body_legal, task_legal, value_legal}
+use Rattle.ada_link.specs.package_code.proofs.Coded.{coded_by}
 use Rattle.source_laws.specs.Depths.{AreStored, FunctionsHaveRoom, StaysWithinLimits, IsSmallVisible, IsSmallFunction, IsSmallProcedure, ProceduresHaveRoom}
 use Rattle.source_laws.specs.Limits.{SmallHasRoom, SmallIsUnlimited}
 use Rattle.source_laws.specs.Small.{IsSmall, SmallCodeFits, body_loops}
 use Rattle.source_laws.specs.Visible.{FrontsAreSmall, NothingIsUnfit}
-use Rattle.source_laws.proofs.CodeCounted.{behind, behind_is}
+use Rattle.source_laws.proofs.CodeCounted.{behind, behind_is, few_at}
 use Rattle.source_laws.proofs.FewCallees.{few_formals}
 
 -- ---- the tokens of a body, and its depth
 
--- those that spell the body at a place
-items_spelled : (limit : Limit) (xs : List BodyItemTree) (ts : Tokens) (k : ℕ) (d : SubprogramTree) (b : BodyTree) → each (body_item limit) xs ts
-    → slice_get xs k ≡ Some (SubprogramBody d b)
-    → (u : Tokens) × body limit b u
-items_spelled limit [] ts k d b h at = cc
-items_spelled limit (x ∷ xs) ts zero d b h at =
-    let own = subst (λ y. body_item limit y h.0) (same_some x (SubprogramBody d b) at) h.3 in (own.4.1, own.4.4)
-items_spelled limit (x ∷ xs) ts (suc k) d b h at = items_spelled limit xs h.1 k d b h.4 at
+-- those that spell a body with code
+own_spelled : (limit : Limit) (x : BodyItemTree) (c : Coded) (ts : Tokens) → coded x ≡ Some c → body_item limit x ts → (u : Tokens) × body limit c.body u
+own_spelled limit x c ts is h =
+    coded_by (λ y e. body_item limit y ts → (u : Tokens) × body limit e.body u) (λ d b own. (own.4.1, own.4.4))
+    (λ name b own. (own.4.4.4.1, own.4.4.4.4)) x c is h
+
+-- ... at a place
+items_spelled : (limit : Limit) (xs : List BodyItemTree) (ts : Tokens) (k : ℕ) (x : BodyItemTree) (c : Coded) → each (body_item limit) xs ts
+    → slice_get xs k ≡ Some x → coded x ≡ Some c
+    → (u : Tokens) × body limit c.body u
+items_spelled limit [] ts k x c h at is = cc
+items_spelled limit (y ∷ xs) ts zero x c h at is = own_spelled limit x c h.0 is (subst (λ z. body_item limit z h.0) (same_some y x at) h.3)
+items_spelled limit (y ∷ xs) ts (suc k) x c h at is = items_spelled limit xs h.1 k x c h.4 at is
 
 -- a body is none of the declarations in front
-behind_items : {P : Type 0} (ds : List ItemTree) (xs : List BodyItemTree) (k : ℕ) (d : SubprogramTree) (b : BodyTree)
-    → slice_get (map OfItem ds ++ xs) k ≡ Some (SubprogramBody d b)
-    → ((n : ℕ) → slice_get xs n ≡ Some (SubprogramBody d b) → P)
+behind_items : {P : Type 0} (ds : List ItemTree) (xs : List BodyItemTree) (k : ℕ) (x : BodyItemTree) (c : Coded)
+    → slice_get (map OfItem ds ++ xs) k ≡ Some x → coded x ≡ Some c
+    → ((n : ℕ) → slice_get xs n ≡ Some x → P)
     → P
-behind_items [] xs k d b at f = f k at
-behind_items (e ∷ ds) xs zero d b at f = cc
-behind_items (e ∷ ds) xs (suc k) d b at f = behind_items ds xs k d b at f
+behind_items [] xs k x c at is f = f k at
+behind_items (e ∷ ds) xs zero x c at is f = absurd (let none : None ≡ Some c = ap coded (same_some (OfItem e) x at) ∙ is in cc)
+behind_items (e ∷ ds) xs (suc k) x c at is f = behind_items ds xs k x c at is f
 
-body_spelled : (limit : Limit) (t : ProgramTree) (ts : Tokens) (k : ℕ) (d : SubprogramTree) (b : BodyTree) → program limit t ts
-    → slice_get (declared_in t.package_) k ≡ Some (SubprogramBody d b)
-    → (u : Tokens) × body limit b u
-body_spelled limit t ts k d b h at = by_package t.package_ h.4.0 h.4.3 at
+body_spelled : (limit : Limit) (t : ProgramTree) (ts : Tokens) (k : ℕ) (x : BodyItemTree) (c : Coded) → program limit t ts
+    → slice_get (declared_in t.package_) k ≡ Some x → coded x ≡ Some c
+    → (u : Tokens) × body limit c.body u
+body_spelled limit t ts k x c h at is = by_package t.package_ h.4.0 h.4.3 at
   where
-    by_package : (o : Option PackageTree) (us : Tokens) → optional (package_part limit) o us → slice_get (declared_in o) k ≡ Some (SubprogramBody d b)
-        → (u : Tokens) × body limit b u
+    by_package : (o : Option PackageTree) (us : Tokens) → optional (package_part limit) o us → slice_get (declared_in o) k ≡ Some x
+        → (u : Tokens) × body limit c.body u
     by_package None us i there = cc
     by_package (Some p) us i there =
-        behind_items p.declaration.items p.body.items k d b there (λ n found. items_spelled limit p.body.items _ n d b i.4.4.3.4.4.4.4.3 found)
+        behind_items p.declaration.items p.body.items k x c there is (λ n found. items_spelled limit p.body.items _ n x c i.4.4.3.4.4.4.4.3 found is)
 
-items_deep : (xs : List BodyItemTree) (k : ℕ) (d : SubprogramTree) (b : BodyTree) → slice_get xs k ≡ Some (SubprogramBody d b)
-    → body_depth b ≤ deepest body_item_depth xs
-items_deep [] k d b at = cc
-items_deep (x ∷ xs) zero d b at =
-    within (subprogram_depth d) (body_depth b) (body_item_depth x) (deepest body_item_depth xs) (ap body_item_depth (same_some x (SubprogramBody d b) at))
+own_deep : (x : BodyItemTree) (c : Coded) → coded x ≡ Some c → body_depth c.body ≤ body_item_depth x
+own_deep x c is = coded_by (λ y e. body_depth e.body ≤ body_item_depth y) (λ d b. second (subprogram_depth d) (body_depth b)) (λ name b. omega arith) x c is
   where
-    within : (a c e f : ℕ) → e ≡ max a c → c ≤ max e f
-    within a c e f h = omega (arith, h)
-items_deep (x ∷ xs) (suc k) d b at =
-    further (body_depth b) (body_item_depth x) (deepest body_item_depth xs) (items_deep xs k d b at)
+    second : (a c : ℕ) → c ≤ max a c
+    second a c = omega arith
+
+items_deep : (xs : List BodyItemTree) (k : ℕ) (x : BodyItemTree) (c : Coded) → slice_get xs k ≡ Some x → coded x ≡ Some c
+    → body_depth c.body ≤ deepest body_item_depth xs
+items_deep [] k x c at is = cc
+items_deep (y ∷ xs) zero x c at is =
+    within (body_depth c.body) (body_item_depth x) (body_item_depth y) (deepest body_item_depth xs) (ap body_item_depth (same_some y x at)) (own_deep x c is)
+  where
+    within : (a c e f : ℕ) → e ≡ c → a ≤ c → a ≤ max e f
+    within a c e f h k = omega (arith, h, k)
+items_deep (y ∷ xs) (suc k) x c at is =
+    further (body_depth c.body) (body_item_depth y) (deepest body_item_depth xs) (items_deep xs k x c at is)
   where
     further : (a c e : ℕ) → a ≤ e → a ≤ max c e
     further a c e h = omega (arith, h)
 
-body_shallow : (t : ProgramTree) (k : ℕ) (d : SubprogramTree) (b : BodyTree) → slice_get (declared_in t.package_) k ≡ Some (SubprogramBody d b)
-    → body_depth b ≤ depth t
-body_shallow t k d b at = by_package t.package_ at
+body_shallow : (t : ProgramTree) (k : ℕ) (x : BodyItemTree) (c : Coded) → slice_get (declared_in t.package_) k ≡ Some x → coded x ≡ Some c
+    → body_depth c.body ≤ depth t
+body_shallow t k x c at is = by_package t.package_ at
   where
     within : (a c e f : ℕ) → a ≤ e → a ≤ max (max c e) f
     within a c e f h = omega (arith, h)
 
-    by_package : (o : Option PackageTree) → slice_get (declared_in o) k ≡ Some (SubprogramBody d b)
-        → body_depth b ≤ max (depth_if_any package_depth o) (main_depth t.main)
+    by_package : (o : Option PackageTree) → slice_get (declared_in o) k ≡ Some x → body_depth c.body ≤ max (depth_if_any package_depth o) (main_depth t.main)
     by_package None there = cc
     by_package (Some p) there =
-        behind_items p.declaration.items p.body.items k d b there
-        (λ n found. within (body_depth b) (deepest item_depth p.declaration.items) (deepest body_item_depth p.body.items) (main_depth t.main)
-        (items_deep p.body.items n d b found))
+        behind_items p.declaration.items p.body.items k x c there is
+        (λ n found. within (body_depth c.body) (deepest item_depth p.declaration.items) (deepest body_item_depth p.body.items) (main_depth t.main)
+        (items_deep p.body.items n x c found is))
 
 -- the value that a function returns
 record IsValue (limit : Limit) (body : StmtTrees) (e : ExprTree) : Type 0 where
@@ -138,26 +151,15 @@ room_of_both a b h k =
     most m n i j = omega (arith, i, j)
 
 abbrev HaveRoom : ProgramTree → (place : ℕ) → List BodyItemTree → Type 0
-HaveRoom t place xs = (k : ℕ) (d : SubprogramTree) (b : BodyTree) → slice_get xs k ≡ Some (SubprogramBody d b)
-    → IsMade (item_needs t (behind place k) (SubprogramBody d b))
-    → StaysWithinLimits (item_needs t (behind place k) (SubprogramBody d b))
+HaveRoom t place xs = (k : ℕ) (x : BodyItemTree) → slice_get xs k ≡ Some x → IsMade (item_needs t (behind place k) x)
+    → StaysWithinLimits (item_needs t (behind place k) x)
 
 items_room : (t : ProgramTree) (place : ℕ) (xs : List BodyItemTree) → HaveRoom t place xs → IsMade (items_needs t place xs) → StaysWithinLimits (items_needs t place xs)
 items_room t place [] room made = record { stack = omega arith; frame = omega arith; fit = refl }
 items_room t place (x ∷ rest) room made =
     let parts = or_parts (item_needs t place x).outside (items_needs t (suc place) rest).outside made in
-    room_of_both (item_needs t place x) (items_needs t (suc place) rest) (one x (λ d b at. room 0 d b at) parts.0)
-    (items_room t (suc place) rest (λ k d b at own. room (suc k) d b at own) parts.1)
-  where
-    one : (y : BodyItemTree)
-        → ((d : SubprogramTree) (b : BodyTree) → Some y ≡ Some (SubprogramBody d b) → IsMade (item_needs t place (SubprogramBody d b))
-        → StaysWithinLimits (item_needs t place (SubprogramBody d b)))
-        → IsMade (item_needs t place y)
-        → StaysWithinLimits (item_needs t place y)
-    one (SubprogramBody d b) f own = f d b refl own
-    one (OfItem d) f own = record { stack = omega arith; frame = omega arith; fit = refl }
-    one (TaskBody name b) f own = record { stack = omega arith; frame = omega arith; fit = refl }
-    one (ProtectedBody name items end_name) f own = record { stack = omega arith; frame = omega arith; fit = refl }
+    room_of_both (item_needs t place x) (items_needs t (suc place) rest) (room 0 x refl parts.0)
+    (items_room t (suc place) rest (λ k y at own. room (suc k) y at own) parts.1)
 
 -- ---- words of what is visible in front of a body stand among those of the package
 
@@ -176,7 +178,21 @@ all_held t first [] = tt
 all_held t zero (n ∷ s) = held_with 0 (program_of t).variables n.name (told_behind zero (slot_in t) s) (all_held t zero s)
 all_held t (suc first) (n ∷ s) = all_held t first s
 
--- ---- the bodies of a small text
+-- ---- the bodies of a small text: what is visible in front of each, and how deep it is
+
+module _ (fronts : FrontsAreSmall) (limit : Limit) (t : ProgramTree) (tokens : List Token) (spelled : program limit t tokens) (legal : IsLegal t)
+    (restricted : IsRestricted t) (small : IsSmall t tokens) (place : ℕ) where
+  small_visible : IsSmallVisible (seen_at t (suc place))
+  small_visible =
+      record {
+        names = fronts limit t tokens spelled legal restricted small (suc place);
+        slots = all_held t (length (start_in t.package_)) (front t (suc place));
+      }
+
+  shallow_at : (x : BodyItemTree) (c : Coded) → slice_get (declared_in t.package_) place ≡ Some x → coded x ≡ Some c → body_depth c.body ≤ 16
+  shallow_at x c at is = let own = body_shallow t place x c at is in let whole = small.flat in omega (arith, own, whole)
+
+-- ---- those of subprograms
 
 few_together : (a c e : ℕ) → a + c + e ≤ 64 → a + c ≤ 64
 few_together a c e h = omega (arith, h)
@@ -204,18 +220,11 @@ module _ (premises : PremisesHold) (names : NamesAreKnown) (scopes : ScopesAreSo
       omega (arith, many)
 
   shallow : body_depth b ≤ 16
-  shallow = let own = body_shallow t place d b at in let whole = small.flat in omega (arith, own, whole)
-
-  small_visible : IsSmallVisible (seen_at t (suc place))
-  small_visible =
-      record {
-        names = fronts limit t tokens spelled legal restricted small (suc place);
-        slots = all_held t (length (start_in t.package_)) (front t (suc place));
-      }
+  shallow = shallow_at fronts limit t tokens spelled legal restricted small place (SubprogramBody d b) (of_subprogram d b) at refl
 
   small_procedure : IsSmallProcedure s d.formals b
   small_procedure =
-      let own = body_spelled limit t tokens place d b spelled at in
+      let own = body_spelled limit t tokens place (SubprogramBody d b) (of_subprogram d b) spelled at refl in
       record {
         few = few;
         limit = limit;
@@ -225,13 +234,13 @@ module _ (premises : PremisesHold) (names : NamesAreKnown) (scopes : ScopesAreSo
         legal = body_legal scopes names premises t legal restricted place d b at;
         shallow = shallow;
         words = few_together (formals_words s (formals_scope s d.formals) d.formals) (body_words (formals_scope s d.formals) b) (body_loops b)
-            (small.bodies place d b at);
+            (few_at t tokens small place (SubprogramBody d b) at).0;
       }
 
   small_function : (r : Identifier) (e : ExprTree) → d.result ≡ Some r → returned b.statements ≡ Some e
       → IsSmallFunction s d.formals (subtype_named (program_of t).scope r) e
   small_function r e some is =
-      let own = body_spelled limit t tokens place d b spelled at in
+      let own = body_spelled limit t tokens place (SubprogramBody d b) (of_subprogram d b) spelled at refl in
       let value = value_there limit b.statements _ e own.1.4.4.3 is in
       let up = value.shallow in
       let whole = shallow in
@@ -244,7 +253,7 @@ module _ (premises : PremisesHold) (names : NamesAreKnown) (scopes : ScopesAreSo
         shallow = under (expr_depth e) (stmts_depth b.statements) _ _ up whole;
         words =
             few_formals_alone (formals_words s (formals_scope s d.formals) d.formals) (body_words (formals_scope s d.formals) b) (body_loops b)
-            (small.bodies place d b at);
+            (few_at t tokens small place (SubprogramBody d b) at).0;
       }
     where
       under : (a c e f : ℕ) → a ≤ c → max e (max c f) ≤ 16 → a ≤ 16
@@ -272,8 +281,33 @@ module _ (premises : PremisesHold) (names : NamesAreKnown) (scopes : ScopesAreSo
             | Some x ↦ function_if_any (seen_at t (suc place)) d.formals (subtype_named (program_of t).scope x) (returned b.statements)
           ])
       by_result None e own =
-          procedures (seen_at t (suc place)) (program_of t).exceptions d.formals b small_visible small_procedure own
+          procedures (seen_at t (suc place)) (program_of t).exceptions d.formals b
+          (small_visible fronts limit t tokens spelled legal restricted small place) small_procedure own
       by_result (Some x) e own = by_value x e (returned b.statements) refl own
+
+-- ---- those of tasks
+
+module _ (premises : PremisesHold) (names : NamesAreKnown) (scopes : ScopesAreSound) (fronts : FrontsAreSmall) (procedures : ProceduresHaveRoom) (limit : Limit)
+    (t : ProgramTree) (tokens : List Token) (spelled : program limit t tokens) (legal : IsLegal t) (restricted : IsRestricted t) (small : IsSmall t tokens)
+    (place : ℕ) (name : Identifier) (b : BodyTree) (at : slice_get (declared_in t.package_) place ≡ Some (TaskBody name b)) where
+  small_task : IsSmallProcedure (front t (suc place)) [] b
+  small_task =
+      let own = body_spelled limit t tokens place (TaskBody name b) (of_task name b) spelled at refl in
+      record {
+        few = omega arith;
+        limit = limit;
+        tokens = own.0;
+        spelled = own.1;
+        kind = kind.Task;
+        legal = task_legal scopes names premises t legal restricted place name b at;
+        shallow = shallow_at fronts limit t tokens spelled legal restricted small place (TaskBody name b) (of_task name b) at refl;
+        words = few_together 0 (body_words (front t (suc place)) b) (body_loops b) (few_at t tokens small place (TaskBody name b) at).0;
+      }
+
+  task_room : IsMade (item_needs t place (TaskBody name b)) → StaysWithinLimits (item_needs t place (TaskBody name b))
+  task_room made =
+      procedures (seen_at t (suc place)) (program_of t).exceptions [] b
+      (small_visible fronts limit t tokens spelled legal restricted small place) small_task made
 
 -- ---- the whole text
 
@@ -283,17 +317,20 @@ small_has_room premises names scopes fronts procedures functions limit t tokens 
     let parts = or_parts objects.outside (items_needs t 0 (declared_in t.package_)).outside made in
     room_of_both objects (items_needs t 0 (declared_in t.package_)) (record { stack = omega arith; frame = omega arith; fit = refl })
     (items_room t 0 (declared_in t.package_)
-    (λ k d b at own. at_place k d b at own
-    (body_room premises names scopes fronts procedures functions limit t tokens spelled legal restricted small k d b at))
-    parts.1)
+    (λ k x at own. at_place k x (item_room k x at) own) parts.1)
   where
-    at_place : (k : ℕ) (d : SubprogramTree) (b : BodyTree) → slice_get (declared_in t.package_) k ≡ Some (SubprogramBody d b)
-        → IsMade (item_needs t (behind 0 k) (SubprogramBody d b))
-        → (IsMade (item_needs t k (SubprogramBody d b)) → StaysWithinLimits (item_needs t k (SubprogramBody d b)))
-        → StaysWithinLimits (item_needs t (behind 0 k) (SubprogramBody d b))
-    at_place k d b at own f =
+    item_room : (k : ℕ) (x : BodyItemTree) → slice_get (declared_in t.package_) k ≡ Some x → IsMade (item_needs t k x) → StaysWithinLimits (item_needs t k x)
+    item_room k (SubprogramBody d b) at own =
+        body_room premises names scopes fronts procedures functions limit t tokens spelled legal restricted small k d b at own
+    item_room k (TaskBody name b) at own = task_room premises names scopes fronts procedures limit t tokens spelled legal restricted small k name b at own
+    item_room k (OfItem d) at own = record { stack = omega arith; frame = omega arith; fit = refl }
+    item_room k (ProtectedBody name items end_name) at own = record { stack = omega arith; frame = omega arith; fit = refl }
+
+    at_place : (k : ℕ) (x : BodyItemTree) → (IsMade (item_needs t k x) → StaysWithinLimits (item_needs t k x)) → IsMade (item_needs t (behind 0 k) x)
+        → StaysWithinLimits (item_needs t (behind 0 k) x)
+    at_place k x f own =
         let same : k ≡ behind 0 k = (let e = behind_is 0 k in omega (arith, e)) in
-        subst (λ n. IsMade (item_needs t n (SubprogramBody d b)) → StaysWithinLimits (item_needs t n (SubprogramBody d b))) same f own
+        subst (λ n. IsMade (item_needs t n x) → StaysWithinLimits (item_needs t n x)) same f own
 
 pub small_is_unlimited : SmallHasRoom → SmallCodeFits → NothingIsUnfit → SmallIsUnlimited
 small_is_unlimited has_room fits unfit limit t tokens spelled legal restricted small made refused =

@@ -5,14 +5,16 @@ use Rattle.std.proofs.lemmas.Bool.{and_from}
 use Rattle.std.proofs.lemmas.List.Folds.{list_all-append}
 use Rattle.ada_link.specs.base.specs.Names.{is_name, predefined}
 use Rattle.ada_tree.specs.declared.expression.Identifier.{Identifier}
-use Rattle.ada_tree.specs.StatementTree.{SubprogramTree}
-use Rattle.ada_tree.specs.ProgramTree.{BodyItemTree, BodyTree, ItemTree, OfException, OfItem, PackageTree, ProgramTree, SubprogramBody}
+use Rattle.ada_tree.specs.StatementTree.{SubprogramTree, TaskTree}
+use Rattle.ada_tree.specs.ProgramTree.{BodyItemTree, BodyTree, ItemTree, OfException, OfItem, OfTask, PackageTree, ProgramTree, SubprogramBody, TaskBody}
 use Rattle.ada_tree.specs.Language.{Limit, each, optional}
 use Rattle.ada_tree.specs.ProgramGrammar.{body, body_item, item, package_part, program}
-use Rattle.expr_soundness.specs.meaning.specs.Programs.{exceptions_among, items_among, package_items}
+use Rattle.types.specs.Scopes.{Scope}
+use Rattle.expr_soundness.specs.meaning.specs.Programs.{Duty, Task, body_among, exceptions_among, items_among, main_task, package_bodies, package_items, program_of, task_with, tasks_among}
 use Rattle.program_soundness.specs.Fronts.{declared_in}
 use Rattle.ada_link.specs.stmt_code.specs.WholeRefusals.{body_labels}
 use Rattle.ada_link.specs.package_code.specs.Refusing.{is_spelled, item_labels, items_labels, program_labels}
+use Rattle.ada_link.specs.package_code.proofs.TasksAdded.{tasks_both}
 use Rattle.ada_link.specs.package_code.proofs.Variables.{exceptions_both}
 use Rattle.source_laws.specs.Spelled.{OutsideIsTold, TextsAreSpelled}
 use Rattle.source_laws.proofs.SpelledTokens.{spelled_tokens}
@@ -30,6 +32,7 @@ subprogram_told d b l = later (later (by_result d.result))
 
 item_told : (x : BodyItemTree) (l : Limit) → Tells (body_item l x) (Keeps (λ before. item_labels before x))
 item_told (SubprogramBody d b) l = subprogram_told d b l
+item_told (TaskBody name b) l = later (later (later (later (body_told b l))))
 item_told x l = known same
 
 items_told : (xs : List BodyItemTree) (l : Limit) → Tells (each (body_item l) xs) (Keeps (λ before. items_labels before xs))
@@ -85,6 +88,49 @@ package_exceptions_told (Some p) l =
         (subst AreNames (sym (exceptions_both p.declaration.items (items_among p.body.items)))
         (both_names (exceptions_among p.declaration.items) (exceptions_among (items_among p.body.items)) h k))
 
+-- ---- names of tasks
+
+abbrev HaveNames : List Task → Type 0
+HaveNames tasks = list_all (λ x. is_name x.name) tasks ≡ true
+
+both_named : (xs ys : List Task) → HaveNames xs → HaveNames ys → HaveNames (xs ++ ys)
+both_named xs ys h k =
+    list_all-append (λ x. is_name x.name) xs ys ∙ and_from (list_all (λ x. is_name x.name) xs) (list_all (λ x. is_name x.name) ys) h k
+
+task_named : (s : Scope) (d : TaskTree) (duties : List Duty) → is_name d.name.name ≡ true → HaveNames (map (task_with s d) duties)
+task_named s d [] h = refl
+task_named s d (x ∷ duties) h =
+    and_from (is_name d.name.name) (list_all (λ y. is_name y.name) (map (task_with s d) duties)) h (task_named s d duties h)
+
+module _ (s : Scope) (bodies : List BodyItemTree) where
+  one_and_rest : (d : TaskTree) (ds : List ItemTree) → is_name d.name.name ≡ true → HaveNames (tasks_among s bodies ds)
+      → HaveNames (tasks_among s bodies (OfTask d ∷ ds))
+  one_and_rest d ds one rest =
+      let duties = body_among d.name bodies in
+      both_named (map (task_with s d) duties) (tasks_among s bodies ds) (task_named s d duties one) rest
+
+  tasks_told : (ds : List ItemTree) (l : Limit) → Tells (each (item l) ds) (HaveNames (tasks_among s bodies ds))
+  tasks_told [] l = known refl
+  tasks_told (OfTask d ∷ ds) l = both_told (one_and_rest d ds) (later (sooner (named d.name))) (tasks_told ds l)
+  tasks_told (d ∷ ds) l = later (tasks_told ds l)
+
+  body_tasks_told : (xs : List BodyItemTree) (l : Limit) → Tells (each (body_item l) xs) (HaveNames (tasks_among s bodies (items_among xs)))
+  body_tasks_told [] l = known refl
+  body_tasks_told (OfItem (OfTask d) ∷ xs) l = both_told (one_and_rest d (items_among xs)) (later (sooner (named d.name))) (body_tasks_told xs l)
+  body_tasks_told (x ∷ xs) l = later (body_tasks_told xs l)
+
+  package_tasks_told : (o : Option PackageTree) (l : Limit) → Tells (optional (package_part l) o) (HaveNames (tasks_among s bodies (package_items o)))
+  package_tasks_told None l = known refl
+  package_tasks_told (Some p) l =
+      later (both_told all_named (later (later (later (sooner (tasks_told p.declaration.items l)))))
+      (sooner (later (later (later (later (sooner (body_tasks_told p.body.items l))))))))
+    where
+      all_named : HaveNames (tasks_among s bodies p.declaration.items) → HaveNames (tasks_among s bodies (items_among p.body.items))
+          → HaveNames (tasks_among s bodies (package_items (Some p)))
+      all_named h k =
+          subst HaveNames (sym (tasks_both s bodies p.declaration.items (items_among p.body.items)))
+          (both_named (tasks_among s bodies p.declaration.items) (tasks_among s bodies (items_among p.body.items)) h k)
+
 -- ---- whole texts
 
 program_told : (limit : Limit) (t : ProgramTree) → Tells (program limit t) (is_spelled t ≡ true)
@@ -93,8 +139,11 @@ program_told limit t =
       told = λ ts h s.
           let labels = labels_told.told ts h s in
           let exceptions = exceptions_are.told ts h s in
+          let tasks = tasks_are.told ts h s in
           let main = main_told.told ts h s in
-          and_from _ _ exceptions (and_from _ _ labels main);
+          let all = both_named (tasks_among whole bodies (package_items t.package_)) (main_task whole t ∷ []) tasks
+          (and_from (is_name t.main.name.name) true main refl) in
+          and_from _ _ exceptions (and_from _ _ labels all);
     }
   where
     labels_told : Tells (program limit t) (AreLabels (program_labels t))
@@ -102,6 +151,15 @@ program_told limit t =
 
     exceptions_are : Tells (program limit t) (AreNames (predefined ++ exceptions_among (package_items t.package_)))
     exceptions_are = later (sooner (package_exceptions_told t.package_ limit))
+
+    whole : Scope
+    whole = (program_of t).scope
+
+    bodies : List BodyItemTree
+    bodies = package_bodies t.package_
+
+    tasks_are : Tells (program limit t) (HaveNames (tasks_among whole bodies (package_items t.package_)))
+    tasks_are = later (sooner (package_tasks_told whole bodies t.package_ limit))
 
     main_told : Tells (program limit t) (is_name t.main.name.name ≡ true)
     main_told = later (later (later (sooner (named t.main.name))))

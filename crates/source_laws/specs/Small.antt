@@ -1,9 +1,11 @@
 -- When a source text is small, and what is promised of one: its code passes no limit on the numbers of an image.
-use Rattle.std.specs.Prelude.{◌≡◌, ℕ, suc, ◌+◌, ◌≤◌, List, length, Some, slice_get}
+use Rattle.std.specs.Prelude.{ℕ, suc, ◌+◌, ◌≤◌, List, [], ◌∷◌, ◌++◌, length}
+use Rattle.std.specs.List.{AllByRecursion}
 use Rattle.ada_link.specs.base.specs.declared.limits.TheConstants.{INSTRUCTIONS, ROWS}
 use Rattle.ada_link.specs.lexer.specs.declared.token.Token.{Token}
-use Rattle.ada_tree.specs.StatementTree.{AlternativeTrees, Block, Case, ElsifTrees, For, HandlerTrees, If, IterationTree, Loop, MoreAlternatives, MoreElsifs, MoreHandlers, MoreStmts, NoAlternatives, NoElsifs, NoHandlers, NoStmts, StmtTree, StmtTrees, SubprogramTree}
-use Rattle.ada_tree.specs.ProgramTree.{BodyTree, ProgramTree, SubprogramBody}
+use Rattle.ada_tree.specs.declared.declaration.Formal.{Formal}
+use Rattle.ada_tree.specs.StatementTree.{AlternativeTrees, Block, Case, ElsifTrees, For, HandlerTrees, If, IterationTree, Loop, MoreAlternatives, MoreElsifs, MoreHandlers, MoreStmts, NoAlternatives, NoElsifs, NoHandlers, NoStmts, StmtTree, StmtTrees}
+use Rattle.ada_tree.specs.ProgramTree.{BodyItemTree, BodyTree, ProgramTree, SubprogramBody, TaskBody}
 use Rattle.ada_tree.specs.Depth.{depth}
 use Rattle.ada_tree.specs.Language.{Limit}
 use Rattle.ada_tree.specs.ProgramGrammar.{program}
@@ -48,6 +50,28 @@ abbrev mutual
 abbrev pub body_loops : BodyTree → ℕ
 body_loops b = stmts_loops b.statements + handlers_loops b.handlers
 
+-- ---- all bodies of a text that have code of their own
+
+-- a body, its formals, and the names that are visible in front of these
+pub record PlacedBody : Type 0 where
+  pub scope : Scope
+  pub formals : List Formal
+  pub body : BodyTree
+
+-- that of a subprogram or of a task, which has no formals, at this place of the package
+abbrev pub item_bodies : ProgramTree → (place : ℕ) → BodyItemTree → List PlacedBody
+item_bodies t place (SubprogramBody d b) = record { scope = front t (suc place); formals = d.formals; body = b } ∷ []
+item_bodies t place (TaskBody name b) = record { scope = front t (suc place); formals = []; body = b } ∷ []
+item_bodies t place item = []
+
+-- of items that stand from this place on
+abbrev pub bodies_from : ProgramTree → (place : ℕ) → List BodyItemTree → List PlacedBody
+bodies_from t place [] = []
+bodies_from t place (item ∷ rest) = item_bodies t place item ++ bodies_from t (suc place) rest
+
+abbrev pub bodies_of : ProgramTree → List PlacedBody
+bodies_of t = bodies_from t 0 (declared_in t.package_)
+
 -- ---- small texts
 
 abbrev pub small_tokens : ℕ
@@ -59,16 +83,20 @@ small_depth = 16
 abbrev pub small_words : ℕ
 small_words = 64
 
--- the words of the formals, of all objects that are declared in the body, and of its loop parameters, by the names in front of the formals
-abbrev pub body_room : Scope → SubprogramTree → BodyTree → ℕ
-body_room s d b = formals_words s (formals_scope s d.formals) d.formals + body_words (formals_scope s d.formals) b + body_loops b
+-- the words of the formals, of all objects that are declared in the body, and of its loop parameters
+abbrev pub body_room : PlacedBody → ℕ
+body_room x =
+    formals_words x.scope (formals_scope x.scope x.formals) x.formals + body_words (formals_scope x.scope x.formals) x.body + body_loops x.body
 
--- it has few tokens, few levels are open at once, and each body of a subprogram has few words
+-- each of these has few words
+abbrev pub TakeFewWords : List PlacedBody → Type 0
+TakeFewWords xs = AllByRecursion (λ x. body_room x ≤ small_words) xs
+
+-- it has few tokens, few levels are open at once, and each of its bodies has few words
 pub record IsSmall (t : ProgramTree) (tokens : List Token) : Type 0 where
   pub few : length tokens ≤ small_tokens
   pub flat : depth t ≤ small_depth
-  pub bodies : (place : ℕ) (d : SubprogramTree) (b : BodyTree) → slice_get (declared_in t.package_) place ≡ Some (SubprogramBody d b)
-      → body_room (front t (suc place)) d b ≤ small_words
+  pub bodies : TakeFewWords (bodies_of t)
 
 -- ---- the code of one
 

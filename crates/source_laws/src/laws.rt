@@ -78,7 +78,7 @@ pub fn fronts_are_small()
     words_have_room();
 }
 
-/// The bodies of a small text are small, so the frames and operand stacks of its code have room.
+/// The bodies of a small text, of subprograms and tasks, are small, so the frames and operand stacks of its code have room.
 pub fn small_has_room()
     ensures { SmallHasRoom }
 {
