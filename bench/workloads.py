@@ -1,7 +1,7 @@
 #!/usr/bin/env python3
 """Writes the images that machines are measured on, each beside the output and the number of steps that are reckoned here without a machine.
 
-    workloads.py FOLDER     for each NAME: NAME.img, NAME.out, NAME.steps
+    workloads.py FOLDER     for each NAME: NAME.img, or NAME.adb of which it is to be compiled, NAME.out, NAME.steps
 """
 import os
 import sys
@@ -142,6 +142,42 @@ def hand_over(values=500_000):
     return image, lines, values * (11 + 5 + 13 + 4 + 3 + 3) + 3 + 3
 
 
+def compiled_turns(rounds=50_000):
+    """16 tasks of three priorities that wait for the same times, from their source, with the code of docs/CODEGEN.md: a turn takes 31 steps, the last one 5 fewer."""
+    order = sorted(range(16), key=lambda number: -(number % 3))
+    tasks = "".join(f"   task T{number} with Priority => {10 + number % 3};\n" for number in range(16))
+    bodies = "".join(
+        f"""   task body T{number} is
+      Next : Time := Clock;
+   begin
+      for Round in 1 .. {rounds} loop
+         Next := Next + Milliseconds (1);
+         delay until Next;
+         Count := Count + 1;
+      end loop;
+      Put ("x", Count);
+   end T{number};
+"""
+        for number in range(16)
+    )
+    source = f"""pragma Profile (Ravenscar);
+with Ada.Real_Time; use Ada.Real_Time;
+with Control_IO; use Control_IO;
+package App is
+   Count : Integer := 0;
+{tasks}end App;
+package body App is
+{bodies}end App;
+with App;
+procedure Main is
+begin
+   null;
+end Main;
+"""
+    lines = [f"{1000 * rounds} T{number} x {16 * (rounds - 1) + place + 1}" for place, number in enumerate(order)]
+    return source, lines, 16 * (15 + 31 * rounds - 5 + 3) + 1
+
+
 WORKLOADS = {
     "loops": loops,
     "calls": calls,
@@ -154,13 +190,22 @@ WORKLOADS = {
     "hand_over": hand_over,
 }
 
+# their images are those that the program compiles
+SOURCES = {"compiled_turns": compiled_turns}
+
+
+def written(folder, name, kind, content, lines, steps):
+    """Writes an image or a source beside its output and the number of its steps."""
+    last_time = lines[-1].split()[0]
+    for end, data in ((kind, content), ("out", "\n".join([*lines, f"ended at {last_time}"]).encode() + b"\n"), ("steps", f"{steps}\n".encode())):
+        with open(os.path.join(folder, f"{name}.{end}"), "wb") as file:
+            file.write(data)
+
+
 if __name__ == "__main__":
     for name, workload in WORKLOADS.items():
-        image, lines, steps = workload()
-        last_time = lines[-1].split()[0]
-        with open(os.path.join(sys.argv[1], name + ".img"), "wb") as file:
-            file.write(image.bytes())
-        with open(os.path.join(sys.argv[1], name + ".out"), "w") as file:
-            file.write("\n".join([*lines, f"ended at {last_time}"]) + "\n")
-        with open(os.path.join(sys.argv[1], name + ".steps"), "w") as file:
-            file.write(f"{steps}\n")
+        image, *reckoned = workload()
+        written(sys.argv[1], name, "img", image.bytes(), *reckoned)
+    for name, workload in SOURCES.items():
+        source, *reckoned = workload()
+        written(sys.argv[1], name, "adb", source.encode(), *reckoned)

@@ -75,6 +75,17 @@ def many_bodies():
     return padded(start, 'P1 (A);\nPut ("n", A (1));\nend Run;\n'), ended(-(2**63))
 
 
+def many_tasks():
+    """As many tasks as may be declared, each with as many words of objects as a small body may have."""
+    tasks = range(1, 17)
+    start = f"type V is array (1 .. {WORDS}) of Integer;\n" + "".join(f"task T{number};\n" for number in tasks)
+    bodies = "".join(
+        f'task body T{number} is\nA : V;\nbegin\nA ({WORDS}) := {number};\nPut ("n", A ({WORDS}));\nend T{number};\n' for number in tasks
+    )
+    lines = "".join(f"0 T{number} n {number}\n" for number in tasks)
+    return padded(start + bodies + "procedure Run is\nbegin\n", 'Put ("n", 0);\nend Run;\n'), lines + ended(0)
+
+
 FUNCTION = "function F (A, B, C, D, E, G, H, I : Integer) return Integer is begin return A + I; end F;\n"
 
 
@@ -141,7 +152,7 @@ def wide_arrays():
     return padded(start, 'Put ("n", A1 (1_024));\nend Run;\n'), ended(8)
 
 
-SOURCES = [counted_sums, many_bodies, deep_operands, deep_conditions, deep_statements, many_handlers, wide_arrays]
+SOURCES = [counted_sums, many_bodies, many_tasks, deep_operands, deep_conditions, deep_statements, many_handlers, wide_arrays]
 
 
 def main():
