@@ -18,7 +18,7 @@ use Rattle.machine.specs.Outcomes.{ending_of}
 use Rattle.machine.specs.Stands.{EndsBy}
 use Rattle.machine.specs.declared.reports.Outcome as machine
 use Rattle.adarun.specs.Accepted.{Compiles}
-use Rattle.adarun.specs.Headline.{IsWrittenBy, ComesToTheSame, Runs}
+use Rattle.adarun.specs.Headline.{IsWrittenBy, ComesToTheSame, Runs, WritesItsMeaning}
 
 lines_joined : (names : Names) (a b : List Line) → lines_text names (a ++ b) ≡ lines_text names a ++ lines_text names b
 lines_joined names [] b = refl
@@ -82,4 +82,17 @@ runs outcome t input i schedule limit old new stays c read appends ends =
       ends = ends;
       is_written = written_by c.tree i schedule lawful c.means limit outcome (ending_of outcome) refl ends;
       comes_to = comes_to c.tree i schedule lawful c.means stays;
+    }
+
+pub meant : (t input : List ℕ) (limit : ℕ) (outcome : machine.Outcome) (old new : Option (List ℕ)) → Runs t input limit outcome old new
+    → WritesItsMeaning t input outcome old new
+meant t input limit outcome old new r =
+    record {
+      schedule = r.schedule;
+      is_schedule = r.is_schedule;
+      tree = r.tree;
+      accepted = r.accepted;
+      written = code_text r.image r.schedule limit;
+      appends = r.appends;
+      is_written = r.is_written;
     }

@@ -2,7 +2,7 @@
 ghost use Rattle.std.specs.Prelude.{◌≡◌, ◌<◌, Err, IfErr, IfOk, OnOk};
 ghost use Rattle.ada_link.specs.ada_tree.specs.ProgramTree.{ProgramTree};
 ghost use Rattle.adarun.specs.Accepted.{IsAccepted, RefusesAccepted};
-ghost use Rattle.adarun.specs.Headline.{Runs, WritesBeginning};
+ghost use Rattle.adarun.specs.Headline.{Runs, WritesBeginning, WritesItsMeaning};
 ghost use Rattle.adarun.specs.Stopping.{RefusesRunning};
 
 use crate::compilation::compile;
@@ -40,7 +40,9 @@ pub fn go<S: Sink>(
     limit: u64,
     sink: &mut S,
 ) -> Result<Outcome, GoFault>
-    // What is written means what the source means.
+    // What is written is what the source means.
+    ensures meaning { IfOk result (λ outcome. WritesItsMeaning source.now schedule.now outcome (S.bytes sink.old) (S.bytes sink.new)) }
+    // It is what the code of an image writes that means the same, within the limit.
     ensures runs { IfOk result (λ outcome. Runs source.now schedule.now limit outcome (S.bytes sink.old) (S.bytes sink.new)) }
     ensures kept { OnOk result (S.failures sink.new ≡ S.failures sink.old) }
     // A refusal is that of the call it comes from, where the calls before it gave their answers.
