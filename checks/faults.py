@@ -1,4 +1,5 @@
-"""Writes the texts of docs/FAULTS.md to a folder, each as N.text, or N.image, with the line that it is refused with as N.fault.
+"""Writes the texts of docs/FAULTS.md to a folder, each as N.text, or N.image, with the line that it is refused with as N.fault. Those of first mistakes are K.mistake,
+counted from 1, with K.wrong, and the sentence that ./run shows as K.hint.
 
     faults.py FAULTS.md FOLDER
 
@@ -11,15 +12,19 @@ import sys
 
 
 def examples(lines):
-    """The number, the text and the fault of each section that has a text; the image's bytes have no number and no fault."""
-    number, text = None, []
+    """The number, the text and the fault of each section that has a text; the image's bytes have no number and no fault. The number of a first mistake is its sentence."""
+    number, text, mistakes, title = None, [], False, None
     for line in lines:
         heading = re.match(r"##(?:# (\d+))? ", line)
         fault = re.match(r"`((?:schedule |image )?fault \d+ at .*)`$", line)
-        if heading:
+        if heading or line.startswith("### "):
             if text and number is None:
                 yield None, "\n".join(text), None
-            number, text = heading[1], []
+            mistakes = line == "## First mistakes" or mistakes and line.startswith("### ")
+            number, text = heading and heading[1], []
+            title = line[4:] if mistakes and line.startswith("### ") else None
+        elif title and line and number is None:
+            number = f"{title}: {line}"
         elif line.startswith("    "):
             text.append(line[4:])
         elif text and not line and not text[-1] == "":
@@ -50,11 +55,17 @@ source, folder = sys.argv[1:]
 with open(source, encoding="utf-8") as file:
     found = list(examples(file.read().split("\n")))
 image = bytes.fromhex(next(text for number, text, fault in found if number is None))
+mistakes = 0
 for number, text, fault in found:
     if number is None:
         continue
-    assert f"fault {number} at " in fault, number
-    kind, content = content_of(image, text, fault)
-    for name, written in ((kind, content), ("fault", (fault + "\n").encode())):
-        with open(os.path.join(folder, f"{number}.{name}"), "wb") as file:
-            file.write(written)
+    if number.isdigit():
+        assert f"fault {number} at " in fault, number
+        kind, content = content_of(image, text, fault)
+        files = {f"{number}.{kind}": content, f"{number}.fault": (fault + "\n").encode()}
+    else:
+        mistakes += 1
+        files = {f"{mistakes}.mistake": text.encode(), f"{mistakes}.wrong": (fault + "\n").encode(), f"{mistakes}.hint": (number + "\n").encode()}
+    for name, content in files.items():
+        with open(os.path.join(folder, name), "wb") as file:
+            file.write(content)
