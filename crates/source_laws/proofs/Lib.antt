@@ -14,6 +14,14 @@ mod FitScopes
 mod FitNeeds
 mod FitBodies
 mod SmallBodies
+mod LaterNames
+mod LaterOperators
+mod LaterExpressions
+mod LaterValues
+mod UnprotectedFronts
+mod CoveredVariables
+mod CoveredNames
+mod CoveredBodies
 pub mod Peaks
 pub mod PeakBounds
 pub mod PeakSlots

@@ -10,21 +10,21 @@ use Rattle.ada_link.specs.lexer.specs.declared.token.Token.{Token}
 use Rattle.types.specs.declared.entity.Role.{Role}
 use Rattle.types.specs.declared.entity.Subtype.{Subtype}
 use Rattle.types.specs.declared.standing.Standing.TheVariants as standing
-use Rattle.types.specs.Entities.{Exception, Profile}
+use Rattle.types.specs.Entities.{Entry, Exception, Profile}
 use Rattle.types.specs.Scopes.{Scope, form_at, number_of}
 use Rattle.types.specs.Standings.{stands_first}
 use Rattle.expr_soundness.specs.expr_rules.specs.declared.own.Wanted.TheVariants.{OfType}
 use Rattle.expr_soundness.specs.expr_rules.specs.ExpressionRules.{faults_of}
-use Rattle.type_rules.specs.SubtypeNames.{subtype_of}
+use Rattle.expr_soundness.specs.type_rules.specs.SubtypeNames.{subtype_of}
 use Rattle.program_soundness.specs.declaring.specs.BodyNames.{formals_scope}
 use Rattle.program_soundness.specs.stmt_rules.specs.declared.around.BodyKind.{BodyKind}
 use Rattle.program_soundness.specs.stmt_rules.specs.declared.around.BodyKind.TheVariants as kinds
 use Rattle.program_soundness.specs.legality.specs.BodyRules.{body_faults}
-use Rattle.body_restrictions.specs.BodyRules as restrictions
+use Rattle.program_soundness.specs.step_soundness.specs.body_restrictions.specs.BodyRules as restrictions
 use Rattle.checking.specs.ProgramRules.{IsLegal}
 use Rattle.program_soundness.specs.ravenscar.specs.ProgramRules.{IsRestricted}
 use Rattle.expr_soundness.specs.SoundScopes.{SoundScope}
-use Rattle.step_soundness.specs.Fitting.{entity_named}
+use Rattle.program_soundness.specs.step_soundness.specs.Fitting.{entity_named}
 use Rattle.program_soundness.specs.Fronts.{declared_in}
 use Rattle.ada_link.specs.expr_code.specs.Seeing.{profile_named, slot_of, subprogram_of}
 use Rattle.ada_link.specs.expr_code.specs.declared.visible.Visible.{Visible}
@@ -62,8 +62,9 @@ pub record IsCovered (exceptions : List (List ℕ)) (v : Visible) : Type 0 where
       → is_scalar_form (form_at v.scope t.type_number) ≡ true
   -- an exception has a number
   pub raised : (name : List ℕ) → entity_named v.scope name ≡ Some Exception → is_some (number_among exceptions name) ≡ true
-  -- there are no protected objects
+  -- there are no protected objects, and no entries
   pub unprotected : (name : List ℕ) (n : ℕ) → stands_first v.scope (number_of v.scope name) ≢ standing.Protected n
+  pub without_entries : (name : List ℕ) (p : Profile) → entity_named v.scope name ≢ Some (Entry p)
 
 -- ---- whole subprograms
 
