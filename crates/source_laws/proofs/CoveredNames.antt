@@ -115,13 +115,13 @@ record HasPlace (xs : List (List ℕ)) (name : List ℕ) : Type 0 where
 
 has_place : (xs : List (List ℕ)) (name : List ℕ) → Has xs name → HasPlace xs name
 has_place [] name h = absurd h
-has_place (y ∷ ys) name h = by_test (bytes_eq name y) refl h
+has_place (y ∷ ys) name h = by_test (bytes_eq name y) refl h (λ k. has_place ys name k)
   where
-    by_test : (b : Bool) → bytes_eq name y ≡ b → (y ≡ name) ⊎ Has ys name → HasPlace (y ∷ ys) name
-    by_test true e k = record { place = 0; found = ap (λ c. cond c (Some 0) (option_map suc (first_place (bytes_eq name) ys))) e; within = omega arith }
-    by_test false e (inl same) = absurd (let never = sym (equal_bytes name y (sym same)) ∙ e in cc)
-    by_test false e (inr later) =
-        let rest = has_place ys name later in
+    by_test : (b : Bool) → bytes_eq name y ≡ b → (y ≡ name) ⊎ Has ys name → (Has ys name → HasPlace ys name) → HasPlace (y ∷ ys) name
+    by_test true e k more = record { place = 0; found = ap (λ c. cond c (Some 0) (option_map suc (first_place (bytes_eq name) ys))) e; within = omega arith }
+    by_test false e (inl same) more = absurd (let never = sym (equal_bytes name y (sym same)) ∙ e in cc)
+    by_test false e (inr later) more =
+        let rest = more later in
         let inside = rest.within in
         record {
           place = suc rest.place;

@@ -1,5 +1,5 @@
 -- Code has first words for each variable of an accepted text: its given value is known, and takes words.
-use Rattle.std.proofs.Common.{◌≡◌, ℕ, zero, suc, ◌≤◌, Bool, true, false, not, ◌||◌, cond, List, [], ◌∷◌, ◌++◌, length, Option, Some, None, refl, sym, ap, ◌∙◌, subst, arith}
+use Rattle.std.proofs.Common.{◌≡◌, ℕ, zero, suc, ◌*◌, ◌≤◌, Bool, true, false, not, ◌||◌, cond, List, [], ◌∷◌, ◌++◌, length, Option, Some, None, refl, sym, ap, ◌∙◌, subst, arith}
 use Rattle.std.specs.Prelude.{is_none, nat_eq, slice_get}
 use Rattle.std.proofs.lemmas.Bool.{and_parts, or_from}
 use Rattle.std.proofs.lemmas.Bool.Decides.{nat_tests}
@@ -55,8 +55,7 @@ mutual
       let p = and_parts (is_full x) (are_full rest) h in or_from (lacks_word x) (lack_word rest) (full_lacks x p.0) (parts_lack rest p.1)
 
 not_zero : (n : ℕ) → 1 ≤ n → nat_eq n 0 ≡ false
-not_zero zero h = absurd (omega (arith, h))
-not_zero (suc n) h = refl
+not_zero n h = grind (arith, nat_tests)
 
 -- ---- the objects of a list of declarations and bodies
 

@@ -23,7 +23,8 @@ use Rattle.expr_soundness.specs.SoundScopes.{IsKnown, IsSoundProfile, IsSoundRes
 use Rattle.expr_soundness.proofs.Goods.{Good, GoodCallee, GoodObject, sound_form}
 use Rattle.program_soundness.proofs.Extending.{Extends, entity_stays, has_types}
 
-some_by : (test : Option TypeForm → Bool) → test None ≡ false → (o : Option TypeForm) → test o ≡ true → is_some o ≡ true
+-- a test that some form passes, and none doesn't
+pub some_by : (test : Option TypeForm → Bool) → test None ≡ false → (o : Option TypeForm) → test o ≡ true → is_some o ≡ true
 some_by test none (Some form) h = refl
 some_by test none None h = let never = sym none ∙ h in cc
 

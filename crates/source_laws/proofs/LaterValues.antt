@@ -1,6 +1,6 @@
 -- An initial value that must be static, and breaks no rule, is known, and the same where more names are visible behind those in front of its declaration.
-use Rattle.std.proofs.Common.{◌≡◌, ◌++◌, ℕ, pos, Bool, true, false, cond, List, [], ◌∷◌, length, Option, Some, None, refl, sym, ap, ◌∙◌, subst}
-use Rattle.std.specs.Prelude.{◌×◌, not}
+use Rattle.std.proofs.Common.{◌≡◌, ◌++◌, ℕ, pos, Bool, true, false, cond, List, [], ◌∷◌, length, ◌⊎◌, inl, inr, Option, Some, None, refl, sym, ap, ◌∙◌, subst}
+use Rattle.std.specs.Prelude.{not}
 use Rattle.ada_link.specs.base.specs.declared.faults.TheConstants.{DECLARED_TWICE, NAME_NOT_VISIBLE}
 use Rattle.ada_tree.specs.declared.expression.Identifier.{Identifier}
 use Rattle.ada_tree.specs.ExpressionTree as tree
@@ -76,6 +76,16 @@ span_none o = refl
 
 abbrev with_argument : ExprTree → SelectorTrees
 with_argument a = MoreSelectors (Arguments (MoreArguments (tree.Value a) NoArguments)) NoSelectors
+
+single_cases : (l : SelectorTrees) → (single_argument l ≡ None) ⊎ ((a : ExprTree) × (l ≡ with_argument a))
+single_cases (MoreSelectors (Arguments (MoreArguments (tree.Value a) NoArguments)) NoSelectors) = inr (a, refl)
+single_cases (MoreSelectors (Arguments (MoreArguments (tree.Value a) (MoreArguments b rest))) NoSelectors) = inl refl
+single_cases (MoreSelectors (Arguments (MoreArguments (tree.Text label place) rest)) NoSelectors) = inl refl
+single_cases (MoreSelectors (Arguments NoArguments) NoSelectors) = inl refl
+single_cases (MoreSelectors (Arguments a) (MoreSelectors x rest)) = inl refl
+single_cases (MoreSelectors (tree.Component name) rest) = inl refl
+single_cases (MoreSelectors (tree.Attribute name) rest) = inl refl
+single_cases NoSelectors = inl refl
 
 -- it breaks no rule of every expression
 called_legal : (s : Scope) (t : Subtype) (e : ExprTree) (o : Option (PredefinedOperation × ExprTree)) → called_faults s (Some t) e o ≡ []
@@ -161,11 +171,10 @@ module _ (s g : Scope) (x : Extends s g) (sound : SoundScope s) where
       ap (λ e. call_slot (profile_of e) 0) at ∙ ap (λ f. call_slot (Some (record { formals = f; result = p.result })) 0) takes in
       sym (ap (λ l. argument_faults s l (tree.Value a)) slot) ∙ front_empty (argument_faults s (slot_at s w 0) (tree.Value a)) [] one
 
-  span_argument : (w : Wanted) (first : Identifier) (selectors : SelectorTrees) (y : PredefinedOperation × ExprTree)
-      → faults_in s w (Named first selectors) ≡ []
-      → span_by (named_entity s first) (single_argument selectors) ≡ Some y
+  span_single : (w : Wanted) (first : Identifier) (a : ExprTree) (y : PredefinedOperation × ExprTree) → faults_in s w (Named first (with_argument a)) ≡ []
+      → span_by (named_entity s first) (Some a) ≡ Some y
       → faults_of s (OfType integer_type) y.1 ≡ []
-  span_argument w first (MoreSelectors (Arguments (MoreArguments (tree.Value a) NoArguments)) NoSelectors) y h k = by_entity n.entity n.stands named_is
+  span_single w first a y h k = by_entity n.entity n.stands named_is
     where
       n : IsNamed s first.name
       n = first_named s g x sound w first (with_argument a) h
@@ -199,7 +208,17 @@ module _ (s g : Scope) (x : Extends s g) (sound : SoundScope s) where
           argument_is predefined.Microseconds same
           (called predefined.Microseconds p (same_some n.entity (Predefined predefined.Microseconds p) (sym n.stands ∙ at)) own.takes)
       by_entity e at same = cc
-  span_argument w first selectors y h k = let never = sym (span_none (named_entity s first)) ∙ k in cc
+
+  span_argument : (w : Wanted) (first : Identifier) (l : SelectorTrees) (y : PredefinedOperation × ExprTree) → faults_in s w (Named first l) ≡ []
+      → span_by (named_entity s first) (single_argument l) ≡ Some y
+      → faults_of s (OfType integer_type) y.1 ≡ []
+  span_argument w first l y h k =
+      elim (single_cases l) [
+        | inl none ↦ (let never = sym (span_none (named_entity s first)) ∙ ap (span_by (named_entity s first)) (sym none) ∙ k in cc)
+        | inr single ↦
+            span_single w first single.0 y (subst (λ m. faults_in s w (Named first m) ≡ []) single.1 h)
+            (subst (λ m. span_by (named_entity s first) (single_argument m) ≡ Some y) single.1 k)
+      ]
 
   call_argument : (w : Wanted) (e : ExprTree) (y : PredefinedOperation × ExprTree) → faults_in s w e ≡ [] → span_call s e ≡ Some y
       → faults_of s (OfType integer_type) y.1 ≡ []
