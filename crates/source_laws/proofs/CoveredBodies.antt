@@ -1,7 +1,6 @@
 -- Code is made of all that stands in an accepted text without protected objects: its variables have first words, and its bodies break no rule.
-use Rattle.std.proofs.Common.{◌≡◌, ℕ, zero, suc, ◌+◌, Bool, true, false, not, ◌||◌, ◌&&◌, List, [], ◌∷◌, ◌++◌, length, Option, Some, None, refl, sym, ap, ◌∙◌, subst, arith}
+use Rattle.std.proofs.Common.{◌≡◌, ℕ, suc, Bool, true, false, not, ◌&&◌, List, [], ◌∷◌, length, Option, Some, None, refl, sym, ap, ◌∙◌, subst, arith}
 use Rattle.std.specs.Prelude.{is_some, nat_eq, slice_get}
-use Rattle.std.specs.List.{list_any}
 use Rattle.std.proofs.lemmas.Bool.{or_from}
 use Rattle.ada_link.specs.lexer.specs.declared.token.Token.{Token}
 use Rattle.ada_tree.specs.declared.declaration.Formal.{Formal}
@@ -10,7 +9,7 @@ use Rattle.ada_tree.specs.ExpressionTree.{ExprTree}
 use Rattle.ada_tree.specs.Language.{Limit}
 use Rattle.ada_tree.specs.ProgramGrammar.{program}
 use Rattle.ada_tree.specs.StatementTree.{ObjectTree, SubprogramTree}
-use Rattle.ada_tree.specs.ProgramTree.{BodyItemTree, BodyTree, ItemTree, OfException, OfItem, OfObject, OfProtected, OfSubprogram, OfTask, OfType, ProgramTree, ProtectedBody, SubprogramBody, TaskBody}
+use Rattle.ada_tree.specs.ProgramTree.{BodyItemTree, BodyTree, OfException, OfItem, OfObject, OfProtected, OfSubprogram, OfTask, OfType, ProgramTree, ProtectedBody, SubprogramBody, TaskBody}
 use Rattle.types.specs.declared.entity.Subtype.{Subtype}
 use Rattle.types.specs.Laws.{ShapesStay, ValuesHaveWords}
 use Rattle.types.specs.Scopes.{Scope, form_at, protected_count}
@@ -20,15 +19,12 @@ use Rattle.ada_link.specs.base.specs.declared.faults.TheConstants.{WRONG_FUNCTIO
 use Rattle.expr_soundness.specs.type_rules.specs.SubtypeNames.{subtype_of}
 use Rattle.expr_soundness.specs.meaning.specs.Programs.{program_of, returned, subtype_named}
 use Rattle.expr_soundness.specs.Laws.{ScopesAreSound}
-use Rattle.expr_soundness.specs.SoundScopes.{IsKnown, SoundScope}
+use Rattle.expr_soundness.specs.SoundScopes.{IsKnown}
 use Rattle.expr_soundness.proofs.Growing.{test_kept}
 use Rattle.checking.specs.ProgramLayouts.{WordsHaveRoom}
 use Rattle.checking.specs.ProgramRules.{IsLegal}
-use Rattle.program_soundness.specs.declaring.specs.BodyNames.{formals_scope}
 use Rattle.program_soundness.specs.legality.specs.BodyRules.{function_body_faults, is_function_body, kind_of}
 use Rattle.program_soundness.specs.ravenscar.specs.ProgramRules.{IsRestricted}
-use Rattle.program_soundness.specs.step_soundness.specs.body_restrictions.specs.BodyRules as restrictions
-use Rattle.program_soundness.specs.stmt_rules.specs.declared.around.BodyKind.{BodyKind}
 use Rattle.program_soundness.specs.stmt_rules.specs.declared.around.BodyKind.TheVariants as kinds
 use Rattle.program_soundness.specs.BodyLaws.{NamesAreKnown, PremisesHold}
 use Rattle.program_soundness.specs.ScopeLaws.{DeclarationsAreSound, ObjectsAreSound}
@@ -42,8 +38,8 @@ use Rattle.program_soundness.proofs.Trees.{tree_package}
 use Rattle.program_soundness.proofs.Walked.{scope_next}
 use Rattle.program_soundness.proofs.WiderScopes.{number_stands}
 use Rattle.program_soundness.proofs.Whole.{IsPackage, value_returned}
-use Rattle.ada_link.specs.part_code.specs.Needs.{Needs, beyond_if, both}
-use Rattle.ada_link.specs.stmt_code.specs.WholeRefusals.{function_needs, procedure_needs}
+use Rattle.ada_link.specs.part_code.specs.Needs.{Needs}
+use Rattle.ada_link.specs.stmt_code.specs.WholeRefusals.{procedure_needs}
 use Rattle.ada_link.specs.package_code.specs.Laws.{TablesAreSmall}
 use Rattle.ada_link.specs.package_code.specs.Refusing.{function_if_any, is_outside_item, is_outside_variable, item_needs, items_needs, program_needs, seen_at}
 use Rattle.ada_link.specs.package_code.specs.Walking.{of_subprogram}

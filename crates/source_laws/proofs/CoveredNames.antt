@@ -1,7 +1,6 @@
 -- What is visible in front of each declaration and body of an accepted text without protected objects has what its code needs.
 use Rattle.std.proofs.Common.{◌≡◌, ℕ, zero, suc, ◌+◌, ◌<◌, ◌≤◌, Bool, true, false, ◌||◌, cond, List, [], ◌∷◌, ◌++◌, length, take, ◌⊎◌, inl, inr, Option, Some, None, refl, sym, ap, ◌∙◌, subst, arith}
-use Rattle.std.specs.Prelude.{bytes_eq, is_some, nat_lt, option_map, position, slice_get}
-use Rattle.std.specs.List.{list_any}
+use Rattle.std.specs.Prelude.{bytes_eq, is_some, option_map, slice_get}
 use Rattle.std.proofs.lemmas.Bool.{lt-ltb, or_parts}
 use Rattle.ada_link.specs.base.specs.Names.{predefined}
 use Rattle.ada_link.specs.base.specs.declared.faults.TheConstants.{WRONG_FUNCTION}
@@ -10,10 +9,8 @@ use Rattle.ada_link.specs.image.specs.declared.instruction.Region.TheVariants as
 use Rattle.ada_tree.specs.declared.expression.Identifier.{Identifier}
 use Rattle.ada_tree.specs.StatementTree.{SubprogramTree}
 use Rattle.ada_tree.specs.ProgramTree.{BodyItemTree, BodyTree, OfException, OfItem, OfObject, OfProtected, OfSubprogram, OfTask, OfType, ProgramTree, ProtectedBody, SubprogramBody, TaskBody}
-use Rattle.types.specs.declared.entity.FormalParameter.{FormalParameter}
 use Rattle.types.specs.declared.entity.Role.{Role}
 use Rattle.types.specs.declared.entity.Subtype.{Subtype}
-use Rattle.types.specs.declared.standing.Standing.{Standing}
 use Rattle.types.specs.declared.standing.Standing.TheVariants as standing
 use Rattle.types.specs.Entities as entity
 use Rattle.types.specs.Entities.{Entity, Entry, Exception, Profile, Protected, ProtectedObject, Subprogram}
@@ -39,12 +36,11 @@ use Rattle.program_soundness.proofs.Called.{head_legal, subprogram_there}
 use Rattle.program_soundness.proofs.Extending.{Extends}
 use Rattle.program_soundness.proofs.Listing.{Has, has_back, has_front, same_some}
 use Rattle.program_soundness.proofs.Trees.{tree_package}
-use Rattle.program_soundness.proofs.Walked.{Constants, Entries, Exceptions, Kind, Origin, Variables, body_item_kind, declares, kept_all, kind, origin}
+use Rattle.program_soundness.proofs.Walked.{Constants, Entries, Exceptions, Origin, Variables, body_item_kind, declares, kept_all, kind}
 use Rattle.program_soundness.proofs.WiderScopes.{equal_bytes, number_stands, same_bytes, stands, stands_number}
 use Rattle.program_soundness.proofs.Whole.{IsPackage, came, entity_variable, is_first, kept, known_subtype, origin_kind}
 use Rattle.ada_link.specs.expr_code.specs.Entries.{entry_at}
 use Rattle.ada_link.specs.expr_code.specs.Seeing.{profile_named, slot_of, subprogram_of, told_of}
-use Rattle.ada_link.specs.expr_code.specs.declared.visible.Slot.{Slot}
 use Rattle.ada_link.specs.part_code.specs.Needs.{is_stored}
 use Rattle.ada_link.specs.part_code.specs.Raising.{number_among, number_at}
 use Rattle.ada_link.specs.package_code.specs.Laws.{BodiesAreNumbered, TablesAreSmall}

@@ -1,9 +1,8 @@
 -- Code has first words for each variable of an accepted text: its given value is known, and takes words.
-use Rattle.std.proofs.Common.{◌≡◌, ℕ, zero, suc, ◌*◌, ◌≤◌, Bool, true, false, not, ◌||◌, cond, List, [], ◌∷◌, ◌++◌, length, Option, Some, None, refl, sym, ap, ◌∙◌, subst, arith}
+use Rattle.std.proofs.Common.{◌≡◌, ℕ, zero, suc, ◌*◌, ◌≤◌, Bool, true, false, not, cond, List, [], ◌∷◌, ◌++◌, length, Option, Some, None, refl, sym, ap, ◌∙◌, subst, arith}
 use Rattle.std.specs.Prelude.{is_none, nat_eq, slice_get}
 use Rattle.std.proofs.lemmas.Bool.{and_parts, or_from}
 use Rattle.std.proofs.lemmas.Bool.Decides.{nat_tests}
-use Rattle.ada_tree.specs.declared.expression.Identifier.{Identifier}
 use Rattle.ada_tree.specs.ExpressionTree.{ExprTree}
 use Rattle.ada_tree.specs.StatementTree.{ObjectTree}
 use Rattle.ada_tree.specs.ProgramTree.{BodyItemTree, OfException, OfItem, OfObject, OfProtected, OfSubprogram, OfTask, OfType, ProgramTree, ProtectedBody, SubprogramBody, TaskBody}
@@ -13,14 +12,14 @@ use Rattle.types.specs.Places.{Object}
 use Rattle.types.specs.Scopes.{Scope, base_range_of}
 use Rattle.types.specs.Shapes.{Grouped, MoreShapes, NoShapes, Repeated, Shape, Shapeless, Shapes, shape_of, value_words, words, words_of_parts}
 use Rattle.expr_soundness.specs.expr_rules.specs.Laws.{type_shape}
-use Rattle.expr_soundness.specs.expr_rules.specs.Faults.{Faults, rule}
+use Rattle.expr_soundness.specs.expr_rules.specs.Faults.{rule}
 use Rattle.ada_link.specs.base.specs.declared.faults.TheConstants.{NOT_STATIC}
 use Rattle.expr_soundness.specs.expr_rules.proofs.TypedLaw.{back_empty, front_empty}
 use Rattle.expr_soundness.specs.type_rules.specs.ObjectRules.{fixed_faults, fixed_initial_faults, fixed_scalar}
 use Rattle.expr_soundness.specs.type_rules.specs.SubtypeNames.{declared_twice, subtype_faults, subtype_of}
 use Rattle.expr_soundness.specs.meaning.specs.Programs.{initial_value, items_among, object_named, program_of, subtype_named, variable, variables_among}
 use Rattle.expr_soundness.specs.Laws.{ScopesAreSound}
-use Rattle.expr_soundness.specs.SoundScopes.{IsKnown, SoundScope}
+use Rattle.expr_soundness.specs.SoundScopes.{IsKnown}
 use Rattle.checking.specs.ProgramRules.{IsLegal}
 use Rattle.program_soundness.specs.ravenscar.specs.ProgramRules.{IsRestricted}
 use Rattle.program_soundness.specs.step_soundness.specs.Objects.{AreSoundObjects, IsOf}

@@ -1,11 +1,10 @@
 -- A legal expression is legal where more names are visible behind those in front of it: it has the same type there, and its names stand for the same.
-use Rattle.std.proofs.Common.{◌≡◌, ◌++◌, ℕ, suc, Bool, true, false, not, List, [], ◌∷◌, Option, Some, None, refl, sym, ap, ◌∙◌, subst}
+use Rattle.std.proofs.Common.{◌≡◌, ◌++◌, ℕ, suc, true, false, not, List, [], Option, Some, None, refl, sym, ap, ◌∙◌, subst}
 use Rattle.std.specs.Prelude.{⊤, is_some}
 use Rattle.ada_link.specs.base.specs.declared.faults.TheConstants.{NAME_NOT_VISIBLE, NOT_A_VARIABLE}
 use Rattle.ada_tree.specs.declared.expression.BinaryOperator.{BinaryOperator}
 use Rattle.ada_tree.specs.declared.expression.Identifier.{Identifier}
 use Rattle.ada_tree.specs.declared.expression.UnaryOperator.{UnaryOperator}
-use Rattle.ada_tree.specs.declared.expression.UnaryOperator.TheVariants as unary
 use Rattle.ada_tree.specs.ExpressionTree as tree
 use Rattle.ada_tree.specs.ExpressionTree.{Arguments, ArgumentTree, ArgumentTrees, Attribute, Binary, Component, Conditional, ElsifValueTrees, ExprTree, MoreArguments, MoreElsifValues, MoreSelectors, Named, NoArguments, NoElsifValues, NoSelectors, Parenthesized, SelectorTree, SelectorTrees, Text, Unary}
 use Rattle.types.specs.declared.standing.Standing.{Standing}
@@ -22,19 +21,19 @@ use Rattle.types.specs.Standings.{select, select_all, settle, standing_of, stand
 use Rattle.types.specs.Statics.{both, name_form, no_calls, start_of, static_form, static_place, static_value}
 use Rattle.types.specs.Values.{Value, value_of}
 use Rattle.expr_soundness.specs.expr_rules.specs.declared.own.Own.{Own}
-use Rattle.expr_soundness.specs.expr_rules.specs.declared.own.Own.TheVariants.{Typed, Universal, Unknown}
+use Rattle.expr_soundness.specs.expr_rules.specs.declared.own.Own.TheVariants.{Typed}
 use Rattle.expr_soundness.specs.expr_rules.specs.declared.own.Wanted.{Wanted}
 use Rattle.expr_soundness.specs.expr_rules.specs.declared.own.Wanted.TheVariants.{OfType}
 use Rattle.expr_soundness.specs.expr_rules.specs.declared.names.Slot.{Slot}
 use Rattle.expr_soundness.specs.expr_rules.specs.declared.names.Slot.TheVariants.{Expects, Takes, TakesLabel}
-use Rattle.expr_soundness.specs.expr_rules.specs.Faults.{Faults, rule}
+use Rattle.expr_soundness.specs.expr_rules.specs.Faults.{rule}
 use Rattle.expr_soundness.specs.expr_rules.specs.Typing.{boolean_wanted, binary_own, elsif_own_of, join, own_of, own_of_standing, unary_own}
-use Rattle.expr_soundness.specs.expr_rules.specs.NameRules.{actual_rule, end_rule, is_changeable, label_rule, mismatch, part_rule, slot_at, slot_rule, slot_wanted, value_rule, variable_rule}
+use Rattle.expr_soundness.specs.expr_rules.specs.NameRules.{actual_rule, is_changeable, mismatch, part_rule, slot_at, slot_rule, slot_wanted, value_rule, variable_rule}
 use Rattle.expr_soundness.specs.expr_rules.specs.ExpressionRules.{argument_faults, arguments_faults, below, beside, binary_rule, conditional_wanted, elsif_faults, faults_in, faults_of, first_typed, or_first, parts_own, parts_wanted, selector_faults, selectors_faults, unary_rule}
 use Rattle.expr_soundness.specs.expr_rules.proofs.TypedLaw.{back_empty, front_empty, unbroken}
 use Rattle.expr_soundness.specs.SoundScopes.{SoundScope}
 use Rattle.expr_soundness.proofs.Expressions.{not_false}
-use Rattle.expr_soundness.proofs.Goods.{Good, good_all, good_first, good_select, good_settle, part_unbroken}
+use Rattle.expr_soundness.proofs.Goods.{Good, good_first, good_select, good_settle, part_unbroken}
 use Rattle.expr_soundness.proofs.Positions.{IsNamed, named}
 use Rattle.program_soundness.proofs.Extending.{Extends, entity_stays, number_stays}
 use Rattle.program_soundness.proofs.OneList.{both_empty}

@@ -1,9 +1,8 @@
 -- What a legal name stands for, part by part, is the same where more names are visible behind those in front of it.
-use Rattle.std.proofs.Common.{◌≡◌, ℕ, suc, Bool, true, false, not, ◌&&◌, cond, List, [], ◌∷◌, Option, Some, None, refl, sym, ap, ◌∙◌, subst}
+use Rattle.std.proofs.Common.{◌≡◌, ℕ, Bool, true, false, cond, List, Option, Some, None, refl, sym, ap, ◌∙◌}
 use Rattle.std.specs.Prelude.{⊤, bytes_eq, codes, is_some, length, pos, position}
 use Rattle.ada_link.specs.base.specs.declared.faults.TheConstants.{NO_MEANING}
 use Rattle.ada_tree.specs.ExpressionTree.{Arguments, Attribute, Component, SelectorTree}
-use Rattle.types.specs.declared.entity.RecordComponent.{RecordComponent}
 use Rattle.types.specs.declared.entity.Role.{Role}
 use Rattle.types.specs.declared.entity.Role.TheVariants as role
 use Rattle.types.specs.declared.entity.Subtype.{Subtype}
@@ -11,15 +10,15 @@ use Rattle.types.specs.declared.standing.Callee.{Callee}
 use Rattle.types.specs.declared.standing.Callee.TheVariants as callee
 use Rattle.types.specs.declared.standing.Standing.{Standing}
 use Rattle.types.specs.declared.standing.Standing.TheVariants as standing
-use Rattle.types.specs.Entities.{Arrays, Booleans, Constant, Doubtful, Entity, Entry, Exception, Integers, LibraryUnit, Literal, Object, OfSubtype, OfType, Predefined, Profile, Protected, ProtectedObject, Put, Records, Spans, Subprogram, Task, Times, TypeForm}
+use Rattle.types.specs.Entities.{Arrays, Constant, Doubtful, Entity, Entry, Exception, Integers, LibraryUnit, Literal, Object, OfSubtype, OfType, Predefined, Profile, Protected, ProtectedObject, Put, Records, Subprogram, Task, TypeForm}
 use Rattle.types.specs.Scopes.{Scope, entity_at, form_at, profile_of, protected_at, protected_of}
 use Rattle.types.specs.Standings.{array_attribute, bound_stands, bounds_stand, call_stands, called_operation, callee_profile, component_of, component_stands, conversion_stands, count, element_stands, is_single, object_attribute, object_select, operation_stands, part_of, profile_among, result_stands, select, settle, stands_for, subtype_attribute}
 use Rattle.expr_soundness.specs.expr_rules.specs.declared.own.Own.{Own}
-use Rattle.expr_soundness.specs.expr_rules.specs.declared.own.Own.TheVariants.{Typed, Universal, Unknown}
+use Rattle.expr_soundness.specs.expr_rules.specs.declared.own.Own.TheVariants.{Typed}
 use Rattle.expr_soundness.specs.expr_rules.specs.Faults.{rule}
 use Rattle.expr_soundness.specs.expr_rules.specs.Typing.{is_integers, own_of_standing}
 use Rattle.expr_soundness.specs.expr_rules.specs.NameRules.{call_slot, component_rule, conversion_slot, count_rule, end_rule, index_slot, is_doubtful, operation_rule, part_rule, profile_formals, slot_at}
-use Rattle.expr_soundness.specs.SoundScopes.{IsKnown, IsSoundProfile, IsSoundResult, SoundScope}
+use Rattle.expr_soundness.specs.SoundScopes.{IsKnown, IsSoundResult, SoundScope}
 use Rattle.expr_soundness.proofs.Goods.{Good, GoodCallee, GoodObject, sound_form}
 use Rattle.program_soundness.proofs.Extending.{Extends, entity_stays, has_types}
 

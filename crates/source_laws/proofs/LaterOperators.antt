@@ -1,12 +1,11 @@
 -- Operators over declared types have the same types and meanings where more names are visible behind those in front of them.
-use Rattle.std.proofs.Common.{◌≡◌, ℕ, suc, Bool, true, false, not, ◌&&◌, ◌||◌, cond, [], Option, Some, None, refl, sym, ap, ◌∙◌}
-use Rattle.std.specs.Prelude.{⊤, is_some, nat_eq}
+use Rattle.std.proofs.Common.{◌≡◌, ℕ, suc, Bool, true, false, not, ◌&&◌, ◌||◌, cond, [], refl, ap, ◌∙◌}
+use Rattle.std.specs.Prelude.{is_some, nat_eq}
 use Rattle.ada_link.specs.base.specs.declared.faults.TheConstants.{NO_MEANING}
 use Rattle.ada_tree.specs.declared.expression.BinaryOperator.{BinaryOperator}
 use Rattle.ada_tree.specs.declared.expression.BinaryOperator.TheVariants as binary
 use Rattle.ada_tree.specs.declared.expression.UnaryOperator.{UnaryOperator}
 use Rattle.ada_tree.specs.declared.expression.UnaryOperator.TheVariants as unary
-use Rattle.types.specs.Entities.{TypeForm}
 use Rattle.types.specs.Scopes.{Scope, boolean_type, form_at}
 use Rattle.expr_soundness.specs.expr_rules.specs.declared.own.Own.{Own}
 use Rattle.expr_soundness.specs.expr_rules.specs.declared.own.Own.TheVariants.{Typed, Universal, Unknown}
@@ -15,7 +14,7 @@ use Rattle.expr_soundness.specs.expr_rules.specs.declared.own.Wanted.TheVariants
 use Rattle.expr_soundness.specs.expr_rules.specs.Faults.{rule}
 use Rattle.expr_soundness.specs.expr_rules.specs.Typing.{arithmetic_own, binary_own, boolean_wanted, has_binary, has_unary, integral_or_unknown, is_boolean, is_booleans, is_integers, is_integral, is_known, is_logical, is_relation, is_scalar, is_span, is_spans, is_time, is_times, is_wanted, join, time_own, unary_own}
 use Rattle.expr_soundness.specs.expr_rules.specs.NameRules.{mismatch}
-use Rattle.expr_soundness.specs.expr_rules.specs.ExpressionRules.{below, beside, binary_rule, unary_rule}
+use Rattle.expr_soundness.specs.expr_rules.specs.ExpressionRules.{beside, binary_rule, unary_rule}
 use Rattle.expr_soundness.specs.expr_rules.proofs.TypedLaw.{judged, unbroken}
 use Rattle.expr_soundness.specs.SoundScopes.{SoundScope}
 use Rattle.expr_soundness.proofs.Growing.{test_kept}
