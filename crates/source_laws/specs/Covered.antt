@@ -10,7 +10,7 @@ use Rattle.ada_link.specs.lexer.specs.declared.token.Token.{Token}
 use Rattle.types.specs.declared.entity.Role.{Role}
 use Rattle.types.specs.declared.entity.Subtype.{Subtype}
 use Rattle.types.specs.declared.standing.Standing.TheVariants as standing
-use Rattle.types.specs.Entities.{Exception, Profile}
+use Rattle.types.specs.Entities.{Entry, Exception, Profile}
 use Rattle.types.specs.Scopes.{Scope, form_at, number_of}
 use Rattle.types.specs.Standings.{stands_first}
 use Rattle.expr_soundness.specs.expr_rules.specs.declared.own.Wanted.TheVariants.{OfType}
@@ -62,8 +62,9 @@ pub record IsCovered (exceptions : List (List ℕ)) (v : Visible) : Type 0 where
       → is_scalar_form (form_at v.scope t.type_number) ≡ true
   -- an exception has a number
   pub raised : (name : List ℕ) → entity_named v.scope name ≡ Some Exception → is_some (number_among exceptions name) ≡ true
-  -- there are no protected objects
+  -- there are no protected objects, and no entries
   pub unprotected : (name : List ℕ) (n : ℕ) → stands_first v.scope (number_of v.scope name) ≢ standing.Protected n
+  pub without_entries : (name : List ℕ) (p : Profile) → entity_named v.scope name ≢ Some (Entry p)
 
 -- ---- whole subprograms
 
