@@ -29,3 +29,11 @@ pub mod NeedsFormals
 pub mod NeedsBodies
 pub mod NeedsNames
 pub mod NeedsMoves
+pub mod NamedCalls
+pub mod CoverScopes
+pub mod CoverNames
+pub mod CoverCalls
+pub mod CoverChoices
+pub mod CoverValues
+pub mod CoverStatements
+pub mod CoverBodies

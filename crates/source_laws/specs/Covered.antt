@@ -15,16 +15,16 @@ use Rattle.types.specs.Scopes.{Scope, form_at, number_of}
 use Rattle.types.specs.Standings.{stands_first}
 use Rattle.expr_soundness.specs.expr_rules.specs.declared.own.Wanted.TheVariants.{OfType}
 use Rattle.expr_soundness.specs.expr_rules.specs.ExpressionRules.{faults_of}
-use Rattle.type_rules.specs.SubtypeNames.{subtype_of}
+use Rattle.expr_soundness.specs.type_rules.specs.SubtypeNames.{subtype_of}
 use Rattle.program_soundness.specs.declaring.specs.BodyNames.{formals_scope}
 use Rattle.program_soundness.specs.stmt_rules.specs.declared.around.BodyKind.{BodyKind}
 use Rattle.program_soundness.specs.stmt_rules.specs.declared.around.BodyKind.TheVariants as kinds
 use Rattle.program_soundness.specs.legality.specs.BodyRules.{body_faults}
-use Rattle.body_restrictions.specs.BodyRules as restrictions
+use Rattle.program_soundness.specs.step_soundness.specs.body_restrictions.specs.BodyRules as restrictions
 use Rattle.checking.specs.ProgramRules.{IsLegal}
 use Rattle.program_soundness.specs.ravenscar.specs.ProgramRules.{IsRestricted}
 use Rattle.expr_soundness.specs.SoundScopes.{SoundScope}
-use Rattle.step_soundness.specs.Fitting.{entity_named}
+use Rattle.program_soundness.specs.step_soundness.specs.Fitting.{entity_named}
 use Rattle.program_soundness.specs.Fronts.{declared_in}
 use Rattle.ada_link.specs.expr_code.specs.Seeing.{profile_named, slot_of, subprogram_of}
 use Rattle.ada_link.specs.expr_code.specs.declared.visible.Visible.{Visible}
