@@ -1,6 +1,6 @@
 -- Code is made of all legal calls of procedures and of lines, where what is visible has what code needs.
 use Rattle.std.proofs.Common.{◌≡◌, ◌++◌, ℕ, suc, [], ◌∷◌, List, length, Bool, true, false, ◌&&◌, not, Option, Some, None, refl, sym, ap, ◌∙◌, subst, arith}
-use Rattle.std.specs.Prelude.{⊤, bytes_eq, codes, cond, is_none, is_some, nat_eq}
+use Rattle.std.specs.Prelude.{⊤, bytes_eq, codes, cond, is_none, is_some, nat_eq, pos}
 use Rattle.std.proofs.lemmas.Bool.{and_from, or_from}
 use Rattle.ada_link.specs.base.specs.declared.faults.TheConstants.{NAME_NOT_VISIBLE, WRONG_ARGUMENT_COUNT}
 use Rattle.ada_tree.specs.declared.declaration.Mode.{Mode}
@@ -89,7 +89,7 @@ bounds_quiet t name = by_names (bytes_eq name (codes "FIRST")) (bytes_eq name (c
 array_quiet : (index : Subtype) (many : ℕ) (name : List ℕ) → no_call (array_attribute index many name)
 array_quiet index many name = by_name (bytes_eq name (codes "LENGTH")) (bounds_quiet index name)
   where
-    by_name : (b : Bool) → no_call (bounds_stand index name) → no_call (cond b (standing.Plain _) (bounds_stand index name))
+    by_name : (b : Bool) → no_call (bounds_stand index name) → no_call (cond b (standing.Plain (pos many)) (bounds_stand index name))
     by_name true h = refl
     by_name false h = h
 
@@ -389,7 +389,7 @@ module _ (exceptions : List (List ℕ)) (v : Visible) (cover : IsCovered excepti
       silent : (e : Entity) → x.entity ≡ e → no_call (stands_for x.number (Some e)) → ⊥
       silent e is quiet = contrary s _ quiet (ap is_calling (sym (begins_is e is)) ∙ calling)
 
-      IsLine : Type 0
+      abbrev IsLine : Type 0
       IsLine = entity_named s first.name ≡ Some Put
 
       by_entity : (e : Entity) → x.entity ≡ e → IsLine

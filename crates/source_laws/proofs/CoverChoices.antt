@@ -20,7 +20,7 @@ use Rattle.types.specs.Standings.{standing_of}
 use Rattle.types.specs.Statics.{both, fault_of, name_form, no_calls, start_of, static_fault, static_form, static_place, static_value}
 use Rattle.types.specs.Values.{Value, value_of}
 use Rattle.expr_soundness.specs.expr_rules.specs.declared.own.Wanted.{Wanted}
-use Rattle.expr_soundness.specs.expr_rules.specs.ExpressionRules.{below, beside, binary_rule, faults_in, faults_of, name_faults, unary_rule}
+use Rattle.expr_soundness.specs.expr_rules.specs.ExpressionRules.{below, beside, binary_rule, faults_in, faults_of, name_faults, selectors_faults, unary_rule}
 use Rattle.expr_soundness.specs.expr_rules.specs.Faults.{rule}
 use Rattle.expr_soundness.specs.expr_rules.specs.Laws.{IsTyped, suits}
 use Rattle.expr_soundness.specs.expr_rules.specs.NameRules.{mismatch, value_rule}
@@ -85,7 +85,7 @@ module _ (s : Scope) (sound : SoundScope s) (few : FewFormals s) where
     abbrev whole : Standing
     whole = standing_of s first selectors
 
-    begun : Good s (begins s sound few first selectors) × _
+    begun : Good s (begins s sound few first selectors) × (selectors_faults s first.place (begins s sound few first selectors) selectors ≡ [])
     begun = name_begins s sound few first selectors (front_empty (name_faults s first selectors) (value_rule first.place whole) h)
 
     good_name : Good s whole

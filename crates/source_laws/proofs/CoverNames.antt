@@ -1,6 +1,6 @@
 -- Code is made of all legal expressions, where what is visible has what code needs: of names with their parts, and of targets.
 use Rattle.std.proofs.Common.{◌≡◌, ◌++◌, ℕ, suc, [], ◌∷◌, List, Bool, true, false, ◌&&◌, ◌||◌, not, Option, Some, None, refl, sym, ap, ◌∙◌, subst}
-use Rattle.std.specs.Prelude.{bytes_eq, codes, cond, is_none, is_some, nat_eq}
+use Rattle.std.specs.Prelude.{bytes_eq, codes, cond, pos, is_none, is_some, nat_eq}
 use Rattle.std.proofs.lemmas.Bool.{and_from, or_from}
 use Rattle.ada_link.specs.base.specs.declared.faults.TheConstants.{NAME_NOT_VISIBLE, NOT_A_VARIABLE}
 use Rattle.ada_tree.specs.declared.expression.Identifier.{Identifier}
@@ -44,7 +44,7 @@ use Rattle.ada_link.specs.expr_code.proofs.Legal.{legal_left, legal_operand, leg
 use Rattle.ada_link.specs.expr_code.proofs.Widths.{words_by_type}
 use Rattle.ada_link.specs.part_code.specs.Needs.{address_needs, is_object, is_stored, is_taken}
 use Rattle.source_laws.specs.Covered.{IsCovered}
-use Rattle.source_laws.specs.Depths.{AreScalar, is_scalar_form}
+use Rattle.source_laws.specs.Depths.{AreScalar, FewFormals, is_scalar_form}
 use Rattle.source_laws.proofs.NeedsScopes.{profile_by}
 use Rattle.source_laws.proofs.PeakSlots.{begins, name_begins, scalar_words, statement_ends, value_path}
 use Rattle.source_laws.proofs.Peaks.{conditional_parts, inside_legal, legal_of}
@@ -116,8 +116,8 @@ array_given : (index : Subtype) (many : ℕ) (name : List ℕ) → is_doubtful (
 array_given index many name k = by_name (bytes_eq name (codes "LENGTH")) (bounds_given index name) k
   where
     by_name : (b : Bool) → (is_doubtful (bounds_stand index name) ≡ false → is_given (bounds_stand index name) ≡ true)
-        → is_doubtful (cond b (standing.Plain _) (bounds_stand index name)) ≡ false
-        → is_given (cond b (standing.Plain _) (bounds_stand index name)) ≡ true
+        → is_doubtful (cond b (standing.Plain (pos many)) (bounds_stand index name)) ≡ false
+        → is_given (cond b (standing.Plain (pos many)) (bounds_stand index name)) ≡ true
     by_name true later h = refl
     by_name false later h = later h
 
@@ -158,7 +158,7 @@ bounds_other t name = by_names (bytes_eq name (codes "FIRST")) (bytes_eq name (c
 array_other : (index : Subtype) (many : ℕ) (name : List ℕ) → not_object (array_attribute index many name)
 array_other index many name = by_name (bytes_eq name (codes "LENGTH")) (bounds_other index name)
   where
-    by_name : (b : Bool) → not_object (bounds_stand index name) → not_object (cond b (standing.Plain _) (bounds_stand index name))
+    by_name : (b : Bool) → not_object (bounds_stand index name) → not_object (cond b (standing.Plain (pos many)) (bounds_stand index name))
     by_name true h = refl
     by_name false h = h
 
@@ -241,7 +241,7 @@ module _ (s : Scope) (sound : SoundScope s) where
   given_ends place w rest g h is none = absurd cc
 
   -- a procedure's call is no value
-  procedure_ends : (place n : ℕ) (p : Profile) (all : SelectorTrees) (few : _) → callee_profile s (callee.Direct n) ≡ Some p → p.result ≡ None
+  procedure_ends : (place n : ℕ) (p : Profile) (all : SelectorTrees) (few : FewFormals s) → callee_profile s (callee.Direct n) ≡ Some p → p.result ≡ None
       → Good s (standing.Callee (callee.Direct n)) → selectors_faults s place (standing.Callee (callee.Direct n)) all ≡ []
       → select_all s (standing.Callee (callee.Direct n)) all ≡ standing.Statement
   procedure_ends place n p NoSelectors few is none g h = ap call_stands is ∙ ap result_stands none
@@ -429,20 +429,20 @@ module _ (exceptions : List (List ℕ)) (v : Visible) (cover : IsCovered excepti
   -- ---- objects that are named, or parts of them
 
   module _ (first : Identifier) (path : SelectorTrees) (h : name_faults s first path ≡ []) (is : is_object (standing_of s first path) ≡ true) where
-    abbrev start : Standing
-    start = begins s cover.sound cover.formals first path
+    abbrev origin : Standing
+    origin = begins s cover.sound cover.formals first path
 
-    begins_object : is_object start ≡ true
+    begins_object : is_object origin ≡ true
     begins_object =
-        let begun = name_begins s cover.sound cover.formals first path h in object_begins s cover.sound first.place path start begun.0 begun.1 is
+        let begun = name_begins s cover.sound cover.formals first path h in object_begins s cover.sound first.place path origin begun.0 begun.1 is
 
     -- its words have a place
     pub slot_held : is_stored (slot_of v first.name) ≡ true
-    slot_held = by_start start refl begins_object
+    slot_held = by_origin origin refl begins_object
       where
-        by_start : (w : Standing) → start ≡ w → is_object w ≡ true → is_stored (slot_of v first.name) ≡ true
-        by_start (standing.Part r t) here k = cover.stored first.name r t here
-        by_start w here k = absurd cc
+        by_origin : (w : Standing) → origin ≡ w → is_object w ≡ true → is_stored (slot_of v first.name) ≡ true
+        by_origin (standing.Part r t) here k = cover.stored first.name r t here
+        by_origin w here k = absurd cc
 
     no_value : (w : Standing) → is_object w ≡ true → fixed_value w ≡ None
     no_value (standing.Part r t) k = refl
@@ -451,9 +451,9 @@ module _ (exceptions : List (List ℕ)) (v : Visible) (cover : IsCovered excepti
     pub address_made : (depth : ℕ) → (address_needs depth v first path).outside ≡ false
     address_made depth =
         let begun = name_begins s cover.sound cover.formals first path h in
-        or_from (not (is_object start && is_stored (slot_of v first.name))) (selectors_outside v path)
-        (ap not (and_from (is_object start) (is_stored (slot_of v first.name)) begins_object slot_held))
-        (path_made first.place start path begun.0 begun.1 (no_value (standing_of s first path) is))
+        or_from (not (is_object origin && is_stored (slot_of v first.name))) (selectors_outside v path)
+        (ap not (and_from (is_object origin) (is_stored (slot_of v first.name)) begins_object slot_held))
+        (path_made first.place origin path begun.0 begun.1 (no_value (standing_of s first path) is))
 
   -- what is named, of a known subtype
   pub record IsTarget (w : Standing) : Type 0 where

@@ -255,6 +255,10 @@ pub formals_named : (s : Scope) (fs : List Formal) → covered.AreNamed s fs →
 formals_named s [] h = tt
 formals_named s (f ∷ fs) h = (present (subtype_of s f.subtype) h.0, formals_named s fs h.1)
 
+-- the formal, as a name
+abbrev formal_name : Scope → Formal → Named
+formal_name u f = record { name = f.name.name; entity = object_entity (formal_role f.mode) (subtype_of u f.subtype) }
+
 -- each adds a name at most
 one_most : (u : Scope) (x : Named) (b : Bool) → length (cond b u (u ++ x ∷ [])) ≤ suc (length u)
 one_most u x true = omega arith
@@ -263,8 +267,7 @@ one_most u x false = let one = one_longer u x in omega (arith, one)
 formals_most : (u : Scope) (fs : List Formal) → length (formals_scope u fs) ≤ length u + length fs
 formals_most u [] = omega arith
 formals_most u (f ∷ fs) =
-    let e = object_entity (formal_role f.mode) (subtype_of u f.subtype) in
-    let one : length (formal_scope u f) ≤ suc (length u) = one_most u (record { name = f.name.name; entity = e }) (is_visible u f.name.name) in
+    let one : length (formal_scope u f) ≤ suc (length u) = one_most u (formal_name u f) (is_visible u f.name.name) in
     let more = formals_most (formal_scope u f) fs in
     omega (arith, one, more)
 
@@ -272,14 +275,11 @@ formals_most u (f ∷ fs) =
 first_new : (u : Scope) (f : Formal) (fs : List Formal) → length (formals_scope u (f ∷ fs)) ≡ length u + suc (length fs) → is_visible u f.name.name ≡ false
 first_new u f fs h = by_test (is_visible u f.name.name) refl
   where
-    abbrev x : Named
-    x = record { name = f.name.name; entity = object_entity (formal_role f.mode) (subtype_of u f.subtype) }
-
     by_test : (b : Bool) → is_visible u f.name.name ≡ b → b ≡ false
     by_test false is = refl
     by_test true is =
         let same : length (formals_scope (formal_scope u f) fs) ≡ length (formals_scope u fs) =
-        ap (λ b. length (formals_scope (cond b u (u ++ x ∷ [])) fs)) is in
+        ap (λ b. length (formals_scope (cond b u (u ++ formal_name u f ∷ [])) fs)) is in
         let most = formals_most u fs in
         absurd (omega (arith, same, most, h))
 
@@ -305,8 +305,7 @@ module _ (exceptions : List (List ℕ)) (s : Scope) where
       (covered_with exceptions u xs ys cover f.name.name (formal_role f.mode) t (record { region = regions.Locals; offset = x.offset }) refl
       (formal_known f.mode u t typed) new) in
       let longer : length (formal_scope u f) ≡ suc (length u) =
-      ap (λ b. length (cond b u (u ++ record { name = f.name.name; entity = object_entity (formal_role f.mode) (subtype_of u f.subtype) } ∷ []))) new
-      ∙ one_longer u (record { name = f.name.name; entity = object_entity (formal_role f.mode) (subtype_of u f.subtype) }) in
+      ap (λ b. length (cond b u (u ++ formal_name u f ∷ []))) new ∙ one_longer u (formal_name u f) in
       let all = formals_covered fs (formal_scope u f) (xs ++ slot_for x ∷ []) (ys ++ no_subprogram x ∷ []) next later (one_behind s u f t h named.0.1) named.1 one
       (omega (arith, long, longer)) in
       let joined : seen_by (formals_scope (formal_scope u f) fs) ((xs ++ slot_for x ∷ []) ++ map slot_for rest) ((ys ++ no_subprogram x ∷ []) ++ map no_subprogram rest)
