@@ -339,7 +339,9 @@ module _ (exceptions : List (List ℕ)) (v : Visible) (cover : IsCovered excepti
       wanted_made exceptions v cover (OfType integer_type) e
       (front_empty (argument_faults s (slot_at s standing.Put 1) (Value e)) []
       (back_empty (argument_faults s (slot_at s standing.Put 0) (Text label at)) (arguments_faults s standing.Put 1 (MoreArguments (Value e) NoArguments)) h))
-  line_made place (MoreArguments (Text label at) (MoreArguments (Value e) (MoreArguments b rest))) many h = absurd cc
+  line_made place (MoreArguments (Text label at) (MoreArguments (Value e) (MoreArguments b rest))) many h =
+      absurd (let all = suc (suc (suc (count rest))) in
+      let same : all ≡ 2 = same_number all 2 (not_false (nat_eq all 2) (unbroken WRONG_ARGUMENT_COUNT place (not (nat_eq all 2)) many)) in omega (arith, same))
 
   put_made : (place : ℕ) (selectors : SelectorTrees) → selectors_faults s place standing.Put selectors ≡ [] → (line_needs v (line_behind selectors)).outside ≡ false
   put_made place NoSelectors h = absurd cc

@@ -16,7 +16,7 @@ use Rattle.types.specs.declared.standing.Standing.TheVariants as standing
 use Rattle.types.specs.Entities.{Arrays, Booleans, Constant, Doubtful, Entity, Entry, Exception, Integers, LibraryUnit, Literal, Object, OfSubtype, OfType, Predefined, Profile, Protected, ProtectedObject, Put, Records, Spans, Subprogram, Task, Times, TypeForm}
 use Rattle.types.specs.Evaluating.{fixed_value}
 use Rattle.types.specs.Layouts.{words_of}
-use Rattle.types.specs.Scopes.{Scope, entity_at, form_at, is_visible, number_of, profile_of}
+use Rattle.types.specs.Scopes.{Scope, entity_at, form_at, is_visible, number_of, profile_of, protected_at}
 use Rattle.types.specs.Standings.{array_attribute, bound_stands, bounds_stand, call_stands, called_operation, callee_profile, conversion_stands, is_single, object_attribute, operation_stands, result_stands, select, select_all, settle, standing_of, stands_first, stands_for, subtype_attribute}
 use Rattle.types.specs.Statics.{start_of}
 use Rattle.expr_soundness.specs.expr_rules.specs.declared.names.Slot.{Slot}
@@ -201,7 +201,7 @@ module _ (s : Scope) (sound : SoundScope s) where
   part_selected place standing.Put (Component name) g h is = absurd cc
   part_selected place standing.Put (Arguments a) g h is = absurd cc
   part_selected place standing.Put (Attribute name) g h is = absurd cc
-  part_selected place (standing.Protected n) (Component name) g h is = absurd (contrary _ (operation_other n _ name.name) is)
+  part_selected place (standing.Protected n) (Component name) g h is = absurd (contrary _ (operation_other n (protected_at s n) name.name) is)
   part_selected place (standing.Protected n) (Arguments a) g h is = absurd cc
   part_selected place (standing.Protected n) (Attribute name) g h is = absurd cc
   part_selected place (standing.Given t v) x g h is = absurd cc
