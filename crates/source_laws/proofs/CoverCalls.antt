@@ -2,12 +2,11 @@
 use Rattle.std.proofs.Common.{◌≡◌, ◌++◌, ℕ, suc, [], ◌∷◌, List, length, Bool, true, false, ◌&&◌, not, Option, Some, None, refl, sym, ap, ◌∙◌, subst, arith}
 use Rattle.std.specs.Prelude.{⊤, bytes_eq, codes, cond, is_none, is_some, nat_eq, pos}
 use Rattle.std.proofs.lemmas.Bool.{and_from, or_from}
-use Rattle.ada_link.specs.base.specs.declared.faults.TheConstants.{NAME_NOT_VISIBLE, WRONG_ARGUMENT_COUNT}
+use Rattle.ada_link.specs.base.specs.declared.faults.TheConstants.{WRONG_ARGUMENT_COUNT}
 use Rattle.ada_tree.specs.declared.declaration.Mode.{Mode}
 use Rattle.ada_tree.specs.declared.declaration.Mode.TheVariants as mode
 use Rattle.ada_tree.specs.declared.expression.Identifier.{Identifier}
 use Rattle.ada_tree.specs.ExpressionTree.{Arguments, ArgumentTree, ArgumentTrees, Attribute, Component, ExprTree, MoreArguments, MoreSelectors, Named, NameTree, NoArguments, NoSelectors, SelectorTree, SelectorTrees, Text, Value}
-use Rattle.ada_tree.specs.Size.{total}
 use Rattle.types.specs.declared.entity.FormalParameter.{FormalParameter}
 use Rattle.types.specs.declared.entity.Role.{Role}
 use Rattle.types.specs.declared.entity.Subtype.{Subtype}
@@ -15,35 +14,30 @@ use Rattle.types.specs.declared.standing.Callee.TheVariants as callee
 use Rattle.types.specs.declared.standing.Standing.{Standing}
 use Rattle.types.specs.declared.standing.Standing.TheVariants as standing
 use Rattle.types.specs.Entities.{Arrays, Constant, Doubtful, Entity, Entry, Exception, Integers, LibraryUnit, Literal, Object, OfSubtype, OfType, Predefined, Profile, Protected, Put, Records, Subprogram, Task, TypeForm}
-use Rattle.types.specs.Scopes.{Scope, form_at, integer_type, is_visible, number_of, profile_of}
+use Rattle.types.specs.Scopes.{Scope, form_at, integer_type, number_of, profile_of}
 use Rattle.types.specs.Standings.{array_attribute, bound_stands, bounds_stand, call_stands, callee_profile, component_of, component_stands, conversion_stands, count, element_stands, is_single, object_attribute, part_of, result_stands, select, select_all, settle, standing_of, stands_first, stands_for, subtype_attribute}
-use Rattle.types.specs.Statics.{start_of}
-use Rattle.expr_soundness.specs.expr_rules.specs.declared.names.Slot.{Slot}
-use Rattle.expr_soundness.specs.expr_rules.specs.declared.names.Slot.TheVariants.{Expects, Takes}
+use Rattle.expr_soundness.specs.expr_rules.specs.declared.names.Slot.TheVariants.{Takes}
 use Rattle.expr_soundness.specs.expr_rules.specs.declared.own.Wanted.TheVariants.{OfType}
 use Rattle.expr_soundness.specs.expr_rules.specs.ExpressionRules.{argument_faults, arguments_faults, call_faults, faults_in, name_faults, selector_faults, selectors_faults}
-use Rattle.expr_soundness.specs.expr_rules.specs.Faults.{rule}
-use Rattle.expr_soundness.specs.expr_rules.specs.NameRules.{actual_rule, call_rule, count_rule, mismatch, part_rule, profile_formals, slot_at, slot_rule, slot_wanted, value_rule, variable_rule}
+use Rattle.expr_soundness.specs.expr_rules.specs.NameRules.{actual_rule, call_rule, count_rule, part_rule, profile_formals, slot_at, slot_rule, slot_wanted, value_rule}
 use Rattle.expr_soundness.specs.expr_rules.specs.Typing.{own_of}
 use Rattle.expr_soundness.specs.expr_rules.proofs.TypedLaw.{back_empty, front_empty, same_number, unbroken}
 use Rattle.expr_soundness.specs.type_rules.specs.SubtypeNames.{entity_at_or_none}
 use Rattle.program_soundness.specs.step_soundness.specs.Fitting.{entity_named}
-use Rattle.expr_soundness.specs.SoundScopes.{AreKnown, IsKnown, IsSoundPredefined}
+use Rattle.expr_soundness.specs.SoundScopes.{AreKnown, IsKnown}
 use Rattle.expr_soundness.proofs.Expressions.{not_false}
 use Rattle.expr_soundness.proofs.Goods.{Good, good_all, good_select, part_unbroken}
 use Rattle.expr_soundness.proofs.Positions.{IsNamed, named}
 use Rattle.ada_link.specs.expr_code.specs.Refusing.{is_outside}
 use Rattle.ada_link.specs.expr_code.specs.Seeing.{profile_named, slot_of, subprogram_of, subprogram_profile}
-use Rattle.ada_link.specs.expr_code.specs.declared.visible.Slot as visible
 use Rattle.ada_link.specs.expr_code.specs.declared.visible.Visible.{Visible}
 use Rattle.ada_link.specs.expr_code.proofs.Language.{gives_number}
 use Rattle.ada_link.specs.part_code.specs.Lines.{is_put, line_behind, line_in, line_of}
-use Rattle.ada_link.specs.part_code.specs.Passing.{actuals_behind, copied_width, holds_variables}
-use Rattle.ada_link.specs.part_code.specs.Needs.{actual_needs, actuals_needs, address_needs, call_needs, called_needs, copied_needs, copies_needs, destination_at, destinations_for, destinations_named, destinations_of, is_object, is_stored, is_taken, line_needs, passed_needs, put_needs, stacked, words_at}
-use Rattle.ada_link.specs.part_code.specs.Suiting.{passed_width}
+use Rattle.ada_link.specs.part_code.specs.Passing.{actuals_behind, holds_variables}
+use Rattle.ada_link.specs.part_code.specs.Needs.{actual_needs, actuals_needs, address_needs, call_needs, called_needs, copies_needs, destination_at, destinations_for, destinations_of, is_object, is_taken, line_needs, passed_needs, put_needs}
 use Rattle.ada_link.specs.part_code.specs.declared.call.Destination.{Destination}
 use Rattle.source_laws.specs.Covered.{IsCovered}
-use Rattle.source_laws.proofs.CoverNames.{IsTarget, address_made, expression_made, known_taken, name_target, name_visible, slot_held, target_object, wanted_made}
+use Rattle.source_laws.proofs.CoverNames.{IsTarget, address_made, known_taken, name_target, name_visible, slot_held, target_object, wanted_made}
 use Rattle.source_laws.proofs.CoverScopes.{placed}
 use Rattle.source_laws.proofs.NamedCalls.{SlotsFrom, arguments_legal, begins_there, called, first_slot, later_slots, profile_is, slots_are}
 use Rattle.source_laws.proofs.NeedsCalls.{destinations_by, moded_by}
@@ -334,7 +328,8 @@ module _ (exceptions : List (List ℕ)) (v : Visible) (cover : IsCovered excepti
   line_made place (MoreArguments (Text label at) NoArguments) many h = absurd cc
   line_made place (MoreArguments (Text label at) (MoreArguments (Text other at_other) rest)) many h =
       absurd (let ends = front_empty (argument_faults s (slot_at s standing.Put 1) (Text other at_other)) (arguments_faults s standing.Put 2 rest)
-      (back_empty (argument_faults s (slot_at s standing.Put 0) (Text label at)) (arguments_faults s standing.Put 1 (MoreArguments (Text other at_other) rest)) h) in cc)
+      (back_empty (argument_faults s (slot_at s standing.Put 0) (Text label at))
+      (arguments_faults s standing.Put 1 (MoreArguments (Text other at_other) rest)) h) in cc)
   line_made place (MoreArguments (Text label at) (MoreArguments (Value e) NoArguments)) many h =
       wanted_made exceptions v cover (OfType integer_type) e
       (front_empty (argument_faults s (slot_at s standing.Put 1) (Value e)) []
@@ -343,7 +338,8 @@ module _ (exceptions : List (List ℕ)) (v : Visible) (cover : IsCovered excepti
       absurd (let all = suc (suc (suc (count rest))) in
       let same : all ≡ 2 = same_number all 2 (not_false (nat_eq all 2) (unbroken WRONG_ARGUMENT_COUNT place (not (nat_eq all 2)) many)) in omega (arith, same))
 
-  put_made : (place : ℕ) (selectors : SelectorTrees) → selectors_faults s place standing.Put selectors ≡ [] → (line_needs v (line_behind selectors)).outside ≡ false
+  put_made : (place : ℕ) (selectors : SelectorTrees) → selectors_faults s place standing.Put selectors ≡ []
+      → (line_needs v (line_behind selectors)).outside ≡ false
   put_made place NoSelectors h = absurd cc
   put_made place (MoreSelectors (Arguments a) NoSelectors) h =
       let x = Arguments a in

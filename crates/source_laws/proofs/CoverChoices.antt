@@ -1,5 +1,5 @@
 -- Legal choices of case statements are static: the evaluation of each gives a value (RM 5.4).
-use Rattle.std.proofs.Common.{◌≡◌, ◌++◌, [], ◌∷◌, List, Bool, true, false, ◌||◌, Option, Some, None, refl, sym, ap, ◌∙◌, subst}
+use Rattle.std.proofs.Common.{◌≡◌, ◌++◌, [], ◌∷◌, List, Bool, true, false, Some, None, refl, sym, ap, ◌∙◌, subst}
 use Rattle.std.specs.Prelude.{is_some}
 use Rattle.std.proofs.lemmas.Bool.{or_from}
 use Rattle.ada_link.specs.base.specs.declared.faults.TheConstants.{WRONG_CHOICES}
@@ -26,7 +26,7 @@ use Rattle.expr_soundness.specs.expr_rules.specs.Laws.{IsTyped, suits}
 use Rattle.expr_soundness.specs.expr_rules.specs.NameRules.{mismatch, value_rule}
 use Rattle.expr_soundness.specs.expr_rules.specs.StaticRules.{form_rule, if_unbroken, static_faults}
 use Rattle.expr_soundness.specs.expr_rules.specs.StaticRules as statics
-use Rattle.expr_soundness.specs.expr_rules.specs.Typing.{is_known, own_of, own_of_standing}
+use Rattle.expr_soundness.specs.expr_rules.specs.Typing.{own_of}
 use Rattle.expr_soundness.specs.expr_rules.proofs.TypedLaw.{back_empty, binary_typed, front_empty, unary_typed}
 use Rattle.expr_soundness.specs.SoundScopes.{SoundScope}
 use Rattle.expr_soundness.proofs.Goods.{Good, fixed_suits, good_all, known_all}
@@ -111,7 +111,8 @@ module _ (s : Scope) (sound : SoundScope s) (few : FewFormals s) where
   decided (tree.Number z place) w h = refl
   decided (Named first selectors) w h = good_decided (standing_of s first selectors) (good_name w first selectors h)
   decided (Parenthesized place e) w h = decided e w h
-  decided (Unary operator place e) w h = decided e (below operator w) (front_empty (faults_in s (below operator w) e) (unary_rule s operator place (own_of s e)) h)
+  decided (Unary operator place e) w h =
+      decided e (below operator w) (front_empty (faults_in s (below operator w) e) (unary_rule s operator place (own_of s e)) h)
   decided (Binary operator a b) w h =
       let wa = beside s operator (own_of s b) in
       let wb = beside s operator (own_of s a) in

@@ -15,10 +15,8 @@ use Rattle.types.specs.declared.standing.Standing.{Standing}
 use Rattle.types.specs.declared.standing.Standing.TheVariants as standing
 use Rattle.types.specs.Entities.{Arrays, Booleans, Constant, Doubtful, Entity, Entry, Exception, Integers, LibraryUnit, Literal, Object, OfSubtype, OfType, Predefined, Profile, Protected, ProtectedObject, Put, Records, Spans, Subprogram, Task, Times, TypeForm}
 use Rattle.types.specs.Evaluating.{fixed_value}
-use Rattle.types.specs.Layouts.{words_of}
 use Rattle.types.specs.Scopes.{Scope, entity_at, form_at, is_visible, number_of, profile_of, protected_at}
 use Rattle.types.specs.Standings.{array_attribute, bound_stands, bounds_stand, call_stands, called_operation, callee_profile, conversion_stands, is_single, object_attribute, operation_stands, result_stands, select, select_all, settle, standing_of, stands_first, stands_for, subtype_attribute}
-use Rattle.types.specs.Statics.{start_of}
 use Rattle.expr_soundness.specs.expr_rules.specs.declared.names.Slot.{Slot}
 use Rattle.expr_soundness.specs.expr_rules.specs.declared.own.Own.TheVariants.{Typed}
 use Rattle.expr_soundness.specs.expr_rules.specs.declared.own.Wanted.{Wanted}
@@ -48,7 +46,6 @@ use Rattle.source_laws.specs.Depths.{AreScalar, FewFormals, is_scalar_form}
 use Rattle.source_laws.proofs.NeedsScopes.{profile_by}
 use Rattle.source_laws.proofs.PeakSlots.{begins, name_begins, scalar_words, statement_ends, value_path}
 use Rattle.source_laws.proofs.Peaks.{conditional_parts, inside_legal, legal_of}
-use Rattle.source_laws.proofs.CoverScopes.{part_named}
 
 or_right : (a b : Bool) → b ≡ true → (a || b) ≡ true
 or_right true b h = refl
@@ -370,7 +367,8 @@ module _ (exceptions : List (List ℕ)) (v : Visible) (cover : IsCovered excepti
         or_from (is_outside v a) (is_outside v b) (expression_made a (legal_left s o a b h)) (expression_made b (legal_right s o a b h))
     expression_made (Conditional place condition value elsifs last) h =
         let parts = conditional_parts s cover.sound place condition value elsifs last h in
-        or_from (is_outside v condition) (is_outside v value || (elsifs_outside v elsifs || is_outside v last)) (expression_made condition parts.condition_legal)
+        or_from (is_outside v condition) (is_outside v value || (elsifs_outside v elsifs || is_outside v last))
+        (expression_made condition parts.condition_legal)
         (or_from (is_outside v value) (elsifs_outside v elsifs || is_outside v last) (expression_made value parts.value_legal)
         (or_from (elsifs_outside v elsifs) (is_outside v last) (elsifs_made parts.wanted elsifs parts.others) (expression_made last parts.last_legal)))
 
@@ -398,7 +396,8 @@ module _ (exceptions : List (List ℕ)) (v : Visible) (cover : IsCovered excepti
     path_made place w (MoreSelectors (Arguments all) rest) g h none =
         let x = Arguments all in
         let whole = front_empty (selector_faults s place w x) (selectors_faults s place (select s w x) rest) h in
-        or_from (arguments_outside v all) (selectors_outside v rest) (arguments_made w 0 all (back_empty (part_rule s place w x) (arguments_faults s w 0 all) whole))
+        or_from (arguments_outside v all) (selectors_outside v rest)
+        (arguments_made w 0 all (back_empty (part_rule s place w x) (arguments_faults s w 0 all) whole))
         (path_made place (select s w x) rest (good_select s cover.sound place w x g (part_unbroken s cover.sound place w x whole))
         (back_empty (selector_faults s place w x) (selectors_faults s place (select s w x) rest) h) none)
     path_made place w (MoreSelectors (Attribute name) rest) g h none =
@@ -473,7 +472,8 @@ module _ (exceptions : List (List ℕ)) (v : Visible) (cover : IsCovered excepti
       → variable_rule s first.place wanted (standing_of s first path) ≡ [] → IsTarget (standing_of s first path)
   name_target first path wanted h k =
       let begun = name_begins s cover.sound cover.formals first path h in
-      target_named first.place wanted (standing_of s first path) (good_all s cover.sound first.place path (begins s cover.sound cover.formals first path) begun.0 begun.1) k
+      target_named first.place wanted (standing_of s first path)
+      (good_all s cover.sound first.place path (begins s cover.sound cover.formals first path) begun.0 begun.1) k
 
   pub target_object : (w : Standing) → IsTarget w → is_object w ≡ true
   target_object w h = ap is_object h.is

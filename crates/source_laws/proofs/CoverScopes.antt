@@ -13,7 +13,7 @@ use Rattle.types.specs.declared.entity.Subtype.{Subtype}
 use Rattle.types.specs.declared.standing.Standing.{Standing}
 use Rattle.types.specs.declared.standing.Standing.TheVariants as standing
 use Rattle.types.specs.Entities.{Entity, Entry, Exception, Object, Profile, Protected, ProtectedObject}
-use Rattle.types.specs.Scopes.{Named, Scope, base_range_of, entity_at, entity_of, form_at, is_visible, number_of, with_name}
+use Rattle.types.specs.Scopes.{Named, Scope, base_range_of, entity_at, entity_of, is_visible, number_of, with_name}
 use Rattle.types.specs.Standings.{stands_first, stands_for}
 use Rattle.types.specs.Statics.{start_of}
 use Rattle.expr_soundness.specs.expr_rules.specs.declared.own.Wanted.TheVariants.{AnyInteger}
@@ -24,18 +24,17 @@ use Rattle.expr_soundness.specs.type_rules.specs.ObjectRules.{object_entity, rol
 use Rattle.expr_soundness.specs.type_rules.specs.SubtypeNames.{declared_twice, entity_at_or_none, subtype_of}
 use Rattle.program_soundness.specs.declaring.specs.BodyNames.{formal_role, formal_scope, formals_scope, last_rule, loop_faults, loop_scope, loop_type, parameter_entity}
 use Rattle.program_soundness.specs.step_soundness.specs.Fitting.{entity_named}
-use Rattle.expr_soundness.specs.SoundScopes.{IsKnown, IsSoundObject, SoundScope}
+use Rattle.expr_soundness.specs.SoundScopes.{IsSoundObject}
 use Rattle.expr_soundness.proofs.Growing.{form_before, grown, object_named, sound_with_object, test_kept}
 use Rattle.expr_soundness.proofs.Positions.{entity_added, item_added, number_added, number_kept, same_some}
 use Rattle.expr_soundness.proofs.Widening.{subtype_known}
 use Rattle.ada_link.specs.expr_code.specs.Entries.{entry_at}
-use Rattle.ada_link.specs.expr_code.specs.Seeing.{profile_named, slot_of, subprogram_of, told_of}
+use Rattle.ada_link.specs.expr_code.specs.Seeing.{profile_named, told_of}
 use Rattle.ada_link.specs.expr_code.specs.declared.visible.Slot.{Slot}
 use Rattle.ada_link.specs.expr_code.specs.declared.visible.Visible.{Visible}
 use Rattle.ada_link.specs.part_code.specs.Formals.{no_subprogram, slot_for}
 use Rattle.ada_link.specs.part_code.specs.Needs.{is_stored, local_visible, with_object}
-use Rattle.ada_link.specs.part_code.specs.declared.formals.PlacedFormal.{PlacedFormal}
-use Rattle.ada_link.specs.stmt_code.specs.WholeRefusals.{formals_placed, formals_visible, from_behind, out_behind, placed_as, placed_formals, placed_if}
+use Rattle.ada_link.specs.stmt_code.specs.WholeRefusals.{formals_visible, from_behind, out_behind, placed_as, placed_formals, placed_if}
 use Rattle.ada_link.specs.part_code.specs.Bounds.{words_named}
 use Rattle.source_laws.specs.Covered.{AreLegalFormals, IsCovered}
 use Rattle.source_laws.specs.Covered as covered
@@ -306,9 +305,10 @@ module _ (exceptions : List (List ℕ)) (s : Scope) where
       (formal_known f.mode u t typed) new) in
       let longer : length (formal_scope u f) ≡ suc (length u) =
       ap (λ b. length (cond b u (u ++ formal_name u f ∷ []))) new ∙ one_longer u (formal_name u f) in
-      let all = formals_covered fs (formal_scope u f) (xs ++ slot_for x ∷ []) (ys ++ no_subprogram x ∷ []) next later (one_behind s u f t h named.0.1) named.1 one
-      (omega (arith, long, longer)) in
-      let joined : seen_by (formals_scope (formal_scope u f) fs) ((xs ++ slot_for x ∷ []) ++ map slot_for rest) ((ys ++ no_subprogram x ∷ []) ++ map no_subprogram rest)
+      let all = formals_covered fs (formal_scope u f) (xs ++ slot_for x ∷ []) (ys ++ no_subprogram x ∷ []) next later
+      (one_behind s u f t h named.0.1) named.1 one (omega (arith, long, longer)) in
+      let joined : seen_by (formals_scope (formal_scope u f) fs) ((xs ++ slot_for x ∷ []) ++ map slot_for rest)
+      ((ys ++ no_subprogram x ∷ []) ++ map no_subprogram rest)
       ≡ seen_by (formals_scope (formal_scope u f) fs) (xs ++ map slot_for (placed_if f.mode from out (Some t) rest))
       (ys ++ map no_subprogram (placed_if f.mode from out (Some t) rest)) =
       λ j. seen_by (formals_scope (formal_scope u f) fs) (append_assoc xs (slot_for x ∷ []) (map slot_for rest) j)

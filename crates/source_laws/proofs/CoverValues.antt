@@ -1,5 +1,5 @@
 -- Code is made of all legal declarations of objects and assignments, where what is visible has what code needs.
-use Rattle.std.proofs.Common.{◌≡◌, ◌≤◌, ◌++◌, ◌+◌, ℕ, [], ◌∷◌, List, Bool, true, false, ◌&&◌, ◌||◌, not, Option, Some, None, refl, sym, ap, ◌∙◌, subst, arith}
+use Rattle.std.proofs.Common.{◌≡◌, ◌≤◌, ◌++◌, ◌+◌, ℕ, [], ◌∷◌, List, Bool, true, false, ◌&&◌, ◌||◌, not, Option, Some, None, refl, ap, ◌∙◌, subst, arith}
 use Rattle.std.specs.Prelude.{cond, is_some, nat_eq}
 use Rattle.std.proofs.lemmas.Bool.{and_parts, or_from}
 use Rattle.std.proofs.lemmas.Bool.Decides.{nat_tests}
@@ -8,15 +8,14 @@ use Rattle.ada_tree.specs.declared.expression.Identifier.{Identifier}
 use Rattle.ada_tree.specs.ExpressionTree.{Conditional, ElsifValueTrees, ExprTree, MoreElsifValues, Named, NameTree, NoElsifValues, Parenthesized, SelectorTrees}
 use Rattle.ada_tree.specs.ExpressionTree as tree
 use Rattle.ada_tree.specs.StatementTree.{DeclarationTree, LocalObject, LocalProtected, LocalTask, ObjectTree}
-use Rattle.types.specs.declared.entity.Role.{Role}
 use Rattle.types.specs.declared.entity.Subtype.{Subtype}
 use Rattle.types.specs.declared.standing.Standing.{Standing}
 use Rattle.types.specs.declared.standing.Standing.TheVariants as standing
-use Rattle.types.specs.Entities.{Doubtful, Entity, OfSubtype, OfType, TypeForm}
+use Rattle.types.specs.Entities.{Doubtful, Entity, OfSubtype, OfType}
 use Rattle.types.specs.Layouts.{words_of}
 use Rattle.types.specs.Scopes.{Scope, base_range_of, entity_at, form_at, number_of}
-use Rattle.types.specs.Shapes.{Grouped, Logical, MoreShapes, NoShapes, Ranged, Repeated, Shape, Shapeless, Shapes, Timed, shape_of, shape_or_none, shapes, words}
-use Rattle.types.specs.Standings.{standing_of, stands_first}
+use Rattle.types.specs.Shapes.{Grouped, Logical, MoreShapes, NoShapes, Ranged, Repeated, Shape, Shapeless, Shapes, Timed, shape_of, shape_or_none, shapes}
+use Rattle.types.specs.Standings.{standing_of}
 use Rattle.std.specs.Prelude.{slice_get}
 use Rattle.expr_soundness.specs.expr_rules.specs.declared.own.Wanted.{Wanted}
 use Rattle.expr_soundness.specs.expr_rules.specs.declared.own.Wanted.TheVariants.{Anything, OfType as of_type}
@@ -26,7 +25,7 @@ use Rattle.expr_soundness.specs.expr_rules.specs.NameRules.{value_rule, variable
 use Rattle.expr_soundness.specs.expr_rules.specs.Typing.{boolean_wanted}
 use Rattle.expr_soundness.specs.expr_rules.proofs.TypedLaw.{back_empty, front_empty}
 use Rattle.expr_soundness.specs.type_rules.specs.ObjectRules.{local_initial_faults, local_object_faults}
-use Rattle.expr_soundness.specs.type_rules.specs.SubtypeNames.{declared_twice, entity_at_or_none, named_entity, subtype_faults, subtype_in, subtype_of, subtype_rule, wanted_by}
+use Rattle.expr_soundness.specs.type_rules.specs.SubtypeNames.{declared_twice, entity_at_or_none, subtype_faults, subtype_in, subtype_of, subtype_rule, wanted_by}
 use Rattle.program_soundness.specs.declaring.specs.LocalRules.{local_faults, local_scope, locals_faults}
 use Rattle.program_soundness.specs.step_soundness.specs.body_restrictions.specs.BodyRules as restrictions
 use Rattle.program_soundness.specs.stmt_rules.specs.SimpleRules.{assigned_wanted, assignment_faults}
@@ -35,12 +34,10 @@ use Rattle.expr_soundness.proofs.Goods.{not_empty}
 use Rattle.expr_soundness.proofs.Widening.{subtype_known}
 use Rattle.ada_link.specs.expr_code.specs.Emitting.{IsLegalExpression}
 use Rattle.ada_link.specs.expr_code.specs.Refusing.{is_outside}
-use Rattle.ada_link.specs.expr_code.specs.Seeing.{slot_of}
-use Rattle.ada_link.specs.expr_code.specs.declared.visible.Slot.{Slot}
 use Rattle.ada_link.specs.expr_code.specs.declared.visible.Visible.{Visible}
 use Rattle.ada_link.specs.part_code.specs.Bounds.{local_words}
-use Rattle.ada_link.specs.part_code.specs.Moving.{are_moved, is_held, is_moved, moves, names_composite, source_at, source_by, variable_at}
-use Rattle.ada_link.specs.part_code.specs.Needs.{address_needs, assigned_needs, assignment_needs, initial_needs, is_object, is_taken, lack_word, lacks_word, local_needs, local_visible, locals_needs, locals_visible, move_needs, moves_needs, needs_by, object_needs, takes_value}
+use Rattle.ada_link.specs.part_code.specs.Moving.{are_moved, is_moved, moves, source_by}
+use Rattle.ada_link.specs.part_code.specs.Needs.{address_needs, assignment_needs, initial_needs, is_object, is_taken, lack_word, lacks_word, local_needs, local_visible, locals_needs, locals_visible, move_needs, moves_needs, needs_by, object_needs, takes_value}
 use Rattle.ada_link.specs.part_code.specs.declared.moving.Source.{Source}
 use Rattle.source_laws.specs.Covered.{IsCovered}
 use Rattle.source_laws.specs.Depths.{TypesAreFull, are_full, is_full}

@@ -1,6 +1,6 @@
 -- What calls of procedures need on the operand stack: what is passed, and what is copied back.
 use Rattle.std.proofs.Common.{◌≡◌, ◌≤◌, ◌++◌, ◌+◌, ◌*◌, ℕ, zero, suc, [], ◌∷◌, List, length, true, false, not, Option, Some, None, refl, sym, ap, ◌∙◌, subst, arith}
-use Rattle.std.specs.Prelude.{⊤, is_none, nat_eq, slice_get}
+use Rattle.std.specs.Prelude.{⊤, is_none, nat_eq}
 use Rattle.std.proofs.Math.Nat.{max-le}
 use Rattle.std.proofs.lemmas.Bool.{or_from, or_parts}
 use Rattle.ada_link.specs.base.specs.declared.faults.TheConstants.{NOT_A_VARIABLE, NO_MEANING}
@@ -20,15 +20,15 @@ use Rattle.types.specs.declared.standing.Standing.{Standing}
 use Rattle.types.specs.declared.standing.Standing.TheVariants as standing
 use Rattle.types.specs.Entities.{Entity, Integers, Profile, Put, Spans, Times, TypeForm}
 use Rattle.types.specs.Layouts.{words_of}
-use Rattle.types.specs.Scopes.{Scope, base_range_of, form_at, integer_type, number_of, profile_of}
+use Rattle.types.specs.Scopes.{Scope, base_range_of, form_at, integer_type, number_of}
 use Rattle.types.specs.Shapes.{shape_of}
-use Rattle.types.specs.Standings.{callee_profile, standing_of, stands_first, stands_for}
+use Rattle.types.specs.Standings.{standing_of, stands_first, stands_for}
 use Rattle.expr_soundness.specs.expr_rules.specs.declared.names.Slot.{Slot}
 use Rattle.expr_soundness.specs.expr_rules.specs.declared.names.Slot.TheVariants.{Expects, Takes}
 use Rattle.expr_soundness.specs.expr_rules.specs.declared.own.Own.TheVariants.{Typed}
 use Rattle.expr_soundness.specs.expr_rules.specs.declared.own.Wanted.TheVariants.{OfType}
 use Rattle.expr_soundness.specs.expr_rules.specs.ExpressionRules.{argument_faults, arguments_faults, call_faults, faults_in, name_faults, selector_faults, selectors_faults}
-use Rattle.expr_soundness.specs.expr_rules.specs.NameRules.{actual_rule, call_rule, formal_slot_or, is_changeable, mismatch, part_rule, profile_formals, slot_at, variable_rule}
+use Rattle.expr_soundness.specs.expr_rules.specs.NameRules.{actual_rule, call_rule, is_changeable, mismatch, part_rule, slot_at, variable_rule}
 use Rattle.expr_soundness.specs.expr_rules.specs.Faults.{rule}
 use Rattle.expr_soundness.specs.expr_rules.specs.Typing.{is_integers}
 use Rattle.expr_soundness.specs.expr_rules.proofs.TypedLaw.{back_empty, front_empty, same_number, unbroken}
@@ -38,7 +38,7 @@ use Rattle.expr_soundness.proofs.Expressions.{not_false}
 use Rattle.program_soundness.specs.step_soundness.specs.Fitting.{entity_named}
 use Rattle.ada_link.specs.expr_code.specs.Emitting.{IsLegalExpression}
 use Rattle.ada_link.specs.expr_code.specs.Refusing.{is_fit}
-use Rattle.ada_link.specs.expr_code.specs.Seeing.{NamesProfile, profile_named, slot_of, subprogram_of}
+use Rattle.ada_link.specs.expr_code.specs.Seeing.{profile_named, slot_of, subprogram_of}
 use Rattle.ada_link.specs.expr_code.specs.declared.visible.Slot as visible
 use Rattle.ada_link.specs.expr_code.specs.declared.visible.Visible.{Visible}
 use Rattle.ada_link.specs.expr_code.proofs.Widths.{integral_one, words_by_type}
@@ -53,7 +53,7 @@ use Rattle.source_laws.proofs.PeakSlots.{IsPath, begins, slot_by, slot_width, va
 use Rattle.source_laws.proofs.Peaks.{selectors_low}
 use Rattle.source_laws.proofs.NamedCalls.{SlotsFrom, arguments_legal, called, first_slot, later_slots, names, profile_is, slots_are}
 use Rattle.source_laws.proofs.NeedsBounds.{Fits, copied_bound, passed_bound}
-use Rattle.source_laws.proofs.NeedsScopes.{few_words, known_formals, names_profile}
+use Rattle.source_laws.proofs.NeedsScopes.{few_words, known_formals}
 use Rattle.source_laws.proofs.NeedsShapes.{AreFit, fits_here, nothing_unfit}
 use Rattle.source_laws.proofs.NeedsValues.{single_low, typed_low}
 
@@ -211,7 +211,8 @@ module _ (v : Visible) (small : IsSmallScope v.scope) where
       let here = argument_faults s (slot_at s w k) a in
       let more = arguments_faults s w (suc k) rest in
       let one = actual_low f height a l d.0 (first_slot s w k f fs a same (front_empty here more h)) (omega (arith, room)) in
-      let others = actuals_low fs w (suc k) (height + passed_width s f) rest l d.1 (later_slots s w k f fs same) (back_empty here more h) (omega (arith, room)) in
+      let others = actuals_low fs w (suc k) (height + passed_width s f) rest l d.1 (later_slots s w k f fs same) (back_empty here more h)
+      (omega (arith, room)) in
       max-le (omega (arith, one)) (omega (arith, others))
 
   actuals_back : (fs : List FormalParameter) (w : Standing) (k : ℕ) (all : ArgumentTrees) → SlotsFrom s w k fs → arguments_faults s w k all ≡ []

@@ -1,5 +1,5 @@
 -- That code is made of all that stands in an accepted text without protected objects.
-use Rattle.std.specs.Prelude.{◌≡◌, ◌≢◌, ℕ, ◌+◌, Bool, true, false, List, [], ◌∷◌, length, Option, Some, None, is_some, ⊤}
+use Rattle.std.specs.Prelude.{◌≡◌, ◌≢◌, ℕ, ◌+◌, Bool, true, false, List, [], ◌∷◌, length, Option, Some, is_some, ⊤}
 use Rattle.std.specs.List.{list_any}
 use Rattle.ada_tree.specs.declared.declaration.Formal.{Formal}
 use Rattle.ada_tree.specs.ExpressionTree.{ExprTree}
