@@ -1,12 +1,12 @@
-//! That code is made of all that stands in the bodies of accepted texts.
+//! Of what code is made: what stands in accepted bodies of a text without protected objects.
 ghost use Rattle.source_laws.specs.Covered.{FunctionsAreCovered, ProceduresAreCovered};
 
-/// Code is made of all that stands in the body of a procedure or a task that breaks no rule.
+/// Code is made of all that stands in an accepted body of a procedure or task, where each visible name has what its code needs.
 pub fn procedures_are_covered()
     ensures { ProceduresAreCovered }
 {}
 
-/// ... and of the value that the body of a function gives.
+/// ... and of the value that a function returns.
 pub fn functions_are_covered()
     ensures { FunctionsAreCovered }
 {}

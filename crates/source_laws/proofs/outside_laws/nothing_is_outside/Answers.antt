@@ -1,4 +1,4 @@
-use Rattle.source_laws.proofs.CoveredBodies.{nothing_outside}
+use Rattle.source_laws.proofs.NothingOutside.{nothing_outside}
 use Rattle.source_laws.proofs.outside_laws.nothing_is_outside.Goals as goal
 
 pub returns : goal.returns

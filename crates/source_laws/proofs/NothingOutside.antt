@@ -52,7 +52,7 @@ use Rattle.source_laws.specs.Visible.{CalleesHaveFew, FrontsKeepLimits, KeepsLim
 use Rattle.source_laws.proofs.CalleesSmall as callees
 use Rattle.source_laws.proofs.CalleesSmall.{formals_named}
 use Rattle.source_laws.proofs.CodeCounted.{behind, behind_is}
-use Rattle.source_laws.proofs.CoveredNames.{covered_at, result_scalar, scalar_here, unprotected_at}
+use Rattle.source_laws.proofs.CoveredFronts.{covered_at, result_scalar, scalar_here, unprotected_at}
 use Rattle.source_laws.proofs.CoveredVariables.{variable_inside}
 use Rattle.source_laws.proofs.UnprotectedFronts.{none_protected}
 use Rattle.std.proofs.Math.Seq.{take-length}
