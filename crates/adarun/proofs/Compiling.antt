@@ -1,5 +1,5 @@
 -- The layers of compiling, one behind another.
-use Rattle.std.proofs.Common.{◌≡◌, ◌<◌, ◌⊎◌, arith, ℕ, Bool, true, false, List, [], None, Result, Ok, Err, ap, inl, inr, refl, subst, sym}
+use Rattle.std.proofs.Common.{◌≡◌, ◌<◌, ◌⊎◌, arith, ℕ, Bool, true, false, List, [], None, Result, Ok, Err, ap, inl, inr, refl, subst, sym, ◌∙◌}
 use Rattle.std.proofs.lemmas.List.Elements.{All-contains}
 use Rattle.std.specs.List.{Contains}
 use Rattle.std.specs.Prelude.{IfOk, IfErr}
@@ -20,7 +20,7 @@ use Rattle.fault_numbers.specs.Numbers.{AreNumberedWithin, GrammarNumbers, IsNum
 use Rattle.ada_link.specs.meaning.specs.SameMeaning.{KeepsCount, SameMeaning}
 use Rattle.ada_link.specs.expr_code.specs.Coming.{most_steps}
 use Rattle.ada_link.specs.Compiled.{IsBounded, RefusesTree}
-use Rattle.ada_link.specs.package_code.specs.Refusing.{program_needs}
+use Rattle.source_laws.specs.Covered.{NothingIsOutside, has_protected}
 use Rattle.source_laws.specs.Limits.{SmallIsUnlimited}
 use Rattle.source_laws.specs.Spelled.{OutsideIsTold}
 use Rattle.adarun.specs.Accepted.{Compiles, IsAccepted, CompilesAccepted, IsJudged, IsLeftOut, IsTreeOf, RefusesAccepted, RefusesText}
@@ -50,23 +50,30 @@ compiles (Err e) text tokens list read spells same derives checked is legal rest
 abbrev Tells : List ℕ → ProgramTree → Type 0
 Tells text tree = (fault : Fault) → RefusesTree tree fault → RefusesAccepted text tree fault
 
-pub tells : OutsideIsTold → SmallIsUnlimited → (text : List ℕ) (tree : ProgramTree) → IsTreeOf tree text → IsLegal tree → IsRestricted tree → Tells text tree
-tells outside unlimited text tree is_tree legal restricted fault (inl memory) = inl memory
-tells outside unlimited text tree is_tree legal restricted fault (inr (inl beyond)) =
-    inr (inl (beyond.0, outside text is_tree.tokens tree (record { limit = None; spelled = is_tree.spells; tree = is_tree.derives.derives }) beyond.1))
-tells outside unlimited text tree is_tree legal restricted fault (inr (inr large)) =
+not_false : (b : Bool) → (b ≡ false → ⊥) → b ≡ true
+not_false true h = refl
+not_false false h = absurd (h refl)
+
+pub tells : OutsideIsTold → NothingIsOutside → SmallIsUnlimited → (text : List ℕ) (tree : ProgramTree) → IsTreeOf tree text → IsLegal tree → IsRestricted tree
+    → Tells text tree
+tells outside nothing unlimited text tree is_tree legal restricted fault (inl memory) = inl memory
+tells outside nothing unlimited text tree is_tree legal restricted fault (inr (inl beyond)) =
+    let told = outside text is_tree.tokens tree (record { limit = None; spelled = is_tree.spells; tree = is_tree.derives.derives }) beyond.1 in
+    inr (inl (
+      beyond.0,
+      not_false (has_protected tree)
+          (λ plain. let never = sym (nothing None tree is_tree.tokens is_tree.derives.derives legal restricted plain) ∙ told in cc),
+    ))
+tells outside nothing unlimited text tree is_tree legal restricted fault (inr (inr large)) =
     inr (inr (
       large.0,
       (
         large.1,
-        λ it. not_false (program_needs tree).outside
-            (λ none. unlimited None tree it.is_tree.tokens it.is_tree.derives.derives legal restricted it.small none large.1),
+        λ it. not_false (has_protected tree)
+            (λ plain. unlimited None tree it.is_tree.tokens it.is_tree.derives.derives legal restricted it.small
+            (nothing None tree it.is_tree.tokens it.is_tree.derives.derives legal restricted plain) large.1),
       ),
     ))
-  where
-    not_false : (b : Bool) → (b ≡ false → ⊥) → b ≡ true
-    not_false true h = refl
-    not_false false h = absurd (h refl)
 
 pub given : (r : Result Sections Fault) (text : List ℕ) (tree made : ProgramTree) → Tells text tree → made ≡ tree → IfOk r (λ i. SameMeaning made i)
     → IfErr r (λ f. RefusesTree made f)
@@ -109,13 +116,13 @@ judged_legal text tree made fault same legal (inl memory) = inl memory
 judged_legal text tree made fault same legal (inr least) = inr (inr (inl (subst IsLegal same legal, subst (λ t. IsLeast (restriction_faults t) fault) same least)))
 
 -- what breaks no rule
-pub judged_accepted : OutsideIsTold → SmallIsUnlimited → (r : Result Sections Fault) (text : List ℕ) (tree made : ProgramTree) → IsTreeOf tree text → made ≡ tree
-    → IsLegal made → IsRestricted made → IfErr r (λ f. RefusesTree made f) → IsJudged text tree r
-judged_accepted outside unlimited (Ok i) text tree made is_tree same legal restricted refused = (subst IsLegal same legal, subst IsRestricted same restricted)
-judged_accepted outside unlimited (Err fault) text tree made is_tree same legal restricted refused =
+pub judged_accepted : OutsideIsTold → NothingIsOutside → SmallIsUnlimited → (r : Result Sections Fault) (text : List ℕ) (tree made : ProgramTree)
+    → IsTreeOf tree text → made ≡ tree → IsLegal made → IsRestricted made → IfErr r (λ f. RefusesTree made f) → IsJudged text tree r
+judged_accepted outside nothing unlimited (Ok i) text tree made is_tree same legal restricted refused = (subst IsLegal same legal, subst IsRestricted same restricted)
+judged_accepted outside nothing unlimited (Err fault) text tree made is_tree same legal restricted refused =
     let fine = subst IsLegal same legal in
     let held = subst IsRestricted same restricted in
-    inr (inr (inr (fine, (held, tells outside unlimited text tree is_tree fine held fault (subst (λ t. RefusesTree t fault) same refused)))))
+    inr (inr (inr (fine, (held, tells outside nothing unlimited text tree is_tree fine held fault (subst (λ t. RefusesTree t fault) same refused)))))
 
 -- ---- texts that are not compiled
 
@@ -163,18 +170,19 @@ unrestricted_text text tokens list read checked fault spells same derives is leg
     })))))
 
 -- it is accepted
-pub refused_text : {A : Type 0} → OutsideIsTold → SmallIsUnlimited → (r : Result A Fault) (text : List ℕ) (tokens list : List Token) (read checked : Program)
+pub refused_text : {A : Type 0} → OutsideIsTold → NothingIsOutside → SmallIsUnlimited → (r : Result A Fault) (text : List ℕ) (tokens list : List Token)
+    (read checked : Program)
     → Spells text tokens → list ≡ tokens → Derives (program_tree read) list → checked ≡ read
     → IsLegal (program_tree checked) → IsRestricted (program_tree checked)
     → IfErr r (λ f. RefusesTree (program_tree checked) f)
     → IfErr r (λ f. RefusesText text f)
-refused_text outside unlimited (Ok a) text tokens list read checked spells same derives is legal restricted refused = tt
-refused_text outside unlimited (Err fault) text tokens list read checked spells same derives is legal restricted refused =
+refused_text outside nothing unlimited (Ok a) text tokens list read checked spells same derives is legal restricted refused = tt
+refused_text outside nothing unlimited (Err fault) text tokens list read checked spells same derives is legal restricted refused =
     let is_tree = read_tree text tokens list read checked spells same derives is in
     inr (inr (inr (inr (inr (record {
       tree = program_tree checked;
       accepted = record { is_tree = is_tree; legal = legal; restricted = restricted };
-      refused = tells outside unlimited text (program_tree checked) is_tree legal restricted fault refused;
+      refused = tells outside nothing unlimited text (program_tree checked) is_tree legal restricted fault refused;
     })))))
 
 -- ---- what is refused as outside the language of today

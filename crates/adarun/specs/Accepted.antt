@@ -17,8 +17,8 @@ use Rattle.ada_link.specs.meaning.specs.SameMeaning.{KeepsCount, SameMeaning}
 use Rattle.ada_link.specs.expr_code.specs.Coming.{most_steps}
 use Rattle.ada_link.specs.expr_code.specs.declared.refusal.Refusal.TheVariants as refusal
 use Rattle.ada_link.specs.Compiled.{IsBounded, outside, too_large}
-use Rattle.ada_link.specs.package_code.specs.Refusing.{program_needs}
 use Rattle.ada_link.specs.package_code.specs.Refusing as sections
+use Rattle.source_laws.specs.Covered.{has_protected}
 use Rattle.source_laws.specs.Small.{IsSmall}
 
 -- the tree is what the text spells
@@ -39,12 +39,12 @@ pub record IsSmallText (tree : ProgramTree) (text : List ℕ) : Type 0 where
   pub is_tree : IsTreeOf tree text
   pub small : IsSmall tree is_tree.tokens
 
--- it has something that no code is made of
+-- it declares a protected object, of which no code is made yet
 abbrev pub IsBeyond : ProgramTree → Type 0
-IsBeyond tree = (program_needs tree).outside ≡ true
+IsBeyond tree = has_protected tree ≡ true
 
--- Why an accepted text is not compiled: memory was refused; it has something that no code is made of; or, as its tree tells, its code may pass a limit of images. The
--- last is told of no small text of which all code is made.
+-- Why an accepted text is not compiled: memory was refused; it declares a protected object; or, as its tree tells, its code may pass a limit of images. The last is
+-- told of no small text without protected objects.
 abbrev pub RefusesAccepted : List ℕ → ProgramTree → Fault → Type 0
 RefusesAccepted text tree fault =
     (fault ≡ memory_fault)
@@ -97,7 +97,7 @@ RefusesText text fault =
     (fault ≡ memory_fault)
     ⊎ (IsMisspelled text fault ⊎ (HasNoTree text fault ⊎ (HasIllegalTree text fault ⊎ (HasUnrestrictedTree text fault ⊎ HasRefusedTree text fault))))
 
--- What is outside the language of today is an accepted text that has what no code is made of, refused by this number at byte 0. No other text is.
+-- What is outside the language of today is an accepted text that declares a protected object, refused by this number at byte 0. No other text is.
 abbrev pub IsLeftOut : List ℕ → Fault → Type 0
 IsLeftOut text fault =
     fault.number ≡ OUTSIDE_LANGUAGE → (fault ≡ outside) × ((tree : ProgramTree) × (IsAccepted tree text × IsBeyond tree))

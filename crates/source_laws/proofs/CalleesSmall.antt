@@ -141,7 +141,7 @@ module _ (premises : PremisesHold) (names : NamesAreKnown) (scopes : ScopesAreSo
     named_further (f ∷ fs) h =
         ((h.0.0, subtype_kept (front t place) here one_further f.subtype h.0.0 h.0.1), named_further fs h.1)
 
-    formals_named : AreNamed here d.formals
+    pub formals_named : AreNamed here d.formals
     formals_named = named_further d.formals front_named
 
     -- the words of one formal

@@ -172,7 +172,7 @@ few_parameters s fs ps h is =
     let few = few_formals s [] fs (omega arith) h in
     omega (arith, many, few)
 
-scalar_form : (o : Option TypeForm) → is_some o ≡ true → is_composite_form o ≡ false → is_scalar_form o ≡ true
+pub scalar_form : (o : Option TypeForm) → is_some o ≡ true → is_composite_form o ≡ false → is_scalar_form o ≡ true
 scalar_form None h k = cc
 scalar_form (Some Integers) h k = refl
 scalar_form (Some Booleans) h k = refl

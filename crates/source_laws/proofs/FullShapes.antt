@@ -27,7 +27,7 @@ no_zero n h = grind (arith, nat_tests)
 some_words : (n : ℕ) → not (nat_eq n 0) ≡ true → 1 ≤ n
 some_words n h = grind (arith, nat_tests)
 
-full_some : (x : Shape) → is_full x ≡ true → 1 ≤ words x
+pub full_some : (x : Shape) → is_full x ≡ true → 1 ≤ words x
 full_some (Repeated many x) h = some_words (many * words x) (and_parts (not (nat_eq (many * words x) 0)) (is_full x) h).0
 full_some (Grouped parts) h = some_words (words_of_parts parts) (and_parts (not (nat_eq (words_of_parts parts) 0)) (are_full parts) h).0
 full_some x h = some_words (words x) h

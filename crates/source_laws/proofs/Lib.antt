@@ -14,6 +14,14 @@ mod FitScopes
 mod FitNeeds
 mod FitBodies
 mod SmallBodies
+mod LaterNames
+mod LaterOperators
+mod LaterExpressions
+mod LaterValues
+mod UnprotectedFronts
+mod CoveredVariables
+mod CoveredFronts
+mod NothingOutside
 pub mod Peaks
 pub mod PeakBounds
 pub mod PeakSlots
@@ -29,3 +37,11 @@ pub mod NeedsFormals
 pub mod NeedsBodies
 pub mod NeedsNames
 pub mod NeedsMoves
+pub mod NamedCalls
+pub mod CoverScopes
+pub mod CoverNames
+pub mod CoverCalls
+pub mod CoverChoices
+pub mod CoverValues
+pub mod CoverStatements
+pub mod CoverBodies

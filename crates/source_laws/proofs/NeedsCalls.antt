@@ -1,6 +1,6 @@
 -- What calls of procedures need on the operand stack: what is passed, and what is copied back.
 use Rattle.std.proofs.Common.{◌≡◌, ◌≤◌, ◌++◌, ◌+◌, ◌*◌, ℕ, zero, suc, [], ◌∷◌, List, length, true, false, not, Option, Some, None, refl, sym, ap, ◌∙◌, subst, arith}
-use Rattle.std.specs.Prelude.{⊤, is_none, nat_eq, slice_get}
+use Rattle.std.specs.Prelude.{⊤, is_none, nat_eq}
 use Rattle.std.proofs.Math.Nat.{max-le}
 use Rattle.std.proofs.lemmas.Bool.{or_from, or_parts}
 use Rattle.ada_link.specs.base.specs.declared.faults.TheConstants.{NOT_A_VARIABLE, NO_MEANING}
@@ -20,15 +20,15 @@ use Rattle.types.specs.declared.standing.Standing.{Standing}
 use Rattle.types.specs.declared.standing.Standing.TheVariants as standing
 use Rattle.types.specs.Entities.{Entity, Integers, Profile, Put, Spans, Times, TypeForm}
 use Rattle.types.specs.Layouts.{words_of}
-use Rattle.types.specs.Scopes.{Scope, base_range_of, form_at, integer_type, number_of, profile_of}
+use Rattle.types.specs.Scopes.{Scope, base_range_of, form_at, integer_type, number_of}
 use Rattle.types.specs.Shapes.{shape_of}
-use Rattle.types.specs.Standings.{callee_profile, standing_of, stands_first, stands_for}
+use Rattle.types.specs.Standings.{standing_of, stands_first, stands_for}
 use Rattle.expr_soundness.specs.expr_rules.specs.declared.names.Slot.{Slot}
 use Rattle.expr_soundness.specs.expr_rules.specs.declared.names.Slot.TheVariants.{Expects, Takes}
 use Rattle.expr_soundness.specs.expr_rules.specs.declared.own.Own.TheVariants.{Typed}
 use Rattle.expr_soundness.specs.expr_rules.specs.declared.own.Wanted.TheVariants.{OfType}
 use Rattle.expr_soundness.specs.expr_rules.specs.ExpressionRules.{argument_faults, arguments_faults, call_faults, faults_in, name_faults, selector_faults, selectors_faults}
-use Rattle.expr_soundness.specs.expr_rules.specs.NameRules.{actual_rule, call_rule, formal_slot_or, is_changeable, mismatch, part_rule, profile_formals, slot_at, variable_rule}
+use Rattle.expr_soundness.specs.expr_rules.specs.NameRules.{actual_rule, call_rule, is_changeable, mismatch, part_rule, slot_at, variable_rule}
 use Rattle.expr_soundness.specs.expr_rules.specs.Faults.{rule}
 use Rattle.expr_soundness.specs.expr_rules.specs.Typing.{is_integers}
 use Rattle.expr_soundness.specs.expr_rules.proofs.TypedLaw.{back_empty, front_empty, same_number, unbroken}
@@ -38,7 +38,7 @@ use Rattle.expr_soundness.proofs.Expressions.{not_false}
 use Rattle.program_soundness.specs.step_soundness.specs.Fitting.{entity_named}
 use Rattle.ada_link.specs.expr_code.specs.Emitting.{IsLegalExpression}
 use Rattle.ada_link.specs.expr_code.specs.Refusing.{is_fit}
-use Rattle.ada_link.specs.expr_code.specs.Seeing.{NamesProfile, profile_named, slot_of, subprogram_of}
+use Rattle.ada_link.specs.expr_code.specs.Seeing.{profile_named, slot_of, subprogram_of}
 use Rattle.ada_link.specs.expr_code.specs.declared.visible.Slot as visible
 use Rattle.ada_link.specs.expr_code.specs.declared.visible.Visible.{Visible}
 use Rattle.ada_link.specs.expr_code.proofs.Widths.{integral_one, words_by_type}
@@ -51,8 +51,9 @@ use Rattle.source_laws.specs.Depths.{IsSmallScope, formals_take}
 use Rattle.source_laws.proofs.PeakBounds.{through}
 use Rattle.source_laws.proofs.PeakSlots.{IsPath, begins, slot_by, slot_width, value_path}
 use Rattle.source_laws.proofs.Peaks.{selectors_low}
+use Rattle.source_laws.proofs.NamedCalls.{SlotsFrom, arguments_legal, called, first_slot, later_slots, names, profile_is, slots_are}
 use Rattle.source_laws.proofs.NeedsBounds.{Fits, copied_bound, passed_bound}
-use Rattle.source_laws.proofs.NeedsScopes.{few_words, known_formals, names_profile}
+use Rattle.source_laws.proofs.NeedsScopes.{few_words, known_formals}
 use Rattle.source_laws.proofs.NeedsShapes.{AreFit, fits_here, nothing_unfit}
 use Rattle.source_laws.proofs.NeedsValues.{single_low, typed_low}
 
@@ -136,10 +137,10 @@ module _ (s : Scope) (t : Subtype) where
 
 -- ---- one actual parameter
 
-abbrev moded_by : Mode → (depth : ℕ) → Visible → Subtype → ExprTree → Needs
+abbrev pub moded_by : Mode → (depth : ℕ) → Visible → Subtype → ExprTree → Needs
 moded_by m depth v t e = elim m [ mode.In ↦ in_needs depth v t e | mode.Out ↦ target_needs depth v e | mode.InOut ↦ in_out_needs depth v t e ]
 
-abbrev destinations_by : Mode → Visible → ExprTree → List Destination
+abbrev pub destinations_by : Mode → Visible → ExprTree → List Destination
 destinations_by m v e = elim m [ mode.In ↦ [] | mode.Out ↦ destinations_named v e | mode.InOut ↦ destinations_named v e ]
 
 module _ (v : Visible) (small : IsSmallScope v.scope) where
@@ -201,18 +202,7 @@ module _ (v : Visible) (small : IsSmallScope v.scope) where
 
   -- ---- all of them
 
-  -- from this formal on
-  abbrev SlotsFrom : Standing → ℕ → List FormalParameter → Type 0
-  SlotsFrom w k fs = (m j : ℕ) → m ≡ k + j → slot_at s w m ≡ formal_slot_or (slice_get fs j)
-
-  first_slot : (w : Standing) (k : ℕ) (f : FormalParameter) (fs : List FormalParameter) (a : ArgumentTree) → SlotsFrom w k (f ∷ fs)
-      → argument_faults s (slot_at s w k) a ≡ [] → argument_faults s (slot_by f.mode f.subtype.type_number) a ≡ []
-  first_slot w k f fs a same h = subst (λ x. argument_faults s x a ≡ []) (same k 0 (omega arith)) h
-
-  later_slots : (w : Standing) (k : ℕ) (f : FormalParameter) (fs : List FormalParameter) → SlotsFrom w k (f ∷ fs) → SlotsFrom w (suc k) fs
-  later_slots w k f fs same m j is = same m (suc j) (omega (arith, is))
-
-  actuals_low : (fs : List FormalParameter) (w : Standing) (k height : ℕ) (all : ArgumentTrees) (l : Limit) → AreSpelled l all → SlotsFrom w k fs
+  actuals_low : (fs : List FormalParameter) (w : Standing) (k height : ℕ) (all : ArgumentTrees) (l : Limit) → AreSpelled l all → SlotsFrom s w k fs
       → arguments_faults s w k all ≡ [] → height + total (passed_width s) fs ≤ 72
       → (actuals_needs height v fs all).stack ≤ 78 + 12 * arguments_depth all
   actuals_low fs w k height NoArguments l d same h room = omega arith
@@ -220,19 +210,20 @@ module _ (v : Visible) (small : IsSmallScope v.scope) where
   actuals_low (f ∷ fs) w k height (MoreArguments a rest) l d same h room =
       let here = argument_faults s (slot_at s w k) a in
       let more = arguments_faults s w (suc k) rest in
-      let one = actual_low f height a l d.0 (first_slot w k f fs a same (front_empty here more h)) (omega (arith, room)) in
-      let others = actuals_low fs w (suc k) (height + passed_width s f) rest l d.1 (later_slots w k f fs same) (back_empty here more h) (omega (arith, room)) in
+      let one = actual_low f height a l d.0 (first_slot s w k f fs a same (front_empty here more h)) (omega (arith, room)) in
+      let others = actuals_low fs w (suc k) (height + passed_width s f) rest l d.1 (later_slots s w k f fs same) (back_empty here more h)
+      (omega (arith, room)) in
       max-le (omega (arith, one)) (omega (arith, others))
 
-  actuals_back : (fs : List FormalParameter) (w : Standing) (k : ℕ) (all : ArgumentTrees) → SlotsFrom w k fs → arguments_faults s w k all ≡ []
+  actuals_back : (fs : List FormalParameter) (w : Standing) (k : ℕ) (all : ArgumentTrees) → SlotsFrom s w k fs → arguments_faults s w k all ≡ []
       → total (copied_width s) (destinations_of v fs all) ≤ total (returned_width s) fs
   actuals_back fs w k NoArguments same h = omega arith
   actuals_back [] w k (MoreArguments a rest) same h = omega arith
   actuals_back (f ∷ fs) w k (MoreArguments a rest) same h =
       let here = argument_faults s (slot_at s w k) a in
       let more = arguments_faults s w (suc k) rest in
-      let one = actual_back f a (first_slot w k f fs a same (front_empty here more h)) in
-      let others = actuals_back fs w (suc k) rest (later_slots w k f fs same) (back_empty here more h) in
+      let one = actual_back f a (first_slot s w k f fs a same (front_empty here more h)) in
+      let others = actuals_back fs w (suc k) rest (later_slots s w k f fs same) (back_empty here more h) in
       let both = total_append (copied_width s) (destinations_for v f a) (destinations_of v fs rest) in
       omega (arith, one, others, both)
 
@@ -255,25 +246,11 @@ module _ (v : Visible) (small : IsSmallScope v.scope) where
       max-le it.0 (max-le (omega (arith, few)) (omega (arith, back)))
 
   module _ (first : Identifier) (p : Profile) (there : profile_named s first.name ≡ Some p) where
-    names : NamesProfile s first.name p
-    names = names_profile s first.name p there
-
     abbrev w : Standing
-    w = standing.Callee (callee.Direct names.number)
-
-    profile_is : callee_profile s (callee.Direct names.number) ≡ Some p
-    profile_is = ap profile_of names.stands
-
-    begins_there : stands_first s (number_of s first.name) ≡ w
-    begins_there = ap (stands_first s) names.numbered ∙ ap (stands_for names.number) names.stands
-
-    slots_are : SlotsFrom w 0 p.formals
-    slots_are m j is =
-        ap (λ o. formal_slot_or (slice_get (profile_formals o) m)) profile_is ∙ ap (λ n. formal_slot_or (slice_get p.formals n))
-        (let same : m ≡ j = omega (arith, is) in same)
+    w = called s first p there
 
     few_formals : length p.formals ≤ 8
-    few_formals = (small.formals (callee.Direct names.number) p profile_is).few
+    few_formals = (small.formals (callee.Direct (names s first p there).number) p (profile_is s first p there)).few
 
     few_passed : total (passed_width s) p.formals ≤ 72
     few_passed = let all = all_passed s p.formals in let few = small.words first.name p there in let eight = few_formals in omega (arith, all, few, eight)
@@ -284,19 +261,9 @@ module _ (v : Visible) (small : IsSmallScope v.scope) where
     called_low : (all : ArgumentTrees) (l : Limit) → AreSpelled l all → arguments_faults s w 0 all ≡ []
         → ((actuals_needs 0 v p.formals all).stack ≤ 78 + 12 * arguments_depth all) × (total (copied_width s) (destinations_of v p.formals all) ≤ 72)
     called_low all l d h = (
-      actuals_low p.formals w 0 0 all l d slots_are h (omega (arith, few_passed)),
-      through _ (total (returned_width s) p.formals) 72 (actuals_back p.formals w 0 all slots_are h) few_returned,
+      actuals_low p.formals w 0 0 all l d (slots_are s first p there) h (omega (arith, few_passed)),
+      through _ (total (returned_width s) p.formals) 72 (actuals_back p.formals w 0 all (slots_are s first p there) h) few_returned,
     )
-
-    -- in the parentheses behind the name
-    arguments_legal : (all : ArgumentTrees) (rest : SelectorTrees) → name_faults s first (MoreSelectors (Arguments all) rest) ≡ []
-        → arguments_faults s w 0 all ≡ []
-    arguments_legal all rest h =
-        let x = MoreSelectors (Arguments all) rest in
-        let behind = subst (λ u. selectors_faults s first.place u x ≡ []) begins_there
-        (back_empty _ (selectors_faults s first.place (stands_first s (number_of s first.name)) x) h) in
-        back_empty (part_rule s first.place w (Arguments all)) (arguments_faults s w 0 all)
-        (front_empty (selector_faults s first.place w (Arguments all)) _ behind)
 
     some_inside : (all other : ArgumentTrees) → Some all ≡ Some other → all ≡ other
     some_inside all other h = let g : Option ArgumentTrees → ArgumentTrees = λ o. elim o [ Some y ↦ y | None ↦ all ] in ap g h
@@ -310,7 +277,7 @@ module _ (v : Visible) (small : IsSmallScope v.scope) where
         (omega arith, omega arith))
     invoked_low (MoreSelectors (Arguments a) NoSelectors) l ts d h =
         let inside = behind_spelled l a NoSelectors ts d in
-        let it = called_low a inside.0 inside.1 (arguments_legal a NoSelectors h) in
+        let it = called_low a inside.0 inside.1 (arguments_legal s first p there a NoSelectors h) in
         let low = it.0 in
         passed_low p (Some a) (selectors_depth (MoreSelectors (Arguments a) NoSelectors)) few_passed (λ all is. subst
         (λ x. ((actuals_needs 0 v p.formals x).stack ≤ 78 + 12 * selectors_depth (MoreSelectors (Arguments a) NoSelectors))

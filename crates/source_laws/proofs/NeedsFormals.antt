@@ -45,7 +45,7 @@ have_words s (f ∷ fs) h = (
   have_words s fs ((or_parts (is_wordless s f) (are_wordless s fs) h).1),
 )
 
-formal_known : (m : Mode) (u : Scope) (t : Subtype) → IsKnown u t → IsSoundObject u (formal_role m) t
+pub formal_known : (m : Mode) (u : Scope) (t : Subtype) → IsKnown u t → IsSoundObject u (formal_role m) t
 formal_known mode.In u t typed = typed
 formal_known mode.Out u t typed = typed
 formal_known mode.InOut u t typed = typed
@@ -60,13 +60,13 @@ grown_by s u x more true is = (more, is)
 grown_by s u x more false is = (more ++ x ∷ [], ap (λ w. w ++ x ∷ []) is ∙ append_assoc s more (x ∷ []))
 
 module _ (s u : Scope) (f : Formal) (t : Subtype) (h : IsBehind s u) (named : subtype_of s f.subtype ≡ Some t) where
-  named_there : subtype_of u f.subtype ≡ Some t
+  pub named_there : subtype_of u f.subtype ≡ Some t
   named_there = ap (λ w. subtype_of w f.subtype) h.is ∙ subtype_kept s h.more f.subtype t named
 
-  visible_there : formal_scope u f ≡ with_name u f.name.name (Object (formal_role f.mode) t)
+  pub visible_there : formal_scope u f ≡ with_name u f.name.name (Object (formal_role f.mode) t)
   visible_there = ap (λ o. with_name u f.name.name (object_entity (formal_role f.mode) o)) named_there
 
-  one_behind : IsBehind s (formal_scope u f)
+  pub one_behind : IsBehind s (formal_scope u f)
   one_behind =
       let grown = grown_by s u (object_named f.name.name (formal_role f.mode) t) h.more (is_visible u f.name.name) h.is in
       record { more = grown.0; is = visible_there ∙ grown.1 }
@@ -82,7 +82,7 @@ formals_behind : (s u : Scope) (fs : List Formal) → IsBehind s u → AreNamed 
 formals_behind s u [] h named = h
 formals_behind s u (f ∷ fs) h named = formals_behind s (formal_scope u f) fs (one_behind s u f named.0.0 h named.0.1) named.1
 
-all_behind : (s : Scope) (fs : List Formal) → AreNamed s fs → IsBehind s (formals_scope s fs)
+pub all_behind : (s : Scope) (fs : List Formal) → AreNamed s fs → IsBehind s (formals_scope s fs)
 all_behind s fs named = formals_behind s s fs (record { more = []; is = sym (append-nil s) }) named
 
 -- ---- their words

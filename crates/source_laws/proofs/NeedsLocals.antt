@@ -31,7 +31,7 @@ use Rattle.source_laws.proofs.NeedsScopes.{few_words, one_held, small_local}
 use Rattle.source_laws.proofs.NeedsShapes.{fits_here, nothing_unfit}
 use Rattle.source_laws.proofs.NeedsValues.{typed_low}
 
-abbrev initial_faults_by : Scope → Option ExprTree → Wanted → Faults → Faults
+abbrev pub initial_faults_by : Scope → Option ExprTree → Wanted → Faults → Faults
 initial_faults_by s o w others = elim o [ Some e ↦ faults_of s w e | None ↦ others ]
 
 module _ (v : Visible) (small : IsSmallScope v.scope) where

@@ -74,7 +74,7 @@ module _ (s more : Scope) where
   formals_kept [] h = refl
   formals_kept (f ∷ fs) h = λ j. words_kept f.subtype h.0 j + formals_kept fs h.1 j
 
-  scalar_kept : (fs : List FormalParameter) → AreScalar s fs → AreScalar (s ++ more) fs
+  pub scalar_kept : (fs : List FormalParameter) → AreScalar s fs → AreScalar (s ++ more) fs
   scalar_kept [] h = tt
   scalar_kept (f ∷ fs) h = (test_kept s (s ++ more) (grown s more) is_scalar_form refl f.subtype.type_number h.0, scalar_kept fs h.1)
 
@@ -111,11 +111,11 @@ module _ (s : Scope) (name : List ℕ) (r : Role) (t : Subtype) where
           ]
       by_entity None is k = absurd (no_profile p (sym none ∙ k))
 
-  callee_before : (f : Callee) (p : Profile) → callee_profile (s ++ more) f ≡ Some p → callee_profile s f ≡ Some p
+  pub callee_before : (f : Callee) (p : Profile) → callee_profile (s ++ more) f ≡ Some p → callee_profile s f ≡ Some p
   callee_before (callee.Direct n) p h = profile_before profile_of refl refl n p h
   callee_before (callee.Operation o k) p h = profile_before (λ e. profile_among (protected_of e) k) refl refl o p h
 
-  named_before : (other : List ℕ) (p : Profile) → profile_named (s ++ more) other ≡ Some p → profile_named s other ≡ Some p
+  pub named_before : (other : List ℕ) (p : Profile) → profile_named (s ++ more) other ≡ Some p → profile_named s other ≡ Some p
   named_before other p h = by_number (number_of (s ++ more) other) refl h
     where
       by_number : (o : Option ℕ) → number_of (s ++ more) other ≡ o → profile_by (s ++ more) o ≡ Some p → profile_named s other ≡ Some p
@@ -171,7 +171,7 @@ module _ (s : Scope) (name : List ℕ) (r : Role) (t : Subtype) where
 pub few_words : (n : ℕ) → n ≤ 64 → n ≤ WORDS
 few_words n h = omega (arith, h)
 
-constant_or_variable : (s : Scope) (b : Bool) (t : Subtype) → IsKnown s t → IsSoundObject s (role_of b) t
+pub constant_or_variable : (s : Scope) (b : Bool) (t : Subtype) → IsKnown s t → IsSoundObject s (role_of b) t
 constant_or_variable s true t h = h
 constant_or_variable s false t h = h
 
@@ -188,7 +188,7 @@ abbrev some_if : Bool → ℕ → Option ℕ
 some_if b n = elim b [ true ↦ Some n | false ↦ None ]
 
 -- both bounds are of an integer type
-bounds_known : (s : Scope) (x y : Own) → is_integral s x ≡ true → is_integral s y ≡ true → is_integers (form_at s integer_type) ≡ true
+pub bounds_known : (s : Scope) (x y : Own) → is_integral s x ≡ true → is_integral s y ≡ true → is_integers (form_at s integer_type) ≡ true
     → (n : ℕ) × (if_integers s (bounds_type x y) ≡ Some n) × (is_integers (form_at s n) ≡ true)
 bounds_known s Unknown y i j k = absurd cc
 bounds_known s Universal Unknown i j k = absurd cc

@@ -192,7 +192,7 @@ module _ (s : Scope) where
             }
 
       -- nothing stands behind a statement
-      statement_ends : (place : ℕ) (rest : SelectorTrees) → selectors_faults s place standing.Statement rest ≡ []
+      pub statement_ends : (place : ℕ) (rest : SelectorTrees) → selectors_faults s place standing.Statement rest ≡ []
           → select_all s standing.Statement rest ≡ standing.Statement
       statement_ends place NoSelectors h = refl
       statement_ends place (MoreSelectors x rest) h =
@@ -222,19 +222,19 @@ module _ (s : Scope) where
         abbrev pub begins : Standing
         begins = stands_first s (number_of s first.name)
 
-        pub name_path : name_faults s first selectors ≡ [] → (standing_of s first selectors ≡ standing.Statement → ⊥) → IsPath first.place begins selectors
-        name_path h ends =
+        -- what it begins with, and its parts behind that
+        pub name_begins : name_faults s first selectors ≡ [] → Good s begins × (selectors_faults s first.place begins selectors ≡ [])
+        name_begins h =
             let hidden = rule NAME_NOT_VISIBLE first.place (not (is_visible s first.name)) in
             let behind = selectors_faults s first.place begins selectors in
             let visible = not_false (is_visible s first.name)
             (unbroken NAME_NOT_VISIBLE first.place (not (is_visible s first.name)) (front_empty hidden behind h)) in
             let x = named s first.name visible in
             let is : begins ≡ stands_for x.number (Some x.entity) = ap (stands_first s) x.numbered ∙ ap (stands_for x.number) x.stands in
-            record {
-              good = subst (Good s) (sym is) (good_first s sound x.number x.entity x.stands);
-              unbroken = back_empty hidden behind h;
-              ends = ends;
-            }
+            (subst (Good s) (sym is) (good_first s sound x.number x.entity x.stands), back_empty hidden behind h)
+
+        pub name_path : name_faults s first selectors ≡ [] → (standing_of s first selectors ≡ standing.Statement → ⊥) → IsPath first.place begins selectors
+        name_path h ends = let begun = name_begins h in record { good = begun.0; unbroken = begun.1; ends = ends }
 
         no_value : value_rule first.place (standing_of s first selectors) ≡ [] → standing_of s first selectors ≡ standing.Statement → ⊥
         no_value h is = let k = subst (λ u. value_rule first.place u ≡ []) is h in cc

@@ -3,3 +3,4 @@ pub mod Spelled
 pub mod Small
 pub mod Visible
 pub mod Limits
+pub mod Covered

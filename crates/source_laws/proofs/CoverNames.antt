@@ -1,0 +1,479 @@
+-- Code is made of all legal expressions, where what is visible has what code needs: of names with their parts, and of targets.
+use Rattle.std.proofs.Common.{◌≡◌, ◌++◌, ℕ, suc, [], ◌∷◌, List, Bool, true, false, ◌&&◌, ◌||◌, not, Option, Some, None, refl, sym, ap, ◌∙◌, subst}
+use Rattle.std.specs.Prelude.{bytes_eq, codes, cond, pos, is_none, is_some, nat_eq}
+use Rattle.std.proofs.lemmas.Bool.{and_from, or_from}
+use Rattle.ada_link.specs.base.specs.declared.faults.TheConstants.{NAME_NOT_VISIBLE, NOT_A_VARIABLE}
+use Rattle.ada_tree.specs.declared.expression.Identifier.{Identifier}
+use Rattle.ada_tree.specs.ExpressionTree.{Arguments, ArgumentTree, ArgumentTrees, Attribute, Component, Conditional, ElsifValueTrees, ExprTree, MoreArguments, MoreElsifValues, MoreSelectors, Named, NoArguments, NoElsifValues, NoSelectors, Parenthesized, SelectorTree, SelectorTrees, Text, Value}
+use Rattle.ada_tree.specs.ExpressionTree as tree
+use Rattle.types.specs.declared.entity.FormalParameter.{FormalParameter}
+use Rattle.types.specs.declared.entity.Role.{Role}
+use Rattle.types.specs.declared.entity.Subtype.{Subtype}
+use Rattle.types.specs.declared.entity.Value.{Value as Scalar}
+use Rattle.types.specs.declared.standing.Callee.TheVariants as callee
+use Rattle.types.specs.declared.standing.Standing.{Standing}
+use Rattle.types.specs.declared.standing.Standing.TheVariants as standing
+use Rattle.types.specs.Entities.{Arrays, Booleans, Constant, Doubtful, Entity, Entry, Exception, Integers, LibraryUnit, Literal, Object, OfSubtype, OfType, Predefined, Profile, Protected, ProtectedObject, Put, Records, Spans, Subprogram, Task, Times, TypeForm}
+use Rattle.types.specs.Evaluating.{fixed_value}
+use Rattle.types.specs.Scopes.{Scope, entity_at, form_at, is_visible, number_of, profile_of, protected_at}
+use Rattle.types.specs.Standings.{array_attribute, bound_stands, bounds_stand, call_stands, called_operation, callee_profile, conversion_stands, is_single, object_attribute, operation_stands, result_stands, select, select_all, settle, standing_of, stands_first, stands_for, subtype_attribute}
+use Rattle.expr_soundness.specs.expr_rules.specs.declared.names.Slot.{Slot}
+use Rattle.expr_soundness.specs.expr_rules.specs.declared.own.Own.TheVariants.{Typed}
+use Rattle.expr_soundness.specs.expr_rules.specs.declared.own.Wanted.{Wanted}
+use Rattle.expr_soundness.specs.expr_rules.specs.declared.own.Wanted.TheVariants.{OfType}
+use Rattle.expr_soundness.specs.expr_rules.specs.ExpressionRules.{argument_faults, arguments_faults, elsif_faults, faults_in, faults_of, name_faults, selector_faults, selectors_faults}
+use Rattle.expr_soundness.specs.expr_rules.specs.Faults.{rule}
+use Rattle.expr_soundness.specs.expr_rules.specs.NameRules.{is_doubtful, mismatch, part_rule, slot_at, slot_rule, slot_wanted, value_rule, variable_rule}
+use Rattle.expr_soundness.specs.expr_rules.specs.Typing.{boolean_wanted, is_booleans, own_of}
+use Rattle.expr_soundness.specs.expr_rules.proofs.TypedLaw.{back_empty, front_empty, unbroken}
+use Rattle.program_soundness.specs.step_soundness.specs.Fitting.{entity_named}
+use Rattle.expr_soundness.specs.type_rules.specs.SubtypeNames.{entity_at_or_none}
+use Rattle.expr_soundness.specs.SoundScopes.{IsKnown, SoundScope}
+use Rattle.expr_soundness.proofs.Expressions.{not_false}
+use Rattle.expr_soundness.proofs.Goods.{Good, good_all, good_select, no_constant_parts, part_unbroken}
+use Rattle.expr_soundness.proofs.Positions.{IsNamed, named}
+use Rattle.ada_link.specs.expr_code.specs.Emitting.{IsLegalExpression, has_numbers, is_composite}
+use Rattle.ada_link.specs.expr_code.specs.Refusing.{are_passable, argument_outside, arguments_outside, elsifs_outside, is_callable, is_called, is_made, is_outside, is_passable, selector_outside, selectors_outside}
+use Rattle.ada_link.specs.expr_code.specs.Refusing as refusing
+use Rattle.ada_link.specs.expr_code.specs.Seeing.{operation_named, operation_of, profile_named, slot_of, subprogram_of, subprogram_profile}
+use Rattle.ada_link.specs.expr_code.specs.declared.visible.Slot as visible
+use Rattle.ada_link.specs.expr_code.specs.declared.visible.Visible.{Visible}
+use Rattle.ada_link.specs.expr_code.proofs.Legal.{legal_left, legal_operand, legal_right}
+use Rattle.ada_link.specs.expr_code.proofs.Widths.{words_by_type}
+use Rattle.ada_link.specs.part_code.specs.Needs.{address_needs, is_object, is_stored, is_taken}
+use Rattle.source_laws.specs.Covered.{IsCovered}
+use Rattle.source_laws.specs.Depths.{AreScalar, FewFormals, is_scalar_form}
+use Rattle.source_laws.proofs.NeedsScopes.{profile_by}
+use Rattle.source_laws.proofs.PeakSlots.{begins, name_begins, scalar_words, statement_ends, value_path}
+use Rattle.source_laws.proofs.Peaks.{conditional_parts, inside_legal, legal_of}
+
+or_right : (a b : Bool) → b ≡ true → (a || b) ≡ true
+or_right true b h = refl
+or_right false b h = h
+
+-- ---- types that code takes
+
+passable_form : (o : Option TypeForm) → is_scalar_form o ≡ true → (has_numbers o || is_booleans o) ≡ true
+passable_form (Some Integers) h = refl
+passable_form (Some Booleans) h = refl
+passable_form (Some Times) h = refl
+passable_form (Some Spans) h = refl
+passable_form (Some (Arrays index many element)) h = absurd cc
+passable_form (Some (Records components)) h = absurd cc
+passable_form None h = absurd cc
+
+-- a type is scalar or composite
+taken_form : (o : Option TypeForm) → is_some o ≡ true → ((has_numbers o || is_booleans o) || is_composite o) ≡ true
+taken_form (Some Integers) h = refl
+taken_form (Some Booleans) h = refl
+taken_form (Some Times) h = refl
+taken_form (Some Spans) h = refl
+taken_form (Some (Arrays index many element)) h = refl
+taken_form (Some (Records components)) h = refl
+taken_form None h = absurd cc
+
+module _ (s : Scope) where
+  pub scalar_passable : (t : Subtype) → is_scalar_form (form_at s t.type_number) ≡ true → is_passable s t ≡ true
+  scalar_passable t h = passable_form (form_at s t.type_number) h
+
+  pub known_taken : (t : Subtype) → IsKnown s t → is_taken s t ≡ true
+  known_taken t h = taken_form (form_at s t.type_number) h
+
+  formals_passable : (fs : List FormalParameter) → AreScalar s fs → are_passable s fs ≡ true
+  formals_passable [] h = refl
+  formals_passable (f ∷ fs) h = and_from (is_passable s f.subtype) (are_passable s fs) (scalar_passable f.subtype h.0) (formals_passable fs h.1)
+
+  -- a scalar has one word
+  single_result : (t : Subtype) → is_scalar_form (form_at s t.type_number) ≡ true → refusing.is_single s (Some t) ≡ true
+  single_result t h =
+      ap (λ n. nat_eq n 1) (sym (words_by_type s t) ∙ scalar_words s t.type_number (form_at s t.type_number) refl h)
+
+-- ---- attributes have known values
+
+abbrev is_given : Standing → Bool
+is_given (standing.Given t (Some v)) = true
+is_given (standing.Plain z) = true
+is_given w = false
+
+good_sure : (s : Scope) (w : Standing) → Good s w → is_doubtful w ≡ false
+good_sure s standing.Doubtful g = absurd g
+good_sure s w g = refl
+
+bounds_given : (t : Subtype) (name : List ℕ) → is_doubtful (bounds_stand t name) ≡ false → is_given (bounds_stand t name) ≡ true
+bounds_given t name k = by_names (bytes_eq name (codes "FIRST")) (bytes_eq name (codes "LAST")) k
+  where
+    by_names : (a b : Bool) → is_doubtful (cond a (bound_stands t t.first) (cond b (bound_stands t t.last) standing.Doubtful)) ≡ false
+        → is_given (cond a (bound_stands t t.first) (cond b (bound_stands t t.last) standing.Doubtful)) ≡ true
+    by_names true b h = refl
+    by_names false true h = refl
+    by_names false false h = absurd cc
+
+array_given : (index : Subtype) (many : ℕ) (name : List ℕ) → is_doubtful (array_attribute index many name) ≡ false
+    → is_given (array_attribute index many name) ≡ true
+array_given index many name k = by_name (bytes_eq name (codes "LENGTH")) (bounds_given index name) k
+  where
+    by_name : (b : Bool) → (is_doubtful (bounds_stand index name) ≡ false → is_given (bounds_stand index name) ≡ true)
+        → is_doubtful (cond b (standing.Plain (pos many)) (bounds_stand index name)) ≡ false
+        → is_given (cond b (standing.Plain (pos many)) (bounds_stand index name)) ≡ true
+    by_name true later h = refl
+    by_name false later h = later h
+
+object_given : (o : Option TypeForm) (name : List ℕ) → is_doubtful (object_attribute o name) ≡ false → is_given (object_attribute o name) ≡ true
+object_given (Some (Arrays index many element)) name h = array_given index many name h
+object_given o name h = absurd cc
+
+subtype_given : (t : Subtype) (o : Option TypeForm) (name : List ℕ) → is_doubtful (subtype_attribute t o name) ≡ false
+    → is_given (subtype_attribute t o name) ≡ true
+subtype_given t (Some Integers) name h = bounds_given t name h
+subtype_given t (Some (Arrays index many element)) name h = array_given index many name h
+subtype_given t o name h = absurd cc
+
+attribute_given : (s : Scope) (w : Standing) (name : Identifier) → is_doubtful (select s w (Attribute name)) ≡ false
+    → is_given (select s w (Attribute name)) ≡ true
+attribute_given s (standing.Part r t) name h = object_given (form_at s t.type_number) name.name h
+attribute_given s (standing.Fixed t v) name h = object_given (form_at s t.type_number) name.name h
+attribute_given s (standing.Named t) name h = subtype_given t (form_at s t.type_number) name.name h
+attribute_given s w name h = absurd cc
+
+-- ---- what is no object
+
+abbrev not_object : Standing → Type 0
+not_object w = is_object w ≡ false
+
+conversion_other : (t : Subtype) (o : Option TypeForm) (b : Bool) → not_object (conversion_stands t o b)
+conversion_other t (Some Integers) true = refl
+conversion_other t o b = refl
+
+bounds_other : (t : Subtype) (name : List ℕ) → not_object (bounds_stand t name)
+bounds_other t name = by_names (bytes_eq name (codes "FIRST")) (bytes_eq name (codes "LAST"))
+  where
+    by_names : (a b : Bool) → not_object (cond a (bound_stands t t.first) (cond b (bound_stands t t.last) standing.Doubtful))
+    by_names true b = refl
+    by_names false true = refl
+    by_names false false = refl
+
+array_other : (index : Subtype) (many : ℕ) (name : List ℕ) → not_object (array_attribute index many name)
+array_other index many name = by_name (bytes_eq name (codes "LENGTH")) (bounds_other index name)
+  where
+    by_name : (b : Bool) → not_object (bounds_stand index name) → not_object (cond b (standing.Plain (pos many)) (bounds_stand index name))
+    by_name true h = refl
+    by_name false h = h
+
+subtype_other : (t : Subtype) (o : Option TypeForm) (name : List ℕ) → not_object (subtype_attribute t o name)
+subtype_other t (Some Integers) name = bounds_other t name
+subtype_other t (Some (Arrays index many element)) name = array_other index many name
+subtype_other t o name = refl
+
+result_other : (r : Option Subtype) → not_object (result_stands r)
+result_other (Some t) = refl
+result_other None = refl
+
+call_other : (o : Option Profile) → not_object (call_stands o)
+call_other (Some p) = result_other p.result
+call_other None = refl
+
+called_other : (n : ℕ) (o : Option ℕ) → not_object (called_operation n o)
+called_other n (Some k) = refl
+called_other n None = refl
+
+operation_other : (n : ℕ) (o : Option ProtectedObject) (name : List ℕ) → not_object (operation_stands n o name)
+operation_other n (Some p) name = called_other n _
+operation_other n None name = refl
+
+module _ (s : Scope) (sound : SoundScope s) where
+  contrary : (w : Standing) → not_object w → is_object w ≡ true → ⊥
+  contrary w h k = let never = sym h ∙ k in cc
+
+  -- a part that is an object is one of an object
+  part_selected : (place : ℕ) (w : Standing) (x : SelectorTree) → Good s w → part_rule s place w x ≡ [] → is_object (select s w x) ≡ true
+      → is_object w ≡ true
+  part_selected place (standing.Part r t) x g h is = refl
+  part_selected place (standing.Fixed t v) x g h is = absurd (no_constant_parts s sound place t v x g h)
+  part_selected place (standing.Named t) (Component name) g h is = absurd cc
+  part_selected place (standing.Named t) (Arguments a) g h is = absurd (contrary _ (conversion_other t (form_at s t.type_number) (is_single a)) is)
+  part_selected place (standing.Named t) (Attribute name) g h is = absurd (contrary _ (subtype_other t (form_at s t.type_number) name.name) is)
+  part_selected place (standing.Callee f) (Component name) g h is = absurd cc
+  part_selected place (standing.Callee f) (Arguments a) g h is = absurd (contrary _ (call_other (callee_profile s f)) is)
+  part_selected place (standing.Callee f) (Attribute name) g h is = absurd cc
+  part_selected place standing.Put (Component name) g h is = absurd cc
+  part_selected place standing.Put (Arguments a) g h is = absurd cc
+  part_selected place standing.Put (Attribute name) g h is = absurd cc
+  part_selected place (standing.Protected n) (Component name) g h is = absurd (contrary _ (operation_other n (protected_at s n) name.name) is)
+  part_selected place (standing.Protected n) (Arguments a) g h is = absurd cc
+  part_selected place (standing.Protected n) (Attribute name) g h is = absurd cc
+  part_selected place (standing.Given t v) x g h is = absurd cc
+  part_selected place (standing.Plain z) x g h is = absurd cc
+  part_selected place standing.Statement x g h is = absurd cc
+  part_selected place standing.Task x g h is = absurd cc
+  part_selected place standing.Other x g h is = absurd cc
+  part_selected place standing.Doubtful x g h is = absurd g
+
+  part_settled : (w : Standing) → is_object (settle s w) ≡ true → is_object w ≡ true
+  part_settled (standing.Part r t) is = refl
+  part_settled (standing.Callee f) is = absurd (contrary _ (call_other (callee_profile s f)) is)
+  part_settled w is = absurd cc
+
+  -- ... so a name that is one begins with an object
+  object_begins : (place : ℕ) (all : SelectorTrees) (w : Standing) → Good s w → selectors_faults s place w all ≡ [] → is_object (select_all s w all) ≡ true
+      → is_object w ≡ true
+  object_begins place NoSelectors w g h is = part_settled w is
+  object_begins place (MoreSelectors x rest) w g h is =
+      let here = part_unbroken s sound place w x (front_empty (selector_faults s place w x) (selectors_faults s place (select s w x) rest) h) in
+      let later = back_empty (selector_faults s place w x) (selectors_faults s place (select s w x) rest) h in
+      part_selected place w x g here (object_begins place rest (select s w x) (good_select s sound place w x g here) later is)
+
+  -- nothing stands behind a known value
+  given_ends : (place : ℕ) (w : Standing) (rest : SelectorTrees) → Good s w → selectors_faults s place w rest ≡ [] → is_given w ≡ true
+      → fixed_value (select_all s w rest) ≡ None → ⊥
+  given_ends place (standing.Given t (Some v)) NoSelectors g h is none = absurd cc
+  given_ends place (standing.Plain z) NoSelectors g h is none = absurd cc
+  given_ends place (standing.Given t (Some v)) (MoreSelectors x rest) g h is none =
+      let w = standing.Given t (Some v) in
+      good_select s sound place w x g
+      (part_unbroken s sound place w x (front_empty (selector_faults s place w x) (selectors_faults s place (select s w x) rest) h))
+  given_ends place (standing.Plain z) (MoreSelectors x rest) g h is none =
+      let w = standing.Plain z in
+      good_select s sound place w x g
+      (part_unbroken s sound place w x (front_empty (selector_faults s place w x) (selectors_faults s place (select s w x) rest) h))
+  given_ends place w rest g h is none = absurd cc
+
+  -- a procedure's call is no value
+  procedure_ends : (place n : ℕ) (p : Profile) (all : SelectorTrees) (few : FewFormals s) → callee_profile s (callee.Direct n) ≡ Some p → p.result ≡ None
+      → Good s (standing.Callee (callee.Direct n)) → selectors_faults s place (standing.Callee (callee.Direct n)) all ≡ []
+      → select_all s (standing.Callee (callee.Direct n)) all ≡ standing.Statement
+  procedure_ends place n p NoSelectors few is none g h = ap call_stands is ∙ ap result_stands none
+  procedure_ends place n p (MoreSelectors (Arguments a) rest) few is none g h =
+      let w = standing.Callee (callee.Direct n) in
+      let ends : call_stands (callee_profile s (callee.Direct n)) ≡ standing.Statement = ap call_stands is ∙ ap result_stands none in
+      ap (λ u. select_all s u rest) ends ∙ statement_ends s sound few place rest
+      (subst (λ u. selectors_faults s place u rest ≡ []) ends
+      (back_empty (selector_faults s place w (Arguments a)) (selectors_faults s place (select s w (Arguments a)) rest) h))
+  procedure_ends place n p (MoreSelectors (Component name) rest) few is none g h =
+      let w = standing.Callee (callee.Direct n) in
+      absurd (good_select s sound place w (Component name) g
+      (front_empty (selector_faults s place w (Component name)) (selectors_faults s place (select s w (Component name)) rest) h))
+  procedure_ends place n p (MoreSelectors (Attribute name) rest) few is none g h =
+      let w = standing.Callee (callee.Direct n) in
+      absurd (good_select s sound place w (Attribute name) g
+      (front_empty (selector_faults s place w (Attribute name)) (selectors_faults s place (select s w (Attribute name)) rest) h))
+
+-- ---- what is visible
+
+stored_some : (o : Option visible.Slot) → is_stored o ≡ true → is_some o ≡ true
+stored_some (Some x) h = refl
+stored_some None h = absurd cc
+
+module _ (exceptions : List (List ℕ)) (v : Visible) (cover : IsCovered exceptions v) where
+  abbrev s : Scope
+  s = v.scope
+
+  -- ---- what a name with a value begins with
+
+  module _ (first : Identifier) (selectors : SelectorTrees) (legal : IsLegalExpression s (Named first selectors)) (x : IsNamed s first.name) where
+    abbrev start : Standing
+    start = stands_first s (number_of s first.name)
+
+    begins_is : (e : Entity) → x.entity ≡ e → start ≡ stands_for x.number (Some e)
+    begins_is e is = ap (stands_first s) x.numbered ∙ ap (stands_for x.number) (x.stands ∙ ap Some is)
+
+    entity_is : (e : Entity) → x.entity ≡ e → entity_named s first.name ≡ Some e
+    entity_is e is = ap (entity_at_or_none s) x.numbered ∙ x.stands ∙ ap Some is
+
+    profile_is : (p : Profile) → x.entity ≡ Subprogram p → profile_named s first.name ≡ Some p
+    profile_is p is = ap (profile_by s) x.numbered ∙ ap subprogram_profile (x.stands ∙ ap Some is)
+
+    operation_is : (e : Entity) → x.entity ≡ e → operation_named s first.name ≡ operation_of (Some e)
+    operation_is e is =
+        ap (λ o. elim o [ None ↦ None | Some n ↦ operation_of (entity_at s n) ]) x.numbered ∙ ap operation_of (x.stands ∙ ap Some is)
+
+    made_as : (w : Standing) → start ≡ w → is_made v first w ≡ true → is_made v first start ≡ true
+    made_as w is h = subst (λ u. is_made v first u ≡ true) (sym is) h
+
+    function_made : (p : Profile) → x.entity ≡ Subprogram p → (r : Option Subtype) → p.result ≡ r
+        → is_callable s (subprogram_of v first.name) (Some p) ≡ true
+    function_made p is None none =
+        let path = value_path s cover.sound cover.formals first selectors legal in
+        let w = standing.Callee (callee.Direct x.number) in
+        let here : start ≡ w = begins_is (Subprogram p) is in
+        let called : callee_profile s (callee.Direct x.number) ≡ Some p = ap profile_of (x.stands ∙ ap Some is) in
+        absurd (path.ends (ap (λ u. select_all s u selectors) here
+        ∙ procedure_ends s cover.sound first.place x.number p selectors cover.formals called none (subst (Good s) here path.good)
+        (subst (λ u. selectors_faults s first.place u selectors ≡ []) here path.unbroken)))
+    function_made p is (Some t) given =
+        let there = profile_is p is in
+        let called : callee_profile s (callee.Direct x.number) ≡ Some p = ap profile_of (x.stands ∙ ap Some is) in
+        and_from (is_called s (subprogram_of v first.name) p) (are_passable s p.formals)
+        (and_from (is_some (subprogram_of v first.name)) (refusing.is_single s p.result) (cover.numbered first.name p there)
+        (ap (refusing.is_single s) given ∙ single_result s t (cover.results first.name p t there given)))
+        (formals_passable s p.formals ((cover.formals (callee.Direct x.number) p called).scalar t given))
+
+    by_entity : (e : Entity) → x.entity ≡ e → is_made v first start ≡ true
+    by_entity (Object r t) is =
+        let here = begins_is (Object r t) is in
+        made_as (standing.Part r t) here (stored_some (slot_of v first.name) (cover.stored first.name r t here))
+    by_entity (OfType form t) is = made_as (standing.Named t) (begins_is (OfType form t) is) refl
+    by_entity (OfSubtype t) is = made_as (standing.Named t) (begins_is (OfSubtype t) is) refl
+    by_entity (Constant t c) is = made_as (standing.Fixed t c) (begins_is (Constant t c) is) refl
+    by_entity (Literal b) is = made_as (stands_for x.number (Some (Literal b))) (begins_is (Literal b) is) refl
+    by_entity Exception is = made_as standing.Other (begins_is Exception is) refl
+    by_entity (Subprogram p) is =
+        made_as (standing.Callee (callee.Direct x.number)) (begins_is (Subprogram p) is)
+        (or_right (is_some (operation_named s first.name)) (is_callable s (subprogram_of v first.name) (profile_named s first.name))
+        (ap (is_callable s (subprogram_of v first.name)) (profile_is p is) ∙ function_made p is p.result refl))
+    by_entity (Entry p) is = absurd (cover.without_entries first.name p (entity_is (Entry p) is))
+    by_entity (Predefined o p) is =
+        made_as (standing.Callee (callee.Direct x.number)) (begins_is (Predefined o p) is)
+        (ap (λ q. is_some q || is_callable s (subprogram_of v first.name) (profile_named s first.name)) (operation_is (Predefined o p) is))
+    by_entity Put is = made_as standing.Put (begins_is Put is) refl
+    by_entity (Task priority) is = made_as standing.Task (begins_is (Task priority) is) refl
+    by_entity (Protected o) is = absurd (cover.unprotected first.name x.number (begins_is (Protected o) is))
+    by_entity LibraryUnit is = made_as standing.Other (begins_is LibraryUnit is) refl
+    by_entity Doubtful is = made_as standing.Doubtful (begins_is Doubtful is) refl
+
+  pub name_visible : (first : Identifier) (selectors : SelectorTrees) → name_faults s first selectors ≡ [] → is_visible s first.name ≡ true
+  name_visible first selectors h =
+      not_false (is_visible s first.name) (unbroken NAME_NOT_VISIBLE first.place (not (is_visible s first.name))
+      (front_empty (rule NAME_NOT_VISIBLE first.place (not (is_visible s first.name)))
+      (selectors_faults s first.place (stands_first s (number_of s first.name)) selectors) h))
+
+  value_name : (first : Identifier) (selectors : SelectorTrees) → IsLegalExpression s (Named first selectors) → name_faults s first selectors ≡ []
+  value_name first selectors legal =
+      front_empty (name_faults s first selectors) (value_rule first.place (standing_of s first selectors)) legal.unbroken
+
+  named_made : (first : Identifier) (selectors : SelectorTrees) → IsLegalExpression s (Named first selectors)
+      → (fixed_value (standing_of s first selectors) ≡ None → selectors_outside v selectors ≡ false) → is_outside v (Named first selectors) ≡ false
+  named_made first selectors legal parts = by_value (fixed_value (standing_of s first selectors)) refl
+    where
+      by_value : (o : Option Scalar) → fixed_value (standing_of s first selectors) ≡ o
+          → (is_none o && (not (is_made v first (stands_first s (number_of s first.name))) || selectors_outside v selectors)) ≡ false
+      by_value (Some c) is = refl
+      by_value None is =
+          let x = named s first.name (name_visible first selectors (value_name first selectors legal)) in
+          or_from (not (is_made v first (stands_first s (number_of s first.name)))) (selectors_outside v selectors)
+          (ap not (by_entity first selectors legal x x.entity refl)) (parts is)
+
+  -- ---- all expressions
+
+  mutual
+    pub expression_made : (e : ExprTree) → IsLegalExpression s e → is_outside v e ≡ false
+    expression_made (tree.Number z place) h = refl
+    expression_made (Named first selectors) h =
+        named_made first selectors h
+        (λ none. let begun = name_begins s cover.sound cover.formals first selectors (value_name first selectors h) in
+        path_made first.place (begins s cover.sound cover.formals first selectors) selectors begun.0 begun.1 none)
+    expression_made (Parenthesized place e) h = expression_made e (inside_legal s cover.sound place e h)
+    expression_made (tree.Unary o place e) h = expression_made e (legal_operand s o place e h)
+    expression_made (tree.Binary o a b) h =
+        or_from (is_outside v a) (is_outside v b) (expression_made a (legal_left s o a b h)) (expression_made b (legal_right s o a b h))
+    expression_made (Conditional place condition value elsifs last) h =
+        let parts = conditional_parts s cover.sound place condition value elsifs last h in
+        or_from (is_outside v condition) (is_outside v value || (elsifs_outside v elsifs || is_outside v last))
+        (expression_made condition parts.condition_legal)
+        (or_from (is_outside v value) (elsifs_outside v elsifs || is_outside v last) (expression_made value parts.value_legal)
+        (or_from (elsifs_outside v elsifs) (is_outside v last) (elsifs_made parts.wanted elsifs parts.others) (expression_made last parts.last_legal)))
+
+    elsifs_made : (w : Wanted) (elsifs : ElsifValueTrees) → elsif_faults s w elsifs ≡ [] → elsifs_outside v elsifs ≡ false
+    elsifs_made w NoElsifValues h = refl
+    elsifs_made w (MoreElsifValues condition value rest) h =
+        let c = faults_of s boolean_wanted condition in
+        let f = faults_of s w value in
+        let m = elsif_faults s w rest in
+        let two = front_empty (c ++ f) m h in
+        or_from (is_outside v condition) (is_outside v value || elsifs_outside v rest)
+        (expression_made condition (legal_of s cover.sound boolean_wanted condition (front_empty c f two)))
+        (or_from (is_outside v value) (elsifs_outside v rest) (expression_made value (legal_of s cover.sound w value (back_empty c f two)))
+        (elsifs_made w rest (back_empty (c ++ f) m h)))
+
+    -- the parts of a name without a known value
+    path_made : (place : ℕ) (w : Standing) (all : SelectorTrees) → Good s w → selectors_faults s place w all ≡ [] → fixed_value (select_all s w all) ≡ None
+        → selectors_outside v all ≡ false
+    path_made place w NoSelectors g h none = refl
+    path_made place w (MoreSelectors (Component name) rest) g h none =
+        let x = Component name in
+        let here = part_unbroken s cover.sound place w x (front_empty (selector_faults s place w x) (selectors_faults s place (select s w x) rest) h) in
+        path_made place (select s w x) rest (good_select s cover.sound place w x g here)
+        (back_empty (selector_faults s place w x) (selectors_faults s place (select s w x) rest) h) none
+    path_made place w (MoreSelectors (Arguments all) rest) g h none =
+        let x = Arguments all in
+        let whole = front_empty (selector_faults s place w x) (selectors_faults s place (select s w x) rest) h in
+        or_from (arguments_outside v all) (selectors_outside v rest)
+        (arguments_made w 0 all (back_empty (part_rule s place w x) (arguments_faults s w 0 all) whole))
+        (path_made place (select s w x) rest (good_select s cover.sound place w x g (part_unbroken s cover.sound place w x whole))
+        (back_empty (selector_faults s place w x) (selectors_faults s place (select s w x) rest) h) none)
+    path_made place w (MoreSelectors (Attribute name) rest) g h none =
+        let x = Attribute name in
+        let here = part_unbroken s cover.sound place w x (front_empty (selector_faults s place w x) (selectors_faults s place (select s w x) rest) h) in
+        let good = good_select s cover.sound place w x g here in
+        absurd (given_ends s cover.sound place (select s w x) rest good
+        (back_empty (selector_faults s place w x) (selectors_faults s place (select s w x) rest) h)
+        (attribute_given s w name (good_sure s (select s w x) good)) none)
+
+    arguments_made : (w : Standing) (k : ℕ) (all : ArgumentTrees) → arguments_faults s w k all ≡ [] → arguments_outside v all ≡ false
+    arguments_made w k NoArguments h = refl
+    arguments_made w k (MoreArguments a rest) h =
+        let here = argument_faults s (slot_at s w k) a in
+        let more = arguments_faults s w (suc k) rest in
+        or_from (argument_outside v a) (arguments_outside v rest) (argument_made (slot_at s w k) a (front_empty here more h))
+        (arguments_made w (suc k) rest (back_empty here more h))
+
+    argument_made : (slot : Slot) (a : ArgumentTree) → argument_faults s slot a ≡ [] → argument_outside v a ≡ false
+    argument_made slot (Value e) h =
+        expression_made e (record { wanted = slot_wanted slot; unbroken = front_empty (faults_in s (slot_wanted slot) e) (slot_rule s slot e (own_of s e)) h })
+    argument_made slot (Text label place) h = refl
+
+  -- where this is expected
+  pub wanted_made : (w : Wanted) (e : ExprTree) → faults_of s w e ≡ [] → is_outside v e ≡ false
+  wanted_made w e h = expression_made e (legal_of s cover.sound w e h)
+
+  -- ---- objects that are named, or parts of them
+
+  module _ (first : Identifier) (path : SelectorTrees) (h : name_faults s first path ≡ []) (is : is_object (standing_of s first path) ≡ true) where
+    abbrev origin : Standing
+    origin = begins s cover.sound cover.formals first path
+
+    begins_object : is_object origin ≡ true
+    begins_object =
+        let begun = name_begins s cover.sound cover.formals first path h in object_begins s cover.sound first.place path origin begun.0 begun.1 is
+
+    -- its words have a place
+    pub slot_held : is_stored (slot_of v first.name) ≡ true
+    slot_held = by_origin origin refl begins_object
+      where
+        by_origin : (w : Standing) → origin ≡ w → is_object w ≡ true → is_stored (slot_of v first.name) ≡ true
+        by_origin (standing.Part r t) here k = cover.stored first.name r t here
+        by_origin w here k = absurd cc
+
+    no_value : (w : Standing) → is_object w ≡ true → fixed_value w ≡ None
+    no_value (standing.Part r t) k = refl
+    no_value w k = absurd cc
+
+    pub address_made : (depth : ℕ) → (address_needs depth v first path).outside ≡ false
+    address_made depth =
+        let begun = name_begins s cover.sound cover.formals first path h in
+        or_from (not (is_object origin && is_stored (slot_of v first.name))) (selectors_outside v path)
+        (ap not (and_from (is_object origin) (is_stored (slot_of v first.name)) begins_object slot_held))
+        (path_made first.place origin path begun.0 begun.1 (no_value (standing_of s first path) is))
+
+  -- what is named, of a known subtype
+  pub record IsTarget (w : Standing) : Type 0 where
+    pub role : Role
+    pub subtype : Subtype
+    pub is : w ≡ standing.Part role subtype
+    pub known : IsKnown s subtype
+
+  pub target_named : (place : ℕ) (wanted : Wanted) (w : Standing) → Good s w → variable_rule s place wanted w ≡ [] → IsTarget w
+  target_named place wanted (standing.Part r t) g h = record { role = r; subtype = t; is = refl; known = g }
+  target_named place wanted (standing.Fixed t c) g h =
+      absurd (let never = back_empty (mismatch s wanted (Typed t.type_number) place) (rule NOT_A_VARIABLE place true) h in cc)
+  target_named place wanted standing.Doubtful g h = absurd g
+  target_named place wanted w g h = absurd cc
+
+  pub name_target : (first : Identifier) (path : SelectorTrees) (wanted : Wanted) → name_faults s first path ≡ []
+      → variable_rule s first.place wanted (standing_of s first path) ≡ [] → IsTarget (standing_of s first path)
+  name_target first path wanted h k =
+      let begun = name_begins s cover.sound cover.formals first path h in
+      target_named first.place wanted (standing_of s first path)
+      (good_all s cover.sound first.place path (begins s cover.sound cover.formals first path) begun.0 begun.1) k
+
+  pub target_object : (w : Standing) → IsTarget w → is_object w ≡ true
+  target_object w h = ap is_object h.is

@@ -1,0 +1,180 @@
+-- Code has first words for each variable of an accepted text: its given value is known, and takes words.
+use Rattle.std.proofs.Common.{◌≡◌, ℕ, zero, suc, ◌*◌, ◌≤◌, Bool, true, false, not, cond, List, [], ◌∷◌, ◌++◌, length, Option, Some, None, refl, sym, ap, ◌∙◌, subst, arith}
+use Rattle.std.specs.Prelude.{is_none, nat_eq, slice_get}
+use Rattle.std.proofs.lemmas.Bool.{and_parts, or_from}
+use Rattle.std.proofs.lemmas.Bool.Decides.{nat_tests}
+use Rattle.ada_tree.specs.ExpressionTree.{ExprTree}
+use Rattle.ada_tree.specs.StatementTree.{ObjectTree}
+use Rattle.ada_tree.specs.ProgramTree.{BodyItemTree, OfException, OfItem, OfObject, OfProtected, OfSubprogram, OfTask, OfType, ProgramTree, ProtectedBody, SubprogramBody, TaskBody}
+use Rattle.types.specs.declared.entity.Subtype.{Subtype}
+use Rattle.types.specs.Laws.{ValuesHaveWords}
+use Rattle.types.specs.Places.{Object}
+use Rattle.types.specs.Scopes.{Scope, base_range_of}
+use Rattle.types.specs.Shapes.{Grouped, MoreShapes, NoShapes, Repeated, Shape, Shapeless, Shapes, shape_of, value_words, words, words_of_parts}
+use Rattle.expr_soundness.specs.expr_rules.specs.Laws.{type_shape}
+use Rattle.expr_soundness.specs.expr_rules.specs.Faults.{rule}
+use Rattle.ada_link.specs.base.specs.declared.faults.TheConstants.{NOT_STATIC}
+use Rattle.expr_soundness.specs.expr_rules.proofs.TypedLaw.{back_empty, front_empty}
+use Rattle.expr_soundness.specs.type_rules.specs.ObjectRules.{fixed_faults, fixed_initial_faults, fixed_scalar}
+use Rattle.expr_soundness.specs.type_rules.specs.SubtypeNames.{declared_twice, subtype_faults, subtype_of}
+use Rattle.expr_soundness.specs.meaning.specs.Programs.{initial_value, items_among, object_named, program_of, subtype_named, variable, variables_among}
+use Rattle.expr_soundness.specs.Laws.{ScopesAreSound}
+use Rattle.expr_soundness.specs.SoundScopes.{IsKnown}
+use Rattle.checking.specs.ProgramRules.{IsLegal}
+use Rattle.program_soundness.specs.ravenscar.specs.ProgramRules.{IsRestricted}
+use Rattle.program_soundness.specs.step_soundness.specs.Objects.{AreSoundObjects, IsOf}
+use Rattle.program_soundness.specs.BodyLaws.{NamesAreKnown, PremisesHold}
+use Rattle.program_soundness.specs.ScopeLaws.{DeclarationsAreSound, ObjectsAreSound}
+use Rattle.program_soundness.specs.Fronts.{declared_in, front, start_in}
+use Rattle.program_soundness.proofs.BodyProfiles.{named_is, subtype_kept}
+use Rattle.program_soundness.proofs.Extending.{Extends}
+use Rattle.program_soundness.proofs.Listing.{same_some}
+use Rattle.program_soundness.proofs.Trees.{tree_package}
+use Rattle.program_soundness.proofs.Walked.{item_new, legal_at}
+use Rattle.program_soundness.proofs.Whole.{IsPackage, kept, known_subtype}
+use Rattle.ada_link.specs.part_code.specs.Needs.{lack_word, lacks_word}
+use Rattle.ada_link.specs.package_code.specs.Refusing.{is_outside_variable, lacks_first_words}
+use Rattle.source_laws.specs.Depths.{are_full, is_full}
+use Rattle.source_laws.proofs.FullShapes.{full_some}
+use Rattle.source_laws.proofs.LaterValues.{fixed_same, fixed_some}
+use Rattle.source_laws.proofs.VisibleWords.{behind_front}
+
+-- ---- shapes whose parts take words lack none
+
+mutual
+  full_lacks : (x : Shape) → is_full x ≡ true → lacks_word x ≡ false
+  full_lacks (Repeated many x) h = full_lacks x (and_parts (not (nat_eq (many * words x) 0)) (is_full x) h).1
+  full_lacks (Grouped parts) h = parts_lack parts (and_parts (not (nat_eq (words_of_parts parts) 0)) (are_full parts) h).1
+  full_lacks Shapeless h = cc
+  full_lacks x h = refl
+
+  parts_lack : (parts : Shapes) → are_full parts ≡ true → lack_word parts ≡ false
+  parts_lack NoShapes h = refl
+  parts_lack (MoreShapes name x rest) h =
+      let p = and_parts (is_full x) (are_full rest) h in or_from (lacks_word x) (lack_word rest) (full_lacks x p.0) (parts_lack rest p.1)
+
+not_zero : (n : ℕ) → 1 ≤ n → nat_eq n 0 ≡ false
+not_zero n h = grind (arith, nat_tests)
+
+-- ---- the objects of a list of declarations and bodies
+
+behind_sound : (s : Scope) (xs ys : List Object) → AreSoundObjects s (xs ++ ys) → AreSoundObjects s ys
+behind_sound s [] ys h = h
+behind_sound s (x ∷ xs) ys h = behind_sound s xs ys h.1
+
+-- the initial value of a variable is of its type
+abbrev IsItemSound : Scope → BodyItemTree → Type 0
+IsItemSound s (OfItem (OfObject d)) =
+    d.constant ≡ false → IsOf s (subtype_named s d.subtype).type_number (initial_value s (subtype_named s d.subtype) d.value)
+IsItemSound s x = Unit {0}
+
+object_sound : (s : Scope) (d : ObjectTree) (xs : List Object) → AreSoundObjects s (variable s d ++ xs) → IsItemSound s (OfItem (OfObject d))
+object_sound s d xs h constant = by_constant d.constant h constant
+  where
+    by_constant : (b : Bool) → AreSoundObjects s (cond b [] (object_named s d.name d.subtype d.value ∷ []) ++ xs) → b ≡ false
+        → IsOf s (subtype_named s d.subtype).type_number (initial_value s (subtype_named s d.subtype) d.value)
+    by_constant true k c = cc
+    by_constant false k c = k.0
+
+first_sound : (s : Scope) (x : BodyItemTree) (rest : List BodyItemTree) → AreSoundObjects s (variables_among s (items_among (x ∷ rest)))
+    → IsItemSound s x × AreSoundObjects s (variables_among s (items_among rest))
+first_sound s (OfItem (OfObject d)) rest h =
+    let others = variables_among s (items_among rest) in (object_sound s d others h, behind_sound s (variable s d) others h)
+first_sound s (OfItem (OfType d)) rest h = (tt, h)
+first_sound s (OfItem (OfException name)) rest h = (tt, h)
+first_sound s (OfItem (OfSubprogram d)) rest h = (tt, h)
+first_sound s (OfItem (OfTask d)) rest h = (tt, h)
+first_sound s (OfItem (OfProtected d)) rest h = (tt, h)
+first_sound s (SubprogramBody d b) rest h = (tt, h)
+first_sound s (TaskBody name b) rest h = (tt, h)
+first_sound s (ProtectedBody name items end_name) rest h = (tt, h)
+
+item_sound : (s : Scope) (xs : List BodyItemTree) (k : ℕ) (x : BodyItemTree) → slice_get xs k ≡ Some x
+    → AreSoundObjects s (variables_among s (items_among xs))
+    → IsItemSound s x
+item_sound s [] k x at h = cc
+item_sound s (y ∷ rest) zero x at h = subst (IsItemSound s) (same_some y x at) (first_sound s y rest h).0
+item_sound s (y ∷ rest) (suc k) x at h = item_sound s rest k x at (first_sound s y rest h).1
+
+-- ---- variables of a text
+
+module _ (premises : PremisesHold) (names : NamesAreKnown) (scopes : ScopesAreSound) (declarations : DeclarationsAreSound) (objects : ObjectsAreSound)
+    (sized : ValuesHaveWords) (t : ProgramTree) (legal : IsLegal t) (restricted : IsRestricted t)
+    (full : (u : Subtype) → IsKnown (program_of t).scope u → is_full (shape_of (program_of t).scope u) ≡ true) where
+  abbrev all : List BodyItemTree
+  all = declared_in t.package_
+
+  abbrev start : Scope
+  start = start_in t.package_
+
+  abbrev whole : Scope
+  whole = (program_of t).scope
+
+  abbrev w : IsPackage (program_of t) start all
+  w = tree_package t legal restricted (premises t legal).sound
+
+  whole_extends : (place : ℕ) → Extends (front t place) whole
+  whole_extends place = let more = behind_front t place in (more.0, sym w.scope ∙ more.1)
+
+  module _ (place : ℕ) (d : ObjectTree) (at : slice_get all place ≡ Some (OfItem (OfObject d))) (variable_ : d.constant ≡ false) where
+    abbrev here : Scope
+    here = front t place
+
+    judged_here : subtype_faults here d.subtype ++ fixed_initial_faults here d ++ declared_twice here d.name ≡ []
+    judged_here = legal_at start all place (OfItem (OfObject d)) at w.list.legal
+
+    named_there : subtype_faults here d.subtype ≡ []
+    named_there =
+        front_empty (subtype_faults here d.subtype) (fixed_initial_faults here d)
+        (front_empty (subtype_faults here d.subtype ++ fixed_initial_faults here d) (declared_twice here d.name) judged_here)
+
+    initial_legal : fixed_initial_faults here d ≡ []
+    initial_legal =
+        back_empty (subtype_faults here d.subtype) (fixed_initial_faults here d)
+        (front_empty (subtype_faults here d.subtype ++ fixed_initial_faults here d) (declared_twice here d.name) judged_here)
+
+    told : (u : Subtype) × (subtype_of here d.subtype ≡ Some u)
+    told = known_subtype (program_of t) start all w place d.subtype named_there
+
+    abbrev u : Subtype
+    u = told.0
+
+    named_whole : subtype_of whole d.subtype ≡ Some u
+    named_whole = subtype_kept here whole (kept (program_of t) start all w place) d.subtype u told.1
+
+    known_whole : IsKnown whole u
+    known_whole = scopes.subtype whole d.subtype u (premises t legal).sound named_whole
+
+    -- a given value is known
+    value_known : (e : ExprTree) → d.value ≡ Some e → is_none (fixed_scalar whole (Some u) e) ≡ false
+    value_known e is =
+        let given : fixed_faults here (Some u) e ≡ [] =
+        ap (λ o. fixed_faults here o e) (sym told.1)
+        ∙ sym (ap (λ o. elim o [ Some v ↦ fixed_faults here (subtype_of here d.subtype) v | None ↦ rule NOT_STATIC d.name.place d.constant ]) is) ∙ initial_legal in
+        let some =
+        fixed_some declarations here ((names t legal restricted).fronts place) d.name d.subtype u e (item_new here (OfObject d) judged_here) named_there told.1
+        given in
+        ap is_none (fixed_same here whole (whole_extends place) ((names t legal restricted).fronts place) u e given ∙ some.1)
+
+    first_words : lacks_first_words whole u d.value ≡ false
+    first_words = by_value d.value refl
+      where
+        by_value : (o : Option ExprTree) → d.value ≡ o → lacks_first_words whole u o ≡ false
+        by_value None is = full_lacks (shape_of whole u) (full u known_whole)
+        by_value (Some e) is = value_known e is
+
+    -- it takes words
+    takes_words : nat_eq (length (value_words (initial_value whole u d.value))) 0 ≡ false
+    takes_words =
+        let same = named_is whole d.subtype u named_whole in
+        let suited : IsOf whole u.type_number (initial_value whole u d.value) =
+        subst (λ v. IsOf whole v.type_number (initial_value whole v d.value)) same
+        (item_sound whole all place (OfItem (OfObject d)) at (subst (AreSoundObjects whole) w.variables (objects.variables t legal)) variable_) in
+        let own = (sized (type_shape whole u.type_number) (initial_value whole u d.value) suited).sized in
+        let some = full_some (type_shape whole u.type_number) (full (base_range_of u.type_number) known_whole) in
+        not_zero (length (value_words (initial_value whole u d.value))) (omega (arith, own, some))
+
+    pub variable_inside : is_outside_variable whole (subtype_of whole d.subtype) d.value ≡ false
+    variable_inside =
+        ap (λ o. is_outside_variable whole o d.value) named_whole
+        ∙ or_from (lacks_first_words whole u d.value) (nat_eq (length (value_words (initial_value whole u d.value))) 0) first_words takes_words
