@@ -28,7 +28,7 @@ use Rattle.ada_link.specs.stmt_code.specs.Refusing.{behind_locals, handlers_need
 use Rattle.ada_link.specs.stmt_code.specs.Refusing as code
 use Rattle.ada_link.specs.stmt_code.specs.WholeRefusals.{formals_placed, formals_visible, from_behind, out_behind, placed_formals, placed_if}
 use Rattle.ada_link.specs.stmt_code.proofs.Refused.{locals_seen}
-use Rattle.source_laws.specs.Covered.{FunctionsAreCovered, IsCovered, ProceduresAreCovered}
+use Rattle.source_laws.specs.Covered.{FunctionsAreCovered, HasWhatCodeNeeds, ProceduresAreCovered}
 use Rattle.source_laws.specs.Depths.{TypesAreFull, is_scalar_form}
 use Rattle.source_laws.proofs.CoverNames.{scalar_passable, wanted_made}
 use Rattle.source_laws.proofs.CoverScopes.{covered_formals, formals_named}
@@ -68,7 +68,7 @@ module _ (s : Scope) (sound : SoundScope s) where
 
 -- ---- what stands between the formals and the end
 
-run_made : (exceptions : List (List ℕ)) (v : Visible) (taken : ℕ) (kind : BodyKind) (b : BodyTree) → IsCovered exceptions v
+run_made : (exceptions : List (List ℕ)) (v : Visible) (taken : ℕ) (kind : BodyKind) (b : BodyTree) → HasWhatCodeNeeds exceptions v
     → ((t : Option ℕ) → kind ≢ kinds.Function t) → body_faults v.scope kind b ≡ [] → restrictions.body_faults b ≡ []
     → (run_needs v taken exceptions b.declarations b.statements b.handlers).outside ≡ false
 run_made exceptions v taken kind b cover gives_nothing k r =

@@ -36,7 +36,7 @@ use Rattle.ada_link.specs.part_code.specs.Lines.{is_put, line_behind, line_in, l
 use Rattle.ada_link.specs.part_code.specs.Passing.{actuals_behind, holds_variables}
 use Rattle.ada_link.specs.part_code.specs.Needs.{actual_needs, actuals_needs, address_needs, call_needs, called_needs, copies_needs, destination_at, destinations_for, destinations_of, is_object, is_taken, line_needs, passed_needs, put_needs}
 use Rattle.ada_link.specs.part_code.specs.declared.call.Destination.{Destination}
-use Rattle.source_laws.specs.Covered.{IsCovered}
+use Rattle.source_laws.specs.Covered.{HasWhatCodeNeeds}
 use Rattle.source_laws.proofs.CoverNames.{IsTarget, address_made, known_taken, name_target, name_visible, slot_held, target_object, wanted_made}
 use Rattle.source_laws.proofs.CoverScopes.{placed}
 use Rattle.source_laws.proofs.NamedCalls.{SlotsFrom, arguments_legal, begins_there, called, first_slot, later_slots, profile_is, slots_are}
@@ -167,7 +167,7 @@ copies_made v [] h = refl
 copies_made v (d ∷ ds) h =
     or_from (not (holds_variables d.region && is_taken v.scope d.subtype)) (copies_needs v ds).outside (ap not h.0) (copies_made v ds h.1)
 
-module _ (exceptions : List (List ℕ)) (v : Visible) (cover : IsCovered exceptions v) where
+module _ (exceptions : List (List ℕ)) (v : Visible) (cover : HasWhatCodeNeeds exceptions v) where
   abbrev s : Scope
   s = v.scope
 

@@ -41,7 +41,7 @@ use Rattle.ada_link.specs.expr_code.specs.declared.visible.Visible.{Visible}
 use Rattle.ada_link.specs.expr_code.proofs.Legal.{legal_left, legal_operand, legal_right}
 use Rattle.ada_link.specs.expr_code.proofs.Widths.{words_by_type}
 use Rattle.ada_link.specs.part_code.specs.Needs.{address_needs, is_object, is_stored, is_taken}
-use Rattle.source_laws.specs.Covered.{IsCovered}
+use Rattle.source_laws.specs.Covered.{HasWhatCodeNeeds}
 use Rattle.source_laws.specs.Depths.{AreScalar, FewFormals, is_scalar_form}
 use Rattle.source_laws.proofs.NeedsScopes.{profile_by}
 use Rattle.source_laws.proofs.PeakSlots.{begins, name_begins, scalar_words, statement_ends, value_path}
@@ -263,7 +263,7 @@ stored_some : (o : Option visible.Slot) → is_stored o ≡ true → is_some o �
 stored_some (Some x) h = refl
 stored_some None h = absurd cc
 
-module _ (exceptions : List (List ℕ)) (v : Visible) (cover : IsCovered exceptions v) where
+module _ (exceptions : List (List ℕ)) (v : Visible) (cover : HasWhatCodeNeeds exceptions v) where
   abbrev s : Scope
   s = v.scope
 

@@ -36,7 +36,7 @@ use Rattle.ada_link.specs.part_code.specs.Formals.{no_subprogram, slot_for}
 use Rattle.ada_link.specs.part_code.specs.Needs.{is_stored, local_visible, with_object}
 use Rattle.ada_link.specs.stmt_code.specs.WholeRefusals.{formals_visible, from_behind, out_behind, placed_as, placed_formals, placed_if}
 use Rattle.ada_link.specs.part_code.specs.Bounds.{words_named}
-use Rattle.source_laws.specs.Covered.{AreLegalFormals, IsCovered}
+use Rattle.source_laws.specs.Covered.{AreLegalFormals, HasWhatCodeNeeds}
 use Rattle.source_laws.specs.Covered as covered
 use Rattle.source_laws.specs.Depths.{is_full, is_scalar_form}
 use Rattle.source_laws.proofs.NeedsFormals.{AreNamed, IsBehind, formal_known, named_there, one_behind, visible_there}
@@ -128,7 +128,7 @@ named_protected s name x h = by_number (number_of s name) h
 abbrev pub seen_by : Scope → List (Option Slot) → List (Option ℕ) → Visible
 seen_by s xs ys = record { scope = s; slots = xs; subprograms = ys }
 
-module _ (exceptions : List (List ℕ)) (s : Scope) (xs : List (Option Slot)) (ys : List (Option ℕ)) (cover : IsCovered exceptions (seen_by s xs ys))
+module _ (exceptions : List (List ℕ)) (s : Scope) (xs : List (Option Slot)) (ys : List (Option ℕ)) (cover : HasWhatCodeNeeds exceptions (seen_by s xs ys))
     (name : List ℕ) (r : Role) (t : Subtype) (x : Slot) (held : is_stored (Some x) ≡ true) where
   abbrev own : Named
   own = object_named name r t
@@ -191,7 +191,7 @@ module _ (exceptions : List (List ℕ)) (s : Scope) (xs : List (Option Slot)) (y
   no_entry : (other : List ℕ) (p : Profile) → entity_named wider other ≡ Some (Entry p) → ⊥
   no_entry other p h = elim (before other (Entry p) h) [ inl i ↦ cover.without_entries other p i | inr i ↦ (let never = i.0 in absurd cc) ]
 
-  pub covered_behind : IsSoundObject s r t → IsCovered exceptions (seen_by wider slots subprograms)
+  pub covered_behind : IsSoundObject s r t → HasWhatCodeNeeds exceptions (seen_by wider slots subprograms)
   covered_behind object =
       record {
         sound = sound_with_object s name r t cover.sound object;
@@ -213,29 +213,29 @@ module _ (exceptions : List (List ℕ)) (s : Scope) (xs : List (Option Slot)) (y
       }
 
   -- a name that was not visible
-  pub covered_with : IsSoundObject s r t → is_visible s name ≡ false → IsCovered exceptions (seen_by (with_name s name (Object r t)) slots subprograms)
+  pub covered_with : IsSoundObject s r t → is_visible s name ≡ false → HasWhatCodeNeeds exceptions (seen_by (with_name s name (Object r t)) slots subprograms)
   covered_with object hidden =
       let is : with_name s name (Object r t) ≡ wider = ap (λ b. cond b s wider) hidden in
-      subst (λ u. IsCovered exceptions (seen_by u slots subprograms)) (sym is) (covered_behind object)
+      subst (λ u. HasWhatCodeNeeds exceptions (seen_by u slots subprograms)) (sym is) (covered_behind object)
 
 -- ---- declarations of objects, and loop parameters
 
 pub new_name : (s : Scope) (name : Identifier) → declared_twice s name ≡ [] → is_visible s name.name ≡ false
 new_name s name h = unbroken DECLARED_TWICE name.place (is_visible s name.name) h
 
-module _ (exceptions : List (List ℕ)) (v : Visible) (cover : IsCovered exceptions v) (taken : ℕ) where
+module _ (exceptions : List (List ℕ)) (v : Visible) (cover : HasWhatCodeNeeds exceptions v) (taken : ℕ) where
   abbrev here : Slot
   here = record { region = regions.Locals; offset = taken }
 
   pub covered_local : (d : ObjectTree) (t : Subtype) → subtype_of v.scope d.subtype ≡ Some t → declared_twice v.scope d.name ≡ []
-      → IsCovered exceptions (local_visible v taken (LocalObject d))
+      → HasWhatCodeNeeds exceptions (local_visible v taken (LocalObject d))
   covered_local d t is new =
-      subst (λ o. IsCovered exceptions (with_object v (with_name v.scope d.name.name (object_entity (role_of d.constant) o)) taken)) (sym is)
+      subst (λ o. HasWhatCodeNeeds exceptions (with_object v (with_name v.scope d.name.name (object_entity (role_of d.constant) o)) taken)) (sym is)
       (covered_with exceptions v.scope v.slots v.subprograms cover d.name.name (role_of d.constant) t here refl
       (constant_or_variable v.scope d.constant t (subtype_known v.scope d.subtype t cover.sound is)) (new_name v.scope d.name new))
 
   pub covered_loop : (parameter : Identifier) (range : RangeTree) → loop_faults v.scope parameter range ≡ []
-      → IsCovered exceptions (with_object v (loop_scope v.scope parameter range) taken)
+      → HasWhatCodeNeeds exceptions (with_object v (loop_scope v.scope parameter range) taken)
   covered_loop parameter range h =
       let s = v.scope in
       let first = faults_of s AnyInteger range.first in
@@ -244,13 +244,13 @@ module _ (exceptions : List (List ℕ)) (v : Visible) (cover : IsCovered excepti
       let bounds = bounds_legal s cover.sound parameter range h in
       let found = bounds_known s (own_of s range.first) (own_of s range.last) (integral s cover.sound range.first bounds.first)
       (integral s cover.sound range.last bounds.last) (ap is_integers cover.sound.integer) in
-      subst (λ o. IsCovered exceptions (with_object v (with_name s parameter.name (parameter_entity o)) taken)) (sym found.1)
+      subst (λ o. HasWhatCodeNeeds exceptions (with_object v (with_name s parameter.name (parameter_entity o)) taken)) (sym found.1)
       (covered_with exceptions s v.slots v.subprograms cover parameter.name role.LoopParameter (base_range_of found.0) here refl found.2
       (new_name s parameter (back_empty (first ++ last ++ beside) (declared_twice s parameter) h)))
 
 -- ---- formals
 
-pub formals_named : (s : Scope) (fs : List Formal) → covered.AreNamed s fs → AreNamed s fs
+pub formals_named : (s : Scope) (fs : List Formal) → covered.NameSubtypes s fs → AreNamed s fs
 formals_named s [] h = tt
 formals_named s (f ∷ fs) h = (present (subtype_of s f.subtype) h.0, formals_named s fs h.1)
 
@@ -284,12 +284,12 @@ first_new u f fs h = by_test (is_visible u f.name.name) refl
 
 module _ (exceptions : List (List ℕ)) (s : Scope) where
   formals_covered : (fs : List Formal) (u : Scope) (xs : List (Option Slot)) (ys : List (Option ℕ)) (from out : ℕ) → IsBehind s u → AreNamed s fs
-      → IsCovered exceptions (seen_by u xs ys) → length (formals_scope u fs) ≡ length u + length fs
-      → IsCovered exceptions (seen_by (formals_scope u fs) (xs ++ map slot_for (placed_formals s from out fs))
+      → HasWhatCodeNeeds exceptions (seen_by u xs ys) → length (formals_scope u fs) ≡ length u + length fs
+      → HasWhatCodeNeeds exceptions (seen_by (formals_scope u fs) (xs ++ map slot_for (placed_formals s from out fs))
       (ys ++ map no_subprogram (placed_formals s from out fs)))
   formals_covered [] u xs ys from out h named cover long =
       let same : seen_by u (xs ++ []) (ys ++ []) ≡ seen_by u xs ys = λ j. seen_by u (append-nil xs j) (append-nil ys j) in
-      subst (IsCovered exceptions) (sym same) cover
+      subst (HasWhatCodeNeeds exceptions) (sym same) cover
   formals_covered (f ∷ fs) u xs ys from out h named cover long =
       let t = named.0.0 in
       let typed = subtype_known u f.subtype t cover.sound (named_there s u f t h named.0.1) in
@@ -299,8 +299,8 @@ module _ (exceptions : List (List ℕ)) (s : Scope) where
       let later = out_behind f.mode (words_named s f.subtype) out in
       let rest = placed_formals s next later fs in
       let visible = visible_there s u f t h named.0.1 in
-      let one : IsCovered exceptions (seen_by (formal_scope u f) (xs ++ slot_for x ∷ []) (ys ++ no_subprogram x ∷ [])) =
-      subst (λ w. IsCovered exceptions (seen_by w (xs ++ slot_for x ∷ []) (ys ++ no_subprogram x ∷ []))) (sym visible)
+      let one : HasWhatCodeNeeds exceptions (seen_by (formal_scope u f) (xs ++ slot_for x ∷ []) (ys ++ no_subprogram x ∷ [])) =
+      subst (λ w. HasWhatCodeNeeds exceptions (seen_by w (xs ++ slot_for x ∷ []) (ys ++ no_subprogram x ∷ []))) (sym visible)
       (covered_with exceptions u xs ys cover f.name.name (formal_role f.mode) t (record { region = regions.Locals; offset = x.offset }) refl
       (formal_known f.mode u t typed) new) in
       let longer : length (formal_scope u f) ≡ suc (length u) =
@@ -313,12 +313,12 @@ module _ (exceptions : List (List ℕ)) (s : Scope) where
       (ys ++ map no_subprogram (placed_if f.mode from out (Some t) rest)) =
       λ j. seen_by (formals_scope (formal_scope u f) fs) (append_assoc xs (slot_for x ∷ []) (map slot_for rest) j)
       (append_assoc ys (no_subprogram x ∷ []) (map no_subprogram rest) j) in
-      subst (λ o. IsCovered exceptions (seen_by (formals_scope (formal_scope u f) fs) (xs ++ map slot_for (placed_if f.mode from out o rest))
+      subst (λ o. HasWhatCodeNeeds exceptions (seen_by (formals_scope (formal_scope u f) fs) (xs ++ map slot_for (placed_if f.mode from out o rest))
       (ys ++ map no_subprogram (placed_if f.mode from out o rest)))) (sym named.0.1)
-      (subst (IsCovered exceptions) joined all)
+      (subst (HasWhatCodeNeeds exceptions) joined all)
 
-pub covered_formals : (exceptions : List (List ℕ)) (v : Visible) (fs : List Formal) → IsCovered exceptions v → AreLegalFormals v.scope fs
-    → IsCovered exceptions (formals_visible v fs)
+pub covered_formals : (exceptions : List (List ℕ)) (v : Visible) (fs : List Formal) → HasWhatCodeNeeds exceptions v → AreLegalFormals v.scope fs
+    → HasWhatCodeNeeds exceptions (formals_visible v fs)
 covered_formals exceptions v fs cover head =
     formals_covered exceptions v.scope fs v.scope v.slots v.subprograms 0 _ (record { more = []; is = sym (append-nil v.scope) })
     (formals_named v.scope fs head.named) cover head.new_names

@@ -39,7 +39,7 @@ use Rattle.ada_link.specs.part_code.specs.Needs.{choices_needs, locals_needs}
 use Rattle.ada_link.specs.part_code.specs.Raising.{are_numbered, choice_number, number_among}
 use Rattle.ada_link.specs.stmt_code.specs.Refusing.{Standpoint, alternatives_needs, behind_locals, elsifs_needs, handlers_needs, head_needs, inside_counted, inside_handler, inside_loop, needs_if_any, raise_needs, return_needs, stmt_needs, stmts_needs}
 use Rattle.ada_link.specs.stmt_code.proofs.Refused.{locals_seen}
-use Rattle.source_laws.specs.Covered.{IsCovered}
+use Rattle.source_laws.specs.Covered.{HasWhatCodeNeeds}
 use Rattle.source_laws.proofs.CoverCalls.{call_made}
 use Rattle.source_laws.proofs.CoverChoices.{choices_made}
 use Rattle.source_laws.proofs.CoverNames.{wanted_made}
@@ -51,7 +51,7 @@ use Rattle.source_laws.proofs.NeedsScopes.{bounds_legal}
 
 -- What is visible there is covered, and what code knows of the loops and handlers around it is what legality knows; it stands in no function.
 pub record StandsCovered (a : Standpoint) (b : rules.Around) : Type 0 where
-  pub cover : IsCovered a.exceptions a.visible
+  pub cover : HasWhatCodeNeeds a.exceptions a.visible
   pub looped : b.in_loop ≡ true → a.looped ≡ true
   pub handled : b.in_handler ≡ true → a.handled ≡ true
   pub returns : a.returns ≡ true
@@ -92,7 +92,7 @@ not_none : {X : Type 0} (o : Option X) → is_some o ≡ true → is_none o ≡ 
 not_none (Some x) h = refl
 not_none None h = absurd cc
 
-module _ (exceptions : List (List ℕ)) (v : Visible) (cover : IsCovered exceptions v) where
+module _ (exceptions : List (List ℕ)) (v : Visible) (cover : HasWhatCodeNeeds exceptions v) where
   one_numbered : (before : List (List ℕ)) (single : Bool) (c : ExceptionChoice) → exception_choice_faults v.scope before single c ≡ []
       → is_some (choice_number exceptions c) ≡ true
   one_numbered before single (choice.Exception name) h =

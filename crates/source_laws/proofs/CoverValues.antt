@@ -39,7 +39,7 @@ use Rattle.ada_link.specs.part_code.specs.Bounds.{local_words}
 use Rattle.ada_link.specs.part_code.specs.Moving.{are_moved, is_moved, moves, source_by}
 use Rattle.ada_link.specs.part_code.specs.Needs.{address_needs, assignment_needs, initial_needs, is_object, is_taken, lack_word, lacks_word, local_needs, local_visible, locals_needs, locals_visible, move_needs, moves_needs, needs_by, object_needs, takes_value}
 use Rattle.ada_link.specs.part_code.specs.declared.moving.Source.{Source}
-use Rattle.source_laws.specs.Covered.{IsCovered}
+use Rattle.source_laws.specs.Covered.{HasWhatCodeNeeds}
 use Rattle.source_laws.specs.Depths.{TypesAreFull, are_full, is_full}
 use Rattle.source_laws.proofs.CoverNames.{IsTarget, address_made, expression_made, known_taken, name_target, target_object, wanted_made}
 use Rattle.source_laws.proofs.CoverScopes.{covered_local}
@@ -97,7 +97,7 @@ named_subtype s sound name h = by_number (number_of s name.name) h
     by_number (Some n) k = by_entity n (entity_at s n) refl k
 
 module _ (exceptions : List (List ℕ)) where
-  module _ (v : Visible) (cover : IsCovered exceptions v) where
+  module _ (v : Visible) (cover : HasWhatCodeNeeds exceptions v) where
     abbrev s : Scope
     s = v.scope
 
@@ -112,7 +112,7 @@ module _ (exceptions : List (List ℕ)) where
     -- code is made of it, and what is visible behind it has what code needs
     record LocalIsMade (taken : ℕ) (d : DeclarationTree) : Type 0 where
       own : (local_needs v taken d).outside ≡ false
-      behind : IsCovered exceptions (local_visible v taken d)
+      behind : HasWhatCodeNeeds exceptions (local_visible v taken d)
 
     object_made : (taken : ℕ) (d : ObjectTree) → local_object_faults s d ≡ [] → LocalIsMade taken (LocalObject d)
     object_made taken d h =
@@ -216,9 +216,9 @@ module _ (exceptions : List (List ℕ)) where
 
   pub record LocalsAreMade (v : Visible) (taken : ℕ) (ds : List DeclarationTree) : Type 0 where
     pub own : (locals_needs v taken ds).outside ≡ false
-    pub behind : IsCovered exceptions (locals_visible v taken ds)
+    pub behind : HasWhatCodeNeeds exceptions (locals_visible v taken ds)
 
-  pub locals_made : (ds : List DeclarationTree) (v : Visible) (taken : ℕ) → IsCovered exceptions v → locals_faults v.scope ds ≡ []
+  pub locals_made : (ds : List DeclarationTree) (v : Visible) (taken : ℕ) → HasWhatCodeNeeds exceptions v → locals_faults v.scope ds ≡ []
       → restrictions.locals_faults ds ≡ [] → LocalsAreMade v taken ds
   locals_made [] v taken cover h r = record { own = refl; behind = cover }
   locals_made (d ∷ ds) v taken cover h r =

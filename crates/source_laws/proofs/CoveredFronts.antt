@@ -48,7 +48,7 @@ use Rattle.ada_link.specs.package_code.specs.Package.{place_among}
 use Rattle.ada_link.specs.package_code.specs.Refusing.{number_in, seen_at, slot_in, told_behind}
 use Rattle.ada_link.specs.package_code.specs.Walking.{of_subprogram}
 use Rattle.ada_link.specs.package_code.proofs.Seen.{all_behind, behind_long}
-use Rattle.source_laws.specs.Covered.{IsCovered, has_protected}
+use Rattle.source_laws.specs.Covered.{HasWhatCodeNeeds, has_protected}
 use Rattle.source_laws.specs.Depths.{is_scalar_form}
 use Rattle.source_laws.specs.Visible.{CalleesHaveFew, KeepsLimits}
 use Rattle.source_laws.proofs.CalleesSmall.{named_there}
@@ -400,7 +400,7 @@ module _ (premises : PremisesHold) (names : NamesAreKnown) (scopes : ScopesAreSo
   unprotected_at plain place = fronts_unprotected start all place plain w.unprotected
 
   pub covered_at : BodiesAreNumbered → TablesAreSmall → CalleesHaveFew → has_protected t ≡ false → (place : ℕ) → KeepsLimits (front t place)
-      → IsCovered program.exceptions (seen_at t place)
+      → HasWhatCodeNeeds program.exceptions (seen_at t place)
   covered_at numbers tables callees plain place limits =
       record {
         sound = sound place;

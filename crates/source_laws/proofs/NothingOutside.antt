@@ -46,7 +46,7 @@ use Rattle.ada_link.specs.package_code.specs.Walking.{of_subprogram}
 use Rattle.ada_link.specs.package_code.proofs.Adding.{bodies_added, body_legal, task_legal, value_legal}
 use Rattle.ada_link.specs.package_code.proofs.Numbered.{bodies_numbered}
 use Rattle.ada_link.specs.package_code.proofs.Seen.{one_behind}
-use Rattle.source_laws.specs.Covered.{AreLegalFormals, AreNamed, FunctionsAreCovered, IsAcceptedBody, IsCovered, NothingIsOutside, ProceduresAreCovered, has_protected, is_protected}
+use Rattle.source_laws.specs.Covered.{AreLegalFormals, NameSubtypes, FunctionsAreCovered, IsAcceptedBody, HasWhatCodeNeeds, NothingIsOutside, ProceduresAreCovered, has_protected, is_protected}
 use Rattle.source_laws.specs.Depths.{is_full, is_scalar_form}
 use Rattle.source_laws.specs.Visible.{CalleesHaveFew, FrontsKeepLimits, KeepsLimits}
 use Rattle.source_laws.proofs.CalleesSmall as callees
@@ -74,7 +74,7 @@ items_inside t place (x ∷ rest) each =
 
 -- ---- formals
 
-all_named : (s : Scope) (fs : List Formal) → callees.AreNamed s fs → AreNamed s fs
+all_named : (s : Scope) (fs : List Formal) → callees.AreNamed s fs → NameSubtypes s fs
 all_named s [] h = tt
 all_named s (f ∷ fs) h = (ap is_some h.0.1, all_named s fs h.1)
 
@@ -119,7 +119,7 @@ module _ (procedures : ProceduresAreCovered) (functions : FunctionsAreCovered) (
 
   -- ---- bodies
 
-  covered : (place : ℕ) → IsCovered (program_of t).exceptions (seen_at t place)
+  covered : (place : ℕ) → HasWhatCodeNeeds (program_of t).exceptions (seen_at t place)
   covered place = covered_at premises names scopes t legal restricted (bodies_numbered premises) tables few plain place (kept_limits place)
 
   module _ (place : ℕ) (d : SubprogramTree) (b : BodyTree) (at : slice_get all place ≡ Some (SubprogramBody d b)) where

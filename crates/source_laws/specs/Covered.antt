@@ -47,7 +47,7 @@ has_protected t = list_any is_protected (declared_in t.package_)
 -- ---- what is asked of the names that are visible
 
 -- Each name that is visible has what its code needs, in a program with these exceptions.
-pub record IsCovered (exceptions : List (List ℕ)) (v : Visible) : Type 0 where
+pub record HasWhatCodeNeeds (exceptions : List (List ℕ)) (v : Visible) : Type 0 where
   pub sound : SoundScope v.scope
   pub formals : FewFormals v.scope
   pub full : TypesAreFull v.scope
@@ -69,13 +69,13 @@ pub record IsCovered (exceptions : List (List ℕ)) (v : Visible) : Type 0 where
 -- ---- whole subprograms
 
 -- what is named as the subtype of each formal is one
-abbrev pub AreNamed : Scope → List Formal → Type 0
-AreNamed s [] = ⊤
-AreNamed s (f ∷ fs) = (is_some (subtype_of s f.subtype) ≡ true) × AreNamed s fs
+abbrev pub NameSubtypes : Scope → List Formal → Type 0
+NameSubtypes s [] = ⊤
+NameSubtypes s (f ∷ fs) = (is_some (subtype_of s f.subtype) ≡ true) × NameSubtypes s fs
 
 -- legal formals in front of which these names are visible: each has a name of its own
 pub record AreLegalFormals (s : Scope) (fs : List Formal) : Type 0 where
-  pub named : AreNamed s fs
+  pub named : NameSubtypes s fs
   pub new_names : length (formals_scope s fs) ≡ length s + length fs
   pub sound : SoundScope (formals_scope s fs)
 
@@ -89,13 +89,13 @@ pub record IsAcceptedBody (s : Scope) (fs : List Formal) (b : BodyTree) : Type 0
 
 abbrev pub ProceduresAreCovered : Type 0
 ProceduresAreCovered =
-    (exceptions : List (List ℕ)) (v : Visible) (fs : List Formal) (b : BodyTree) → IsCovered exceptions v → IsAcceptedBody v.scope fs b
+    (exceptions : List (List ℕ)) (v : Visible) (fs : List Formal) (b : BodyTree) → HasWhatCodeNeeds exceptions v → IsAcceptedBody v.scope fs b
     → (procedure_needs v exceptions fs b).outside ≡ false
 
 -- that of a function gives a value of one word
 abbrev pub FunctionsAreCovered : Type 0
 FunctionsAreCovered =
-    (exceptions : List (List ℕ)) (v : Visible) (fs : List Formal) (t : Subtype) (e : ExprTree) → IsCovered exceptions v → AreLegalFormals v.scope fs
+    (exceptions : List (List ℕ)) (v : Visible) (fs : List Formal) (t : Subtype) (e : ExprTree) → HasWhatCodeNeeds exceptions v → AreLegalFormals v.scope fs
     → is_scalar_form (form_at v.scope t.type_number) ≡ true
     → faults_of (formals_scope v.scope fs) (OfType t.type_number) e ≡ []
     → (function_needs v fs t e).outside ≡ false
