@@ -165,7 +165,7 @@ module _ (quiet : QuietStays) (i : Sections) where
         (steps quiet i schedule k t m calm (placed f stop (on base v)) (placed f to (on base v)) fs (acts quiet i stop (op.Jump to) jump schedule k t m f fs (on base v)))
     then_jumps from n stop to base (Raises x) le up jump h =
         let below = h.5 in
-        (h.0, h.1, h.2, takes_more (behaviour i schedule) t frames_of (most_steps i) (n + 1) (omega arith) h.3, h.4, omega (arith, below, up), h.6)
+        (h.0, h.1, h.2, takes_more (behaviour i schedule) t frames_of (most_steps i) (suc (n + 1)) (omega arith) h.3, h.4, omega (arith, below, up), h.6)
     then_jumps from n stop to base Meaningless le up jump h = tt
 
     -- one of two values, by a condition that stands on the stack

@@ -234,7 +234,7 @@ module _ (quiet : QuietStays) (i : Sections) (schedule : List ScheduleLine) (k :
   then_finds f n n' mid to st base (Gives a) go le up h g = found_after f n n' mid to (st a) base (go a) le h (g a refl)
   then_finds f n n' mid to st base (Raises e) go le up h g =
       let below = h.5 in
-      (h.0, h.1, h.2, takes_more (behaviour i schedule) t frames_of (most_steps i) (n + n') (omega arith) h.3, h.4, omega (arith, below, up), h.6)
+      (h.0, h.1, h.2, takes_more (behaviour i schedule) t frames_of (most_steps i) (suc (n + n')) (omega arith) h.3, h.4, omega (arith, below, up), h.6)
   then_finds f n n' mid to st base Meaningless go le up h g = tt
 
   -- an address, and then another one
@@ -247,7 +247,7 @@ module _ (quiet : QuietStays) (i : Sections) (schedule : List ScheduleLine) (k :
   then_found q y f n n' mid to base (Gives (IsObject s a)) go le up h g = found_after f n n' mid to (pos h.0 ∷ base) base (go (IsObject s a)) le h.4 (subst (λ z. Finds i schedule k t m (placed f mid (pos h.0 ∷ base)) fs region r x n' to base (go (IsObject z a))) (sym h.3) (g a h.0 h.1 h.2))
   then_found q y f n n' mid to base (Raises e) go le up h g =
       let below = h.5 in
-      (h.0, h.1, h.2, takes_more (behaviour i schedule) t frames_of (most_steps i) (n + n') (omega arith) h.3, h.4, omega (arith, below, up), h.6)
+      (h.0, h.1, h.2, takes_more (behaviour i schedule) t frames_of (most_steps i) (suc (n + n')) (omega arith) h.3, h.4, omega (arith, below, up), h.6)
   then_found q y f n n' mid to base Meaningless go le up h g = tt
   then_found q y f n n' mid to base v go le up h g = absurd h
 

@@ -68,7 +68,7 @@ module _ (quiet : QuietStays) (sized : ValuesHaveWords) (places : PartsHavePlace
   module _ (schedule : List ScheduleLine) (k : Kernel) (t : ℕ) (m : Words) (calm : Calm k t) (f : Frame) (fs : List Frame) (base : List ℤ) where
     more_finds : (from n n' to : ℕ) (st : List ℤ) (r : Subtype) (x : Shape) (v : Val Meaning) → n ≤ n' → Finds i schedule k t m (placed f from st) fs region r x n to base v → Finds i schedule k t m (placed f from st) fs region r x n' to base v
     more_finds from n n' to st r x (Gives (IsObject s v)) le h = (h.0, h.1, h.2, h.3, spends_more (behaviour i schedule) t frames_of (most_steps i) n' le h.4)
-    more_finds from n n' to st r x (Raises e) le h = (h.0, h.1, h.2, takes_more (behaviour i schedule) t frames_of (most_steps i) n' le h.3, h.4, h.5, h.6)
+    more_finds from n n' to st r x (Raises e) le h = (h.0, h.1, h.2, takes_more (behaviour i schedule) t frames_of (most_steps i) (suc n') (omega (arith, le)) h.3, h.4, h.5, h.6)
     more_finds from n n' to st r x Meaningless le h = tt
     more_finds from n n' to st r x v le h = absurd h
 
@@ -177,7 +177,7 @@ module _ (quiet : QuietStays) (sized : ValuesHaveWords) (places : PartsHavePlace
         (loads_part mid h.0 x here a (subst (λ ws. Lies ws h.0 a) (same_words i m region f from st) h.1) h.2)
     then_loads from n mid last x calls p st (Raises e) le here h =
         let below = h.5 in
-        (h.0, h.1, h.2, takes_more (behaviour i schedule) t frames_of (most_steps i) (n + 1) (omega arith) h.3, h.4, omega (arith, below), h.6)
+        (h.0, h.1, h.2, takes_more (behaviour i schedule) t frames_of (most_steps i) (suc (n + 1)) (omega arith) h.3, h.4, omega (arith, below), h.6)
     then_loads from n mid last x calls p st Meaningless le here h = tt
     then_loads from n mid last x calls p st v le here h = absurd h
 

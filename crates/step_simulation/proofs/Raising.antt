@@ -264,7 +264,7 @@ module _ (this : Scene) where
         let there = known x (scene.raises_known this x items step) in
         let v : Val ℤ = Raises x in
         subst Meet (sym (scene.going_is this s h.stack h.going))
-        (scene.met_value this f fs (r.0 - f.place) r.0 2 r.1 (λ z. z ∷ []) v items (λ z. source.goes now items)
+        (scene.met_value this f fs (r.0 - f.place) r.0 1 r.1 (λ z. z ∷ []) v items (λ z. source.goes now items)
         (scene.jumps_spend this f fs f.place r.0 leads.jumps) (
           (in_frame m (placed f (suc at) (pos x ∷ [])) fs).task,
           suc at,

@@ -355,11 +355,11 @@ module _ (this : Scene) where
       let left = comes.2 in
       let f' = placed f place left in
       let raised = source.raises now x items in
-      let all = spends_takes (behaviour i schedule) t frames_of (most_steps i) n' k (record { memory = m; task = comes.0 }) first comes.3 in
+      let all = spends_takes (behaviour i schedule) t frames_of (most_steps i) (suc n') k (record { memory = m; task = comes.0 }) first comes.3 in
       let stands : (s : TaskState) → Throws i x s f' fs → CodeStands i program g numbers k raised.solo.task s =
       λ s throws. Raised x items f' fs refl throws (inner_placed f fs place left inner)
       (handled x place left (raises_known x items is) refl comes.4 comes.5) in
-      met_quiet_on base f fs (n + n') comes.0 raised is refl refl all (omega (arith, low)) (λ s e. stands s (subst (λ q. Throws i x q f' fs)
+      met_quiet_on base f fs (n + suc n') comes.0 raised is refl refl all (omega (arith, low)) (λ s e. stands s (subst (λ q. Throws i x q f' fs)
       (sym e) comes.6)) less
   met_value_on base start f fs n from n' to stack Meaningless items go first comes low is less inner handled last = absurd (has_meaning items is)
 

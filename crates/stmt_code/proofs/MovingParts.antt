@@ -186,8 +186,8 @@ module _ (kept : AgreementIsKept) (sized : ValuesHaveWords) (places : PartsHaveP
           comes.0,
           comes.1,
           comes.2,
-          takes_more (behaviour i schedule) task frames_of (most_steps i) (end - from) (omega (arith, le, over, below, few))
-              (spends_takes (behaviour i schedule) task frames_of (most_steps i) n k (record { memory = m; task = comes.0 }) reached comes.3),
+          takes_more (behaviour i schedule) task frames_of (most_steps i) (suc (end - from)) (omega (arith, le, over, below, few))
+              (spends_takes (behaviour i schedule) task frames_of (most_steps i) (suc n) k (record { memory = m; task = comes.0 }) reached comes.3),
           omega (arith, le, place),
           omega (arith, before_end, below),
           comes.6,
@@ -203,7 +203,7 @@ module _ (kept : AgreementIsKept) (sized : ValuesHaveWords) (places : PartsHaveP
           comes.0,
           comes.1,
           comes.2,
-          takes_more (behaviour i schedule) task frames_of (most_steps i) (end - from) (omega (arith, le, over)) comes.3,
+          takes_more (behaviour i schedule) task frames_of (most_steps i) (suc (end - from)) (omega (arith, le, over)) comes.3,
           comes.4,
           omega (arith, before_end, over),
           comes.6,
@@ -432,7 +432,7 @@ module _ (kept : AgreementIsKept) (sized : ValuesHaveWords) (places : PartsHaveP
           comes.0,
           comes.1,
           comes.2,
-          takes_more (behaviour i schedule) task frames_of (most_steps i) (to - from) (omega (arith, h, up)) comes.3,
+          takes_more (behaviour i schedule) task frames_of (most_steps i) (suc (to - from)) (omega (arith, h, up)) comes.3,
           comes.4,
           omega (arith, below, up),
           comes.6,
