@@ -23,12 +23,12 @@ use Rattle.image.specs.declared.subprograms.Subprogram.{Subprogram}
 use Rattle.types.specs.Values.{Value}
 use Rattle.types.specs.Shapes.{value_words}
 use Rattle.types.specs.Evaluations.{Val, Gives, Raises, Meaningless, and_then}
-use Rattle.types.specs.Places.{Function}
+use Rattle.types.specs.Places.{Function, Place}
 use Rattle.types.specs.Evaluating.{call, entered, passed, value_with}
 use Rattle.expr_soundness.specs.meaning.specs.Meeting.{Last}
 use Rattle.expr_soundness.specs.meaning.specs.MeetingLaws.{quiet_spends, call_spends, call_takes, takes_more}
 use Rattle.expr_soundness.specs.meaning.specs.SameMeaning.{frames_of}
-use Rattle.expr_code.specs.Views.{At, in_frame, placed, view_of}
+use Rattle.expr_code.specs.Views.{At, IsSameTask, View, in_frame, placed, view_of}
 use Rattle.expr_code.specs.Coming.{all_on, all_words, Comes, most_steps, on, size_of}
 use Rattle.expr_code.specs.Computing.{Answers, IsFunctionCode, Library}
 use Rattle.expr_code.proofs.Coming.{acts}
@@ -173,7 +173,8 @@ module _ (quiet : QuietStays) (i : Sections) (library : Library) (function : Fun
 
 -- ---- all calls
 
-module _ (quiet : QuietStays) (i : Sections) (library : Library) (codes : (function : Function) (g : ℕ) → library.coded function g → IsFunctionCode i library function g) (sound : (left : ℕ) → library.sound (call left)) where
+module _ (quiet : QuietStays) (i : Sections) (library : Library) (codes : (function : Function) (g : ℕ) → library.coded function g → IsFunctionCode i library function g) (sound : (left : ℕ) → library.sound (call left))
+    (same_task : (p : Place) (view : View) → library.shared p view → IsSameTask p view) where
   pub functions_answer : (left : ℕ) → Answers i library (call left) left
   functions_answer zero = record {
     sound = sound zero;
@@ -198,8 +199,8 @@ module _ (quiet : QuietStays) (i : Sections) (library : Library) (codes : (funct
         let caller = placed f place base in
         let first = enters quiet i g is.s is.there schedule k t m f fs place base words here many (omega (arith, e)) in
         let there = entered p function args left in
-        let view = view_of i schedule k m frame (caller ∷ fs) in
-        let sees = is.enters p (view_of i schedule k m f fs) view args left (replicate (is.s.locals - is.s.parameters) (pos 0)) shared passes refl refl refl refl (replicated (is.s.locals - is.s.parameters)) refl
+        let view = view_of i schedule k t m frame (caller ∷ fs) in
+        let sees = is.enters p (view_of i schedule k t m f fs) view args left (replicate (is.s.locals - is.s.parameters) (pos 0)) shared passes refl refl (same_task p (view_of i schedule k t m f fs) shared) refl refl (replicated (is.s.locals - is.s.parameters)) refl
         (ap (λ o. object_words (object_of (kind_of o)) m) is.there) (omega (arith, e)) in
         returned quiet i library function g is schedule k t m f fs place base words here many calm (and_then (value_with (call left) there function.value) (passed function.result))
         (λ a ea. is.sized (call left) there view a (sound left) sees ea) first

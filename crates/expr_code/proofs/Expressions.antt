@@ -334,7 +334,7 @@ module _ (quiet : QuietStays) (i : Sections) where
         (first calls left answers schedule k t m f fs p base calm sees is)
         (λ v ev. as_truth mid to binary.AndThen b calls p schedule k t m f fs base v
         (λ x. and_then_comes from mid to b calls p schedule k t m calm f fs base x up copy jump drop (second calls left answers schedule k t m f fs p base calm sees is))
-        (truth calls p (view_of i schedule k m f fs) v answers.sound sees ev)))
+        (truth calls p (view_of i schedule k t m f fs) v answers.sound sees ev)))
 
     pub computes_or_else : (from mid to : ℕ) (a b : ExprTree) → from ≤ mid → mid + 3 ≤ to
         → Computes i library sight from mid a
@@ -348,7 +348,7 @@ module _ (quiet : QuietStays) (i : Sections) where
         (first calls left answers schedule k t m f fs p base calm sees is)
         (λ v ev. as_truth mid to binary.OrElse b calls p schedule k t m f fs base v
         (λ x. or_else_comes from mid to b calls p schedule k t m calm f fs base x up copy jump drop (second calls left answers schedule k t m f fs p base calm sees is))
-        (truth calls p (view_of i schedule k m f fs) v answers.sound sees ev)))
+        (truth calls p (view_of i schedule k t m f fs) v answers.sound sees ev)))
 
     -- if expressions: what stands behind the first value
     else_computes : (from to : ℕ) (elsifs : ElsifValueTrees) (e : ExprTree) → ComputesElse i library sight from to elsifs e

@@ -291,7 +291,7 @@ module _ (quiet : QuietStays) (sized : ValuesHaveWords) (places : PartsHavePlace
       → Answers i library calls left
       → (schedule : List ScheduleLine) (k : Kernel) (t : ℕ) (m : Words) (f : Frame) (fs : List Frame) (p : Place) (base : List ℤ)
       → Calm k t
-      → sight p (view_of i schedule k m f fs)
+      → sight p (view_of i schedule k t m f fs)
       → left ≡ frames_above fs
       → form_at p.scope s.type_number ≡ Some (Arrays index many element)
       → (vs : Values) (address : ℕ)
@@ -336,7 +336,7 @@ module _ (quiet : QuietStays) (sized : ValuesHaveWords) (places : PartsHavePlace
       at_value : (v : Value) → and_then (value_with calls p e) (passed index) ≡ Gives v → Finds i schedule k t m (placed f mid (on (pos address ∷ base) v)) fs region element x 5 (mid + 5) base (go v)
       at_value v ev =
           let first = given (value_with calls p e) (passed index) v ev in
-          let it = number calls p (view_of i schedule k m f fs) first.0 answers.sound sees first.1 in
+          let it = number calls p (view_of i schedule k t m f fs) first.0 answers.sound sees first.1 in
           let checked = passed_number index it.0 v (ap (passed index) (sym it.1) ∙ first.2) in
           subst (λ u. Finds i schedule k t m (placed f mid (on (pos address ∷ base) u)) fs region element x 5 (mid + 5) base (go u)) (sym checked.0) (at_number it.0 checked.1)
 

@@ -18,7 +18,7 @@ use Rattle.types.specs.Shapes.{Shape, has_shape, value_words}
 use Rattle.types.specs.Evaluations.{Val, Gives, and_then}
 use Rattle.types.specs.Places.{Function, IsFunction, Place, meaning_of}
 use Rattle.types.specs.Evaluating.{Calls, actuals_with, entered, fixed_name, formal_subtype, passed, value_with}
-use Rattle.expr_code.specs.Views.{At, placed, frames_above, Sight, View, view_of}
+use Rattle.expr_code.specs.Views.{At, IsSameTask, placed, frames_above, Sight, View, view_of}
 use Rattle.expr_code.specs.Coming.{all_on, all_words, Comes, on}
 
 -- each value has the shape that is told
@@ -46,7 +46,7 @@ module _ (i : Sections) (library : Library) where
         (schedule : List ScheduleLine) (k : Kernel) (t : ℕ) (m : Words) (f : Frame) (fs : List Frame) (p : Place) (place : ℕ) (base : List ℤ)
         (function : Function) (number : ℕ) (args : List Value)
         → Calm k t
-        → library.shared p (view_of i schedule k m f fs)
+        → library.shared p (view_of i schedule k t m f fs)
         → library.coded function number
         → At i place (op.Call number)
         → ArePassed (library.shapes function) args
@@ -60,7 +60,7 @@ module _ (i : Sections) (library : Library) where
       → Answers calls left
       → (schedule : List ScheduleLine) (k : Kernel) (t : ℕ) (m : Words) (f : Frame) (fs : List Frame) (p : Place) (base : List ℤ)
       → Calm k t
-      → sight p (view_of i schedule k m f fs)
+      → sight p (view_of i schedule k t m f fs)
       → left ≡ frames_above fs
       → Comes i schedule k t m (placed f from base) fs (to - from) to (stack base) (value calls p)
 
@@ -149,6 +149,7 @@ module _ (i : Sections) (library : Library) where
         → ArePassed (library.shapes function) args
         → inner.schedule ≡ view.schedule
         → inner.now ≡ view.now
+        → IsSameTask p inner
         → inner.memory ≡ view.memory
         → inner.words regions.Locals ≡ all_words args ++ locals
         → length locals ≡ s.locals - s.parameters

@@ -19,7 +19,7 @@ use Rattle.types.specs.Shapes.{shape_of}
 use Rattle.expr_soundness.specs.Answers.{CallsAnswer, FunctionsAreSound}
 use Rattle.expr_soundness.specs.Agreeing.{Agrees, parameter_subtype}
 use Rattle.expr_code.specs.Entries.{entry_at}
-use Rattle.expr_code.specs.Views.{View}
+use Rattle.expr_code.specs.Views.{IsSameTask, View}
 use Rattle.expr_code.specs.Computing.{Library}
 use Rattle.expr_code.specs.Naming.{Lies}
 use Rattle.expr_code.specs.declared.visible.Slot.{Slot}
@@ -95,6 +95,7 @@ pub record SeesPackage (g : Package) (p : Place) (view : View) : Type 0 where
   pub names : SeesScope g.scope g.slots (outside p) view
   pub now : p.now ≡ view.now
   pub schedule : p.schedule ≡ view.schedule
+  pub task : IsSameTask p view
   -- no region has more words than addresses tell
   pub small : (r : Region) → length (view.words r) ≤ 65536
 

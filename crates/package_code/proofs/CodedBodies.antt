@@ -129,7 +129,7 @@ module _ (laws : LawsOfNames) (t : ProgramTree) (legal : IsLegal t) (restricted 
       within = does.within;
       bare = does.bare;
       sized = does.sized;
-      enters = λ p view inner args left locals sees passed schedule now memory words rest plain object frames.
+      enters = λ p view inner args left locals sees passed schedule now task memory words rest plain object frames.
           function_code laws t legal restricted i g of_program place d b at v last before top holds (fits top takes) small r some value s takes room outside p view
-          inner args left locals sees passed schedule now memory words rest plain object frames;
+          inner args left locals sees passed schedule now task memory words rest plain object frames;
     }

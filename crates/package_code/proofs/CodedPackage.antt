@@ -155,6 +155,6 @@ module _ (laws : LawsOfNames) (t : ProgramTree) (legal : IsLegal t) (restricted 
         exceptions = exceptions;
         predefined = four_first (exceptions_among (package_items t.package_));
         functions = functions_answer quiet i (library_of g) functions_coded
-            (λ left p sound. (known laws t legal restricted).typed.answered p sound left);
+            (λ left p sound. (known laws t legal restricted).typed.answered p sound left) (λ p view sees. sees.task);
         procedures = procedures_coded;
       }

@@ -50,6 +50,7 @@ package_alone g laid p view objects words small h = record {
   names = record { agrees = h.names.agrees; objects = λ name slot t v there means. lies name slot t v there (h.names.objects name slot t v there means) };
   now = h.now;
   schedule = h.schedule;
+  task = h.task;
   small = few;
 }
   where

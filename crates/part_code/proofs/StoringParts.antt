@@ -183,9 +183,9 @@ module _ (kept : AgreementIsKept) (sized : ValuesHaveWords) (i : Sections) (prog
   module _ (mid : ℕ) (base : List ℤ) (stack : Value → List ℤ) (schedule : List ScheduleLine) (k : Kernel) (task : ℕ) (m : Words) (f : Frame) (fs : List Frame)
       (store : Store) (a : Activation) (p : Place) (is_at : IsAt program store p) (locals : p.locals ≡ a.locals) (within : p.within ≡ a.within)
       (stands : StandsFor program g store m) (rests : Rests g v a f.locals)
-      (knows : Knows g v p (view_of i schedule k m f fs)) (outside : a.within ≡ None) where
+      (knows : Knows g v p (view_of i schedule k task m f fs)) (outside : a.within ≡ None) where
     abbrev here : View
-    here = view_of i schedule k m f fs
+    here = view_of i schedule k task m f fs
 
     abbrev HasPut : Type 0
     HasPut = Puts i program g schedule k task m f fs mid (stack y) base v (store_with x y store) (activation_with x y a)

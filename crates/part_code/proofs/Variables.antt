@@ -22,7 +22,7 @@ use Rattle.expr_soundness.specs.meaning.specs.Programs.{Program}
 use Rattle.expr_soundness.specs.meaning.specs.Works.{Store}
 use Rattle.expr_code.specs.Naming.{Lies}
 use Rattle.expr_code.specs.Seeing.{Package, SeesPackage, outside}
-use Rattle.expr_code.specs.Views.{View}
+use Rattle.expr_code.specs.Views.{IsSameTask, View}
 use Rattle.expr_code.specs.declared.visible.Slot.{Slot}
 use Rattle.part_code.specs.Layout.{AreApart, IsLaidPackage, NamesObject}
 use Rattle.part_code.specs.Resting.{IsAt, IsAddressable, StandsFor}
@@ -65,7 +65,7 @@ module _ (kept : AgreementIsKept) (sized : ValuesHaveWords) (program : Program) 
   new_words = record m { plain = after }
 
   module _ (p : Place) (view : View) (is_at : IsAt program new_store p) (now : p.now ≡ view.now) (schedule : p.schedule ≡ view.schedule)
-      (plain : view.words regions.Plain ≡ after) (small : IsAddressable view) (sound : FunctionsAreSound p) where
+      (task : IsSameTask p view) (plain : view.words regions.Plain ≡ after) (small : IsAddressable view) (sound : FunctionsAreSound p) where
     abbrev old_place : Place
     old_place = record p { variables = store.variables }
 
@@ -92,7 +92,7 @@ module _ (kept : AgreementIsKept) (sized : ValuesHaveWords) (program : Program) 
     before : SeesPackage g old_place old_view
     before =
         stands.shared old_place old_view (record { scope = is_at.scope; functions = is_at.functions; variables = refl; components = is_at.components }) now
-        schedule
+        schedule task
         refl refl few functions_before
       where
         few : IsAddressable old_view
@@ -160,12 +160,13 @@ module _ (kept : AgreementIsKept) (sized : ValuesHaveWords) (program : Program) 
       names = record { agrees = agrees; objects = lies };
       now = now;
       schedule = schedule;
+      task = task;
       small = small;
     }
 
   pub variable_stands : StandsFor program g new_store new_words
   variable_stands = record {
-    shared = λ p view is_at now schedule memory plain small sound. shown p view is_at now schedule plain small sound;
+    shared = λ p view is_at now schedule task memory plain small sound. shown p view is_at now schedule task plain small sound;
     plain = (let l = put.long in let s = stands.plain in omega (arith, l, s));
     objects = stands.objects;
   }

@@ -119,7 +119,7 @@ module _ (this : Scene) where
     abbrev IsAtItems : List Item → Type 0
     IsAtItems items = scene.IsAtItems this s items
 
-    module _ (v : Framed) (ways : Ways) (raised : Handling) (e : ExprTree) (p : Place) (x : Value) (sees : Sees g v.names p (view_of i schedule k m f fs))
+    module _ (v : Framed) (ways : Ways) (raised : Handling) (e : ExprTree) (p : Place) (x : Value) (sees : Sees g v.names p (view_of i schedule k t m f fs))
         (ev : val p e ≡ Gives x) where
       -- where the statements of the alternative stand that is chosen
       record IsTaken (from to : ℕ) (body : StmtTrees) : Type 0 where

@@ -32,7 +32,7 @@ use Rattle.step_soundness.specs.Holding.{IsSoundStep}
 use Rattle.step_soundness.specs.Laws.{Premises, StepsAreSound}
 use Rattle.step_soundness.specs.Objects.{IsException}
 use Rattle.step_soundness.specs.Opened.{opened_in}
-use Rattle.part_code.specs.expr_code.specs.Views.{At, in_frame, placed, view_of}
+use Rattle.part_code.specs.expr_code.specs.Views.{At, IsSameTask, in_frame, placed, view_of}
 use Rattle.part_code.specs.expr_code.specs.Coming.{Comes, Throws, most_steps, size_of}
 use Rattle.part_code.specs.expr_code.specs.Computing.{Everywhere}
 use Rattle.part_code.specs.expr_code.specs.Seeing.{Package, Sees, SeesPackage, library_of}
@@ -173,7 +173,7 @@ module _ (this : Scene) where
 
   -- ---- what is seen
 
-  pub is_small : (f : Frame) → length f.locals ≤ 65536 → (fs : List Frame) → IsAddressable (view_of i schedule k m f fs)
+  pub is_small : (f : Frame) → length f.locals ≤ 65536 → (fs : List Frame) → IsAddressable (view_of i schedule k t m f fs)
   is_small f small fs regions.Locals = small
   is_small f small fs regions.Plain = shares.plain
   is_small f small fs regions.Object = of_object (own_object i f)
@@ -182,11 +182,15 @@ module _ (this : Scene) where
       of_object None = omega arith
       of_object (Some o) = shares.objects o
 
+  -- the task has the open actions, the base priority and the ceilings that the kernel knows
+  same_task : (items : List Item) (f : Frame) (fs : List Frame) → IsSameTask (place_of now items) (view_of i schedule k t m f fs)
+  same_task items f fs = (refl, refl, ap (λ q. q.ceiling) (sym known.partition))
+
   pub sees_package : (items : List Item) (f : Frame) (fs : List Frame) → length f.locals ≤ 65536
-      → SeesPackage g (place_of now items) (view_of i schedule k m f fs)
+      → SeesPackage g (place_of now items) (view_of i schedule k t m f fs)
   sees_package items f fs small =
-      shares.shared (place_of now items) (view_of i schedule k m f fs)
-      (record { scope = refl; functions = refl; variables = refl; components = refl }) refl refl refl refl (is_small f small fs)
+      shares.shared (place_of now items) (view_of i schedule k t m f fs)
+      (record { scope = refl; functions = refl; variables = refl; components = refl }) refl refl (same_task items f fs) refl refl (is_small f small fs)
       (known.store.functions (place_of now items))
 
   -- a frame has the words of its own that it ought to have
@@ -194,15 +198,15 @@ module _ (this : Scene) where
   has_room v a locals rests =
       let f : Frame = record { subprogram = 0; place = 0; locals = locals; stack = []; role = Inner } in
       let p : Place = record (place_of now []) { locals = a.locals; within = a.within } in
-      let view = view_of i schedule k m f [] in
+      let view = view_of i schedule k t m f [] in
       (rests.sees p view
-      (shares.shared p view (record { scope = refl; functions = refl; variables = refl; components = refl }) refl refl refl refl
+      (shares.shared p view (record { scope = refl; functions = refl; variables = refl; components = refl }) refl refl (same_task [] f []) refl refl
       (is_small f rests.small []) (known.store.functions p)) refl refl refl).room
 
   pub sees_here : {held : List HeldWord} (v : Framed) (items : List Item) (f : Frame) (fs : List Frame) → RestsWith g v held w.own f.locals
-      → Knows g v (place_of now items) (view_of i schedule k m f fs)
+      → Knows g v (place_of now items) (view_of i schedule k t m f fs)
   sees_here v items f fs rests =
-      rests.rests.sees (place_of now items) (view_of i schedule k m f fs) (sees_package items f fs rests.rests.small) refl refl refl
+      rests.rests.sees (place_of now items) (view_of i schedule k t m f fs) (sees_package items f fs rests.rests.small) refl refl refl
 
   -- what code computes, the frame comes to
   pub evaluates : {A : Type 0} {held : List HeldWord} (v : Framed) (from to : ℕ) (stack : List ℤ → A → List ℤ) (value : Calls → Place

@@ -20,7 +20,7 @@ use Rattle.expr_code.specs.Coming.{all_words}
 use Rattle.expr_code.specs.Computing.{ArePassed}
 use Rattle.expr_code.specs.Naming.{Lies}
 use Rattle.expr_code.specs.Seeing.{Package, Sees, SeesPackage}
-use Rattle.expr_code.specs.Views.{View}
+use Rattle.expr_code.specs.Views.{IsSameTask, View}
 use Rattle.expr_code.specs.declared.visible.Slot.{Slot}
 use Rattle.part_code.specs.Layout.{IsLaidPackage}
 use Rattle.part_code.specs.Resting.{Framed, Rests}
@@ -69,13 +69,14 @@ module _ (kept : AgreementIsKept) (sized : ValuesHaveWords) (program : Program) 
         → ArePassed (map (shape_of g.scope) (map formal_subtype function.formals)) args
         → inner.schedule ≡ view.schedule
         → inner.now ≡ view.now
+        → IsSameTask p inner
         → inner.words regions.Locals ≡ all_words args ++ locals
         → inner.words regions.Plain ≡ view.words regions.Plain
         → inner.words regions.Object ≡ []
         → length (all_words args ++ locals) ≤ 65536
         → front.room ≤ length (all_words args ++ locals)
         → Sees g last.names (entered p function args left) inner
-    function_sees p view inner args left locals sees passed schedule now words plain object small room =
+    function_sees p view inner args left locals sees passed schedule now task words plain object small room =
         let all = all_words args ++ locals in
         let bare = rests_package kept g front of_package all small room in
         let rests = formals_begun all function.formals args front last [] locals [] formals passed refl bare in
@@ -104,5 +105,6 @@ module _ (kept : AgreementIsKept) (sized : ValuesHaveWords) (program : Program) 
           };
           now = sees.now ∙ sym now;
           schedule = sees.schedule ∙ sym schedule;
+          task = task;
           small = few;
         }
