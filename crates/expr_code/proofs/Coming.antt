@@ -89,7 +89,7 @@ module _ (quiet : QuietStays) (i : Sections) where
       Last refl,
       omega arith,
       omega (arith, next),
-      record { throws = λ schedule k t m. is schedule k t m ∙ ap (λ n. unwind i m n (placed f place stack) fs) (sym word) },
+      record { throws = λ schedule l m opened ranked. is schedule l t m ∙ ap (λ n. unwind i m n (placed f place stack) fs) (sym word) },
     )
     by_result place f fs stack base c Meaningless is word to next = tt
 

@@ -138,7 +138,7 @@ module _ (quiet : QuietStays) (i : Sections) where
         (more quiet i schedule k t m calm (placed f from base) fs ((mid - from) + 1) (suc mid - from) (suc mid) (on base) (and_then actuals (calls p function)) (omega (arith, le))
         (then_comes quiet i schedule k t m calm (placed f from base) fs (mid - from) 1 mid (suc mid) (all_on base) (on base) actuals (calls p function) le (omega arith)
         (all calls left answers schedule k t m f fs p base calm sees is)
-        (λ vs ev. answers.answers schedule k t m f fs p mid base function number vs calm named.shared named.coded here (passed_well calls p view function vs answers.sound sees named.formals ev) is)))
+        (λ vs ev. answers.answers schedule k t m f fs p mid base function None number vs calm named.shared named.coded tt here (passed_well calls p view function vs answers.sound sees named.formals ev) is)))
 
     -- ... that has no formals
     pub computes_call_alone : (from number : ℕ) (first : Identifier)
@@ -152,4 +152,4 @@ module _ (quiet : QuietStays) (i : Sections) where
         let function = named.function in
         subst (λ v. Comes i schedule k t m (placed f from base) fs (suc from - from) (suc from) (on base) v) (sym (named_value calls p first NoSelectors (IsFunction function None) named.valueless named.means))
         (more quiet i schedule k t m calm (placed f from base) fs 1 (suc from - from) (suc from) (on base) (calls p function []) (omega arith)
-        (answers.answers schedule k t m f fs p from base function number [] calm named.shared named.coded here (passed_well calls p view function [] answers.sound sees named.formals refl) is))
+        (answers.answers schedule k t m f fs p from base function None number [] calm named.shared named.coded tt here (passed_well calls p view function [] answers.sound sees named.formals refl) is))

@@ -3,7 +3,7 @@ use Rattle.std.proofs.Common.{◌≡◌, ℕ, zero, suc, ◌+◌, ◌≤◌, Lis
 use Rattle.std.specs.Prelude.{bytes_eq, pos, replicate, slice_get}
 use Rattle.std.proofs.lemmas.List.Elements.{All-nil, All-weaker}
 use Rattle.std.proofs.lemmas.Option.{slice_get_within}
-use Rattle.image_laws.specs.kernel.specs.Laws.{QuietStays}
+use Rattle.image_laws.specs.kernel.specs.Laws.{QuietStays, ViewsBack, ViewsOn}
 use Rattle.ada_tree.specs.declared.expression.Identifier.{Identifier}
 use Rattle.ada_tree.specs.declared.program.MainStatement.{MainStatement}
 use Rattle.ada_tree.specs.declared.program.MainStatement.TheVariants as main
@@ -296,8 +296,8 @@ module _ (t : ProgramTree) (i : Sections) (h : HasProgram t i) where
         goes_past i body.old.rows.items body.kept.later (here body.old.code) (here body.new.code)
         (rows_are ∙ body.kept.rows ∙ ap (λ r. r.items ++ body.kept.later) same) body.before body.kept.behind
 
-  module _ (laws : LawsOfNames) (quiet : QuietStays) (shaped : InitialValuesHaveShape) (legal : IsLegal t) (restricted : IsRestricted t)
-      (well_formed : IsWellFormed i) where
+  module _ (laws : LawsOfNames) (quiet : QuietStays) (views : ViewsOn) (back : ViewsBack) (shaped : InitialValuesHaveShape) (legal : IsLegal t)
+      (restricted : IsRestricted t) (well_formed : IsWellFormed i) where
     of_program : IsPackageOf t i g
     of_program = package_in_order laws t legal restricted i g ordered
 
@@ -359,7 +359,7 @@ module _ (t : ProgramTree) (i : Sections) (h : HasProgram t i) where
     }
 
     code : HasCode i program g numbers
-    code = ada_linkd laws t legal restricted i g of_program numbers bodies quiet (h.exceptions ∙ h.are.exceptions)
+    code = ada_linkd laws t legal restricted i g of_program numbers bodies quiet views back (h.exceptions ∙ h.are.exceptions)
 
     -- ---- main
 
@@ -469,10 +469,11 @@ module _ (t : ProgramTree) (i : Sections) (h : HasProgram t i) where
       words = first_words laws t legal restricted i g of_program sizes well_formed;
     }
 
-pub sections_mean_the_same : LawsOfNames → QuietStays → InitialValuesHaveShape → ImagesHaveSize → LinkedMeansTheSame → LinkedKeepsCount → SectionsMeanTheSame
-sections_mean_the_same laws quiet shaped sizes means keeps t i legal restricted well_formed h =
+pub sections_mean_the_same : LawsOfNames → QuietStays → ViewsOn → ViewsBack → InitialValuesHaveShape → ImagesHaveSize → LinkedMeansTheSame → LinkedKeepsCount
+    → SectionsMeanTheSame
+sections_mean_the_same laws quiet views back shaped sizes means keeps t i legal restricted well_formed h =
     let program = program_of t in
-    let linked = sections_linked t i h laws quiet shaped legal restricted well_formed sizes in (
+    let linked = sections_linked t i h laws quiet views back shaped legal restricted well_formed sizes in (
       means t i (package_of program h.directory) (numbers_of program h.directory) well_formed legal restricted linked,
       keeps t i (package_of program h.directory) (numbers_of program h.directory) well_formed legal restricted linked,
     )

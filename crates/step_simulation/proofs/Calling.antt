@@ -42,7 +42,7 @@ use Rattle.part_code.specs.expr_code.specs.Computing.{ArePassed}
 use Rattle.part_code.specs.expr_code.specs.Seeing.{Package}
 use Rattle.part_code.specs.expr_code.proofs.Coming.{acts, after_first}
 use Rattle.part_code.specs.expr_code.proofs.Coming as coming
-use Rattle.part_code.specs.expr_code.proofs.Calling.{enters, inner as callee, refused, replicated}
+use Rattle.part_code.specs.expr_code.proofs.CallFrames.{enters, inner as callee, refused, replicated}
 use Rattle.part_code.specs.expr_code.specs.declared.visible.Visible.{Visible}
 use Rattle.part_code.specs.Resting.{AreHeld, Framed, NarrowsFrame, RestsWith, StandsFor}
 use Rattle.part_code.specs.Copying.{AreCopies, ArePlaced, actuals_on, addresses_of, copies_on, held_at, left_out, passed_actuals, passed_expression, passed_words, taken}
@@ -449,7 +449,7 @@ module _ (this : Scene) where
               omega arith,
               omega arith,
               record {
-                throws = λ schedule' k' t' m'. refused quiet i number proc.s proc.there schedule' k' t' m' f fs mid [] (words_of_call z) here
+                throws = λ schedule' l m' opened ranked. refused quiet i number proc.s proc.there schedule' l t m' f fs mid [] (words_of_call z) here
                     (passed_many z ez) (full e);
               },
             )))

@@ -257,7 +257,7 @@ module _ (this : Scene) where
   -- what code stands for after a step of the source with this effect
   pub record Meets (x : source.SourceStepped) (y : steps.Stepped) : Type 0 where
     pub effect : y.effect ≡ x.effect
-    pub code : CodeStands i program g numbers (after t x.effect k) x.solo.task y.solo.task
+    pub code : CodeStands i program g numbers (after t x.effect k) t x.solo.task y.solo.task
     pub words : StandsFor program g x.solo.memory y.solo.memory
 
   pub inner_placed : (f : Frame) (fs : List Frame) (place : ℕ) (stack : List ℤ) → Removable f fs → Removable (placed f place stack) fs
@@ -291,7 +291,7 @@ module _ (this : Scene) where
   pub quiet_from : (s : TaskState) (n : ℕ) (c : TaskState) (x : source.SourceStepped) → work_step now w.work ≡ x → x.effect ≡ Quiet → x.solo.memory ≡ store
       → Takes (behaviour i schedule) t frames_of (most_steps i) (frames_of s) n k (record { memory = m; task = s }) k (record { memory = m; task = c })
       → IsLow s n
-      → ((s' : TaskState) → s' ≡ c → CodeStands i program g numbers k x.solo.task s')
+      → ((s' : TaskState) → s' ≡ c → CodeStands i program g numbers k t x.solo.task s')
       → work_size x.solo.task.work < work_size w.work
       → Meet s
   quiet_from s n c x is e same all low stands less = λ b from.
@@ -324,7 +324,7 @@ module _ (this : Scene) where
       → (all : Takes (behaviour i schedule) t frames_of (most_steps i) (suc (length fs)) n k (in_frame m (placed f f.place base) fs) k
       (record { memory = m; task = c }))
       → n < most_steps i (in_frame m f fs).task
-      → ((s : TaskState) → s ≡ c → CodeStands i program g numbers k x.solo.task s)
+      → ((s : TaskState) → s ≡ c → CodeStands i program g numbers k t x.solo.task s)
       → work_size x.solo.task.work < work_size w.work
       → Meet (in_frame m (placed f f.place base) fs).task
   met_quiet_on base f fs n c x is e same all low stands less =
@@ -360,10 +360,10 @@ module _ (this : Scene) where
       let f' = placed f place left in
       let raised = source.raises now x items in
       let all = spends_takes (behaviour i schedule) t frames_of (most_steps i) (suc n') k (record { memory = m; task = comes.0 }) first comes.3 in
-      let stands : (s : TaskState) → Throws i x s f' fs → CodeStands i program g numbers k raised.solo.task s =
+      let stands : (s : TaskState) → Throws i k t x s f' fs → CodeStands i program g numbers k t raised.solo.task s =
       λ s throws. Raised x items f' fs refl throws (inner_placed f fs place left inner)
       (handled x place left (raises_known x items is) refl comes.4 comes.5) in
-      met_quiet_on base f fs (n + suc n') comes.0 raised is refl refl all (omega (arith, low)) (λ s e. stands s (subst (λ q. Throws i x q f' fs)
+      met_quiet_on base f fs (n + suc n') comes.0 raised is refl refl all (omega (arith, low)) (λ s e. stands s (subst (λ q. Throws i k t x q f' fs)
       (sym e) comes.6)) less
   met_value_on base start f fs n from n' to stack Meaningless items go first comes low is less inner handled last = absurd (has_meaning items is)
 
@@ -394,7 +394,7 @@ module _ (this : Scene) where
       → (all : Takes (behaviour i schedule) t frames_of (most_steps i) (suc (length fs)) n k (in_frame m (placed f f.place []) fs) k
       (record { memory = m; task = c }))
       → n < most_steps i (in_frame m f fs).task
-      → ((s : TaskState) → s ≡ c → CodeStands i program g numbers k x.solo.task s)
+      → ((s : TaskState) → s ≡ c → CodeStands i program g numbers k t x.solo.task s)
       → work_size x.solo.task.work < work_size w.work
       → Meet (in_frame m (placed f f.place []) fs).task
   met_quiet f fs n c x = met_quiet_on [] f fs n c x
@@ -428,12 +428,12 @@ module _ (this : Scene) where
 
   -- no step of code, and what is left to do is less
   pub met_still : (s : TaskState) (x : source.SourceStepped) → work_step now w.work ≡ x → x.effect ≡ Quiet → x.solo.memory ≡ store
-      → CodeStands i program g numbers k x.solo.task s
+      → CodeStands i program g numbers k t x.solo.task s
       → work_size x.solo.task.work < work_size w.work
       → Meet s
   met_still s x is e same stands less =
       quiet_from s 1 s x is e same (Last refl) (omega arith, λ some. omega (arith, some))
-      (λ s' there. subst (λ q. CodeStands i program g numbers k x.solo.task q) (sym there) stands)
+      (λ s' there. subst (λ q. CodeStands i program g numbers k t x.solo.task q) (sym there) stands)
       less
 
   -- ---- going on

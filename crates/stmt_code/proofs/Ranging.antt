@@ -215,7 +215,7 @@ module _ (quiet : QuietStays) (kept : AgreementIsKept) (sized : ValuesHaveWords)
         Last refl,
         omega arith,
         omega arith,
-        record { throws = λ schedule k t m. is schedule k t m },
+        record { throws = λ schedule l m opened ranked. is schedule l t m },
       )
 
       counted : are_equal now last ≡ false → Comes i schedule k t m (placed f back []) fs ((behind 7 back) - back) (behind 7 back) (λ z. z ∷ [])
