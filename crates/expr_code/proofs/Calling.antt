@@ -1,10 +1,9 @@
 -- Calls of functions: that their code gives their values, by induction on the frames that are left.
-use Rattle.std.proofs.Common.{◌≡◌, ℕ, zero, suc, ◌+◌, ◌-◌, ◌<◌, ◌≤◌, ℤ, List, [], ◌∷◌, ◌++◌, length, Option, Some, None, Bool, true, false, cond, refl, sym, ap, ◌∙◌, subst, arith}
+use Rattle.std.proofs.Common.{◌≡◌, ℕ, zero, suc, ◌+◌, ◌-◌, ◌≤◌, ℤ, List, [], ◌∷◌, ◌++◌, length, Option, Some, None, Bool, true, false, cond, refl, sym, ap, ◌∙◌, subst, arith}
 use Rattle.std.specs.Prelude.{map, reverse, take, replicate, pos, ⊤}
 use Rattle.base.specs.Exceptions.{number_of}
 use Rattle.base.specs.declared.exceptions.PredefinedException.{PredefinedException}
 use Rattle.base.specs.declared.exceptions.PredefinedException.TheVariants.{ProgramError, StorageError}
-use Rattle.base.specs.declared.limits.TheConstants.{FRAMES}
 use Rattle.base.specs.declared.schedule.ScheduleLine.{ScheduleLine}
 use Rattle.kernel.specs.State.{Kernel, Reads, is_object_open, object_of}
 use Rattle.kernel.specs.Effects.{AboveCeiling, Closes, Ends, Quiet, Refusal, SameObject, Views, after, call_refusal, effect, ending_of, is_above_ceiling}
