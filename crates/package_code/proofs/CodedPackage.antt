@@ -67,6 +67,7 @@ shows_opened kept g p view o sees = record {
     agrees = kept.circumstances g.scope (outside p) p.schedule p.now (o ∷ p.actions) p.priority p.frames_left sees.names.agrees;
     objects = sees.names.objects;
   };
+  components = sees.components;
   now = sees.now;
   schedule = sees.schedule;
   task = (ap (λ l. o ∷ l) sees.task.0, sees.task.1, sees.task.2);

@@ -250,18 +250,19 @@ module _ (laws : LawsOfNames) (t : ProgramTree) (legal : IsLegal t) (restricted 
           → inner.schedule ≡ view.schedule
           → inner.now ≡ view.now
           → IsSameTask p inner
+          → inner.memory ≡ view.memory
           → inner.words regions.Locals ≡ all_words args ++ locals
           → length locals ≡ v.room - top
           → inner.words regions.Plain ≡ view.words regions.Plain
           → inner.words regions.Object ≡ []
           → Sees g last.names (entered p function args left) inner
-      function_enters p view inner args left locals sees passed schedule now task words rest plain object =
+      function_enters p view inner args left locals sees passed schedule now task memory words rest plain object =
           let long = function_takes args passed in
           let both = length-append (all_words args) locals in
           function_sees (known laws t legal restricted).kept laws.sized program g of_program.scope of_program.laid function refl v last
           (front_of_package laws t legal restricted i g of_program v (suc place) before)
           (formals_enter program.scope program g d.formals v last 0 v.reserved modes all_entered)
-          p view inner args left locals sees passed schedule now task words plain object
+          p view inner args left locals sees passed schedule now task memory words plain object
           (omega (arith, long, both, rest, room, small)) (omega (arith, long, both, rest, room))
 
       -- as the code of a function is asked for it
@@ -280,5 +281,5 @@ module _ (laws : LawsOfNames) (t : ProgramTree) (legal : IsLegal t) (restricted 
           → inner.left ≡ left
           → Sees g last.names (entered p function args left) inner
       function_code s takes has outside p view inner args left locals sees passed schedule now task memory words rest plain object frames =
-          function_enters p view inner args left locals sees passed schedule now task words (rest ∙ (λ j. has j - takes j)) plain
+          function_enters p view inner args left locals sees passed schedule now task memory words (rest ∙ (λ j. has j - takes j)) plain
           (object ∙ ap (λ o. object_words o view.memory) outside)

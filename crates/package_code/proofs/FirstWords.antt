@@ -77,7 +77,7 @@ module _ (laws : LawsOfNames) (t : ProgramTree) (legal : IsLegal t) (restricted 
         (subst (Agrees (front t (length (declared_in t.package_)))) bare
         (laws.fronts t first legal restricted (memory laws t legal restricted) (length (declared_in t.package_)) p).agrees)
 
-    lies : (name : List ℕ) (slot : Slot) (u : Subtype) (value : Value) → g.slots name ≡ Some slot → meaning_of (outside p) name ≡ IsObject u value
+    lies : (name : List ℕ) (slot : Slot) (u : Subtype) (value : Value) → g.slots None name ≡ Some slot → meaning_of (outside p) name ≡ IsObject u value
         → Lies (view.words slot.region) slot.offset value
     lies name slot u value told means =
         let o = of_program.laid.laid.objects name slot told in
@@ -100,6 +100,7 @@ module _ (laws : LawsOfNames) (t : ProgramTree) (legal : IsLegal t) (restricted 
       functions = at.functions ∙ sym of_program.functions;
       sound = sound;
       names = record { agrees = agrees; objects = lies };
+      components = λ o name slot x told found. (let none = sym (of_program.components o name) ∙ told in cc);
       now = now;
       schedule = schedule;
       task = task;

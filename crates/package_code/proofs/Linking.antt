@@ -82,14 +82,14 @@ use Rattle.package_code.proofs.Walked.{begins_kept, rows_in_front}
 -- ---- the package of code
 
 -- what is told, of what belongs to no protected object
-abbrev pub outside_only : (owner told : Option ℕ) → Option ℕ
+abbrev pub outside_only : {X : Type 0} → (owner : Option ℕ) → (told : Option X) → Option X
 outside_only None told = told
 outside_only (Some o) told = None
 
 abbrev pub package_of : Program → Directory → Package
 package_of program d = record {
   scope = program.scope;
-  slots = λ name. told_of program.scope d.slots.items name;
+  slots = λ owner name. outside_only owner (told_of program.scope d.slots.items name);
   functions = program.functions;
   subprograms = λ owner name. outside_only owner (told_of program.scope d.numbers.items name);
 }
@@ -210,6 +210,7 @@ module _ (t : ProgramTree) (i : Sections) (h : HasProgram t i) where
     scope = refl;
     functions = refl;
     slots = λ name. ap (λ v. told_of program.scope v.items name) h.slots ∙ h.are.slots name;
+    components = λ object name. refl;
     words = h.plain_words ∙ h.are.words;
   }
 

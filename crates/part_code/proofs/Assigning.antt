@@ -249,7 +249,7 @@ module _ (kept : AgreementIsKept) (sized : ValuesHaveWords) (calls : CallsAreTyp
                   (variable_stands kept sized program g laid.unit store m stands p is_at knows.sees.unit.sound (sym is_at.scope ∙ knows.sees.unit.scope) new
                   old here refl
                   (suited_outside p view knows.sees old meant z given.1) (wide ∙ sym old_wide) slot
-                  (subst (λ q. g.slots q ≡ Some slot) called (laid.shared name.first.name slot there region)) after put);
+                  (subst (λ q. g.slots None q ≡ Some slot) called (laid.shared name.first.name slot there region)) after put);
               rests = rests;
               keeps = λ n among. refl;
             })

@@ -279,7 +279,7 @@ module _ (kept : AgreementIsKept) (sized : ValuesHaveWords) (i : Sections) (prog
           shared = variable_stands kept sized program g laid.unit store m stands p is_at knows.sees.unit.sound (sym is_at.scope ∙ knows.sees.unit.scope) new old
               (subst (λ q. object_of store.variables q ≡ Some old) called found) refl
               (new_outside p here knows.sees old meant) (new_wide p here knows.sees old meant ∙ sym (old_wide p here knows.sees old meant)) h.slot
-              (subst (λ q. g.slots q ≡ Some h.slot) called (laid.shared x.name h.slot h.there region)) after put;
+              (subst (λ q. g.slots None q ≡ Some h.slot) called (laid.shared x.name h.slot h.there region)) after put;
           rests = rests;
           keeps = λ n among. refl;
         }))
