@@ -1,5 +1,6 @@
 mod Closing
 mod LinkedTasks
+mod Unmoved
 mod Meaning
 mod MainCalls
 mod Suited

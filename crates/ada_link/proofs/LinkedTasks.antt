@@ -66,10 +66,10 @@ module _ (program : Program) (i : Sections) (g : Package) (numbers : Numbers) wh
   abbrev state_of : Option rows.Task → TaskState
   state_of row = let n = body_of row in record { frame = body_frame i n (called i n); callers = []; raising = None }
 
-  task_stands : (k : Kernel) (task : Task) (row : rows.Task) → IsLinkedTask program i g numbers task row
-      → CodeStands i program g numbers k (work_of (Some task)) (state_of (Some row))
-  task_stands k task row h =
-      subst (λ s. CodeStands i program g numbers k (work_of (Some task)) (record { frame = body_frame i row.subprogram s; callers = []; raising = None }))
+  task_stands : (k : Kernel) (t : ℕ) (task : Task) (row : rows.Task) → IsLinkedTask program i g numbers task row
+      → CodeStands i program g numbers k t (work_of (Some task)) (state_of (Some row))
+  task_stands k t task row h =
+      subst (λ s. CodeStands i program g numbers k t (work_of (Some task)) (record { frame = body_frame i row.subprogram s; callers = []; raising = None }))
       (sym h.there)
       (Going (duty_items task.duty) refl (record {
         around = h.around;
@@ -82,10 +82,10 @@ module _ (program : Program) (i : Sections) (g : Package) (numbers : Numbers) wh
         inner = tt;
       }))
 
-  pub tasks_stand : (k : Kernel) (tasks : List Task) (table : List rows.Task) → Linked tasks table → (u : ℕ) → u < length table
-      → CodeStands i program g numbers k (work_of (slice_get tasks u)) (state_of (slice_get table u))
-  tasks_stand k [] [] h u there = absurd (omega (arith, there))
-  tasks_stand k (task ∷ tasks) (row ∷ table) h zero there = task_stands k task row h.0
-  tasks_stand k (task ∷ tasks) (row ∷ table) h (suc u) there = tasks_stand k tasks table h.1 u (omega (arith, there))
-  tasks_stand k [] (row ∷ table) h u there = absurd h
-  tasks_stand k (task ∷ tasks) [] h u there = absurd h
+  pub tasks_stand : (k : Kernel) (t : ℕ) (tasks : List Task) (table : List rows.Task) → Linked tasks table → (u : ℕ) → u < length table
+      → CodeStands i program g numbers k t (work_of (slice_get tasks u)) (state_of (slice_get table u))
+  tasks_stand k t [] [] h u there = absurd (omega (arith, there))
+  tasks_stand k t (task ∷ tasks) (row ∷ table) h zero there = task_stands k t task row h.0
+  tasks_stand k t (task ∷ tasks) (row ∷ table) h (suc u) there = tasks_stand k t tasks table h.1 u (omega (arith, there))
+  tasks_stand k t [] (row ∷ table) h u there = absurd h
+  tasks_stand k t (task ∷ tasks) [] h u there = absurd h

@@ -5,7 +5,7 @@ use Rattle.base.specs.declared.schedule.ScheduleLine.{ScheduleLine}
 use Rattle.kernel.specs.State.{Kernel}
 use Rattle.kernel.specs.Effects.{Effect, after, begin}
 use Rattle.kernel.specs.Worlds.{Solo, Tasks, among, ending, solo_of, step}
-use Rattle.kernel.specs.Laws.{LinesGrow, QuietStays, ReachesCallers, RunnerIsCalm}
+use Rattle.kernel.specs.Laws.{LeftUnmoved, LinesGrow, QuietStays, ReachesCallers, RunnerIsCalm}
 use Rattle.kernel.specs.RunLaws.{run_plus}
 use Rattle.image.specs.Sections.{Sections}
 use Rattle.image.specs.Operations.{entry_of}
@@ -46,12 +46,14 @@ use Rattle.package_code.specs.LinkLaws.{LinkedKeepsCount, LinkedMeansTheSame}
 use Rattle.package_code.specs.Linked.{IsLinkedProgram}
 use Rattle.ada_link.proofs.Closing.{closes}
 use Rattle.ada_link.proofs.LinkedTasks.{as_many, same_name, same_priority, tasks_stand}
+use Rattle.ada_link.proofs.Unmoved.{actions_stay, partition_stays}
 
 pub record LawsBelow : Type 0 where
   pub starts_whole : StartsWhole
   pub steps_whole : StepsWhole
   pub leads : CodeLeadsOn
   pub grow : LinesGrow
+  pub unmoved : LeftUnmoved
   pub quiet : QuietStays
   pub reaches : ReachesCallers
   pub calm : RunnerIsCalm
@@ -80,20 +82,22 @@ module _ (laws : LawsBelow) (p : ProgramTree) (i : Sections) (g : Package) (numb
 
   -- ---- each task of the image stands for its work
 
-  -- the frames of a task that takes no step stand for its work in the next kernel as well
-  stays : (k l : Kernel) (w : TaskWork) (s : TaskState) → k.outcome ≡ None → CodeStands i program g numbers k w s → CodeStands i program g numbers l w s
-  stays k l w s on (Going items is h) = Going items is h
-  stays k l w s on (Copying vs xs items is h) = Copying vs xs items is h
-  stays k l w s on (Catching items is h) = Catching items is h
-  stays k l w s on (Raised x items f fs is throws inner caught) = Raised x items f fs is throws inner caught
-  stays k l w s on (Over o h) = absurd cc
+  -- the frames of a task that takes no step stand for its work in the next kernel as well, where it has the same actions open under the same priorities
+  stays : (k l : Kernel) (u : ℕ) (w : TaskWork) (s : TaskState) → k.outcome ≡ None → l.actions u ≡ k.actions u → l.partition ≡ k.partition
+      → CodeStands i program g numbers k u w s → CodeStands i program g numbers l u w s
+  stays k l u w s on opened ranked (Going items is h) = Going items is h
+  stays k l u w s on opened ranked (Copying vs xs items is h) = Copying vs xs items is h
+  stays k l u w s on opened ranked (Catching items is h) = Catching items is h
+  stays k l u w s on opened ranked (Raised x items f fs is throws inner caught) =
+      Raised x items f fs is (record { throws = λ schedule n m here there. throws.throws schedule n m (here ∙ opened) (there ∙ ranked) }) inner caught
+  stays k l u w s on opened ranked (Over o h) = absurd cc
 
   -- behind the last task there is neither work nor code
   abbrev all : Relation Note Store TaskWork GivenToCaller Words TaskState steps.Given
   all = record {
     shares = StandsFor program g;
-    stands = λ note k u w s. u < length i.tasks → CodeStands i program g numbers k w s;
-    leaves = λ note k t e w s given gives. CodeStands i program g numbers (after t e k) w s;
+    stands = λ note k u w s. u < length i.tasks → CodeStands i program g numbers k u w s;
+    leaves = λ note k t e w s given gives. CodeStands i program g numbers (after t e k) t w s;
     size = λ w. work_size w.work;
   }
 
@@ -140,8 +144,11 @@ module _ (laws : LawsBelow) (p : ProgramTree) (i : Sections) (g : Package) (numb
           note,
           subst
               (Owed (source_behaviour p schedule) (behaviour i schedule) all frames_of (most_steps i) note k t e c.tasks d.tasks a.task b.task x y)
-              (sym (closes laws.leads i well_formed bare (record { kernel = k; rest = d }) before.others t e))
-              ((λ there. moved.leaves), (λ v other there. stays k (after t e k) (c.tasks v) (d.tasks v) before.runner.calm.runs.on (before.stand v there))),
+              (sym (closes laws.leads i well_formed bare (record { kernel = k; rest = d }) before.others t e)) (
+                (λ there. moved.leaves),
+                (λ v other there. stays k (after t e k) v (c.tasks v) (d.tasks v) before.runner.calm.runs.on
+                    (actions_stay laws.unmoved t v other e k) (partition_stays laws.unmoved t e k) (before.stand v there)),
+              ),
         )
 
     meets : Meets (source_behaviour p schedule) (behaviour i schedule) all frames_of (most_steps i) Sources (IsWhole i)
@@ -170,7 +177,7 @@ module _ (laws : LawsBelow) (p : ProgramTree) (i : Sections) (g : Package) (numb
         others = laws.starts_whole i well_formed;
         note = λ u. [];
         shared = linked.words;
-        stands = tasks_stand program i g numbers (source_start p).kernel program.tasks i.tasks linked.tasks;
+        stands = λ u there. tasks_stand program i g numbers (source_start p).kernel u program.tasks i.tasks linked.tasks u there;
       };
     }
 

@@ -5,7 +5,7 @@ use crate::link_laws::{linked_keeps_count, linked_means_the_same};
 use checking::laws::words_have_room;
 use expr_soundness::laws::scopes_are_sound;
 use image_laws::code_leads_on;
-use kernel::laws::quiet_stays;
+use kernel::laws::{quiet_stays, views_back, views_on};
 use program_soundness::body_laws::{fronts_fit, names_are_known, premises_hold};
 use program_soundness::program_laws::starts_are_sound;
 use stmt_code::laws::kept_code_passes;
@@ -81,6 +81,8 @@ pub fn sections_mean_the_same()
     shapes_stay();
     starts_are_sound();
     values_have_words();
+    views_back();
+    views_on();
 }
 
 /// Each subprogram of sections that were put together from a program has at most 20 instructions for each part of its text, and two for each word of an object that

@@ -2,7 +2,7 @@
 ghost use Rattle.package_code.specs.LinkLaws.{LinkedKeepsCount, LinkedMeansTheSame};
 
 use image_laws::{code_leads_on, steps_whole};
-use kernel::laws::{lines_grow, quiet_stays, reaches_callers, runner_is_calm};
+use kernel::laws::{left_unmoved, lines_grow, quiet_stays, reaches_callers, runner_is_calm};
 use meaning::laws::count_gives_meaning;
 use program_soundness::body_laws::premises_hold;
 use program_soundness::program_laws::starts_are_sound;
@@ -15,6 +15,7 @@ pub fn linked_keeps_count()
 {
     code_leads_on();
     steps_whole();
+    left_unmoved();
     lines_grow();
     quiet_stays();
     reaches_callers();

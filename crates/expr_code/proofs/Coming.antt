@@ -41,7 +41,7 @@ module _ (quiet : QuietStays) (i : Sections) where
         → Comes i schedule k t m f fs n to s v
         → Comes i schedule k t m f fs n' to s v
     more f fs n n' to s (Gives a) le h = spends_more (behaviour i schedule) t frames_of (most_steps i) n' le h
-    more f fs n n' to s (Raises x) le h = (h.0, h.1, h.2, takes_more (behaviour i schedule) t frames_of (most_steps i) n' le h.3, h.4, h.5, h.6)
+    more f fs n n' to s (Raises x) le h = (h.0, h.1, h.2, takes_more (behaviour i schedule) t frames_of (most_steps i) (suc n') (omega (arith, le)) h.3, h.4, h.5, h.6)
     more f fs n n' to s Meaningless le h = tt
 
     -- steps, and then what comes to a value
@@ -53,7 +53,8 @@ module _ (quiet : QuietStays) (i : Sections) where
     after_first f fs n n' mid to st s (Gives b) le h g = spends_trans (behaviour i schedule) t frames_of (most_steps i) n' k (in_frame m (placed f to (s b)) fs) h g
     after_first f fs n n' mid to st s (Raises x) le h g =
         let up = g.4 in
-        (g.0, g.1, g.2, spends_takes (behaviour i schedule) t frames_of (most_steps i) n' k (record { memory = m; task = g.0 }) h g.3, omega (arith, le, up), g.5, g.6)
+        let all = spends_takes (behaviour i schedule) t frames_of (most_steps i) (suc n') k (record { memory = m; task = g.0 }) h g.3 in
+        (g.0, g.1, g.2, takes_more (behaviour i schedule) t frames_of (most_steps i) (suc (n + n')) (omega arith) all, omega (arith, le, up), g.5, g.6)
     after_first f fs n n' mid to st s Meaningless le h g = tt
 
     -- a value, and then what comes to another one
@@ -66,7 +67,7 @@ module _ (quiet : QuietStays) (i : Sections) where
     then_comes f fs n n' mid to s s' (Gives a) go le up h g = after_first f fs n n' mid to (s a) s' (go a) le h (g a refl)
     then_comes f fs n n' mid to s s' (Raises x) go le up h g =
         let below = h.5 in
-        (h.0, h.1, h.2, takes_more (behaviour i schedule) t frames_of (most_steps i) (n + n') (omega arith) h.3, h.4, omega (arith, below, up), h.6)
+        (h.0, h.1, h.2, takes_more (behaviour i schedule) t frames_of (most_steps i) (suc (n + n')) (omega arith) h.3, h.4, omega (arith, below, up), h.6)
     then_comes f fs n n' mid to s s' Meaningless go le up h g = tt
 
     -- an instruction whose result is checked, where the word that it computes is that of a value
@@ -88,7 +89,7 @@ module _ (quiet : QuietStays) (i : Sections) where
       Last refl,
       omega arith,
       omega (arith, next),
-      record { throws = λ schedule k t m. is schedule k t m ∙ ap (λ n. unwind i m n (placed f place stack) fs) (sym word) },
+      record { throws = λ schedule l m opened ranked. is schedule l t m ∙ ap (λ n. unwind i m n (placed f place stack) fs) (sym word) },
     )
     by_result place f fs stack base c Meaningless is word to next = tt
 

@@ -165,7 +165,7 @@ module _ (quiet : QuietStays) (i : Sections) where
         (steps quiet i schedule k t m calm (placed f stop (on base v)) (placed f to (on base v)) fs (acts quiet i stop (op.Jump to) jump schedule k t m f fs (on base v)))
     then_jumps from n stop to base (Raises x) le up jump h =
         let below = h.5 in
-        (h.0, h.1, h.2, takes_more (behaviour i schedule) t frames_of (most_steps i) (n + 1) (omega arith) h.3, h.4, omega (arith, below, up), h.6)
+        (h.0, h.1, h.2, takes_more (behaviour i schedule) t frames_of (most_steps i) (suc (n + 1)) (omega arith) h.3, h.4, omega (arith, below, up), h.6)
     then_jumps from n stop to base Meaningless le up jump h = tt
 
     -- one of two values, by a condition that stands on the stack
@@ -334,7 +334,7 @@ module _ (quiet : QuietStays) (i : Sections) where
         (first calls left answers schedule k t m f fs p base calm sees is)
         (λ v ev. as_truth mid to binary.AndThen b calls p schedule k t m f fs base v
         (λ x. and_then_comes from mid to b calls p schedule k t m calm f fs base x up copy jump drop (second calls left answers schedule k t m f fs p base calm sees is))
-        (truth calls p (view_of i schedule k m f fs) v answers.sound sees ev)))
+        (truth calls p (view_of i schedule k t m f fs) v answers.sound sees ev)))
 
     pub computes_or_else : (from mid to : ℕ) (a b : ExprTree) → from ≤ mid → mid + 3 ≤ to
         → Computes i library sight from mid a
@@ -348,7 +348,7 @@ module _ (quiet : QuietStays) (i : Sections) where
         (first calls left answers schedule k t m f fs p base calm sees is)
         (λ v ev. as_truth mid to binary.OrElse b calls p schedule k t m f fs base v
         (λ x. or_else_comes from mid to b calls p schedule k t m calm f fs base x up copy jump drop (second calls left answers schedule k t m f fs p base calm sees is))
-        (truth calls p (view_of i schedule k m f fs) v answers.sound sees ev)))
+        (truth calls p (view_of i schedule k t m f fs) v answers.sound sees ev)))
 
     -- if expressions: what stands behind the first value
     else_computes : (from to : ℕ) (elsifs : ElsifValueTrees) (e : ExprTree) → ComputesElse i library sight from to elsifs e

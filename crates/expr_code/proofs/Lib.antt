@@ -2,6 +2,9 @@ pub mod Coming
 mod Operators
 mod Expressions
 pub mod Passing
+pub mod CallFrames
+mod CallRefusals
+mod CountedSteps
 pub mod Calling
 pub mod Naming
 pub mod Locating

@@ -234,7 +234,7 @@ module _ (quiet : QuietStays) (i : Sections) (schedule : List ScheduleLine) (k :
   then_finds f n n' mid to st base (Gives a) go le up h g = found_after f n n' mid to (st a) base (go a) le h (g a refl)
   then_finds f n n' mid to st base (Raises e) go le up h g =
       let below = h.5 in
-      (h.0, h.1, h.2, takes_more (behaviour i schedule) t frames_of (most_steps i) (n + n') (omega arith) h.3, h.4, omega (arith, below, up), h.6)
+      (h.0, h.1, h.2, takes_more (behaviour i schedule) t frames_of (most_steps i) (suc (n + n')) (omega arith) h.3, h.4, omega (arith, below, up), h.6)
   then_finds f n n' mid to st base Meaningless go le up h g = tt
 
   -- an address, and then another one
@@ -247,7 +247,7 @@ module _ (quiet : QuietStays) (i : Sections) (schedule : List ScheduleLine) (k :
   then_found q y f n n' mid to base (Gives (IsObject s a)) go le up h g = found_after f n n' mid to (pos h.0 ∷ base) base (go (IsObject s a)) le h.4 (subst (λ z. Finds i schedule k t m (placed f mid (pos h.0 ∷ base)) fs region r x n' to base (go (IsObject z a))) (sym h.3) (g a h.0 h.1 h.2))
   then_found q y f n n' mid to base (Raises e) go le up h g =
       let below = h.5 in
-      (h.0, h.1, h.2, takes_more (behaviour i schedule) t frames_of (most_steps i) (n + n') (omega arith) h.3, h.4, omega (arith, below, up), h.6)
+      (h.0, h.1, h.2, takes_more (behaviour i schedule) t frames_of (most_steps i) (suc (n + n')) (omega arith) h.3, h.4, omega (arith, below, up), h.6)
   then_found q y f n n' mid to base Meaningless go le up h g = tt
   then_found q y f n n' mid to base v go le up h g = absurd h
 
@@ -291,7 +291,7 @@ module _ (quiet : QuietStays) (sized : ValuesHaveWords) (places : PartsHavePlace
       → Answers i library calls left
       → (schedule : List ScheduleLine) (k : Kernel) (t : ℕ) (m : Words) (f : Frame) (fs : List Frame) (p : Place) (base : List ℤ)
       → Calm k t
-      → sight p (view_of i schedule k m f fs)
+      → sight p (view_of i schedule k t m f fs)
       → left ≡ frames_above fs
       → form_at p.scope s.type_number ≡ Some (Arrays index many element)
       → (vs : Values) (address : ℕ)
@@ -336,7 +336,7 @@ module _ (quiet : QuietStays) (sized : ValuesHaveWords) (places : PartsHavePlace
       at_value : (v : Value) → and_then (value_with calls p e) (passed index) ≡ Gives v → Finds i schedule k t m (placed f mid (on (pos address ∷ base) v)) fs region element x 5 (mid + 5) base (go v)
       at_value v ev =
           let first = given (value_with calls p e) (passed index) v ev in
-          let it = number calls p (view_of i schedule k m f fs) first.0 answers.sound sees first.1 in
+          let it = number calls p (view_of i schedule k t m f fs) first.0 answers.sound sees first.1 in
           let checked = passed_number index it.0 v (ap (passed index) (sym it.1) ∙ first.2) in
           subst (λ u. Finds i schedule k t m (placed f mid (on (pos address ∷ base) u)) fs region element x 5 (mid + 5) base (go u)) (sym checked.0) (at_number it.0 checked.1)
 

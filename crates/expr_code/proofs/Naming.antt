@@ -174,7 +174,7 @@ module _ (quiet : QuietStays) (i : Sections) where
     -- an object, or a part of one whose place is known: of one word
     pub computes_stored : (from address : ℕ) (region : Region) (e : ExprTree) → IsStored library sight e region address 1 → At i from (load_operation region address) → Computes i library sight from (suc from) e
     computes_stored from address region e stored here calls left answers schedule k t m f fs p base calm sees is =
-        let it = stored calls p (view_of i schedule k m f fs) answers.sound sees in
+        let it = stored calls p (view_of i schedule k t m f fs) answers.sound sees in
         subst (λ v. Comes i schedule k t m (placed f from base) fs (suc from - from) (suc from) (on base) v) (sym it.1)
         (more quiet i schedule k t m calm (placed f from base) fs 1 (suc from - from) (suc from) (on base) (Gives it.0) (omega arith)
         (word_comes schedule k t m calm f fs from (suc from) region address here (omega arith) it.0 base it.2 it.3))
@@ -182,7 +182,7 @@ module _ (quiet : QuietStays) (i : Sections) where
     -- ... of several words
     pub computes_block : (from address size : ℕ) (region : Region) (e : ExprTree) → IsStored library sight e region address size → At i from (op.Push (pos address)) → At i (from + 1) (op.LoadBlock region size) → Computes i library sight from (from + 2) e
     computes_block from address size region e stored push load calls left answers schedule k t m f fs p base calm sees is =
-        let it = stored calls p (view_of i schedule k m f fs) answers.sound sees in
+        let it = stored calls p (view_of i schedule k t m f fs) answers.sound sees in
         subst (λ v. Comes i schedule k t m (placed f from base) fs ((from + 2) - from) (from + 2) (on base) v) (sym it.1)
         (more quiet i schedule k t m calm (placed f from base) fs 2 ((from + 2) - from) (from + 2) (on base) (Gives it.0) (omega arith)
         (block_comes schedule k t m calm f fs from region address size push load it.0 base it.2 it.3))
@@ -190,7 +190,7 @@ module _ (quiet : QuietStays) (i : Sections) where
     -- a name that has a value by types and constants alone
     pub computes_fixed : (from : ℕ) (first : Identifier) (selectors : SelectorTrees) (v : Scalar) → IsFixed sight first selectors v → At i from (op.Push (scalar_word v)) → Computes i library sight from (suc from) (tree.Named first selectors)
     computes_fixed from first selectors v fixed here calls left answers schedule k t m f fs p base calm sees is =
-        subst (λ o. Comes i schedule k t m (placed f from base) fs (suc from - from) (suc from) (on base) (elim o [ Some v ↦ Gives (value_of v) | None ↦ name_with calls p (meaning_of p first.name) selectors ])) (sym (fixed p (view_of i schedule k m f fs) sees))
+        subst (λ o. Comes i schedule k t m (placed f from base) fs (suc from - from) (suc from) (on base) (elim o [ Some v ↦ Gives (value_of v) | None ↦ name_with calls p (meaning_of p first.name) selectors ])) (sym (fixed p (view_of i schedule k t m f fs) sees))
         (more quiet i schedule k t m calm (placed f from base) fs 1 (suc from - from) (suc from) (on base) (Gives (value_of v)) (omega arith)
         (subst (λ ws. Spends (behaviour i schedule) t frames_of (most_steps i) (suc (length fs)) 1 k (in_frame m (placed f from base) fs) k (in_frame m (placed f (suc from) (reverse ws ++ base)) fs)) (sym (fixed_word v))
         (pushes quiet i schedule k t m calm from (scalar_word v) here f fs base (suc from) (omega arith))))
@@ -201,7 +201,7 @@ module _ (quiet : QuietStays) (i : Sections) where
         → NamesMeaning sight first selectors (IsPredefined predefined.Clock) → SeesTime sight → At i from op.Clock
         → Computes i library sight from (suc from) (tree.Named first selectors)
     computes_clock from first selectors alone names time here calls left answers schedule k t m f fs p base calm sees is =
-        let view = view_of i schedule k m f fs in
+        let view = view_of i schedule k t m f fs in
         let named = names p view sees in
         let next : from + 1 ≡ suc from = omega arith in
         subst (λ v. Comes i schedule k t m (placed f from base) fs (suc from - from) (suc from) (on base) v)
@@ -215,7 +215,7 @@ module _ (quiet : QuietStays) (i : Sections) where
     pub computes_microseconds : (from to : ℕ) (first : Identifier) (e : ExprTree) → NamesMeaning sight first (with_argument e) (IsPredefined predefined.Microseconds)
         → ComputesChecked i library sight from to integer e → Computes i library sight from to (tree.Named first (with_argument e))
     computes_microseconds from to first e names inner calls left answers schedule k t m f fs p base calm sees is =
-        let named = names p (view_of i schedule k m f fs) sees in
+        let named = names p (view_of i schedule k t m f fs) sees in
         let go : Value → Val Value = λ a. predefined_value p predefined.Microseconds (a ∷ []) in
         subst (λ v. Comes i schedule k t m (placed f from base) fs (to - from) to (on base) v)
         (sym (named_value calls p first (with_argument e) (IsPredefined predefined.Microseconds) named.0 named.1 ∙ argument_named calls p (IsPredefined predefined.Microseconds) integer e go refl (λ a. value_alone calls p (go a))))
@@ -227,7 +227,7 @@ module _ (quiet : QuietStays) (i : Sections) where
         → ((p : Place) (view : View) → sight p view → form_at p.scope s.type_number ≡ Some Integers)
         → ComputesChecked i library sight from to s e → Computes i library sight from to (tree.Named first (with_argument e))
     computes_conversion from to first s e names integers inner calls left answers schedule k t m f fs p base calm sees is =
-        let view = view_of i schedule k m f fs in
+        let view = view_of i schedule k t m f fs in
         let named = names p view sees in
         subst (λ v. Comes i schedule k t m (placed f from base) fs (to - from) to (on base) v)
         (sym (named_value calls p first (with_argument e) (IsSubtype s) named.0 named.1 ∙ argument_named calls p (IsSubtype s) s e converted (ap (wanted_by_conversion s) (integers p view sees)) (converts calls p s)))
@@ -239,7 +239,7 @@ module _ (quiet : QuietStays) (i : Sections) where
         → At i from (op.Push (pos 1000)) → ComputesChecked i library sight (from + 1) mid integer e → At i mid op.Multiply
         → Computes i library sight from (suc mid) (tree.Named first (with_argument e))
     computes_milliseconds from mid first e names le push inner multiply calls left answers schedule k t m f fs p base calm sees is =
-        let named = names p (view_of i schedule k m f fs) sees in
+        let named = names p (view_of i schedule k t m f fs) sees in
         let go : Value → Val Value = λ a. predefined_value p predefined.Milliseconds (a ∷ []) in
         let checked = and_then (value_with calls p e) (passed integer) in
         let thousand : List ℤ = pos 1000 ∷ base in
@@ -264,7 +264,7 @@ module _ (quiet : QuietStays) (i : Sections) where
         → Computes i library sight from mid e → At i mid op.ReadInput
         → Computes i library sight from (suc mid) (tree.Named first (with_argument e))
     computes_read from mid first e names time number le inner here calls left answers schedule k t m f fs p base calm sees is =
-        let view = view_of i schedule k m f fs in
+        let view = view_of i schedule k t m f fs in
         let named = names p view sees in
         let times = time p view sees in
         let go : Value → Val Value = λ a. predefined_value p predefined.Read (a ∷ []) in

@@ -97,11 +97,11 @@ module _ (quiet : QuietStays) (i : Sections) where
         more quiet i schedule k t m calm (placed f from base) fs ((mid - from) + 3) ((mid + 3) - from) (mid + 3) (on base) (and_then (value_with calls p e) (passed s)) (omega (arith, le))
         (then_comes quiet i schedule k t m calm (placed f from base) fs (mid - from) 3 mid (mid + 3) (on base) (on base) (value_with calls p e) (passed s) le (omega arith)
         (inner calls left answers schedule k t m f fs p base calm sees is)
-        (λ v ev. number_passes schedule k t m calm f fs mid s check.0 check.1 check.2 base v (number calls p (view_of i schedule k m f fs) v answers.sound sees ev)))
+        (λ v ev. number_passes schedule k t m calm f fs mid s check.0 check.1 check.2 base v (number calls p (view_of i schedule k t m f fs) v answers.sound sees ev)))
 
     pub computes_unchecked : (from to : ℕ) (s : Subtype) (e : ExprTree) → Computes i library sight from to e → AlwaysPasses i library sight s e → ComputesChecked i library sight from to s e
     computes_unchecked from to s e inner always calls left answers schedule k t m f fs p base calm sees is =
-        passes schedule k t m calm f fs from to base s (value_with calls p e) (λ v ev. always calls p (view_of i schedule k m f fs) v answers.sound sees ev)
+        passes schedule k t m calm f fs from to base s (value_with calls p e) (λ v ev. always calls p (view_of i schedule k t m f fs) v answers.sound sees ev)
         (inner calls left answers schedule k t m f fs p base calm sees is)
 
     pub computes_none : (from : ℕ) → ComputesAll i library sight from from [] NoArguments
@@ -127,7 +127,7 @@ module _ (quiet : QuietStays) (i : Sections) where
         → At i mid (op.Call number)
         → Computes i library sight from (suc mid) (tree.Named first (MoreSelectors (Arguments arguments) NoSelectors))
     computes_call from mid number first arguments ts le names passed_well all here calls left answers schedule k t m f fs p base calm sees is =
-        let view = view_of i schedule k m f fs in
+        let view = view_of i schedule k t m f fs in
         let named = names p view sees in
         let function = named.function in
         let actuals = actuals_with calls p arguments ts in
@@ -138,7 +138,7 @@ module _ (quiet : QuietStays) (i : Sections) where
         (more quiet i schedule k t m calm (placed f from base) fs ((mid - from) + 1) (suc mid - from) (suc mid) (on base) (and_then actuals (calls p function)) (omega (arith, le))
         (then_comes quiet i schedule k t m calm (placed f from base) fs (mid - from) 1 mid (suc mid) (all_on base) (on base) actuals (calls p function) le (omega arith)
         (all calls left answers schedule k t m f fs p base calm sees is)
-        (λ vs ev. answers.answers schedule k t m f fs p mid base function number vs calm named.shared named.coded here (passed_well calls p view function vs answers.sound sees named.formals ev) is)))
+        (λ vs ev. answers.answers schedule k t m f fs p mid base function None number vs calm named.shared named.coded tt here (passed_well calls p view function vs answers.sound sees named.formals ev) is)))
 
     -- ... that has no formals
     pub computes_call_alone : (from number : ℕ) (first : Identifier)
@@ -147,9 +147,9 @@ module _ (quiet : QuietStays) (i : Sections) where
         → At i from (op.Call number)
         → Computes i library sight from (suc from) (tree.Named first NoSelectors)
     computes_call_alone from number first names passed_well here calls left answers schedule k t m f fs p base calm sees is =
-        let view = view_of i schedule k m f fs in
+        let view = view_of i schedule k t m f fs in
         let named = names p view sees in
         let function = named.function in
         subst (λ v. Comes i schedule k t m (placed f from base) fs (suc from - from) (suc from) (on base) v) (sym (named_value calls p first NoSelectors (IsFunction function None) named.valueless named.means))
         (more quiet i schedule k t m calm (placed f from base) fs 1 (suc from - from) (suc from) (on base) (calls p function []) (omega arith)
-        (answers.answers schedule k t m f fs p from base function number [] calm named.shared named.coded here (passed_well calls p view function [] answers.sound sees named.formals refl) is))
+        (answers.answers schedule k t m f fs p from base function None number [] calm named.shared named.coded tt here (passed_well calls p view function [] answers.sound sees named.formals refl) is))

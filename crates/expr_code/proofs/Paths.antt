@@ -68,7 +68,7 @@ module _ (quiet : QuietStays) (sized : ValuesHaveWords) (places : PartsHavePlace
   module _ (schedule : List ScheduleLine) (k : Kernel) (t : ℕ) (m : Words) (calm : Calm k t) (f : Frame) (fs : List Frame) (base : List ℤ) where
     more_finds : (from n n' to : ℕ) (st : List ℤ) (r : Subtype) (x : Shape) (v : Val Meaning) → n ≤ n' → Finds i schedule k t m (placed f from st) fs region r x n to base v → Finds i schedule k t m (placed f from st) fs region r x n' to base v
     more_finds from n n' to st r x (Gives (IsObject s v)) le h = (h.0, h.1, h.2, h.3, spends_more (behaviour i schedule) t frames_of (most_steps i) n' le h.4)
-    more_finds from n n' to st r x (Raises e) le h = (h.0, h.1, h.2, takes_more (behaviour i schedule) t frames_of (most_steps i) n' le h.3, h.4, h.5, h.6)
+    more_finds from n n' to st r x (Raises e) le h = (h.0, h.1, h.2, takes_more (behaviour i schedule) t frames_of (most_steps i) (suc n') (omega (arith, le)) h.3, h.4, h.5, h.6)
     more_finds from n n' to st r x Meaningless le h = tt
     more_finds from n n' to st r x v le h = absurd h
 
@@ -84,7 +84,7 @@ module _ (quiet : QuietStays) (sized : ValuesHaveWords) (places : PartsHavePlace
     )
 
   module _ (calls : Calls) (left : ℕ) (answers : Answers i library calls left) (schedule : List ScheduleLine) (k : Kernel) (t : ℕ) (m : Words) (f : Frame) (fs : List Frame) (p : Place) (base : List ℤ)
-      (calm : Calm k t) (sees : sight p (view_of i schedule k m f fs)) (is : left ≡ frames_above fs) (small : length (region_words i region m f) ≤ 65536) where
+      (calm : Calm k t) (sees : sight p (view_of i schedule k t m f fs)) (is : left ≡ frames_above fs) (small : length (region_words i region m f) ≤ 65536) where
     abbrev At_part : (from to : ℕ) (last : Subtype) (end : Shape) (address : ℕ) → Val Meaning → Type 0
     At_part from to last end address v = Finds i schedule k t m (placed f from (pos address ∷ base)) fs region last end (to - from) to base v
 
@@ -127,10 +127,10 @@ module _ (quiet : QuietStays) (sized : ValuesHaveWords) (places : PartsHavePlace
     finds_path NoSelectors from to s last x end code v address lies shaped =
         subst (λ z. At_part from to z end address (Gives (IsObject s v))) code.2 (ends_there schedule k t m calm f fs base from to address s x end v code.0 code.1 lies shaped)
     finds_path (MoreSelectors (Component name) rest) from to s last x end code v address lies shaped =
-        along_field name rest from to s last x end code.0 code.1 code.2 code.3 code.4 (code.5 p (view_of i schedule k m f fs) sees) (code.6 p (view_of i schedule k m f fs) sees) code.7 code.8 code.9 code.11 code.12 code.13
+        along_field name rest from to s last x end code.0 code.1 code.2 code.3 code.4 (code.5 p (view_of i schedule k t m f fs) sees) (code.6 p (view_of i schedule k t m f fs) sees) code.7 code.8 code.9 code.11 code.12 code.13
         (λ a b l h. finds_path rest (from + 2) to code.2 last code.3 end code.14 a b l h) v address lies shaped
     finds_path (MoreSelectors (Arguments (MoreArguments (tree.Value e) NoArguments)) rest) from to s last x end code v address lies shaped =
-        along_index e rest from code.4 to s last code.0 code.1 code.2 x code.3 end (code.5 p (view_of i schedule k m f fs) sees) (code.6 p (view_of i schedule k m f fs) sees) code.7 code.8 code.9 code.10 code.11 code.12 code.13 code.14 code.15 code.16
+        along_index e rest from code.4 to s last code.0 code.1 code.2 x code.3 end (code.5 p (view_of i schedule k t m f fs) sees) (code.6 p (view_of i schedule k t m f fs) sees) code.7 code.8 code.9 code.10 code.11 code.12 code.13 code.14 code.15 code.16
         (λ a b l h. finds_path rest (code.4 + 5) to code.1 last code.3 end code.17 a b l h) v address lies shaped
     finds_path (MoreSelectors other rest) from to s last x end code v address lies shaped = absurd code
 
@@ -177,7 +177,7 @@ module _ (quiet : QuietStays) (sized : ValuesHaveWords) (places : PartsHavePlace
         (loads_part mid h.0 x here a (subst (λ ws. Lies ws h.0 a) (same_words i m region f from st) h.1) h.2)
     then_loads from n mid last x calls p st (Raises e) le here h =
         let below = h.5 in
-        (h.0, h.1, h.2, takes_more (behaviour i schedule) t frames_of (most_steps i) (n + 1) (omega arith) h.3, h.4, omega (arith, below), h.6)
+        (h.0, h.1, h.2, takes_more (behaviour i schedule) t frames_of (most_steps i) (suc (n + 1)) (omega arith) h.3, h.4, omega (arith, below), h.6)
     then_loads from n mid last x calls p st Meaningless le here h = tt
     then_loads from n mid last x calls p st v le here h = absurd h
 
@@ -189,7 +189,7 @@ module _ (quiet : QuietStays) (sized : ValuesHaveWords) (places : PartsHavePlace
       → At i mid (op.LoadBlock region (words end))
       → Computes i library sight from (suc mid) (tree.Named first selectors)
   computes_part from mid address first selectors s last x end le names push path load calls left answers schedule k t m f fs p base calm sees is =
-      let it = names p (view_of i schedule k m f fs) sees in
+      let it = names p (view_of i schedule k t m f fs) sees in
       let meaning = IsObject s it.0 in
       let found = located calls p meaning selectors in
       subst (λ v. Comes i schedule k t m (placed f from base) fs (suc mid - from) (suc mid) (on base) v)

@@ -35,19 +35,22 @@ module _ (i : Sections) where
   abbrev pub most_steps : TaskState → ℕ
   most_steps s = suc (size_of s.frame.subprogram + size_of s.frame.subprogram)
 
-  -- the next step raises the exception from this frame on, whatever the words and the kernel are
-  pub record Throws (x : ℕ) (c : TaskState) (f : Frame) (fs : List Frame) : Type 0 where
-    pub throws : (schedule : List ScheduleLine) (k : Kernel) (t : ℕ) (m : Words) → act i schedule k t (record { memory = m; task = c }) ≡ unwind i m x f fs
+  -- The next step of the task raises the exception from this frame on, whatever the words are, in each kernel in which the task has the same actions open, and
+  -- priorities and ceilings are the same: by these a call may be refused.
+  pub record Throws (k : Kernel) (t : ℕ) (x : ℕ) (c : TaskState) (f : Frame) (fs : List Frame) : Type 0 where
+    pub throws : (schedule : List ScheduleLine) (l : Kernel) (m : Words) → l.actions t ≡ k.actions t → l.partition ≡ k.partition
+        → act i schedule l t (record { memory = m; task = c }) ≡ unwind i m x f fs
 
   module _ (schedule : List ScheduleLine) (k : Kernel) (t : ℕ) (m : Words) where
-    -- In at most n steps of its own the frame comes to the place `to` with this stack, or to a step that raises at an instruction before `to`; that step
-    -- may be one of a frame above it. Every task, word and line stays. Of what has no meaning nothing is said: legal programs have none.
+    -- In at most n steps of its own the frame comes to the place `to` with this stack, or to a step that raises at an instruction before `to`, and takes at
+    -- most n + 1 with this one: what a function of a protected object raises comes to its caller in a step of its own, once the action has ended. The step
+    -- that raises may be one of a frame above. Every task, word and line stays. Of what has no meaning nothing is said: legal programs have none.
     abbrev pub Comes : {A : Type 0} → Frame → List Frame → (n to : ℕ) → (stack : A → List ℤ) → Val A → Type 0
     Comes f fs n to stack (Gives a) = Spends (behaviour i schedule) t frames_of most_steps (suc (length fs)) n k (in_frame m f fs) k (in_frame m (placed f to (stack a)) fs)
     Comes f fs n to stack (Raises x) =
         (c : TaskState) × (place : ℕ) × (left : List ℤ)
-        × Takes (behaviour i schedule) t frames_of most_steps (suc (length fs)) n k (in_frame m f fs) k (record { memory = m; task = c })
+        × Takes (behaviour i schedule) t frames_of most_steps (suc (length fs)) (suc n) k (in_frame m f fs) k (record { memory = m; task = c })
         × (f.place ≤ place)
         × (place < to)
-        × Throws x c (placed f place left) fs
+        × Throws k t x c (placed f place left) fs
     Comes f fs n to stack Meaningless = Unit {0}

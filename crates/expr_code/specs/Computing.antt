@@ -1,5 +1,5 @@
 -- What it is that code computes an expression, and the expressions in parentheses behind a name, wherever a part of a program sees enough of what they name.
-use Rattle.std.specs.Prelude.{◌≡◌, ℕ, suc, ◌-◌, ◌+◌, ◌≤◌, ℤ, Bool, true, List, [], ◌∷◌, ◌++◌, length, map, Some, None}
+use Rattle.std.specs.Prelude.{◌≡◌, ℕ, suc, ◌-◌, ◌+◌, ◌≤◌, ℤ, Bool, true, List, [], ◌∷◌, ◌++◌, length, map, Option, Some, None, ⊤}
 use Rattle.base.specs.declared.schedule.ScheduleLine.{ScheduleLine}
 use Rattle.kernel.specs.State.{Kernel}
 use Rattle.kernel.specs.Calm.{Calm}
@@ -7,18 +7,22 @@ use Rattle.expr_soundness.specs.handlers.specs.Innermost.{handler_of}
 use Rattle.ada_tree.specs.declared.expression.Identifier.{Identifier}
 use Rattle.ada_tree.specs.ExpressionTree.{ExprTree, ArgumentTrees, SelectorTrees, ElsifValueTrees, NoElsifValues, MoreElsifValues}
 use Rattle.image.specs.Sections.{Sections, first_place, object_of}
-use Rattle.image.specs.Operations.{called}
+use Rattle.image.specs.Operations.{called as subprogram_called}
 use Rattle.image.specs.Frames.{Words, Frame, object_words}
+use Rattle.image.specs.declared.instruction.Operation.{Operation}
 use Rattle.image.specs.declared.instruction.Operation.TheVariants as op
 use Rattle.image.specs.declared.instruction.Region.TheVariants as regions
+use Rattle.image.specs.declared.subprograms.Kind.{Kind}
+use Rattle.image.specs.declared.subprograms.Kind.TheVariants.{Plain, ProtectedFunction}
 use Rattle.image.specs.declared.subprograms.Subprogram.{Subprogram}
+use Rattle.types.specs.Entities.{ProtectedObject}
 use Rattle.types.specs.declared.entity.Subtype.{Subtype}
 use Rattle.types.specs.Values.{Value, Number, Truth}
 use Rattle.types.specs.Shapes.{Shape, has_shape, value_words}
 use Rattle.types.specs.Evaluations.{Val, Gives, and_then}
-use Rattle.types.specs.Places.{Function, IsFunction, Place, meaning_of}
-use Rattle.types.specs.Evaluating.{Calls, actuals_with, entered, fixed_name, formal_subtype, passed, value_with}
-use Rattle.expr_code.specs.Views.{At, placed, frames_above, Sight, View, view_of}
+use Rattle.types.specs.Places.{Function, IsFunction, Place, ceiling_of, meaning_of}
+use Rattle.types.specs.Evaluating.{Calls, actuals_with, called, entered, fixed_name, formal_subtype, passed, value_with}
+use Rattle.expr_code.specs.Views.{At, IsSameTask, placed, frames_above, Sight, View, view_of}
 use Rattle.expr_code.specs.Coming.{all_on, all_words, Comes, on}
 
 -- each value has the shape that is told
@@ -26,6 +30,22 @@ abbrev pub ArePassed : List Shape → List Value → Type 0
 ArePassed [] [] = Unit {0}
 ArePassed (x ∷ xs) (v ∷ vs) = (has_shape x v ≡ true) × ArePassed xs vs
 ArePassed xs vs = ⊥
+
+-- ---- how a function is called: within its object, or from anywhere where it has none; or through the name of its object, which opens an action (RM 9.5.1)
+
+abbrev pub call_operation : Option ProtectedObject → ℕ → Operation
+call_operation None number = op.Call number
+call_operation (Some o) number = op.ProtectedCall number
+
+-- the kind of the subprogram of a function
+abbrev pub function_kind : Option ℕ → Kind
+function_kind None = Plain
+function_kind (Some o) = ProtectedFunction o
+
+-- the object through which a function is called is its own, with the ceiling that the package gives it
+abbrev pub IsCalledThrough : Place → Function → Option ProtectedObject → Type 0
+IsCalledThrough p f None = ⊤
+IsCalledThrough p f (Some o) = (f.object ≡ Some o.number) × (ceiling_of p.scope o.number ≡ o.ceiling)
 
 -- the functions that code may call
 pub record Library : Type 1 where
@@ -39,19 +59,20 @@ pub record Library : Type 1 where
 
 module _ (i : Sections) (library : Library) where
   -- The code of the functions that are called gives their values, with so many frames left: where the actual parameters stand on the operand stack at the call,
-  -- the frame comes behind it with the value in their place.
+  -- the frame comes behind it with the value in their place, or the call raises, as one through an object does where it is refused. The kernel is as before.
   pub record Answers (calls : Calls) (left : ℕ) : Type 0 where
     pub sound : library.sound calls
     pub answers :
         (schedule : List ScheduleLine) (k : Kernel) (t : ℕ) (m : Words) (f : Frame) (fs : List Frame) (p : Place) (place : ℕ) (base : List ℤ)
-        (function : Function) (number : ℕ) (args : List Value)
+        (function : Function) (through : Option ProtectedObject) (number : ℕ) (args : List Value)
         → Calm k t
-        → library.shared p (view_of i schedule k m f fs)
+        → library.shared p (view_of i schedule k t m f fs)
         → library.coded function number
-        → At i place (op.Call number)
+        → IsCalledThrough p function through
+        → At i place (call_operation through number)
         → ArePassed (library.shapes function) args
         → left ≡ frames_above fs
-        → Comes i schedule k t m (placed f place (all_on base args)) fs 1 (suc place) (on base) (calls p function args)
+        → Comes i schedule k t m (placed f place (all_on base args)) fs 1 (suc place) (on base) (called calls p function through args)
 
   -- from each state of a frame that sees what is visible
   abbrev pub Everywhere : {A : Type 0} → Sight → (from to : ℕ) → (List ℤ → A → List ℤ) → (Calls → Place → Val A) → Type 0
@@ -60,7 +81,7 @@ module _ (i : Sections) (library : Library) where
       → Answers calls left
       → (schedule : List ScheduleLine) (k : Kernel) (t : ℕ) (m : Words) (f : Frame) (fs : List Frame) (p : Place) (base : List ℤ)
       → Calm k t
-      → sight p (view_of i schedule k m f fs)
+      → sight p (view_of i schedule k t m f fs)
       → left ≡ frames_above fs
       → Comes i schedule k t m (placed f from base) fs (to - from) to (stack base) (value calls p)
 
@@ -132,7 +153,8 @@ module _ (i : Sections) (library : Library) where
   -- the code of a function: its value, checked, and a return. It handles nothing, and sees what all bodies see and its formals
   pub record IsFunctionCode (function : Function) (number : ℕ) : Type 1 where
     pub s : Subprogram
-    pub there : called i number ≡ Some s
+    pub there : subprogram_called i number ≡ Some s
+    pub kind : s.kind ≡ function_kind function.object
     pub parameters : (args : List Value) → ArePassed (library.shapes function) args → length (all_words args) ≡ s.parameters
     pub sight : Sight
     pub mid : ℕ
@@ -149,6 +171,7 @@ module _ (i : Sections) (library : Library) where
         → ArePassed (library.shapes function) args
         → inner.schedule ≡ view.schedule
         → inner.now ≡ view.now
+        → IsSameTask p inner
         → inner.memory ≡ view.memory
         → inner.words regions.Locals ≡ all_words args ++ locals
         → length locals ≡ s.locals - s.parameters

@@ -11,7 +11,7 @@ use Rattle.types.specs.Values.{Value}
 use Rattle.types.specs.declared.entity.PredefinedOperation.{PredefinedOperation}
 use Rattle.types.specs.declared.entity.Subtype.{Subtype}
 use Rattle.types.specs.Entities.{Entity, Predefined, Profile, Subprogram}
-use Rattle.types.specs.Places.{Function, IsFunction, IsObject, Place, function_of, meaning_of}
+use Rattle.types.specs.Places.{Function, IsFunction, IsObject, Object, Place, function_of, meaning_of, object_of}
 use Rattle.types.specs.Evaluating.{formal_subtype}
 use Rattle.types.specs.Scopes.{Scope, entity_at, number_of}
 use Rattle.types.specs.Layouts.{words_of}
@@ -19,7 +19,7 @@ use Rattle.types.specs.Shapes.{shape_of}
 use Rattle.expr_soundness.specs.Answers.{CallsAnswer, FunctionsAreSound}
 use Rattle.expr_soundness.specs.Agreeing.{Agrees, parameter_subtype}
 use Rattle.expr_code.specs.Entries.{entry_at}
-use Rattle.expr_code.specs.Views.{View}
+use Rattle.expr_code.specs.Views.{IsSameTask, View}
 use Rattle.expr_code.specs.Computing.{Library}
 use Rattle.expr_code.specs.Naming.{Lies}
 use Rattle.expr_code.specs.declared.visible.Slot.{Slot}
@@ -68,11 +68,11 @@ pub record NamesOperation (s : Scope) (name : List ℕ) (operation : PredefinedO
 
 -- ---- the package
 
--- What all bodies of a program can name: the names of its package, where the words of its variables stand, its functions, and the numbers of their subprograms,
--- by the protected object to which they belong, if any, and their names.
+-- What all bodies of a program can name: the names of its package, where the words of its variables and of the components of its protected objects stand, its
+-- functions, and the numbers of their subprograms, by the protected object to which they belong, if any, and their names.
 pub record Package : Type 0 where
   pub scope : Scope
-  pub slots : (name : List ℕ) → Option Slot
+  pub slots : (owner : Option ℕ) (name : List ℕ) → Option Slot
   pub functions : List Function
   pub subprograms : (owner : Option ℕ) → (name : List ℕ) → Option ℕ
 
@@ -92,9 +92,14 @@ pub record SeesPackage (g : Package) (p : Place) (view : View) : Type 0 where
   pub scope : p.scope ≡ g.scope
   pub functions : p.functions ≡ g.functions
   pub sound : FunctionsAreSound p
-  pub names : SeesScope g.scope g.slots (outside p) view
+  pub names : SeesScope g.scope (g.slots None) (outside p) view
+  -- the words of each protected object are those of its components, whichever object the frame itself belongs to
+  pub components : (object : ℕ) (name : List ℕ) (slot : Slot) (x : Object) → g.slots (Some object) name ≡ Some slot
+      → object_of (p.components object) name ≡ Some x
+      → Lies (view.memory.objects object) slot.offset x.value
   pub now : p.now ≡ view.now
   pub schedule : p.schedule ≡ view.schedule
+  pub task : IsSameTask p view
   -- no region has more words than addresses tell
   pub small : (r : Region) → length (view.words r) ≤ 65536
 

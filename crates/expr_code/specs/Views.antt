@@ -1,14 +1,14 @@
 -- What a frame of code sees, and what an image has at a place.
-use Rattle.std.specs.Prelude.{◌≡◌, ℕ, suc, ◌-◌, ℤ, List, length, None, Some, slice_get}
+use Rattle.std.specs.Prelude.{◌≡◌, ℕ, suc, ◌-◌, ℤ, List, length, map, None, Some, slice_get}
 use Rattle.base.specs.declared.schedule.ScheduleLine.{ScheduleLine}
 use Rattle.base.specs.declared.limits.TheConstants.{FRAMES}
-use Rattle.kernel.specs.State.{Kernel}
+use Rattle.kernel.specs.State.{Kernel, object_of}
 use Rattle.kernel.specs.Worlds.{Solo}
 use Rattle.image.specs.Sections.{Sections}
 use Rattle.image.specs.Frames.{Words, Frame, TaskState, region_words}
 use Rattle.image.specs.declared.instruction.Operation.{Operation}
 use Rattle.image.specs.declared.instruction.Region.{Region}
-use Rattle.types.specs.Places.{Place}
+use Rattle.types.specs.Places.{Place, ceiling_of}
 
 -- the operation that stands at a place, with some depth
 abbrev pub At : Sections → ℕ → Operation → Type 0
@@ -26,17 +26,36 @@ placed f place stack = record f { place = place; stack = stack }
 abbrev pub frames_above : List Frame → ℕ
 frames_above fs = FRAMES - suc (length fs)
 
--- all that the value of an expression may depend on, on the side of code: the inputs and the time, the words of each region, and the frames that are left
+-- all that the value of an expression may depend on, on the side of code: the inputs and the time, the words of each region, the frames that are left, and what
+-- may refuse a call
 pub record View : Type 0 where
   pub schedule : List ScheduleLine
   pub now : ℤ
   pub memory : Words
   pub words : Region → List ℤ
   pub left : ℕ
+  -- the protected objects whose actions the task has open, its base priority, and the ceiling priorities of objects (RM 9.5.1, D.3)
+  pub actions : List ℕ
+  pub base : ℕ
+  pub ceilings : ℕ → ℕ
 
--- what a frame sees; neither its place nor its operand stack counts
-abbrev pub view_of : Sections → List ScheduleLine → Kernel → Words → Frame → List Frame → View
-view_of i schedule k m f fs = record { schedule = schedule; now = k.now; memory = m; words = λ r. region_words i r m f; left = frames_above fs }
+-- what a frame of task t sees; neither its place nor its operand stack counts
+abbrev pub view_of : Sections → List ScheduleLine → Kernel → ℕ → Words → Frame → List Frame → View
+view_of i schedule k t m f fs =
+    record {
+      schedule = schedule;
+      now = k.now;
+      memory = m;
+      words = λ r. region_words i r m f;
+      left = frames_above fs;
+      actions = map object_of (k.actions t);
+      base = k.partition.base t;
+      ceilings = k.partition.ceiling;
+    }
+
+-- the task that evaluates at the place is that of the frame: it has the same actions open and the same base priority, and objects have the same ceilings
+abbrev pub IsSameTask : Place → View → Type 0
+IsSameTask p view = (p.actions ≡ view.actions) × (p.priority ≡ view.base) × (ceiling_of p.scope ≡ view.ceilings)
 
 -- what is visible in a part of a program, as a relation of places where expressions are evaluated to what frames see there
 abbrev pub Sight : Type 1

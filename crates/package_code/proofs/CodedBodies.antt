@@ -1,5 +1,5 @@
 -- Bodies of the package whose code is there: what is left to show of procedures and functions, once their frames are known, is what their instructions do.
-use Rattle.std.proofs.Common.{◌≡◌, ℕ, suc, ◌≤◌, List, map, length, Some, None, refl, sym, ◌∙◌, subst}
+use Rattle.std.proofs.Common.{◌≡◌, ℕ, suc, ◌≤◌, List, map, length, Some, None, refl, sym, ap, ◌∙◌, subst}
 use Rattle.std.specs.Prelude.{slice_get}
 use Rattle.ada_tree.specs.declared.expression.Identifier.{Identifier}
 use Rattle.ada_tree.specs.ExpressionTree.{ExprTree}
@@ -10,6 +10,7 @@ use Rattle.image.specs.Operations.{called}
 use Rattle.image.specs.Rules.{IsWellFormed}
 use Rattle.image.specs.Sections.{Sections, first_place}
 use Rattle.image.specs.Sections.{object_of as kind_object}
+use Rattle.image.specs.declared.subprograms.Kind.TheVariants as kinds
 use Rattle.image.specs.declared.instruction.Operation.TheVariants as op
 use Rattle.image.specs.declared.subprograms.Subprogram.{Subprogram}
 use Rattle.types.specs.Evaluations.{Gives, and_then}
@@ -99,7 +100,7 @@ module _ (laws : LawsOfNames) (t : ProgramTree) (legal : IsLegal t) (restricted 
   -- ---- functions
 
   module _ (r : Identifier) (some : d.result ≡ Some r) (value : ExprTree) (last : Framed) (top : ℕ) (holds : HoldsAll v 0 v.reserved ps last top)
-      (takes : s.parameters ≡ top) (outside : kind_object s.kind ≡ None) where
+      (takes : s.parameters ≡ top) (kind : s.kind ≡ kinds.Plain) where
     abbrev function : Function
     function = function_by program.scope (subprogram_body None d b) r value
 
@@ -119,6 +120,7 @@ module _ (laws : LawsOfNames) (t : ProgramTree) (legal : IsLegal t) (restricted 
     function_coded does = record {
       s = s;
       there = there;
+      kind = kind;
       parameters = λ args passed.
           function_takes laws t legal restricted i g of_program place d b at v last before top holds (fits top takes) small r some value args passed ∙ sym takes;
       sight = Sees g last.names;
@@ -129,7 +131,8 @@ module _ (laws : LawsOfNames) (t : ProgramTree) (legal : IsLegal t) (restricted 
       within = does.within;
       bare = does.bare;
       sized = does.sized;
-      enters = λ p view inner args left locals sees passed schedule now memory words rest plain object frames.
-          function_code laws t legal restricted i g of_program place d b at v last before top holds (fits top takes) small r some value s takes room outside p view
-          inner args left locals sees passed schedule now memory words rest plain object frames;
+      enters = λ p view inner args left locals sees passed schedule now task memory words rest plain object frames.
+          function_code laws t legal restricted i g of_program place d b at v last before top holds (fits top takes) small r some value s takes room
+          (ap kind_object kind) p view
+          inner args left locals sees passed schedule now task memory words rest plain object frames;
     }

@@ -1,17 +1,19 @@
 -- All subprograms of a package have their code where each body among its declarations has it.
-use Rattle.std.proofs.Common.{◌≡◌, ◌≤◌, ℕ, List, ◌++◌, length, ◌⊎◌, inl, inr, Option, Some, None, true, refl, sym, ap, ◌∙◌, subst, arith}
+use Rattle.std.proofs.Common.{◌≡◌, ◌≤◌, ℕ, List, ◌∷◌, ◌++◌, length, ◌⊎◌, inl, inr, Option, Some, None, true, refl, sym, ap, ◌∙◌, subst, arith}
 use Rattle.std.specs.Prelude.{slice_get}
 use Rattle.std.proofs.lemmas.List.{length-append}
 use Rattle.base.specs.Names.{predefined}
-use Rattle.image_laws.specs.kernel.specs.Laws.{QuietStays}
+use Rattle.image_laws.specs.kernel.specs.Laws.{QuietStays, ViewsBack, ViewsOn}
 use Rattle.ada_tree.specs.declared.expression.Identifier.{Identifier}
 use Rattle.ada_tree.specs.ExpressionTree.{ExprTree}
 use Rattle.ada_tree.specs.StatementTree.{SubprogramTree}
 use Rattle.ada_tree.specs.ProgramTree.{BodyItemTree, BodyTree, EntryBody, OperationBody, ProgramTree, ProtectedItemTree, SubprogramBody}
 use Rattle.image.specs.Sections.{Sections}
-use Rattle.types.specs.Places.{Function, function_of, is_of, or_else}
+use Rattle.types.specs.Evaluating.{entered}
+use Rattle.types.specs.Places.{Function, Place, function_of, is_of, or_else}
 use Rattle.program_soundness.specs.checking.specs.ProgramRules.{IsLegal}
 use Rattle.ravenscar.specs.ProgramRules.{IsRestricted}
+use Rattle.expr_soundness.specs.Laws.{AgreementIsKept}
 use Rattle.expr_soundness.specs.meaning.specs.Calls.{procedure_among}
 use Rattle.expr_soundness.specs.meaning.specs.Programs.{Procedure, Program, exceptions_among, object_numbered, package_items, program_of, returned}
 use Rattle.program_soundness.specs.Fronts.{declared_in, start_in}
@@ -20,7 +22,8 @@ use Rattle.program_soundness.proofs.Listing.{Has}
 use Rattle.program_soundness.proofs.ObjectBodies as bodies
 use Rattle.program_soundness.proofs.Whole.{IsPackage}
 use Rattle.expr_code.specs.Computing.{IsFunctionCode}
-use Rattle.expr_code.specs.Seeing.{IsCoded, Package, library_of}
+use Rattle.expr_code.specs.Seeing.{IsCoded, Package, SeesPackage, library_of, outside}
+use Rattle.expr_code.specs.Views.{View}
 use Rattle.expr_code.proofs.Calling.{functions_answer}
 use Rattle.step_simulation.specs.Laws.{HasCode}
 use Rattle.step_simulation.specs.part_code.specs.Statements.{HasProcedures, IsProcedureCode, Numbers}
@@ -45,6 +48,31 @@ four_first xs =
     let both = length-append predefined xs in
     let four : length predefined ≡ 4 = refl in
     omega (arith, both, four)
+
+-- what the package shows does not depend on the actions that are open
+shows_opened : AgreementIsKept → (g : Package) (p : Place) (view : View) (o : ℕ) → SeesPackage g p view
+    → SeesPackage g (record p { actions = o ∷ p.actions }) (record view { actions = o ∷ view.actions })
+shows_opened kept g p view o sees = record {
+  scope = sees.scope;
+  functions = sees.functions;
+  sound = λ owner name f vs left found actuals.
+      let b = sees.sound owner name f vs left found actuals in
+      record {
+        scope = b.scope;
+        agrees = kept.circumstances b.scope (entered p f vs left) p.schedule p.now (o ∷ p.actions) p.priority left b.agrees;
+        known = b.known;
+        legal = b.legal;
+      };
+  names = record {
+    agrees = kept.circumstances g.scope (outside p) p.schedule p.now (o ∷ p.actions) p.priority p.frames_left sees.names.agrees;
+    objects = sees.names.objects;
+  };
+  components = sees.components;
+  now = sees.now;
+  schedule = sees.schedule;
+  task = (ap (λ l. o ∷ l) sees.task.0, sees.task.1, sees.task.2);
+  small = sees.small;
+}
 
 module _ (laws : LawsOfNames) (t : ProgramTree) (legal : IsLegal t) (restricted : IsRestricted t) where
   abbrev program : Program
@@ -150,11 +178,12 @@ module _ (laws : LawsOfNames) (t : ProgramTree) (legal : IsLegal t) (restricted 
               subst (λ y. IsFunctionCode i (library_of g) y number) (sym x.is)
               (has.functions x.place x.d x.b x.at x.result x.some x.value x.returns number called)
 
-      pub ada_linkd : QuietStays → i.exceptions ≡ program.exceptions → HasCode i program g numbers
-      ada_linkd quiet exceptions = record {
+      pub ada_linkd : QuietStays → ViewsOn → ViewsBack → i.exceptions ≡ program.exceptions → HasCode i program g numbers
+      ada_linkd quiet views back exceptions = record {
         exceptions = exceptions;
         predefined = four_first (exceptions_among (package_items t.package_));
-        functions = functions_answer quiet i (library_of g) functions_coded
-            (λ left p sound. (known laws t legal restricted).typed.answered p sound left);
+        functions = functions_answer quiet views back i (library_of g) functions_coded
+            (λ left p sound. (known laws t legal restricted).typed.answered p sound left) (λ p view sees. sees.task)
+            (shows_opened (known laws t legal restricted).kept g);
         procedures = procedures_coded;
       }

@@ -8,7 +8,7 @@ use Rattle.ada_tree.specs.ProgramTree.{BodyTree, ProgramTree, SubprogramBody}
 use Rattle.image.specs.Operations.{called}
 use Rattle.image.specs.Rules.{IsWellFormed}
 use Rattle.image.specs.Sections.{Sections, first_place}
-use Rattle.image.specs.Sections.{object_of as kind_object}
+use Rattle.image.specs.declared.subprograms.Kind.TheVariants as kinds
 use Rattle.image.specs.declared.instruction.Operation.TheVariants as op
 use Rattle.image.specs.declared.subprograms.Subprogram.{Subprogram}
 use Rattle.types.specs.declared.entity.Subtype.{Subtype}
@@ -51,7 +51,7 @@ module _ (laws : LawsOfNames) (shaped : InitialValuesHaveShape) (t : ProgramTree
     (result_is : result ≡ subtype_named (program_of t).scope r)
     (seen : Visible) (old new : Draft) (sizes : SubprogramWords) (adds : AddsFunction seen old d.formals result value sizes new)
     (number : ℕ) (s : Subprogram) (there : called i number ≡ Some s) (first_is : first_place i number ≡ here old.code) (end_is : s.end_ ≡ here new.code)
-    (parameters_are : s.parameters ≡ sizes.passed) (results_are : s.results ≡ sizes.results) (outside : kind_object s.kind ≡ None)
+    (parameters_are : s.parameters ≡ sizes.passed) (results_are : s.results ≡ sizes.results) (kind : s.kind ≡ kinds.Plain)
     (holds : Holds i (here old.code) new.code) (uncovered : GoesBy i unhandled (here old.code) (here new.code)) where
   abbrev program : Program
   program = program_of t
@@ -113,7 +113,7 @@ module _ (laws : LawsOfNames) (shaped : InitialValuesHaveShape) (t : ProgramTree
         (laws.sized (shape_of adds.later.scope result) u suited).sized ∙ adds.emits.single ∙ sym (results_are ∙ adds.results)
 
     does : DoesFunction laws t legal restricted i well_formed g of_program numbers place d b at v before number s there refl r some value last
-        (passed_end seen.scope 0 xs) held takes outside
+        (passed_end seen.scope 0 xs) held takes kind
     does = record {
       mid = here adds.valued;
       behind = (let e = adds.emits.extends.longer in omega (arith, first_is, e));
@@ -131,4 +131,4 @@ module _ (laws : LawsOfNames) (shaped : InitialValuesHaveShape) (t : ProgramTree
     pub function_emitted : IsFunctionCode i (library_of g) function number
     function_emitted =
         function_coded laws t legal restricted i well_formed g of_program numbers place d b at v before number s there refl r some value last
-        (passed_end seen.scope 0 xs) held takes outside does
+        (passed_end seen.scope 0 xs) held takes kind does

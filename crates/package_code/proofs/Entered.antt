@@ -36,7 +36,7 @@ use Rattle.program_soundness.proofs.Same.{types_with_all}
 use Rattle.expr_code.specs.Coming.{all_words}
 use Rattle.expr_code.specs.Computing.{ArePassed}
 use Rattle.expr_code.specs.Seeing.{Package, Sees, SeesPackage, library_of}
-use Rattle.expr_code.specs.Views.{View}
+use Rattle.expr_code.specs.Views.{IsSameTask, View}
 use Rattle.step_simulation.specs.part_code.specs.Copying.{held_at, passed_words, taken}
 use Rattle.step_simulation.specs.part_code.specs.Resting.{Framed, RestsWith}
 use Rattle.step_simulation.specs.part_code.specs.Statements.{parameter_subtype}
@@ -249,18 +249,20 @@ module _ (laws : LawsOfNames) (t : ProgramTree) (legal : IsLegal t) (restricted 
           → ArePassed (map (shape_of g.scope) (map formal_subtype function.formals)) args
           → inner.schedule ≡ view.schedule
           → inner.now ≡ view.now
+          → IsSameTask p inner
+          → inner.memory ≡ view.memory
           → inner.words regions.Locals ≡ all_words args ++ locals
           → length locals ≡ v.room - top
           → inner.words regions.Plain ≡ view.words regions.Plain
           → inner.words regions.Object ≡ []
           → Sees g last.names (entered p function args left) inner
-      function_enters p view inner args left locals sees passed schedule now words rest plain object =
+      function_enters p view inner args left locals sees passed schedule now task memory words rest plain object =
           let long = function_takes args passed in
           let both = length-append (all_words args) locals in
           function_sees (known laws t legal restricted).kept laws.sized program g of_program.scope of_program.laid function refl v last
           (front_of_package laws t legal restricted i g of_program v (suc place) before)
           (formals_enter program.scope program g d.formals v last 0 v.reserved modes all_entered)
-          p view inner args left locals sees passed schedule now words plain object
+          p view inner args left locals sees passed schedule now task memory words plain object
           (omega (arith, long, both, rest, room, small)) (omega (arith, long, both, rest, room))
 
       -- as the code of a function is asked for it
@@ -270,6 +272,7 @@ module _ (laws : LawsOfNames) (t : ProgramTree) (legal : IsLegal t) (restricted 
           → ArePassed ((library_of g).shapes function) args
           → inner.schedule ≡ view.schedule
           → inner.now ≡ view.now
+          → IsSameTask p inner
           → inner.memory ≡ view.memory
           → inner.words regions.Locals ≡ all_words args ++ locals
           → length locals ≡ s.locals - s.parameters
@@ -277,6 +280,6 @@ module _ (laws : LawsOfNames) (t : ProgramTree) (legal : IsLegal t) (restricted 
           → inner.words regions.Object ≡ object_words (kind_object s.kind) view.memory
           → inner.left ≡ left
           → Sees g last.names (entered p function args left) inner
-      function_code s takes has outside p view inner args left locals sees passed schedule now memory words rest plain object frames =
-          function_enters p view inner args left locals sees passed schedule now words (rest ∙ (λ j. has j - takes j)) plain
+      function_code s takes has outside p view inner args left locals sees passed schedule now task memory words rest plain object frames =
+          function_enters p view inner args left locals sees passed schedule now task memory words (rest ∙ (λ j. has j - takes j)) plain
           (object ∙ ap (λ o. object_words o view.memory) outside)

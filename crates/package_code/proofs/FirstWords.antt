@@ -29,7 +29,7 @@ use Rattle.program_soundness.proofs.WiderScopes.{stands, stands_number}
 use Rattle.program_soundness.proofs.Whole.{entity_variable}
 use Rattle.expr_code.specs.Naming.{Lies}
 use Rattle.expr_code.specs.Seeing.{Package, SeesPackage, outside}
-use Rattle.expr_code.specs.Views.{View}
+use Rattle.expr_code.specs.Views.{IsSameTask, View}
 use Rattle.expr_code.specs.declared.visible.Slot.{Slot}
 use Rattle.step_simulation.specs.part_code.specs.Resting.{IsAt, IsAddressable, StandsFor}
 use Rattle.package_code.specs.Package.{IsPackageOf}
@@ -77,7 +77,7 @@ module _ (laws : LawsOfNames) (t : ProgramTree) (legal : IsLegal t) (restricted 
         (subst (Agrees (front t (length (declared_in t.package_)))) bare
         (laws.fronts t first legal restricted (memory laws t legal restricted) (length (declared_in t.package_)) p).agrees)
 
-    lies : (name : List ℕ) (slot : Slot) (u : Subtype) (value : Value) → g.slots name ≡ Some slot → meaning_of (outside p) name ≡ IsObject u value
+    lies : (name : List ℕ) (slot : Slot) (u : Subtype) (value : Value) → g.slots None name ≡ Some slot → meaning_of (outside p) name ≡ IsObject u value
         → Lies (view.words slot.region) slot.offset value
     lies name slot u value told means =
         let o = of_program.laid.laid.objects name slot told in
@@ -94,14 +94,16 @@ module _ (laws : LawsOfNames) (t : ProgramTree) (legal : IsLegal t) (restricted 
         (subst (λ l. Lies l slot.offset value) (sym plain)
         (subst (λ x. Lies i.plain_words slot.offset x) is (subst (λ z. Lies i.plain_words z.offset v.object.value) same b.lies)))
 
-    seen : FunctionsAreSound p → p.now ≡ view.now → p.schedule ≡ view.schedule → IsAddressable view → SeesPackage g p view
-    seen sound now schedule small = record {
+    seen : FunctionsAreSound p → p.now ≡ view.now → p.schedule ≡ view.schedule → IsSameTask p view → IsAddressable view → SeesPackage g p view
+    seen sound now schedule task small = record {
       scope = at.scope ∙ sym of_program.scope;
       functions = at.functions ∙ sym of_program.functions;
       sound = sound;
       names = record { agrees = agrees; objects = lies };
+      components = λ o name slot x told found. (let none = sym (of_program.components o name) ∙ told in cc);
       now = now;
       schedule = schedule;
+      task = task;
       small = small;
     }
 
@@ -109,7 +111,7 @@ module _ (laws : LawsOfNames) (t : ProgramTree) (legal : IsLegal t) (restricted 
   first_words sizes well_formed =
       let few = (sizes i well_formed).words in
       record {
-        shared = λ p view at now schedule shared plain small sound. seen p view at plain sound now schedule small;
+        shared = λ p view at now schedule task shared plain small sound. seen p view at plain sound now schedule task small;
         plain = omega (arith, few);
         objects = λ o. let k = row_within i.objects o in omega (arith, few, k);
       }

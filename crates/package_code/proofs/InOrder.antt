@@ -151,16 +151,16 @@ module _ (laws : LawsOfNames) (t : ProgramTree) (legal : IsLegal t) (restricted 
       let shaped = subtype_values program.scope o.subtype o.value ∙ sound in
       (laws.sized (shape_of program.scope o.subtype) o.value shaped).sized ∙ (λ j. words_of ((sym ordered.scope) j) (same j))
 
-  there : (name : List ℕ) (x : Slot) → g.slots name ≡ Some x → StandsThere all 0 name x
+  there : (name : List ℕ) (x : Slot) → g.slots None name ≡ Some x → StandsThere all 0 name x
   there name x told = stands_there all 0 name x (sym (ordered.slots name) ∙ told)
 
-  objects_named : (name : List ℕ) (x : Slot) → g.slots name ≡ Some x → (r : Role) × (u : Subtype) × NamesObject g.scope name r u
+  objects_named : (name : List ℕ) (x : Slot) → g.slots None name ≡ Some x → (r : Role) × (u : Subtype) × NamesObject g.scope name r u
   objects_named name x told =
       let r = there name x told in
       let n = number_stands g.scope name (entity.Object role.Variable r.object.subtype) (variable_named name r.object r.found) in
       (role.Variable, r.object.subtype, record { number = n.0; numbered = n.1; stands = n.2 })
 
-  apart : (one other : List ℕ) (x y : Slot) (q r : Role) (u v : Subtype) → one ≢ other → g.slots one ≡ Some x → g.slots other ≡ Some y → x.region ≡ y.region
+  apart : (one other : List ℕ) (x y : Slot) (q r : Role) (u v : Subtype) → one ≢ other → g.slots None one ≡ Some x → g.slots None other ≡ Some y → x.region ≡ y.region
       → NamesObject g.scope one q u → NamesObject g.scope other r v → AreApart x.offset (words_of g.scope u) y.offset (words_of g.scope v)
   apart one other x y q r u v differ first second same m n =
       let a = there one x first in
@@ -172,7 +172,7 @@ module _ (laws : LawsOfNames) (t : ProgramTree) (legal : IsLegal t) (restricted 
   begins_as : (name : List ℕ) (o : Object) → object_of all name ≡ Some o → BeginsAs i g name o.value
   begins_as name o found =
       let x = has_place all 0 name o found in
-      let told : g.slots name ≡ Some x.0 = ordered.slots name ∙ x.1 in
+      let told : g.slots None name ≡ Some x.0 = ordered.slots name ∙ x.1 in
       let r = there name x.0 told in
       let same : r.object ≡ o = same_some r.object o (sym r.found ∙ found) in
       let at : length r.front ≡ x.0.offset = let k = r.offset in omega (arith, k) in
@@ -188,6 +188,7 @@ module _ (laws : LawsOfNames) (t : ProgramTree) (legal : IsLegal t) (restricted 
   package_in_order = record {
     scope = ordered.scope;
     functions = ordered.functions;
+    components = ordered.components;
     laid = record {
       laid = record { objects = objects_named; apart = apart };
       plain = λ name x told. (there name x told).region;

@@ -3,7 +3,7 @@ use Rattle.std.proofs.Common.{◌≡◌, ℕ, zero, suc, ◌+◌, ◌≤◌, Lis
 use Rattle.std.specs.Prelude.{bytes_eq, pos, replicate, slice_get}
 use Rattle.std.proofs.lemmas.List.Elements.{All-nil, All-weaker}
 use Rattle.std.proofs.lemmas.Option.{slice_get_within}
-use Rattle.image_laws.specs.kernel.specs.Laws.{QuietStays}
+use Rattle.image_laws.specs.kernel.specs.Laws.{QuietStays, ViewsBack, ViewsOn}
 use Rattle.ada_tree.specs.declared.expression.Identifier.{Identifier}
 use Rattle.ada_tree.specs.declared.program.MainStatement.{MainStatement}
 use Rattle.ada_tree.specs.declared.program.MainStatement.TheVariants as main
@@ -82,14 +82,14 @@ use Rattle.package_code.proofs.Walked.{begins_kept, rows_in_front}
 -- ---- the package of code
 
 -- what is told, of what belongs to no protected object
-abbrev pub outside_only : (owner told : Option ℕ) → Option ℕ
+abbrev pub outside_only : {X : Type 0} → (owner : Option ℕ) → (told : Option X) → Option X
 outside_only None told = told
 outside_only (Some o) told = None
 
 abbrev pub package_of : Program → Directory → Package
 package_of program d = record {
   scope = program.scope;
-  slots = λ name. told_of program.scope d.slots.items name;
+  slots = λ owner name. outside_only owner (told_of program.scope d.slots.items name);
   functions = program.functions;
   subprograms = λ owner name. outside_only owner (told_of program.scope d.numbers.items name);
 }
@@ -210,6 +210,7 @@ module _ (t : ProgramTree) (i : Sections) (h : HasProgram t i) where
     scope = refl;
     functions = refl;
     slots = λ name. ap (λ v. told_of program.scope v.items name) h.slots ∙ h.are.slots name;
+    components = λ object name. refl;
     words = h.plain_words ∙ h.are.words;
   }
 
@@ -296,8 +297,8 @@ module _ (t : ProgramTree) (i : Sections) (h : HasProgram t i) where
         goes_past i body.old.rows.items body.kept.later (here body.old.code) (here body.new.code)
         (rows_are ∙ body.kept.rows ∙ ap (λ r. r.items ++ body.kept.later) same) body.before body.kept.behind
 
-  module _ (laws : LawsOfNames) (quiet : QuietStays) (shaped : InitialValuesHaveShape) (legal : IsLegal t) (restricted : IsRestricted t)
-      (well_formed : IsWellFormed i) where
+  module _ (laws : LawsOfNames) (quiet : QuietStays) (views : ViewsOn) (back : ViewsBack) (shaped : InitialValuesHaveShape) (legal : IsLegal t)
+      (restricted : IsRestricted t) (well_formed : IsWellFormed i) where
     of_program : IsPackageOf t i g
     of_program = package_in_order laws t legal restricted i g ordered
 
@@ -359,7 +360,7 @@ module _ (t : ProgramTree) (i : Sections) (h : HasProgram t i) where
     }
 
     code : HasCode i program g numbers
-    code = ada_linkd laws t legal restricted i g of_program numbers bodies quiet (h.exceptions ∙ h.are.exceptions)
+    code = ada_linkd laws t legal restricted i g of_program numbers bodies quiet views back (h.exceptions ∙ h.are.exceptions)
 
     -- ---- main
 
@@ -469,10 +470,11 @@ module _ (t : ProgramTree) (i : Sections) (h : HasProgram t i) where
       words = first_words laws t legal restricted i g of_program sizes well_formed;
     }
 
-pub sections_mean_the_same : LawsOfNames → QuietStays → InitialValuesHaveShape → ImagesHaveSize → LinkedMeansTheSame → LinkedKeepsCount → SectionsMeanTheSame
-sections_mean_the_same laws quiet shaped sizes means keeps t i legal restricted well_formed h =
+pub sections_mean_the_same : LawsOfNames → QuietStays → ViewsOn → ViewsBack → InitialValuesHaveShape → ImagesHaveSize → LinkedMeansTheSame → LinkedKeepsCount
+    → SectionsMeanTheSame
+sections_mean_the_same laws quiet views back shaped sizes means keeps t i legal restricted well_formed h =
     let program = program_of t in
-    let linked = sections_linked t i h laws quiet shaped legal restricted well_formed sizes in (
+    let linked = sections_linked t i h laws quiet views back shaped legal restricted well_formed sizes in (
       means t i (package_of program h.directory) (numbers_of program h.directory) well_formed legal restricted linked,
       keeps t i (package_of program h.directory) (numbers_of program h.directory) well_formed legal restricted linked,
     )

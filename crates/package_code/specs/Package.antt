@@ -25,7 +25,7 @@ use Rattle.step_simulation.specs.part_code.specs.Resting.{Framed}
 -- the object of this name has words, which begin as those of this value, among the plain words of the image
 pub record BeginsAs (i : Sections) (g : Package) (name : List ℕ) (value : Value) : Type 0 where
   pub slot : Slot
-  pub there : g.slots name ≡ Some slot
+  pub there : g.slots None name ≡ Some slot
   pub lies : Lies i.plain_words slot.offset value
 
 -- The package is that of the program: it has its names and its functions, and each variable has words, which begin as those of its initial value. What has
@@ -35,6 +35,8 @@ pub record IsPackageOf (t : ProgramTree) (i : Sections) (g : Package) : Type 0 w
   pub functions : g.functions ≡ (program_of t).functions
   pub laid : IsLaidPackage g
   pub variables : (name : List ℕ) (x : Object) → object_of (program_of t).variables name ≡ Some x → BeginsAs i g name x.value
+  -- there are no protected objects
+  pub components : (object : ℕ) (name : List ℕ) → g.slots (Some object) name ≡ None
 
 -- ---- variables one behind the other, in the order of the text
 
@@ -53,7 +55,8 @@ place_among from (x ∷ xs) name =
 pub record IsInOrder (t : ProgramTree) (i : Sections) (g : Package) : Type 0 where
   pub scope : g.scope ≡ (program_of t).scope
   pub functions : g.functions ≡ (program_of t).functions
-  pub slots : (name : List ℕ) → g.slots name ≡ place_among 0 (program_of t).variables name
+  pub slots : (name : List ℕ) → g.slots None name ≡ place_among 0 (program_of t).variables name
+  pub components : (object : ℕ) (name : List ℕ) → g.slots (Some object) name ≡ None
   pub words : i.plain_words ≡ first_words_of (program_of t).variables
 
 -- ---- bodies
@@ -65,7 +68,7 @@ pub record FindsNames (program : Program) (v : Framed) : Type 0 where
 -- In front of the declaration or body at this place of the package these names are visible, with places and subprograms that are the package's.
 pub record IsInFront (t : ProgramTree) (g : Package) (v : Framed) (place : ℕ) : Type 0 where
   pub scope : v.names.scope ≡ front t place
-  pub slots : (name : List ℕ) (slot : Slot) → slot_of v.names name ≡ Some slot → g.slots name ≡ Some slot
+  pub slots : (name : List ℕ) (slot : Slot) → slot_of v.names name ≡ Some slot → g.slots None name ≡ Some slot
   pub calls : (name : List ℕ) (number : ℕ) → subprogram_of v.names name ≡ Some number → g.subprograms None name ≡ Some number
   -- an entry for each name
   pub many_slots : length v.names.slots ≡ length v.names.scope

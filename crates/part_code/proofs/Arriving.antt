@@ -40,7 +40,7 @@ module _ (i : Sections) (program : Program) (g : Package) {A : Type 0} where
         comes.0,
         comes.1,
         comes.2,
-        takes_more (behaviour i schedule) t frames_of (most_steps i) (to - from) (omega (arith, up, end)) comes.3,
+        takes_more (behaviour i schedule) t frames_of (most_steps i) (suc (to - from)) (omega (arith, up, end)) comes.3,
         comes.4,
         omega (arith, below, end),
         comes.6,

@@ -127,11 +127,11 @@ module _ (kept : AgreementIsKept) (sized : ValuesHaveWords) (calls : CallsAreTyp
         puts : (schedule : List ScheduleLine) (k : Kernel) (task : ℕ) (m : Words) (f : Frame) (fs : List Frame) (store : Store) (a : Activation) (p : Place)
             (y : Assigned)
             → IsAt program store p → p.locals ≡ a.locals → p.within ≡ a.within → StandsFor program g store m → Rests g v a f.locals
-            → Knows g v p (view_of i schedule k m f fs) → a.within ≡ None
+            → Knows g v p (view_of i schedule k task m f fs) → a.within ≡ None
             → assigned name e (call p.frames_left) p ≡ Gives y
             → Puts i program g schedule k task m f fs mid (on (stack []) y.value) [] v (store_with y.target y.value store) (activation_with y.target y.value a)
         puts schedule k task m f fs store a p y is_at locals within stands rests knows outside gives =
-            let view = view_of i schedule k m f fs in
+            let view = view_of i schedule k task m f fs in
             let own = found_some (object_of p.locals name.first.name)
             (subst (λ q. IsAtHome q (object_of p.locals name.first.name)) region (knows.homes name.first.name slot there)) in
             let old = own.0 in
@@ -207,11 +207,11 @@ module _ (kept : AgreementIsKept) (sized : ValuesHaveWords) (calls : CallsAreTyp
         puts : (schedule : List ScheduleLine) (k : Kernel) (task : ℕ) (m : Words) (f : Frame) (fs : List Frame) (store : Store) (a : Activation) (p : Place)
             (y : Assigned)
             → IsAt program store p → p.locals ≡ a.locals → p.within ≡ a.within → StandsFor program g store m → Rests g v a f.locals
-            → Knows g v p (view_of i schedule k m f fs) → a.within ≡ None
+            → Knows g v p (view_of i schedule k task m f fs) → a.within ≡ None
             → assigned name e (call p.frames_left) p ≡ Gives y
             → Puts i program g schedule k task m f fs mid (on (stack []) y.value) [] v (store_with y.target y.value store) (activation_with y.target y.value a)
         puts schedule k task m f fs store a p y is_at locals within stands rests knows outside gives =
-            let view = view_of i schedule k m f fs in
+            let view = view_of i schedule k task m f fs in
             let none : object_of p.locals name.first.name ≡ None =
             subst (λ q. IsAtHome q (object_of p.locals name.first.name)) region (knows.homes name.first.name slot there) in
             let n = named_here p knows.sees.names.agrees in
@@ -249,7 +249,7 @@ module _ (kept : AgreementIsKept) (sized : ValuesHaveWords) (calls : CallsAreTyp
                   (variable_stands kept sized program g laid.unit store m stands p is_at knows.sees.unit.sound (sym is_at.scope ∙ knows.sees.unit.scope) new
                   old here refl
                   (suited_outside p view knows.sees old meant z given.1) (wide ∙ sym old_wide) slot
-                  (subst (λ q. g.slots q ≡ Some slot) called (laid.shared name.first.name slot there region)) after put);
+                  (subst (λ q. g.slots None q ≡ Some slot) called (laid.shared name.first.name slot there region)) after put);
               rests = rests;
               keeps = λ n among. refl;
             })

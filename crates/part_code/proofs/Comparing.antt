@@ -105,7 +105,7 @@ module _ (quiet : QuietStays) (i : Sections) (program : Program) (g : Package) (
 
   module _ (to next : ℕ) (jump : At i to (op.Jump next)) (drop : At i (suc to) op.Drop) where
     module _ (schedule : List ScheduleLine) (k : Kernel) (t : ℕ) (m : Words) (f : Frame) (fs : List Frame) (calm : Calm k t) (p : Place) (x : Value)
-        (sees : Sees g v.names p (view_of i schedule k m f fs))
+        (sees : Sees g v.names p (view_of i schedule k t m f fs))
         (is : val p e ≡ Gives x) where
       abbrev Goes : (n : ℕ) → (f g : Frame) → Type 0
       Goes n f g = Walks i schedule k t m fs n f g
@@ -149,8 +149,8 @@ module _ (quiet : QuietStays) (i : Sections) (program : Program) (g : Package) (
           end = ended (some_chosen p (c ∷ cs) x)
 
           told : is_chosen (val p c) x ≡ are_equal (word x) (scalar_word s)
-          told = ap (λ y. is_chosen y x) (h.1.told p (view_of i schedule k m f fs) sees)
-              ∙ told_by_words x s (h.1.alike p (view_of i schedule k m f fs) sees x is)
+          told = ap (λ y. is_chosen y x) (h.1.told p (view_of i schedule k t m f fs) sees)
+              ∙ told_by_words x s (h.1.alike p (view_of i schedule k t m f fs) sees x is)
 
           by_test : Goes (suc (suc to) - (behind 4 from)) (placed f (behind 4 from) w) (ended (some_chosen p cs x)) → (b : Bool) → is_chosen (val p c) x ≡ b
               → Goes (suc (suc to) - (behind 4 from)) (placed f (if b then suc to else behind 4 from) w) end
@@ -169,14 +169,14 @@ module _ (quiet : QuietStays) (i : Sections) (program : Program) (g : Package) (
   choice_of_values scalar_value from to next all tested jump drop over = record { tests = goes }
     where
       goes : (schedule : List ScheduleLine) (k : Kernel) (t : ℕ) (m : Words) (f : Frame) (fs : List Frame) (p : Place) (x : Value)
-          → Calm k t → Sees g v.names p (view_of i schedule k m f fs) → val p e ≡ Gives x
+          → Calm k t → Sees g v.names p (view_of i schedule k t m f fs) → val p e ≡ Gives x
           → Spends (behaviour i schedule) t frames_of (most_steps i) (suc (length fs)) (next - from) k (in_frame m (placed f from (on [] x)) fs) k
           (in_frame m (if some_chosen p all x then placed f (suc (suc to)) [] else placed f next (on [] x)) fs)
       goes schedule k t m f fs p x calm sees is =
           subst
           (λ w. Spends (behaviour i schedule) t frames_of (most_steps i) (suc (length fs)) (next - from) k (in_frame m (placed f from w) fs) k
           (in_frame m (if some_chosen p all x then placed f (suc (suc to)) [] else placed f next w) fs))
-          (sym (single_on x (scalar_value p (view_of i schedule k m f fs) sees x is)))
+          (sym (single_on x (scalar_value p (view_of i schedule k t m f fs) sees x is)))
           (spends_more (behaviour i schedule) t frames_of (most_steps i) (next - from) (omega (arith, over))
           (tests to next jump drop schedule k t m f fs calm p x sees is from all tested))
 
@@ -186,14 +186,14 @@ module _ (quiet : QuietStays) (i : Sections) (program : Program) (g : Package) (
   choice_of_others scalar_value at from next drop over = record { tests = goes }
     where
       goes : (schedule : List ScheduleLine) (k : Kernel) (t : ℕ) (m : Words) (f : Frame) (fs : List Frame) (p : Place) (x : Value)
-          → Calm k t → Sees g v.names p (view_of i schedule k m f fs) → val p e ≡ Gives x
+          → Calm k t → Sees g v.names p (view_of i schedule k t m f fs) → val p e ≡ Gives x
           → Spends (behaviour i schedule) t frames_of (most_steps i) (suc (length fs)) (next - from) k (in_frame m (placed f from (on [] x)) fs) k
           (in_frame m (placed f (suc from) []) fs)
       goes schedule k t m f fs p x calm sees is =
           subst
           (λ w. Spends (behaviour i schedule) t frames_of (most_steps i) (suc (length fs)) (next - from) k (in_frame m (placed f from w) fs) k
           (in_frame m (placed f (suc from) []) fs))
-          (sym (single_on x (scalar_value p (view_of i schedule k m f fs) sees x is)))
+          (sym (single_on x (scalar_value p (view_of i schedule k t m f fs) sees x is)))
           (spends_more (behaviour i schedule) t frames_of (most_steps i) (next - from) (omega (arith, over))
           (then_step quiet i schedule k t m fs calm 0 (placed f from (word x ∷ [])) (placed f (suc from) []) (placed f (suc from) [])
           (drops quiet i schedule k t m f fs from drop (word x) []) Done))

@@ -130,7 +130,7 @@ module _ (kept : AgreementIsKept) (sized : ValuesHaveWords) (quiet : QuietStays)
       puts : (schedule : List ScheduleLine) (k : Kernel) (t : ℕ) (m : Words) (f : Frame) (fs : List Frame) (store : Store) (a : Activation) (p : Place)
           (x : Target) (y : Value) (base : List ℤ)
           → IsAt program store p → p.locals ≡ a.locals → p.within ≡ a.within → StandsFor program g store m → Rests g v a f.locals
-          → Knows g v p (view_of i schedule k m f fs) → a.within ≡ None → IsPlacedTarget v.names d x → has_shape (shape_of v.names.scope d.subtype) y ≡ true
+          → Knows g v p (view_of i schedule k t m f fs) → a.within ≡ None → IsPlacedTarget v.names d x → has_shape (shape_of v.names.scope d.subtype) y ≡ true
           → Puts i program g schedule k t m f fs mid (on (pos (address_of v.names x) ∷ base) y) base v (store_with x y store) (activation_with x y a)
       puts schedule k t m f fs store a p x y base is_at locals within stands rests knows outside place suited =
           let at = place_of v.names d x place in

@@ -89,11 +89,11 @@ module _ (kept : AgreementIsKept) (sized : ValuesHaveWords) (quiet : QuietStays)
       puts : (schedule : List ScheduleLine) (k : Kernel) (task : ℕ) (m : Words) (f : Frame) (fs : List Frame) (store : Store) (a : Activation) (p : Place)
           (x : Value)
           → IsAt program store p → p.locals ≡ a.locals → p.within ≡ a.within → StandsFor program g store m → Rests g v a f.locals
-          → Knows g v p (view_of i schedule k m f fs) → a.within ≡ None
+          → Knows g v p (view_of i schedule k task m f fs) → a.within ≡ None
           → value (call p.frames_left) p ≡ Gives x
           → Puts i program g schedule k task m f fs mid (stack [] x) [] later store (record a { locals = begun name t x ∷ a.locals })
       puts schedule k task m f fs store a p x is_at locals within stands rests knows outside gives =
-          let suited = suits p (view_of i schedule k m f fs) knows.sees (is_at.scope) x gives in
+          let suited = suits p (view_of i schedule k task m f fs) knows.sees (is_at.scope) x gives in
           let many : length (value_words x) ≡ words_of v.names.scope t = (sized (shape_of v.names.scope t) x suited).sized in
           let fits = widens.fits in
           let room = knows.room in

@@ -98,7 +98,7 @@ module _ {i : Sections} {g : Package} {names : Visible} {first : Identifier} {se
   -- `out`: the address
   pub computes_out : f.mode ≡ mode.Out → ComputesActual quiet i (library_of g) (Sees g names) names from low f (tree.Value name)
   computes_out is c left answers schedule k task m h hs p base calm sees same =
-      let here = view_of i schedule k m h hs in
+      let here = view_of i schedule k task m h hs in
       subst (λ z. Comes i schedule k task m (placed h from base) hs (low - from) low (stack base) z)
       (sym (ap (λ q. passed_expression c p (record f { mode = q }) name) is))
       (out_comes i schedule k task m (placed h from base) hs (low - from) low names f base is (place_in sized way) (pointed first selectors c p)
@@ -120,10 +120,10 @@ module _ {i : Sections} {g : Package} {names : Visible} {first : Identifier} {se
       (checked : ChecksValue quiet i names.scope last f.subtype (suc (suc low)) to) where
     -- from the address on
     module _ (schedule : List ScheduleLine) (k : Kernel) (task : ℕ) (m : Words) (h : Frame) (hs : List Frame) (p : Place) (base : List ℤ) (calm : Calm k task)
-        (sees : Sees g names p (view_of i schedule k m h hs)) (c : Calls) (good : (library_of g).sound c) (z : Target)
+        (sees : Sees g names p (view_of i schedule k task m h hs)) (c : Calls) (good : (library_of g).sound c) (z : Target)
         (gives : pointed first selectors c p ≡ Gives z) where
       abbrev here : View
-      here = view_of i schedule k m h hs
+      here = view_of i schedule k task m h hs
 
       abbrev held : Value
       held = (means sized way p sees.names.agrees).value
@@ -162,7 +162,7 @@ module _ {i : Sections} {g : Package} {names : Visible} {first : Identifier} {se
     pub computes_both : ComputesActual quiet i (library_of g) (Sees g names) names from to f (tree.Value name)
     computes_both c left answers schedule k task m h hs p base calm sees same =
         let le = way.up in
-        let here = view_of i schedule k m h hs in
+        let here = view_of i schedule k task m h hs in
         let begins : Target → List ℤ = λ z. pos (place_in sized way z) ∷ base in
         subst (λ z. Comes i schedule k task m (placed h from base) hs (to - from) to (stack base) z)
         (sym (ap (λ q. passed_expression c p (record f { mode = q }) name) is))

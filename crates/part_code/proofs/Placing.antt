@@ -48,12 +48,14 @@ package_alone g laid p view objects words small h = record {
   functions = h.functions;
   sound = h.sound;
   names = record { agrees = h.names.agrees; objects = λ name slot t v there means. lies name slot t v there (h.names.objects name slot t v there means) };
+  components = h.components;
   now = h.now;
   schedule = h.schedule;
+  task = h.task;
   small = few;
 }
   where
-    lies : (name : List ℕ) (slot : Slot) (t : Subtype) (v : Value) → g.slots name ≡ Some slot → Lies (view.words slot.region) slot.offset v
+    lies : (name : List ℕ) (slot : Slot) (t : Subtype) (v : Value) → g.slots None name ≡ Some slot → Lies (view.words slot.region) slot.offset v
         → Lies (with_locals words view.words slot.region) slot.offset v
     lies name slot t v there l =
         let is = laid.plain name slot there in

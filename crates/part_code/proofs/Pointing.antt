@@ -185,8 +185,8 @@ module _ {i : Sections} {g : Package} {names : Visible} {first : Identifier} {se
       (λ a. Spends (behaviour i schedule) task frames_of (most_steps i) (suc (length fs)) 1 k (in_frame m (placed f from base) fs) k
       (in_frame m (placed f (suc from) (pos a ∷ base)) fs)) begins
       (pushes quiet i schedule k task m calm from (pos way.slot.offset) way.push f fs base (suc from) next))
-      (path_comes whole_shape way.slot.offset quiet i (library_of g) (Sees g names) scope_sound (small_here p (view_of i schedule k m f fs) sees) c left answers
-      schedule k task m f fs p calm sees is selectors (suc from) to way.whole whole_shape last way.end way.path y0 (partly_whole y0 n.parts n.same) base)))
+      (path_comes whole_shape way.slot.offset quiet i (library_of g) (Sees g names) scope_sound (small_here p (view_of i schedule k task m f fs) sees) c left
+      answers schedule k task m f fs p calm sees is selectors (suc from) to way.whole whole_shape last way.end way.path y0 (partly_whole y0 n.parts n.same) base)))
 
   -- ---- what is named, where something is
 

@@ -183,9 +183,9 @@ module _ (kept : AgreementIsKept) (sized : ValuesHaveWords) (i : Sections) (prog
   module _ (mid : ℕ) (base : List ℤ) (stack : Value → List ℤ) (schedule : List ScheduleLine) (k : Kernel) (task : ℕ) (m : Words) (f : Frame) (fs : List Frame)
       (store : Store) (a : Activation) (p : Place) (is_at : IsAt program store p) (locals : p.locals ≡ a.locals) (within : p.within ≡ a.within)
       (stands : StandsFor program g store m) (rests : Rests g v a f.locals)
-      (knows : Knows g v p (view_of i schedule k m f fs)) (outside : a.within ≡ None) where
+      (knows : Knows g v p (view_of i schedule k task m f fs)) (outside : a.within ≡ None) where
     abbrev here : View
-    here = view_of i schedule k m f fs
+    here = view_of i schedule k task m f fs
 
     abbrev HasPut : Type 0
     HasPut = Puts i program g schedule k task m f fs mid (stack y) base v (store_with x y store) (activation_with x y a)
@@ -279,7 +279,7 @@ module _ (kept : AgreementIsKept) (sized : ValuesHaveWords) (i : Sections) (prog
           shared = variable_stands kept sized program g laid.unit store m stands p is_at knows.sees.unit.sound (sym is_at.scope ∙ knows.sees.unit.scope) new old
               (subst (λ q. object_of store.variables q ≡ Some old) called found) refl
               (new_outside p here knows.sees old meant) (new_wide p here knows.sees old meant ∙ sym (old_wide p here knows.sees old meant)) h.slot
-              (subst (λ q. g.slots q ≡ Some h.slot) called (laid.shared x.name h.slot h.there region)) after put;
+              (subst (λ q. g.slots None q ≡ Some h.slot) called (laid.shared x.name h.slot h.there region)) after put;
           rests = rests;
           keeps = λ n among. refl;
         }))

@@ -178,9 +178,10 @@ module _ (W : Shape) (offset : ℕ) where
 
   module _ (quiet : QuietStays) (i : Sections) (library : Library) (sight : Sight) (sound : (p : Place) (view : View) → sight p view → SoundScope p.scope)
       (small_whole : offset + words W ≤ 65536) (calls : Calls) (left : ℕ) (answers : Answers i library calls left) (schedule : List ScheduleLine) (k : Kernel)
-      (t : ℕ) (m : Words) (f : Frame) (fs : List Frame) (p : Place) (calm : Calm k t) (sees : sight p (view_of i schedule k m f fs)) (is : left ≡ frames_above fs) where
+      (t : ℕ) (m : Words) (f : Frame) (fs : List Frame) (p : Place) (calm : Calm k t) (sees : sight p (view_of i schedule k t m f fs))
+      (is : left ≡ frames_above fs) where
     abbrev here : View
-    here = view_of i schedule k m f fs
+    here = view_of i schedule k t m f fs
 
     -- an offset and a sum
     adds : (from a o : ℕ) (base : List ℤ) → a + o < 2 ^ 63 → At i from (op.Push (pos o)) → At i (from + 1) op.Add
@@ -202,8 +203,8 @@ module _ (W : Shape) (offset : ℕ) where
     path_comes NoSelectors from to s x last end h y partly base =
         subst (λ q. Comes i schedule k t m (placed f from (pos (address y) ∷ base)) fs (q - from) q (λ (z : Target). pos (address z) ∷ base) (Gives y)) h.0 Done
     path_comes (MoreSelectors (Component name) rest) from to s x last end h y partly base =
-        let form = h.5 p (view_of i schedule k m f fs) sees in
-        let shape = h.6 p (view_of i schedule k m f fs) sees in
+        let form = h.5 p (view_of i schedule k t m f fs) sees in
+        let shape = h.6 p (view_of i schedule k t m f fs) sees in
         let next = with_one y (Field name.name) h.2 in
         let inside = field_partly y s x h.3 h.1 name.name h.4 h.2 partly shape h.8 h.9 in
         let at = field_address y s x h.1 name.name h.4 h.2 partly shape h.9 in
@@ -222,8 +223,8 @@ module _ (W : Shape) (offset : ℕ) where
         (adds from (address y) h.4 base (omega (arith, at, fits, small_whole)) h.11 h.12))
         (path_comes rest (from + 2) to h.2 h.3 last end h.14 next inside base)))
     path_comes (MoreSelectors (Arguments (MoreArguments (tree.Value e) NoArguments)) rest) from to s x last end h y partly base =
-        let form = h.5 p (view_of i schedule k m f fs) sees in
-        let shape = h.6 p (view_of i schedule k m f fs) sees in
+        let form = h.5 p (view_of i schedule k t m f fs) sees in
+        let shape = h.6 p (view_of i schedule k t m f fs) sees in
         let mid = h.4 in
         let le = h.8 in
         let up = h.16 in

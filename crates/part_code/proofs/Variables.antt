@@ -22,7 +22,7 @@ use Rattle.expr_soundness.specs.meaning.specs.Programs.{Program}
 use Rattle.expr_soundness.specs.meaning.specs.Works.{Store}
 use Rattle.expr_code.specs.Naming.{Lies}
 use Rattle.expr_code.specs.Seeing.{Package, SeesPackage, outside}
-use Rattle.expr_code.specs.Views.{View}
+use Rattle.expr_code.specs.Views.{IsSameTask, View}
 use Rattle.expr_code.specs.declared.visible.Slot.{Slot}
 use Rattle.part_code.specs.Layout.{AreApart, IsLaidPackage, NamesObject}
 use Rattle.part_code.specs.Resting.{IsAt, IsAddressable, StandsFor}
@@ -57,7 +57,7 @@ module _ (kept : AgreementIsKept) (sized : ValuesHaveWords) (program : Program) 
     (stands : StandsFor program g store m) (q : Place) (at : IsAt program store q) (functions_sound : FunctionsAreSound q) (scope_is : program.scope ≡ g.scope)
     (x old : Object) (found : object_of store.variables x.name ≡ Some old) (same : x.subtype ≡ old.subtype)
     (suited : has_shape (shape_of g.scope x.subtype) x.value ≡ true) (wide : length (value_words x.value) ≡ length (value_words old.value))
-    (slot : Slot) (there : g.slots x.name ≡ Some slot) (after : List ℤ) (put : IsWritten m.plain after slot.offset x.value) where
+    (slot : Slot) (there : g.slots None x.name ≡ Some slot) (after : List ℤ) (put : IsWritten m.plain after slot.offset x.value) where
   abbrev pub new_store : Store
   new_store = record store { variables = x ∷ store.variables }
 
@@ -65,7 +65,7 @@ module _ (kept : AgreementIsKept) (sized : ValuesHaveWords) (program : Program) 
   new_words = record m { plain = after }
 
   module _ (p : Place) (view : View) (is_at : IsAt program new_store p) (now : p.now ≡ view.now) (schedule : p.schedule ≡ view.schedule)
-      (plain : view.words regions.Plain ≡ after) (small : IsAddressable view) (sound : FunctionsAreSound p) where
+      (task : IsSameTask p view) (memory : view.memory ≡ new_words) (plain : view.words regions.Plain ≡ after) (small : IsAddressable view) (sound : FunctionsAreSound p) where
     abbrev old_place : Place
     old_place = record p { variables = store.variables }
 
@@ -92,7 +92,7 @@ module _ (kept : AgreementIsKept) (sized : ValuesHaveWords) (program : Program) 
     before : SeesPackage g old_place old_view
     before =
         stands.shared old_place old_view (record { scope = is_at.scope; functions = is_at.functions; variables = refl; components = is_at.components }) now
-        schedule
+        schedule task
         refl refl few functions_before
       where
         few : IsAddressable old_view
@@ -129,7 +129,7 @@ module _ (kept : AgreementIsKept) (sized : ValuesHaveWords) (program : Program) 
         (sym (ap (outer_meant p x.name) found) ∙ seen.2) in
         wide ∙ ap (λ v. length (value_words v)) is ∙ meant_width sized g.scope (outside old_place) before.names.agrees x.name r t seen.0 seen.1 n seen.2
 
-    lies : (name : List ℕ) (s : Slot) (t : Subtype) (u : Value) → g.slots name ≡ Some s → meaning_of (outside p) name ≡ IsObject t u
+    lies : (name : List ℕ) (s : Slot) (t : Subtype) (u : Value) → g.slots None name ≡ Some s → meaning_of (outside p) name ≡ IsObject t u
         → Lies (view.words s.region) s.offset u
     lies name s t u told means =
         subst (λ r. Lies (view.words r) s.offset u) (sym (laid.plain name s told))
@@ -137,7 +137,7 @@ module _ (kept : AgreementIsKept) (sized : ValuesHaveWords) (program : Program) 
       where
         by_test : (b : Bool) → bytes_eq x.name name ≡ b → Lies after s.offset u
         by_test true e =
-            let one : slot ≡ s = same_some slot s (sym there ∙ ap g.slots (same_name x.name name e) ∙ told) in
+            let one : slot ≡ s = same_some slot s (sym there ∙ ap (g.slots None) (same_name x.name name e) ∙ told) in
             subst (λ v. Lies after s.offset v) (itself name t u e means) (subst (λ z. Lies after z.offset x.value) one put.there)
         by_test false e =
             let meant = sym (behind name e) ∙ means in
@@ -158,14 +158,17 @@ module _ (kept : AgreementIsKept) (sized : ValuesHaveWords) (program : Program) 
       functions = before.functions;
       sound = sound;
       names = record { agrees = agrees; objects = lies };
+      components = λ object name s y told found.
+          subst (λ w. Lies (w.objects object) s.offset y.value) (sym memory) (before.components object name s y told found);
       now = now;
       schedule = schedule;
+      task = task;
       small = small;
     }
 
   pub variable_stands : StandsFor program g new_store new_words
   variable_stands = record {
-    shared = λ p view is_at now schedule memory plain small sound. shown p view is_at now schedule plain small sound;
+    shared = λ p view is_at now schedule task memory plain small sound. shown p view is_at now schedule task memory plain small sound;
     plain = (let l = put.long in let s = stands.plain in omega (arith, l, s));
     objects = stands.objects;
   }

@@ -177,7 +177,7 @@ module _ (i : Sections) (program : Program) (g : Package) where
         → p.within ≡ a.within
         → StandsFor program g store m
         → Rests g v a f.locals
-        → Knows g v p (view_of i schedule k m f fs)
+        → Knows g v p (view_of i schedule k t m f fs)
         → a.within ≡ None
         → IsPlacedTarget v.names d x
         → has_shape (shape_of v.names.scope d.subtype) y ≡ true
@@ -194,7 +194,7 @@ module _ (i : Sections) (program : Program) (g : Package) where
     pub return : At i back op.Return
     pub pushes : (schedule : List ScheduleLine) (k : Kernel) (t : ℕ) (m : Words) (f : Frame) (fs : List Frame) (p : Place) (addresses : List ℕ)
         → Calm k t
-        → Knows g v p (view_of i schedule k m f fs)
+        → Knows g v p (view_of i schedule k t m f fs)
         → AreHeld f.locals (held_at v.reserved addresses)
         → length addresses ≡ length names
         → (length (results_in p.locals names) ≡ length names)

@@ -74,7 +74,7 @@ module _ (i : Sections) (g : Package) where
         (x y : ℤ)
         → Calm k t
         → p.locals ≡ a.locals
-        → Knows g v p (view_of i schedule k m f fs)
+        → Knows g v p (view_of i schedule k t m f fs)
         → RestsWith g v held a f.locals
         → bounds range (call p.frames_left) p ≡ Gives (number_bounds x y)
         → int_lt y x ≡ true
@@ -83,7 +83,7 @@ module _ (i : Sections) (g : Package) where
         (x y : ℤ)
         → Calm k t
         → p.locals ≡ a.locals
-        → Knows g v p (view_of i schedule k m f fs)
+        → Knows g v p (view_of i schedule k t m f fs)
         → RestsWith g v held a f.locals
         → bounds range (call p.frames_left) p ≡ Gives (number_bounds x y)
         → int_lt y x ≡ false

@@ -32,8 +32,8 @@ pub record IsLaid (s : Scope) (slots : (name : List ℕ) → Option Slot) : Type
 
 -- the variables of the package stand among the plain words
 pub record IsLaidPackage (g : Package) : Type 0 where
-  pub laid : IsLaid g.scope g.slots
-  pub plain : (name : List ℕ) (x : Slot) → g.slots name ≡ Some x → x.region ≡ regions.Plain
+  pub laid : IsLaid g.scope (g.slots None)
+  pub plain : (name : List ℕ) (x : Slot) → g.slots None name ≡ Some x → x.region ≡ regions.Plain
 
 -- what may be stored in: a loop parameter may not (RM 5.5)
 abbrev pub IsVariable : Role → Type 0
@@ -54,7 +54,7 @@ AreFree v = (name : List ℕ) (x : Slot) (r : Role) (t : Subtype) → slot_of v.
 pub record IsLaidOut (g : Package) (v : Framed) : Type 0 where
   pub unit : IsLaidPackage g
   pub laid : IsLaid v.names.scope (slot_of v.names)
-  pub shared : (name : List ℕ) (x : Slot) → slot_of v.names name ≡ Some x → x.region ≡ regions.Plain → g.slots name ≡ Some x
+  pub shared : (name : List ℕ) (x : Slot) → slot_of v.names name ≡ Some x → x.region ≡ regions.Plain → g.slots None name ≡ Some x
   pub free : AreFree v
   pub slots : length v.names.slots ≡ length v.names.scope
   pub subprograms : length v.names.subprograms ≡ length v.names.scope

@@ -7,7 +7,7 @@ use Rattle.types.specs.Places.{Object, Place, is_among, object_of}
 use Rattle.expr_soundness.specs.Answers.{FunctionsAreSound}
 use Rattle.expr_soundness.specs.meaning.specs.Programs.{Program}
 use Rattle.expr_soundness.specs.meaning.specs.Works.{Activation, Store}
-use Rattle.expr_code.specs.Views.{View}
+use Rattle.expr_code.specs.Views.{IsSameTask, View}
 use Rattle.expr_code.specs.Seeing.{Package, Sees, SeesPackage, slot_of}
 use Rattle.expr_code.specs.declared.visible.Slot.{Slot}
 use Rattle.expr_code.specs.declared.visible.Visible.{Visible}
@@ -29,6 +29,7 @@ pub record StandsFor (program : Program) (g : Package) (store : Store) (m : Word
       → IsAt program store p
       → p.now ≡ view.now
       → p.schedule ≡ view.schedule
+      → IsSameTask p view
       → view.memory ≡ m
       → view.words regions.Plain ≡ m.plain
       → IsAddressable view

@@ -225,7 +225,7 @@ module _ (i : Sections) (program : Program) (g : Package) (numbers : Numbers) wh
   pub record IsChoice (v : Framed) (e : ExprTree) (from start next : ℕ) (choices : ChoicesTree) : Type 0 where
     pub tests : (schedule : List ScheduleLine) (k : Kernel) (t : ℕ) (m : Words) (f : Frame) (fs : List Frame) (p : Place) (x : values.Value)
         → Calm k t
-        → Sees g v.names p (view_of i schedule k m f fs)
+        → Sees g v.names p (view_of i schedule k t m f fs)
         → val p e ≡ Gives x
         → Spends (behaviour i schedule) t frames_of (most_steps i) (suc (length fs)) (next - from) k (in_frame m (placed f from (on [] x)) fs) k
         (in_frame m (if chooses p choices x then placed f start [] else placed f next (on [] x)) fs)

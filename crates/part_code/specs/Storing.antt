@@ -89,7 +89,7 @@ module _ (i : Sections) (program : Program) (g : Package) where
         → p.within ≡ a.within
         → StandsFor program g store m
         → Rests g v a f.locals
-        → Knows g v p (view_of i schedule k m f fs)
+        → Knows g v p (view_of i schedule k t m f fs)
         → a.within ≡ None
         → value (call p.frames_left) p ≡ Gives x
         → Puts schedule k t m f fs mid (stack [] x) [] later (store_after x store) (own_after x a)
@@ -123,7 +123,7 @@ module _ (i : Sections) (program : Program) (g : Package) where
         → p.within ≡ a.within
         → StandsFor program g store m
         → Rests g v a f.locals
-        → Knows g v p (view_of i schedule k m f fs)
+        → Knows g v p (view_of i schedule k t m f fs)
         → a.within ≡ None
         → p.frames_left ≡ frames_above fs
         → Arrives schedule k t m f fs from to later (λ x. store_after x store) (λ x. own_after x a) (value (call p.frames_left) p)

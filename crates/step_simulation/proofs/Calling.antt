@@ -42,7 +42,7 @@ use Rattle.part_code.specs.expr_code.specs.Computing.{ArePassed}
 use Rattle.part_code.specs.expr_code.specs.Seeing.{Package}
 use Rattle.part_code.specs.expr_code.proofs.Coming.{acts, after_first}
 use Rattle.part_code.specs.expr_code.proofs.Coming as coming
-use Rattle.part_code.specs.expr_code.proofs.Calling.{enters, inner as callee, refused, replicated}
+use Rattle.part_code.specs.expr_code.proofs.CallFrames.{enters, inner as callee, refused, replicated}
 use Rattle.part_code.specs.expr_code.specs.declared.visible.Visible.{Visible}
 use Rattle.part_code.specs.Resting.{AreHeld, Framed, NarrowsFrame, RestsWith, StandsFor}
 use Rattle.part_code.specs.Copying.{AreCopies, ArePlaced, actuals_on, addresses_of, copies_on, held_at, left_out, passed_actuals, passed_expression, passed_words, taken}
@@ -449,7 +449,7 @@ module _ (this : Scene) where
               omega arith,
               omega arith,
               record {
-                throws = λ schedule' k' t' m'. refused quiet i number proc.s proc.there schedule' k' t' m' f fs mid [] (words_of_call z) here
+                throws = λ schedule' l m' opened ranked. refused quiet i number proc.s proc.there schedule' l t m' f fs mid [] (words_of_call z) here
                     (passed_many z ez) (full e);
               },
             )))
@@ -488,7 +488,7 @@ module _ (this : Scene) where
         (scene.evaluates this r.2 r.0 code.mid (actuals_on r.2.names c.procedure.parameters) (λ calls p. passed_actuals calls p c.procedure.parameters c.arguments)
         items f fs code.computes rests h.depth)
         code.many code.copies
-        (λ z ez. code.passes (call (frames_left items)) place (view_of i schedule k m f fs) z (has.functions (frames_left items)).sound
+        (λ z ez. code.passes (call (frames_left items)) place (view_of i schedule k t m f fs) z (has.functions (frames_left items)).sound
         (scene.sees_here this r.2 items f fs rests) h.outside ez)
         r.5 h.rests h.outside h.depth h.inner r.4.1
 
@@ -553,7 +553,7 @@ module _ (this : Scene) where
         let d = h.depth in
         let many = copy.placed_many outer.visible.names ds xs r.17 in
         let same = r.16 in
-        let knows = end.narrows.shows (place_of now items) (view_of i schedule k m f fs) (scene.sees_here this h.around.visible items f fs h.rests) in
+        let knows = end.narrows.shows (place_of now items) (view_of i schedule k t m f fs) (scene.sees_here this h.around.visible items f fs h.rests) in
         let pushed = end.gives.pushes schedule k t m f fs (place_of now items) addresses calm knows (subst (λ q. AreHeld f.locals q) end.held h.rests.held)
         (many ∙ same) in
         let vs = results_in w.own.locals names in

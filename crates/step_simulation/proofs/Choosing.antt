@@ -119,7 +119,7 @@ module _ (this : Scene) where
     abbrev IsAtItems : List Item → Type 0
     IsAtItems items = scene.IsAtItems this s items
 
-    module _ (v : Framed) (ways : Ways) (raised : Handling) (e : ExprTree) (p : Place) (x : Value) (sees : Sees g v.names p (view_of i schedule k m f fs))
+    module _ (v : Framed) (ways : Ways) (raised : Handling) (e : ExprTree) (p : Place) (x : Value) (sees : Sees g v.names p (view_of i schedule k t m f fs))
         (ev : val p e ≡ Gives x) where
       -- where the statements of the alternative stand that is chosen
       record IsTaken (from to : ℕ) (body : StmtTrees) : Type 0 where
@@ -268,7 +268,7 @@ module _ (this : Scene) where
             (spends_takes (behaviour i schedule) t frames_of (most_steps i) ((r.1 - mid) + 1) k (in_frame m (placed f start []) fs) spends
             (spends_takes (behaviour i schedule) t frames_of (most_steps i) 1 k (in_frame m (placed f start []) fs) taken.spends (Last refl)))
             (omega (arith, x.0, y.1, up, le, up'))
-            (λ other same. subst (λ q. CodeStands i program g numbers k (source.goes now all').solo.task q) (sym same)
+            (λ other same. subst (λ q. CodeStands i program g numbers k t (source.goes now all').solo.task q) (sym same)
             (Going all' refl (scene.goes_on this s all' w.own (seeing r.2 h.around) start f.locals
             (before_follows i program g numbers body h.around r.2 f.subprogram start joint items fs w.callers taken.statements u2 start_in joint_in
             leads.reaches

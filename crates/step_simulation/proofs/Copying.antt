@@ -134,7 +134,7 @@ module _ (this : Scene) where
       → RestsWith g a.visible a.held own f'.locals → own.within ≡ None
       → f'.stack ≡ copies_on vs (addresses_of a.visible.names xs) []
       → length above ≡ ends_of_calls items → Removable f' above → GoesBy i a.raised f'.place to → Shows g a.visible a.handling
-      → CodeStands i program g numbers k' (record { work = source.copying vs xs items; own = own; callers = os })
+      → CodeStands i program g numbers k' t (record { work = source.copying vs xs items; own = own; callers = os })
       (record { frame = f'; callers = above; raising = None })
   copying_stands [] [] items own os k' f' above a [] to places many up copies x y follows rests outside stack depth inner goes handles =
       Going items refl (record {
@@ -194,7 +194,7 @@ module _ (this : Scene) where
         → IsCopying i program g numbers vs xs items w.own w.callers s → Meet s
     met_copies [] [] items is h =
         scene.met_still this s (source.goes now items) (ap (λ q. work_step now q) is) refl refl
-        (subst (λ q. CodeStands i program g numbers k (record { work = source.copying [] [] items; own = w.own; callers = w.callers }) q)
+        (subst (λ q. CodeStands i program g numbers k t (record { work = source.copying [] [] items; own = w.own; callers = w.callers }) q)
         (sym (stands_is [] h.stack h.going))
         (copying_stands [] [] items w.own w.callers k (placed f f.place []) fs h.around h.destinations h.to h.placed h.many h.up h.copies h.from_inside
         h.to_inside h.follows h.rests h.outside refl h.depth (scene.inner_placed this f fs f.place [] h.inner) h.goes h.handles))

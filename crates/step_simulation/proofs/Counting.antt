@@ -152,7 +152,7 @@ module _ (this : Scene) where
         (spends_takes (behaviour i schedule) t frames_of (most_steps i) (n' + 1) k end first
         (spends_takes (behaviour i schedule) t frames_of (most_steps i) 1 k end second (Last refl)))
         low
-        (λ other e. subst (λ q. CodeStands i program g numbers k (left_with own items).solo.task q) (sym e)
+        (λ other e. subst (λ q. CodeStands i program g numbers k t (left_with own items).solo.task q) (sym e)
         (Going items refl (scene.goes_on this s items own a target locals follows rests outside depth inner)))
         less
 

@@ -191,7 +191,7 @@ module _ (this : Scene) where
       let kept : TaskState = record { frame = record s.frame { place = h.place; locals = h.locals; stack = [] }; callers = s.callers; raising = None } in
       met_going kept items is h.going s (Keeping (h.acts schedule k t m) refl refl refl (omega (arith, inside.0, inside.1)))
 
-  pub met_by : (s : TaskState) → CodeStands i program g numbers k w s → scene.MetFrom this s
+  pub met_by : (s : TaskState) → CodeStands i program g numbers k t w s → scene.MetFrom this s
   met_by s (Going items is h) = met_going s items is h s (AtOnce refl)
   met_by s (Copying vs xs items is h) = copy.met_copies this s vs xs items is h s (AtOnce refl)
   met_by s (Catching items is h) = met_catching s items is h

@@ -130,7 +130,7 @@ module _ (this : Scene) where
   module _ (s : TaskState) (x : ℕ) where
     -- no step of code
     met_still : (y : source.SourceStepped) → work_step now w.work ≡ y → y.effect ≡ Quiet → y.solo.memory ≡ store
-        → CodeStands i program g numbers k y.solo.task s
+        → CodeStands i program g numbers k t y.solo.task s
         → work_size y.solo.task.work < work_size w.work
         → MetFrom s
     met_still y is e same stands less =
@@ -150,14 +150,14 @@ module _ (this : Scene) where
     -- an item is dropped
     met_dropped : (i' : Item) (items : List Item) (f : Frame) (fs : List Frame) → w.work ≡ Raising x (i' ∷ items)
         → work_step now w.work ≡ source.raises now x items
-        → Throws i x s f fs → Removable f fs → Caught x f fs w.own w.callers items → MetFrom s
+        → Throws i k t x s f fs → Removable f fs → Caught x f fs w.own w.callers items → MetFrom s
     met_dropped i' items f fs is step throws inner c =
         met_still (source.raises now x items) step refl refl (Raised x items f fs refl throws inner c)
         (subst (λ q. items_size items < work_size q) (sym is) (item_counts i' items))
 
     -- the activation of a call is left, and its frame is removed
     met_left : (names : List (List ℕ)) (opened : Option ℕ) (xs : List Target) (items : List Item) (f : Frame) (fs : List Frame)
-        → w.work ≡ Raising x (EndsCall names opened xs ∷ items) → Throws i x s f fs → Removable f fs
+        → w.work ≡ Raising x (EndsCall names opened xs ∷ items) → Throws i k t x s f fs → Removable f fs
         → Caught x f fs w.own w.callers (EndsCall names opened xs ∷ items) → MetFrom s
     met_left names opened xs items f fs is throws inner c =
         let above = c.0 in
@@ -170,13 +170,14 @@ module _ (this : Scene) where
         refl refl
         (Raised x items above below refl
         (record {
-          throws = λ schedule' k' t' m'. throws.throws schedule' k' t' m' ∙ ap (λ q. unwind i m' x f q) c.6 ∙ passes x f above below m' c.5 stack;
+          throws = λ schedule' l m' opened' ranked. throws.throws schedule' l m' opened' ranked ∙ ap (λ q. unwind i m' x f q) c.6
+              ∙ passes x f above below m' c.5 stack;
         })
         stack.1 c.8)
         (subst (λ q. items_size items < work_size q) (sym is) (item_counts (EndsCall names opened xs) items))
 
     -- a handler takes it, or not
-    met_handlers : (hs : HandlerTrees) (items : List Item) (f : Frame) (fs : List Frame) → w.work ≡ Raising x (Handles hs ∷ items) → Throws i x s f fs
+    met_handlers : (hs : HandlerTrees) (items : List Item) (f : Frame) (fs : List Frame) → w.work ≡ Raising x (Handles hs ∷ items) → Throws i k t x s f fs
         → Removable f fs → Caught x f fs w.own w.callers (Handles hs ∷ items) → MetFrom s
     met_handlers hs items f fs is throws inner c = by_handler (handler_for program x hs) refl c
       where
@@ -185,7 +186,7 @@ module _ (this : Scene) where
         by_handler (Some body) found h =
             met_step (source.goes now (before body (EndsHandler x ∷ items))) (steps.does Quiet m (placed f h.target (pos x ∷ [])) fs None None)
             (ap (λ q. work_step now q) is ∙ ap (λ o. source.handled now x o items) found)
-            (throws.throws schedule k t m ∙ lands x h.target f fs h.taken)
+            (throws.throws schedule k m refl refl ∙ lands x h.target f fs h.taken)
             (record {
               effect = refl;
               code = Catching (before body (EndsHandler x ∷ items)) refl h.catching;
@@ -195,13 +196,13 @@ module _ (this : Scene) where
             met_dropped (Handles hs) items f fs is (ap (λ q. work_step now q) is ∙ ap (λ o. source.handled now x o items) found) throws inner h
 
     -- nothing is left to do: the exception ends the task
-    met_last : (f : Frame) (fs : List Frame) → w.work ≡ Raising x [] → Throws i x s f fs → Caught x f fs w.own w.callers [] → MetFrom s
+    met_last : (f : Frame) (fs : List Frame) → w.work ≡ Raising x [] → Throws i k t x s f fs → Caught x f fs w.own w.callers [] → MetFrom s
     met_last f fs is throws c =
         met_step (source.works now (Dies x) (Goes [])) (steps.does (Dies x) m (record f { stack = [] }) [] (Some x) None) (ap (λ q. work_step now q) is)
-        (throws.throws schedule k t m ∙ ap (λ q. unwind i m x f q) c.1 ∙ dies x f c.0)
+        (throws.throws schedule k m refl refl ∙ ap (λ q. unwind i m x f q) c.1 ∙ dies x f c.0)
         (record { effect = refl; code = Ended (kernels.Unhandled x t) refl; words = shares })
 
-    pub met_raised : (items : List Item) (f : Frame) (fs : List Frame) → w.work ≡ Raising x items → Throws i x s f fs → Removable f fs
+    pub met_raised : (items : List Item) (f : Frame) (fs : List Frame) → w.work ≡ Raising x items → Throws i k t x s f fs → Removable f fs
         → Caught x f fs w.own w.callers items → MetFrom s
     met_raised [] f fs is throws inner c = met_last f fs is throws c
     met_raised (Declares d ∷ items) f fs is throws inner c = met_dropped (Declares d) items f fs is (ap (λ q. work_step now q) is) throws inner c
@@ -264,7 +265,7 @@ module _ (this : Scene) where
         let there = known x (scene.raises_known this x items step) in
         let v : Val ℤ = Raises x in
         subst Meet (sym (scene.going_is this s h.stack h.going))
-        (scene.met_value this f fs (r.0 - f.place) r.0 2 r.1 (λ z. z ∷ []) v items (λ z. source.goes now items)
+        (scene.met_value this f fs (r.0 - f.place) r.0 1 r.1 (λ z. z ∷ []) v items (λ z. source.goes now items)
         (scene.jumps_spend this f fs f.place r.0 leads.jumps) (
           (in_frame m (placed f (suc at) (pos x ∷ [])) fs).task,
           suc at,
@@ -275,9 +276,9 @@ module _ (this : Scene) where
           omega arith,
           omega (arith, end),
           record {
-            throws = λ schedule' k' t' m'.
-                acts quiet i (suc at) op.Raise raise schedule' k' t' m' f fs (pos x ∷ [])
-                ∙ ap (λ o. raises_number i schedule' k' t' m' (placed f (suc at) (pos x ∷ [])) fs o) there;
+            throws = λ schedule' l m' opened ranked.
+                acts quiet i (suc at) op.Raise raise schedule' l t m' f fs (pos x ∷ [])
+                ∙ ap (λ o. raises_number i schedule' l t m' (placed f (suc at) (pos x ∷ [])) fs o) there;
           },
         )
         (omega (arith, a.0, b.1, up, end)) step

@@ -32,7 +32,7 @@ use Rattle.step_soundness.specs.Holding.{IsSoundStep}
 use Rattle.step_soundness.specs.Laws.{Premises, StepsAreSound}
 use Rattle.step_soundness.specs.Objects.{IsException}
 use Rattle.step_soundness.specs.Opened.{opened_in}
-use Rattle.part_code.specs.expr_code.specs.Views.{At, in_frame, placed, view_of}
+use Rattle.part_code.specs.expr_code.specs.Views.{At, IsSameTask, in_frame, placed, view_of}
 use Rattle.part_code.specs.expr_code.specs.Coming.{Comes, Throws, most_steps, size_of}
 use Rattle.part_code.specs.expr_code.specs.Computing.{Everywhere}
 use Rattle.part_code.specs.expr_code.specs.Seeing.{Package, Sees, SeesPackage, library_of}
@@ -173,7 +173,7 @@ module _ (this : Scene) where
 
   -- ---- what is seen
 
-  pub is_small : (f : Frame) → length f.locals ≤ 65536 → (fs : List Frame) → IsAddressable (view_of i schedule k m f fs)
+  pub is_small : (f : Frame) → length f.locals ≤ 65536 → (fs : List Frame) → IsAddressable (view_of i schedule k t m f fs)
   is_small f small fs regions.Locals = small
   is_small f small fs regions.Plain = shares.plain
   is_small f small fs regions.Object = of_object (own_object i f)
@@ -182,11 +182,15 @@ module _ (this : Scene) where
       of_object None = omega arith
       of_object (Some o) = shares.objects o
 
+  -- the task has the open actions, the base priority and the ceilings that the kernel knows
+  same_task : (items : List Item) (f : Frame) (fs : List Frame) → IsSameTask (place_of now items) (view_of i schedule k t m f fs)
+  same_task items f fs = (refl, refl, ap (λ q. q.ceiling) (sym known.partition))
+
   pub sees_package : (items : List Item) (f : Frame) (fs : List Frame) → length f.locals ≤ 65536
-      → SeesPackage g (place_of now items) (view_of i schedule k m f fs)
+      → SeesPackage g (place_of now items) (view_of i schedule k t m f fs)
   sees_package items f fs small =
-      shares.shared (place_of now items) (view_of i schedule k m f fs)
-      (record { scope = refl; functions = refl; variables = refl; components = refl }) refl refl refl refl (is_small f small fs)
+      shares.shared (place_of now items) (view_of i schedule k t m f fs)
+      (record { scope = refl; functions = refl; variables = refl; components = refl }) refl refl (same_task items f fs) refl refl (is_small f small fs)
       (known.store.functions (place_of now items))
 
   -- a frame has the words of its own that it ought to have
@@ -194,15 +198,15 @@ module _ (this : Scene) where
   has_room v a locals rests =
       let f : Frame = record { subprogram = 0; place = 0; locals = locals; stack = []; role = Inner } in
       let p : Place = record (place_of now []) { locals = a.locals; within = a.within } in
-      let view = view_of i schedule k m f [] in
+      let view = view_of i schedule k t m f [] in
       (rests.sees p view
-      (shares.shared p view (record { scope = refl; functions = refl; variables = refl; components = refl }) refl refl refl refl
+      (shares.shared p view (record { scope = refl; functions = refl; variables = refl; components = refl }) refl refl (same_task [] f []) refl refl
       (is_small f rests.small []) (known.store.functions p)) refl refl refl).room
 
   pub sees_here : {held : List HeldWord} (v : Framed) (items : List Item) (f : Frame) (fs : List Frame) → RestsWith g v held w.own f.locals
-      → Knows g v (place_of now items) (view_of i schedule k m f fs)
+      → Knows g v (place_of now items) (view_of i schedule k t m f fs)
   sees_here v items f fs rests =
-      rests.rests.sees (place_of now items) (view_of i schedule k m f fs) (sees_package items f fs rests.rests.small) refl refl refl
+      rests.rests.sees (place_of now items) (view_of i schedule k t m f fs) (sees_package items f fs rests.rests.small) refl refl refl
 
   -- what code computes, the frame comes to
   pub evaluates : {A : Type 0} {held : List HeldWord} (v : Framed) (from to : ℕ) (stack : List ℤ → A → List ℤ) (value : Calls → Place
@@ -253,7 +257,7 @@ module _ (this : Scene) where
   -- what code stands for after a step of the source with this effect
   pub record Meets (x : source.SourceStepped) (y : steps.Stepped) : Type 0 where
     pub effect : y.effect ≡ x.effect
-    pub code : CodeStands i program g numbers (after t x.effect k) x.solo.task y.solo.task
+    pub code : CodeStands i program g numbers (after t x.effect k) t x.solo.task y.solo.task
     pub words : StandsFor program g x.solo.memory y.solo.memory
 
   pub inner_placed : (f : Frame) (fs : List Frame) (place : ℕ) (stack : List ℤ) → Removable f fs → Removable (placed f place stack) fs
@@ -287,7 +291,7 @@ module _ (this : Scene) where
   pub quiet_from : (s : TaskState) (n : ℕ) (c : TaskState) (x : source.SourceStepped) → work_step now w.work ≡ x → x.effect ≡ Quiet → x.solo.memory ≡ store
       → Takes (behaviour i schedule) t frames_of (most_steps i) (frames_of s) n k (record { memory = m; task = s }) k (record { memory = m; task = c })
       → IsLow s n
-      → ((s' : TaskState) → s' ≡ c → CodeStands i program g numbers k x.solo.task s')
+      → ((s' : TaskState) → s' ≡ c → CodeStands i program g numbers k t x.solo.task s')
       → work_size x.solo.task.work < work_size w.work
       → Meet s
   quiet_from s n c x is e same all low stands less = λ b from.
@@ -320,7 +324,7 @@ module _ (this : Scene) where
       → (all : Takes (behaviour i schedule) t frames_of (most_steps i) (suc (length fs)) n k (in_frame m (placed f f.place base) fs) k
       (record { memory = m; task = c }))
       → n < most_steps i (in_frame m f fs).task
-      → ((s : TaskState) → s ≡ c → CodeStands i program g numbers k x.solo.task s)
+      → ((s : TaskState) → s ≡ c → CodeStands i program g numbers k t x.solo.task s)
       → work_size x.solo.task.work < work_size w.work
       → Meet (in_frame m (placed f f.place base) fs).task
   met_quiet_on base f fs n c x is e same all low stands less =
@@ -355,11 +359,11 @@ module _ (this : Scene) where
       let left = comes.2 in
       let f' = placed f place left in
       let raised = source.raises now x items in
-      let all = spends_takes (behaviour i schedule) t frames_of (most_steps i) n' k (record { memory = m; task = comes.0 }) first comes.3 in
-      let stands : (s : TaskState) → Throws i x s f' fs → CodeStands i program g numbers k raised.solo.task s =
+      let all = spends_takes (behaviour i schedule) t frames_of (most_steps i) (suc n') k (record { memory = m; task = comes.0 }) first comes.3 in
+      let stands : (s : TaskState) → Throws i k t x s f' fs → CodeStands i program g numbers k t raised.solo.task s =
       λ s throws. Raised x items f' fs refl throws (inner_placed f fs place left inner)
       (handled x place left (raises_known x items is) refl comes.4 comes.5) in
-      met_quiet_on base f fs (n + n') comes.0 raised is refl refl all (omega (arith, low)) (λ s e. stands s (subst (λ q. Throws i x q f' fs)
+      met_quiet_on base f fs (n + suc n') comes.0 raised is refl refl all (omega (arith, low)) (λ s e. stands s (subst (λ q. Throws i k t x q f' fs)
       (sym e) comes.6)) less
   met_value_on base start f fs n from n' to stack Meaningless items go first comes low is less inner handled last = absurd (has_meaning items is)
 
@@ -390,7 +394,7 @@ module _ (this : Scene) where
       → (all : Takes (behaviour i schedule) t frames_of (most_steps i) (suc (length fs)) n k (in_frame m (placed f f.place []) fs) k
       (record { memory = m; task = c }))
       → n < most_steps i (in_frame m f fs).task
-      → ((s : TaskState) → s ≡ c → CodeStands i program g numbers k x.solo.task s)
+      → ((s : TaskState) → s ≡ c → CodeStands i program g numbers k t x.solo.task s)
       → work_size x.solo.task.work < work_size w.work
       → Meet (in_frame m (placed f f.place []) fs).task
   met_quiet f fs n c x = met_quiet_on [] f fs n c x
@@ -424,12 +428,12 @@ module _ (this : Scene) where
 
   -- no step of code, and what is left to do is less
   pub met_still : (s : TaskState) (x : source.SourceStepped) → work_step now w.work ≡ x → x.effect ≡ Quiet → x.solo.memory ≡ store
-      → CodeStands i program g numbers k x.solo.task s
+      → CodeStands i program g numbers k t x.solo.task s
       → work_size x.solo.task.work < work_size w.work
       → Meet s
   met_still s x is e same stands less =
       quiet_from s 1 s x is e same (Last refl) (omega arith, λ some. omega (arith, some))
-      (λ s' there. subst (λ q. CodeStands i program g numbers k x.solo.task q) (sym there) stands)
+      (λ s' there. subst (λ q. CodeStands i program g numbers k t x.solo.task q) (sym there) stands)
       less
 
   -- ---- going on

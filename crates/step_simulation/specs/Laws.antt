@@ -44,6 +44,6 @@ StepsAreMet =
     → (schedule : List ScheduleLine) (note : Note) (k : Kernel) (t : ℕ) → Calm k t → (store : Store) (m : Words) (w : TaskWork) (s : TaskState)
     → IsKnownHere program k t store w
     → StandsFor program g store m
-    → CodeStands i program g numbers k w s
+    → CodeStands i program g numbers k t w s
     → Met (program_behaviour program schedule) (behaviour i schedule) (relation i program g numbers) frames_of (most_steps i) note k t
     (record { memory = store; task = w }) (record { memory = m; task = s })

@@ -325,22 +325,23 @@ module _ (i : Sections) (program : Program) (g : Package) (numbers : Numbers) wh
   Catches x f fs own os (EndsServed o names completion ∷ items) = ⊥
   Catches x f fs own os (i ∷ items) = Catches x f fs own os items
 
-  pub data CodeStands (k : Kernel) (w : TaskWork) (s : TaskState) : Type 0 where
-    Going : (items : List Item) → w.work ≡ Goes items → IsGoingOn items w.own w.callers s → CodeStands k w s
+  -- what the state of task t stands for in a kernel
+  pub data CodeStands (k : Kernel) (t : ℕ) (w : TaskWork) (s : TaskState) : Type 0 where
+    Going : (items : List Item) → w.work ≡ Goes items → IsGoingOn items w.own w.callers s → CodeStands k t w s
     Copying : (vs : List Value) (xs : List Target) (items : List Item) → w.work ≡ Copies vs xs items → IsCopying vs xs items w.own w.callers s
-        → CodeStands k w s
-    Catching : (items : List Item) → w.work ≡ Goes items → IsCatching items w.own w.callers s → CodeStands k w s
-    Raised : (x : ℕ) (items : List Item) (f : Frame) (fs : List Frame) → w.work ≡ Raising x items → Throws i x s f fs → AreInner f fs
+        → CodeStands k t w s
+    Catching : (items : List Item) → w.work ≡ Goes items → IsCatching items w.own w.callers s → CodeStands k t w s
+    Raised : (x : ℕ) (items : List Item) (f : Frame) (fs : List Frame) → w.work ≡ Raising x items → Throws i k t x s f fs → AreInner f fs
         → Catches x f fs w.own w.callers items
-        → CodeStands k w s
-    Over : (o : Outcome) → k.outcome ≡ Some o → CodeStands k w s
+        → CodeStands k t w s
+    Over : (o : Outcome) → k.outcome ≡ Some o → CodeStands k t w s
 
   -- Words stand for variables and components, and frames for the work of each task; after its step the frames stand for what it has still to do, in the kernel
   -- behind the effect. That work breaks no rule is said nowhere here: it is so in each world of the program's runs.
   abbrev pub relation : Relation Note Store TaskWork GivenToCaller Words TaskState steps.Given
   relation = record {
     shares = StandsFor program g;
-    stands = λ note k t w s. CodeStands k w s;
-    leaves = λ note k t e w s p q. CodeStands (after t e k) w s;
+    stands = λ note k t w s. CodeStands k t w s;
+    leaves = λ note k t e w s p q. CodeStands (after t e k) t w s;
     size = λ w. work_size w.work;
   }

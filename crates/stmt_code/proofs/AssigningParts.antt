@@ -82,7 +82,7 @@ module _ (kept : AgreementIsKept) (sized : ValuesHaveWords) (calls : CallsAreTyp
 
     computes_part : Everywhere i (library_of g) (Sees g v.names) from mid both_on (assigned name e)
     computes_part c left answers schedule k task m f fs p base calm sees is =
-        let view = view_of i schedule k m f fs in
+        let view = view_of i schedule k task m f fs in
         more quiet i schedule k task m calm (placed f from base) fs ((low - from) + (mid - low)) (mid - from) mid (both_on base)
         (and_then (found c p) (assigned_to c p e)) (omega (arith, le, up))
         (then_comes quiet i schedule k task m calm (placed f from base) fs (low - from) (mid - low) low mid (λ (z : Target). pos (place z) ∷ base)
@@ -111,12 +111,12 @@ module _ (kept : AgreementIsKept) (sized : ValuesHaveWords) (calls : CallsAreTyp
         puts : (schedule : List ScheduleLine) (k : Kernel) (task : ℕ) (m : Words) (f : Frame) (fs : List Frame) (store : Store) (a : Activation) (p : Place)
             (y : Assigned)
             → IsAt program store p → p.locals ≡ a.locals → p.within ≡ a.within → StandsFor program g store m → Rests g v a f.locals
-            → Knows g v p (view_of i schedule k m f fs) → a.within ≡ None
+            → Knows g v p (view_of i schedule k task m f fs) → a.within ≡ None
             → assigned name e (call p.frames_left) p ≡ Gives y
             → Puts i program g schedule k task m f fs mid (both_on [] y) [] v (store_with y.target y.value store) (activation_with y.target y.value a)
         puts schedule k task m f fs store a p y is_at locals within stands rests knows outside gives =
             let c = call p.frames_left in
-            let view = view_of i schedule k m f fs in
+            let view = view_of i schedule k task m f fs in
             let good : (library_of g).sound c = λ q s. calls.answered q s p.frames_left in
             let to : Destination = record { region = slot.region; subtype = last } in
             let target = given (found c p) (assigned_to c p e) y gives in

@@ -131,7 +131,7 @@ pub record IsOfPackage (g : Package) (v : Framed) : Type 0 where
   pub sound : SoundScope v.names.scope
   pub first : StandsFirst v.names.scope g.scope
   pub plain : (name : List ℕ) (slot : Slot) → slot_of v.names name ≡ Some slot → slot.region ≡ regions.Plain
-  pub slots : (name : List ℕ) (slot : Slot) → slot_of v.names name ≡ Some slot → g.slots name ≡ Some slot
+  pub slots : (name : List ℕ) (slot : Slot) → slot_of v.names name ≡ Some slot → g.slots None name ≡ Some slot
   pub calls : (name : List ℕ) (number : ℕ) → subprogram_of v.names name ≡ Some number → g.subprograms None name ≡ Some number
 
 module _ (kept : AgreementIsKept) (g : Package) (v : Framed) (of_package : IsOfPackage g v) (words : List ℤ) (small : length words ≤ 65536) (room : v.room ≤ length words) where

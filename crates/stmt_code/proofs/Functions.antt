@@ -20,7 +20,7 @@ use Rattle.expr_code.specs.Coming.{all_words}
 use Rattle.expr_code.specs.Computing.{ArePassed}
 use Rattle.expr_code.specs.Naming.{Lies}
 use Rattle.expr_code.specs.Seeing.{Package, Sees, SeesPackage}
-use Rattle.expr_code.specs.Views.{View}
+use Rattle.expr_code.specs.Views.{IsSameTask, View}
 use Rattle.expr_code.specs.declared.visible.Slot.{Slot}
 use Rattle.part_code.specs.Layout.{IsLaidPackage}
 use Rattle.part_code.specs.Resting.{Framed, Rests}
@@ -69,13 +69,15 @@ module _ (kept : AgreementIsKept) (sized : ValuesHaveWords) (program : Program) 
         → ArePassed (map (shape_of g.scope) (map formal_subtype function.formals)) args
         → inner.schedule ≡ view.schedule
         → inner.now ≡ view.now
+        → IsSameTask p inner
+        → inner.memory ≡ view.memory
         → inner.words regions.Locals ≡ all_words args ++ locals
         → inner.words regions.Plain ≡ view.words regions.Plain
         → inner.words regions.Object ≡ []
         → length (all_words args ++ locals) ≤ 65536
         → front.room ≤ length (all_words args ++ locals)
         → Sees g last.names (entered p function args left) inner
-    function_sees p view inner args left locals sees passed schedule now words plain object small room =
+    function_sees p view inner args left locals sees passed schedule now task memory words plain object small room =
         let all = all_words args ++ locals in
         let bare = rests_package kept g front of_package all small room in
         let rests = formals_begun all function.formals args front last [] locals [] formals passed refl bare in
@@ -86,7 +88,7 @@ module _ (kept : AgreementIsKept) (sized : ValuesHaveWords) (program : Program) 
         few regions.Plain = let e = ap length plain in let s = sees.small regions.Plain in omega (arith, e, s)
         few regions.Object = let e = ap length object in omega (arith, e)
 
-        lies : (name : List ℕ) (slot : Slot) (t : Subtype) (u : Value) → g.slots name ≡ Some slot
+        lies : (name : List ℕ) (slot : Slot) (t : Subtype) (u : Value) → g.slots None name ≡ Some slot
             → Lies (view.words slot.region) slot.offset u → Lies (inner.words slot.region) slot.offset u
         lies name slot t u told h =
             let region = laid.plain name slot told in
@@ -102,7 +104,10 @@ module _ (kept : AgreementIsKept) (sized : ValuesHaveWords) (program : Program) 
             agrees = kept.circumstances g.scope (record p { locals = []; within = None }) p.schedule p.now p.actions p.priority left sees.names.agrees;
             objects = λ name slot t u told means. lies name slot t u told (sees.names.objects name slot t u told means);
           };
+          components = λ o name slot x told found.
+              subst (λ w. Lies (w.objects o) slot.offset x.value) (sym memory) (sees.components o name slot x told found);
           now = sees.now ∙ sym now;
           schedule = sees.schedule ∙ sym schedule;
+          task = task;
           small = few;
         }

@@ -78,7 +78,7 @@ module _ (i : Sections) (v : Framed) where
 
   module _ (sized : ValuesHaveWords) (quiet : QuietStays) (program : Program) (g : Package) where
     module _ (schedule : List ScheduleLine) (k : Kernel) (t : ℕ) (m : Words) (calm : Calm k t) (f : Frame) (fs : List Frame) (p : Place)
-        (knows : Knows g v p (view_of i schedule k m f fs)) where
+        (knows : Knows g v p (view_of i schedule k t m f fs)) where
       abbrev Leads : (n from : ℕ) → List ℤ → (to : ℕ) → List ℤ → Type 0
       Leads n from stack to left = Goes quiet i schedule k t m calm f fs n from stack to left
 
@@ -127,7 +127,7 @@ module _ (i : Sections) (v : Framed) where
           let own = found_some (object_of p.locals name) (subst (λ q. IsAtHome q (object_of p.locals name)) one.region (knows.homes name one.slot one.there)) in
           let x = own.0 in
           let meant = found_meant p name x own.1 in
-          let here = view_of i schedule k m f fs in
+          let here = view_of i schedule k t m f fs in
           let lies : Lies f.locals one.slot.offset x.value =
           subst (λ q. Lies (here.words q) one.slot.offset x.value) one.region
           (knows.sees.names.objects name one.slot x.subtype x.value one.there meant) in

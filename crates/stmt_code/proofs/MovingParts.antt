@@ -157,13 +157,13 @@ module _ (kept : AgreementIsKept) (sized : ValuesHaveWords) (places : PartsHaveP
     (up : low ≤ to) (code : IsMoved i g v.names way.slot.region (words_of v.names.scope last) low to e) where
   module _ (schedule : List ScheduleLine) (k : Kernel) (task : ℕ) (m : Words) (f : Frame) (fs : List Frame) (store : Store) (a : Activation) (p : Place)
       (answers : (left : ℕ) → Answers i (library_of g) (call left) left) (calm : Calm k task) (is_at : IsAt program store p) (locals : p.locals ≡ a.locals)
-      (within : p.within ≡ a.within) (rests_for : StandsFor program g store m) (rests : Rests g v a f.locals) (knows : Knows g v p (view_of i schedule k m f fs))
-      (outside : a.within ≡ None) (left : p.frames_left ≡ frames_above fs) where
+      (within : p.within ≡ a.within) (rests_for : StandsFor program g store m) (rests : Rests g v a f.locals)
+      (knows : Knows g v p (view_of i schedule k task m f fs)) (outside : a.within ≡ None) (left : p.frames_left ≡ frames_above fs) where
     abbrev c : Calls
     c = call p.frames_left
 
     abbrev view : View
-    view = view_of i schedule k m f fs
+    view = view_of i schedule k task m f fs
 
     good : (library_of g).sound c
     good = λ q s. calls.answered q s p.frames_left
@@ -186,8 +186,8 @@ module _ (kept : AgreementIsKept) (sized : ValuesHaveWords) (places : PartsHaveP
           comes.0,
           comes.1,
           comes.2,
-          takes_more (behaviour i schedule) task frames_of (most_steps i) (end - from) (omega (arith, le, over, below, few))
-              (spends_takes (behaviour i schedule) task frames_of (most_steps i) n k (record { memory = m; task = comes.0 }) reached comes.3),
+          takes_more (behaviour i schedule) task frames_of (most_steps i) (suc (end - from)) (omega (arith, le, over, below, few))
+              (spends_takes (behaviour i schedule) task frames_of (most_steps i) (suc n) k (record { memory = m; task = comes.0 }) reached comes.3),
           omega (arith, le, place),
           omega (arith, before_end, below),
           comes.6,
@@ -203,7 +203,7 @@ module _ (kept : AgreementIsKept) (sized : ValuesHaveWords) (places : PartsHaveP
           comes.0,
           comes.1,
           comes.2,
-          takes_more (behaviour i schedule) task frames_of (most_steps i) (end - from) (omega (arith, le, over)) comes.3,
+          takes_more (behaviour i schedule) task frames_of (most_steps i) (suc (end - from)) (omega (arith, le, over)) comes.3,
           comes.4,
           omega (arith, before_end, over),
           comes.6,
@@ -432,7 +432,7 @@ module _ (kept : AgreementIsKept) (sized : ValuesHaveWords) (places : PartsHaveP
           comes.0,
           comes.1,
           comes.2,
-          takes_more (behaviour i schedule) task frames_of (most_steps i) (to - from) (omega (arith, h, up)) comes.3,
+          takes_more (behaviour i schedule) task frames_of (most_steps i) (suc (to - from)) (omega (arith, h, up)) comes.3,
           comes.4,
           omega (arith, below, up),
           comes.6,

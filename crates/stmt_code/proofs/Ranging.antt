@@ -215,7 +215,7 @@ module _ (quiet : QuietStays) (kept : AgreementIsKept) (sized : ValuesHaveWords)
         Last refl,
         omega arith,
         omega arith,
-        record { throws = λ schedule k t m. is schedule k t m },
+        record { throws = λ schedule l m opened ranked. is schedule l t m },
       )
 
       counted : are_equal now last ≡ false → Comes i schedule k t m (placed f back []) fs ((behind 7 back) - back) (behind 7 back) (λ z. z ∷ [])
@@ -255,23 +255,23 @@ module _ (quiet : QuietStays) (kept : AgreementIsKept) (sized : ValuesHaveWords)
     begins = begins;
   }
     where
-      counter_in : (p : Place) (f : Frame) (schedule : List ScheduleLine) (k : Kernel) (m : Words) (fs : List Frame)
-          → Knows g v p (view_of i schedule k m f fs) → counter < length f.locals
-      counter_in p f schedule k m fs knows =
+      counter_in : (p : Place) (f : Frame) (schedule : List ScheduleLine) (k : Kernel) (t : ℕ) (m : Words) (fs : List Frame)
+          → Knows g v p (view_of i schedule k t m f fs) → counter < length f.locals
+      counter_in p f schedule k t m fs knows =
           let r = knows.room in let h = parameter_fits kept sized g v inner laid sound name n slot limit holds in omega (arith, r, h)
 
-      limit_in : (p : Place) (f : Frame) (schedule : List ScheduleLine) (k : Kernel) (m : Words) (fs : List Frame)
-          → Knows g v p (view_of i schedule k m f fs) → limit < length f.locals
-      limit_in p f schedule k m fs knows = let r = knows.room in let h = holds.room in omega (arith, r, h)
+      limit_in : (p : Place) (f : Frame) (schedule : List ScheduleLine) (k : Kernel) (t : ℕ) (m : Words) (fs : List Frame)
+          → Knows g v p (view_of i schedule k t m f fs) → limit < length f.locals
+      limit_in p f schedule k t m fs knows = let r = knows.room in let h = holds.room in omega (arith, r, h)
 
       null : (schedule : List ScheduleLine) (k : Kernel) (t : ℕ) (m : Words) (f : Frame) (fs : List Frame) (held : List HeldWord) (a : Activation) (p : Place)
           (x y : ℤ)
-          → Calm k t → p.locals ≡ a.locals → Knows g v p (view_of i schedule k m f fs) → RestsWith g v held a f.locals
+          → Calm k t → p.locals ≡ a.locals → Knows g v p (view_of i schedule k t m f fs) → RestsWith g v held a f.locals
           → bounds range (call p.frames_left) p ≡ Gives (number_bounds x y) → int_lt y x ≡ true
           → GoesOn i g schedule k t m (placed f mid (bounds_on [] (number_bounds x y))) fs ((behind 6 mid) - mid) to v held a
       null schedule k t m f fs held a p x y calm objects knows rests gives before =
-          let c = counter_in p f schedule k m fs knows in
-          let l = limit_in p f schedule k m fs knows in
+          let c = counter_in p f schedule k t m fs knows in
+          let l = limit_in p f schedule k t m fs knows in
           record {
             locals = both_words reversed x y f.locals;
             spends = spends_more (behaviour i schedule) t frames_of (most_steps i) ((behind 6 mid) - mid) (omega arith)
@@ -284,13 +284,13 @@ module _ (quiet : QuietStays) (kept : AgreementIsKept) (sized : ValuesHaveWords)
 
       begins : (schedule : List ScheduleLine) (k : Kernel) (t : ℕ) (m : Words) (f : Frame) (fs : List Frame) (held : List HeldWord) (a : Activation) (p : Place)
           (x y : ℤ)
-          → Calm k t → p.locals ≡ a.locals → Knows g v p (view_of i schedule k m f fs) → RestsWith g v held a f.locals
+          → Calm k t → p.locals ≡ a.locals → Knows g v p (view_of i schedule k t m f fs) → RestsWith g v held a f.locals
           → bounds range (call p.frames_left) p ≡ Gives (number_bounds x y) → int_lt y x ≡ false
           → GoesOn i g schedule k t m (placed f mid (bounds_on [] (number_bounds x y))) fs ((behind 6 mid) - mid) (behind 6 mid) inner
           (in_turn counter limit (turn_first reversed x y) (turn_last reversed x y) held) (with_parameter name (turn_first reversed x y) a)
       begins schedule k t m f fs held a p x y calm objects knows rests gives before =
-          let c = counter_in p f schedule k m fs knows in
-          let l = limit_in p f schedule k m fs knows in
+          let c = counter_in p f schedule k t m fs knows in
+          let l = limit_in p f schedule k t m fs knows in
           record {
             locals = both_words reversed x y f.locals;
             spends = spends_more (behaviour i schedule) t frames_of (most_steps i) ((behind 6 mid) - mid) (omega arith)

@@ -12,4 +12,5 @@ returns c =
       starts = c.starts_are_sound.ensures;
       fronts = c.fronts_fit.ensures;
     })
-    c.quiet_stays.ensures c.initial_values_have_shape.ensures c.code_leads_on.ensures.size c.linked_means_the_same.ensures c.linked_keeps_count.ensures
+    c.quiet_stays.ensures c.views_on.ensures c.views_back.ensures
+    c.initial_values_have_shape.ensures c.code_leads_on.ensures.size c.linked_means_the_same.ensures c.linked_keeps_count.ensures

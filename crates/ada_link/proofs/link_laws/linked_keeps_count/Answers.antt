@@ -8,6 +8,7 @@ returns c =
       steps_whole = c.steps_whole.ensures.steps;
       leads = c.code_leads_on.ensures.leads_on;
       grow = c.lines_grow.ensures;
+      unmoved = c.left_unmoved.ensures;
       quiet = c.quiet_stays.ensures;
       reaches = c.reaches_callers.ensures;
       calm = c.runner_is_calm.ensures;
