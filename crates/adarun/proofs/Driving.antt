@@ -5,7 +5,6 @@ use Rattle.base.specs.declared.faults.TheConstants.{MEMORY_REFUSED}
 use Rattle.lexer.specs.declared.fault.Fault.{Fault}
 use Rattle.machine.specs.declared.reports.Outcome.{Outcome}
 use Rattle.machine.specs.declared.reports.Outcome.TheVariants as outcomes
-use Rattle.clock.specs.Schedules as schedules
 use Rattle.clock.specs.declared.schedule.ScheduleFault.{ScheduleFault}
 use Rattle.command_line.specs.Words.{AnswersWords, Command, Nothing, command_of}
 use Rattle.command_line.specs.declared.Request.{Request}

@@ -43,8 +43,8 @@ pub record IsSmallText (tree : ProgramTree) (text : List ℕ) : Type 0 where
 abbrev pub IsBeyond : ProgramTree → Type 0
 IsBeyond tree = has_protected tree ≡ true
 
--- Why an accepted text is not compiled: memory was refused; it declares a protected object; or, as its tree tells, its code may pass a limit of images. The last is
--- told of no small text without protected objects.
+-- Why an accepted text is not compiled: memory was refused; it declares a protected object; or, as its tree tells, its code may pass a limit of images. The last
+-- is told of no small text without protected objects.
 abbrev pub RefusesAccepted : List ℕ → ProgramTree → Fault → Type 0
 RefusesAccepted text tree fault =
     (fault ≡ memory_fault)

@@ -150,7 +150,8 @@ module _ (premises : PremisesHold) (names : NamesAreKnown) (scopes : ScopesAreSo
     value_known e is =
         let given : fixed_faults here (Some u) e ≡ [] =
         ap (λ o. fixed_faults here o e) (sym told.1)
-        ∙ sym (ap (λ o. elim o [ Some v ↦ fixed_faults here (subtype_of here d.subtype) v | None ↦ rule NOT_STATIC d.name.place d.constant ]) is) ∙ initial_legal in
+        ∙ sym (ap (λ o. elim o [ Some v ↦ fixed_faults here (subtype_of here d.subtype) v | None ↦ rule NOT_STATIC d.name.place d.constant ]) is)
+        ∙ initial_legal in
         let some =
         fixed_some declarations here ((names t legal restricted).fronts place) d.name d.subtype u e (item_new here (OfObject d) judged_here) named_there told.1
         given in

@@ -128,7 +128,8 @@ module _ (s g : Scope) (x : Extends s g) (sound : SoundScope s) where
       let parts = selectors_faults s first.place (stands_first s (number_of s first.name)) selectors in
       let whole = value_rule first.place (standing_of s first selectors) in
       let n = first_named w first selectors h in
-      let is : stands_first s (number_of s first.name) ≡ stands_for n.number (Some n.entity) = ap (stands_first s) n.numbered ∙ ap (stands_for n.number) n.stands in
+      let is : stands_first s (number_of s first.name) ≡ stands_for n.number (Some n.entity) =
+      ap (stands_first s) n.numbered ∙ ap (stands_for n.number) n.stands in
       let good : Good s (stands_first s (number_of s first.name)) = subst (Good s) (sym is) (good_first s sound n.number n.entity n.stands) in
       let given = subst (IsDeclaredGiven s) (sym is) (first_declared s sound n.number n.entity) in
       let rest = later (stands_first s (number_of s first.name)) good given (back_empty hidden parts (front_empty (hidden ++ parts) whole h)) in
@@ -216,7 +217,8 @@ module _ (s g : Scope) (x : Extends s g) (sound : SoundScope s) where
             (ap (unary_rule g operator place) kept.own ∙ unary_rule_same s g x operator place (own_of s e) kept.declared ∙ h);
       }
 
-  binary_kept : (w : Wanted) (operator : BinaryOperator) (a b : ExprTree) → IsKept (beside s operator (own_of s b)) a → IsKept (beside s operator (own_of s a)) b
+  binary_kept : (w : Wanted) (operator : BinaryOperator) (a b : ExprTree) → IsKept (beside s operator (own_of s b)) a
+      → IsKept (beside s operator (own_of s a)) b
       → binary_rule s operator (start_of a) (own_of s a) (own_of s b) ≡ []
       → IsKept w (Binary operator a b)
   binary_kept w operator a b ka kb h =
@@ -256,7 +258,8 @@ module _ (s g : Scope) (x : Extends s g) (sound : SoundScope s) where
         let known = ke.declared (own_of s value) kv.declared in
         let joined : parts_own g value elsifs last ≡ parts_own s value elsifs last =
         (λ j. join g (all j) (kl.own j)) ∙ join_same s g x (elsif_own_of s (own_of s value) elsifs) (own_of s last) known kl.declared in
-        let firsts : first_typed g elsifs (own_of g last) ≡ first_typed s elsifs (own_of s last) = ap (first_typed g elsifs) kl.own ∙ ke.first (own_of s last) in
+        let firsts : first_typed g elsifs (own_of g last) ≡ first_typed s elsifs (own_of s last) =
+        ap (first_typed g elsifs) kl.own ∙ ke.first (own_of s last) in
         let same : conditional_wanted g w value elsifs last ≡ inner = λ j. parts_wanted (joined j) w (or_first (kv.own j) (firsts j)) in
         let c = faults_of s boolean_wanted condition in
         let v = faults_of s inner value in

@@ -118,7 +118,8 @@ module _ (s g : Scope) (x : Extends s g) where
   time_own_same binary.Subtract (Typed n) b k = ap (λ t. cond t (Typed (suc n)) Unknown) (time_same b k)
   time_own_same operator a b k = refl
 
-  arithmetic_same : (operator : BinaryOperator) (a b : Own) → IsDeclaredOwn s a → IsDeclaredOwn s b → arithmetic_own g operator a b ≡ arithmetic_own s operator a b
+  arithmetic_same : (operator : BinaryOperator) (a b : Own) → IsDeclaredOwn s a → IsDeclaredOwn s b
+      → arithmetic_own g operator a b ≡ arithmetic_own s operator a b
   arithmetic_same operator a b h k =
       let joined : integral_or_unknown g (join g a b) ≡ integral_or_unknown s (join s a b) =
       ap (integral_or_unknown g) (join_same a b h k) ∙ integral_own_same (join s a b) (join_declared s a b h k) in

@@ -212,12 +212,15 @@ module _ (procedures : ProceduresAreCovered) (functions : FunctionsAreCovered) (
 
   pub nothing_inside : IsInside (program_needs t)
   nothing_inside =
-      let none : protected_count whole ≡ 0 = subst (λ s. protected_count s ≡ 0) last_front (unprotected_at premises names scopes t legal restricted plain (length all)) in
+      let none : protected_count whole ≡ 0 =
+      subst (λ s. protected_count s ≡ 0) last_front (unprotected_at premises names scopes t legal restricted plain (length all)) in
       or_from (not (nat_eq (protected_count whole) 0)) (items_needs t 0 all).outside (ap (λ n. not (nat_eq n 0)) none)
       (items_inside t 0 all (λ k x at. subst (λ n. IsInside (item_needs t n x)) (let same = behind_is 0 k in omega (arith, same)) (item_inside k x at)))
 
 pub nothing_outside : ProceduresAreCovered → FunctionsAreCovered → PremisesHold → NamesAreKnown → ScopesAreSound → ShapesStay → WordsHaveRoom
     → DeclarationsAreSound → ObjectsAreSound → ValuesHaveWords → FrontsKeepLimits → CalleesHaveFew → TablesAreSmall
     → NothingIsOutside
-nothing_outside procedures functions premises names scopes stay room declarations objects sized limits few tables limit t tokens spelled legal restricted plain =
-    nothing_inside procedures functions premises names scopes stay room declarations objects sized limits few tables limit t tokens spelled legal restricted plain
+nothing_outside procedures functions premises names scopes stay room declarations objects sized limits few tables limit t tokens spelled legal restricted
+    plain =
+    nothing_inside procedures functions premises names scopes stay room declarations objects sized limits few tables limit t tokens spelled legal
+    restricted plain

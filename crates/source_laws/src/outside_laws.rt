@@ -10,8 +10,8 @@ use program_soundness::body_laws::{names_are_known, premises_hold};
 use program_soundness::scope_laws::{declarations_are_sound, objects_are_sound};
 use types::laws::{shapes_stay, values_have_words};
 
-/// No accepted text without protected objects has what no code is made of: its variables have first words that its text tells, and what its bodies name has what
-/// their code needs.
+/// No accepted text without protected objects has what no code is made of: its variables have first words that its text tells, and what its bodies name has
+/// what their code needs.
 pub fn nothing_is_outside()
     ensures { NothingIsOutside }
 {
