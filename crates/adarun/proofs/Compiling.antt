@@ -21,7 +21,7 @@ use Rattle.ada_link.specs.meaning.specs.SameMeaning.{KeepsCount, SameMeaning}
 use Rattle.ada_link.specs.expr_code.specs.Coming.{most_steps}
 use Rattle.ada_link.specs.Compiled.{IsBounded, RefusesTree}
 use Rattle.source_laws.specs.Covered.{NothingIsOutside, has_protected}
-use Rattle.source_laws.specs.Limits.{SmallIsUnlimited}
+use Rattle.source_laws.specs.Limits.{SmallBodiesPassByLength, SmallIsUnlimited}
 use Rattle.source_laws.specs.Spelled.{OutsideIsTold}
 use Rattle.adarun.specs.Accepted.{Compiles, IsAccepted, CompilesAccepted, IsJudged, IsLeftOut, IsTreeOf, RefusesAccepted, RefusesText}
 
@@ -54,24 +54,33 @@ not_false : (b : Bool) → (b ≡ false → ⊥) → b ≡ true
 not_false true h = refl
 not_false false h = absurd (h refl)
 
-pub tells : OutsideIsTold → NothingIsOutside → SmallIsUnlimited → (text : List ℕ) (tree : ProgramTree) → IsTreeOf tree text → IsLegal tree → IsRestricted tree
+unless : {A : Type 0} (b : Bool) → (b ≡ false → A) → (b ≡ true) ⊎ A
+unless true h = inl refl
+unless false h = inr (h refl)
+
+pub tells : OutsideIsTold → NothingIsOutside → SmallBodiesPassByLength → SmallIsUnlimited → (text : List ℕ) (tree : ProgramTree) → IsTreeOf tree text → IsLegal tree → IsRestricted tree
     → Tells text tree
-tells outside nothing unlimited text tree is_tree legal restricted fault (inl memory) = inl memory
-tells outside nothing unlimited text tree is_tree legal restricted fault (inr (inl beyond)) =
+tells outside nothing by_length unlimited text tree is_tree legal restricted fault (inl memory) = inl memory
+tells outside nothing by_length unlimited text tree is_tree legal restricted fault (inr (inl beyond)) =
     let told = outside text is_tree.tokens tree (record { limit = None; spelled = is_tree.spells; tree = is_tree.derives.derives }) beyond.1 in
     inr (inl (
       beyond.0,
       not_false (has_protected tree)
           (λ plain. let never = sym (nothing None tree is_tree.tokens is_tree.derives.derives legal restricted plain) ∙ told in cc),
     ))
-tells outside nothing unlimited text tree is_tree legal restricted fault (inr (inr large)) =
+tells outside nothing by_length unlimited text tree is_tree legal restricted fault (inr (inr large)) =
     inr (inr (
       large.0,
       (
         large.1,
-        λ it. not_false (has_protected tree)
-            (λ plain. unlimited None tree it.is_tree.tokens it.is_tree.derives.derives legal restricted it.small
-            (nothing None tree it.is_tree.tokens it.is_tree.derives.derives legal restricted plain) large.1),
+        (
+          λ small. unless (has_protected tree)
+              (λ plain. by_length None tree is_tree.tokens is_tree.derives.derives legal restricted small
+              (nothing None tree is_tree.tokens is_tree.derives.derives legal restricted plain) large.1),
+          λ it. not_false (has_protected tree)
+              (λ plain. unlimited None tree it.is_tree.tokens it.is_tree.derives.derives legal restricted it.small
+              (nothing None tree it.is_tree.tokens it.is_tree.derives.derives legal restricted plain) large.1),
+        ),
       ),
     ))
 
@@ -116,13 +125,13 @@ judged_legal text tree made fault same legal (inl memory) = inl memory
 judged_legal text tree made fault same legal (inr least) = inr (inr (inl (subst IsLegal same legal, subst (λ t. IsLeast (restriction_faults t) fault) same least)))
 
 -- what breaks no rule
-pub judged_accepted : OutsideIsTold → NothingIsOutside → SmallIsUnlimited → (r : Result Sections Fault) (text : List ℕ) (tree made : ProgramTree)
+pub judged_accepted : OutsideIsTold → NothingIsOutside → SmallBodiesPassByLength → SmallIsUnlimited → (r : Result Sections Fault) (text : List ℕ) (tree made : ProgramTree)
     → IsTreeOf tree text → made ≡ tree → IsLegal made → IsRestricted made → IfErr r (λ f. RefusesTree made f) → IsJudged text tree r
-judged_accepted outside nothing unlimited (Ok i) text tree made is_tree same legal restricted refused = (subst IsLegal same legal, subst IsRestricted same restricted)
-judged_accepted outside nothing unlimited (Err fault) text tree made is_tree same legal restricted refused =
+judged_accepted outside nothing by_length unlimited (Ok i) text tree made is_tree same legal restricted refused = (subst IsLegal same legal, subst IsRestricted same restricted)
+judged_accepted outside nothing by_length unlimited (Err fault) text tree made is_tree same legal restricted refused =
     let fine = subst IsLegal same legal in
     let held = subst IsRestricted same restricted in
-    inr (inr (inr (fine, (held, tells outside nothing unlimited text tree is_tree fine held fault (subst (λ t. RefusesTree t fault) same refused)))))
+    inr (inr (inr (fine, (held, tells outside nothing by_length unlimited text tree is_tree fine held fault (subst (λ t. RefusesTree t fault) same refused)))))
 
 -- ---- texts that are not compiled
 
@@ -170,19 +179,19 @@ unrestricted_text text tokens list read checked fault spells same derives is leg
     })))))
 
 -- it is accepted
-pub refused_text : {A : Type 0} → OutsideIsTold → NothingIsOutside → SmallIsUnlimited → (r : Result A Fault) (text : List ℕ) (tokens list : List Token)
+pub refused_text : {A : Type 0} → OutsideIsTold → NothingIsOutside → SmallBodiesPassByLength → SmallIsUnlimited → (r : Result A Fault) (text : List ℕ) (tokens list : List Token)
     (read checked : Program)
     → Spells text tokens → list ≡ tokens → Derives (program_tree read) list → checked ≡ read
     → IsLegal (program_tree checked) → IsRestricted (program_tree checked)
     → IfErr r (λ f. RefusesTree (program_tree checked) f)
     → IfErr r (λ f. RefusesText text f)
-refused_text outside nothing unlimited (Ok a) text tokens list read checked spells same derives is legal restricted refused = tt
-refused_text outside nothing unlimited (Err fault) text tokens list read checked spells same derives is legal restricted refused =
+refused_text outside nothing by_length unlimited (Ok a) text tokens list read checked spells same derives is legal restricted refused = tt
+refused_text outside nothing by_length unlimited (Err fault) text tokens list read checked spells same derives is legal restricted refused =
     let is_tree = read_tree text tokens list read checked spells same derives is in
     inr (inr (inr (inr (inr (record {
       tree = program_tree checked;
       accepted = record { is_tree = is_tree; legal = legal; restricted = restricted };
-      refused = tells outside nothing unlimited text (program_tree checked) is_tree legal restricted fault refused;
+      refused = tells outside nothing by_length unlimited text (program_tree checked) is_tree legal restricted fault refused;
     })))))
 
 -- ---- what is refused as outside the language of today

@@ -19,7 +19,8 @@ use Rattle.ada_link.specs.expr_code.specs.declared.refusal.Refusal.TheVariants a
 use Rattle.ada_link.specs.Compiled.{IsBounded, outside, too_large}
 use Rattle.ada_link.specs.package_code.specs.Refusing as sections
 use Rattle.source_laws.specs.Covered.{has_protected}
-use Rattle.source_laws.specs.Small.{IsSmall}
+use Rattle.source_laws.specs.Limits.{IsLong}
+use Rattle.source_laws.specs.Small.{HasSmallBodies, IsSmall}
 
 -- the tree is what the text spells
 pub record IsTreeOf (tree : ProgramTree) (text : List ℕ) : Type 0 where
@@ -43,13 +44,14 @@ pub record IsSmallText (tree : ProgramTree) (text : List ℕ) : Type 0 where
 abbrev pub IsBeyond : ProgramTree → Type 0
 IsBeyond tree = has_protected tree ≡ true
 
--- Why an accepted text is not compiled: memory was refused; it declares a protected object; or, as its tree tells, its code may pass a limit of images. The last
--- is told of no small text without protected objects.
+-- Why an accepted text is not compiled: memory was refused; it declares a protected object; or, as its tree tells, its code may pass a limit of images. Of a text
+-- without protected objects whose bodies are small that is told only where all its code is long, and of a small one never.
 abbrev pub RefusesAccepted : List ℕ → ProgramTree → Fault → Type 0
 RefusesAccepted text tree fault =
     (fault ≡ memory_fault)
     ⊎ (((fault ≡ outside) × IsBeyond tree)
-    ⊎ ((fault ≡ too_large tree) × (sections.RefusesLinking tree refusal.Limit × (IsSmallText tree text → IsBeyond tree))))
+    ⊎ ((fault ≡ too_large tree)
+    × (sections.RefusesLinking tree refusal.Limit × ((HasSmallBodies tree → IsBeyond tree ⊎ IsLong tree) × (IsSmallText tree text → IsBeyond tree)))))
 
 -- a well-formed image that means the same as the text's tree, keeps the count of steps, and has no more instructions than the text tells
 pub record Compiles (text : List ℕ) (image : Sections) : Type 0 where

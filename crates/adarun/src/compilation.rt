@@ -10,7 +10,7 @@ use image::Image;
 use lexer::{Fault, tokens};
 use parser::parse;
 use ravenscar::restrict;
-use source_laws::laws::{outside_is_told, small_is_unlimited};
+use source_laws::laws::{outside_is_told, small_bodies_pass_by_length, small_is_unlimited};
 use source_laws::outside_laws::nothing_is_outside;
 use std::alloc::Global;
 
@@ -34,6 +34,7 @@ pub fn compile(alloc: Global, source: &[u8]) -> Result<Image, Fault>
     restriction_numbers();
     outside_is_told();
     nothing_is_outside();
+    small_bodies_pass_by_length();
     small_is_unlimited();
     let list = tokens(alloc, source)?;
     let program = parse(alloc, &list)?;

@@ -36,7 +36,7 @@ use Rattle.program_soundness.proofs.Whole.{IsPackage, kept, known_subtype}
 use Rattle.ada_link.specs.expr_code.specs.Seeing.{NamesProfile, profile_named, subprogram_profile}
 use Rattle.ada_link.specs.part_code.specs.Bounds.{body_words, formals_words, words_if_any}
 use Rattle.ada_link.specs.package_code.proofs.InFront.{known_inside}
-use Rattle.source_laws.specs.Small.{IsSmall, body_loops, small_words}
+use Rattle.source_laws.specs.Small.{HasSmallBodies, body_loops, small_words}
 use Rattle.source_laws.specs.Depths.{FewFormals, formals_take}
 use Rattle.source_laws.specs.Visible.{CalleesHaveFew, FrontsAreSmall, FrontsKeepLimits}
 use Rattle.source_laws.proofs.CodeCounted.{few_at}
@@ -165,9 +165,9 @@ module _ (premises : PremisesHold) (names : NamesAreKnown) (scopes : ScopesAreSo
         let is : formals_take whole ps ≡ words_of whole x.subtype + formals_take whole x.rest = ap (formals_take whole) x.is in
         omega (arith, is, own, rest)
 
-  callees_small : (tokens : List Token) → IsSmall t tokens → (place : ℕ) (name : List ℕ) (p : Profile) → profile_named (front t place) name ≡ Some p
+  callees_small : HasSmallBodies t → (place : ℕ) (name : List ℕ) (p : Profile) → profile_named (front t place) name ≡ Some p
       → formals_take (front t place) p.formals ≤ small_words
-  callees_small tokens small place name p h =
+  callees_small small place name p h =
       let n = named_there (front t place) name p h in
       let there = kept (program_of t) start all w place name (Subprogram p) (stands_number (front t place) name n.number (Subprogram p) n.numbered n.stands) in
       let x = subprogram_there (program_of t) start all w name p there in
@@ -176,7 +176,7 @@ module _ (premises : PremisesHold) (names : NamesAreKnown) (scopes : ScopesAreSo
       let body_same =
       formals_same x.place x.subprogram x.body x.at x.subprogram.formals p.formals (formals_named x.place x.subprogram x.body x.at)
       (profile_formals whole (formal_parameters whole x.subprogram.formals) x.subprogram.result p x.own) in
-      let fits = (few_at t tokens small x.place (SubprogramBody x.subprogram x.body) x.at).0 in
+      let fits = (few_at t small x.place (SubprogramBody x.subprogram x.body) x.at).0 in
       under (formals_take (front t place) p.formals) (formals_take whole p.formals)
       (formals_words (here x.place x.subprogram x.body x.at) (inside x.place x.subprogram x.body x.at) x.subprogram.formals)
       (body_words (inside x.place x.subprogram x.body x.at) x.body) (body_loops x.body) front_same body_same fits
@@ -199,7 +199,7 @@ fronts_are_small premises names scopes stay room limits limit t tokens spelled l
     record {
       sound = (names t legal restricted).fronts place;
       formals = callees_few premises names scopes stay room t legal restricted place;
-      words = λ name p h. callees_small premises names scopes stay room t legal restricted tokens small place name p h;
+      words = λ name p h. callees_small premises names scopes stay room t legal restricted small place name p h;
       full = λ n form h. kept_here.types (base_range_of n) (ap is_some h);
       objects = kept_here.objects;
     }

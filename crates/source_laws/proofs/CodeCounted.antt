@@ -13,7 +13,7 @@ use Rattle.program_soundness.proofs.Listing.{same_some}
 use Rattle.ada_link.specs.part_code.specs.Bounds.{body_words, formals_words, main_bound}
 use Rattle.ada_link.specs.package_code.specs.Counts.{bodies_among, bounds_from}
 use Rattle.ada_link.specs.package_code.specs.Laws.{TablesAreSmall}
-use Rattle.source_laws.specs.Small.{IsSmall, PlacedBody, SmallCodeFits, TakeFewWords, bodies_from, body_loops, item_bodies}
+use Rattle.source_laws.specs.Small.{HasSmallBodies, IsSmall, PlacedBody, SmallCodeFits, TakeFewWords, bodies_from, body_loops, item_bodies}
 use Rattle.source_laws.proofs.RowsCounted.{declared_size, rows_counted}
 
 -- the place so far behind another one
@@ -40,12 +40,12 @@ few_behind t place (y ∷ rest) zero x h at =
 few_behind t place (y ∷ rest) (suc k) x h at =
     few_behind t (suc place) rest k x (halves (item_bodies t place y) (bodies_from t (suc place) rest) h).1 at
 
--- those of the item at a place of a small text
-pub few_at : (t : ProgramTree) (tokens : List Token) → IsSmall t tokens → (place : ℕ) (x : BodyItemTree) → slice_get (declared_in t.package_) place ≡ Some x
+-- those of the item at a place of a text whose bodies are small
+pub few_at : (t : ProgramTree) → HasSmallBodies t → (place : ℕ) (x : BodyItemTree) → slice_get (declared_in t.package_) place ≡ Some x
     → TakeFewWords (item_bodies t place x)
-few_at t tokens small place x at =
+few_at t small place x at =
     subst (λ n. TakeFewWords (item_bodies t n x)) (let same = behind_is 0 place in omega (arith, same))
-    (few_behind t 0 (declared_in t.package_) place x small.bodies at)
+    (few_behind t 0 (declared_in t.package_) place x small.words at)
 
 -- ---- instructions
 
@@ -87,7 +87,7 @@ small_code_fits within tables limit t tokens spelled legal restricted small =
       instructions =
           all_together (layouts.total (bounds_from t 0 all)) (total body_item_size all) (size_if_any package_size t.package_) (bodies_among all)
           (length t.main.statements) (size_if_any aspect_size t.main.aspect) (length t.pragmas) (length tokens) (main_bound t.main.statements) (size t)
-          (bounds_counted t 0 all small.bodies)
+          (bounds_counted t 0 all small.bodies.words)
           (declared_size t.package_) (tables t legal restricted).subprograms refl refl nodes few;
       rows = omega (arith, rows, nodes, few);
     }

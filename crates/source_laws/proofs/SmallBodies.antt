@@ -43,8 +43,8 @@ use Rattle.ada_link.specs.package_code.specs.Walking.{Coded, coded, of_subprogra
 use Rattle.ada_link.specs.package_code.proofs.Adding.{body_legal, task_legal, value_legal}
 use Rattle.ada_link.specs.package_code.proofs.Coded.{coded_by}
 use Rattle.source_laws.specs.Depths.{AreStored, FunctionsHaveRoom, StaysWithinLimits, IsSmallVisible, IsSmallFunction, IsSmallProcedure, ProceduresHaveRoom}
-use Rattle.source_laws.specs.Limits.{SmallHasRoom, SmallIsUnlimited}
-use Rattle.source_laws.specs.Small.{IsSmall, SmallCodeFits, body_loops}
+use Rattle.source_laws.specs.Limits.{IsLong, SmallBodiesPassByLength, SmallHasRoom, SmallIsUnlimited}
+use Rattle.source_laws.specs.Small.{HasSmallBodies, SmallCodeFits, body_loops}
 use Rattle.source_laws.specs.Visible.{FrontsAreSmall, NothingIsUnfit}
 use Rattle.source_laws.proofs.CodeCounted.{behind, behind_is, few_at}
 use Rattle.source_laws.proofs.FewCallees.{few_formals}
@@ -181,7 +181,7 @@ all_held t (suc first) (n ∷ s) = all_held t first s
 -- ---- the bodies of a small text: what is visible in front of each, and how deep it is
 
 module _ (fronts : FrontsAreSmall) (limit : Limit) (t : ProgramTree) (tokens : List Token) (spelled : program limit t tokens) (legal : IsLegal t)
-    (restricted : IsRestricted t) (small : IsSmall t tokens) (place : ℕ) where
+    (restricted : IsRestricted t) (small : HasSmallBodies t) (place : ℕ) where
   small_visible : IsSmallVisible (seen_at t (suc place))
   small_visible =
       record {
@@ -202,7 +202,7 @@ few_formals_alone a c e h = omega (arith, h)
 
 module _ (premises : PremisesHold) (names : NamesAreKnown) (scopes : ScopesAreSound) (fronts : FrontsAreSmall)
     (procedures : ProceduresHaveRoom) (functions : FunctionsHaveRoom) (limit : Limit) (t : ProgramTree) (tokens : List Token) (spelled : program limit t tokens)
-    (legal : IsLegal t) (restricted : IsRestricted t) (small : IsSmall t tokens) (place : ℕ) (d : SubprogramTree) (b : BodyTree)
+    (legal : IsLegal t) (restricted : IsRestricted t) (small : HasSmallBodies t) (place : ℕ) (d : SubprogramTree) (b : BodyTree)
     (at : slice_get (declared_in t.package_) place ≡ Some (SubprogramBody d b)) where
   abbrev s : Scope
   s = front t (suc place)
@@ -234,7 +234,7 @@ module _ (premises : PremisesHold) (names : NamesAreKnown) (scopes : ScopesAreSo
         legal = body_legal scopes names premises t legal restricted place d b at;
         shallow = shallow;
         words = few_together (formals_words s (formals_scope s d.formals) d.formals) (body_words (formals_scope s d.formals) b) (body_loops b)
-            (few_at t tokens small place (SubprogramBody d b) at).0;
+            (few_at t small place (SubprogramBody d b) at).0;
       }
 
   small_function : (r : Identifier) (e : ExprTree) → d.result ≡ Some r → returned b.statements ≡ Some e
@@ -253,7 +253,7 @@ module _ (premises : PremisesHold) (names : NamesAreKnown) (scopes : ScopesAreSo
         shallow = under (expr_depth e) (stmts_depth b.statements) _ _ up whole;
         words =
             few_formals_alone (formals_words s (formals_scope s d.formals) d.formals) (body_words (formals_scope s d.formals) b) (body_loops b)
-            (few_at t tokens small place (SubprogramBody d b) at).0;
+            (few_at t small place (SubprogramBody d b) at).0;
       }
     where
       under : (a c e f : ℕ) → a ≤ c → max e (max c f) ≤ 16 → a ≤ 16
@@ -288,7 +288,7 @@ module _ (premises : PremisesHold) (names : NamesAreKnown) (scopes : ScopesAreSo
 -- ---- those of tasks
 
 module _ (premises : PremisesHold) (names : NamesAreKnown) (scopes : ScopesAreSound) (fronts : FrontsAreSmall) (procedures : ProceduresHaveRoom) (limit : Limit)
-    (t : ProgramTree) (tokens : List Token) (spelled : program limit t tokens) (legal : IsLegal t) (restricted : IsRestricted t) (small : IsSmall t tokens)
+    (t : ProgramTree) (tokens : List Token) (spelled : program limit t tokens) (legal : IsLegal t) (restricted : IsRestricted t) (small : HasSmallBodies t)
     (place : ℕ) (name : Identifier) (b : BodyTree) (at : slice_get (declared_in t.package_) place ≡ Some (TaskBody name b)) where
   small_task : IsSmallProcedure (front t (suc place)) [] b
   small_task =
@@ -301,7 +301,7 @@ module _ (premises : PremisesHold) (names : NamesAreKnown) (scopes : ScopesAreSo
         kind = kind.Task;
         legal = task_legal scopes names premises t legal restricted place name b at;
         shallow = shallow_at fronts limit t tokens spelled legal restricted small place (TaskBody name b) (of_task name b) at refl;
-        words = few_together 0 (body_words (front t (suc place)) b) (body_loops b) (few_at t tokens small place (TaskBody name b) at).0;
+        words = few_together 0 (body_words (front t (suc place)) b) (body_loops b) (few_at t small place (TaskBody name b) at).0;
       }
 
   task_room : IsMade (item_needs t place (TaskBody name b)) → StaysWithinLimits (item_needs t place (TaskBody name b))
@@ -332,13 +332,21 @@ small_has_room premises names scopes fronts procedures functions limit t tokens 
         let same : k ≡ behind 0 k = (let e = behind_is 0 k in omega (arith, e)) in
         subst (λ n. IsMade (item_needs t n x) → StaysWithinLimits (item_needs t n x)) same f own
 
-pub small_is_unlimited : SmallHasRoom → SmallCodeFits → NothingIsUnfit → SmallIsUnlimited
-small_is_unlimited has_room fits unfit limit t tokens spelled legal restricted small made refused =
+pub pass_by_length : SmallHasRoom → NothingIsUnfit → SmallBodiesPassByLength
+pass_by_length has_room unfit limit t tokens spelled legal restricted small made refused =
     by_reason (has_room limit t tokens spelled legal restricted small made) refused
   where
-    by_reason : StaysWithinLimits (program_needs t) → RefusesLinking t refusal.Limit → ⊥
-    by_reason room (inl (inl many)) = let up = (fits limit t tokens spelled legal restricted small).instructions in omega (arith, many, up)
-    by_reason room (inl (inr (inl deep))) = let one = room.stack in let two = room.frame in omega (arith, deep, one, two)
-    by_reason room (inl (inr (inr bad))) = let none = unfit limit t tokens spelled legal restricted in let never = sym none ∙ bad in cc
-    by_reason room (inr (inl many)) = let up = (fits limit t tokens spelled legal restricted small).rows in omega (arith, many, up)
-    by_reason room (inr (inr bad)) = bad
+    by_reason : StaysWithinLimits (program_needs t) → RefusesLinking t refusal.Limit → IsLong t
+    by_reason room (inl (inl many)) = inl many
+    by_reason room (inl (inr (inl deep))) = let one = room.stack in let two = room.frame in absurd (omega (arith, deep, one, two))
+    by_reason room (inl (inr (inr bad))) = let none = unfit limit t tokens spelled legal restricted in absurd (let never = sym none ∙ bad in cc)
+    by_reason room (inr (inl many)) = inr many
+    by_reason room (inr (inr bad)) = absurd bad
+
+pub small_is_unlimited : SmallBodiesPassByLength → SmallCodeFits → SmallIsUnlimited
+small_is_unlimited by_length fits limit t tokens spelled legal restricted small made refused =
+    by_reason (by_length limit t tokens spelled legal restricted small.bodies made refused)
+  where
+    by_reason : IsLong t → ⊥
+    by_reason (inl many) = let up = (fits limit t tokens spelled legal restricted small).instructions in omega (arith, many, up)
+    by_reason (inr many) = let up = (fits limit t tokens spelled legal restricted small).rows in omega (arith, many, up)

@@ -92,11 +92,15 @@ body_room x =
 abbrev pub TakeFewWords : List PlacedBody → Type 0
 TakeFewWords xs = AllByRecursion (λ x. body_room x ≤ small_words) xs
 
--- it has few tokens, few levels are open at once, and each of its bodies has few words
+-- few levels are open at once, and each of its bodies has few words
+pub record HasSmallBodies (t : ProgramTree) : Type 0 where
+  pub flat : depth t ≤ small_depth
+  pub words : TakeFewWords (bodies_of t)
+
+-- it has few tokens besides
 pub record IsSmall (t : ProgramTree) (tokens : List Token) : Type 0 where
   pub few : length tokens ≤ small_tokens
-  pub flat : depth t ≤ small_depth
-  pub bodies : TakeFewWords (bodies_of t)
+  pub bodies : HasSmallBodies t
 
 -- ---- the code of one
 

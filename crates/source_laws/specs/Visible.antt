@@ -18,7 +18,7 @@ use Rattle.program_soundness.specs.Fronts.{front}
 use Rattle.ada_link.specs.expr_code.specs.Refusing.{is_fit}
 use Rattle.ada_link.specs.package_code.specs.Refusing.{program_needs}
 use Rattle.source_laws.specs.Depths.{FewFormals, IsSmallScope, is_full}
-use Rattle.source_laws.specs.Small.{IsSmall}
+use Rattle.source_laws.specs.Small.{HasSmallBodies}
 
 -- ---- limits of what is visible
 
@@ -45,7 +45,7 @@ NothingIsUnfit = (limit : Limit) (t : ProgramTree) (tokens : List Token) → pro
 abbrev pub CalleesHaveFew : Type 0
 CalleesHaveFew = (t : ProgramTree) → IsLegal t → IsRestricted t → (place : ℕ) → FewFormals (front t place)
 
--- and in a small one these take few words
+-- and in one whose bodies are small these take few words
 abbrev pub FrontsAreSmall : Type 0
-FrontsAreSmall = (limit : Limit) (t : ProgramTree) (tokens : List Token) → program limit t tokens → IsLegal t → IsRestricted t → IsSmall t tokens → (place : ℕ)
+FrontsAreSmall = (limit : Limit) (t : ProgramTree) (tokens : List Token) → program limit t tokens → IsLegal t → IsRestricted t → HasSmallBodies t → (place : ℕ)
     → IsSmallScope (front t place)

@@ -1,5 +1,5 @@
 //! The laws of source texts, each what a function without work ensures.
-ghost use Rattle.source_laws.specs.Limits.{SmallHasRoom, SmallIsUnlimited};
+ghost use Rattle.source_laws.specs.Limits.{SmallBodiesPassByLength, SmallHasRoom, SmallIsUnlimited};
 ghost use Rattle.source_laws.specs.Small.{SmallCodeFits};
 ghost use Rattle.source_laws.specs.Spelled.{OutsideIsTold, TextsAreSpelled};
 ghost use Rattle.source_laws.specs.Visible.{CalleesHaveFew, FrontsAreSmall, FrontsKeepLimits, NothingIsUnfit};
@@ -66,7 +66,7 @@ pub fn callees_have_few()
     words_have_room();
 }
 
-/// What is visible in front of each declaration and body of a small text is small: its formals take at most 64 words.
+/// What is visible in front of each declaration and body is small in a text whose bodies are: its formals take at most 64 words.
 pub fn fronts_are_small()
     ensures { FrontsAreSmall }
 {
@@ -78,7 +78,7 @@ pub fn fronts_are_small()
     words_have_room();
 }
 
-/// The bodies of a small text, of subprograms and tasks, are small, so the frames and operand stacks of its code have room.
+/// The frames and operand stacks of the code of a text whose bodies, of subprograms and tasks, are small have room.
 pub fn small_has_room()
     ensures { SmallHasRoom }
 {
@@ -90,11 +90,18 @@ pub fn small_has_room()
     scopes_are_sound();
 }
 
-/// So no limit of images refuses a small accepted text of which code is made.
+/// So an accepted text whose bodies are small passes a limit of images only by the instructions, or the rows of handlers, of all its code.
+pub fn small_bodies_pass_by_length()
+    ensures { SmallBodiesPassByLength }
+{
+    nothing_is_unfit();
+    small_has_room();
+}
+
+/// And no limit of images refuses a small accepted text of which code is made.
 pub fn small_is_unlimited()
     ensures { SmallIsUnlimited }
 {
-    nothing_is_unfit();
+    small_bodies_pass_by_length();
     small_code_fits();
-    small_has_room();
 }

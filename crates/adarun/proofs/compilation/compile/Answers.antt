@@ -47,7 +47,7 @@ pub returns-clause-judged : goal.returns-clause-judged
 returns-clause-judged c = λ tree is_tree.
     let same = c.deref.ensures.value ∙ c.in_ok-list.ensures.complete is_tree.tokens is_tree.spells in
     let lent = ap program_tree (c.in_ok-accepted.ensures.same ∙ c.in_ok-checked.ensures.same) in
-    judged_accepted c.outside_is_told.ensures c.nothing_is_outside.ensures c.small_is_unlimited.ensures _ _ _ _ is_tree (lent ∙ c.in_ok-program.ensures.only tree (subst (Derives tree) (sym same) is_tree.derives))
+    judged_accepted c.outside_is_told.ensures c.nothing_is_outside.ensures c.small_bodies_pass_by_length.ensures c.small_is_unlimited.ensures _ _ _ _ is_tree (lent ∙ c.in_ok-program.ensures.only tree (subst (Derives tree) (sym same) is_tree.derives))
     c.compile_tree.ensures.legal
     c.compile_tree.ensures.restricted
     c.compile_tree.ensures.refused
@@ -85,7 +85,7 @@ returns-clause-accepted c = λ tree given_tree.
     let is_tree = given_tree.is_tree in
     let same = c.deref.ensures.value ∙ c.in_ok-list.ensures.complete is_tree.tokens is_tree.spells in
     let lent = ap program_tree (c.in_ok-accepted.ensures.same ∙ c.in_ok-checked.ensures.same) in
-    let told = tells c.outside_is_told.ensures c.nothing_is_outside.ensures c.small_is_unlimited.ensures c.args.source.now tree is_tree given_tree.legal given_tree.restricted in
+    let told = tells c.outside_is_told.ensures c.nothing_is_outside.ensures c.small_bodies_pass_by_length.ensures c.small_is_unlimited.ensures c.args.source.now tree is_tree given_tree.legal given_tree.restricted in
     given _ _ _ _ told (lent ∙ c.in_ok-program.ensures.only tree (subst (Derives tree) (sym same) is_tree.derives))
     c.compile_tree.ensures.means
     c.compile_tree.ensures.refused
@@ -99,7 +99,7 @@ returns-in_err-accepted-clause-refused c =
 
 pub returns-clause-refused : goal.returns-clause-refused
 returns-clause-refused c =
-    refused_text c.outside_is_told.ensures c.nothing_is_outside.ensures c.small_is_unlimited.ensures _ _ _ _ _ _ c.in_ok-list.ensures.sound c.deref.ensures.value c.in_ok-program.ensures.found
+    refused_text c.outside_is_told.ensures c.nothing_is_outside.ensures c.small_bodies_pass_by_length.ensures c.small_is_unlimited.ensures _ _ _ _ _ _ c.in_ok-list.ensures.sound c.deref.ensures.value c.in_ok-program.ensures.found
     (c.in_ok-accepted.ensures.same ∙ c.in_ok-checked.ensures.same)
     c.compile_tree.ensures.legal
     c.compile_tree.ensures.restricted
