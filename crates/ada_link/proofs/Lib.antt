@@ -7,7 +7,7 @@ mod Suited
 mod KeptCode
 mod RowRules
 mod WellFormed
-mod MainKnown
+pub mod MainKnown
 mod Refusals
 mod LabelsFit
 mod WordsFit

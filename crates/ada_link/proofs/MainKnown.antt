@@ -45,7 +45,7 @@ unmapped : (o : Option ℕ) → option_map suc o ≡ None → o ≡ None
 unmapped (Some n) h = cc
 unmapped None h = refl
 
-place_behind : {X : Type 0} (p : X → Bool) (xs ys : List X) (n : ℕ) → first_place p xs ≡ None → first_place p (xs ++ ys) ≡ Some n → length xs ≤ n
+pub place_behind : {X : Type 0} (p : X → Bool) (xs ys : List X) (n : ℕ) → first_place p xs ≡ None → first_place p (xs ++ ys) ≡ Some n → length xs ≤ n
 place_behind p [] ys n none h = omega arith
 place_behind {X} p (x ∷ xs) ys n none h = by_test (p x) none h (λ m a b. place_behind p xs ys m a b)
   where
@@ -57,7 +57,7 @@ place_behind {X} p (x ∷ xs) ys n none h = by_test (p x) none h (λ m a b. plac
         let l = later m.0 (unmapped (first_place p xs) a) m.1 in
         let e = m.2 in omega (arith, e, l)
 
-told_name : {X : Type 0} (first : ℕ) (tell : List ℕ → Option X) (s : Scope) (name : List ℕ) (n : ℕ) → number_of s name ≡ Some n → first ≤ n
+pub told_name : {X : Type 0} (first : ℕ) (tell : List ℕ → Option X) (s : Scope) (name : List ℕ) (n : ℕ) → number_of s name ≡ Some n → first ≤ n
     → told_of s (told_behind first tell s) name ≡ tell name
 told_name first tell s name n h up =
     let x = found_at (λ m. bytes_eq name m.name) s n (sym (number_place s name) ∙ h) in

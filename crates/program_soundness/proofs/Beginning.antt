@@ -54,7 +54,7 @@ called_legal : (s : Scope) (t : Option Subtype) (e : ExprTree) (o : Option (Pred
 called_legal s t e (Some x) h = front_empty (faults_of s (wanted_by t) e) _ (front_empty _ _ h)
 called_legal s t e None h = front_empty (faults_of s (wanted_by t) e) _ (front_empty _ _ h)
 
-fixed_legal : (s : Scope) (t : Option Subtype) (e : ExprTree) → fixed_faults s t e ≡ [] → faults_of s (wanted_by t) e ≡ []
+pub fixed_legal : (s : Scope) (t : Option Subtype) (e : ExprTree) → fixed_faults s t e ≡ [] → faults_of s (wanted_by t) e ≡ []
 fixed_legal s t e h = by_test (is_clock s e) h
   where
     by_test : (b : Bool) → ◌≡◌ {A = Faults} (elim b [ true ↦ faults_of s (wanted_by t) e | false ↦ called_faults s t e (span_call s e) ]) []

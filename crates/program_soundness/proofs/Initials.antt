@@ -229,7 +229,7 @@ module _ (s : Scope) (sound : SoundScope s) where
     pub callee : IsOperation first is_span
     pub same : callee.operation ≡ x.0
 
-  single_cases : (selectors : SelectorTrees) → (single_argument selectors ≡ None) ⊎ ((a : ExprTree) × (selectors ≡ with_argument a))
+  pub single_cases : (selectors : SelectorTrees) → (single_argument selectors ≡ None) ⊎ ((a : ExprTree) × (selectors ≡ with_argument a))
   single_cases (MoreSelectors (Arguments (MoreArguments (tree.Value a) NoArguments)) NoSelectors) = inr (a, refl)
   single_cases (MoreSelectors (Arguments (MoreArguments (tree.Value a) (MoreArguments b rest))) NoSelectors) = inl refl
   single_cases (MoreSelectors (Arguments (MoreArguments (tree.Text label place) rest)) NoSelectors) = inl refl
@@ -239,7 +239,7 @@ module _ (s : Scope) (sound : SoundScope s) where
   single_cases (MoreSelectors (tree.Attribute name) rest) = inl refl
   single_cases NoSelectors = inl refl
 
-  span_none : (o : Option Entity) → span_by o None ≡ None
+  pub span_none : (o : Option Entity) → span_by o None ≡ None
   span_none (Some (Predefined predefined.Milliseconds p)) = refl
   span_none (Some (Predefined predefined.Microseconds p)) = refl
   span_none o = refl
@@ -328,12 +328,12 @@ module _ (s : Scope) (sound : SoundScope s) where
 
   -- ---- what is known of the span
 
-  form_anywhere : (p q : ℕ) (f : StaticForm) → form_rule p f ≡ [] → form_rule q f ≡ []
+  pub form_anywhere : (p q : ℕ) (f : StaticForm) → form_rule p f ≡ [] → form_rule q f ≡ []
   form_anywhere p q NotStatic h = cc
   form_anywhere p q Static h = refl
   form_anywhere p q Doubtful h = refl
 
-  value_anywhere : (p q : ℕ) (f : StaticForm) (v : Val Value) → statics.value_rule p None f v ≡ [] → statics.value_rule q None f v ≡ []
+  pub value_anywhere : (p q : ℕ) (f : StaticForm) (v : Val Value) → statics.value_rule p None f v ≡ [] → statics.value_rule q None f v ≡ []
   value_anywhere p q Static (Gives v) h = refl
   value_anywhere p q Static (Raises x) h = cc
   value_anywhere p q Static Meaningless h = refl

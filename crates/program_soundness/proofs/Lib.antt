@@ -1,7 +1,7 @@
-mod Statics
+pub mod Statics
 pub mod Extending
 mod Subtypes
-mod Initials
+pub mod Initials
 mod Declared
 mod Parts
 mod Walks

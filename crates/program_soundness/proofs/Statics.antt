@@ -51,7 +51,7 @@ both_left Doubtful Static h = cc
 both_left Doubtful NotStatic h = cc
 both_left Doubtful Doubtful h = cc
 
-both_right : (a b : StaticForm) → both a b ≡ Static → b ≡ Static
+pub both_right : (a b : StaticForm) → both a b ≡ Static → b ≡ Static
 both_right Static b h = h
 both_right NotStatic b h = cc
 both_right Doubtful Static h = refl

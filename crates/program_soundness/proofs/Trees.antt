@@ -143,7 +143,7 @@ start_first None = seen_first NoUnits
 
 -- ---- nor a protected object
 
-count_push : (s : Scope) (x : Named) → protected_count (s ++ x ∷ []) ≡ protected_count s + one_if_protected x.entity
+pub count_push : (s : Scope) (x : Named) → protected_count (s ++ x ∷ []) ≡ protected_count s + one_if_protected x.entity
 count_push [] x = omega arith
 count_push (y ∷ ys) x = let e = count_push ys x in omega (arith, e)
 

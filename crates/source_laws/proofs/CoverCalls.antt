@@ -1,6 +1,6 @@
 -- Code is made of all legal calls of procedures and of lines, where what is visible has what code needs.
 use Rattle.std.proofs.Common.{◌≡◌, ◌++◌, ℕ, suc, [], ◌∷◌, List, length, Bool, true, false, ◌&&◌, not, Option, Some, None, refl, sym, ap, ◌∙◌, subst, arith}
-use Rattle.std.specs.Prelude.{⊤, bytes_eq, codes, cond, is_none, is_some, nat_eq, pos}
+use Rattle.std.specs.Prelude.{⊤, is_none, is_some, nat_eq}
 use Rattle.std.proofs.lemmas.Bool.{and_from, or_from}
 use Rattle.ada_link.specs.base.specs.declared.faults.TheConstants.{WRONG_ARGUMENT_COUNT}
 use Rattle.ada_tree.specs.declared.declaration.Mode.{Mode}
@@ -15,11 +15,11 @@ use Rattle.types.specs.declared.standing.Standing.{Standing}
 use Rattle.types.specs.declared.standing.Standing.TheVariants as standing
 use Rattle.types.specs.Entities.{Arrays, Constant, Doubtful, Entity, Entry, Exception, Integers, LibraryUnit, Literal, Object, OfSubtype, OfType, Predefined, Profile, Protected, Put, Records, Subprogram, Task, TypeForm}
 use Rattle.types.specs.Scopes.{Scope, form_at, integer_type, number_of, profile_of}
-use Rattle.types.specs.Standings.{array_attribute, bound_stands, bounds_stand, call_stands, callee_profile, component_of, component_stands, conversion_stands, count, element_stands, is_single, object_attribute, part_of, result_stands, select, select_all, settle, standing_of, stands_first, stands_for, subtype_attribute}
+use Rattle.types.specs.Standings.{call_stands, callee_profile, component_of, component_stands, conversion_stands, count, element_stands, is_single, part_of, result_stands, select, select_all, settle, standing_of, stands_first, stands_for}
 use Rattle.expr_soundness.specs.expr_rules.specs.declared.names.Slot.TheVariants.{Takes}
 use Rattle.expr_soundness.specs.expr_rules.specs.declared.own.Wanted.TheVariants.{OfType}
 use Rattle.expr_soundness.specs.expr_rules.specs.ExpressionRules.{argument_faults, arguments_faults, call_faults, faults_in, name_faults, selector_faults, selectors_faults}
-use Rattle.expr_soundness.specs.expr_rules.specs.NameRules.{actual_rule, call_rule, count_rule, part_rule, profile_formals, slot_at, slot_rule, slot_wanted, value_rule}
+use Rattle.expr_soundness.specs.expr_rules.specs.NameRules.{is_doubtful, actual_rule, call_rule, count_rule, part_rule, profile_formals, slot_at, slot_rule, slot_wanted, value_rule}
 use Rattle.expr_soundness.specs.expr_rules.specs.Typing.{own_of}
 use Rattle.expr_soundness.specs.expr_rules.proofs.TypedLaw.{back_empty, front_empty, same_number, unbroken}
 use Rattle.expr_soundness.specs.type_rules.specs.SubtypeNames.{entity_at_or_none}
@@ -37,7 +37,7 @@ use Rattle.ada_link.specs.part_code.specs.Passing.{actuals_behind, holds_variabl
 use Rattle.ada_link.specs.part_code.specs.Needs.{actual_needs, actuals_needs, address_needs, call_needs, called_needs, copies_needs, destination_at, destinations_for, destinations_of, is_object, is_taken, line_needs, passed_needs, put_needs}
 use Rattle.ada_link.specs.part_code.specs.declared.call.Destination.{Destination}
 use Rattle.source_laws.specs.Covered.{HasWhatCodeNeeds}
-use Rattle.source_laws.proofs.CoverNames.{IsTarget, address_made, known_taken, name_target, name_visible, slot_held, target_object, wanted_made}
+use Rattle.source_laws.proofs.CoverNames.{IsTarget, address_made, attribute_given, is_given, known_taken, name_target, name_visible, slot_held, target_object, wanted_made}
 use Rattle.source_laws.proofs.CoverScopes.{placed}
 use Rattle.source_laws.proofs.NamedCalls.{SlotsFrom, arguments_legal, begins_there, called, first_slot, later_slots, profile_is, slots_are}
 use Rattle.source_laws.proofs.NeedsCalls.{destinations_by, moded_by}
@@ -72,29 +72,13 @@ conversion_quiet : (t : Subtype) (o : Option TypeForm) (b : Bool) → no_call (c
 conversion_quiet t (Some Integers) true = refl
 conversion_quiet t o b = refl
 
-bounds_quiet : (t : Subtype) (name : List ℕ) → no_call (bounds_stand t name)
-bounds_quiet t name = by_names (bytes_eq name (codes "FIRST")) (bytes_eq name (codes "LAST"))
-  where
-    by_names : (a b : Bool) → no_call (cond a (bound_stands t t.first) (cond b (bound_stands t t.last) standing.Doubtful))
-    by_names true b = refl
-    by_names false true = refl
-    by_names false false = refl
-
-array_quiet : (index : Subtype) (many : ℕ) (name : List ℕ) → no_call (array_attribute index many name)
-array_quiet index many name = by_name (bytes_eq name (codes "LENGTH")) (bounds_quiet index name)
-  where
-    by_name : (b : Bool) → no_call (bounds_stand index name) → no_call (cond b (standing.Plain (pos many)) (bounds_stand index name))
-    by_name true h = refl
-    by_name false h = h
-
-object_quiet : (o : Option TypeForm) (name : List ℕ) → no_call (object_attribute o name)
-object_quiet (Some (Arrays index many element)) name = array_quiet index many name
-object_quiet o name = refl
-
-subtype_quiet : (t : Subtype) (o : Option TypeForm) (name : List ℕ) → no_call (subtype_attribute t o name)
-subtype_quiet t (Some Integers) name = bounds_quiet t name
-subtype_quiet t (Some (Arrays index many element)) name = array_quiet index many name
-subtype_quiet t o name = refl
+-- nor does a known value begin one, nor what is doubtful
+value_quiet : (w : Standing) → (is_doubtful w ≡ false → is_given w ≡ true) → no_call w
+value_quiet (standing.Callee f) h = absurd (let never = h refl in cc)
+value_quiet standing.Put h = absurd (let never = h refl in cc)
+value_quiet (standing.Protected n) h = absurd (let never = h refl in cc)
+value_quiet standing.Statement h = absurd (let never = h refl in cc)
+value_quiet w h = refl
 
 module _ (s : Scope) where
   contrary : (w : Standing) → no_call w → is_calling w ≡ true → ⊥
@@ -103,13 +87,13 @@ module _ (s : Scope) where
   part_calling : (w : Standing) (x : SelectorTree) → is_calling (select s w x) ≡ true → is_calling w ≡ true
   part_calling (standing.Part r t) (Component name) is = absurd (contrary _ (record_quiet r (form_at s t.type_number) name.name) is)
   part_calling (standing.Part r t) (Arguments a) is = absurd (contrary _ (element_quiet r (form_at s t.type_number) (is_single a)) is)
-  part_calling (standing.Part r t) (Attribute name) is = absurd (contrary _ (object_quiet (form_at s t.type_number) name.name) is)
+  part_calling (standing.Part r t) (Attribute name) is = absurd (contrary _ (value_quiet _ (attribute_given s (standing.Part r t) name)) is)
   part_calling (standing.Fixed t v) (Component name) is = absurd (contrary _ (record_quiet _ (form_at s t.type_number) name.name) is)
   part_calling (standing.Fixed t v) (Arguments a) is = absurd (contrary _ (element_quiet _ (form_at s t.type_number) (is_single a)) is)
-  part_calling (standing.Fixed t v) (Attribute name) is = absurd (contrary _ (object_quiet (form_at s t.type_number) name.name) is)
+  part_calling (standing.Fixed t v) (Attribute name) is = absurd (contrary _ (value_quiet _ (attribute_given s (standing.Fixed t v) name)) is)
   part_calling (standing.Named t) (Component name) is = absurd cc
   part_calling (standing.Named t) (Arguments a) is = absurd (contrary _ (conversion_quiet t (form_at s t.type_number) (is_single a)) is)
-  part_calling (standing.Named t) (Attribute name) is = absurd (contrary _ (subtype_quiet t (form_at s t.type_number) name.name) is)
+  part_calling (standing.Named t) (Attribute name) is = absurd (contrary _ (value_quiet _ (attribute_given s (standing.Named t) name)) is)
   part_calling (standing.Callee f) x is = refl
   part_calling standing.Put x is = refl
   part_calling (standing.Protected n) x is = refl

@@ -90,7 +90,7 @@ module _ (s : Scope) where
 
 -- ---- attributes have known values
 
-abbrev is_given : Standing → Bool
+abbrev pub is_given : Standing → Bool
 is_given (standing.Given t (Some v)) = true
 is_given (standing.Plain z) = true
 is_given w = false
@@ -128,7 +128,7 @@ subtype_given t (Some Integers) name h = bounds_given t name h
 subtype_given t (Some (Arrays index many element)) name h = array_given index many name h
 subtype_given t o name h = absurd cc
 
-attribute_given : (s : Scope) (w : Standing) (name : Identifier) → is_doubtful (select s w (Attribute name)) ≡ false
+pub attribute_given : (s : Scope) (w : Standing) (name : Identifier) → is_doubtful (select s w (Attribute name)) ≡ false
     → is_given (select s w (Attribute name)) ≡ true
 attribute_given s (standing.Part r t) name h = object_given (form_at s t.type_number) name.name h
 attribute_given s (standing.Fixed t v) name h = object_given (form_at s t.type_number) name.name h
@@ -144,25 +144,10 @@ conversion_other : (t : Subtype) (o : Option TypeForm) (b : Bool) → not_object
 conversion_other t (Some Integers) true = refl
 conversion_other t o b = refl
 
-bounds_other : (t : Subtype) (name : List ℕ) → not_object (bounds_stand t name)
-bounds_other t name = by_names (bytes_eq name (codes "FIRST")) (bytes_eq name (codes "LAST"))
-  where
-    by_names : (a b : Bool) → not_object (cond a (bound_stands t t.first) (cond b (bound_stands t t.last) standing.Doubtful))
-    by_names true b = refl
-    by_names false true = refl
-    by_names false false = refl
-
-array_other : (index : Subtype) (many : ℕ) (name : List ℕ) → not_object (array_attribute index many name)
-array_other index many name = by_name (bytes_eq name (codes "LENGTH")) (bounds_other index name)
-  where
-    by_name : (b : Bool) → not_object (bounds_stand index name) → not_object (cond b (standing.Plain (pos many)) (bounds_stand index name))
-    by_name true h = refl
-    by_name false h = h
-
-subtype_other : (t : Subtype) (o : Option TypeForm) (name : List ℕ) → not_object (subtype_attribute t o name)
-subtype_other t (Some Integers) name = bounds_other t name
-subtype_other t (Some (Arrays index many element)) name = array_other index many name
-subtype_other t o name = refl
+-- nor is a known value, nor what is doubtful
+value_other : (w : Standing) → (is_doubtful w ≡ false → is_given w ≡ true) → not_object w
+value_other (standing.Part r t) h = absurd (let never = h refl in cc)
+value_other w h = refl
 
 result_other : (r : Option Subtype) → not_object (result_stands r)
 result_other (Some t) = refl
@@ -191,7 +176,7 @@ module _ (s : Scope) (sound : SoundScope s) where
   part_selected place (standing.Fixed t v) x g h is = absurd (no_constant_parts s sound place t v x g h)
   part_selected place (standing.Named t) (Component name) g h is = absurd cc
   part_selected place (standing.Named t) (Arguments a) g h is = absurd (contrary _ (conversion_other t (form_at s t.type_number) (is_single a)) is)
-  part_selected place (standing.Named t) (Attribute name) g h is = absurd (contrary _ (subtype_other t (form_at s t.type_number) name.name) is)
+  part_selected place (standing.Named t) (Attribute name) g h is = absurd (contrary _ (value_other _ (attribute_given s (standing.Named t) name)) is)
   part_selected place (standing.Callee f) (Component name) g h is = absurd cc
   part_selected place (standing.Callee f) (Arguments a) g h is = absurd (contrary _ (call_other (callee_profile s f)) is)
   part_selected place (standing.Callee f) (Attribute name) g h is = absurd cc

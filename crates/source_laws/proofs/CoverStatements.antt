@@ -271,7 +271,7 @@ mutual
       let two = front_empty (c ++ f) g k in
       let inner = restrictions.stmts_faults body in
       let later = restrictions.alternatives_faults rest in
-      or_from (choices_needs s choices).outside _ (choices_made s h.cover.sound h.cover.formals w before last choices (front_empty c f two))
+      or_from (choices_needs s choices).outside _ (choices_made s h.cover.sound w before last choices (front_empty c f two))
       (or_from (stmts_needs a body).outside (alternatives_needs a rest).outside (stmts_made body a b h (back_empty c f two) (front_empty inner later r))
       (alternatives_made rest a b h w (chosen_by s w before choices) (back_empty (c ++ f) g k) (back_empty inner later r)))
 

@@ -13,9 +13,9 @@ use Rattle.types.specs.declared.entity.Role.{Role}
 use Rattle.types.specs.declared.entity.Subtype.{Subtype}
 use Rattle.types.specs.declared.standing.Standing.TheVariants as standing
 use Rattle.types.specs.Entities as entity
-use Rattle.types.specs.Entities.{Entity, Entry, Exception, Profile, Protected, ProtectedObject, Subprogram}
+use Rattle.types.specs.Entities.{Entity, Entry, Exception, Profile, Protected, Subprogram}
 use Rattle.types.specs.Places.{Object, object_of}
-use Rattle.types.specs.Scopes.{Named, Scope, base_range_of, entity_at, form_at, number_of, protected_count}
+use Rattle.types.specs.Scopes.{Scope, base_range_of, entity_at, form_at, number_of, protected_count}
 use Rattle.types.specs.Shapes.{value_words}
 use Rattle.types.specs.Standings.{stands_first, stands_for}
 use Rattle.expr_soundness.specs.expr_rules.proofs.TypedLaw.{back_empty, front_empty, unbroken}
@@ -24,7 +24,7 @@ use Rattle.expr_soundness.specs.type_rules.specs.SubtypeNames.{entity_at_or_none
 use Rattle.expr_soundness.specs.meaning.specs.Programs.{Program, exceptions_among, items_among, program_of}
 use Rattle.expr_soundness.specs.Laws.{ScopesAreSound}
 use Rattle.expr_soundness.specs.SoundScopes.{IsKnown, IsSoundProfile, IsSoundResult, SoundScope}
-use Rattle.expr_soundness.proofs.Positions.{entity_number, first_place, found_at, number_place, place_is, suc_of}
+use Rattle.expr_soundness.proofs.Positions.{entity_number, first_place, number_place, place_is}
 use Rattle.checking.specs.ProgramRules.{IsLegal}
 use Rattle.program_soundness.specs.legality.specs.BodyRules.{body_name_faults, function_body_faults, own_name_faults}
 use Rattle.program_soundness.specs.ravenscar.specs.ProgramRules.{IsRestricted}
@@ -37,9 +37,8 @@ use Rattle.program_soundness.proofs.Extending.{Extends}
 use Rattle.program_soundness.proofs.Listing.{Has, has_back, has_front, same_some}
 use Rattle.program_soundness.proofs.Trees.{tree_package}
 use Rattle.program_soundness.proofs.Walked.{Constants, Entries, Exceptions, Origin, Variables, body_item_kind, declares, kept_all, kind}
-use Rattle.program_soundness.proofs.WiderScopes.{equal_bytes, number_stands, same_bytes, stands, stands_number}
+use Rattle.program_soundness.proofs.WiderScopes.{equal_bytes, number_stands, stands, stands_number}
 use Rattle.program_soundness.proofs.Whole.{IsPackage, came, entity_variable, is_first, kept, known_subtype, origin_kind}
-use Rattle.ada_link.specs.expr_code.specs.Entries.{entry_at}
 use Rattle.ada_link.specs.expr_code.specs.Seeing.{profile_named, slot_of, subprogram_of, told_of}
 use Rattle.ada_link.specs.part_code.specs.Needs.{is_stored}
 use Rattle.ada_link.specs.part_code.specs.Raising.{number_among, number_at}
@@ -48,6 +47,7 @@ use Rattle.ada_link.specs.package_code.specs.Package.{place_among}
 use Rattle.ada_link.specs.package_code.specs.Refusing.{number_in, seen_at, slot_in, told_behind}
 use Rattle.ada_link.specs.package_code.specs.Walking.{of_subprogram}
 use Rattle.ada_link.specs.package_code.proofs.Seen.{all_behind, behind_long}
+use Rattle.ada_link.proofs.MainKnown.{place_behind, told_name}
 use Rattle.source_laws.specs.Covered.{HasWhatCodeNeeds, has_protected}
 use Rattle.source_laws.specs.Depths.{is_scalar_form}
 use Rattle.source_laws.specs.Visible.{CalleesHaveFew, KeepsLimits}
@@ -56,39 +56,6 @@ use Rattle.source_laws.proofs.FewCallees.{scalar_form}
 use Rattle.source_laws.proofs.LaterNames.{same_form}
 use Rattle.source_laws.proofs.UnprotectedFronts.{fronts_unprotected, none_protected}
 use Rattle.source_laws.proofs.VisibleWords.{behind_front}
-
--- ---- what is told of a name that is not among the first
-
-entry_behind : {X : Type 0} (first : ℕ) (tell : List ℕ → Option X) (s : Scope) (n : ℕ) (m : Named) → first ≤ n → slice_get s n ≡ Some m
-    → entry_at (told_behind first tell s) n ≡ tell m.name
-entry_behind first tell [] n m up h = cc
-entry_behind zero tell (x ∷ s) zero m up h = ap (λ y. tell y.name) (same_some x m h)
-entry_behind zero tell (x ∷ s) (suc n) m up h = entry_behind zero tell s n m (omega arith) h
-entry_behind (suc first) tell (x ∷ s) zero m up h = absurd (omega (arith, up))
-entry_behind (suc first) tell (x ∷ s) (suc n) m up h = entry_behind first tell s n m (omega (arith, up)) h
-
-unmapped : (o : Option ℕ) → option_map suc o ≡ None → o ≡ None
-unmapped (Some n) h = cc
-unmapped None h = refl
-
-place_behind : {X : Type 0} (p : X → Bool) (xs ys : List X) (n : ℕ) → first_place p xs ≡ None → first_place p (xs ++ ys) ≡ Some n → length xs ≤ n
-place_behind p [] ys n none h = omega arith
-place_behind {X} p (x ∷ xs) ys n none h = by_test (p x) none h (λ m a b. place_behind p xs ys m a b)
-  where
-    by_test : (b : Bool) → cond b (Some 0) (option_map suc (first_place p xs)) ≡ None → cond b (Some 0) (option_map suc (first_place p (xs ++ ys))) ≡ Some n
-        → ((m : ℕ) → first_place p xs ≡ None → first_place p (xs ++ ys) ≡ Some m → length xs ≤ m) → suc (length xs) ≤ n
-    by_test true a b later = cc
-    by_test false a b later =
-        let m = suc_of (first_place p (xs ++ ys)) n b in
-        let l = later m.0 (unmapped (first_place p xs) a) m.1 in
-        let e = m.2 in omega (arith, e, l)
-
-told_name : {X : Type 0} (first : ℕ) (tell : List ℕ → Option X) (s : Scope) (name : List ℕ) (n : ℕ) → number_of s name ≡ Some n → first ≤ n
-    → told_of s (told_behind first tell s) name ≡ tell name
-told_name first tell s name n h up =
-    let x = found_at (λ m. bytes_eq name m.name) s n (sym (number_place s name) ∙ h) in
-    ap (λ o. elim o [ None ↦ None | Some k ↦ entry_at (told_behind first tell s) k ]) h ∙ entry_behind first tell s n x.0 up x.1
-    ∙ ap tell (sym (same_bytes name x.0.name x.2))
 
 -- ---- a variable stands among the words of the package
 

@@ -9,8 +9,7 @@ use Rattle.ada_tree.specs.ExpressionTree as tree
 use Rattle.ada_tree.specs.ExpressionTree.{Arguments, ArgumentTree, ArgumentTrees, Attribute, Binary, Component, Conditional, ElsifValueTrees, ExprTree, MoreArguments, MoreElsifValues, MoreSelectors, Named, NoArguments, NoElsifValues, NoSelectors, Parenthesized, SelectorTree, SelectorTrees, Text, Unary}
 use Rattle.types.specs.declared.standing.Standing.{Standing}
 use Rattle.types.specs.declared.standing.Standing.TheVariants as standing
-use Rattle.types.specs.declared.statics.StaticForm.{StaticForm}
-use Rattle.types.specs.declared.statics.StaticForm.TheVariants.{Doubtful, NotStatic, Static}
+use Rattle.types.specs.declared.statics.StaticForm.TheVariants.{NotStatic, Static}
 use Rattle.types.specs.declared.entity.Value.{Value as Scalar}
 use Rattle.types.specs.Evaluating.{fixed_value, name_with}
 use Rattle.types.specs.Places.{meaning_of}
@@ -37,32 +36,9 @@ use Rattle.expr_soundness.proofs.Goods.{Good, good_first, good_select, good_sett
 use Rattle.expr_soundness.proofs.Positions.{IsNamed, named}
 use Rattle.program_soundness.proofs.Extending.{Extends, entity_stays, number_stays}
 use Rattle.program_soundness.proofs.OneList.{both_empty}
+use Rattle.program_soundness.proofs.Statics.{both_left, both_right, static_name}
 use Rattle.source_laws.proofs.LaterNames.{IsDeclaredGiven, IsDeclaredOwn, first_declared, own_declared, same_end, same_part, same_select, same_settle, same_slot, select_declared, settle_declared}
 use Rattle.source_laws.proofs.LaterOperators.{beside_same, binary_declared, binary_rule_same, binary_same, join_declared, join_same, mismatch_kept, unary_declared, unary_rule_same, unary_same}
-
-left_static : (a b : StaticForm) → both a b ≡ Static → a ≡ Static
-left_static Static b h = refl
-left_static NotStatic b h = cc
-left_static Doubtful Static h = cc
-left_static Doubtful NotStatic h = cc
-left_static Doubtful Doubtful h = cc
-
-right_static : (a b : StaticForm) → both a b ≡ Static → b ≡ Static
-right_static Static b h = h
-right_static NotStatic b h = cc
-right_static Doubtful Static h = cc
-right_static Doubtful NotStatic h = cc
-right_static Doubtful Doubtful h = cc
-
--- a name that is static has a fixed value
-fixed_static : (w : Standing) → name_form w ≡ Static → (v : Scalar) × (fixed_value w ≡ Some v)
-fixed_static (standing.Fixed t (Some v)) h = (v, refl)
-fixed_static (standing.Given t (Some v)) h = (v, refl)
-fixed_static (standing.Plain z) h = (_, refl)
-fixed_static (standing.Fixed t None) h = cc
-fixed_static (standing.Given t None) h = cc
-fixed_static standing.Doubtful h = cc
-fixed_static w h = cc
 
 module _ (s g : Scope) (x : Extends s g) (sound : SoundScope s) where
   -- what a name stands for
@@ -117,7 +93,7 @@ module _ (s g : Scope) (x : Extends s g) (sound : SoundScope s) where
       → static_form s (Named first selectors) ≡ Static
       → static_value g (Named first selectors) ≡ static_value s (Named first selectors)
   name_value first selectors same static =
-      let v = fixed_static (standing_of s first selectors) static in
+      let v = static_name (standing_of s first selectors) static in
       ap (worth g first selectors) (ap fixed_value same ∙ v.1) ∙ sym (ap (worth s first selectors) v.1)
 
   name_kept : (w : Wanted) (first : Identifier) (selectors : SelectorTrees) → faults_in s w (Named first selectors) ≡ []
@@ -234,8 +210,8 @@ module _ (s g : Scope) (x : Extends s g) (sound : SoundScope s) where
         name = tt;
         form = λ j. both (ka.form j) (kb.form j);
         value = λ static.
-            let one = ka.value (left_static (static_form s a) (static_form s b) static) in
-            let two = kb.value (right_static (static_form s a) (static_form s b) static) in
+            let one = ka.value (both_left (static_form s a) (static_form s b) static) in
+            let two = kb.value (both_right (static_form s a) (static_form s b) static) in
             λ j. and_then (one j) (λ v. elim (is_decided operator v) [ true ↦ Gives v | false ↦ and_then (two j) (binary_value operator v) ]);
         faults = both_empty (first ++ second) (binary_rule g operator (start_of a) (own_of g a) (own_of g b))
             (both_empty first second (ap (λ v. faults_in g v a) wa ∙ ka.faults) (ap (λ v. faults_in g v b) wb ∙ kb.faults))

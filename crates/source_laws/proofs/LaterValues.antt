@@ -1,5 +1,5 @@
 -- An initial value that must be static, and breaks no rule, is known, and the same where more names are visible behind those in front of its declaration.
-use Rattle.std.proofs.Common.{◌≡◌, ◌++◌, ℕ, pos, Bool, true, false, cond, [], ◌∷◌, length, ◌⊎◌, inl, inr, Option, Some, None, refl, sym, ap, ◌∙◌, subst}
+use Rattle.std.proofs.Common.{◌≡◌, ◌++◌, ℕ, pos, Bool, true, false, cond, [], ◌∷◌, length, inl, inr, Option, Some, None, refl, sym, ap, ◌∙◌, subst}
 use Rattle.std.specs.Prelude.{not}
 use Rattle.ada_link.specs.base.specs.declared.faults.TheConstants.{DECLARED_TWICE, NAME_NOT_VISIBLE}
 use Rattle.ada_tree.specs.declared.expression.Identifier.{Identifier}
@@ -18,7 +18,7 @@ use Rattle.types.specs.declared.statics.StaticForm.{StaticForm}
 use Rattle.types.specs.declared.statics.StaticForm.TheVariants.{Doubtful, NotStatic, Static}
 use Rattle.types.specs.Entities as entity
 use Rattle.types.specs.Entities.{Entity, Predefined, Profile}
-use Rattle.types.specs.Evaluations.{Gives, Meaningless, Raises, Val}
+use Rattle.types.specs.Evaluations.{Val}
 use Rattle.types.specs.Scopes.{Named as NamedEntity, Scope, entity_at, entity_of, integer_type, is_visible, number_of, profile_of}
 use Rattle.types.specs.Standings.{select, standing_of, stands_first, stands_for}
 use Rattle.types.specs.Statics.{start_of, static_form, static_value}
@@ -39,7 +39,9 @@ use Rattle.expr_soundness.specs.SoundScopes.{HasOperation, IsSoundEntity, SoundS
 use Rattle.expr_soundness.proofs.Positions.{IsNamed, item_added}
 use Rattle.program_soundness.specs.declaring.specs.ItemRules.{item_faults, items_faults, items_scope}
 use Rattle.program_soundness.specs.ScopeLaws.{DeclarationsAreSound}
+use Rattle.program_soundness.proofs.Beginning.{fixed_legal}
 use Rattle.program_soundness.proofs.Extending.{Extends, entity_stays, number_stays}
+use Rattle.program_soundness.proofs.Initials.{form_anywhere, single_cases, span_none, value_anywhere, with_argument}
 use Rattle.program_soundness.proofs.Listing.{same_some}
 use Rattle.program_soundness.proofs.OneList.{both_empty}
 use Rattle.source_laws.proofs.LaterExpressions.{expression_kept, first_named, typed_kept}
@@ -56,50 +58,6 @@ known_same : (f : StaticForm) (a b : Val Value) → (f ≡ Static → b ≡ a) �
 known_same Static a b h = ap (scalar_if_known Static) (h refl)
 known_same NotStatic a b h = refl
 known_same Doubtful a b h = refl
-
-form_anywhere : (p q : ℕ) (f : StaticForm) → form_rule p f ≡ [] → form_rule q f ≡ []
-form_anywhere p q NotStatic h = cc
-form_anywhere p q Static h = refl
-form_anywhere p q Doubtful h = refl
-
-value_anywhere : (p q : ℕ) (f : StaticForm) (v : Val Value) → statics.value_rule p None f v ≡ [] → statics.value_rule q None f v ≡ []
-value_anywhere p q Static (Gives v) h = refl
-value_anywhere p q Static (Raises x) h = cc
-value_anywhere p q Static Meaningless h = refl
-value_anywhere p q NotStatic v h = refl
-value_anywhere p q Doubtful v h = refl
-
-span_none : (o : Option Entity) → span_by o None ≡ None
-span_none (Some (Predefined predefined.Milliseconds p)) = refl
-span_none (Some (Predefined predefined.Microseconds p)) = refl
-span_none o = refl
-
-abbrev with_argument : ExprTree → SelectorTrees
-with_argument a = MoreSelectors (Arguments (MoreArguments (tree.Value a) NoArguments)) NoSelectors
-
-single_cases : (l : SelectorTrees) → (single_argument l ≡ None) ⊎ ((a : ExprTree) × (l ≡ with_argument a))
-single_cases (MoreSelectors (Arguments (MoreArguments (tree.Value a) NoArguments)) NoSelectors) = inr (a, refl)
-single_cases (MoreSelectors (Arguments (MoreArguments (tree.Value a) (MoreArguments b rest))) NoSelectors) = inl refl
-single_cases (MoreSelectors (Arguments (MoreArguments (tree.Text label place) rest)) NoSelectors) = inl refl
-single_cases (MoreSelectors (Arguments NoArguments) NoSelectors) = inl refl
-single_cases (MoreSelectors (Arguments a) (MoreSelectors x rest)) = inl refl
-single_cases (MoreSelectors (tree.Component name) rest) = inl refl
-single_cases (MoreSelectors (tree.Attribute name) rest) = inl refl
-single_cases NoSelectors = inl refl
-
--- it breaks no rule of every expression
-called_legal : (s : Scope) (t : Subtype) (e : ExprTree) (o : Option (PredefinedOperation × ExprTree)) → called_faults s (Some t) e o ≡ []
-    → faults_of s (OfType t.type_number) e ≡ []
-called_legal s t e (Some x) h = front_empty (faults_of s (OfType t.type_number) e) _ (front_empty _ _ h)
-called_legal s t e None h = front_empty (faults_of s (OfType t.type_number) e) _ (front_empty _ _ h)
-
-fixed_legal : (s : Scope) (t : Subtype) (e : ExprTree) → fixed_faults s (Some t) e ≡ [] → faults_of s (OfType t.type_number) e ≡ []
-fixed_legal s t e h = by_test (is_clock s e) h
-  where
-    by_test : (b : Bool) → ◌≡◌ {A = Faults} (elim b [ true ↦ faults_of s (OfType t.type_number) e | false ↦ called_faults s (Some t) e (span_call s e) ]) []
-        → faults_of s (OfType t.type_number) e ≡ []
-    by_test true k = k
-    by_test false k = called_legal s t e (span_call s e) k
 
 module _ (s g : Scope) (x : Extends s g) (sound : SoundScope s) where
   -- ---- static expressions
@@ -213,8 +171,8 @@ module _ (s g : Scope) (x : Extends s g) (sound : SoundScope s) where
       → span_by (named_entity s first) (single_argument l) ≡ Some y
       → faults_of s (OfType integer_type) y.1 ≡ []
   span_argument w first l y h k =
-      elim (single_cases l) [
-        | inl none ↦ (let never = sym (span_none (named_entity s first)) ∙ ap (span_by (named_entity s first)) (sym none) ∙ k in cc)
+      elim (single_cases s sound l) [
+        | inl none ↦ (let never = sym (span_none s sound (named_entity s first)) ∙ ap (span_by (named_entity s first)) (sym none) ∙ k in cc)
         | inr single ↦
             span_single w first single.0 y (subst (λ m. faults_in s w (Named first m) ≡ []) single.1 h)
             (subst (λ m. span_by (named_entity s first) (single_argument m) ≡ Some y) single.1 k)
@@ -242,7 +200,7 @@ module _ (s g : Scope) (x : Extends s g) (sound : SoundScope s) where
     value_by u b o = elim b [ true ↦ Some (scalar.Number (pos 0)) | false ↦ called_scalar u (Some t) e o ]
 
     legal : faults_of s wanted e ≡ []
-    legal = fixed_legal s t e h
+    legal = fixed_legal s (Some t) e h
 
     inside : faults_in s wanted e ≡ []
     inside = front_empty (faults_in s wanted e) (mismatch s wanted (own_of s e) (start_of e)) legal
@@ -270,8 +228,8 @@ module _ (s g : Scope) (x : Extends s g) (sound : SoundScope s) where
         let value = statics.value_rule (start_of e) None (static_form s y.1) (static_value s y.1) in
         let valued = front_empty value (span_rule (start_of e) (span_value s y.0 y.1)) computed in
         let spanned = back_empty value (span_rule (start_of e) (span_value s y.0 y.1)) computed in
-        let formed_here = form_anywhere (start_of e) (start_of y.1) (static_form s y.1) formed in
-        let valued_here = value_anywhere (start_of e) (start_of y.1) (static_form s y.1) (static_value s y.1) valued in
+        let formed_here = form_anywhere s sound (start_of e) (start_of y.1) (static_form s y.1) formed in
+        let valued_here = value_anywhere s sound (start_of e) (start_of y.1) (static_form s y.1) (static_value s y.1) valued in
         let kept = static_kept (OfType integer_type) None y.1 (λ j. argument j ++ formed_here j ++ if_unbroken (argument j) (valued_here j)) in
         let span : span_value g y.0 y.1 ≡ span_value s y.0 y.1 = ap (span_of_scalar y.0) kept.scalar in
         let own =

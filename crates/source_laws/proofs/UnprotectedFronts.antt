@@ -5,7 +5,7 @@ use Rattle.std.proofs.lemmas.Bool.{or_parts}
 use Rattle.ada_link.specs.base.specs.declared.limits.TheConstants.{TASK_PRIORITY}
 use Rattle.ada_tree.specs.ProgramTree.{BodyItemTree, OfException, OfItem, OfObject, OfProtected, OfSubprogram, OfTask, OfType, ProtectedBody, SubprogramBody, TaskBody}
 use Rattle.types.specs.Entities.{Entity, Exception, Protected, ProtectedObject, Task}
-use Rattle.types.specs.Scopes.{Named, Scope, entity_at, is_visible, one_if_protected, protected_count, with_name}
+use Rattle.types.specs.Scopes.{Scope, entity_at, is_visible, one_if_protected, protected_count, with_name}
 use Rattle.expr_soundness.specs.type_rules.specs.ObjectRules.{package_object_entity}
 use Rattle.expr_soundness.specs.type_rules.specs.ProfileRules.{profile_entity}
 use Rattle.expr_soundness.specs.type_rules.specs.TypeRules.{definition_entity}
@@ -13,14 +13,11 @@ use Rattle.program_soundness.specs.declaring.specs.PackageNames.{body_item_scope
 use Rattle.program_soundness.specs.declaring.specs.TaskRules.{default_priority, priority_of}
 use Rattle.program_soundness.specs.Fronts.{scope_at}
 use Rattle.program_soundness.proofs.Listing.{same_some}
+use Rattle.program_soundness.proofs.Trees.{count_push}
 use Rattle.program_soundness.proofs.Walked.{Constants, IsOne, Kind, ProtectedOnes, Subprograms, Types, Variables, declared_one, own_profile}
 use Rattle.source_laws.specs.Covered.{is_protected}
 
 -- ---- one more name
-
-count_push : (s : Scope) (x : Named) → protected_count (s ++ x ∷ []) ≡ protected_count s + one_if_protected x.entity
-count_push [] x = omega arith
-count_push (y ∷ ys) x = let e = count_push ys x in omega (arith, e)
 
 with_unprotected : (s : Scope) (name : List ℕ) (e : Entity) → protected_count s ≡ 0 → one_if_protected e ≡ 0 → protected_count (with_name s name e) ≡ 0
 with_unprotected s name e h k = by_test (is_visible s name)
