@@ -8,7 +8,7 @@ use Rattle.expr_soundness.specs.ada_tree.specs.declared.declaration.Formal.{Form
 use Rattle.expr_soundness.specs.ada_tree.specs.ExpressionTree.{ExprTree}
 use Rattle.expr_soundness.specs.ada_tree.specs.StatementTree.{EntryTree, OperationTree, ProtectedTree, SubprogramTree}
 use Rattle.expr_soundness.specs.ada_tree.specs.StatementTree as operation
-use Rattle.expr_soundness.specs.ada_tree.specs.ProgramTree.{BodyTree, BodyItemTree, OfItem, SubprogramBody, TaskBody, ProtectedBody, OfType, OfSubprogram, OfProtected, ProtectedItemTree, OperationBody, EntryBody}
+use Rattle.expr_soundness.specs.ada_tree.specs.ProgramTree.{BodyTree, BodyItemTree, OfItem, SubprogramBody, TaskBody, ProtectedBody, OfProtected, ProtectedItemTree, OperationBody, EntryBody}
 use Rattle.types.specs.declared.entity.RecordComponent.{RecordComponent}
 use Rattle.types.specs.declared.entity.Subtype.{Subtype}
 use Rattle.types.specs.Entities.{Entity, Operation, Profile, ProtectedObject, Protected, Subprogram, Doubtful}

@@ -2,7 +2,6 @@
 use Rattle.std.proofs.Common.{◌≡◌, ℕ, zero, suc, ◌+◌, ◌*◌, ◌≤◌, List, [], ◌∷◌, ◌++◌, length, Some, refl, subst, arith}
 use Rattle.std.specs.Prelude.{slice_get}
 use Rattle.ada_link.specs.base.specs.declared.limits.TheConstants.{INSTRUCTIONS, SUBPROGRAMS}
-use Rattle.ada_link.specs.lexer.specs.declared.token.Token.{Token}
 use Rattle.ada_tree.specs.ProgramTree.{BodyItemTree, ProgramTree, SubprogramBody, TaskBody}
 use Rattle.ada_tree.specs.Laws.{SizeWithinTokens}
 use Rattle.ada_tree.specs.Size.{aspect_size, body_item_size, body_size, package_size, size, size_if_any, total}
@@ -13,7 +12,7 @@ use Rattle.program_soundness.proofs.Listing.{same_some}
 use Rattle.ada_link.specs.part_code.specs.Bounds.{body_words, formals_words, main_bound}
 use Rattle.ada_link.specs.package_code.specs.Counts.{bodies_among, bounds_from}
 use Rattle.ada_link.specs.package_code.specs.Laws.{TablesAreSmall}
-use Rattle.source_laws.specs.Small.{HasSmallBodies, IsSmall, PlacedBody, SmallCodeFits, TakeFewWords, bodies_from, body_loops, item_bodies}
+use Rattle.source_laws.specs.Small.{HasSmallBodies, PlacedBody, SmallCodeFits, TakeFewWords, bodies_from, body_loops, item_bodies}
 use Rattle.source_laws.proofs.RowsCounted.{declared_size, rows_counted}
 
 -- the place so far behind another one
