@@ -15,7 +15,6 @@ START = ("adarun", "specs/Headline.antt", "WritesItsMeaning")
 BEGIN, END = "<!-- definitions -->", "<!-- end of definitions -->"
 CONTAINER = re.compile(r"(\s*)(?:abbrev )?(?:module\b.*where|mutual)\s*$")
 HEAD = re.compile(r"(\s*)(?:abbrev |unfoldable |pub )*(?:(?:record|data) )?([^\s:(){}=]+)(?= .*:|(?: [({].*)? where)")
-BOUND = re.compile(r"[({λ]\s*([^(){}:.→]+?)\s*[:.](?:\s|$)")
 NAME = re.compile(r"[^\s(){}\[\],;λ∷→×]+")
 TYPE = re.compile(r"pub(?:\(crate\))? (?:struct|enum|type|const) (\w+)")
 
@@ -74,18 +73,8 @@ class Specs:
         return next((it for it, lines in self.blocks.items() if " data " in f" {lines[0]}" and any(word.match(line) for line in lines[1:])), None)
 
     def names_in(self, name):
-        """The names in a definition, those of its own arguments and variables aside."""
-        lines = self.blocks[name]
-        own = set()
-        for line in lines:
-            for names in BOUND.findall(line):
-                own |= set(names.split())
-            left, equals, _ = f" {line} ".partition(" = ")
-            if equals and left.split()[:1] == [name]:
-                own |= set(NAME.findall(left)) - {name}
-            if line.split()[0] == "pub" or lines[0] != line and " : " in line:
-                own |= set(line.partition(" : ")[0].split()) if line != lines[0] else set()
-        return {word for line in lines for word in NAME.findall(line)} - {word for word in own if word[:1].islower()}
+        """The names in a definition; that of an argument counts too, where a definition of the file or of its imports has it."""
+        return {word for line in self.blocks[name] for word in NAME.findall(line)}
 
 
 class Closure:
