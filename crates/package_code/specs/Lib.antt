@@ -1,6 +1,7 @@
 pub mod Linked
 pub mod Package
 pub mod LinkLaws
+pub mod Bodies
 pub mod Counts
 pub mod Refusing
 pub mod Globals

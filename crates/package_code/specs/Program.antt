@@ -13,6 +13,7 @@ use Rattle.expr_code.specs.Code.{here}
 use Rattle.stmt_code.specs.Subprograms.{AddsMain, KeepsRules}
 use Rattle.stmt_code.specs.declared.draft.Draft.{Draft}
 use Rattle.stmt_code.specs.declared.subprogram.SubprogramWords.{SubprogramWords}
+use Rattle.package_code.specs.Directory.{IsDirectory}
 use Rattle.package_code.specs.Globals.{AreGlobals}
 use Rattle.package_code.specs.Tasks.{HaveTasks}
 use Rattle.package_code.specs.Walking.{IsWalked, row_of}
@@ -26,6 +27,7 @@ pub record HasProgram (t : ProgramTree) (i : Sections) : Type 0 where
   pub are : AreGlobals (program_of t).scope (package_items t.package_) globals
   pub directory : Directory
   pub slots : directory.slots ≡ globals.slots
+  pub told : IsDirectory t directory
   pub walk : Walk
   pub walked : IsWalked t directory walk
   pub whole : walk.place ≡ length (declared_in t.package_)

@@ -5,20 +5,23 @@ ghost use Rattle.ada_tree.specs.ProgramTree.{body_item_tree, package_tree};
 ghost use Rattle.expr_soundness.specs.meaning.specs.Programs.{package_bodies};
 ghost use Rattle.expr_code.specs.Refusing.{IsRefused};
 ghost use Rattle.expr_code.specs.Seeing.{told_of};
-ghost use Rattle.package_code.specs.Counts.{bodies_among};
+ghost use Rattle.package_code.specs.Bodies.{bodies_among};
 ghost use Rattle.package_code.specs.Directory.{HaveBodyNumbers, HasManyBodies, HasEntriesSoFar, IsUnseen, TellsNext, first_told, numbered_item, numbered_with};
 
+use crate::operations::OperationNumber;
 use ada_tree::{BodyItem, Package};
 use expr_code::{Entries, Refusal, Slot, Visible};
 use lexer::Text;
 use std::alloc::Global;
 use types::Scope;
 
-/// What is told of the names of a package, by their numbers: where variables stand, and which subprogram is that of a body.
+/// What is told of the names of a package, by their numbers: where variables stand, and which subprogram is that of a body; and of the operations of its protected
+/// objects.
 #[derive(Drop)]
 pub struct Directory {
     pub slots: Vec<Option<Slot>>,
     pub numbers: Vec<Option<u16>>,
+    pub operations: Vec<OperationNumber>,
 }
 
 // What is told of a name.
@@ -86,7 +89,10 @@ fn number_item(
             set(numbers, scope.number_of(&name.name), next);
             next.checked_add(1).ok_or(Refusal::Limit)
         }
-        BodyItem::Protected(_, _, _) => Ok(next),
+        BodyItem::Protected(_, items, _) => {
+            let many = u16::try_from(items.len()).map_err(|_| Refusal::Limit)?;
+            next.checked_add(many).ok_or(Refusal::Limit)
+        }
     }
 }
 

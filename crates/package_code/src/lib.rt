@@ -5,10 +5,12 @@ mod directory;
 mod globals;
 mod initial;
 pub mod laws;
+mod operations;
 mod tasks;
 mod walk;
 
 pub use directory::{Directory, number_bodies};
 pub use globals::{Globals, globals_of};
+pub use operations::{OperationNumber, number_operations};
 pub use tasks::{task_row, task_rows};
 pub use walk::{Walk, row, walk_over};
