@@ -27,7 +27,7 @@ use Rattle.program_soundness.proofs.Trees.{tasks_are, tree_package}
 use Rattle.program_soundness.proofs.Walked.{Constants, Origin, Tasks, Variables, body_item_kind, declares}
 use Rattle.program_soundness.proofs.WiderScopes.{equal_bytes, same_bytes, stands}
 use Rattle.program_soundness.proofs.Whole.{IsPackage, came, origin_kind}
-use Rattle.package_code.specs.Counts.{bodies_among}
+use Rattle.package_code.specs.Bodies.{bodies_among}
 use Rattle.package_code.proofs.Differing.{AreDiffering, differing_more, is_of, no_more_than}
 use Rattle.package_code.proofs.ItemsTold.{none_taken}
 use Rattle.package_code.proofs.TaskNames.{task_entity}

@@ -17,7 +17,7 @@ use expr_code::Refusal;
 use image::{Kind, Object, Parts, Task};
 use lexer::Text;
 use package_code::{
-    Directory, Globals, Walk, globals_of, number_bodies, row, task_row, task_rows, walk_over,
+    Directory, Globals, Walk, globals_of, number_bodies, number_operations, row, task_row, task_rows, walk_over,
 };
 use ravenscar::Accepted;
 use std::alloc::Global;
@@ -55,7 +55,12 @@ fn put_together(alloc: Global, accepted: &Accepted) -> Result<Parts, Refusal>
         exceptions,
     } = globals_of(alloc, scope, &program.package_)?;
     let numbers = number_bodies(alloc, scope, &program.package_)?;
-    let directory = Directory { slots, numbers };
+    let operations = number_operations(alloc, scope, &program.package_)?;
+    let directory = Directory {
+        slots,
+        numbers,
+        operations,
+    };
     let walk = walk_over(alloc, accepted, &directory, exceptions)?;
     let Walk {
         mut draft,

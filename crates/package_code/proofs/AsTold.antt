@@ -23,7 +23,7 @@ use Rattle.step_simulation.specs.part_code.specs.Bounds.{main_bound, procedure_b
 use Rattle.step_simulation.specs.part_code.specs.Emitting.{HasEntries}
 use Rattle.step_simulation.specs.part_code.specs.Needs.{HasManyLabels, IsNeeding, Needs, beyond_if}
 use Rattle.stmt_code.specs.declared.draft.Draft.{Draft}
-use Rattle.step_simulation.specs.part_code.proofs.Within.{Within, needing_refused, of_right, within_then}
+use Rattle.step_simulation.specs.part_code.proofs.Within.{Within, needing_refused, of_right}
 use Rattle.package_code.specs.Bodies.{Coded, coded_at, number_in}
 use Rattle.package_code.specs.Counts.{bound_of, bounds_from}
 use Rattle.package_code.specs.Directory.{IsDirectory, HasEntriesSoFar, TellsNext}
@@ -203,9 +203,10 @@ module _ (t : ProgramTree) where
   -- the code of a body isn't made
   pub body_refused : (old : Walk) (item : BodyItemTree) (k : ℕ) (c : Coded) (v : Visible) (draft : Draft) (why : Refusal) → IsAsTold t old
       → old.draft.exceptions.items ≡ (program_of t).exceptions
-      → slice_get all old.place ≡ Some item → slice_get (coded_at t old.place item) k ≡ Some c → k ≡ 0 → v ≡ seen_by t c → draft ≡ old.draft
+      → slice_get all old.place ≡ Some item → slice_get (coded_at t old.place item) k ≡ Some c → k ≡ 0 → c.owner ≡ None
+      → v ≡ seen_by t c → draft ≡ old.draft
       → RefusesBody t v draft c.head c.body why → RefusesCode t why
-  body_refused old item k c v draft why told exceptions at is first seen same r =
+  body_refused old item k c v draft why told exceptions at is first outside seen same r =
       by_reason (subst (λ z. RefusesBody t (seen_by t c) z c.head c.body why) same (subst (λ u. RefusesBody t u draft c.head c.body why) seen r))
     where
       bounded : here old.draft.code + bound_of c ≤ program_bound t
@@ -229,7 +230,7 @@ module _ (t : ProgramTree) where
       by_reason : RefusesBody t (seen_by t c) old.draft c.head c.body why → RefusesCode t why
       by_reason (inl n) =
           needs_refused (here old.draft.code + bound_of c) (here old.draft.code + bound_of c) (body_needs t c) why (omega arith)
-          (within_then (body_needs t c) (item_needs t old.place item) (items_needs t 0 all) (needs_by t old.place item k c is) (item_within old.place item at))
+          (subst (λ n. Within n (items_needs t 0 all)) (needs_by t old.place item k c is outside) (item_within old.place item at))
           bounded
           (subst (λ l. IsNeeding (here old.draft.code + bound_of c) (subprogram_needs t (seen_by t c) l c.head c.body) why) exceptions n)
       by_reason (inr h) =

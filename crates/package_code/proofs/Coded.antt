@@ -12,11 +12,9 @@ use Rattle.legality.specs.ProtectedBodyRules.{components_at, protected_item_scop
 use Rattle.expr_soundness.specs.meaning.specs.Programs.{program_of}
 use Rattle.program_soundness.proofs.Listing.{same_some}
 use Rattle.program_soundness.specs.Fronts.{declared_in, front}
-use Rattle.step_simulation.specs.part_code.specs.Needs.{beyond}
-use Rattle.step_simulation.specs.part_code.proofs.Within.{Within, in_left, of_right, within_self}
 use Rattle.package_code.specs.Bodies.{BodyName, Coded, bodies_among, bodies_before, bodies_of, coded_at, coded_from, components_or_none, names_among, names_in, object_bodies, object_number, of_operation, of_subprogram, of_task, operation_name, operation_names, operations_of}
 use Rattle.package_code.specs.Counts.{bound_of, bounds_at, bounds_from}
-use Rattle.package_code.specs.Refusing.{bodies_needs, body_needs, item_labels, item_needs, item_rows, operation_labels, operation_rows, operations_labels, operations_rows, subprogram_labels, subprogram_rows}
+use Rattle.package_code.specs.Refusing.{body_needs, item_labels, item_needs, item_rows, operation_labels, operation_rows, operations_labels, operations_rows, subprogram_labels, subprogram_rows}
 
 -- ---- of one item
 
@@ -299,22 +297,11 @@ rows_by before t place (TaskBody name b) = refl
 rows_by before t place (ProtectedBody name items end_name) =
     object_rowed before (object_number (program_of t).scope name) (front t place) (number_of (front t place) name.name) items
 
--- ---- what a body needs, its item needs
+-- ---- what a body of no object needs, its item needs
 
-bodies_within : (t : ProgramTree) (cs : List Coded) (k : ℕ) (c : Coded) → slice_get cs k ≡ Some c → Within (body_needs t c) (bodies_needs t cs)
-bodies_within t [] k c is = cc
-bodies_within t (x ∷ cs) zero c is =
-    subst (λ z. Within (body_needs t z) (bodies_needs t (x ∷ cs))) (same_some x c is) (in_left (body_needs t x) (bodies_needs t cs))
-bodies_within t (x ∷ cs) (suc k) c is = of_right (body_needs t c) (body_needs t x) (bodies_needs t cs) (bodies_within t cs k c is)
-
-pub needs_by : (t : ProgramTree) (place : ℕ) (x : BodyItemTree) (k : ℕ) (c : Coded) → slice_get (coded_at t place x) k ≡ Some c
-    → Within (body_needs t c) (item_needs t place x)
-needs_by t place =
-    coded_by t place (λ x k c. Within (body_needs t c) (item_needs t place x)) (λ d b. within_self (body_needs t (of_subprogram (front t (suc place)) d b)))
-    (λ name b. within_self (body_needs t (of_task (front t (suc place)) name b)))
-    (λ name items end_name k c is.
-    of_right (body_needs t c) beyond (bodies_needs t (coded_at t place (ProtectedBody name items end_name)))
-    (bodies_within t (coded_at t place (ProtectedBody name items end_name)) k c is))
+pub needs_by : (t : ProgramTree) (place : ℕ) (x : BodyItemTree) (k : ℕ) (c : Coded) → slice_get (coded_at t place x) k ≡ Some c → c.owner ≡ None
+    → item_needs t place x ≡ body_needs t c
+needs_by t place = outside_by t place (λ x k c. item_needs t place x ≡ body_needs t c) (λ d b. refl) (λ name b. refl)
 
 -- ---- bounds
 

@@ -26,7 +26,7 @@ use Rattle.step_simulation.specs.part_code.specs.Bounds.{main_bound}
 use Rattle.step_simulation.specs.part_code.specs.Needs.{HasManyLabels, IsNeeding, Needs, beyond, beyond_if, both, lacks_word, nothing}
 use Rattle.step_simulation.specs.part_code.specs.Rows.{body_rows}
 use Rattle.stmt_code.specs.WholeRefusals.{body_labels, function_needs, procedure_needs}
-use Rattle.package_code.specs.Bodies.{Coded, bodies_among, coded_at, number_in, of_subprogram, of_task}
+use Rattle.package_code.specs.Bodies.{Coded, bodies_among, number_in, of_subprogram, of_task}
 use Rattle.package_code.specs.Counts.{bounds_from}
 use Rattle.package_code.specs.Package.{first_words_of, place_among}
 
@@ -106,16 +106,12 @@ subprogram_needs t v exceptions d b =
 abbrev pub body_needs : ProgramTree → Coded → Needs
 body_needs t c = subprogram_needs t (seen_by t c) (program_of t).exceptions c.head c.body
 
-abbrev pub bodies_needs : ProgramTree → List Coded → Needs
-bodies_needs t [] = nothing
-bodies_needs t (c ∷ cs) = both (body_needs t c) (bodies_needs t cs)
-
--- no code is made of the bodies of protected objects yet
+-- of those of a protected object no code is made yet
 abbrev pub item_needs : ProgramTree → (place : ℕ) → BodyItemTree → Needs
 item_needs t place (OfItem d) = beyond_if (is_outside_item (program_of t).scope d)
 item_needs t place (SubprogramBody d b) = body_needs t (of_subprogram (front t (suc place)) d b)
 item_needs t place (TaskBody name b) = body_needs t (of_task (front t (suc place)) name b)
-item_needs t place (ProtectedBody name items end_name) = both beyond (bodies_needs t (coded_at t place (ProtectedBody name items end_name)))
+item_needs t place (ProtectedBody name items end_name) = beyond
 
 -- of items that stand from this place on
 abbrev pub items_needs : ProgramTree → (place : ℕ) → List BodyItemTree → Needs

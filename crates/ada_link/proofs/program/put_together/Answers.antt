@@ -12,7 +12,7 @@ use Rattle.step_simulation.specs.part_code.specs.Bounds.{main_bound}
 use Rattle.step_simulation.specs.part_code.specs.Needs.{RefusesMain}
 use Rattle.expr_code.specs.declared.refusal.Refusal.TheVariants as refusal
 use Rattle.package_code.specs.Refusing.{RefusesSections}
-use Rattle.package_code.specs.Directory.{HaveBodyNumbers, HasManyBodies}
+use Rattle.package_code.specs.Directory.{HaveBodyNumbers, HasManyBodies, entries_among}
 use Rattle.package_code.specs.Globals.{AreGlobals, RefusesGlobals}
 use Rattle.package_code.specs.Tasks.{HaveTasks}
 use Rattle.package_code.proofs.TasksAdded.{have_both}
@@ -35,7 +35,10 @@ walk_over-requires c =
     let numbered = subst (λ z. HaveBodyNumbers z (package_bodies t.package_) c.in_ok-numbers.numbers.items) c.scope-scope.ensures
     (subst (λ p. HaveBodyNumbers c.scope-scope.result.now (package_bodies (optional_tree package_tree p.package_)) c.in_ok-numbers.numbers.items)
     c.program-program.ensures.same c.in_ok-numbers.ensures.numbered) in
-    record { directory = directory_told t g c.in_ok-numbers.numbers.items _ are numbered refl refl; exceptions = are.exceptions }
+    let entries =
+    c.in_ok-operations.ensures.numbered
+    ∙ (λ j. entries_among (c.scope-scope.ensures j) 0 (package_bodies (optional_tree package_tree (c.program-program.ensures.same j).package_))) in
+    record { directory = directory_told t g c.in_ok-numbers.numbers.items _ are numbered refl refl entries; exceptions = are.exceptions }
 
 pub main-requires : goal.main-requires
 main-requires c =
@@ -62,11 +65,18 @@ returns-clause-program c =
     let are = subst (λ z. AreGlobals z (package_items t.package_) c.in_ok-slots.field-0) c.scope-scope.ensures
     (subst (λ p. AreGlobals c.scope-scope.result.now (package_items (optional_tree package_tree p.package_)) c.in_ok-slots.field-0)
     c.program-program.ensures.same c.in_ok-slots.ensures.globals) in
+    let numbered = subst (λ z. HaveBodyNumbers z (package_bodies t.package_) c.in_ok-numbers.numbers.items) c.scope-scope.ensures
+    (subst (λ p. HaveBodyNumbers c.scope-scope.result.now (package_bodies (optional_tree package_tree p.package_)) c.in_ok-numbers.numbers.items)
+    c.program-program.ensures.same c.in_ok-numbers.ensures.numbered) in
+    let entries =
+    c.in_ok-operations.ensures.numbered
+    ∙ (λ j. entries_among (c.scope-scope.ensures j) 0 (package_bodies (optional_tree package_tree (c.program-program.ensures.same j).package_))) in
     record {
       globals = c.in_ok-slots.field-0;
       are = are;
-      directory = record { slots = c.in_ok-slots.field-0.slots; numbers = c.in_ok-numbers.numbers };
+      directory = record { slots = c.in_ok-slots.field-0.slots; numbers = c.in_ok-numbers.numbers; operations = c.in_ok-operations.operations };
       slots = refl;
+      told = directory_told t c.in_ok-slots.field-0 c.in_ok-numbers.numbers.items _ are numbered refl refl entries;
       walk = walk;
       walked = c.in_ok-walk.ensures.walked;
       whole = c.in_ok-walk.ensures.whole;
@@ -104,7 +114,10 @@ task_rows-requires c =
     let numbered = subst (λ z. HaveBodyNumbers z (package_bodies t.package_) c.in_ok-numbers.numbers.items) c.scope-scope.ensures
     (subst (λ p. HaveBodyNumbers c.scope-scope.result.now (package_bodies (optional_tree package_tree p.package_)) c.in_ok-numbers.numbers.items)
     c.program-program.ensures.same c.in_ok-numbers.ensures.numbered) in
-    record { directory = directory_told t g c.in_ok-numbers.numbers.items _ are numbered refl refl }
+    let entries =
+    c.in_ok-operations.ensures.numbered
+    ∙ (λ j. entries_among (c.scope-scope.ensures j) 0 (package_bodies (optional_tree package_tree (c.program-program.ensures.same j).package_))) in
+    record { directory = directory_told t g c.in_ok-numbers.numbers.items _ are numbered refl refl entries }
 
 pub returns-clause-labels : goal.returns-clause-labels
 returns-clause-labels c =
@@ -140,6 +153,15 @@ returns-in_err-numbers-clause-refused c =
     let whole = bodies_refused t why
     (subst (λ p. HasManyBodies (package_bodies (optional_tree package_tree p.package_)) why) c.program-program.ensures.same c.in_err-numbers.ensures.refused) in
     search (rules, whole, c.from_residual-in_err-numbers.ensures)
+
+pub returns-in_err-operations-clause-refused : goal.returns-in_err-operations-clause-refused
+returns-in_err-operations-clause-refused c =
+    let t = program_tree c.args.accepted.now in
+    let why = c.in_err-operations.field-0.0 in
+    let whole = bodies_refused t why
+    (subst (λ p. HasManyBodies (package_bodies (optional_tree package_tree p.package_)) why) c.program-program.ensures.same
+    c.in_err-operations.ensures.refused) in
+    search (rules, whole, c.from_residual-in_err-operations.ensures)
 
 pub returns-in_err-walk-clause-refused : goal.returns-in_err-walk-clause-refused
 returns-in_err-walk-clause-refused c =
