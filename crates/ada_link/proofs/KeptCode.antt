@@ -77,8 +77,8 @@ module _ (laws : LawsOfNames) (passes : KeptCodePasses) (t : ProgramTree) (legal
               (passes.added body.seen body.old body.new body.words body.keeps i row (holds_there t i h n x.code body)
               (labels_there t i h n x.code body)
               (record { parameters = refl; results = refl; locals = refl; stack = refl })
-              (front_suited laws t legal restricted i h body.seen (suc at.place) (body.scope ∙ own_front t at.place at.item at.k x.code at.is body.outside) body.told
-              row)
+              (front_suited laws t legal restricted i h body.seen (suc at.place)
+              (body.scope ∙ own_front t at.place at.item at.k x.code at.is body.outside) body.told row)
               refl
               (bare_body t at.place at.item at.k x.code at.is body.outside body.seen.scope body.words body.called (here body.new.code)));
         }

@@ -1,5 +1,5 @@
--- The bodies of operations and entries of an accepted program are no more than what its limit of subprograms counts for protected objects: each operation that is
--- declared has one body, and a body without a declaration counts.
+-- The bodies of operations and entries of an accepted program are no more than what its limit of subprograms counts for protected objects: each operation that
+-- is declared has one body, and a body without a declaration counts.
 use Rattle.std.proofs.Common.{◌≡◌, ℕ, zero, suc, ◌+◌, ◌<◌, ◌≤◌, List, [], ◌∷◌, ◌++◌, append-nil, length, length-append, take, Bool, true, false, ◌||◌, Option, Some, None, refl, sym, ap, ◌∙◌, subst, arith, take_all}
 use Rattle.std.specs.Prelude.{bytes_eq, is_some, position, slice_get}
 use Rattle.base.specs.declared.limits.TheConstants.{PROCEDURES}
@@ -98,7 +98,8 @@ undeclared_many p (OperationBody d b ∷ is) = by_test (is_operation_of p d.name
     by_test true h = h
     by_test false h = ap suc h
 
-inside_many : (o : Option ProtectedObject) (items : List ProtectedItemTree) → length (counted_inside o items) ≡ length (places_of Sub (object_body_things o items))
+inside_many : (o : Option ProtectedObject) (items : List ProtectedItemTree)
+    → length (counted_inside o items) ≡ length (places_of Sub (object_body_things o items))
 inside_many (Some p) items = undeclared_many p items
 inside_many None items = refl
 
@@ -148,8 +149,7 @@ both_few s (x ∷ rest) =
 differing_both : (xs ys : List (List ℕ)) → AreDiffering xs → AreDiffering ys → ((q : List ℕ) → is_of xs q ≡ true → is_of ys q ≡ false) → AreDiffering (xs ++ ys)
 differing_both [] ys h k apart = k
 differing_both (x ∷ xs) ys h k apart =
-    let first : is_of (x ∷ xs) x ≡ true = ap (λ b. b || is_of xs x) (equal_bytes x x refl) in
-    (
+    let first : is_of (x ∷ xs) x ≡ true = ap (λ b. b || is_of xs x) (equal_bytes x x refl) in (
       of_both xs ys x ∙ (λ j. h.0 j || apart x first j),
       differing_both xs ys h.1 k (λ q i. apart q (later (bytes_eq q x) (is_of xs q) i)),
     )
@@ -255,7 +255,8 @@ declared_text o (u ∷ ts) (suc k) t name at is =
     later true c e = refl
     later false c e = e
 
-undeclared_text : (p : ProtectedObject) (items : List ProtectedItemTree) (j : ℕ) (d : SubprogramTree) (b : BodyTree) → slice_get items j ≡ Some (OperationBody d b)
+undeclared_text : (p : ProtectedObject) (items : List ProtectedItemTree) (j : ℕ) (d : SubprogramTree) (b : BodyTree)
+    → slice_get items j ≡ Some (OperationBody d b)
     → is_operation_of p d.name ≡ false → is_of (counted_operations p items) (p.number ∷ d.name.name) ≡ true
 undeclared_text p [] j d b at none = cc
 undeclared_text p (x ∷ items) zero d b at none =

@@ -31,7 +31,12 @@ use Rattle.package_code.specs.Walking.{IsAsTold, IsWalked}
 use Rattle.package_code.specs.declared.directory.Directory.{Directory}
 use Rattle.package_code.specs.declared.globals.Globals.{Globals}
 use Rattle.package_code.specs.declared.walk.Walk.{Walk}
+use Rattle.checking.specs.ProgramRules.{IsLegal}
+use Rattle.ravenscar.specs.ProgramRules.{IsRestricted}
+use Rattle.program_soundness.specs.BodyLaws.{PremisesHold}
+use Rattle.package_code.specs.Objects.{lack_objects}
 use Rattle.package_code.proofs.Numbered.{operations_numbered}
+use Rattle.package_code.proofs.ObjectRows.{lack_none}
 use Rattle.ada_link.proofs.TaskLines.{as_many_tasks, names_told}
 
 -- ---- bodies stand in the package's body
@@ -95,6 +100,12 @@ module _ (t : ProgramTree) where
   pub protected_refused : (protected_count whole ≡ 0 → ⊥) → RefusesSections t refusal.Outside
   protected_refused h =
       inl (inl (or_left (not (nat_eq (protected_count whole) 0)) (items_needs t 0 all).outside (nat_differ (protected_count whole) h)))
+
+  -- where there are none, memory alone refuses their rows
+  pub objects_refused : PremisesHold → IsLegal t → IsRestricted t → protected_count whole ≡ 0 → (why : Refusal)
+      → IsRefused 0 0 (lack_objects whole (package_items t.package_)) why → RefusesSections t why
+  objects_refused premises legal restricted none why r =
+      plain_refused why (subst (λ b. IsRefused 0 0 b why) (lack_none premises t legal restricted none) r)
 
   -- ---- variables and bodies
 

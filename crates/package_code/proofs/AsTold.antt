@@ -24,11 +24,11 @@ use Rattle.step_simulation.specs.part_code.specs.Emitting.{HasEntries}
 use Rattle.step_simulation.specs.part_code.specs.Needs.{HasManyLabels, IsNeeding, Needs, beyond_if}
 use Rattle.stmt_code.specs.declared.draft.Draft.{Draft}
 use Rattle.step_simulation.specs.part_code.proofs.Within.{Within, needing_refused, of_right}
-use Rattle.package_code.specs.Bodies.{Coded, coded_at, number_in}
+use Rattle.package_code.specs.Bodies.{Coded, coded_at, number_in, of_subprogram}
 use Rattle.package_code.specs.Counts.{bound_of, bounds_from}
 use Rattle.package_code.specs.Directory.{IsDirectory, HasEntriesSoFar, TellsNext}
 use Rattle.package_code.specs.Refusing.{RefusesCode, body_needs, item_needs, items_labels, items_needs, items_rows, program_bound, program_labels, program_needs, seen_at, seen_by, seen_with, subprogram_labels, subprogram_needs, subprogram_rows}
-use Rattle.package_code.specs.Walking.{AddsAsTold, AddsBody, BeginsWalk, IsAsTold, RefusesBody}
+use Rattle.package_code.specs.Walking.{AddsAsTold, AddsBody, BeginsWalk, IsAsTold, IsWalked, RefusesBody}
 use Rattle.package_code.specs.declared.directory.Directory.{Directory}
 use Rattle.package_code.specs.declared.walk.Walk.{Walk}
 use Rattle.package_code.proofs.Coded.{bodies_labels, bodies_rows, labelled_by, needs_by, rows_by}
@@ -176,6 +176,24 @@ module _ (t : ProgramTree) where
       under : (a m c n p q s x y : ℕ) → a ≤ s → m ≡ a → c ≤ m + p → p ≡ q → n ≡ c → s + q ≤ x → y ≡ x → n ≤ y
       under a m c n p q s x y h e k f g up last = omega (arith, h, e, k, f, g, up, last)
 
+  -- that of a subprogram, where its name and those in front are visible
+  pub subprogram_told : (directory : Directory) (old : Walk) (d : SubprogramTree) (b : BodyTree) → IsAsTold t old
+      → slice_get all old.place ≡ Some (SubprogramBody d b)
+      → (mid after new : Walk) → mid.visible ≡ seen_at t (suc old.place) → mid.draft ≡ old.draft
+      → AddsBody t directory (of_subprogram mid.visible.scope d b) mid after → AddsAsTold mid.draft d b after.draft
+      → new.place ≡ old.place + 1 → new.draft ≡ after.draft → new.visible ≡ after.visible → IsAsTold t new
+  subprogram_told directory old d b told at mid after new visible draft adds told_there place new_draft new_visible =
+      let scope = ap (λ v. v.scope) visible in
+      body_told directory old (SubprogramBody d b) (of_subprogram (front t (suc old.place)) d b) told at refl mid after new visible scope draft
+      (subst (λ s. AddsBody t directory (of_subprogram s d b) mid after) scope adds) told_there place new_draft new_visible
+
+  -- ... where a loop goes on
+  pub goes_on : (directory : Directory) (here new : Walk) (p a n : ℕ) → here ≡ new → IsWalked t directory new → IsAsTold t new → new.place ≡ p + 1 → p ≡ a + n
+      → IsWalked t directory here × (IsAsTold t here × (here.place ≡ a + (n + 1)))
+  goes_on directory here new p a n same walked told place before =
+      let at = ap (λ w. w.place) same in
+      (subst (IsWalked t directory) (sym same) walked, (subst (IsAsTold t) (sym same) told, omega (arith, at, place, before)))
+
   -- ---- refusals
 
   pub needs_refused : (m n : ℕ) (a : Needs) (why : Refusal) → m ≤ n → Within a (items_needs t 0 all) → n ≤ program_bound t
@@ -222,7 +240,9 @@ module _ (t : ProgramTree) where
       -- its labels are among the first of those of its item
       labels_less : length (subprogram_labels (items_labels [] (take old.place all)) c.head c.body) ≤ length (program_labels t)
       labels_less =
-          let own = first_labels (items_labels [] (take old.place all)) (coded_at t old.place item) c (ap (slice_get (coded_at t old.place item)) (sym first) ∙ is) in
+          let own =
+          first_labels (items_labels [] (take old.place all)) (coded_at t old.place item) c
+          (ap (slice_get (coded_at t old.place item)) (sym first) ∙ is) in
           let item_is = ap length (labelled_by (items_labels [] (take old.place all)) t old.place item) in
           let within = labels_within [] all old.place item at in
           omega (arith, own, item_is, within)

@@ -1,5 +1,5 @@
--- Where bodies with code stand, by their numbers, and what is counted and told of each by its head and its statements, whether it is a subprogram's, a task's or
--- one of a protected object.
+-- Where bodies with code stand, by their numbers, and what is counted and told of each by its head and its statements, whether it is a subprogram's, a task's
+-- or one of a protected object.
 use Rattle.std.proofs.Common.{◌≡◌, ℕ, zero, suc, ◌+◌, List, [], ◌∷◌, ◌++◌, length, map, take, ◌⊎◌, inl, inr, Option, Some, None, refl, sym, ap, ◌∙◌, subst, arith, length-append}
 use Rattle.std.specs.Prelude.{slice_get}
 use Rattle.ada_tree.specs.declared.expression.Identifier.{Identifier}
@@ -282,8 +282,8 @@ operations_rowed : (before o : ℕ) (s : Scope) (components : List RecordCompone
 operations_rowed before o s components [] = refl
 operations_rowed before o s components (i ∷ items) =
     ap (λ n. operations_rows n items) (operation_rowed before o s components i)
-    ∙ operations_rowed (subprogram_rows before (of_operation o s components i).head (of_operation o s components i).body) o (protected_item_scope s i) components
-    items
+    ∙ operations_rowed (subprogram_rows before (of_operation o s components i).head (of_operation o s components i).body) o (protected_item_scope s i)
+    components items
 
 object_rowed : (before o : ℕ) (s : Scope) (visible : Option ℕ) (items : List ProtectedItemTree)
     → operations_rows before items ≡ bodies_rows before (object_bodies o s visible items)
@@ -329,7 +329,8 @@ operations_named o s components [] = refl
 operations_named o s components (i ∷ items) =
     λ j. one_named o s components i j ∷ operations_named o (protected_item_scope s i) components items j
 
-object_named : (o : ℕ) (s : Scope) (visible : Option ℕ) (items : List ProtectedItemTree) → operation_names o items ≡ map name_of (object_bodies o s visible items)
+object_named : (o : ℕ) (s : Scope) (visible : Option ℕ) (items : List ProtectedItemTree)
+    → operation_names o items ≡ map name_of (object_bodies o s visible items)
 object_named o s (Some n) items = operations_named o (object_body_scope s n) (components_or_none (components_at s n)) items
 object_named o s None items = operations_named o s [] items
 

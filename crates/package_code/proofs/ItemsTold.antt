@@ -22,7 +22,7 @@ total_both : (ws vs : List ℕ) → total (ws ++ vs) ≡ total ws + total vs
 total_both [] vs = omega arith
 total_both (w ∷ ws) vs = (let e = total_both ws vs in omega (arith, e))
 
-plus_none : (k : ℕ) → k + 0 ≡ k
+pub plus_none : (k : ℕ) → k + 0 ≡ k
 plus_none k = omega arith
 
 plus_next : (k n : ℕ) → suc k + n ≡ k + suc n

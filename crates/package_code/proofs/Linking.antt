@@ -68,6 +68,7 @@ use Rattle.package_code.proofs.InOrder.{package_in_order}
 use Rattle.package_code.proofs.LinkedMain.{DoesMain, linked_main}
 use Rattle.package_code.proofs.Coded.{body_at, from_many}
 use Rattle.package_code.proofs.Numbered.{bodies_numbered, number_of_body}
+use Rattle.package_code.proofs.ObjectRows.{no_objects}
 use Rattle.package_code.proofs.TaskRows.{HasTaskBody, task_found}
 use Rattle.package_code.specs.Directory.{AreTold, number_told}
 use Rattle.package_code.specs.Laws.{SectionsMeanTheSame}
@@ -489,7 +490,7 @@ module _ (t : ProgramTree) (i : Sections) (h : HasProgram t i) where
       exceptions = h.exceptions ∙ h.are.exceptions;
       unprotected = h.unprotected;
       ceilings = λ o. no_ceilings program.scope o h.unprotected;
-      objects = h.objects;
+      objects = no_objects laws.premises t i legal restricted h;
       tasks = linked_tasks program.tasks i.tasks (λ x among. among) h.tasks;
       code = code;
       words = first_words laws t legal restricted i g of_program sizes well_formed;

@@ -260,9 +260,9 @@ first_numbered before (z ∷ xs) (suc n) x owner name at is first =
 pub bodies_numbered : PremisesHold → BodiesAreNumbered
 bodies_numbered premises t legal restricted place x k c at is outside = (
   ap (λ l. number_from 0 l None c.head.name.name) (names_are t 0 all)
-  ∙ first_numbered 0 (map name_of (bodies_of t)) number (name_of c) None c.head.name.name
-  (at_map name_of (bodies_of t) number c (body_at t place k x c at is)) own unlike
-  ∙ (let e : 0 + number ≡ number = omega arith in ap Some e),
+      ∙ first_numbered 0 (map name_of (bodies_of t)) number (name_of c) None c.head.name.name
+      (at_map name_of (bodies_of t) number c (body_at t place k x c at is)) own unlike
+      ∙ (let e : 0 + number ≡ number = omega arith in ap Some e),
   name_numbered (program_of t) (start_in t.package_) all w place x t place k c at is outside,
 )
   where
@@ -288,7 +288,7 @@ bodies_numbered premises t legal restricted place x k c at is outside = (
             absurd (
             let f = body_of t m e there in
             let alike = one_place (program_of t) (start_in t.package_) all w t f.place f.k f.item e place k x c f.at f.is none at is outside
-                (same_bytes e.head.name.name c.head.name.name same) in
+            (same_bytes e.head.name.name c.head.name.name same) in
             let counted = f.before in
             let front = ap (λ n. bodies_among (take n all)) alike.0 in
             let inside = alike.1 in

@@ -222,7 +222,8 @@ module _ (t : ProgramTree) (directory : Directory) where
         (ap (λ l. l.items) subprograms ∙ sym (append-nil old.subprograms.items))
         (walked.bodies n c (let same = ap (λ l. length l.items) subprograms in omega (arith, less, same)) is);
     end = ap (λ l. begins_at l.items (length l.items)) subprograms ∙ walked.end ∙ ap (λ z. here z.code) (sym draft);
-    many = ap (λ l. length l.items) subprograms ∙ walked.many ∙ sym (ap (bodies_before t) next ∙ more_before old.place (OfItem i) at ∙ plus_none (bodies_before t old.place));
+    many = ap (λ l. length l.items) subprograms ∙ walked.many
+        ∙ sym (ap (bodies_before t) next ∙ more_before old.place (OfItem i) at ∙ plus_none (bodies_before t old.place));
     exceptions = ap (λ z. z.exceptions.items) draft ∙ walked.exceptions;
     rows = subst (λ z. HasRows new.subprograms.items z) (sym draft) (subst (λ l. HasRows l.items old.draft) (sym subprograms) walked.rows);
   }
@@ -245,7 +246,8 @@ module _ (t : ProgramTree) (directory : Directory) where
         (let long = ap length rows ∙ length-append old.subprograms.items (row ∷ []) in omega (arith, less, long)));
     end = ap (λ l. begins_at l (length l)) rows ∙ begins_behind old.subprograms.items row ∙ ap (λ z. here z.code) (sym new_draft);
     many = ap length rows ∙ length-append old.subprograms.items (row ∷ []) ∙ ap (λ n. n + 1) walked.many
-        ∙ sym (ap (bodies_before t) next ∙ more_before old.place item at ∙ ap (λ n. bodies_before t old.place + n) (sym (coded_many t old.place item) ∙ ap length alone));
+        ∙ sym (ap (bodies_before t) next ∙ more_before old.place item at
+        ∙ ap (λ n. bodies_before t old.place + n) (sym (coded_many t old.place item) ∙ ap length alone));
     exceptions = ap (λ e. e.items) kept.exceptions ∙ walked.exceptions;
     rows = subst (λ l. HasRows l new.draft) (sym rows)
         (rows_more old.subprograms.items row old.draft new.draft walked.rows keeps.rows keeps.extends walked.end (ap (λ z. here z.code) (sym new_draft)));

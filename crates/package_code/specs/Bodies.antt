@@ -30,9 +30,12 @@ pub record BodyName : Type 0 where
 abbrev pub object_number : Scope → Identifier → ℕ
 object_number s name = or_zero (object_numbered s name)
 
+abbrev pub own_name : ProtectedItemTree → List ℕ
+own_name (OperationBody d b) = d.name.name
+own_name (EntryBody d barrier b) = d.name.name
+
 abbrev pub operation_name : (object : ℕ) → ProtectedItemTree → BodyName
-operation_name o (OperationBody d b) = record { owner = Some o; name = d.name.name }
-operation_name o (EntryBody d barrier b) = record { owner = Some o; name = d.name.name }
+operation_name o i = record { owner = Some o; name = own_name i }
 
 abbrev pub operation_names : (object : ℕ) → List ProtectedItemTree → List BodyName
 operation_names o [] = []

@@ -9,7 +9,7 @@ use Rattle.expr_code.specs.declared.refusal.Refusal.TheVariants as refusal
 use Rattle.expr_code.specs.declared.visible.Slot.{Slot}
 use Rattle.expr_code.specs.declared.visible.Visible.{Visible}
 use Rattle.step_simulation.specs.part_code.specs.Emitting.{HasEntries}
-use Rattle.package_code.specs.Bodies.{bodies_among, names_among, number_from, number_in, object_number, operation_name}
+use Rattle.package_code.specs.Bodies.{bodies_among, names_among, number_from, number_in, object_number, own_name}
 use Rattle.package_code.specs.Refusing.{slot_in}
 use Rattle.package_code.specs.declared.directory.Directory.{Directory}
 use Rattle.package_code.specs.declared.operations.OperationNumber.{OperationNumber}
@@ -78,7 +78,7 @@ operation_told (x ∷ rest) o name = if nat_eq x.object o && bytes_eq x.name nam
 -- the entries of the bodies of this object, the first of which has this number
 abbrev pub entries_of : (object first : ℕ) → List ProtectedItemTree → List OperationNumber
 entries_of o first [] = []
-entries_of o first (i ∷ is) = record { object = o; name = (operation_name o i).name; number = first } ∷ entries_of o (suc first) is
+entries_of o first (i ∷ is) = record { object = o; name = own_name i; number = first } ∷ entries_of o (suc first) is
 
 -- ... and of the bodies of protected objects among items
 abbrev pub entries_in : Scope → (first : ℕ) → BodyItemTree → List OperationNumber
@@ -89,7 +89,8 @@ abbrev pub entries_among : Scope → (first : ℕ) → List BodyItemTree → Lis
 entries_among s first [] = []
 entries_among s first (x ∷ rest) = entries_in s first x ++ entries_among s (first + bodies_among (x ∷ [])) rest
 
--- what the directory tells of the body with this name, of a subprogram or task, or of an operation of this object; names of the package by their numbers in `whole`
+-- What the directory tells of the body with this name, of a subprogram or task, or of an operation of this object. Names of the package are told by their
+-- numbers in `whole`.
 abbrev pub number_told : (whole : Scope) → Directory → (owner : Option ℕ) → (name : List ℕ) → Option ℕ
 number_told whole d None name = told_of whole d.numbers.items name
 number_told whole d (Some o) name = operation_told d.operations.items o name

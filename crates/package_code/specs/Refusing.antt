@@ -40,8 +40,8 @@ abbrev pub slot_in : ProgramTree → (owner : Option ℕ) → (name : List ℕ) 
 slot_in t None name = place_among 0 (program_of t).variables name
 slot_in t (Some o) name = option_map in_object (place_among 0 ((program_of t).components o) name)
 
--- what is told of a name in the body of this object's operation, or in one that belongs to no object: what is told of the object's own names, or else of those of
--- the package
+-- what is told of a name in the body of this object's operation, or in one that belongs to no object: what is told of the object's own names, or else of those
+-- of the package
 abbrev pub told_inside : {X : Type 0} → ((owner : Option ℕ) → (name : List ℕ) → Option X) → (owner : Option ℕ) → (name : List ℕ) → Option X
 told_inside tell None name = tell None name
 told_inside tell (Some o) name = or_else (tell (Some o) name) (tell None name)
@@ -52,8 +52,8 @@ told_behind first tell [] = []
 told_behind zero tell (n ∷ rest) = tell n.name ∷ told_behind zero tell rest
 told_behind (suc first) tell (n ∷ rest) = None ∷ told_behind first tell rest
 
--- What is visible to code where these names are, outside of protected objects or in the body of an operation of this one. The names in front of the package have
--- neither words nor a subprogram.
+-- What is visible to code where these names are, outside of protected objects or in the body of an operation of this one. The names in front of the package
+-- have neither words nor a subprogram.
 abbrev pub seen_with : ProgramTree → (owner : Option ℕ) → Scope → Visible
 seen_with t owner s =
     record {

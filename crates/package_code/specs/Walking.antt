@@ -110,8 +110,8 @@ pub record IsDraftKept (old new : Draft) : Type 0 where
 abbrev pub LieInFront : (place : ℕ) → List Row → Type 0
 LieInFront place rows = All (λ q. q.end_ ≤ place) rows
 
--- The body of this number has its code, and its subprogram; the rows in front of its own lie in front of its code. It belongs to no protected object: no code is
--- made of those that do yet.
+-- The body of this number has its code, and its subprogram; the rows in front of its own lie in front of its code. It belongs to no protected object: no code
+-- is made of those that do yet.
 pub record HasBody (t : ProgramTree) (directory : Directory) (number : ℕ) (c : Coded) (w : Walk) : Type 0 where
   pub outside : c.owner ≡ None
   pub seen : Visible

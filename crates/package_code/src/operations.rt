@@ -1,10 +1,10 @@
 //! The numbers of the bodies of protected objects' operations and entries, by the objects and the names (RM 9.4).
-ghost use Rattle.std.specs.Prelude.{◌≡◌, ◌+◌, ◌++◌, ◌∷◌, [], length, map, IfErr, IfOk, OnOk};
+ghost use Rattle.std.specs.Prelude.{◌≡◌, ◌+◌, ◌++◌, ◌∷◌, [], false, length, map, IfErr, IfOk, OnOk};
 ghost use Rattle.ada_tree.specs.StatementTree.{optional_tree};
 ghost use Rattle.ada_tree.specs.ProgramTree.{body_item_tree, package_tree, protected_item_tree};
 ghost use Rattle.expr_soundness.specs.meaning.specs.Programs.{package_bodies};
 ghost use Rattle.expr_code.specs.Refusing.{IsRefused};
-ghost use Rattle.package_code.specs.Bodies.{bodies_among, object_number};
+ghost use Rattle.package_code.specs.Bodies.{bodies_among, object_number, own_name};
 ghost use Rattle.package_code.specs.Directory.{HasManyBodies, entries_among, entries_in, entries_of, operation_told};
 
 use ada_tree::{BodyItem, Identifier, Package, ProtectedBodyItem};
@@ -33,7 +33,9 @@ fn object_number(scope: &Scope, name: &Identifier) -> usize
 }
 
 // The name of an operation or entry.
-fn operation_name(item: &ProtectedBodyItem) -> &Text {
+fn operation_name(item: &ProtectedBodyItem) -> &Text
+    ensures { result.now ≡ own_name (protected_item_tree item.now) }
+{
     match item {
         ProtectedBodyItem::Subprogram(subprogram, _) => &subprogram.name.name,
         ProtectedBodyItem::Entry(entry, _, _) => &entry.name.name,
@@ -105,7 +107,7 @@ fn number_operations_among(
 ///
 /// # Errors
 /// Where memory was refused, or there are more bodies than numbers.
-pub fn number_operations(
+pub(crate) fn number_operations(
     alloc: Global,
     scope: &Scope,
     package_: &Option<Package>,
