@@ -10,7 +10,7 @@ use Rattle.types.specs.Scopes.{Scope, number_of}
 use Rattle.declaring.specs.BodyNames.{object_body_scope}
 use Rattle.legality.specs.ProtectedBodyRules.{components_at, protected_item_scope}
 use Rattle.expr_soundness.specs.meaning.specs.Programs.{program_of}
-use Rattle.program_soundness.proofs.Listing.{same_some}
+use Rattle.program_soundness.proofs.Listing.{front_at, same_some}
 use Rattle.program_soundness.specs.Fronts.{declared_in, front}
 use Rattle.package_code.specs.Bodies.{BodyName, Coded, bodies_among, bodies_before, bodies_of, coded_at, coded_from, components_or_none, names_among, names_in, object_bodies, object_number, of_operation, of_subprogram, of_task, operation_name, operation_names, operations_of}
 use Rattle.package_code.specs.Counts.{bound_of, bounds_at, bounds_from}
@@ -143,11 +143,6 @@ get_behind [] ys k = (let e : 0 + k ≡ k = omega arith in ap (slice_get ys) e)
 get_behind (x ∷ xs) ys k =
     (let e : suc (length xs) + k ≡ suc (length xs + k) = omega arith in ap (slice_get (x ∷ (xs ++ ys))) e ∙ get_behind xs ys k)
 
-get_front : {X : Type 0} (xs ys : List X) (k : ℕ) (x : X) → slice_get xs k ≡ Some x → slice_get (xs ++ ys) k ≡ Some x
-get_front [] ys k x h = cc
-get_front (z ∷ xs) ys zero x h = h
-get_front (z ∷ xs) ys (suc k) x h = get_front xs ys k x h
-
 module _ (t : ProgramTree) where
   first_place : (first : ℕ) → first ≡ first + 0
   first_place first = omega arith
@@ -195,7 +190,7 @@ module _ (t : ProgramTree) where
   coded_there (y ∷ items) first zero k x c at is =
       let e : 0 + k ≡ k = omega arith in
       ap (slice_get (coded_at t first y ++ coded_from t (suc first) items)) e
-      ∙ get_front (coded_at t first y) (coded_from t (suc first) items) k c
+      ∙ front_at (coded_at t first y) (coded_from t (suc first) items) k c
       (subst (λ z. slice_get (coded_at t first z) k ≡ Some c) (sym (same_some y x at))
       (subst (λ p. slice_get (coded_at t p x) k ≡ Some c) (sym (first_place first)) is))
   coded_there (y ∷ items) first (suc place) k x c at is =

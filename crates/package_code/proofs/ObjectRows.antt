@@ -36,6 +36,7 @@ use Rattle.package_code.proofs.Declared.{among_both}
 use Rattle.package_code.proofs.GlobalsRefused.{split_at}
 use Rattle.package_code.proofs.Placed.{items_are}
 use Rattle.package_code.proofs.Variables.{words_more}
+use Rattle.package_code.proofs.TaskRows.{item_there}
 
 -- ---- rows one behind another
 
@@ -227,14 +228,6 @@ counts : (s : Scope) (n : ℕ) (p : ProtectedObject) → entity_at s n ≡ Some 
 counts [] n p h none = cc
 counts (x ∷ s) zero p h none = absurd (let one = ap counted h in omega (arith, one, none))
 counts (x ∷ s) (suc n) p h none = counts s n p h (let e = none in omega (arith, e))
-
-item_there : (all : List BodyItemTree) (n : ℕ) (d : ItemTree) → slice_get (items_among all) n ≡ Some d → (k : ℕ) × (slice_get all k ≡ Some (OfItem d))
-item_there [] n d h = cc
-item_there (OfItem i ∷ all) zero d h = (0, ap (λ o. elim o [ Some x ↦ Some (OfItem x) | None ↦ None ]) h)
-item_there (OfItem i ∷ all) (suc n) d h = let r = item_there all n d h in (suc r.0, r.1)
-item_there (SubprogramBody e b ∷ all) n d h = let r = item_there all n d h in (suc r.0, r.1)
-item_there (TaskBody name b ∷ all) n d h = let r = item_there all n d h in (suc r.0, r.1)
-item_there (ProtectedBody name items end_name ∷ all) n d h = let r = item_there all n d h in (suc r.0, r.1)
 
 module _ (premises : PremisesHold) (t : ProgramTree) (legal : IsLegal t) (restricted : IsRestricted t) (none : protected_count (program_of t).scope ≡ 0) where
   abbrev all : List BodyItemTree

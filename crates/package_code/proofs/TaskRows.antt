@@ -80,7 +80,7 @@ all_bodies : (name : Identifier) (o : Option PackageTree) → body_among name (d
 all_bodies name (Some p) = bodies_joined name p.declaration.items p.body.items
 all_bodies name None = refl
 
-item_there : (all : List BodyItemTree) (n : ℕ) (d : ItemTree) → slice_get (items_among all) n ≡ Some d → (k : ℕ) × (slice_get all k ≡ Some (OfItem d))
+pub item_there : (all : List BodyItemTree) (n : ℕ) (d : ItemTree) → slice_get (items_among all) n ≡ Some d → (k : ℕ) × (slice_get all k ≡ Some (OfItem d))
 item_there [] n d h = cc
 item_there (OfItem i ∷ all) zero d h = (0, ap (λ o. elim o [ Some x ↦ Some (OfItem x) | None ↦ None ]) h)
 item_there (OfItem i ∷ all) (suc n) d h = let r = item_there all n d h in (suc r.0, r.1)
