@@ -6,7 +6,7 @@ use Rattle.ada_tree.specs.declared.declaration.Item.{Item}
 use Rattle.ada_tree.specs.declared.declaration.ProtectedComponent.{ProtectedComponent}
 use Rattle.ada_tree.specs.declared.program.BodyItem.{BodyItem}
 use Rattle.ada_tree.specs.StatementTree.{ProtectedComponentTree, ProtectedTree, protected_component_tree}
-use Rattle.ada_tree.specs.ProgramTree.{BodyItemTree, ItemTree, OfException, OfItem, OfObject, OfProtected, OfSubprogram, OfTask, OfType, ProgramTree, ProtectedBody, SubprogramBody, TaskBody, body_item_tree, item_tree}
+use Rattle.ada_tree.specs.ProgramTree.{BodyItemTree, ItemTree, OfException, OfItem, OfObject, OfProtected, OfSubprogram, OfTask, OfType, ProgramTree, body_item_tree, item_tree}
 use Rattle.image.specs.ObjectTable.{ObjectRow}
 use Rattle.image.specs.Sections.{Sections}
 use Rattle.base.specs.declared.limits.TheConstants.{TASK_PRIORITY}
