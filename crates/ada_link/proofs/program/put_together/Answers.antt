@@ -1,4 +1,4 @@
-use Rattle.std.proofs.Common.{◌≡◌, ℕ, ◌∷◌, ◌++◌, [], inl, length, refl, rules, sym, ap, ◌∙◌, subst}
+use Rattle.std.proofs.Common.{◌≡◌, ◌∷◌, ◌++◌, [], inl, length, refl, rules, sym, ap, ◌∙◌, subst}
 use Rattle.ada_tree.specs.StatementTree.{optional_tree}
 use Rattle.ada_tree.specs.ProgramTree.{package_tree, program_tree}
 use Rattle.image.specs.declared.tasks.Task.{Task}
