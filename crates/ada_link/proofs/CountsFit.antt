@@ -123,48 +123,15 @@ body_names (SubprogramBody d b ∷ rest) = d.name.name ∷ body_names rest
 body_names (x ∷ rest) = body_names rest
 
 -- those that are counted
-abbrev counted_body : Bool → List ℕ → List (List ℕ)
+abbrev pub counted_body : Bool → List ℕ → List (List ℕ)
 counted_body true name = []
 counted_body false name = name ∷ []
 
-abbrev counted_names : Scope → List BodyItemTree → List (List ℕ)
+abbrev pub counted_names : Scope → List BodyItemTree → List (List ℕ)
 counted_names s [] = []
 counted_names s (OfItem (OfSubprogram d) ∷ rest) = d.name.name ∷ counted_names (body_item_scope s (OfItem (OfSubprogram d))) rest
 counted_names s (SubprogramBody d b ∷ rest) = counted_body (is_visible s d.name.name) d.name.name ++ counted_names (body_item_scope s (SubprogramBody d b)) rest
 counted_names s (x ∷ rest) = counted_names (body_item_scope s x) rest
-
--- ... where each declaration of one is counted
-abbrev IsDeclared : (places : Things → List ℕ) → Type 0
-IsDeclared places = (s : Scope) (d : SubprogramTree) → places (item_things s (OfSubprogram d)) ≡ d.place ∷ []
-
-counted_few : (k : _) → IsDeclared (λ xs. places_of k xs) → (s : Scope) (items : List BodyItemTree)
-    → length (counted_names s items) ≤ length (places_of k (body_items_things s items))
-counted_few k own s [] = omega arith
-counted_few k own s (OfItem (OfSubprogram d) ∷ rest) =
-    let next = body_item_scope s (OfItem (OfSubprogram d)) in
-    one_more_than (length (counted_names next rest)) (length (places_of k (body_items_things next rest)))
-    (length (places_of k (item_things s (OfSubprogram d))))
-    (length (places_of k (body_items_things s (OfItem (OfSubprogram d) ∷ rest)))) (counted_few k own next rest)
-    (many_both k (item_things s (OfSubprogram d)) (body_items_things next rest)) (ap length (own s d))
-counted_few k own s (SubprogramBody d b ∷ rest) =
-    by_test (is_visible s d.name.name) (counted_few k own (body_item_scope s (SubprogramBody d b)) rest)
-  where
-    next : Scope
-    next = body_item_scope s (SubprogramBody d b)
-
-    by_test : (v : Bool) → length (counted_names next rest) ≤ length (places_of k (body_items_things next rest))
-        → length (counted_body v d.name.name ++ counted_names next rest)
-        ≤ length (places_of k (elim v [ true ↦ [] | false ↦ item_things s (OfSubprogram d) ] ++ body_items_things next rest))
-    by_test true h = h
-    by_test false h =
-        one_more_than (length (counted_names next rest)) (length (places_of k (body_items_things next rest)))
-        (length (places_of k (item_things s (OfSubprogram d))))
-        (length (places_of k (item_things s (OfSubprogram d) ++ body_items_things next rest))) h
-        (many_both k (item_things s (OfSubprogram d)) (body_items_things next rest)) (ap length (own s d))
-counted_few k own s (x ∷ rest) =
-    no_fewer_than (length (counted_names (body_item_scope s x) rest)) (length (places_of k (body_items_things (body_item_scope s x) rest)))
-    (length (places_of k (body_item_things s x))) (length (places_of k (body_items_things s (x ∷ rest)))) (counted_few k own (body_item_scope s x) rest)
-    (many_both k (body_item_things s x) (body_items_things (body_item_scope s x) rest))
 
 -- the declarations of the specification are counted with those of the body
 things_joined : (k : _) (s : Scope) (ds : List ItemTree) (body : List BodyItemTree) → length (places_of k (body_items_things s (map OfItem ds ++ body)))
@@ -359,16 +326,12 @@ module _ (program : Program) (s : Scope) (all : List BodyItemTree) (w : IsPackag
       by_test false e k later = let n = later k in (suc n.0, n.1, n.2, n.3, n.4)
   named_at (x ∷ rest) q h = let n = named_at rest q h in (suc n.0, n.1, n.2, n.3, n.4)
 
-  bodies_few : (k : _) → IsDeclared (λ xs. places_of k xs) → length (body_names all) ≤ length (places_of k (body_items_things s all))
-  bodies_few k own =
-      let few = no_more_than (body_names all) (counted_names s all) differing
+  pub names_few : length (body_names all) ≤ length (counted_names s all)
+  names_few =
+      no_more_than (body_names all) (counted_names s all) differing
       (λ q h.
       let n = named_at all q h in
-      subst (λ z. is_of (counted_names s all) z ≡ true) (sym n.4) (counted_there n.0 n.1 n.2 n.3)) in
-      over_ (length (body_names all)) (length (counted_names s all)) (length (places_of k (body_items_things s all))) few (counted_few k own s all)
-    where
-      over_ : (a b c : ℕ) → a ≤ b → b ≤ c → a ≤ c
-      over_ a b c h i = omega (arith, h, i)
+      subst (λ z. is_of (counted_names s all) z ≡ true) (sym n.4) (counted_there n.0 n.1 n.2 n.3))
 
 -- what is counted of one kind in the whole package is within the limit of its kind
 pub within_kind : (k : _) (p : PackageTree) (limit n : ℕ) → length (places_of k (package_things p)) ≤ limit
@@ -383,20 +346,16 @@ within_kind k p limit n few up =
     under : (n a b c d : ℕ) → n ≤ a → a ≡ b + c → d ≡ b + c → d ≤ limit → n ≤ limit
     under n a b c d h e f up_to = omega (arith, h, e, f, up_to)
 
-subprograms_by : (k : _) (p : PackageTree) (n : ℕ) → length (places_of k (package_things p)) ≤ PROCEDURES
-    → (IsDeclared (λ xs. places_of k xs) → n ≤ length (places_of k (body_items_things (start_in (Some p)) (declared_in (Some p)))))
-    → IsDeclared (λ xs. places_of k xs) → n ≤ PROCEDURES
-subprograms_by k p n few up own = within_kind k p PROCEDURES n few (up own)
-
-pub subprograms_within : (program : Program) (o : Option PackageTree) → IsPackage program (start_in o) (declared_in o) → optional_size_faults o ≡ []
-    → length (body_names (declared_in o)) ≤ PROCEDURES
-subprograms_within program None w h = omega arith
-subprograms_within program (Some p) w h =
+-- the subprograms that are counted are within their limit
+pub subprograms_counted : (o : Option PackageTree) → optional_size_faults o ≡ []
+    → length (places_of kind.Subprogram (body_items_things (start_in o) (declared_in o))) ≤ PROCEDURES
+subprograms_counted None h = omega arith
+subprograms_counted (Some p) h =
     let ts = package_things p in
     let none : subprogram_faults ts ≡ [] =
     front_empty (subprogram_faults ts) (task_faults ts) (front_empty (subprogram_faults ts ++ task_faults ts) (protected_object_faults ts)
     (front_empty (subprogram_faults ts ++ task_faults ts ++ protected_object_faults ts) (exception_faults ts)
     (front_empty (subprogram_faults ts ++ task_faults ts ++ protected_object_faults ts ++ exception_faults ts) (words_faults _ ts)
     (declared_none p h)))) in
-    subprograms_by kind.Subprogram p (length (body_names (declared_in (Some p)))) (within_limit PROCEDURES (places_of kind.Subprogram ts) none)
-    (λ own. bodies_few program (start_in (Some p)) (declared_in (Some p)) w kind.Subprogram own) (λ s d. refl)
+    within_kind kind.Subprogram p PROCEDURES (length (places_of kind.Subprogram (body_items_things (start_in (Some p)) (declared_in (Some p)))))
+    (within_limit PROCEDURES (places_of kind.Subprogram ts) none) (omega arith)

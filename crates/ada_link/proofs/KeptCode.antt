@@ -1,5 +1,5 @@
 -- The code of each subprogram of the image keeps the rules of images: that of each body, and that of main.
-use Rattle.std.proofs.Common.{◌≡◌, ℕ, zero, suc, ◌-◌, ◌<◌, ◌⊎◌, inl, inr, List, [], ◌∷◌, length, Some, refl, sym, ap, ◌∙◌, subst, arith, length-append}
+use Rattle.std.proofs.Common.{◌≡◌, ℕ, zero, suc, ◌-◌, ◌<◌, ◌⊎◌, inl, inr, List, [], ◌∷◌, length, None, Some, refl, sym, ap, ◌∙◌, subst, arith, length-append}
 use Rattle.std.specs.Prelude.{slice_get}
 use Rattle.std.proofs.lemmas.Option.{slice_get_within}
 use Rattle.ada_tree.specs.ProgramTree.{BodyItemTree, ProgramTree}
@@ -16,9 +16,11 @@ use Rattle.expr_code.specs.Code.{here}
 use Rattle.stmt_code.specs.Emitting.{HasLabels}
 use Rattle.stmt_code.specs.declared.subprogram.SubprogramWords.{SubprogramWords}
 use Rattle.stmt_code.specs.Whole.{AreAllKept, IsOutside, KeepsSubprogramRules, KeptCodePasses, PassesOnCode}
+use Rattle.program_soundness.specs.Fronts.{front}
 use Rattle.package_code.specs.Program.{HasProgram}
-use Rattle.package_code.specs.Walking.{Coded, HasBody, IsCalledSubprogram, coded, row_of}
-use Rattle.package_code.proofs.Coded.{coded_by}
+use Rattle.package_code.specs.Bodies.{Coded, coded_at}
+use Rattle.package_code.specs.Walking.{HasBody, IsCalledSubprogram, row_of}
+use Rattle.package_code.proofs.Coded.{body_of, outside_by}
 use Rattle.package_code.proofs.InFront.{LawsOfNames}
 use Rattle.package_code.proofs.Linking.{begins_there, called_front, called_main, first_main, holds_main, holds_there, labels_there, main_row}
 use Rattle.ada_link.proofs.Suited.{front_suited}
@@ -39,13 +41,18 @@ begins : (i : Sections) (n : ℕ) → first_place i n ≡ begin_of 0 i.subprogra
 begins i zero = refl
 begins i (suc n) = refl
 
--- no body belongs to a protected object, and that of a task is given nothing, and gives nothing back
-bare_body : (t : ProgramTree) (x : BodyItemTree) (c : Coded) → coded x ≡ Some c → (s : Scope) (words : SubprogramWords)
-    → IsCalledSubprogram t c.head s words → (end : ℕ) → IsOutside (row_of c.kind words end)
-bare_body t x c is s words called_by end =
-    coded_by (λ y e. IsCalledSubprogram t e.head s words → IsOutside (row_of e.kind words end))
+-- a body of no protected object; that of a task is given nothing, and gives nothing back
+bare_body : (t : ProgramTree) (place : ℕ) (x : BodyItemTree) (k : ℕ) (c : Coded) → slice_get (coded_at t place x) k ≡ Some c → c.owner ≡ None → (s : Scope)
+    (words : SubprogramWords) → IsCalledSubprogram t c.head s words → (end : ℕ) → IsOutside (row_of c.kind words end)
+bare_body t place x k c is outside s words called_by end =
+    outside_by t place (λ y n e. IsCalledSubprogram t e.head s words → IsOutside (row_of e.kind words end))
     (λ d b h. record { object = refl; bare = λ never. cc })
-    (λ name b h. record { object = refl; bare = λ task. (h.passed [] refl, h.results [] refl) }) x c is called_by
+    (λ name b h. record { object = refl; bare = λ task. (h.passed [] refl, h.results [] refl) }) x k c is outside called_by
+
+-- in front of its parameters what is visible behind its name is
+own_front : (t : ProgramTree) (place : ℕ) (x : BodyItemTree) (k : ℕ) (c : Coded) → slice_get (coded_at t place x) k ≡ Some c → c.owner ≡ None
+    → c.front ≡ front t (suc place)
+own_front t place = outside_by t place (λ y n e. e.front ≡ front t (suc place)) (λ d b. refl) (λ name b. refl)
 
 module _ (laws : LawsOfNames) (passes : KeptCodePasses) (t : ProgramTree) (legal : IsLegal t) (restricted : IsRestricted t) (i : Sections) (h : HasProgram t i)
   where
@@ -60,19 +67,21 @@ module _ (laws : LawsOfNames) (passes : KeptCodePasses) (t : ProgramTree) (legal
 
     body_kept : (n : ℕ) → IsOfBody t h.directory n h.walk → IsKeptThere n
     body_kept n x =
-        let body : HasBody t h.directory x.place x.code h.walk = x.body in
+        let body : HasBody t h.directory n x.code h.walk = x.body in
+        let at = body_of t n x.code x.is in
         let row : Subprogram = row_of x.code.kind body.words (here body.new.code) in
-        subst IsKeptThere x.same
-        (record {
+        record {
           s = row;
-          there = called_front t i h body.number row body.there;
-          kept = subst (λ p. KeepsSubprogramRules i p row) (sym (begins_there t i h x.place x.code body))
-              (passes.added body.seen body.old body.new body.words body.keeps i row (holds_there t i h x.place x.code body)
-              (labels_there t i h x.place x.code body)
+          there = called_front t i h n row body.there;
+          kept = subst (λ p. KeepsSubprogramRules i p row) (sym (begins_there t i h n x.code body))
+              (passes.added body.seen body.old body.new body.words body.keeps i row (holds_there t i h n x.code body)
+              (labels_there t i h n x.code body)
               (record { parameters = refl; results = refl; locals = refl; stack = refl })
-              (front_suited laws t legal restricted i h body.seen (suc x.place) body.scope body.told row) refl
-              (bare_body t x.item x.code x.is body.seen.scope body.words body.called (here body.new.code)));
-        })
+              (front_suited laws t legal restricted i h body.seen (suc at.place)
+              (body.scope ∙ own_front t at.place at.item at.k x.code at.is body.outside) body.told row)
+              refl
+              (bare_body t at.place at.item at.k x.code at.is body.outside body.seen.scope body.words body.called (here body.new.code)));
+        }
 
     main_kept : IsKeptThere (length rows)
     main_kept =

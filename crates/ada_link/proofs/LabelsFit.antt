@@ -5,20 +5,20 @@ use Rattle.base.specs.declared.limits.TheConstants.{LABELS}
 use Rattle.ada_tree.specs.declared.declaration.Formal.{Formal}
 use Rattle.ada_tree.specs.declared.expression.Identifier.{Identifier}
 use Rattle.ada_tree.specs.ExpressionTree.{ArgumentTrees, Arguments, Attribute, Component, MoreArguments, MoreSelectors, NoArguments, NoSelectors, SelectorTrees, Text, Value}
-use Rattle.ada_tree.specs.StatementTree.{AlternativeTrees, Block, Call, Case, DeclarationTree, ElsifTrees, HandlerTrees, If, LocalObject, Loop, MoreAlternatives, MoreElsifs, MoreHandlers, MoreStmts, NoAlternatives, NoElsifs, NoHandlers, NoStmts, StmtTree, StmtTrees}
+use Rattle.ada_tree.specs.StatementTree.{AlternativeTrees, Block, Call, Case, DeclarationTree, ElsifTrees, HandlerTrees, If, LocalObject, Loop, MoreAlternatives, MoreElsifs, MoreHandlers, MoreStmts, NoAlternatives, NoElsifs, NoHandlers, NoStmts, StmtTree, StmtTrees, SubprogramTree}
 use Rattle.ada_tree.specs.ProgramTree.{BodyItemTree, BodyTree, EntryBody, ItemTree, OfItem, OperationBody, PackageTree, ProtectedBody, ProtectedItemTree, SubprogramBody, TaskBody}
 use Rattle.types.specs.Scopes.{Scope, standard}
 use Rattle.meaning.specs.expr_rules.proofs.TypedLaw.{back_empty, front_empty}
 use Rattle.declaring.specs.PackageNames.{body_item_scope, specified_scope}
 use Rattle.program_soundness.specs.size_rules.specs.BodySizes.{alternatives_things, body_things, call_things, elsifs_things, first_argument, formals_things, handlers_things, locals_things, sized_object, stmt_things, stmts_things}
 use Rattle.program_soundness.specs.size_rules.specs.Limits.{Things, first_use, first_uses, is_among, over, used_with}
-use Rattle.program_soundness.specs.size_rules.specs.PackageSizes.{body_item_inside, body_items_inside, frame_faults, operations_inside, package_inside, package_things}
+use Rattle.program_soundness.specs.size_rules.specs.PackageSizes.{body_item_inside, body_items_inside, frame_faults, operation_inside, operations_inside, package_inside, package_things}
 use Rattle.program_soundness.specs.size_rules.specs.ProgramSizes.{declared_faults, label_faults, optional_size_faults}
 use Rattle.program_soundness.specs.Fronts.{declared_in}
 use Rattle.step_simulation.specs.part_code.specs.Labels.{alternatives_labels, elsifs_labels, handlers_labels, is_label, stmt_labels, stmts_labels, with_label, with_line}
 use Rattle.step_simulation.specs.part_code.specs.Lines.{line_behind}
 use Rattle.stmt_code.specs.WholeRefusals.{body_labels}
-use Rattle.package_code.specs.Refusing.{item_labels, items_labels}
+use Rattle.package_code.specs.Refusing.{item_labels, items_labels, operation_labels, operations_labels, subprogram_labels}
 use Rattle.package_code.proofs.Differing.{AreAmong, AreDiffering, differing_more, is_of, no_more_than, of_either, of_front, of_last, position_is}
 use Rattle.program_soundness.proofs.WiderScopes.{equal_bytes, same_bytes}
 
@@ -216,22 +216,28 @@ body_counted s fs b =
 only_counted : (s : Scope) (fs : List Formal) (b : BodyTree) → IsCounted same (body_things s fs b)
 only_counted s fs b = ignored (λ l. body_labels l b) (body_things s fs b) (body_counted s fs b)
 
-operations_counted : (s : Scope) (items : List ProtectedItemTree) → IsCounted same (operations_inside s items)
-operations_counted s [] = none_counted
-operations_counted s (OperationBody d b ∷ rest) =
-    both_counted same same (body_things s d.formals b) (operations_inside s rest) (only_counted s d.formals b) (operations_counted s rest)
-operations_counted s (EntryBody d barrier b ∷ rest) =
-    both_counted same same (body_things s d.formals b) (operations_inside s rest) (only_counted s d.formals b) (operations_counted s rest)
-
 abbrev labels_by : (before : List (List ℕ)) → BodyTree → Option Identifier → List (List ℕ)
 labels_by before b o = elim o [ None ↦ body_labels before b | Some r ↦ before ]
 
-item_counted : (s : Scope) (x : BodyItemTree) → IsCounted (λ labels. item_labels labels x) (body_item_inside s x)
-item_counted s (SubprogramBody d b) = by_result d.result
+subprogram_counted : (s : Scope) (d : SubprogramTree) (b : BodyTree) → IsCounted (λ labels. subprogram_labels labels d b) (body_things s d.formals b)
+subprogram_counted s d b = by_result d.result
   where
     by_result : (o : Option Identifier) → IsCounted (λ labels. labels_by labels b o) (body_things s d.formals b)
     by_result None = body_counted s d.formals b
     by_result (Some r) = only_counted s d.formals b
+
+operation_counted : (s : Scope) (i : ProtectedItemTree) → IsCounted (λ labels. operation_labels labels i) (operation_inside s i)
+operation_counted s (OperationBody d b) = subprogram_counted s d b
+operation_counted s (EntryBody d barrier b) = body_counted s d.formals b
+
+operations_counted : (s : Scope) (items : List ProtectedItemTree) → IsCounted (λ labels. operations_labels labels items) (operations_inside s items)
+operations_counted s [] = none_counted
+operations_counted s (i ∷ rest) =
+    both_counted (λ l. operation_labels l i) (λ l. operations_labels l rest) (operation_inside s i) (operations_inside s rest) (operation_counted s i)
+    (operations_counted s rest)
+
+item_counted : (s : Scope) (x : BodyItemTree) → IsCounted (λ labels. item_labels labels x) (body_item_inside s x)
+item_counted s (SubprogramBody d b) = subprogram_counted s d b
 item_counted s (OfItem d) = none_counted
 item_counted s (TaskBody name b) = body_counted s [] b
 item_counted s (ProtectedBody name items end_name) = operations_counted s items

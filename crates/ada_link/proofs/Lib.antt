@@ -12,6 +12,7 @@ mod Refusals
 mod LabelsFit
 mod WordsFit
 mod CountsFit
+mod OperationsFit
 mod TasksFit
 mod TaskLines
 mod Tables

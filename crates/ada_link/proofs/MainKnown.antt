@@ -23,8 +23,8 @@ use Rattle.expr_code.specs.Entries.{entry_at}
 use Rattle.expr_code.specs.Seeing.{subprogram_of, told_of}
 use Rattle.step_simulation.specs.part_code.specs.Needs.{are_unknown}
 use Rattle.package_code.specs.Laws.{MainIsKnown}
-use Rattle.package_code.specs.Refusing.{number_in, seen_at, told_behind}
-use Rattle.package_code.specs.Walking.{of_subprogram}
+use Rattle.package_code.specs.Bodies.{number_in, of_subprogram}
+use Rattle.package_code.specs.Refusing.{seen_at, told_behind}
 use Rattle.package_code.proofs.CodedPackage.{procedure_stands}
 use Rattle.package_code.proofs.InFront.{LawsOfNames, last_is, whole}
 use Rattle.ada_link.proofs.MainCalls.{AreFound, main_found}
@@ -90,14 +90,14 @@ module _ (laws : LawsOfNames) (t : ProgramTree) (legal : IsLegal t) (restricted 
       let same : x.0 ≡ Subprogram p = same_some x.0 (Subprogram p) (sym there ∙ h) in
       let never = (w.started name (Subprogram p) (subst (λ y. stands start name ≡ Some y) same first)).first in cc)
 
-  told_there : (name : List ℕ) (p : Profile) → stands program.scope name ≡ Some (Subprogram p) → subprogram_of (seen_at t last) name ≡ number_in t name
+  told_there : (name : List ℕ) (p : Profile) → stands program.scope name ≡ Some (Subprogram p) → subprogram_of (seen_at t last) name ≡ number_in t None name
   told_there name p h =
       let s : Scope = front t last in
       let n = number_stands s name (Subprogram p) (ap (λ u. stands u name) (last_is laws t legal restricted) ∙ h) in
       let more = all_behind start (take last all) in
       let none = sym (number_place start name) ∙ unstarted name p h (number_of start name) refl in
       let found = sym (number_place (start ++ more.0) name) ∙ ap (λ u. number_of u name) (sym more.1) ∙ n.1 in
-      told_name (length start) (number_in t) s name n.0 n.1 (place_behind (λ m. bytes_eq name m.name) start more.0 n.0 none found)
+      told_name (length start) (number_in t None) s name n.0 n.1 (place_behind (λ m. bytes_eq name m.name) start more.0 n.0 none found)
 
   known : (name : List ℕ) (q : Procedure) → procedure_here program None name ≡ Some q → is_none (subprogram_of (seen_at t last) name) ≡ false
   known name q found =
@@ -108,8 +108,9 @@ module _ (laws : LawsOfNames) (t : ProgramTree) (legal : IsLegal t) (restricted 
       (ap (λ l. procedure_among l None name) (sym (w.procedures ∙ procedures_are program.scope all)) ∙ among) in
       let named : x.d.name.name ≡ name = ap (λ y. y.name) (sym x.is ∙ u.is) ∙ u.named in
       let e = body_entity program start all w x.place x.d x.b x.at in
-      let number = (bodies_numbered laws.premises t legal restricted x.place (SubprogramBody x.d x.b) (of_subprogram x.d x.b) x.at refl).0 in
-      ap is_none (told_there name e.profile (ap (stands program.scope) (sym named) ∙ e.stands_) ∙ ap (number_in t) (sym named) ∙ number)
+      let number = (bodies_numbered laws.premises t legal restricted x.place (SubprogramBody x.d x.b) 0
+      (of_subprogram (front t (suc x.place)) x.d x.b) x.at refl refl).0 in
+      ap is_none (told_there name e.profile (ap (stands program.scope) (sym named) ∙ e.stands_) ∙ ap (number_in t None) (sym named) ∙ number)
 
   none_unknown : (xs : List MainStatement) → AreFound program xs → are_unknown (seen_at t last) xs ≡ false
   none_unknown [] h = refl

@@ -20,28 +20,34 @@ use Rattle.expr_code.proofs.Refusals.{or_left}
 use Rattle.step_simulation.specs.part_code.specs.Bounds.{main_bound}
 use Rattle.step_simulation.specs.part_code.specs.Needs.{RefusesMain, are_unknown, beyond_if}
 use Rattle.step_simulation.specs.part_code.proofs.Within.{needing_refused}
-use Rattle.package_code.specs.Counts.{bodies_among, bodies_before, bounds_from}
-use Rattle.package_code.specs.Directory.{HaveBodyNumbers, HasManyBodies, IsDirectory}
+use Rattle.package_code.specs.Bodies.{bodies_among, bodies_before, names_among, number_from}
+use Rattle.package_code.specs.Counts.{bounds_from}
+use Rattle.package_code.specs.Directory.{HaveBodyNumbers, HasManyBodies, IsDirectory, entries_among, operation_told}
 use Rattle.package_code.specs.Globals.{AreGlobals, RefusesGlobals, refuses_items}
 use Rattle.package_code.specs.Laws.{HasFew}
 use Rattle.package_code.specs.Program.{HasProgram, has_texts, is_within_limits}
-use Rattle.package_code.specs.Refusing.{RefusesCode, RefusesSections, RefusesLinking, is_spelled, items_labels, items_needs, items_rows, number_among, program_bound, program_labels, program_needs, program_rows, seen_at}
+use Rattle.package_code.specs.Refusing.{RefusesCode, RefusesSections, RefusesLinking, is_spelled, items_labels, items_needs, items_rows, program_bound, program_labels, program_needs, program_rows, seen_at}
 use Rattle.package_code.specs.Walking.{IsAsTold, IsWalked}
 use Rattle.package_code.specs.declared.directory.Directory.{Directory}
 use Rattle.package_code.specs.declared.globals.Globals.{Globals}
 use Rattle.package_code.specs.declared.walk.Walk.{Walk}
+use Rattle.checking.specs.ProgramRules.{IsLegal}
+use Rattle.ravenscar.specs.ProgramRules.{IsRestricted}
+use Rattle.program_soundness.specs.BodyLaws.{PremisesHold}
+use Rattle.package_code.specs.Objects.{lack_objects}
+use Rattle.package_code.proofs.Numbered.{operations_numbered}
+use Rattle.package_code.proofs.ObjectRows.{lack_none}
 use Rattle.ada_link.proofs.TaskLines.{as_many_tasks, names_told}
 
 -- ---- bodies stand in the package's body
 
-numbers_behind : (before : ℕ) (ds : List ItemTree) (body : List BodyItemTree) (name : List ℕ)
-    → number_among before (map OfItem ds ++ body) name ≡ number_among before body name
-numbers_behind before [] body name = refl
-numbers_behind before (d ∷ ds) body name = numbers_behind before ds body name
+names_behind : (s : Scope) (ds : List ItemTree) (body : List BodyItemTree) → names_among s (map OfItem ds ++ body) ≡ names_among s body
+names_behind s [] body = refl
+names_behind s (d ∷ ds) body = names_behind s ds body
 
-pub numbers_are : (o : Option PackageTree) (name : List ℕ) → number_among 0 (package_bodies o) name ≡ number_among 0 (declared_in o) name
-numbers_are (Some p) name = sym (numbers_behind 0 p.declaration.items p.body.items name)
-numbers_are None name = refl
+pub names_of : (s : Scope) (o : Option PackageTree) → names_among s (package_bodies o) ≡ names_among s (declared_in o)
+names_of s (Some p) = sym (names_behind s p.declaration.items p.body.items)
+names_of s None = refl
 
 bodies_behind : (ds : List ItemTree) (body : List BodyItemTree) → bodies_among (map OfItem ds ++ body) ≡ bodies_among body
 bodies_behind [] body = refl
@@ -73,10 +79,13 @@ module _ (t : ProgramTree) where
   -- what the tables of a program tell
   pub directory_told : (g : Globals) (numbers : List (Option ℕ)) (directory : Directory) → AreGlobals whole (package_items t.package_) g
       → HaveBodyNumbers whole (package_bodies t.package_) numbers → directory.slots.items ≡ g.slots.items → directory.numbers.items ≡ numbers
-      → IsDirectory t directory
-  directory_told g numbers directory are numbered slots same = record {
+      → directory.operations.items ≡ entries_among whole 0 (package_bodies t.package_) → IsDirectory t directory
+  directory_told g numbers directory are numbered slots same entries = record {
     slots = λ name. ap (λ l. told_of whole l name) slots ∙ are.slots name;
-    numbers = λ name n seen. ap (λ l. told_of whole l name) same ∙ numbered.told name n seen ∙ numbers_are t.package_ name;
+    numbers = λ name n seen. ap (λ l. told_of whole l name) same ∙ numbered.told name n seen
+        ∙ ap (λ l. number_from 0 l None name) (names_of whole t.package_);
+    operations = λ o name. ap (λ l. operation_told l o name) entries ∙ operations_numbered whole 0 (package_bodies t.package_) o name
+        ∙ ap (λ l. number_from 0 l (Some o) name) (names_of whole t.package_);
   }
 
   -- ---- memory
@@ -91,6 +100,12 @@ module _ (t : ProgramTree) where
   pub protected_refused : (protected_count whole ≡ 0 → ⊥) → RefusesSections t refusal.Outside
   protected_refused h =
       inl (inl (or_left (not (nat_eq (protected_count whole) 0)) (items_needs t 0 all).outside (nat_differ (protected_count whole) h)))
+
+  -- where there are none, memory alone refuses their rows
+  pub objects_refused : PremisesHold → IsLegal t → IsRestricted t → protected_count whole ≡ 0 → (why : Refusal)
+      → IsRefused 0 0 (lack_objects whole (package_items t.package_)) why → RefusesSections t why
+  objects_refused premises legal restricted none why r =
+      plain_refused why (subst (λ b. IsRefused 0 0 b why) (lack_none premises t legal restricted none) r)
 
   -- ---- variables and bodies
 

@@ -41,10 +41,11 @@ use Rattle.step_simulation.specs.part_code.specs.Suiting.{IsCallableProcedure, S
 use Rattle.package_code.specs.Directory.{AreTold}
 use Rattle.package_code.specs.Package.{IsPackageOf}
 use Rattle.package_code.specs.Program.{HasProgram}
-use Rattle.package_code.specs.Walking.{Coded, HasBody, of_subprogram, row_of}
+use Rattle.package_code.specs.Bodies.{Coded, bodies_before, of_subprogram}
+use Rattle.package_code.specs.Walking.{HasBody, row_of}
 use Rattle.package_code.proofs.InFront.{LawsOfNames, front_sound, front_words, kept_behind, names, whole}
 use Rattle.package_code.proofs.InOrder.{package_in_order}
-use Rattle.package_code.proofs.Linking.{body_there, called_front, in_front, ordered, package_of, with_one, without}
+use Rattle.package_code.proofs.Linking.{body_there_at, called_front, in_front, ordered, package_of, with_one, without}
 use Rattle.package_code.proofs.NewParameters.{formals_told, result_told}
 
 -- ---- words of parameters, whose subtypes take as many in the one scope as in the other
@@ -135,21 +136,24 @@ module _ (laws : LawsOfNames) (t : ProgramTree) (legal : IsLegal t) (restricted 
       there = bodies.subprogram_there program (start_in t.package_) (declared_in t.package_) w name profile stands_whole
 
       abbrev code_of : Coded
-      code_of = of_subprogram there.subprogram there.body
+      code_of = of_subprogram (front t (suc there.place)) there.subprogram there.body
 
-      abbrev body : HasBody t h.directory there.place code_of h.walk
-      body = body_there t i h there.place (SubprogramBody there.subprogram there.body) code_of there.at refl
+      abbrev own_number : ℕ
+      own_number = bodies_before t there.place
+
+      abbrev body : HasBody t h.directory own_number code_of h.walk
+      body = body_there_at t i h there.place (SubprogramBody there.subprogram there.body) code_of there.at refl
 
       abbrev row : Subprogram
       row = row_of kinds.Plain body.words (here body.new.code)
 
-      numbered : body.number ≡ number
+      numbered : own_number ≡ number
       numbered =
-          same_some body.number number
+          same_some own_number number
           (sym body.numbered ∙ ap (told_of program.scope h.directory.numbers.items) there.named ∙ told.calls name number seen)
 
       called_there : called i number ≡ Some row
-      called_there = ap (called i) (sym numbered) ∙ called_front t i h body.number row body.there
+      called_there = ap (called i) (sym numbered) ∙ called_front t i h own_number row body.there
 
       -- its parameters take the same words where it is called
 

@@ -21,7 +21,7 @@ tables_small laws room t legal restricted =
     record {
       labels = labels_few t.package_ sizes;
       words = words_few laws t legal restricted room sizes;
-      subprograms = subprograms_few laws.premises t legal restricted sizes;
+      subprograms = subprograms_few laws t legal restricted sizes;
       exceptions = exceptions_few t.package_ sizes;
       tasks = tasks_few t sizes;
     }

@@ -1,5 +1,5 @@
 -- The lines of a program's tasks in the image's table keep the rules of images on tasks (docs/FORMATS.md, 45 and 47), and are told by the text.
-use Rattle.std.proofs.Common.{◌≡◌, ℕ, suc, ◌≤◌, ◌⊎◌, inl, inr, List, [], ◌∷◌, length, map, true, ◌&&◌, Option, Some, refl, sym, ap, ◌∙◌, subst, arith, take, take_all}
+use Rattle.std.proofs.Common.{◌≡◌, ℕ, suc, ◌+◌, ◌≤◌, ◌⊎◌, inl, inr, List, [], ◌∷◌, length, map, true, ◌&&◌, Option, None, Some, refl, sym, ap, ◌∙◌, subst, arith, take, take_all}
 use Rattle.std.specs.List.{list_all}
 use Rattle.std.specs.Prelude.{nat_le, slice_get}
 use Rattle.std.proofs.lemmas.Bool.{and_from, and_parts, le-leb, lt-ltb}
@@ -20,17 +20,16 @@ use Rattle.checking.specs.ProgramRules.{IsLegal}
 use Rattle.ravenscar.specs.ProgramRules.{IsRestricted}
 use Rattle.meaning.specs.Programs.{Duty, OfBody, OfMain, Task, base_priority, body_among, items_among, main_task, program_of, task_with, tasks_among}
 use Rattle.program_soundness.specs.BodyLaws.{PremisesHold}
-use Rattle.program_soundness.specs.Fronts.{declared_in}
+use Rattle.program_soundness.specs.Fronts.{declared_in, front}
 use Rattle.program_soundness.proofs.Listing.{Has, has_either, same_some}
 use Rattle.program_soundness.proofs.Priorities.{aspect_low}
 use Rattle.program_soundness.proofs.Trees.{tasks_are}
 use Rattle.expr_code.specs.Code.{here}
-use Rattle.package_code.specs.Counts.{bodies_among}
+use Rattle.package_code.specs.Bodies.{Coded, bodies_among, bodies_before, number_in, of_task}
 use Rattle.package_code.specs.Program.{HasProgram}
-use Rattle.package_code.specs.Refusing.{number_in}
 use Rattle.package_code.specs.Tasks.{HasDuty, HasTask, HaveTasks}
-use Rattle.package_code.specs.Walking.{Coded, HasBody, of_task, row_of}
-use Rattle.package_code.proofs.Linking.{body_there, called_front, called_main, main_row}
+use Rattle.package_code.specs.Walking.{HasBody, row_of}
+use Rattle.package_code.proofs.Linking.{body_there_at, called_front, called_main, main_row}
 use Rattle.package_code.proofs.Numbered.{bodies_numbered}
 use Rattle.package_code.proofs.TaskRows.{HasTaskBody, task_found}
 
@@ -91,14 +90,15 @@ module _ (premises : PremisesHold) (t : ProgramTree) (legal : IsLegal t) (restri
 
   of_body : (x : Task) (line : rows.Task) → HasTask t x line → HasTaskBody all x → IsTaskNumber i line.subprogram
   of_body x line has f =
-      let c : Coded = of_task f.own f.body in
-      let body : HasBody t h.directory f.place c h.walk = body_there t i h f.place (TaskBody f.own f.body) c f.at refl in
+      let c : Coded = of_task (front t (suc f.place)) f.own f.body in
+      let n : ℕ = bodies_before t f.place in
+      let body : HasBody t h.directory n c h.walk = body_there_at t i h f.place (TaskBody f.own f.body) c f.at refl in
       let s : Subprogram = row_of kinds.TaskBody body.words (here body.new.code) in
-      let counted = (bodies_numbered premises t legal restricted f.place (TaskBody f.own f.body) c f.at refl).0 in
+      let none : n + 0 ≡ n = omega arith in
+      let counted = (bodies_numbered premises t legal restricted f.place (TaskBody f.own f.body) 0 c f.at refl refl).0 ∙ ap Some none in
       let told : HasDuty t x line.subprogram (OfBody f.body) = subst (HasDuty t x line.subprogram) f.duty has.duty in
-      let same : line.subprogram ≡ body.number =
-      same_some line.subprogram body.number (sym told ∙ ap (number_in t) (sym f.named) ∙ counted ∙ ap Some (sym body.counted)) in
-      record { s = s; there = ap (called i) same ∙ called_front t i h body.number s body.there; body = refl }
+      let same : line.subprogram ≡ n = same_some line.subprogram n (sym told ∙ ap (number_in t None) (sym f.named) ∙ counted) in
+      record { s = s; there = ap (called i) same ∙ called_front t i h n s body.there; body = refl }
 
   bodies_walked : length h.walk.subprograms.items ≡ bodies_among all
   bodies_walked = h.walked.many ∙ ap bodies_among (ap (λ n. take n all) h.whole ∙ take_all (length all) all (omega arith))

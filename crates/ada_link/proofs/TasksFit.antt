@@ -6,7 +6,7 @@ use Rattle.std.proofs.lemmas.Bool.{or_parts}
 use Rattle.base.specs.declared.limits.TheConstants.{SUBPROGRAMS, TASKS}
 use Rattle.ada_tree.specs.declared.expression.Identifier.{Identifier}
 use Rattle.ada_tree.specs.StatementTree.{TaskTree}
-use Rattle.ada_tree.specs.ProgramTree.{BodyItemTree, BodyTree, OfException, OfItem, OfObject, OfProtected, OfSubprogram, OfTask, OfType, PackageTree, ProgramTree, ProtectedBody, SubprogramBody, TaskBody}
+use Rattle.ada_tree.specs.ProgramTree.{BodyItemTree, BodyTree, OfException, OfItem, OfObject, OfProtected, OfSubprogram, OfTask, OfType, PackageTree, ProgramTree, ProtectedBody, ProtectedItemTree, SubprogramBody, TaskBody}
 use Rattle.image.specs.RuleLaws.{slice_get_inside}
 use Rattle.types.specs.Entities.{Task}
 use Rattle.types.specs.Scopes.{Scope}
@@ -19,20 +19,21 @@ use Rattle.program_soundness.specs.size_rules.specs.Limits.{places_of, words_fau
 use Rattle.program_soundness.specs.size_rules.specs.PackageSizes.{body_item_things, body_items_things, item_things, package_things}
 use Rattle.program_soundness.specs.size_rules.specs.ProgramSizes.{exception_faults, optional_size_faults, protected_object_faults, subprogram_faults, task_faults}
 use Rattle.meaning.specs.Programs.{OfBody, Program, body_among, items_among, program_of, task_with, tasks_among}
-use Rattle.program_soundness.specs.BodyLaws.{PremisesHold}
 use Rattle.program_soundness.specs.Fronts.{declared_in, scope_at, start_in}
 use Rattle.program_soundness.proofs.Listing.{same_some, taken_next}
 use Rattle.program_soundness.proofs.OneList.{is_task_body, matched_at}
-use Rattle.program_soundness.proofs.Trees.{tasks_are, tree_package}
+use Rattle.program_soundness.proofs.Trees.{tasks_are}
 use Rattle.program_soundness.proofs.Walked.{Constants, Origin, Tasks, Variables, body_item_kind, declares}
 use Rattle.program_soundness.proofs.WiderScopes.{equal_bytes, same_bytes, stands}
 use Rattle.program_soundness.proofs.Whole.{IsPackage, came, origin_kind}
-use Rattle.package_code.specs.Counts.{bodies_among}
+use Rattle.package_code.specs.Bodies.{bodies_among, object_number}
 use Rattle.package_code.proofs.Differing.{AreDiffering, differing_more, is_of, no_more_than}
 use Rattle.package_code.proofs.ItemsTold.{none_taken}
 use Rattle.package_code.proofs.TaskNames.{task_entity}
-use Rattle.ada_link.proofs.CountsFit.{body_names, declared_none, many_both, no_fewer_than, one_more_than, subprograms_within, within_kind}
+use Rattle.package_code.proofs.InFront.{LawsOfNames, whole}
+use Rattle.ada_link.proofs.CountsFit.{body_names, declared_none, many_both, no_fewer_than, one_more_than, within_kind}
 use Rattle.ada_link.proofs.LabelsFit.{within_limit}
+use Rattle.ada_link.proofs.OperationsFit.{body_texts, object_texts, subprograms_within}
 
 -- ---- declared tasks, by their names
 
@@ -127,20 +128,22 @@ task_names [] = []
 task_names (TaskBody name b ∷ rest) = name.name ∷ task_names rest
 task_names (x ∷ rest) = task_names rest
 
-names_many : (items : List BodyItemTree) → bodies_among items ≡ length (body_names items) + length (task_names items)
-names_many [] = refl
-names_many (SubprogramBody d b ∷ rest) =
-    one_more (bodies_among rest) (length (body_names rest)) (length (task_names rest)) (names_many rest)
+-- each body is that of a subprogram, a task or an operation
+names_many : (w : Scope) (items : List BodyItemTree)
+    → bodies_among items ≡ length (body_names items) + length (task_names items) + length (object_texts w items)
+names_many w [] = refl
+names_many w (SubprogramBody d b ∷ rest) = (let later = names_many w rest in omega (arith, later))
+names_many w (TaskBody name b ∷ rest) = (let later = names_many w rest in omega (arith, later))
+names_many w (OfItem d ∷ rest) = names_many w rest
+names_many w (ProtectedBody name items end_name ∷ rest) =
+    let later = names_many w rest in
+    let both = length-append (body_texts (object_number w name) items) (object_texts w rest) in
+    let own = texts_many (object_number w name) items in
+    omega (arith, later, both, own)
   where
-    one_more : (n a b : ℕ) → n ≡ a + b → suc n ≡ suc a + b
-    one_more n a b e = omega (arith, e)
-names_many (TaskBody name b ∷ rest) =
-    one_more (bodies_among rest) (length (body_names rest)) (length (task_names rest)) (names_many rest)
-  where
-    one_more : (n a b : ℕ) → n ≡ a + b → suc n ≡ a + suc b
-    one_more n a b e = omega (arith, e)
-names_many (OfItem d ∷ rest) = names_many rest
-names_many (ProtectedBody name items end_name ∷ rest) = names_many rest
+    texts_many : (o : ℕ) (is : List ProtectedItemTree) → length (body_texts o is) ≡ length is
+    texts_many o [] = refl
+    texts_many o (i ∷ is) = ap suc (texts_many o is)
 
 names_joined : (xs ys : List BodyItemTree) → task_names (xs ++ ys) ≡ task_names xs ++ task_names ys
 names_joined [] ys = refl
@@ -237,13 +240,15 @@ tasks_few t h =
     under : (n a b : ℕ) → n ≡ a + 1 → a ≤ b → b ≤ 16 → n ≤ TASKS
     under n a b e h i = omega (arith, e, h, i)
 
-pub subprograms_few : PremisesHold → (t : ProgramTree) → IsLegal t → IsRestricted t → optional_size_faults t.package_ ≡ []
+pub subprograms_few : LawsOfNames → (t : ProgramTree) → IsLegal t → IsRestricted t → optional_size_faults t.package_ ≡ []
     → suc (bodies_among (declared_in t.package_)) ≤ SUBPROGRAMS
-subprograms_few premises t legal restricted h =
+subprograms_few laws t legal restricted h =
     let all : List BodyItemTree = declared_in t.package_ in
-    let w = tree_package t legal restricted (premises t legal).sound in
-    under (bodies_among all) (length (body_names all)) (length (task_names all)) (length (declared_names all)) (names_many all)
-    (subprograms_within (program_of t) t.package_ w h) (bodies_few (program_of t) (start_in t.package_) all w) (declared_within t.package_ h)
+    let names : Scope = (program_of t).scope in
+    let w = whole laws t legal restricted in
+    under (bodies_among all) (length (body_names all)) (length (task_names all)) (length (object_texts names all)) (length (declared_names all))
+    (names_many names all) (subprograms_within laws t legal restricted h) (bodies_few (program_of t) (start_in t.package_) all w)
+    (declared_within t.package_ h)
   where
-    under : (n a b c : ℕ) → n ≡ a + b → a ≤ 128 → b ≤ c → c ≤ 16 → suc n ≤ SUBPROGRAMS
-    under n a b c e h i j = omega (arith, e, h, i, j)
+    under : (n a b o c : ℕ) → n ≡ a + b + o → a + o ≤ 128 → b ≤ c → c ≤ 16 → suc n ≤ SUBPROGRAMS
+    under n a b o c e h i j = omega (arith, e, h, i, j)

@@ -14,11 +14,12 @@ use crate::laws::{
 use base::limits::{EXCEPTIONS, LABELS, ROWS, SUBPROGRAMS, TASKS, WORDS};
 use base::names::{is_label, is_name};
 use expr_code::Refusal;
-use image::{Kind, Object, Parts, Task};
+use image::{Kind, Parts, Task};
 use lexer::Text;
 use package_code::{
-    Directory, Globals, Walk, globals_of, number_bodies, row, task_row, task_rows, walk_over,
+    Directory, Globals, Walk, globals_of, object_rows, row, task_row, task_rows, walk_over,
 };
+use program_soundness::body_laws::premises_hold;
 use ravenscar::Accepted;
 use std::alloc::Global;
 
@@ -43,6 +44,7 @@ fn put_together(alloc: Global, accepted: &Accepted) -> Result<Parts, Refusal>
     names_are_sound();
     main_is_known();
     main_may_be_added();
+    premises_hold();
     variables_are_placed();
     let program = accepted.program();
     let scope = accepted.scope();
@@ -54,8 +56,7 @@ fn put_together(alloc: Global, accepted: &Accepted) -> Result<Parts, Refusal>
         words,
         exceptions,
     } = globals_of(alloc, scope, &program.package_)?;
-    let numbers = number_bodies(alloc, scope, &program.package_)?;
-    let directory = Directory { slots, numbers };
+    let directory = Directory::new(alloc, slots, scope, &program.package_)?;
     let walk = walk_over(alloc, accepted, &directory, exceptions)?;
     let Walk {
         mut draft,
@@ -64,6 +65,7 @@ fn put_together(alloc: Global, accepted: &Accepted) -> Result<Parts, Refusal>
         ..
     } = walk;
     let main = draft.main(&visible, &program.main.statements)?;
+    let objects = object_rows(alloc, scope, &program.package_)?;
     let mut tasks = task_rows(alloc, accepted, &directory)?;
     tasks.push(main_task(accepted, subprograms.len())?)?;
     subprograms.push(row(Kind::TaskBody, main, &draft)?)?;
@@ -71,7 +73,7 @@ fn put_together(alloc: Global, accepted: &Accepted) -> Result<Parts, Refusal>
         exceptions: draft.exceptions,
         labels: draft.labels.texts(alloc)?,
         plain_words: words,
-        objects: Vec::<Object>::new(alloc),
+        objects,
         subprograms,
         tasks,
         rows: draft.rows,

@@ -43,8 +43,8 @@ use Rattle.stmt_code.specs.Emitting.{IsLegalRun}
 use Rattle.package_code.proofs.NewParameters.{body_unbroken, formals_text, parameters_new}
 use Rattle.package_code.proofs.Reordered.{longer}
 use Rattle.package_code.specs.Laws.{BodiesMayBeAdded, MayBeAdded, NamesAreSound}
-use Rattle.package_code.specs.Walking.{of_task}
-use Rattle.package_code.proofs.Coded.{coded_by}
+use Rattle.package_code.specs.Bodies.{of_task}
+use Rattle.package_code.proofs.Coded.{outside_by}
 
 pub names_sound : PremisesHold → NamesAreSound
 names_sound premises t legal = (premises t legal).sound
@@ -244,7 +244,7 @@ module _ (scopes : ScopesAreSound) (known : NamesAreKnown) (premises : PremisesH
   pub task_legal : body_faults (front t (suc k)) kind.Task b ≡ []
   task_legal = subst (λ s. body_faults s kind.Task b ≡ []) (sym same_scope) (both_empty _ _ parts.0 (both_empty _ _ parts.1 parts.2))
 
-  pub task_added : MayBeAdded t (front t (suc k)) (of_task name b).head b
+  pub task_added : MayBeAdded t (front t (suc k)) (of_task (front t (suc k)) name b).head b
   task_added = record {
     front = (known t legal restricted).fronts (suc k);
     sound = (known t legal restricted).fronts (suc k);
@@ -259,7 +259,7 @@ module _ (scopes : ScopesAreSound) (known : NamesAreKnown) (premises : PremisesH
   }
 
 pub bodies_added : ScopesAreSound → NamesAreKnown → PremisesHold → BodiesMayBeAdded
-bodies_added scopes known premises t legal restricted place x c at is =
-    coded_by (λ y e. slice_get (declared_in t.package_) place ≡ Some y → MayBeAdded t (front t (suc place)) e.head e.body)
+bodies_added scopes known premises t legal restricted place x k c at is outside =
+    outside_by t place (λ y n e. slice_get (declared_in t.package_) place ≡ Some y → MayBeAdded t e.front e.head e.body)
     (λ d b there. body_added scopes known premises t legal restricted place d b there)
-    (λ name b there. task_added scopes known premises t legal restricted place name b there) x c is at
+    (λ name b there. task_added scopes known premises t legal restricted place name b there) x k c is outside at

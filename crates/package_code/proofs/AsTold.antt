@@ -24,15 +24,16 @@ use Rattle.step_simulation.specs.part_code.specs.Emitting.{HasEntries}
 use Rattle.step_simulation.specs.part_code.specs.Needs.{HasManyLabels, IsNeeding, Needs, beyond_if}
 use Rattle.stmt_code.specs.declared.draft.Draft.{Draft}
 use Rattle.step_simulation.specs.part_code.proofs.Within.{Within, needing_refused, of_right}
-use Rattle.package_code.specs.Counts.{bounds_from}
+use Rattle.package_code.specs.Bodies.{Coded, coded_at, number_in, of_subprogram}
+use Rattle.package_code.specs.Counts.{bound_of, bounds_from}
 use Rattle.package_code.specs.Directory.{IsDirectory, HasEntriesSoFar, TellsNext}
-use Rattle.package_code.specs.Refusing.{RefusesCode, item_needs, items_labels, items_needs, items_rows, number_in, program_bound, program_labels, program_needs, seen_at, slot_in, subprogram_labels, subprogram_needs, subprogram_rows, told_behind}
-use Rattle.package_code.specs.Walking.{AddsAsTold, AddsBody, BeginsWalk, Coded, IsAsTold, RefusesBody, coded}
+use Rattle.package_code.specs.Refusing.{RefusesCode, body_needs, item_needs, items_labels, items_needs, items_rows, program_bound, program_labels, program_needs, seen_at, seen_by, seen_with, subprogram_labels, subprogram_needs, subprogram_rows}
+use Rattle.package_code.specs.Walking.{AddsAsTold, AddsBody, BeginsWalk, IsAsTold, IsWalked, RefusesBody}
 use Rattle.package_code.specs.declared.directory.Directory.{Directory}
 use Rattle.package_code.specs.declared.walk.Walk.{Walk}
-use Rattle.package_code.proofs.Coded.{labelled_by, needs_by, rows_by}
+use Rattle.package_code.proofs.Coded.{bodies_labels, bodies_rows, labelled_by, needs_by, rows_by}
 use Rattle.package_code.proofs.Counted.{adds_few}
-use Rattle.package_code.proofs.ItemsTold.{bound_next, bound_within, bounds_next, labels_next, labels_within, needs_within, none_taken, rows_next}
+use Rattle.package_code.proofs.ItemsTold.{first_labels, bound_next, bound_within, bounds_next, labels_next, labels_within, needs_within, none_taken, rows_next}
 use Rattle.package_code.proofs.Seen.{known_name, seen_first, seen_next}
 use Rattle.package_code.proofs.Told.{Grows, item_grows, subprogram_grows}
 
@@ -69,9 +70,6 @@ module _ (t : ProgramTree) where
     labels = begins.labels ∙ ap (items_labels []) (sym (ap (λ n. take n all) begins.place ∙ none_taken all));
     rows = ap length begins.rows ∙ ap (items_rows 0) (sym (ap (λ n. take n all) begins.place ∙ none_taken all));
   }
-
-  abbrev seen_with : Scope → Visible
-  seen_with s = record { scope = s; slots = told_behind (length start) (slot_in t) s; subprograms = told_behind (length start) (number_in t) s }
 
   last_bound : (a b : ℕ) → a ≤ a + b
   last_bound a b = omega arith
@@ -126,17 +124,17 @@ module _ (t : ProgramTree) where
         (subprogram_grows (front t old.place) d))
         (subst (λ s. TellsNext s directory (record old.visible { scope = scope }) d.name.name later) whole_is tells)
 
-    pub number_there : (many : ℕ) → number_in t d.name.name ≡ Some many → told_of whole directory.numbers.items d.name.name ≡ Some many
+    pub number_there : (many : ℕ) → number_in t None d.name.name ≡ Some many → told_of whole directory.numbers.items d.name.name ≡ Some many
     number_there many numbered = is.numbers d.name.name known.0 known.1 ∙ numbered
 
   -- ---- where the body of a task is added, which makes no name visible
 
   pub task_seen : (old : Walk) (name : Identifier) (b : BodyTree) → IsAsTold t old → slice_get all old.place ≡ Some (TaskBody name b)
       → old.visible ≡ seen_at t (suc old.place)
-  task_seen old name b told at = told.seen ∙ ap seen_with (sym (scope_next start all old.place (TaskBody name b) at))
+  task_seen old name b told at = told.seen ∙ ap (seen_with t None) (sym (scope_next start all old.place (TaskBody name b) at))
 
   pub task_number : (directory : Directory) → IsDirectory t directory → (name : List ℕ) → is_some (number_of whole name) ≡ true → (many : ℕ)
-      → number_in t name ≡ Some many → told_of whole directory.numbers.items name ≡ Some many
+      → number_in t None name ≡ Some many → told_of whole directory.numbers.items name ≡ Some many
   task_number directory is name visible many numbered = by_number (number_of whole name) refl visible
     where
       by_number : (o : Option ℕ) → number_of whole name ≡ o → is_some o ≡ true → told_of whole directory.numbers.items name ≡ Some many
@@ -145,25 +143,29 @@ module _ (t : ProgramTree) where
 
   -- ---- behind a body
 
+  -- ... which is the only one of its item
   pub body_told : (directory : Directory) (old : Walk) (item : BodyItemTree) (c : Coded) → IsAsTold t old → slice_get all old.place ≡ Some item
-      → coded item ≡ Some c
-      → (mid after new : Walk) → mid.visible ≡ seen_at t (suc old.place) → mid.draft ≡ old.draft → AddsBody t directory c mid after
-      → AddsAsTold mid.draft c.head c.body after.draft
+      → coded_at t old.place item ≡ c ∷ []
+      → (mid after new : Walk) → mid.visible ≡ seen_at t (suc old.place) → mid.visible.scope ≡ c.front → mid.draft ≡ old.draft
+      → AddsBody t directory c mid after → AddsAsTold mid.draft c.head c.body after.draft
       → new.place ≡ old.place + 1 → new.draft ≡ after.draft → new.visible ≡ after.visible → IsAsTold t new
-  body_told directory old item c told at is mid after new visible draft adds told_there place new_draft new_visible = record {
+  body_told directory old item c told at alone mid after new visible scope draft adds told_there place new_draft new_visible = record {
     seen = new_visible ∙ adds.visible ∙ visible ∙ ap (seen_at t) (sym next);
     few = under (here old.draft.code) (here mid.draft.code) (here after.draft.code) (here new.draft.code)
-        (procedure_bound mid.visible.scope c.head.formals c.body) (procedure_bound (front t (suc old.place)) c.head.formals c.body)
+        (procedure_bound mid.visible.scope c.head.formals c.body) (bound_of c)
         (total (bounds_from t 0 (take old.place all))) (total (bounds_from t 0 (take (suc old.place) all))) (total (bounds_from t 0 (take new.place all)))
         told.few (ap (λ z. here z.code) draft) (adds_few t c.head c.body mid.visible mid.draft adds.words after.draft adds.adds)
-        (ap (λ v. procedure_bound v.scope c.head.formals c.body) visible)
-        (ap (λ z. here z.code) new_draft) (bound_next t all old.place item c at is) (ap (λ n. total (bounds_from t 0 (take n all))) next);
+        (ap (λ s. procedure_bound s c.head.formals c.body) scope)
+        (ap (λ z. here z.code) new_draft) (bound_next t all old.place item 0 c at (ap (λ l. slice_get l 0) alone))
+        (ap (λ n. total (bounds_from t 0 (take n all))) next);
     labels = ap (λ z. z.labels) new_draft ∙ told_there.labels ∙ ap (λ z. subprogram_labels z.labels c.head c.body) draft
-        ∙ ap (λ l. subprogram_labels l c.head c.body) told.labels ∙ sym (labelled_by (items_labels [] (take old.place all)) item c is)
+        ∙ ap (λ l. subprogram_labels l c.head c.body) told.labels
+        ∙ sym (labelled_by (items_labels [] (take old.place all)) t old.place item ∙ ap (bodies_labels (items_labels [] (take old.place all))) alone)
         ∙ sym (labels_next [] all old.place item at)
         ∙ ap (λ n. items_labels [] (take n all)) (sym next);
     rows = ap (λ z. length z.rows.items) new_draft ∙ told_there.rows ∙ ap (λ z. subprogram_rows (length z.rows.items) c.head c.body) draft
-        ∙ ap (λ n. subprogram_rows n c.head c.body) told.rows ∙ sym (rows_by (items_rows 0 (take old.place all)) item c is)
+        ∙ ap (λ n. subprogram_rows n c.head c.body) told.rows
+        ∙ sym (rows_by (items_rows 0 (take old.place all)) t old.place item ∙ ap (bodies_rows (items_rows 0 (take old.place all))) alone)
         ∙ sym (rows_next 0 all old.place item at)
         ∙ ap (λ n. items_rows 0 (take n all)) (sym next);
   }
@@ -173,6 +175,24 @@ module _ (t : ProgramTree) where
 
       under : (a m c n p q s x y : ℕ) → a ≤ s → m ≡ a → c ≤ m + p → p ≡ q → n ≡ c → s + q ≤ x → y ≡ x → n ≤ y
       under a m c n p q s x y h e k f g up last = omega (arith, h, e, k, f, g, up, last)
+
+  -- that of a subprogram, where its name and those in front are visible
+  pub subprogram_told : (directory : Directory) (old : Walk) (d : SubprogramTree) (b : BodyTree) → IsAsTold t old
+      → slice_get all old.place ≡ Some (SubprogramBody d b)
+      → (mid after new : Walk) → mid.visible ≡ seen_at t (suc old.place) → mid.draft ≡ old.draft
+      → AddsBody t directory (of_subprogram mid.visible.scope d b) mid after → AddsAsTold mid.draft d b after.draft
+      → new.place ≡ old.place + 1 → new.draft ≡ after.draft → new.visible ≡ after.visible → IsAsTold t new
+  subprogram_told directory old d b told at mid after new visible draft adds told_there place new_draft new_visible =
+      let scope = ap (λ v. v.scope) visible in
+      body_told directory old (SubprogramBody d b) (of_subprogram (front t (suc old.place)) d b) told at refl mid after new visible scope draft
+      (subst (λ s. AddsBody t directory (of_subprogram s d b) mid after) scope adds) told_there place new_draft new_visible
+
+  -- ... where a loop goes on
+  pub goes_on : (directory : Directory) (here new : Walk) (p a n : ℕ) → here ≡ new → IsWalked t directory new → IsAsTold t new → new.place ≡ p + 1 → p ≡ a + n
+      → IsWalked t directory here × (IsAsTold t here × (here.place ≡ a + (n + 1)))
+  goes_on directory here new p a n same walked told place before =
+      let at = ap (λ w. w.place) same in
+      (subst (IsWalked t directory) (sym same) walked, (subst (IsAsTold t) (sym same) told, omega (arith, at, place, before)))
 
   -- ---- refusals
 
@@ -198,34 +218,41 @@ module _ (t : ProgramTree) where
   many_more a b refusal.Memory up h = absurd h
   many_more a b refusal.Outside up h = absurd h
 
-  pub body_refused : (old : Walk) (item : BodyItemTree) (c : Coded) (v : Visible) (draft : Draft) (why : Refusal) → IsAsTold t old
+  -- the code of a body isn't made
+  pub body_refused : (old : Walk) (item : BodyItemTree) (k : ℕ) (c : Coded) (v : Visible) (draft : Draft) (why : Refusal) → IsAsTold t old
       → old.draft.exceptions.items ≡ (program_of t).exceptions
-      → slice_get all old.place ≡ Some item → coded item ≡ Some c → v ≡ seen_at t (suc old.place) → draft ≡ old.draft
+      → slice_get all old.place ≡ Some item → slice_get (coded_at t old.place item) k ≡ Some c → k ≡ 0 → c.owner ≡ None
+      → v ≡ seen_by t c → draft ≡ old.draft
       → RefusesBody t v draft c.head c.body why → RefusesCode t why
-  body_refused old item c v draft why told exceptions at is seen same r =
-      by_reason (subst (λ z. RefusesBody t (seen_at t (suc old.place)) z c.head c.body why) same (subst (λ u. RefusesBody t u draft c.head c.body why) seen r))
+  body_refused old item k c v draft why told exceptions at is first outside seen same r =
+      by_reason (subst (λ z. RefusesBody t (seen_by t c) z c.head c.body why) same (subst (λ u. RefusesBody t u draft c.head c.body why) seen r))
     where
-      bounded : here old.draft.code + procedure_bound (front t (suc old.place)) c.head.formals c.body ≤ program_bound t
+      bounded : here old.draft.code + bound_of c ≤ program_bound t
       bounded =
-          up (here old.draft.code) (procedure_bound (front t (suc old.place)) c.head.formals c.body) (total (bounds_from t 0 (take old.place all)))
-          (total (bounds_from t 0 all)) (main_bound t.main.statements) told.few
-          (let none : 0 + old.place ≡ old.place = omega arith in
-          subst (λ n. total (bounds_from t 0 (take old.place all)) + procedure_bound (front t (suc n)) c.head.formals c.body ≤ total (bounds_from t 0 all)) none
-          (bound_within t all 0 old.place item c at is))
+          up (here old.draft.code) (bound_of c) (total (bounds_from t 0 (take old.place all))) (total (bounds_from t 0 all)) (main_bound t.main.statements)
+          told.few
+          (bound_within t all 0 old.place item k c at
+          (let none : old.place ≡ 0 + old.place = omega arith in subst (λ n. slice_get (coded_at t n item) k ≡ Some c) none is))
         where
           up : (a p s x m : ℕ) → a ≤ s → s + p ≤ x → a + p ≤ x + m
           up a p s x m h k = omega (arith, h, k)
 
-      by_reason : RefusesBody t (seen_at t (suc old.place)) old.draft c.head c.body why → RefusesCode t why
+      -- its labels are among the first of those of its item
+      labels_less : length (subprogram_labels (items_labels [] (take old.place all)) c.head c.body) ≤ length (program_labels t)
+      labels_less =
+          let own =
+          first_labels (items_labels [] (take old.place all)) (coded_at t old.place item) c
+          (ap (slice_get (coded_at t old.place item)) (sym first) ∙ is) in
+          let item_is = ap length (labelled_by (items_labels [] (take old.place all)) t old.place item) in
+          let within = labels_within [] all old.place item at in
+          omega (arith, own, item_is, within)
+
+      by_reason : RefusesBody t (seen_by t c) old.draft c.head c.body why → RefusesCode t why
       by_reason (inl n) =
-          needs_refused (here old.draft.code + procedure_bound (front t (suc old.place)) c.head.formals c.body)
-          (here old.draft.code + procedure_bound (front t (suc old.place)) c.head.formals c.body)
-          (subprogram_needs t (seen_at t (suc old.place)) (program_of t).exceptions c.head c.body) why (omega arith)
-          (subst (λ n. Within n (items_needs t 0 all)) (needs_by t old.place item c is) (item_within old.place item at)) bounded
-          (subst (λ l. IsNeeding (here old.draft.code + procedure_bound (front t (suc old.place)) c.head.formals c.body)
-          (subprogram_needs t (seen_at t (suc old.place)) l c.head c.body) why) exceptions n)
+          needs_refused (here old.draft.code + bound_of c) (here old.draft.code + bound_of c) (body_needs t c) why (omega arith)
+          (subst (λ n. Within n (items_needs t 0 all)) (needs_by t old.place item k c is outside) (item_within old.place item at))
+          bounded
+          (subst (λ l. IsNeeding (here old.draft.code + bound_of c) (subprogram_needs t (seen_by t c) l c.head c.body) why) exceptions n)
       by_reason (inr h) =
           inr (many_more (subprogram_labels old.draft.labels c.head c.body) (program_labels t) why
-          (subst (λ l. length (subprogram_labels l c.head c.body) ≤ length (program_labels t)) (sym told.labels)
-          (subst (λ l. length l ≤ length (program_labels t)) (labelled_by (items_labels [] (take old.place all)) item c is)
-          (labels_within [] all old.place item at))) h)
+          (subst (λ l. length (subprogram_labels l c.head c.body) ≤ length (program_labels t)) (sym told.labels) labels_less) h)

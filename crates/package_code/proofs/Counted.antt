@@ -1,21 +1,22 @@
 -- Which body is that of a subprogram of the image, by its number, and how many instructions the code of each has.
 use Rattle.std.proofs.Common.{◌≡◌, ◌⊎◌, inl, inr, ℕ, zero, suc, ◌+◌, ◌-◌, ◌<◌, ◌≤◌, List, [], ◌∷◌, ◌++◌, length, Option, Some, None, refl, sym, ap, ◌∙◌, subst, arith, length-append, take_all}
-use Rattle.std.specs.Prelude.{slice_get, take}
-use Rattle.std.proofs.lemmas.Option.{slice_get_within}
+use Rattle.std.specs.Prelude.{slice_get}
+use Rattle.std.proofs.lemmas.List.{length-map}
 use Rattle.ada_tree.specs.declared.declaration.Formal.{Formal}
 use Rattle.ada_tree.specs.declared.expression.Identifier.{Identifier}
 use Rattle.ada_tree.specs.ExpressionTree.{ExprTree}
 use Rattle.ada_tree.specs.StatementTree as tree
 use Rattle.ada_tree.specs.StatementTree.{MoreStmts, NoStmts, StmtTree, StmtTrees, SubprogramTree}
-use Rattle.ada_tree.specs.ProgramTree.{BodyItemTree, BodyTree, ProgramTree, SubprogramBody, TaskBody}
+use Rattle.ada_tree.specs.ProgramTree.{BodyItemTree, BodyTree, ProgramTree}
 use Rattle.ada_tree.specs.Size.{expr_size, size_if_any, stmts_size}
 use Rattle.types.specs.Scopes.{Scope}
 use Rattle.image.specs.Operations.{called}
 use Rattle.image.specs.Sections.{Sections, end_of, first_place}
 use Rattle.image.specs.declared.subprograms.Subprogram.{Subprogram}
 use Rattle.expr_soundness.specs.meaning.specs.Programs.{returned}
-use Rattle.program_soundness.specs.Fronts.{declared_in, front}
-use Rattle.program_soundness.proofs.Listing.{front_at, same_some}
+use Rattle.program_soundness.specs.Fronts.{declared_in}
+use Rattle.program_soundness.proofs.Callables.{at_map}
+use Rattle.program_soundness.proofs.Listing.{front_at}
 use Rattle.expr_code.specs.Code.{here}
 use Rattle.expr_code.specs.Coming.{size_of}
 use Rattle.expr_code.specs.declared.visible.Visible.{Visible}
@@ -24,85 +25,43 @@ use Rattle.step_simulation.specs.part_code.specs.Bounds.{function_bound, main_bo
 use Rattle.stmt_code.specs.Subprograms.{AddsProcedure}
 use Rattle.stmt_code.specs.declared.draft.Draft.{Draft}
 use Rattle.stmt_code.specs.declared.subprogram.SubprogramWords.{SubprogramWords}
-use Rattle.package_code.specs.Counts.{bodies_among, bodies_before, bounds_from, instructions_bound, or_zero}
+use Rattle.package_code.specs.Bodies.{Coded, bodies_among, bodies_before, bodies_of, or_zero}
+use Rattle.package_code.specs.Counts.{bound_of, bounds_from, instructions_bound}
 use Rattle.package_code.specs.Laws.{SectionsAreBounded}
 use Rattle.package_code.specs.Program.{HasProgram}
-use Rattle.package_code.specs.Walking.{AddsSubprogram, AddsValueFunction, Coded, HasBody, begins_at, coded, of_subprogram, of_task, row_of}
+use Rattle.package_code.specs.Walking.{AddsSubprogram, AddsValueFunction, HasBody, row_of}
 use Rattle.package_code.specs.declared.directory.Directory.{Directory}
 use Rattle.package_code.specs.declared.walk.Walk.{Walk}
-use Rattle.package_code.proofs.Coded.{bounded_by}
+use Rattle.package_code.proofs.Coded.{bounds_are, from_many}
 use Rattle.package_code.proofs.Linking.{called_front, called_main, first_is, first_main, main_row}
 
 -- ---- bodies by their numbers
 
--- the body with this number among items, and its place
-record IsNumbered (items : List BodyItemTree) (number : ℕ) : Type 0 where
-  place : ℕ
-  item : BodyItemTree
-  code : Coded
-  at : slice_get items place ≡ Some item
-  is : coded item ≡ Some code
-  before : bodies_among (take place items) ≡ number
-
-body_numbered : (items : List BodyItemTree) (number : ℕ) → number < bodies_among items → IsNumbered items number
-body_numbered [] number less = absurd (omega (arith, less))
-body_numbered (SubprogramBody d b ∷ items) zero less =
-    record { place = 0; item = SubprogramBody d b; code = of_subprogram d b; at = refl; is = refl; before = refl }
-body_numbered (SubprogramBody d b ∷ items) (suc number) less =
-    let h = body_numbered items number (omega (arith, less)) in
-    record { place = suc h.place; item = h.item; code = h.code; at = h.at; is = h.is; before = ap suc h.before }
-body_numbered (TaskBody name b ∷ items) zero less =
-    record { place = 0; item = TaskBody name b; code = of_task name b; at = refl; is = refl; before = refl }
-body_numbered (TaskBody name b ∷ items) (suc number) less =
-    let h = body_numbered items number (omega (arith, less)) in
-    record { place = suc h.place; item = h.item; code = h.code; at = h.at; is = h.is; before = ap suc h.before }
-body_numbered (x ∷ items) number less =
-    let h = body_numbered items number less in
-    record { place = suc h.place; item = h.item; code = h.code; at = h.at; is = h.is; before = h.before }
+-- there is a body of each number
+there_is : {X : Type 0} (xs : List X) (n : ℕ) → n < length xs → (x : X) × (slice_get xs n ≡ Some x)
+there_is [] n less = absurd (omega (arith, less))
+there_is (x ∷ xs) zero less = (x, refl)
+there_is (x ∷ xs) (suc n) less = there_is xs n (omega (arith, less))
 
 module _ (t : ProgramTree) where
-  same_place : (place n : ℕ) (fs : List Formal) (b : BodyTree)
-      → procedure_bound (front t (suc (suc place + n))) fs b ≡ procedure_bound (front t (suc (place + suc n))) fs b
-  same_place place n fs b = (let e : suc place + n ≡ place + suc n = omega arith in ap (λ k. procedure_bound (front t (suc k)) fs b) e)
-
-  -- the bound of a body stands at its number
-  bound_there : (items : List BodyItemTree) (place n : ℕ) (x : BodyItemTree) (c : Coded) → slice_get items n ≡ Some x → coded x ≡ Some c
-      → slice_get (bounds_from t place items) (bodies_among (take n items)) ≡ Some (procedure_bound (front t (suc (place + n))) c.head.formals c.body)
-  bound_there [] place n x c h is = cc
-  bound_there (y ∷ items) place zero x c h is =
-      subst (λ z. slice_get (bounds_from t place (z ∷ items)) 0 ≡ Some (procedure_bound (front t (suc (place + 0))) c.head.formals c.body))
-      (sym (same_some y x h))
-      (subst (λ l. slice_get (l ++ bounds_from t (suc place) items) 0 ≡ Some (procedure_bound (front t (suc (place + 0))) c.head.formals c.body))
-      (sym (bounded_by t place x c is))
-      (let e : place ≡ place + 0 = omega arith in ap (λ k. Some (procedure_bound (front t (suc k)) c.head.formals c.body)) e))
-  bound_there (SubprogramBody d b ∷ items) place (suc n) x c h is =
-      bound_there items (suc place) n x c h is ∙ ap Some (same_place place n c.head.formals c.body)
-  bound_there (TaskBody name b ∷ items) place (suc n) x c h is =
-      bound_there items (suc place) n x c h is ∙ ap Some (same_place place n c.head.formals c.body)
-  bound_there (y ∷ items) place (suc n) x c h is = bound_there items (suc place) n x c h is ∙ ap Some (same_place place n c.head.formals c.body)
-
-  bounds_many : (items : List BodyItemTree) (place : ℕ) → length (bounds_from t place items) ≡ bodies_among items
-  bounds_many [] place = refl
-  bounds_many (SubprogramBody d b ∷ items) place = ap suc (bounds_many items (suc place))
-  bounds_many (TaskBody name b ∷ items) place = ap suc (bounds_many items (suc place))
-  bounds_many (x ∷ items) place = bounds_many items (suc place)
-
   abbrev items : List BodyItemTree
   items = declared_in t.package_
 
   abbrev bounds : List ℕ
   bounds = bounds_from t 0 items
 
-  bound_of_body : (place : ℕ) (x : BodyItemTree) (c : Coded) → slice_get items place ≡ Some x → coded x ≡ Some c
-      → instructions_bound t (bodies_before t place) ≡ procedure_bound (front t (suc place)) c.head.formals c.body
-  bound_of_body place x c at is =
-      ap or_zero (front_at bounds (main_bound t.main.statements ∷ []) (bodies_before t place) (procedure_bound (front t (suc place)) c.head.formals c.body)
-      (bound_there items 0 place x c at is
-      ∙ (let e : 0 + place ≡ place = omega arith in ap (λ k. Some (procedure_bound (front t (suc k)) c.head.formals c.body)) e)))
+  bounds_many : length bounds ≡ bodies_among items
+  bounds_many = ap length (bounds_are t 0 items) ∙ length-map (bodies_of t) bound_of ∙ from_many t 0 items
+
+  -- the bound of a body stands at its number
+  bound_of_body : (number : ℕ) (c : Coded) → slice_get (bodies_of t) number ≡ Some c → instructions_bound t number ≡ bound_of c
+  bound_of_body number c there =
+      ap or_zero (front_at bounds (main_bound t.main.statements ∷ []) number (bound_of c)
+      (ap (λ l. slice_get l number) (bounds_are t 0 items) ∙ at_map bound_of (bodies_of t) number c there))
 
   bound_of_main : instructions_bound t (bodies_among items) ≡ main_bound t.main.statements
   bound_of_main =
-      ap (λ n. or_zero (slice_get (bounds ++ main_bound t.main.statements ∷ []) n)) (sym (bounds_many items 0))
+      ap (λ n. or_zero (slice_get (bounds ++ main_bound t.main.statements ∷ []) n)) (sym bounds_many)
       ∙ ap or_zero (get_last bounds (main_bound t.main.statements))
 
 -- ---- the code of a body
@@ -134,13 +93,9 @@ adds_few t d b v old words new adds = by_result d.result adds
 
 -- the subprogram with this number is that of a body
 pub record IsOfBody (t : ProgramTree) (directory : Directory) (number : ℕ) (w : Walk) : Type 0 where
-  pub place : ℕ
-  pub item : BodyItemTree
   pub code : Coded
-  pub at : slice_get (declared_in t.package_) place ≡ Some item
-  pub is : coded item ≡ Some code
-  pub body : HasBody t directory place code w
-  pub same : body.number ≡ number
+  pub is : slice_get (bodies_of t) number ≡ Some code
+  pub body : HasBody t directory number code w
 
 module _ (t : ProgramTree) (i : Sections) (h : HasProgram t i) where
   abbrev all : List BodyItemTree
@@ -158,29 +113,23 @@ module _ (t : ProgramTree) (i : Sections) (h : HasProgram t i) where
 
   pub owner_of : (number : ℕ) → number < length rows → IsOfBody t h.directory number h.walk
   owner_of number less =
-      let n : IsNumbered all number = body_numbered all number (omega (arith, less, many)) in
-      let within = slice_get_within all n.place n.item n.at in
-      let place : n.place < h.walk.place = (let w = h.whole in omega (arith, w, within)) in
-      let body : HasBody t h.directory n.place n.code h.walk = h.walked.bodies n.place n.item n.code place n.at n.is in
-      record { place = n.place; item = n.item; code = n.code; at = n.at; is = n.is; body = body; same = body.counted ∙ n.before }
+      let counted = from_many t 0 all in
+      let x = there_is (bodies_of t) number (omega (arith, less, many, counted)) in
+      record { code = x.0; is = x.1; body = h.walked.bodies number x.0 less x.1 }
 
   size_body : (number : ℕ) → number < length rows → size_of i number ≤ instructions_bound t number
   size_body number less =
       let x = owner_of number less in
       let c : Coded = x.code in
-      let body : HasBody t h.directory x.place c h.walk = x.body in
-      let same : body.number ≡ number = x.same in
+      let body : HasBody t h.directory number c h.walk = x.body in
       let row : Subprogram = row_of c.kind body.words (here body.new.code) in
-      let there : called i number ≡ Some row = called_front t i h number row (ap (slice_get rows) (sym same) ∙ body.there) in
-      let begins : first_place i number ≡ here body.old.code = first_is t i h number (omega (arith, less)) ∙ ap (begins_at rows) (sym same) ∙ body.begins in
+      let there : called i number ≡ Some row = called_front t i h number row body.there in
+      let begins : first_place i number ≡ here body.old.code = first_is t i h number (omega (arith, less)) ∙ body.begins in
       let size = size_is number (here body.old.code) (here body.new.code) row there refl begins in
       let few = adds_few t c.head c.body body.seen body.old body.words body.new body.adds in
-      let scope : procedure_bound body.seen.scope c.head.formals c.body ≡ procedure_bound (front t (suc x.place)) c.head.formals c.body =
-      ap (λ s. procedure_bound s c.head.formals c.body) body.scope in
-      let bound : instructions_bound t number ≡ procedure_bound (front t (suc x.place)) c.head.formals c.body =
-      ap (instructions_bound t) (sym same ∙ body.counted) ∙ bound_of_body t x.place x.item c x.at x.is in
+      let scope : procedure_bound body.seen.scope c.head.formals c.body ≡ bound_of c = ap (λ s. procedure_bound s c.head.formals c.body) body.scope in
       under (size_of i number) (here body.new.code) (here body.old.code) (procedure_bound body.seen.scope c.head.formals c.body)
-      (instructions_bound t number) size few (scope ∙ sym bound)
+      (instructions_bound t number) size few (scope ∙ sym (bound_of_body t number c x.is))
     where
       under : (size last first mid bound : ℕ) → size ≡ last - first → last ≤ first + mid → mid ≡ bound → size ≤ bound
       under size last first mid bound is few same = omega (arith, is, few, same)

@@ -1,73 +1,62 @@
 -- What bounds, needs, labels and rows of handlers of all items of a package have to do with those of one of them.
-use Rattle.std.proofs.Common.{◌≡◌, ℕ, zero, suc, ◌+◌, ◌≤◌, List, [], ◌∷◌, ◌++◌, length, take, Bool, true, false, Option, Some, None, refl, sym, ap, ◌∙◌, subst, arith, length-append}
+use Rattle.std.proofs.Common.{◌≡◌, ℕ, zero, suc, ◌+◌, ◌≤◌, List, [], ◌∷◌, ◌++◌, length, map, take, Bool, true, false, Option, Some, None, refl, sym, ap, ◌∙◌, subst, arith, length-append}
 use Rattle.std.specs.Prelude.{slice_get}
 use Rattle.std.proofs.lemmas.List.{take-take}
 use Rattle.ada_tree.specs.declared.expression.Identifier.{Identifier}
 use Rattle.ada_tree.specs.StatementTree.{AlternativeTrees, Block, Call, Case, ElsifTrees, HandlerTrees, If, Loop, MoreAlternatives, MoreElsifs, MoreHandlers, MoreStmts, NoAlternatives, NoElsifs, NoHandlers, NoStmts, StmtTree, StmtTrees, SubprogramTree}
-use Rattle.ada_tree.specs.ProgramTree.{BodyItemTree, BodyTree, ProgramTree, SubprogramBody, TaskBody}
+use Rattle.ada_tree.specs.ProgramTree.{BodyItemTree, BodyTree, EntryBody, OfItem, OperationBody, ProgramTree, ProtectedBody, ProtectedItemTree, SubprogramBody, TaskBody}
 use Rattle.types.specs.Layouts.{total}
-use Rattle.program_soundness.specs.Fronts.{front}
 use Rattle.program_soundness.proofs.Listing.{same_some, taken_at, taken_next}
-use Rattle.step_simulation.specs.part_code.specs.Bounds.{procedure_bound}
 use Rattle.step_simulation.specs.part_code.specs.Labels.{alternatives_labels, elsifs_labels, handlers_labels, is_label, stmt_labels, stmts_labels, with_label, with_line}
 use Rattle.step_simulation.specs.part_code.specs.Lines.{LabelledValue, line_of}
 use Rattle.stmt_code.specs.WholeRefusals.{body_labels}
 use Rattle.step_simulation.specs.part_code.proofs.Within.{Within, in_left, of_right}
-use Rattle.package_code.specs.Counts.{bounds_from}
-use Rattle.package_code.specs.Refusing.{item_labels, item_needs, item_rows, items_labels, items_needs, items_rows}
-use Rattle.package_code.specs.Walking.{Coded, coded, of_task}
-use Rattle.package_code.proofs.Coded.{bounded_by}
+use Rattle.package_code.specs.Bodies.{Coded, coded_at}
+use Rattle.package_code.specs.Counts.{bound_of, bounds_at, bounds_from}
+use Rattle.package_code.proofs.Coded.{bodies_labels}
+use Rattle.package_code.specs.Refusing.{item_labels, item_needs, item_rows, items_labels, items_needs, items_rows, operation_labels, operations_labels, subprogram_labels}
 
 -- ---- bounds
 
-first_of : (a b rest : ℕ) → a ≡ b → 0 + a ≤ b + rest
-first_of a b rest e = omega (arith, e)
+total_both : (ws vs : List ℕ) → total (ws ++ vs) ≡ total ws + total vs
+total_both [] vs = omega arith
+total_both (w ∷ ws) vs = (let e = total_both ws vs in omega (arith, e))
 
-later_of : (p m a b rest : ℕ) → a ≡ b → m + a ≤ rest → (p + m) + b ≤ p + rest
-later_of p m a b rest e h = omega (arith, e, h)
-
-other_of : (m a b rest : ℕ) → a ≡ b → m + a ≤ rest → m + b ≤ rest
-other_of m a b rest e h = omega (arith, e, h)
-
-more_of : (p m n : ℕ) → m ≤ n → p + m ≤ p + n
-more_of p m n h = omega (arith, h)
-
-plus_none : (k : ℕ) → k + 0 ≡ k
+pub plus_none : (k : ℕ) → k + 0 ≡ k
 plus_none k = omega arith
 
 plus_next : (k n : ℕ) → suc k + n ≡ k + suc n
 plus_next k n = omega arith
 
-module _ (t : ProgramTree) where
-  abbrev bound_at : SubprogramTree → BodyTree → (place : ℕ) → ℕ
-  bound_at d b place = procedure_bound (front t (suc place)) d.formals b
+one_of_them : (cs : List Coded) (j : ℕ) (c : Coded) → slice_get cs j ≡ Some c → bound_of c ≤ total (map bound_of cs)
+one_of_them [] j c is = cc
+one_of_them (x ∷ cs) zero c is = (let e = ap bound_of (same_some x c is) in omega (arith, e))
+one_of_them (x ∷ cs) (suc j) c is = (let up = one_of_them cs j c is in omega (arith, up))
 
-  pub bound_within : (items : List BodyItemTree) (k n : ℕ) (x : BodyItemTree) (c : Coded) → slice_get items n ≡ Some x → coded x ≡ Some c
-      → total (bounds_from t k (take n items)) + bound_at c.head c.body (k + n) ≤ total (bounds_from t k items)
-  bound_within [] k n x c h is = cc
-  bound_within (y ∷ items) k zero x c h is =
-      subst (λ z. 0 + bound_at c.head c.body (k + 0) ≤ total (bounds_from t k (z ∷ items))) (sym (same_some y x h))
-      (subst (λ l. 0 + bound_at c.head c.body (k + 0) ≤ total (l ++ bounds_from t (suc k) items)) (sym (bounded_by t k x c is))
-      (first_of (bound_at c.head c.body (k + 0)) (bound_at c.head c.body k) (total (bounds_from t (suc k) items))
-      (ap (bound_at c.head c.body) (plus_none k))))
-  bound_within (SubprogramBody e q ∷ items) k (suc n) x c h is =
-      later_of (bound_at e q k) (total (bounds_from t (suc k) (take n items))) (bound_at c.head c.body (suc k + n)) (bound_at c.head c.body (k + suc n))
-      (total (bounds_from t (suc k) items)) (ap (bound_at c.head c.body) (plus_next k n)) (bound_within items (suc k) n x c h is)
-  bound_within (TaskBody name q ∷ items) k (suc n) x c h is =
-      later_of (bound_at (of_task name q).head q k) (total (bounds_from t (suc k) (take n items))) (bound_at c.head c.body (suc k + n))
-      (bound_at c.head c.body (k + suc n)) (total (bounds_from t (suc k) items)) (ap (bound_at c.head c.body) (plus_next k n))
-      (bound_within items (suc k) n x c h is)
-  bound_within (y ∷ items) k (suc n) x c h is =
-      other_of (total (bounds_from t (suc k) (take n items))) (bound_at c.head c.body (suc k + n)) (bound_at c.head c.body (k + suc n))
-      (total (bounds_from t (suc k) items)) (ap (bound_at c.head c.body) (plus_next k n)) (bound_within items (suc k) n x c h is)
+module _ (t : ProgramTree) where
+  -- the bound of a body, behind those of the items in front of its own
+  pub bound_within : (items : List BodyItemTree) (k n : ℕ) (x : BodyItemTree) (j : ℕ) (c : Coded) → slice_get items n ≡ Some x
+      → slice_get (coded_at t (k + n) x) j ≡ Some c → total (bounds_from t k (take n items)) + bound_of c ≤ total (bounds_from t k items)
+  bound_within [] k n x j c h is = cc
+  bound_within (y ∷ items) k zero x j c h is =
+      let own =
+      one_of_them (coded_at t k y) j c
+      (subst (λ z. slice_get (coded_at t k z) j ≡ Some c) (sym (same_some y x h)) (subst (λ p. slice_get (coded_at t p x) j ≡ Some c) (plus_none k) is)) in
+      let both = total_both (bounds_at t k y) (bounds_from t (suc k) items) in
+      omega (arith, own, both)
+  bound_within (y ∷ items) k (suc n) x j c h is =
+      let later = bound_within items (suc k) n x j c h (subst (λ p. slice_get (coded_at t p x) j ≡ Some c) (sym (plus_next k n)) is) in
+      let both = total_both (bounds_at t k y) (bounds_from t (suc k) items) in
+      let front = total_both (bounds_at t k y) (bounds_from t (suc k) (take n items)) in
+      omega (arith, later, both, front)
 
   bounds_more : (xs ys : List BodyItemTree) (k : ℕ) → total (bounds_from t k xs) ≤ total (bounds_from t k (xs ++ ys))
   bounds_more [] ys k = omega arith
-  bounds_more (SubprogramBody d b ∷ xs) ys k =
-      more_of (bound_at d b k) (total (bounds_from t (suc k) xs)) (total (bounds_from t (suc k) (xs ++ ys))) (bounds_more xs ys (suc k))
-  bounds_more (TaskBody name b ∷ xs) ys k =
-      more_of (bound_at (of_task name b).head b k) (total (bounds_from t (suc k) xs)) (total (bounds_from t (suc k) (xs ++ ys))) (bounds_more xs ys (suc k))
-  bounds_more (x ∷ xs) ys k = bounds_more xs ys (suc k)
+  bounds_more (x ∷ xs) ys k =
+      let later = bounds_more xs ys (suc k) in
+      let both = total_both (bounds_at t k x) (bounds_from t (suc k) (xs ++ ys)) in
+      let front = total_both (bounds_at t k x) (bounds_from t (suc k) xs) in
+      omega (arith, later, both, front)
 
   -- of items with one more
   pub bounds_next : (items : List BodyItemTree) (n : ℕ) (x : BodyItemTree) → slice_get items n ≡ Some x
@@ -75,15 +64,15 @@ module _ (t : ProgramTree) where
   bounds_next items n x h =
       subst (λ l. total (bounds_from t 0 (take n items)) ≤ total (bounds_from t 0 l)) (sym (taken_next items n x h)) (bounds_more (take n items) (x ∷ []) 0)
 
-  pub bound_next : (items : List BodyItemTree) (n : ℕ) (x : BodyItemTree) (c : Coded) → slice_get items n ≡ Some x → coded x ≡ Some c
-      → total (bounds_from t 0 (take n items)) + bound_at c.head c.body n ≤ total (bounds_from t 0 (take (suc n) items))
-  bound_next items n x c h is =
+  pub bound_next : (items : List BodyItemTree) (n : ℕ) (x : BodyItemTree) (j : ℕ) (c : Coded) → slice_get items n ≡ Some x
+      → slice_get (coded_at t n x) j ≡ Some c → total (bounds_from t 0 (take n items)) + bound_of c ≤ total (bounds_from t 0 (take (suc n) items))
+  bound_next items n x j c h is =
       let less : n ≤ suc n = omega arith in
       let front : take n (take (suc n) items) ≡ take n items = take-take n (suc n) items less in
-      let none : 0 + n ≡ n = omega arith in
-      subst (λ l. total (bounds_from t 0 l) + bound_at c.head c.body n ≤ total (bounds_from t 0 (take (suc n) items))) front
-      (subst (λ m. total (bounds_from t 0 (take n (take (suc n) items))) + bound_at c.head c.body m ≤ total (bounds_from t 0 (take (suc n) items))) none
-      (bound_within (take (suc n) items) 0 n x c (taken_at items (suc n) n x (omega arith) h) is))
+      let none : n ≡ 0 + n = omega arith in
+      subst (λ l. total (bounds_from t 0 l) + bound_of c ≤ total (bounds_from t 0 (take (suc n) items))) front
+      (bound_within (take (suc n) items) 0 n x j c (taken_at items (suc n) n x (omega arith) h)
+      (subst (λ p. slice_get (coded_at t p x) j ≡ Some c) none is))
 
   -- ---- needs
 
@@ -162,19 +151,47 @@ body_grows before b =
     more_labels before (stmts_labels before b.statements) (handlers_labels (stmts_labels before b.statements) b.handlers)
     (stmts_grow before b.statements) (handlers_grow (stmts_labels before b.statements) b.handlers)
 
-item_grows : (before : List (List ℕ)) (x : BodyItemTree) → length before ≤ length (item_labels before x)
-item_grows before (SubprogramBody d b) = by_result d.result
+subprogram_grows : (before : List (List ℕ)) (d : SubprogramTree) (b : BodyTree) → length before ≤ length (subprogram_labels before d b)
+subprogram_grows before d b = by_result d.result
   where
     by_result : (o : Option Identifier) → length before ≤ length (labels_by before b o)
     by_result None = body_grows before b
     by_result (Some r) = omega arith
+
+operation_grows : (before : List (List ℕ)) (i : ProtectedItemTree) → length before ≤ length (operation_labels before i)
+operation_grows before (OperationBody d b) = subprogram_grows before d b
+operation_grows before (EntryBody d barrier b) = body_grows before b
+
+operations_grow : (before : List (List ℕ)) (items : List ProtectedItemTree) → length before ≤ length (operations_labels before items)
+operations_grow before [] = omega arith
+operations_grow before (i ∷ items) =
+    more_labels before (operation_labels before i) (operations_labels (operation_labels before i) items) (operation_grows before i)
+    (operations_grow (operation_labels before i) items)
+
+item_grows : (before : List (List ℕ)) (x : BodyItemTree) → length before ≤ length (item_labels before x)
+item_grows before (OfItem d) = omega arith
+item_grows before (SubprogramBody d b) = subprogram_grows before d b
 item_grows before (TaskBody name b) = body_grows before b
-item_grows before x = omega arith
+item_grows before (ProtectedBody name items end_name) = operations_grow before items
 
 items_grow : (before : List (List ℕ)) (items : List BodyItemTree) → length before ≤ length (items_labels before items)
 items_grow before [] = omega arith
 items_grow before (x ∷ items) =
     more_labels before (item_labels before x) (items_labels (item_labels before x) items) (item_grows before x) (items_grow (item_labels before x) items)
+
+-- those of the first body of an item are among those of the item
+bodies_grow : (before : List (List ℕ)) (cs : List Coded) → length before ≤ length (bodies_labels before cs)
+bodies_grow before [] = omega arith
+bodies_grow before (c ∷ cs) =
+    more_labels before (subprogram_labels before c.head c.body) (bodies_labels (subprogram_labels before c.head c.body) cs)
+    (subprogram_grows before c.head c.body) (bodies_grow (subprogram_labels before c.head c.body) cs)
+
+pub first_labels : (before : List (List ℕ)) (cs : List Coded) (c : Coded) → slice_get cs 0 ≡ Some c
+    → length (subprogram_labels before c.head c.body) ≤ length (bodies_labels before cs)
+first_labels before [] c is = cc
+first_labels before (x ∷ cs) c is =
+    subst (λ z. length (subprogram_labels before z.head z.body) ≤ length (bodies_labels before (x ∷ cs))) (same_some x c is)
+    (bodies_grow (subprogram_labels before x.head x.body) cs)
 
 pub none_taken : {X : Type 0} (xs : List X) → take 0 xs ≡ []
 none_taken [] = refl

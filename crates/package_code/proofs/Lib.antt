@@ -16,6 +16,8 @@ pub mod Coded
 pub mod TaskNames
 pub mod TaskRows
 pub mod TasksAdded
+pub mod ObjectRows
+mod OperationEntries
 mod EmittedTasks
 mod EmittedFormals
 mod EmittedParts

@@ -66,15 +66,16 @@ use Rattle.package_code.proofs.FirstWords.{first_words}
 use Rattle.package_code.proofs.InFront.{LawsOfNames, bare_rests, few_locals}
 use Rattle.package_code.proofs.InOrder.{package_in_order}
 use Rattle.package_code.proofs.LinkedMain.{DoesMain, linked_main}
-use Rattle.package_code.proofs.Numbered.{bodies_numbered}
+use Rattle.package_code.proofs.Coded.{body_at, from_many}
+use Rattle.package_code.proofs.Numbered.{bodies_numbered, number_of_body}
+use Rattle.package_code.proofs.ObjectRows.{no_objects}
 use Rattle.package_code.proofs.TaskRows.{HasTaskBody, task_found}
-use Rattle.package_code.specs.Directory.{AreTold}
+use Rattle.package_code.specs.Directory.{AreTold, number_told}
 use Rattle.package_code.specs.Laws.{SectionsMeanTheSame}
-use Rattle.package_code.specs.Counts.{bodies_among, bodies_before}
+use Rattle.package_code.specs.Bodies.{Coded, bodies_among, bodies_before, bodies_of, coded_at, number_in, of_subprogram, of_task}
 use Rattle.package_code.specs.Program.{HasProgram}
-use Rattle.package_code.specs.Refusing.{number_in}
 use Rattle.package_code.specs.Tasks.{HasDuty, HasTask, HaveTasks}
-use Rattle.package_code.specs.Walking.{AddsSubprogram, AddsValueFunction, Coded, HasBody, LieInFront, begins_at, coded, of_subprogram, of_task, row_of}
+use Rattle.package_code.specs.Walking.{AddsSubprogram, AddsValueFunction, HasBody, LieInFront, begins_at, row_of}
 use Rattle.package_code.specs.declared.directory.Directory.{Directory}
 use Rattle.package_code.proofs.BodyRows.{goes_by_own, goes_past}
 use Rattle.package_code.proofs.Walked.{begins_kept, rows_in_front}
@@ -91,11 +92,11 @@ package_of program d = record {
   scope = program.scope;
   slots = λ owner name. outside_only owner (told_of program.scope d.slots.items name);
   functions = program.functions;
-  subprograms = λ owner name. outside_only owner (told_of program.scope d.numbers.items name);
+  subprograms = number_told program.scope d;
 }
 
 abbrev pub numbers_of : Program → Directory → Numbers
-numbers_of program d = λ q. outside_only q.object (told_of program.scope d.numbers.items q.name)
+numbers_of program d = λ q. number_told program.scope d q.object q.name
 
 -- ---- procedures by their names
 
@@ -124,7 +125,7 @@ procedure_numbered program d name q n found told =
     let at : procedure_among program.procedures None name ≡ Some q =
     elim (or_else_some (procedure_among program.procedures None name) (procedure_among program.procedures None name) q found) [ inl k ↦ k | inr k ↦ k.1 ] in
     let x = found_named program.procedures name q at in
-    (λ j. outside_only (x.0 j) (told_of program.scope d.numbers.items (x.1 j))) ∙ told
+    (λ j. number_told program.scope d (x.0 j) (x.1 j)) ∙ told
 
 -- ---- what holds of a body by its result
 
@@ -253,18 +254,25 @@ module _ (t : ProgramTree) (i : Sections) (h : HasProgram t i) where
 
   -- ---- bodies
 
-  pub body_there : (place : ℕ) (x : BodyItemTree) (c : Coded) → slice_get (declared_in t.package_) place ≡ Some x → coded x ≡ Some c
-      → HasBody t h.directory place c h.walk
-  body_there place x c at is =
-      let w = h.whole in
-      let up = slice_get_within (declared_in t.package_) place x at in
-      h.walked.bodies place x c (omega (arith, w, up)) at is
+  pub body_there : (number : ℕ) (c : Coded) → slice_get (bodies_of t) number ≡ Some c → HasBody t h.directory number c h.walk
+  body_there number c is =
+      let less = slice_get_within (bodies_of t) number c is in
+      let counted = from_many t 0 (declared_in t.package_) in
+      let all_of = ap bodies_among (take_all (length (declared_in t.package_)) (declared_in t.package_) (omega arith)) in
+      h.walked.bodies number c (omega (arith, less, counted, many, all_of)) is
 
-  module _ (place : ℕ) (c : Coded) (body : HasBody t h.directory place c h.walk) where
-    pub begins_there : first_place i body.number ≡ here body.old.code
+  -- that of the subprogram or task at this place
+  pub body_there_at : (place : ℕ) (x : BodyItemTree) (c : Coded) → slice_get (declared_in t.package_) place ≡ Some x → slice_get (coded_at t place x) 0 ≡ Some c
+      → HasBody t h.directory (bodies_before t place) c h.walk
+  body_there_at place x c at is =
+      (let none : bodies_before t place ≡ bodies_before t place + 0 = omega arith in
+      body_there (bodies_before t place) c (ap (slice_get (bodies_of t)) none ∙ body_at t place 0 x c at is))
+
+  module _ (number : ℕ) (c : Coded) (body : HasBody t h.directory number c h.walk) where
+    pub begins_there : first_place i number ≡ here body.old.code
     begins_there =
-        let up = slice_get_within all body.number (row_of c.kind body.words (here body.new.code)) body.there in
-        first_is body.number (omega (arith, up)) ∙ body.begins
+        let up = slice_get_within all number (row_of c.kind body.words (here body.new.code)) body.there in
+        first_is number (omega (arith, up)) ∙ body.begins
 
     pub holds_there : Holds i (here body.old.code) body.new.code
     holds_there k y le e =
@@ -304,48 +312,65 @@ module _ (t : ProgramTree) (i : Sections) (h : HasProgram t i) where
 
     module _ (place : ℕ) (d : SubprogramTree) (b : BodyTree) (at : slice_get (declared_in t.package_) place ≡ Some (SubprogramBody d b)) where
       abbrev code_of : Coded
-      code_of = of_subprogram d b
+      code_of = of_subprogram (front t (suc place)) d b
 
-      abbrev body : HasBody t h.directory place code_of h.walk
-      body = body_there place (SubprogramBody d b) code_of at refl
+      abbrev own_number : ℕ
+      own_number = bodies_before t place
+
+      abbrev body : HasBody t h.directory own_number code_of h.walk
+      body = body_there_at place (SubprogramBody d b) code_of at refl
 
       abbrev row : Subprogram
       row = row_of kinds.Plain body.words (here body.new.code)
 
-      there : called i body.number ≡ Some row
-      there = called_front body.number row body.there
+      there : called i own_number ≡ Some row
+      there = called_front own_number row body.there
 
-      first : first_place i body.number ≡ here body.old.code
-      first = begins_there place code_of body
+      first : first_place i own_number ≡ here body.old.code
+      first = begins_there own_number code_of body
 
       holds : Holds i (here body.old.code) body.new.code
-      holds = holds_there place code_of body
+      holds = holds_there own_number code_of body
 
       labels : HasLabels i body.new.labels
-      labels = labels_there place code_of body
+      labels = labels_there own_number code_of body
 
-      procedure_there : d.result ≡ None → IsProcedureCode i program g numbers (procedure_by program.scope (subprogram_body None d b)) body.number
+      procedure_there : d.result ≡ None → IsProcedureCode i program g numbers (procedure_by program.scope (subprogram_body None d b)) own_number
       procedure_there none =
           let adds = as_procedure t d b body.seen body.old body.words body.new body.adds none in
           procedure_emitted laws quiet shaped t legal restricted i well_formed g of_program numbers place d b at body.seen body.old body.new body.words
-          adds body.number row there first refl refl (ap results_of there) refl holds labels
-          (handled_there place code_of body (exceptions_are_named laws.premises t legal restricted) adds)
+          adds own_number row there first refl refl (ap results_of there) refl holds labels
+          (handled_there own_number code_of body (exceptions_are_named laws.premises t legal restricted) adds)
           (λ name q n found told. procedure_numbered program h.directory name q n found told)
           (in_front _ (suc place) body.scope body.told)
 
       function_there : (r : Identifier) → d.result ≡ Some r → (value : ExprTree) → returned b.statements ≡ Some value
-          → IsFunctionCode i (library_of g) (function_by program.scope (subprogram_body None d b) r value) body.number
+          → IsFunctionCode i (library_of g) (function_by program.scope (subprogram_body None d b) r value) own_number
       function_there r some value returns =
           let y = as_function t d b body.seen body.old body.words body.new body.adds r some in
-          subst (λ e. IsFunctionCode i (library_of g) (function_by program.scope (subprogram_body None d b) r e) body.number)
+          subst (λ e. IsFunctionCode i (library_of g) (function_by program.scope (subprogram_body None d b) r e) own_number)
           (same_some y.value value (sym y.returns ∙ returns))
           (function_emitted laws shaped t legal restricted i well_formed g of_program numbers place d b at r some y.value y.result y.named body.seen body.old
-          body.new body.words y.adds body.number row there first refl refl refl refl holds (uncovered_there place code_of body y.adds.rows)
+          body.new body.words y.adds own_number row there first refl refl refl refl holds (uncovered_there own_number code_of body y.adds.rows)
           (in_front _ (suc place) body.scope body.told))
 
       -- the number is the one that is told of the name
-      numbered : (number : ℕ) → told_of program.scope h.directory.numbers.items d.name.name ≡ Some number → body.number ≡ number
-      numbered number e = same_some body.number number (sym body.numbered ∙ e)
+      numbered : (number : ℕ) → told_of program.scope h.directory.numbers.items d.name.name ≡ Some number → own_number ≡ number
+      numbered number e = same_some own_number number (sym body.numbered ∙ e)
+
+    -- no operation of an object has a number: those that have one have code, and no body with code belongs to an object
+    outside_all : (o : ℕ) (name : List ℕ) → number_told program.scope h.directory (Some o) name ≡ None
+    outside_all o name = by_number (number_in t (Some o) name) refl
+      where
+        by_number : (n : Option ℕ) → number_in t (Some o) name ≡ n → number_told program.scope h.directory (Some o) name ≡ None
+        by_number None e = h.told.operations o name ∙ e
+        by_number (Some n) e =
+            absurd (
+            let f = number_of_body t (Some o) name n e in
+            let body = body_there n f.code f.is in
+            let bad = sym f.owned ∙ body.outside in
+            cc
+            )
 
     bodies : HasBodies laws t legal restricted i g of_program numbers
     bodies = record {
@@ -356,7 +381,7 @@ module _ (t : ProgramTree) (i : Sections) (h : HasProgram t i) where
       functions = λ place d b at r some value returns number e. subst
           (IsFunctionCode i (library_of g) (function_by program.scope (subprogram_body None d b) r value)) (numbered place d b at number e)
           (function_there place d b at r some value returns);
-      outside = λ o name. refl;
+      outside = outside_all;
     }
 
     code : HasCode i program g numbers
@@ -409,17 +434,18 @@ module _ (t : ProgramTree) (i : Sections) (h : HasProgram t i) where
     -- a task with a body: the row names the subprogram of the body with its name
     linked_body : (x : Task) (line : rows.Task) → HasTask t x line → HasTaskBody (declared_in t.package_) x → IsLinkedTask program i g numbers x line
     linked_body x line has f =
-        let c : Coded = of_task f.own f.body in
-        let body : HasBody t h.directory f.place c h.walk = body_there f.place (TaskBody f.own f.body) c f.at refl in
+        let c : Coded = of_task (front t (suc f.place)) f.own f.body in
+        let n : ℕ = bodies_before t f.place in
+        let body : HasBody t h.directory n c h.walk = body_there_at f.place (TaskBody f.own f.body) c f.at refl in
         let s : Subprogram = row_of kinds.TaskBody body.words (here body.new.code) in
-        let called_so : called i body.number ≡ Some s = called_front body.number s body.there in
-        let counted = (bodies_numbered laws.premises t legal restricted f.place (TaskBody f.own f.body) c f.at refl).0 in
+        let called_so : called i n ≡ Some s = called_front n s body.there in
+        let none : n + 0 ≡ n = omega arith in
+        let counted = (bodies_numbered laws.premises t legal restricted f.place (TaskBody f.own f.body) 0 c f.at refl refl).0 ∙ ap Some none in
         let told : HasDuty t x line.subprogram (OfBody f.body) = subst (HasDuty t x line.subprogram) f.duty has.duty in
-        let same : line.subprogram ≡ body.number =
-        same_some line.subprogram body.number (sym told ∙ ap (number_in t) (sym f.named) ∙ counted ∙ ap Some (sym body.counted)) in
+        let same : line.subprogram ≡ n = same_some line.subprogram n (sym told ∙ ap (number_in t None) (sym f.named) ∙ counted) in
         let r = task_begins laws t legal restricted i well_formed g of_program numbers f.place f.body body.seen body.old body.new body.words body.adds
-        body.number s called_so (begins_there f.place c body) refl refl refl (holds_there f.place c body) (labels_there f.place c body)
-        (handled_there f.place c body (exceptions_are_named laws.premises t legal restricted) body.adds)
+        n s called_so (begins_there n c body) refl refl refl (holds_there n c body) (labels_there n c body)
+        (handled_there n c body (exceptions_are_named laws.premises t legal restricted) body.adds)
         (λ name q n found told. procedure_numbered program h.directory name q n found told) (in_front _ (suc f.place) body.scope body.told) in
         record {
           name = has.name;
@@ -427,8 +453,8 @@ module _ (t : ProgramTree) (i : Sections) (h : HasProgram t i) where
           s = s;
           there = ap (called i) same ∙ called_so;
           around = r.0;
-          begins = subst (λ n. Follows i program g numbers r.0 n (first_place i n) (duty_items x.duty) [] []) (sym same)
-              (subst (λ d. Follows i program g numbers r.0 body.number (first_place i body.number) (duty_items d) [] []) (sym f.duty) r.1);
+          begins = subst (λ m. Follows i program g numbers r.0 m (first_place i m) (duty_items x.duty) [] []) (sym same)
+              (subst (λ d. Follows i program g numbers r.0 n (first_place i n) (duty_items d) [] []) (sym f.duty) r.1);
           rests = r.2;
         }
 
@@ -464,7 +490,7 @@ module _ (t : ProgramTree) (i : Sections) (h : HasProgram t i) where
       exceptions = h.exceptions ∙ h.are.exceptions;
       unprotected = h.unprotected;
       ceilings = λ o. no_ceilings program.scope o h.unprotected;
-      objects = h.objects;
+      objects = no_objects laws.premises t i legal restricted h;
       tasks = linked_tasks program.tasks i.tasks (λ x among. among) h.tasks;
       code = code;
       words = first_words laws t legal restricted i g of_program sizes well_formed;

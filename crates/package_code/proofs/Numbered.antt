@@ -1,17 +1,19 @@
 -- Which number is told of the name of a body: how many bodies stand in front of it, since no two bodies of an accepted program have one name.
-use Rattle.std.proofs.Common.{◌≡◌, ℕ, zero, suc, ◌+◌, ◌<◌, List, [], ◌∷◌, ◌++◌, drop, get_or, length, map, take, Bool, true, false, inl, inr, Option, Some, None, refl, sym, ap, ◌∙◌, subst, arith}
-use Rattle.std.specs.Prelude.{bytes_eq, if◌then◌else◌, replicate, slice_get, slice_set}
+use Rattle.std.proofs.Common.{◌≡◌, ℕ, zero, suc, ◌+◌, ◌<◌, List, [], ◌∷◌, ◌++◌, append_assoc, drop, get_or, length, map, take, Bool, true, false, ◌&&◌, inl, inr, Option, Some, None, refl, sym, ap, ◌∙◌, subst, arith}
+use Rattle.std.specs.Prelude.{bytes_eq, if◌then◌else◌, nat_eq, replicate, slice_get, slice_set}
 use Rattle.std.proofs.lemmas.List.{length-replicate}
 use Rattle.std.proofs.lemmas.Option.{slice_get_within}
 use Rattle.ada_tree.specs.declared.program.BodyItem.{BodyItem}
-use Rattle.ada_tree.specs.ProgramTree.{BodyItemTree, SubprogramBody, TaskBody, body_item_tree}
-use Rattle.types.specs.Places.{or_else}
+use Rattle.ada_tree.specs.ProgramTree.{BodyItemTree, EntryBody, OfItem, OperationBody, ProgramTree, ProtectedBody, ProtectedItemTree, SubprogramBody, TaskBody, body_item_tree}
+use Rattle.types.specs.Places.{is_of, or_else}
 use Rattle.types.specs.Scopes.{Scope, number_of}
 use Rattle.expr_soundness.specs.meaning.specs.Programs.{program_of}
 use Rattle.program_soundness.specs.Fronts.{declared_in, start_in}
 use Rattle.program_soundness.specs.BodyLaws.{PremisesHold}
+use Rattle.program_soundness.proofs.Callables.{at_map, map_at}
 use Rattle.program_soundness.proofs.Listing.{or_else_none, same_some}
 use Rattle.program_soundness.proofs.Trees.{tree_package}
+use Rattle.program_soundness.proofs.Whole.{IsPackage}
 use Rattle.program_soundness.proofs.WiderScopes.{bytes_same, same_bytes}
 use Rattle.expr_soundness.proofs.Positions.{found_at, number_place}
 use Rattle.expr_code.specs.Refusing.{IsRefused}
@@ -19,14 +21,13 @@ use Rattle.expr_code.specs.Seeing.{told_of}
 use Rattle.expr_code.specs.declared.refusal.Refusal.{Refusal}
 use Rattle.expr_code.specs.declared.refusal.Refusal.TheVariants as refusal
 use Rattle.step_simulation.specs.part_code.proofs.Lists.{mapped_next}
-use Rattle.package_code.specs.Counts.{bodies_among}
-use Rattle.package_code.specs.Directory.{HaveBodyNumbers, HasManyBodies, numbered_item, numbered_once, numbered_with}
+use Rattle.package_code.specs.Bodies.{BodyName, Coded, bodies_among, bodies_before, bodies_of, names_among, names_in, number_from, number_in, object_number, operation_names}
+use Rattle.package_code.specs.Directory.{HaveBodyNumbers, HasManyBodies, entries_among, entries_of, numbered_item, numbered_once, numbered_with, operation_told}
 use Rattle.package_code.specs.Laws.{BodiesAreNumbered}
-use Rattle.package_code.specs.Refusing.{number_among}
-use Rattle.package_code.specs.Walking.{Coded, coded, of_subprogram, of_task}
-use Rattle.package_code.proofs.Coded.{coded_by}
+use Rattle.package_code.specs.declared.operations.OperationNumber.{OperationNumber}
+use Rattle.package_code.proofs.Coded.{among_joined, body_at, body_of, name_of, names_are, names_many}
 use Rattle.package_code.proofs.GlobalsRefused.{split_at}
-use Rattle.package_code.proofs.TaskNames.{name_numbered, unlike_names}
+use Rattle.package_code.proofs.TaskNames.{name_numbered, one_place}
 use Rattle.package_code.proofs.Variables.{long_set, none_told, set_other, set_told, was_none}
 
 -- ---- tables of numbers
@@ -90,22 +91,40 @@ module _ (s : Scope) (numbers : List (Option ℕ)) (many : length numbers ≡ le
 
 -- ---- of bodies one behind another
 
-among_later : (before : ℕ) (xs : List BodyItemTree) (x : BodyItemTree) (name : List ℕ) (c : Bool)
-    → number_among (suc before) (xs ++ x ∷ []) name
-    ≡ or_else (number_among (suc before) xs name) (number_among (suc before + bodies_among xs) (x ∷ []) name)
-    → (if c then Some before else number_among (suc before) (xs ++ x ∷ []) name)
-    ≡ or_else (if c then Some before else number_among (suc before) xs name) (number_among (before + suc (bodies_among xs)) (x ∷ []) name)
-among_later before xs x name true later = refl
-among_later before xs x name false later =
-    (let e : suc before + bodies_among xs ≡ before + suc (bodies_among xs) = omega arith in
-    later ∙ ap (λ n. or_else (number_among (suc before) xs name) (number_among n (x ∷ []) name)) e)
+number_joined : (before : ℕ) (xs ys : List BodyName) (owner : Option ℕ) (name : List ℕ)
+    → number_from before (xs ++ ys) owner name ≡ or_else (number_from before xs owner name) (number_from (before + length xs) ys owner name)
+number_joined before [] ys owner name = (let e : before ≡ before + 0 = omega arith in ap (λ n. number_from n ys owner name) e)
+number_joined before (x ∷ xs) ys owner name = by_test (is_of x.owner owner && bytes_eq x.name name) (number_joined (suc before) xs ys owner name)
+  where
+    by_test : (c : Bool)
+        → number_from (suc before) (xs ++ ys) owner name
+        ≡ or_else (number_from (suc before) xs owner name) (number_from (suc before + length xs) ys owner name)
+        → (if c then Some before else number_from (suc before) (xs ++ ys) owner name)
+        ≡ or_else (if c then Some before else number_from (suc before) xs owner name) (number_from (before + suc (length xs)) ys owner name)
+    by_test true later = refl
+    by_test false later =
+        (let e : suc before + length xs ≡ before + suc (length xs) = omega arith in
+        later ∙ ap (λ n. or_else (number_from (suc before) xs owner name) (number_from n ys owner name)) e)
 
-among_both : (before : ℕ) (xs : List BodyItemTree) (x : BodyItemTree) (name : List ℕ)
-    → number_among before (xs ++ x ∷ []) name ≡ or_else (number_among before xs name) (number_among (before + bodies_among xs) (x ∷ []) name)
-among_both before [] x name = (let e : before ≡ before + 0 = omega arith in ap (λ n. number_among n (x ∷ []) name) e)
-among_both before (SubprogramBody d b ∷ xs) x name = among_later before xs x name (bytes_eq d.name.name name) (among_both (suc before) xs x name)
-among_both before (TaskBody own b ∷ xs) x name = among_later before xs x name (bytes_eq own.name name) (among_both (suc before) xs x name)
-among_both before (y ∷ xs) x name = among_both before xs x name
+pub names_joined : (s : Scope) (xs ys : List BodyItemTree) → names_among s (xs ++ ys) ≡ names_among s xs ++ names_among s ys
+names_joined s [] ys = refl
+names_joined s (x ∷ xs) ys = ap (λ l. names_in s x ++ l) (names_joined s xs ys) ∙ sym (append_assoc (names_in s x) (names_among s xs) (names_among s ys))
+
+-- items with one more
+numbered_both : (s : Scope) (items : List BodyItemTree) (x : BodyItemTree) (owner : Option ℕ) (name : List ℕ)
+    → number_from 0 (names_among s (items ++ x ∷ [])) owner name
+    ≡ or_else (number_from 0 (names_among s items) owner name) (number_from (bodies_among items) (names_among s (x ∷ [])) owner name)
+numbered_both s items x owner name =
+    let e : 0 + length (names_among s items) ≡ bodies_among items = (let many = names_many s items in omega (arith, many)) in
+    ap (λ l. number_from 0 l owner name) (names_joined s items (x ∷ []))
+    ∙ number_joined 0 (names_among s items) (names_among s (x ∷ [])) owner name
+    ∙ ap (λ n. or_else (number_from 0 (names_among s items) owner name) (number_from n (names_among s (x ∷ [])) owner name)) e
+
+-- operations of an object are no bodies of the package
+none_inside : (n o : ℕ) (items : List ProtectedItemTree) (name : List ℕ) → number_from n (operation_names o items ++ []) None name ≡ None
+none_inside n o [] name = refl
+none_inside n o (OperationBody d b ∷ items) name = none_inside (suc n) o items name
+none_inside n o (EntryBody d barrier b ∷ items) name = none_inside (suc n) o items name
 
 long_once : (numbers : List (Option ℕ)) (k one : ℕ) (p : Option (Option ℕ)) → length (numbered_once numbers k one p) ≡ length numbers
 long_once numbers k one (Some None) = long_set numbers k (Some one)
@@ -126,41 +145,35 @@ pub one_numbered : (s : Scope) (items : List BodyItemTree) (x : BodyItemTree) (o
     → HaveBodyNumbers s items old → new ≡ numbered_item s old one x → HaveBodyNumbers s (items ++ x ∷ []) new
 one_numbered s items x old new one counted h is = by_item x is
   where
-    kept : (y : BodyItemTree) → number_among (bodies_among items) (y ∷ []) ≡ (λ name. None) → new ≡ old → HaveBodyNumbers s (items ++ y ∷ []) new
+    kept : (y : BodyItemTree) → ((name : List ℕ) → number_from (bodies_among items) (names_among s (y ∷ [])) None name ≡ None) → new ≡ old
+        → HaveBodyNumbers s (items ++ y ∷ []) new
     kept y none same = record {
       many = ap length same ∙ h.many;
       told = λ name k seen.
-          (let e : 0 + bodies_among items ≡ bodies_among items = omega arith in
-          ap (λ l. told_of s l name) same ∙ h.told name k seen ∙ sym (or_else_none (number_among 0 items name))
-          ∙ sym (among_both 0 items y name ∙ ap (λ n. or_else (number_among 0 items name) (number_among n (y ∷ []) name)) e
-          ∙ ap (λ f. or_else (number_among 0 items name) (f name)) none));
+          ap (λ l. told_of s l name) same ∙ h.told name k seen ∙ sym (or_else_none (number_from 0 (names_among s items) None name))
+          ∙ sym (numbered_both s items y None name ∙ ap (or_else (number_from 0 (names_among s items) None name)) (none name));
     }
 
     -- a body of this name
     named : (y : BodyItemTree) (own : List ℕ) → new ≡ numbered_with old (number_of s own) one
-        → ((n : ℕ) (name : List ℕ) → number_among n (y ∷ []) name ≡ (if bytes_eq own name then Some n else None))
+        → ((n : ℕ) (name : List ℕ) → number_from n (names_among s (y ∷ [])) None name ≡ (if bytes_eq own name then Some n else None))
         → HaveBodyNumbers s (items ++ y ∷ []) new
     named y own same among = record {
       many = ap length same ∙ long_with old (number_of s own) one ∙ h.many;
       told = λ name k seen.
-          (let e : one ≡ 0 + bodies_among items = omega (arith, counted) in
           ap (λ l. told_of s l name) same ∙ numbers_told s old h.many own name one k seen
           ∙ ap (λ o. or_else o (if bytes_eq own name then Some one else None)) (h.told name k seen)
-          ∙ ap (λ n. or_else (number_among 0 items name) (if bytes_eq own name then Some n else None)) e
-          ∙ ap (λ o. or_else (number_among 0 items name) o) (sym (among (0 + bodies_among items) name))
-          ∙ sym (among_both 0 items y name));
+          ∙ ap (λ n. or_else (number_from 0 (names_among s items) None name) (if bytes_eq own name then Some n else None)) counted
+          ∙ ap (or_else (number_from 0 (names_among s items) None name)) (sym (among (bodies_among items) name))
+          ∙ sym (numbered_both s items y None name);
     }
 
     by_item : (y : BodyItemTree) → new ≡ numbered_item s old one y → HaveBodyNumbers s (items ++ y ∷ []) new
     by_item (SubprogramBody d b) same = named (SubprogramBody d b) d.name.name same (λ n name. refl)
     by_item (TaskBody own b) same = named (TaskBody own b) own.name same (λ n name. refl)
-    by_item y same = kept y refl same
-
-bodies_joined : (xs ys : List BodyItemTree) → bodies_among (xs ++ ys) ≡ bodies_among xs + bodies_among ys
-bodies_joined [] ys = omega arith
-bodies_joined (SubprogramBody d b ∷ xs) ys = (let rest = bodies_joined xs ys in omega (arith, rest))
-bodies_joined (TaskBody name b ∷ xs) ys = (let rest = bodies_joined xs ys in omega (arith, rest))
-bodies_joined (x ∷ xs) ys = bodies_joined xs ys
+    by_item (OfItem d) same = kept (OfItem d) (λ name. refl) same
+    by_item (ProtectedBody own is end_name) same =
+        kept (ProtectedBody own is end_name) (λ name. none_inside (bodies_among items) (object_number s own) is name) same
 
 -- one item of them more
 pub items_numbered : (s : Scope) (all : List BodyItem) (n : ℕ) (x : BodyItem) (old new : List (Option ℕ)) (next later : ℕ) → n < length all → x ≡ get_or all n x
@@ -170,7 +183,7 @@ pub items_numbered : (s : Scope) (all : List BodyItem) (n : ℕ) (x : BodyItem) 
 items_numbered s all n x old new next later less is h counted more goes =
     let front : List BodyItemTree = map body_item_tree (take n all) in
     let same = sym (mapped_next body_item_tree all n x less is) in
-    let joined = bodies_joined front (body_item_tree x ∷ []) in (
+    let joined = among_joined front (body_item_tree x ∷ []) in (
       subst (λ l. HaveBodyNumbers s l new) same (one_numbered s front (body_item_tree x) old new next counted h more),
       subst (λ l. later ≡ bodies_among l) same (omega (arith, goes, counted, joined)),
     )
@@ -185,55 +198,148 @@ items_refused all n x next refusal.Limit less is counted (inl r) =
     let front : List BodyItemTree = map body_item_tree (take n all) in
     let one : List BodyItemTree = body_item_tree x ∷ [] in
     let behind : List BodyItemTree = map body_item_tree (drop (n + 1) all) in
-    let a = bodies_joined (front ++ one) behind in
-    let b = bodies_joined front one in
+    let a = among_joined (front ++ one) behind in
+    let b = among_joined front one in
     let c = ap bodies_among (split_at body_item_tree all n x less is) in
     omega (arith, r, counted, a, b, c)
 items_refused all n x next refusal.Limit less is counted (inr (inl r)) = absurd (omega (arith, r))
 items_refused all n x next refusal.Limit less is counted (inr (inr r)) = absurd r
 
+-- ---- those of operations
+
+entries_told : (n o : ℕ) (items : List ProtectedItemTree) (rest : List OperationNumber) (names : List BodyName) (object : ℕ) (name : List ℕ)
+    → operation_told rest object name ≡ number_from (n + length items) names (Some object) name
+    → operation_told (entries_of o n items ++ rest) object name ≡ number_from n (operation_names o items ++ names) (Some object) name
+entries_told n o [] rest names object name later =
+    (let e : n + 0 ≡ n = omega arith in later ∙ ap (λ m. number_from m names (Some object) name) e)
+entries_told n o (OperationBody d b ∷ items) rest names object name later =
+    let e : n + suc (length items) ≡ suc n + length items = omega arith in
+    ap (λ v. if nat_eq o object && bytes_eq d.name.name name then Some n else v)
+    (entries_told (suc n) o items rest names object name (later ∙ ap (λ m. number_from m names (Some object) name) e))
+entries_told n o (EntryBody d barrier b ∷ items) rest names object name later =
+    let e : n + suc (length items) ≡ suc n + length items = omega arith in
+    ap (λ v. if nat_eq o object && bytes_eq d.name.name name then Some n else v)
+    (entries_told (suc n) o items rest names object name (later ∙ ap (λ m. number_from m names (Some object) name) e))
+
+-- the entries tell the number of each operation
+pub operations_numbered : (s : Scope) (first : ℕ) (items : List BodyItemTree) (object : ℕ) (name : List ℕ)
+    → operation_told (entries_among s first items) object name ≡ number_from first (names_among s items) (Some object) name
+operations_numbered s first [] object name = refl
+operations_numbered s first (OfItem d ∷ rest) object name =
+    (let e : first + 0 ≡ first = omega arith in
+    ap (λ n. operation_told (entries_among s n rest) object name) e ∙ operations_numbered s first rest object name)
+operations_numbered s first (SubprogramBody d b ∷ rest) object name =
+    (let e : first + 1 ≡ suc first = omega arith in
+    ap (λ n. operation_told (entries_among s n rest) object name) e ∙ operations_numbered s (suc first) rest object name)
+operations_numbered s first (TaskBody own b ∷ rest) object name =
+    (let e : first + 1 ≡ suc first = omega arith in
+    ap (λ n. operation_told (entries_among s n rest) object name) e ∙ operations_numbered s (suc first) rest object name)
+operations_numbered s first (ProtectedBody own items end_name ∷ rest) object name =
+    let e : first + (length items + 0) ≡ first + length items = omega arith in
+    entries_told first (object_number s own) items (entries_among s (first + (length items + 0)) rest) (names_among s rest) object name
+    (ap (λ n. operation_told (entries_among s n rest) object name) e ∙ operations_numbered s (first + length items) rest object name)
+
 -- ---- bodies of an accepted program
 
--- no body in front has its name
-abbrev IsFirst : (items : List BodyItemTree) (place : ℕ) → Coded → Type 0
-IsFirst items place c =
-    (n : ℕ) (y : BodyItemTree) (e : Coded) → n < place → slice_get items n ≡ Some y → coded y ≡ Some e → bytes_eq e.head.name.name c.head.name.name ≡ false
-
-numbered_later : (before : ℕ) (items : List BodyItemTree) (name : List ℕ) (place : ℕ) (test : Bool) → test ≡ false
-    → number_among (suc before) items name ≡ Some (suc before + bodies_among (take place items))
-    → (if test then Some before else number_among (suc before) items name) ≡ Some (before + suc (bodies_among (take place items)))
-numbered_later before items name place test is later =
-    let e : suc before + bodies_among (take place items) ≡ before + suc (bodies_among (take place items)) = omega arith in
-    ap (λ v. if v then Some before else number_among (suc before) items name) is ∙ later ∙ ap Some e
-
-body_numbered : (items : List BodyItemTree) (before place : ℕ) (x : BodyItemTree) (c : Coded) → slice_get items place ≡ Some x → coded x ≡ Some c
-    → IsFirst items place c → number_among before items c.head.name.name ≡ Some (before + bodies_among (take place items))
-body_numbered [] before place x c at is first = cc
-body_numbered (y ∷ items) before zero x c at is first =
-    subst (λ z. number_among before (z ∷ items) c.head.name.name ≡ Some (before + 0)) (sym (same_some y x at))
-    (coded_by (λ z e. number_among before (z ∷ items) e.head.name.name ≡ Some (before + 0))
-    (λ d b. here d.name.name (number_among (suc before) items d.name.name)) (λ name b. here name.name (number_among (suc before) items name.name)) x c is)
-  where
-    here : (name : List ℕ) (other : Option ℕ) → (if bytes_eq name name then Some before else other) ≡ Some (before + 0)
-    here name other = (let e : before ≡ before + 0 = omega arith in ap (λ b. if b then Some before else other) (bytes_same name) ∙ ap Some e)
-body_numbered (SubprogramBody d b ∷ items) before (suc place) x c at is first =
-    numbered_later before items c.head.name.name place (bytes_eq d.name.name c.head.name.name)
-    (first 0 (SubprogramBody d b) (of_subprogram d b) (omega arith) refl refl)
-    (body_numbered items (suc before) place x c at is (λ n y e less there code. first (suc n) y e (omega (arith, less)) there code))
-body_numbered (TaskBody name b ∷ items) before (suc place) x c at is first =
-    numbered_later before items c.head.name.name place (bytes_eq name.name c.head.name.name)
-    (first 0 (TaskBody name b) (of_task name b) (omega arith) refl refl)
-    (body_numbered items (suc before) place x c at is (λ n y e less there code. first (suc n) y e (omega (arith, less)) there code))
-body_numbered (y ∷ items) before (suc place) x c at is first =
-    body_numbered items before place x c at is (λ n y e less there code. first (suc n) y e (omega (arith, less)) there code)
+-- the first of these with this name has its place as its number
+first_numbered : (before : ℕ) (xs : List BodyName) (n : ℕ) (x : BodyName) (owner : Option ℕ) (name : List ℕ) → slice_get xs n ≡ Some x
+    → (is_of x.owner owner && bytes_eq x.name name) ≡ true
+    → ((m : ℕ) (y : BodyName) → m < n → slice_get xs m ≡ Some y → (is_of y.owner owner && bytes_eq y.name name) ≡ false)
+    → number_from before xs owner name ≡ Some (before + n)
+first_numbered before [] n x owner name at is first = cc
+first_numbered before (z ∷ xs) zero x owner name at is first =
+    let e : before ≡ before + 0 = omega arith in
+    ap (λ y. if is_of y.owner owner && bytes_eq y.name name then Some before else number_from (suc before) xs owner name) (same_some z x at)
+    ∙ ap (λ b. if b then Some before else number_from (suc before) xs owner name) is ∙ ap Some e
+first_numbered before (z ∷ xs) (suc n) x owner name at is first =
+    let e : suc before + n ≡ before + suc n = omega arith in
+    ap (λ b. if b then Some before else number_from (suc before) xs owner name) (first 0 z (omega arith) refl)
+    ∙ first_numbered (suc before) xs n x owner name at is (λ m y less there. first (suc m) y (omega (arith, less)) there)
+    ∙ ap Some e
 
 pub bodies_numbered : PremisesHold → BodiesAreNumbered
-bodies_numbered premises t legal restricted place x c at is =
-    let all = declared_in t.package_ in
-    let w = tree_package t legal restricted (premises t legal).sound in
-    let e : 0 + bodies_among (take place all) ≡ bodies_among (take place all) = omega arith in (
-      body_numbered all 0 place x c at is
-          (λ n y d less there code. unlike_names (program_of t) (start_in t.package_) all w n place y d x c less there code at is)
-          ∙ ap Some e,
-      name_numbered (program_of t) (start_in t.package_) all w place x c at is,
-    )
+bodies_numbered premises t legal restricted place x k c at is outside = (
+  ap (λ l. number_from 0 l None c.head.name.name) (names_are t 0 all)
+      ∙ first_numbered 0 (map name_of (bodies_of t)) number (name_of c) None c.head.name.name
+      (at_map name_of (bodies_of t) number c (body_at t place k x c at is)) own unlike
+      ∙ (let e : 0 + number ≡ number = omega arith in ap Some e),
+  name_numbered (program_of t) (start_in t.package_) all w place x t place k c at is outside,
+)
+  where
+    all : List BodyItemTree
+    all = declared_in t.package_
+
+    w : IsPackage (program_of t) (start_in t.package_) all
+    w = tree_package t legal restricted (premises t legal).sound
+
+    number : ℕ
+    number = bodies_before t place + k
+
+    own : (is_of c.owner None && bytes_eq c.head.name.name c.head.name.name) ≡ true
+    own = (λ j. is_of (outside j) None && bytes_same c.head.name.name j)
+
+    -- a body of the package in front has another name
+    differs : (m : ℕ) (e : Coded) → m < number → slice_get (bodies_of t) m ≡ Some e → e.owner ≡ None → bytes_eq e.head.name.name c.head.name.name ≡ false
+    differs m e less there none = by_test (bytes_eq e.head.name.name c.head.name.name) refl
+      where
+        by_test : (b : Bool) → bytes_eq e.head.name.name c.head.name.name ≡ b → b ≡ false
+        by_test false same = refl
+        by_test true same =
+            absurd (
+            let f = body_of t m e there in
+            let alike = one_place (program_of t) (start_in t.package_) all w t f.place f.k f.item e place k x c f.at f.is none at is outside
+            (same_bytes e.head.name.name c.head.name.name same) in
+            let counted = f.before in
+            let front = ap (λ n. bodies_among (take n all)) alike.0 in
+            let inside = alike.1 in
+            omega (arith, less, counted, front, inside)
+            )
+
+    unlike : (m : ℕ) (y : BodyName) → m < number → slice_get (map name_of (bodies_of t)) m ≡ Some y
+        → (is_of y.owner None && bytes_eq y.name c.head.name.name) ≡ false
+    unlike m y less there =
+        let e = map_at name_of (bodies_of t) m y there in
+        ap (λ z. is_of z.owner None && bytes_eq z.name c.head.name.name) (sym e.2) ∙ by_owner e.0 e.1 e.0.owner refl
+      where
+        by_owner : (e : Coded) → slice_get (bodies_of t) m ≡ Some e → (o : Option ℕ) → e.owner ≡ o
+            → (is_of e.owner None && bytes_eq e.head.name.name c.head.name.name) ≡ false
+        by_owner e at_m (Some o) owned = ap (λ z. is_of z None && bytes_eq e.head.name.name c.head.name.name) owned
+        by_owner e at_m None owned =
+            ap (λ z. is_of z None && bytes_eq e.head.name.name c.head.name.name) owned ∙ differs m e less at_m owned
+
+-- what has a number is a body of that owner
+pub record IsNumberedBody (t : ProgramTree) (owner : Option ℕ) (number : ℕ) : Type 0 where
+  pub code : Coded
+  pub is : slice_get (bodies_of t) number ≡ Some code
+  pub owned : code.owner ≡ owner
+
+same_owner : (a b : Option ℕ) → is_of a b ≡ true → a ≡ b
+same_owner None None h = refl
+same_owner (Some m) (Some n) h = ap Some (grind (arith, h))
+same_owner None (Some n) h = cc
+same_owner (Some m) None h = cc
+
+found_named : (before : ℕ) (xs : List BodyName) (owner : Option ℕ) (name : List ℕ) (number : ℕ) → number_from before xs owner name ≡ Some number
+    → (k : ℕ) × (x : BodyName) × (slice_get xs k ≡ Some x) × (x.owner ≡ owner) × (number ≡ before + k)
+found_named before [] owner name number h = cc
+found_named before (x ∷ xs) owner name number h =
+    by_tests (is_of x.owner owner) (bytes_eq x.name name) refl h (λ e. found_named (suc before) xs owner name number e)
+  where
+    by_tests : (a b : Bool) → is_of x.owner owner ≡ a → (if a && b then Some before else number_from (suc before) xs owner name) ≡ Some number
+        → (number_from (suc before) xs owner name ≡ Some number
+        → (k : ℕ) × (y : BodyName) × (slice_get xs k ≡ Some y) × (y.owner ≡ owner) × (number ≡ suc before + k))
+        → (k : ℕ) × (y : BodyName) × (slice_get (x ∷ xs) k ≡ Some y) × (y.owner ≡ owner) × (number ≡ before + k)
+    by_tests true true owned e later = (0, x, refl, same_owner x.owner owner owned, (let s = same_some before number e in omega (arith, s)))
+    by_tests true false owned e later =
+        (let r = later e in (suc r.0, r.1, r.2, r.3, (let n = r.4 in omega (arith, n))))
+    by_tests false b owned e later =
+        (let r = later e in (suc r.0, r.1, r.2, r.3, (let n = r.4 in omega (arith, n))))
+
+pub number_of_body : (t : ProgramTree) (owner : Option ℕ) (name : List ℕ) (number : ℕ) → number_in t owner name ≡ Some number → IsNumberedBody t owner number
+number_of_body t owner name number h =
+    let r =
+    found_named 0 (map name_of (bodies_of t)) owner name number (ap (λ l. number_from 0 l owner name) (sym (names_are t 0 (declared_in t.package_))) ∙ h) in
+    let e = map_at name_of (bodies_of t) r.0 r.1 r.2 in
+    let n = r.4 in
+    let same : number ≡ r.0 = omega (arith, n) in
+    record { code = e.0; is = ap (slice_get (bodies_of t)) same ∙ e.1; owned = ap (λ x. x.owner) e.2 ∙ r.3 }

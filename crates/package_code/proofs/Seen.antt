@@ -15,7 +15,8 @@ use Rattle.program_soundness.proofs.WiderScopes.{bytes_same, number_stands, stan
 use Rattle.expr_code.specs.Seeing.{told_of}
 use Rattle.expr_code.specs.declared.visible.Visible.{Visible}
 use Rattle.package_code.specs.Directory.{IsDirectory, IsUnseen, TellsMore, TellsNext}
-use Rattle.package_code.specs.Refusing.{number_in, seen_at, slot_in, told_behind}
+use Rattle.package_code.specs.Bodies.{number_in}
+use Rattle.package_code.specs.Refusing.{seen_at, slot_in, told_behind}
 use Rattle.package_code.specs.declared.directory.Directory.{Directory}
 use Rattle.package_code.proofs.Told.{Grows, item_grows, subprogram_grows}
 
@@ -98,15 +99,15 @@ module _ (t : ProgramTree) where
       scope : v.scope ≡ front t 0
       scope = u.scope ∙ is ∙ begins
 
-      slots : v.slots ≡ told_behind (length start) (slot_in t) (front t 0)
+      slots : v.slots ≡ told_behind (length start) (slot_in t None) (front t 0)
       slots =
-          u.slots ∙ ap (λ l. replicate (length l) None) is ∙ sym (behind_start (slot_in t) start)
-          ∙ ap (told_behind (length start) (slot_in t)) begins
+          u.slots ∙ ap (λ l. replicate (length l) None) is ∙ sym (behind_start (slot_in t None) start)
+          ∙ ap (told_behind (length start) (slot_in t None)) begins
 
-      subprograms : v.subprograms ≡ told_behind (length start) (number_in t) (front t 0)
+      subprograms : v.subprograms ≡ told_behind (length start) (number_in t None) (front t 0)
       subprograms =
-          u.subprograms ∙ ap (λ l. replicate (length l) None) is ∙ sym (behind_start (number_in t) start)
-          ∙ ap (told_behind (length start) (number_in t)) begins
+          u.subprograms ∙ ap (λ l. replicate (length l) None) is ∙ sym (behind_start (number_in t None) start)
+          ∙ ap (told_behind (length start) (number_in t None)) begins
 
   -- what an item declares is visible behind the package
   pub known_name : (place : ℕ) (i : BodyItemTree) (name : List ℕ) (e : Entity) → slice_get all place ≡ Some i
@@ -152,26 +153,26 @@ module _ (t : ProgramTree) where
     by_growth later tells (inl same) (inl kept) =
         λ j. record {
           scope = tells.scope j;
-          slots = (ap (λ v. v.slots) kept ∙ ap (told_behind (length start) (slot_in t)) (sym same)) j;
-          subprograms = (ap (λ v. v.subprograms) kept ∙ ap (told_behind (length start) (number_in t)) (sym same)) j;
+          slots = (ap (λ v. v.slots) kept ∙ ap (told_behind (length start) (slot_in t None)) (sym same)) j;
+          subprograms = (ap (λ v. v.subprograms) kept ∙ ap (told_behind (length start) (number_in t None)) (sym same)) j;
         }
     by_growth later tells (inl same) (inr added) =
         absurd (
         let a = one_long mid.slots later.slots (told_of whole d.slots.items name) (length here) (length next) added.slots
-        (behind_long (slot_in t) (length start) here) (tells.entries.slots ∙ ap length tells.scope) in
+        (behind_long (slot_in t None) (length start) here) (tells.entries.slots ∙ ap length tells.scope) in
         let b = ap length same in omega (arith, a, b)
         )
     by_growth later tells (inr grown) (inl kept) =
         absurd (
-        let a = sym (ap (λ v. length v.slots) kept ∙ behind_long (slot_in t) (length start) here) ∙ tells.entries.slots ∙ ap length tells.scope in
+        let a = sym (ap (λ v. length v.slots) kept ∙ behind_long (slot_in t None) (length start) here) ∙ tells.entries.slots ∙ ap length tells.scope in
         let b = ap length grown.1 ∙ length-append here (record { name = name; entity = grown.0 } ∷ []) in omega (arith, a, b)
         )
     by_growth later tells (inr grown) (inr added) =
         λ j. record {
           scope = tells.scope j;
-          slots = (added.slots ∙ told_more (slot_in t) (told_of whole d.slots.items name) grown.0 grown.1 (is.slots name)) j;
+          slots = (added.slots ∙ told_more (slot_in t None) (told_of whole d.slots.items name) grown.0 grown.1 (is.slots name)) j;
           subprograms = (added.subprograms
-              ∙ told_more (number_in t) (told_of whole d.numbers.items name) grown.0 grown.1 (is.numbers name known.0 known.1)) j;
+              ∙ told_more (number_in t None) (told_of whole d.numbers.items name) grown.0 grown.1 (is.numbers name known.0 known.1)) j;
         }
 
     pub seen_next : (old later : Visible) (scope : Scope) → old ≡ seen_at t place → scope ≡ next → Grows here name next

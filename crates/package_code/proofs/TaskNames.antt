@@ -1,11 +1,11 @@
 -- The name of a task's body stands for a task, and no two bodies with code have one name.
-use Rattle.std.proofs.Common.{◌≡◌, ℕ, ◌<◌, List, [], take, Bool, true, false, ◌||◌, Option, Some, None, refl, sym, ap, ◌∙◌}
+use Rattle.std.proofs.Common.{◌≡◌, ℕ, zero, suc, ◌<◌, List, [], take, true, false, ◌||◌, ◌⊎◌, inl, inr, Option, Some, None, refl, sym, ap, ◌∙◌, arith}
 use Rattle.std.specs.List.{list_any}
-use Rattle.std.specs.Prelude.{bytes_eq, is_some, not, slice_get}
+use Rattle.std.specs.Prelude.{is_some, not, slice_get}
 use Rattle.std.proofs.lemmas.Bool.{or_parts}
 use Rattle.ada_tree.specs.declared.expression.Identifier.{Identifier}
 use Rattle.ada_tree.specs.StatementTree.{SubprogramTree}
-use Rattle.ada_tree.specs.ProgramTree.{BodyItemTree, BodyTree, SubprogramBody, TaskBody}
+use Rattle.ada_tree.specs.ProgramTree.{BodyItemTree, BodyTree, ProgramTree, SubprogramBody, TaskBody}
 use Rattle.types.specs.Entities.{Doubtful, Entity, Subprogram, Task}
 use Rattle.types.specs.Scopes.{Scope, number_of}
 use Rattle.declaring.specs.LocalRules.{fixed_locals_faults, locals_scope}
@@ -21,9 +21,9 @@ use Rattle.program_soundness.proofs.Listing.{none_passes, taken_at}
 use Rattle.program_soundness.proofs.OneList.{is_subprogram_body, is_task_body, matched_at}
 use Rattle.program_soundness.proofs.Walked.{legal_at}
 use Rattle.program_soundness.proofs.Whole.{IsPackage, kept, no_doubt}
-use Rattle.program_soundness.proofs.WiderScopes.{equal_bytes, number_stands, same_bytes, stands}
-use Rattle.package_code.specs.Walking.{Coded, coded}
-use Rattle.package_code.proofs.Coded.{coded_by}
+use Rattle.program_soundness.proofs.WiderScopes.{equal_bytes, number_stands, stands}
+use Rattle.package_code.specs.Bodies.{Coded, coded_at}
+use Rattle.package_code.proofs.Coded.{outside_by}
 
 module _ (program : Program) (s : Scope) (all : List BodyItemTree) (w : IsPackage program s all) where
   pub task_entity : (k : ℕ) (name : Identifier) (b : BodyTree) → slice_get all k ≡ Some (TaskBody name b)
@@ -48,12 +48,12 @@ module _ (program : Program) (s : Scope) (all : List BodyItemTree) (w : IsPackag
       by_entity (Some x) e h = cc
 
   -- the name of a body with code is visible behind the package
-  pub name_numbered : (k : ℕ) (x : BodyItemTree) (c : Coded) → slice_get all k ≡ Some x → coded x ≡ Some c
-      → is_some (number_of program.scope c.head.name.name) ≡ true
-  name_numbered k x c at is =
-      coded_by (λ y e. slice_get all k ≡ Some y → is_some (number_of program.scope e.head.name.name) ≡ true)
+  pub name_numbered : (k : ℕ) (x : BodyItemTree) (t : ProgramTree) (place j : ℕ) (c : Coded) → slice_get all k ≡ Some x
+      → slice_get (coded_at t place x) j ≡ Some c → c.owner ≡ None → is_some (number_of program.scope c.head.name.name) ≡ true
+  name_numbered k x t place j c at is outside =
+      outside_by t place (λ y n e. slice_get all k ≡ Some y → is_some (number_of program.scope e.head.name.name) ≡ true)
       (λ d b there. let e = body_entity program s all w k d b there in seen d.name.name (Subprogram e.profile) e.stands_)
-      (λ name b there. let e = task_entity k name b there in seen name.name (Task e.0) e.1) x c is at
+      (λ name b there. let e = task_entity k name b there in seen name.name (Task e.0) e.1) x j c is outside at
     where
       seen : (name : List ℕ) (e : Entity) → stands program.scope name ≡ Some e → is_some (number_of program.scope name) ≡ true
       seen name e h = ap is_some (number_stands program.scope name e h).1
@@ -87,19 +87,42 @@ module _ (program : Program) (s : Scope) (all : List BodyItemTree) (w : IsPackag
       let bad = sym none ∙ equal_bytes other.name one.name (sym same) in
       cc
 
-  pub unlike_names : (n k : ℕ) (y : BodyItemTree) (e : Coded) (x : BodyItemTree) (c : Coded) → n < k → slice_get all n ≡ Some y → coded y ≡ Some e
-      → slice_get all k ≡ Some x → coded x ≡ Some c → bytes_eq e.head.name.name c.head.name.name ≡ false
-  unlike_names n k y e x c less there code at is = by_test (bytes_eq e.head.name.name c.head.name.name) refl
-    where
-      unlike : e.head.name.name ≡ c.head.name.name → ⊥
-      unlike =
-          coded_by (λ z f. slice_get all n ≡ Some z → f.head.name.name ≡ c.head.name.name → ⊥)
-          (λ d b front. coded_by (λ z f. slice_get all k ≡ Some z → d.name.name ≡ f.head.name.name → ⊥)
-          (λ g h later. two_subprograms n k d g b h less front later) (λ name h later. task_or_subprogram n k d b name h front later) x c is at)
-          (λ one b front. coded_by (λ z f. slice_get all k ≡ Some z → one.name ≡ f.head.name.name → ⊥)
-          (λ g h later same. task_or_subprogram k n g h one b later front (sym same)) (λ other h later. two_tasks n k one other b h less front later) x c is at)
-          y e code there
+  module _ (t : ProgramTree) where
+    -- bodies of one name, of no object, do not stand one in front of the other
+    unlike : (n k : ℕ) (p i : ℕ) (y : BodyItemTree) (e : Coded) (q j : ℕ) (x : BodyItemTree) (c : Coded) → n < k
+        → slice_get all n ≡ Some y → slice_get (coded_at t p y) i ≡ Some e → e.owner ≡ None
+        → slice_get all k ≡ Some x → slice_get (coded_at t q x) j ≡ Some c → c.owner ≡ None → e.head.name.name ≡ c.head.name.name → ⊥
+    unlike n k p i y e q j x c less there code none at is outside =
+        outside_by t p (λ z m f. slice_get all n ≡ Some z → f.head.name.name ≡ c.head.name.name → ⊥)
+        (λ d b front. outside_by t q (λ z m f. slice_get all k ≡ Some z → d.name.name ≡ f.head.name.name → ⊥)
+        (λ g h later. two_subprograms n k d g b h less front later) (λ name h later. task_or_subprogram n k d b name h front later) x j c is outside at)
+        (λ one b front. outside_by t q (λ z m f. slice_get all k ≡ Some z → one.name ≡ f.head.name.name → ⊥)
+        (λ g h later same. task_or_subprogram k n g h one b later front (sym same)) (λ other h later. two_tasks n k one other b h less front later) x j c is
+        outside at)
+        y i e code none there
 
-      by_test : (b : Bool) → bytes_eq e.head.name.name c.head.name.name ≡ b → b ≡ false
-      by_test false same = refl
-      by_test true same = absurd (unlike (same_bytes e.head.name.name c.head.name.name same))
+    -- of an item that is such a body there is no other
+    alone : (p i : ℕ) (x : BodyItemTree) (c : Coded) → slice_get (coded_at t p x) i ≡ Some c → c.owner ≡ None → i ≡ 0
+    alone p i x c is outside = outside_by t p (λ z m f. m ≡ 0) (λ d b. refl) (λ name b. refl) x i c is outside
+
+    -- they stand at one place
+    pub one_place : (n i : ℕ) (y : BodyItemTree) (e : Coded) (k j : ℕ) (x : BodyItemTree) (c : Coded)
+        → slice_get all n ≡ Some y → slice_get (coded_at t n y) i ≡ Some e → e.owner ≡ None
+        → slice_get all k ≡ Some x → slice_get (coded_at t k x) j ≡ Some c → c.owner ≡ None → e.head.name.name ≡ c.head.name.name
+        → (n ≡ k) × (i ≡ j)
+    one_place n i y e k j x c there code none at is outside same =
+        (by_order (order n k), alone n i y e code none ∙ sym (alone k j x c is outside))
+      where
+        order : (a b : ℕ) → (a < b) ⊎ ((a ≡ b) ⊎ (b < a))
+        order zero zero = inr (inl refl)
+        order zero (suc b) = inl (omega arith)
+        order (suc a) zero = inr (inr (omega arith))
+        order (suc a) (suc b) = elim (order a b) [
+          | inl less ↦ inl (omega (arith, less))
+          | inr r ↦ elim r [ inl eq ↦ inr (inl (ap suc eq)) | inr less ↦ inr (inr (omega (arith, less))) ]
+        ]
+
+        by_order : (n < k) ⊎ ((n ≡ k) ⊎ (k < n)) → n ≡ k
+        by_order (inl less) = absurd (unlike n k n i y e k j x c less there code none at is outside same)
+        by_order (inr (inl eq)) = eq
+        by_order (inr (inr less)) = absurd (unlike k n k j x c n i y e less at is outside there code none (sym same))

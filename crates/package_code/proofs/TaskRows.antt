@@ -9,14 +9,13 @@ use Rattle.types.specs.Scopes.{Scope, number_of}
 use Rattle.expr_soundness.specs.expr_rules.proofs.TypedLaw.{unbroken}
 use Rattle.expr_soundness.specs.meaning.specs.Programs.{OfBody, Task, body_among, items_among, package_bodies, program_of, task_with, tasks_among}
 use Rattle.program_soundness.specs.BodyLaws.{PremisesHold}
-use Rattle.program_soundness.specs.Fronts.{declared_in, start_in}
+use Rattle.program_soundness.specs.Fronts.{declared_in, front, start_in}
 use Rattle.program_soundness.proofs.Listing.{Has, dropped_at, has_either, one_passes, passes_at}
 use Rattle.program_soundness.proofs.OneList.{is_task_body, matched_at}
 use Rattle.program_soundness.proofs.Trees.{tree_package}
 use Rattle.program_soundness.proofs.WiderScopes.{equal_bytes, same_bytes}
 use Rattle.package_code.specs.Laws.{TasksHaveBodies}
-use Rattle.package_code.specs.Refusing.{number_in}
-use Rattle.package_code.specs.Walking.{of_task}
+use Rattle.package_code.specs.Bodies.{number_in, of_task}
 use Rattle.package_code.proofs.Numbered.{bodies_numbered}
 use Rattle.package_code.proofs.Placed.{items_are}
 
@@ -81,7 +80,7 @@ all_bodies : (name : Identifier) (o : Option PackageTree) → body_among name (d
 all_bodies name (Some p) = bodies_joined name p.declaration.items p.body.items
 all_bodies name None = refl
 
-item_there : (all : List BodyItemTree) (n : ℕ) (d : ItemTree) → slice_get (items_among all) n ≡ Some d → (k : ℕ) × (slice_get all k ≡ Some (OfItem d))
+pub item_there : (all : List BodyItemTree) (n : ℕ) (d : ItemTree) → slice_get (items_among all) n ≡ Some d → (k : ℕ) × (slice_get all k ≡ Some (OfItem d))
 item_there [] n d h = cc
 item_there (OfItem i ∷ all) zero d h = (0, ap (λ o. elim o [ Some x ↦ Some (OfItem x) | None ↦ None ]) h)
 item_there (OfItem i ∷ all) (suc n) d h = let r = item_there all n d h in (suc r.0, r.1)
@@ -130,13 +129,14 @@ tasks_have_bodies premises t legal restricted place d at =
     let own = task_passes d.name one.1 one.3 in
     let there : slice_get all (suc item.0 + one.0) ≡ Some (TaskBody own.0 own.1) =
     sym (dropped_at all (suc item.0) one.0) ∙ one.2 ∙ ap Some own.2 in
-    let numbered = bodies_numbered premises t legal restricted (suc item.0 + one.0) (TaskBody own.0 own.1) (of_task own.0 own.1) there refl in
+    let numbered = bodies_numbered premises t legal restricted (suc item.0 + one.0) (TaskBody own.0 own.1) 0
+    (of_task (front t (suc (suc item.0 + one.0))) own.0 own.1) there refl refl in
     let any : list_any (is_task_body d.name) all ≡ true =
     passes_at (is_task_body d.name) all (suc item.0 + one.0) (TaskBody own.0 own.1) there (ap (is_task_body d.name) (sym own.2) ∙ one.3) in
     let body = one_body d.name all any in
     record {
       body = body.0;
       alone = sym (all_bodies d.name t.package_) ∙ body.1;
-      numbered = ap (λ name. is_some (number_in t name)) (sym own.3) ∙ ap is_some numbered.0;
+      numbered = ap (λ name. is_some (number_in t None name)) (sym own.3) ∙ ap is_some numbered.0;
       visible = ap (λ name. is_some (number_of (program_of t).scope name)) (sym own.3) ∙ numbered.1;
     }

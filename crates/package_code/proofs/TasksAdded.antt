@@ -11,7 +11,7 @@ use Rattle.expr_soundness.specs.meaning.specs.Programs.{Task, base_priority, bod
 use Rattle.expr_code.specs.Seeing.{told_of}
 use Rattle.step_simulation.specs.part_code.proofs.Lists.{mapped_next}
 use Rattle.package_code.specs.Directory.{IsDirectory}
-use Rattle.package_code.specs.Refusing.{number_in}
+use Rattle.package_code.specs.Bodies.{number_in}
 use Rattle.package_code.specs.Tasks.{AddsTasks, AreKnownTasks, HaveTasks, IsKnownTask}
 use Rattle.package_code.specs.declared.directory.Directory.{Directory}
 use Rattle.package_code.proofs.Declared.{among_both}
@@ -53,7 +53,7 @@ module _ (t : ProgramTree) where
   }
 
   pub adds_one : (old new : List rows.Task) (d : TaskTree) (row : rows.Task) → IsKnownTask t d → row.name ≡ d.name.name
-      → row.priority ≡ base_priority (program_of t).scope d.aspect → number_in t d.name.name ≡ Some row.subprogram → new ≡ old ++ row ∷ []
+      → row.priority ≡ base_priority (program_of t).scope d.aspect → number_in t None d.name.name ≡ Some row.subprogram → new ≡ old ++ row ∷ []
       → AddsTasks t old (OfTask d ∷ []) new
   adds_one old new d row known name priority number appended = record {
     added = row ∷ [];
@@ -64,11 +64,11 @@ module _ (t : ProgramTree) where
 
   -- the number that the directory tells of a task's name is that of its body
   pub told_number : (directory : Directory) → IsDirectory t directory → (d : TaskTree) → IsKnownTask t d
-      → told_of (program_of t).scope directory.numbers.items d.name.name ≡ number_in t d.name.name
+      → told_of (program_of t).scope directory.numbers.items d.name.name ≡ number_in t None d.name.name
   told_number directory is d known = by_number (number_of (program_of t).scope d.name.name) refl known.visible
     where
       by_number : (o : Option ℕ) → number_of (program_of t).scope d.name.name ≡ o → is_some o ≡ true
-          → told_of (program_of t).scope directory.numbers.items d.name.name ≡ number_in t d.name.name
+          → told_of (program_of t).scope directory.numbers.items d.name.name ≡ number_in t None d.name.name
       by_number (Some n) e h = is.numbers d.name.name n e
       by_number None e h = cc
 

@@ -1,8 +1,8 @@
 -- How far a walk over a package is: in front of it, behind a declaration, and behind a body, with the rows of handlers that it has.
-use Rattle.std.proofs.Common.{◌≡◌, ℕ, zero, suc, ◌+◌, ◌<◌, ◌≤◌, List, [], ◌∷◌, ◌++◌, length, ◌⊎◌, inl, inr, Some, refl, sym, ap, ◌∙◌, subst, arith, append-nil, append_assoc, length-append}
+use Rattle.std.proofs.Common.{◌≡◌, ℕ, zero, suc, ◌+◌, ◌<◌, ◌≤◌, List, [], ◌∷◌, ◌++◌, length, ◌⊎◌, inl, inr, None, Some, refl, sym, ap, ◌∙◌, subst, arith, append-nil, append_assoc, length-append}
 use Rattle.std.proofs.lemmas.List.Elements.{All-append, All-nil, All-weaker}
 use Rattle.std.proofs.lemmas.Option.{slice_get_within}
-use Rattle.std.specs.Prelude.{slice_get, take}
+use Rattle.std.specs.Prelude.{slice_get}
 use Rattle.ada_tree.specs.declared.expression.Identifier.{Identifier}
 use Rattle.ada_tree.specs.StatementTree.{SubprogramTree}
 use Rattle.ada_tree.specs.ProgramTree.{BodyItemTree, BodyTree, ItemTree, OfItem, ProgramTree, SubprogramBody, TaskBody}
@@ -26,13 +26,13 @@ use Rattle.step_simulation.specs.part_code.specs.Rows.{LiesWithin}
 use Rattle.stmt_code.specs.Subprograms.{KeepsRules, fresh}
 use Rattle.stmt_code.specs.declared.draft.Draft.{Draft}
 use Rattle.stmt_code.proofs.RowsAdded.{rows_kept, rows_then}
-use Rattle.package_code.specs.Counts.{bodies_among, bodies_before}
+use Rattle.package_code.specs.Bodies.{Coded, bodies_among, bodies_before, bodies_of, coded_at, of_subprogram, of_task}
 use Rattle.package_code.specs.Directory.{AreTold, TellsNext}
 use Rattle.package_code.specs.Laws.{MayBeAdded}
-use Rattle.package_code.specs.Walking.{AddsBody, AddsSubprogram, BeginsWalk, Coded, HasBody, HasRows, IsDraftKept, IsWalked, LieInFront, LiesInOne, begins_at, coded, of_subprogram, of_task, row_of}
+use Rattle.package_code.specs.Walking.{AddsBody, AddsSubprogram, BeginsWalk, HasBody, HasRows, IsDraftKept, IsWalked, LieInFront, LiesInOne, begins_at, row_of}
 use Rattle.package_code.specs.declared.directory.Directory.{Directory}
 use Rattle.package_code.specs.declared.walk.Walk.{Walk}
-use Rattle.package_code.proofs.Coded.{counts_one}
+use Rattle.package_code.proofs.Coded.{among_next, body_at, coded_many}
 use Rattle.package_code.proofs.Seen.{first_front}
 use Rattle.package_code.proofs.Told.{Grows, item_grows, subprogram_grows, told_next, unseen_told}
 
@@ -151,21 +151,7 @@ module _ (all : List Subprogram) (row : Subprogram) (old new : Draft) (has : Has
         (All-weaker (LiesWithin (here old.code) (here new.code)) (LiesInOne more) inside_last adds.added adds.within);
   }
 
--- ---- how many bodies there are
-
-among_next : (items : List BodyItemTree) (n : ℕ) (x : BodyItemTree) → slice_get items n ≡ Some x
-    → bodies_among (take (suc n) items) ≡ bodies_among (take n items) + bodies_among (x ∷ [])
-among_next [] n x h = cc
-among_next (y ∷ items) zero x h = (let e = ap (λ z. bodies_among (z ∷ [])) (same_some y x h) in omega (arith, e))
-among_next (SubprogramBody d b ∷ items) (suc n) x h = (let more = among_next items n x h in omega (arith, more))
-among_next (TaskBody name b ∷ items) (suc n) x h = (let more = among_next items n x h in omega (arith, more))
-among_next (y ∷ items) (suc n) x h = among_next items n x h
-
 -- ---- the walk
-
--- one item is the code of one body
-same_code : (x y : BodyItemTree) (c e : Coded) → Some x ≡ Some y → coded x ≡ Some c → coded y ≡ Some e → c ≡ e
-same_code x y c e h is other = same_some c e (sym is ∙ ap coded (same_some x y h) ∙ other)
 
 module _ (t : ProgramTree) (directory : Directory) where
   abbrev all : List BodyItemTree
@@ -186,7 +172,7 @@ module _ (t : ProgramTree) (directory : Directory) where
   walk_begins s names w begins is known = record {
     scope = begins.visible.scope ∙ is ∙ sym (ap (front t) begins.place ∙ first_front (start_in t.package_) all);
     told = unseen_told whole directory s w.visible begins.visible;
-    bodies = λ n x c less at is. absurd (let place = begins.place in omega (arith, less, place));
+    bodies = λ n c less is. absurd (let none = ap length begins.subprograms in omega (arith, less, none));
     end = ap (λ l. begins_at l (length l)) begins.subprograms ∙ sym (ap length begins.instructions);
     many = ap length begins.subprograms ∙ sym (ap (bodies_before t) begins.place);
     exceptions = begins.exceptions ∙ known;
@@ -194,12 +180,13 @@ module _ (t : ProgramTree) (directory : Directory) where
   }
 
   -- what bodies have stays while more are added
-  moved : (old new : Walk) (place : ℕ) (c : Coded) (more : List Subprogram) → IsDraftKept old.draft new.draft
+  moved : (old new : Walk) (number : ℕ) (c : Coded) (more : List Subprogram) → IsDraftKept old.draft new.draft
       → new.subprograms.items ≡ old.subprograms.items ++ more
-      → HasBody t directory place c old → HasBody t directory place c new
-  moved old new place c more kept subprograms has =
-      let within = slice_get_within old.subprograms.items has.number (row_of c.kind has.words (here has.new.code)) has.there in
+      → HasBody t directory number c old → HasBody t directory number c new
+  moved old new number c more kept subprograms has =
+      let within = slice_get_within old.subprograms.items number (row_of c.kind has.words (here has.new.code)) has.there in
       record {
+        outside = has.outside;
         seen = has.seen;
         scope = has.scope;
         told = has.told;
@@ -210,12 +197,10 @@ module _ (t : ProgramTree) (directory : Directory) where
         called = has.called;
         keeps = has.keeps;
         before = has.before;
-        number = has.number;
         numbered = has.numbered;
-        counted = has.counted;
-        there = ap (λ l. slice_get l has.number) subprograms
-            ∙ item_kept old.subprograms.items more has.number (row_of c.kind has.words (here has.new.code)) has.there;
-        begins = ap (λ l. begins_at l has.number) subprograms ∙ begins_kept old.subprograms.items more has.number (omega (arith, within)) ∙ has.begins;
+        there = ap (λ l. slice_get l number) subprograms
+            ∙ item_kept old.subprograms.items more number (row_of c.kind has.words (here has.new.code)) has.there;
+        begins = ap (λ l. begins_at l number) subprograms ∙ begins_kept old.subprograms.items more number (omega (arith, within)) ∙ has.begins;
         kept = kept_then has.new old.draft new.draft has.kept kept;
       }
 
@@ -233,9 +218,12 @@ module _ (t : ProgramTree) (directory : Directory) where
   declared_next old new i walked at place draft subprograms scope told = record {
     scope = scope ∙ ap (front t) (sym next);
     told = told;
-    bodies = λ n x c less there is. by_place n x c there is (last_or_before n old.place (omega (arith, less, place)));
+    bodies = λ n c less is. moved old new n c [] (subst (IsDraftKept old.draft) (sym draft) (kept_self old.draft))
+        (ap (λ l. l.items) subprograms ∙ sym (append-nil old.subprograms.items))
+        (walked.bodies n c (let same = ap (λ l. length l.items) subprograms in omega (arith, less, same)) is);
     end = ap (λ l. begins_at l.items (length l.items)) subprograms ∙ walked.end ∙ ap (λ z. here z.code) (sym draft);
-    many = ap (λ l. length l.items) subprograms ∙ walked.many ∙ sym (ap (bodies_before t) next ∙ more_before old.place (OfItem i) at ∙ plus_none (bodies_before t old.place));
+    many = ap (λ l. length l.items) subprograms ∙ walked.many
+        ∙ sym (ap (bodies_before t) next ∙ more_before old.place (OfItem i) at ∙ plus_none (bodies_before t old.place));
     exceptions = ap (λ z. z.exceptions.items) draft ∙ walked.exceptions;
     rows = subst (λ z. HasRows new.subprograms.items z) (sym draft) (subst (λ l. HasRows l.items old.draft) (sym subprograms) walked.rows);
   }
@@ -243,31 +231,23 @@ module _ (t : ProgramTree) (directory : Directory) where
       next : new.place ≡ suc old.place
       next = omega (arith, place)
 
-      no_code : (x : BodyItemTree) (c : Coded) → Some (OfItem i) ≡ Some x → coded x ≡ Some c → ⊥
-      no_code x c h is = let none : coded (OfItem i) ≡ Some c = ap coded (same_some (OfItem i) x h) ∙ is in cc
-
-      by_place : (n : ℕ) (x : BodyItemTree) (c : Coded) → slice_get all n ≡ Some x → coded x ≡ Some c → (n ≡ old.place) ⊎ (n < old.place)
-          → HasBody t directory n c new
-      by_place n x c there is (inl same) = absurd (no_code x c (sym at ∙ ap (slice_get all) (sym same) ∙ there) is)
-      by_place n x c there is (inr less) =
-          moved old new n c [] (subst (IsDraftKept old.draft) (sym draft) (kept_self old.draft))
-          (ap (λ l. l.items) subprograms ∙ sym (append-nil old.subprograms.items))
-          (walked.bodies n x c less there is)
-
-  -- behind a body, whose code was added where its name is visible
+  -- behind a body of no object, the only one of its item, whose code was added where its name is visible
   pub body_next : (old mid after new : Walk) (item : BodyItemTree) (c : Coded) → IsWalked t directory old
-      → slice_get all old.place ≡ Some item → coded item ≡ Some c
+      → slice_get all old.place ≡ Some item → coded_at t old.place item ≡ c ∷ [] → c.owner ≡ None → c.front ≡ front t (suc old.place)
       → mid.draft ≡ old.draft → mid.subprograms ≡ old.subprograms → mid.visible.scope ≡ front t (suc old.place) → AreTold whole directory mid.visible
       → AddsBody t directory c mid after
       → new.place ≡ old.place + 1 → new.draft ≡ after.draft → new.subprograms ≡ after.subprograms → new.visible ≡ after.visible
       → IsWalked t directory new
-  body_next old mid after new item c walked at is draft subprograms scope told adds place new_draft new_subprograms new_visible = record {
+  body_next old mid after new item c walked at alone outside own draft subprograms scope told adds place new_draft new_subprograms new_visible = record {
     scope = ap (λ v. v.scope) seen ∙ scope ∙ ap (front t) (sym next);
     told = subst (AreTold whole directory) (sym seen) told;
-    bodies = λ n x e less there coded_as. by_place n x e there coded_as (last_or_before n old.place (omega (arith, less, place)));
+    bodies = λ n e less there. by_number n e there
+        (last_or_before n (length old.subprograms.items)
+        (let long = ap length rows ∙ length-append old.subprograms.items (row ∷ []) in omega (arith, less, long)));
     end = ap (λ l. begins_at l (length l)) rows ∙ begins_behind old.subprograms.items row ∙ ap (λ z. here z.code) (sym new_draft);
     many = ap length rows ∙ length-append old.subprograms.items (row ∷ []) ∙ ap (λ n. n + 1) walked.many
-        ∙ sym (ap (bodies_before t) next ∙ more_before old.place item at ∙ ap (λ n. bodies_before t old.place + n) (counts_one item c is []));
+        ∙ sym (ap (bodies_before t) next ∙ more_before old.place item at
+        ∙ ap (λ n. bodies_before t old.place + n) (sym (coded_many t old.place item) ∙ ap length alone));
     exceptions = ap (λ e. e.items) kept.exceptions ∙ walked.exceptions;
     rows = subst (λ l. HasRows l new.draft) (sym rows)
         (rows_more old.subprograms.items row old.draft new.draft walked.rows keeps.rows keeps.extends walked.end (ap (λ z. here z.code) (sym new_draft)));
@@ -298,10 +278,11 @@ module _ (t : ProgramTree) (directory : Directory) where
       kept : IsDraftKept old.draft new.draft
       kept = kept_by old.draft new.draft keeps.extends keeps.labels keeps.rows
 
-      this : HasBody t directory old.place c new
+      this : HasBody t directory (length old.subprograms.items) c new
       this = record {
+        outside = outside;
         seen = mid.visible;
-        scope = scope;
+        scope = scope ∙ sym own;
         told = told;
         old = old.draft;
         new = new.draft;
@@ -310,9 +291,7 @@ module _ (t : ProgramTree) (directory : Directory) where
         called = adds.called;
         keeps = keeps;
         before = rows_in_front old.subprograms.items old.draft walked.rows;
-        number = length old.subprograms.items;
         numbered = adds.numbered ∙ ap (λ l. Some (length l.items)) subprograms;
-        counted = walked.many;
         there = ap (λ l. slice_get l (length old.subprograms.items)) rows ∙ get_last old.subprograms.items row
             ∙ ap (λ z. Some (row_of c.kind adds.words (here z.code))) (sym new_draft);
         begins = ap (λ l. begins_at l (length old.subprograms.items)) rows
@@ -320,12 +299,18 @@ module _ (t : ProgramTree) (directory : Directory) where
         kept = kept_self new.draft;
       }
 
-      by_place : (n : ℕ) (x : BodyItemTree) (e : Coded) → slice_get all n ≡ Some x → coded x ≡ Some e → (n ≡ old.place) ⊎ (n < old.place)
+      -- the body of that number
+      that : slice_get (bodies_of t) (length old.subprograms.items) ≡ Some c
+      that =
+          let plus : bodies_before t old.place ≡ bodies_before t old.place + 0 = omega arith in
+          ap (slice_get (bodies_of t)) (walked.many ∙ plus) ∙ body_at t old.place 0 item c at (ap (λ l. slice_get l 0) alone)
+
+      by_number : (n : ℕ) (e : Coded) → slice_get (bodies_of t) n ≡ Some e → (n ≡ length old.subprograms.items) ⊎ (n < length old.subprograms.items)
           → HasBody t directory n e new
-      by_place n x e there coded_as (inl same) =
-          let code = same_code item x c e (sym at ∙ ap (slice_get all) (sym same) ∙ there) is coded_as in
-          subst (λ k. HasBody t directory k e new) (sym same) (subst (λ z. HasBody t directory old.place z new) code this)
-      by_place n x e there coded_as (inr less) = moved old new n e (row ∷ []) kept rows (walked.bodies n x e less there coded_as)
+      by_number n e there (inl same) =
+          let code : c ≡ e = same_some c e (sym that ∙ ap (slice_get (bodies_of t)) (sym same) ∙ there) in
+          subst (λ k. HasBody t directory k e new) (sym same) (subst (λ z. HasBody t directory (length old.subprograms.items) z new) code this)
+      by_number n e there (inr less) = moved old new n e (row ∷ []) kept rows (walked.bodies n e less there)
 
   -- behind what code does there
   pub declared_goes : (old new : Walk) (i : ItemTree) (scope told_in : Scope) (name : Identifier) (later : Visible) → IsWalked t directory old
@@ -362,27 +347,30 @@ module _ (t : ProgramTree) (directory : Directory) where
     may_be_added added = subst (λ s. MayBeAdded t s d b) (sym scope_there) added
 
     pub body_goes : (mid after new : Walk) → mid.visible ≡ later → mid.draft ≡ old.draft → mid.subprograms ≡ old.subprograms
-        → AddsBody t directory (of_subprogram d b) mid after
+        → AddsBody t directory (of_subprogram mid.visible.scope d b) mid after
         → new.place ≡ old.place + 1 → new.draft ≡ after.draft → new.subprograms ≡ after.subprograms → new.visible ≡ after.visible
         → IsWalked t directory new
     body_goes mid after new visible draft subprograms adds place new_draft new_subprograms new_visible =
-        body_next old mid after new (SubprogramBody d b) (of_subprogram d b) walked at refl draft subprograms (ap (λ v. v.scope) visible ∙ scope_there)
+        body_next old mid after new (SubprogramBody d b) (of_subprogram (front t (suc old.place)) d b) walked at refl refl refl draft subprograms
+        (ap (λ v. v.scope) visible ∙ scope_there)
         (subst (AreTold whole directory) (sym visible)
         (told_next whole directory old.visible seen later d.name.name walked.told refl refl
         (subst (Grows old.visible.scope d.name.name) (sym goes) (subprogram_grows old.visible.scope d)) tells))
-        adds place new_draft new_subprograms new_visible
+        (subst (λ s. AddsBody t directory (of_subprogram s d b) mid after) (ap (λ v. v.scope) visible ∙ scope_there) adds)
+        place new_draft new_subprograms new_visible
 
   -- behind the body of a task, which makes no name visible
   module _ (old : Walk) (name : Identifier) (b : BodyTree) (walked : IsWalked t directory old) (at : slice_get all old.place ≡ Some (TaskBody name b)) where
     pub task_scope : old.visible.scope ≡ front t (suc old.place)
     task_scope = walked.scope ∙ sym (scope_next (start_in t.package_) all old.place (TaskBody name b) at)
 
-    pub task_may_be_added : MayBeAdded t (front t (suc old.place)) (of_task name b).head b → MayBeAdded t old.visible.scope (of_task name b).head b
-    task_may_be_added added = subst (λ s. MayBeAdded t s (of_task name b).head b) (sym task_scope) added
+    pub task_may_be_added : MayBeAdded t (front t (suc old.place)) (of_task (front t (suc old.place)) name b).head b
+        → MayBeAdded t old.visible.scope (of_task old.visible.scope name b).head b
+    task_may_be_added added = subst (λ s. MayBeAdded t s (of_task s name b).head b) (sym task_scope) added
 
-    pub task_goes : (after new : Walk) → AddsBody t directory (of_task name b) old after
+    pub task_goes : (after new : Walk) → AddsBody t directory (of_task old.visible.scope name b) old after
         → new.place ≡ old.place + 1 → new.draft ≡ after.draft → new.subprograms ≡ after.subprograms → new.visible ≡ after.visible
         → IsWalked t directory new
     task_goes after new adds place new_draft new_subprograms new_visible =
-        body_next old old after new (TaskBody name b) (of_task name b) walked at refl refl refl task_scope walked.told adds place new_draft new_subprograms
-        new_visible
+        body_next old old after new (TaskBody name b) (of_task (front t (suc old.place)) name b) walked at refl refl refl refl refl task_scope walked.told
+        (subst (λ s. AddsBody t directory (of_task s name b) old after) task_scope adds) place new_draft new_subprograms new_visible

@@ -1,35 +1,23 @@
 -- How many instructions the code of each subprogram of a program has at most, and how many steps of one step of the program its frames take: by the text of the
 -- subprogram alone.
-use Rattle.std.specs.Prelude.{ℕ, suc, ◌*◌, List, [], ◌∷◌, ◌++◌, Option, Some, None, slice_get, take}
-use Rattle.ada_tree.specs.ProgramTree.{BodyItemTree, ProgramTree, SubprogramBody, TaskBody}
+use Rattle.std.specs.Prelude.{ℕ, suc, ◌*◌, List, [], ◌∷◌, ◌++◌, map, slice_get}
+use Rattle.ada_tree.specs.ProgramTree.{BodyItemTree, ProgramTree}
 use Rattle.image.specs.Frames.{TaskState}
-use Rattle.program_soundness.specs.Fronts.{declared_in, front}
+use Rattle.program_soundness.specs.Fronts.{declared_in}
 use Rattle.step_simulation.specs.part_code.specs.Bounds.{main_bound, procedure_bound}
+use Rattle.package_code.specs.Bodies.{Coded, coded_at, or_zero}
 
--- how many of these are bodies of subprograms or tasks
-abbrev pub bodies_among : List BodyItemTree → ℕ
-bodies_among [] = 0
-bodies_among (SubprogramBody d b ∷ rest) = suc (bodies_among rest)
-bodies_among (TaskBody name b ∷ rest) = suc (bodies_among rest)
-bodies_among (item ∷ rest) = bodies_among rest
+-- the most instructions of a body: 20 for each part of its tree, and two for each word of an object that is declared in it
+abbrev pub bound_of : Coded → ℕ
+bound_of c = procedure_bound c.front c.head.formals c.body
 
--- how many stand in front of this place of the package, which is the number of the subprogram whose body stands there
-abbrev pub bodies_before : ProgramTree → (place : ℕ) → ℕ
-bodies_before t place = bodies_among (take place (declared_in t.package_))
+abbrev pub bounds_at : ProgramTree → (place : ℕ) → BodyItemTree → List ℕ
+bounds_at t place x = map bound_of (coded_at t place x)
 
--- the most instructions of each body among items that stand from this place on: 20 for each part of its tree, and two for each word of an object that is declared in it
-abbrev pub bound_if_body : ProgramTree → (place : ℕ) → BodyItemTree → List ℕ
-bound_if_body t place (SubprogramBody d b) = procedure_bound (front t (suc place)) d.formals b ∷ []
-bound_if_body t place (TaskBody name b) = procedure_bound (front t (suc place)) [] b ∷ []
-bound_if_body t place item = []
-
+-- of each body among items that stand from this place on
 abbrev pub bounds_from : ProgramTree → (place : ℕ) → List BodyItemTree → List ℕ
 bounds_from t place [] = []
-bounds_from t place (x ∷ rest) = bound_if_body t place x ++ bounds_from t (suc place) rest
-
-abbrev pub or_zero : Option ℕ → ℕ
-or_zero None = 0
-or_zero (Some n) = n
+bounds_from t place (x ∷ rest) = bounds_at t place x ++ bounds_from t (suc place) rest
 
 -- that of the subprogram with this number: bodies in the order of the text, and main behind them
 abbrev pub instructions_bound : ProgramTree → (number : ℕ) → ℕ

@@ -1,6 +1,6 @@
 -- What bodies see of the package: the places of its variables and the subprograms of its bodies, each by the name.
-use Rattle.std.specs.Prelude.{◌≡◌, ◌<◌, ◌⊎◌, ℕ, suc, List, [], ◌∷◌, ◌++◌, length, Option, Some, None, replicate, slice_get, slice_set, ⊤}
-use Rattle.ada_tree.specs.ProgramTree.{BodyItemTree, ProgramTree, SubprogramBody, TaskBody}
+use Rattle.std.specs.Prelude.{◌≡◌, ◌<◌, ◌⊎◌, ◌&&◌, ◌+◌, ℕ, suc, List, [], ◌∷◌, ◌++◌, bytes_eq, if◌then◌else◌, length, nat_eq, Option, Some, None, replicate, slice_get, slice_set, ⊤}
+use Rattle.ada_tree.specs.ProgramTree.{BodyItemTree, ProgramTree, ProtectedBody, ProtectedItemTree, SubprogramBody, TaskBody}
 use Rattle.types.specs.Scopes.{Scope, number_of}
 use Rattle.expr_soundness.specs.meaning.specs.Programs.{program_of}
 use Rattle.expr_code.specs.Seeing.{slot_of, subprogram_of, told_of}
@@ -9,9 +9,10 @@ use Rattle.expr_code.specs.declared.refusal.Refusal.TheVariants as refusal
 use Rattle.expr_code.specs.declared.visible.Slot.{Slot}
 use Rattle.expr_code.specs.declared.visible.Visible.{Visible}
 use Rattle.step_simulation.specs.part_code.specs.Emitting.{HasEntries}
-use Rattle.package_code.specs.Counts.{bodies_among}
-use Rattle.package_code.specs.Refusing.{number_among, number_in, slot_in}
+use Rattle.package_code.specs.Bodies.{bodies_among, names_among, number_from, number_in, object_number, own_name}
+use Rattle.package_code.specs.Refusing.{slot_in}
 use Rattle.package_code.specs.declared.directory.Directory.{Directory}
+use Rattle.package_code.specs.declared.operations.OperationNumber.{OperationNumber}
 
 -- these names are visible, and nothing is told of any
 pub record IsUnseen (s : Scope) (v : Visible) : Type 0 where
@@ -58,7 +59,7 @@ abbrev pub numbered_with : List (Option ℕ) → Option ℕ → (one : ℕ) → 
 numbered_with all None one = all
 numbered_with all (Some number) one = numbered_once all number one (slice_get all number)
 
--- a body has the next number
+-- a body has the next number; those of protected objects have none of the package's names
 abbrev pub numbered_item : Scope → List (Option ℕ) → (one : ℕ) → BodyItemTree → List (Option ℕ)
 numbered_item s all one (SubprogramBody d b) = numbered_with all (number_of s d.name.name) one
 numbered_item s all one (TaskBody name b) = numbered_with all (number_of s name.name) one
@@ -67,7 +68,32 @@ numbered_item s all one item = all
 -- of each visible name is told which of these bodies has it
 pub record HaveBodyNumbers (s : Scope) (items : List BodyItemTree) (numbers : List (Option ℕ)) : Type 0 where
   pub many : length numbers ≡ length s
-  pub told : (name : List ℕ) (n : ℕ) → number_of s name ≡ Some n → told_of s numbers name ≡ number_among 0 items name
+  pub told : (name : List ℕ) (n : ℕ) → number_of s name ≡ Some n → told_of s numbers name ≡ number_from 0 (names_among s items) None name
+
+-- the number that is told of the operation or entry of this object with this name, by the first entry of both
+abbrev pub operation_told : List OperationNumber → (object : ℕ) → (name : List ℕ) → Option ℕ
+operation_told [] o name = None
+operation_told (x ∷ rest) o name = if nat_eq x.object o && bytes_eq x.name name then Some x.number else operation_told rest o name
+
+-- the entries of the bodies of this object, the first of which has this number
+abbrev pub entries_of : (object first : ℕ) → List ProtectedItemTree → List OperationNumber
+entries_of o first [] = []
+entries_of o first (i ∷ is) = record { object = o; name = own_name i; number = first } ∷ entries_of o (suc first) is
+
+-- ... and of the bodies of protected objects among items
+abbrev pub entries_in : Scope → (first : ℕ) → BodyItemTree → List OperationNumber
+entries_in s first (ProtectedBody name items end_name) = entries_of (object_number s name) first items
+entries_in s first item = []
+
+abbrev pub entries_among : Scope → (first : ℕ) → List BodyItemTree → List OperationNumber
+entries_among s first [] = []
+entries_among s first (x ∷ rest) = entries_in s first x ++ entries_among s (first + bodies_among (x ∷ [])) rest
+
+-- What the directory tells of the body with this name, of a subprogram or task, or of an operation of this object. Names of the package are told by their
+-- numbers in `whole`.
+abbrev pub number_told : (whole : Scope) → Directory → (owner : Option ℕ) → (name : List ℕ) → Option ℕ
+number_told whole d None name = told_of whole d.numbers.items name
+number_told whole d (Some o) name = operation_told d.operations.items o name
 
 -- there are more of them than numbers
 abbrev pub HasManyBodies : List BodyItemTree → Refusal → Type 0
@@ -78,5 +104,7 @@ HasManyBodies items refusal.Outside = ⊥
 -- ---- what is told of the names of a program
 
 pub record IsDirectory (t : ProgramTree) (d : Directory) : Type 0 where
-  pub slots : (name : List ℕ) → told_of (program_of t).scope d.slots.items name ≡ slot_in t name
-  pub numbers : (name : List ℕ) (n : ℕ) → number_of (program_of t).scope name ≡ Some n → told_of (program_of t).scope d.numbers.items name ≡ number_in t name
+  pub slots : (name : List ℕ) → told_of (program_of t).scope d.slots.items name ≡ slot_in t None name
+  pub numbers : (name : List ℕ) (n : ℕ) → number_of (program_of t).scope name ≡ Some n
+      → told_of (program_of t).scope d.numbers.items name ≡ number_in t None name
+  pub operations : (o : ℕ) (name : List ℕ) → operation_told d.operations.items o name ≡ number_in t (Some o) name

@@ -1,5 +1,5 @@
 -- What is proved of code that is put together from a program, as statements; each is the contract of a public function.
-use Rattle.std.specs.Prelude.{◌≡◌, ◌+◌, ◌≤◌, ℕ, suc, [], length, true, false, Some, is_some, slice_get}
+use Rattle.std.specs.Prelude.{◌≡◌, ◌+◌, ◌≤◌, ℕ, suc, [], length, true, false, None, Some, is_some, slice_get}
 use Rattle.base.specs.declared.limits.TheConstants.{EXCEPTIONS, LABELS, SUBPROGRAMS, TASKS, WORDS}
 use Rattle.ada_tree.specs.declared.expression.Identifier.{Identifier}
 use Rattle.ada_tree.specs.ExpressionTree.{ExprTree}
@@ -21,13 +21,13 @@ use Rattle.expr_code.specs.Emitting.{IsFit}
 use Rattle.stmt_code.specs.Emitting.{IsLegalRun}
 use Rattle.step_simulation.specs.part_code.specs.Needs.{are_unknown}
 use Rattle.stmt_code.specs.Subprograms.{CallsProcedures}
-use Rattle.package_code.specs.Counts.{bodies_among, bodies_before, instructions_bound}
+use Rattle.package_code.specs.Bodies.{Coded, bodies_among, bodies_before, coded_at, number_in}
+use Rattle.package_code.specs.Counts.{instructions_bound}
 use Rattle.package_code.specs.Globals.{refuses_items}
 use Rattle.package_code.specs.Package.{first_words_of}
 use Rattle.package_code.specs.Program.{HasProgram, KeepsTables}
-use Rattle.package_code.specs.Refusing.{number_in, program_labels, program_needs, seen_at}
+use Rattle.package_code.specs.Refusing.{program_labels, program_needs, seen_at}
 use Rattle.package_code.specs.Tasks.{AreKnownTasks}
-use Rattle.package_code.specs.Walking.{Coded, coded}
 
 -- the names of an accepted program are sound
 abbrev pub NamesAreSound : Type 0
@@ -45,19 +45,19 @@ pub record MayBeAdded (t : ProgramTree) (s : Scope) (d : SubprogramTree) (b : Bo
 
 -- that is so of each body of an accepted program, of a subprogram or a task
 abbrev pub BodiesMayBeAdded : Type 0
-BodiesMayBeAdded = (t : ProgramTree) → IsLegal t → IsRestricted t → (place : ℕ) (item : BodyItemTree) (c : Coded)
-    → slice_get (declared_in t.package_) place ≡ Some item → coded item ≡ Some c
-    → MayBeAdded t (front t (suc place)) c.head c.body
+BodiesMayBeAdded = (t : ProgramTree) → IsLegal t → IsRestricted t → (place : ℕ) (item : BodyItemTree) (k : ℕ) (c : Coded)
+    → slice_get (declared_in t.package_) place ≡ Some item → slice_get (coded_at t place item) k ≡ Some c → c.owner ≡ None
+    → MayBeAdded t c.front c.head c.body
 
 -- main calls procedures of the package without parameters
 abbrev pub MainMayBeAdded : Type 0
 MainMayBeAdded = (t : ProgramTree) → IsLegal t → IsRestricted t → CallsProcedures (front t (length (declared_in t.package_))) t.main.statements
 
--- no two bodies of an accepted program have one name: each has the number of its name, which is visible behind the package
+-- no two bodies of an accepted program have one name, outside of protected objects: each has the number of its name, which is visible behind the package
 abbrev pub BodiesAreNumbered : Type 0
-BodiesAreNumbered = (t : ProgramTree) → IsLegal t → IsRestricted t → (place : ℕ) (item : BodyItemTree) (c : Coded)
-    → slice_get (declared_in t.package_) place ≡ Some item → coded item ≡ Some c
-    → (number_in t c.head.name.name ≡ Some (bodies_before t place)) × (is_some (number_of (program_of t).scope c.head.name.name) ≡ true)
+BodiesAreNumbered = (t : ProgramTree) → IsLegal t → IsRestricted t → (place : ℕ) (item : BodyItemTree) (k : ℕ) (c : Coded)
+    → slice_get (declared_in t.package_) place ≡ Some item → slice_get (coded_at t place item) k ≡ Some c → c.owner ≡ None
+    → (number_in t None c.head.name.name ≡ Some (bodies_before t place + k)) × (is_some (number_of (program_of t).scope c.head.name.name) ≡ true)
 
 -- each task that is declared in an accepted program has one body
 abbrev pub TasksHaveBodies : Type 0

@@ -1,11 +1,13 @@
 pub mod Linked
 pub mod Package
 pub mod LinkLaws
+pub mod Bodies
 pub mod Counts
 pub mod Refusing
 pub mod Globals
 pub mod Directory
 pub mod Walking
+pub mod Objects
 pub mod Tasks
 pub mod Program
 pub mod Laws

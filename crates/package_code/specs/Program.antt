@@ -13,19 +13,23 @@ use Rattle.expr_code.specs.Code.{here}
 use Rattle.stmt_code.specs.Subprograms.{AddsMain, KeepsRules}
 use Rattle.stmt_code.specs.declared.draft.Draft.{Draft}
 use Rattle.stmt_code.specs.declared.subprogram.SubprogramWords.{SubprogramWords}
+use Rattle.package_code.specs.Directory.{IsDirectory}
 use Rattle.package_code.specs.Globals.{AreGlobals}
+use Rattle.package_code.specs.Objects.{HaveObjects}
 use Rattle.package_code.specs.Tasks.{HaveTasks}
 use Rattle.package_code.specs.Walking.{IsWalked, row_of}
 use Rattle.package_code.specs.declared.directory.Directory.{Directory}
 use Rattle.package_code.specs.declared.globals.Globals.{Globals}
 use Rattle.package_code.specs.declared.walk.Walk.{Walk}
 
--- The variables, the tasks, the bodies and main of the program have what they need there, main behind all others. No protected object is declared.
+-- The variables, the protected objects, the tasks, the bodies and main of the program have what they need there, main behind all others. As yet the program has
+-- no protected object.
 pub record HasProgram (t : ProgramTree) (i : Sections) : Type 0 where
   pub globals : Globals
   pub are : AreGlobals (program_of t).scope (package_items t.package_) globals
   pub directory : Directory
   pub slots : directory.slots ≡ globals.slots
+  pub told : IsDirectory t directory
   pub walk : Walk
   pub walked : IsWalked t directory walk
   pub whole : walk.place ≡ length (declared_in t.package_)
@@ -37,7 +41,7 @@ pub record HasProgram (t : ProgramTree) (i : Sections) : Type 0 where
   pub exceptions : i.exceptions ≡ globals.exceptions.items
   pub labels : i.labels ≡ draft.labels
   pub plain_words : i.plain_words ≡ globals.words.items
-  pub objects : i.objects ≡ []
+  pub objects : HaveObjects t i.objects
   pub subprograms : i.subprograms ≡ walk.subprograms.items ++ row_of kinds.TaskBody words (here draft.code) ∷ []
   pub tasks : HaveTasks t (program_of t).tasks i.tasks
   pub rows : i.rows ≡ draft.rows.items

@@ -1,14 +1,16 @@
 -- When an accepted program is refused, by its text alone: memory was refused, it has what no code is made of yet, or it passes a limit of images.
-use Rattle.std.specs.Prelude.{◌≡◌, ℕ, zero, suc, ◌+◌, ◌<◌, Bool, true, false, ◌||◌, ◌&&◌, not, nat_eq, List, [], ◌∷◌, length, Option, Some, None, bytes_eq, is_none, ◌⊎◌, if◌then◌else◌}
+use Rattle.std.specs.Prelude.{◌≡◌, ℕ, zero, suc, ◌+◌, ◌<◌, Bool, true, false, ◌||◌, ◌&&◌, not, nat_eq, List, [], ◌∷◌, length, Option, Some, None, is_none, option_map, ◌⊎◌}
 use Rattle.std.specs.List.{list_all}
 use Rattle.base.specs.Names.{is_label, is_name}
 use Rattle.base.specs.declared.limits.TheConstants.{EXCEPTIONS, ROWS, SUBPROGRAMS, TASKS, WORDS}
 use Rattle.ada_tree.specs.declared.declaration.Formal.{Formal}
 use Rattle.ada_tree.specs.ExpressionTree.{ExprTree}
 use Rattle.ada_tree.specs.StatementTree.{SubprogramTree}
-use Rattle.ada_tree.specs.ProgramTree.{BodyItemTree, BodyTree, ItemTree, OfItem, OfObject, OfProtected, ProgramTree, ProtectedBody, SubprogramBody, TaskBody}
+use Rattle.ada_tree.specs.ProgramTree.{BodyItemTree, BodyTree, EntryBody, ItemTree, OfItem, OfObject, OfProtected, OperationBody, ProgramTree, ProtectedBody, ProtectedItemTree, SubprogramBody, TaskBody}
 use Rattle.types.specs.declared.entity.Subtype.{Subtype}
+use Rattle.image.specs.declared.instruction.Region.TheVariants as regions
 use Rattle.types.specs.Layouts.{total}
+use Rattle.types.specs.Places.{or_else}
 use Rattle.types.specs.Scopes.{Scope}
 use Rattle.types.specs.Shapes.{shape_of, value_words}
 use Rattle.type_rules.specs.ObjectRules.{fixed_scalar}
@@ -24,24 +26,25 @@ use Rattle.step_simulation.specs.part_code.specs.Bounds.{main_bound}
 use Rattle.step_simulation.specs.part_code.specs.Needs.{HasManyLabels, IsNeeding, Needs, beyond, beyond_if, both, lacks_word, nothing}
 use Rattle.step_simulation.specs.part_code.specs.Rows.{body_rows}
 use Rattle.stmt_code.specs.WholeRefusals.{body_labels, function_needs, procedure_needs}
-use Rattle.package_code.specs.Counts.{bodies_among, bounds_from}
+use Rattle.package_code.specs.Bodies.{Coded, bodies_among, number_in, of_subprogram, of_task}
+use Rattle.package_code.specs.Counts.{bounds_from}
 use Rattle.package_code.specs.Package.{first_words_of, place_among}
 
 -- ---- what is told of names
 
--- the number of the body with this name, of a subprogram or a task: how many other bodies stand in front of it
-abbrev pub number_among : (before : ℕ) → List BodyItemTree → (name : List ℕ) → Option ℕ
-number_among before [] name = None
-number_among before (SubprogramBody d b ∷ rest) name = if bytes_eq d.name.name name then Some before else number_among (suc before) rest name
-number_among before (TaskBody own b ∷ rest) name = if bytes_eq own.name name then Some before else number_among (suc before) rest name
-number_among before (item ∷ rest) name = number_among before rest name
+abbrev pub in_object : Slot → Slot
+in_object slot = record slot { region = regions.Object }
 
-abbrev pub number_in : ProgramTree → (name : List ℕ) → Option ℕ
-number_in t name = number_among 0 (declared_in t.package_) name
+-- where the variable of this name stands, or the component of this protected object: one behind the other, in the order of the text
+abbrev pub slot_in : ProgramTree → (owner : Option ℕ) → (name : List ℕ) → Option Slot
+slot_in t None name = place_among 0 (program_of t).variables name
+slot_in t (Some o) name = option_map in_object (place_among 0 ((program_of t).components o) name)
 
--- where the variable of this name stands
-abbrev pub slot_in : ProgramTree → (name : List ℕ) → Option Slot
-slot_in t name = place_among 0 (program_of t).variables name
+-- what is told of a name in the body of this object's operation, or in one that belongs to no object: what is told of the object's own names, or else of those
+-- of the package
+abbrev pub told_inside : {X : Type 0} → ((owner : Option ℕ) → (name : List ℕ) → Option X) → (owner : Option ℕ) → (name : List ℕ) → Option X
+told_inside tell None name = tell None name
+told_inside tell (Some o) name = or_else (tell (Some o) name) (tell None name)
 
 -- what is told of each name, of the first ones nothing
 abbrev pub told_behind : {X : Type 0} → (first : ℕ) → (List ℕ → Option X) → Scope → List (Option X)
@@ -49,14 +52,23 @@ told_behind first tell [] = []
 told_behind zero tell (n ∷ rest) = tell n.name ∷ told_behind zero tell rest
 told_behind (suc first) tell (n ∷ rest) = None ∷ told_behind first tell rest
 
--- What is visible to code in front of the declaration or body at this place. The names in front of the package have neither words nor a subprogram.
-abbrev pub seen_at : ProgramTree → (place : ℕ) → Visible
-seen_at t place =
+-- What is visible to code where these names are, outside of protected objects or in the body of an operation of this one. The names in front of the package
+-- have neither words nor a subprogram.
+abbrev pub seen_with : ProgramTree → (owner : Option ℕ) → Scope → Visible
+seen_with t owner s =
     record {
-      scope = front t place;
-      slots = told_behind (length (start_in t.package_)) (slot_in t) (front t place);
-      subprograms = told_behind (length (start_in t.package_)) (number_in t) (front t place);
+      scope = s;
+      slots = told_behind (length (start_in t.package_)) (told_inside (slot_in t) owner) s;
+      subprograms = told_behind (length (start_in t.package_)) (told_inside (number_in t) owner) s;
     }
+
+-- in front of the declaration or body at this place of the package
+abbrev pub seen_at : ProgramTree → (place : ℕ) → Visible
+seen_at t place = seen_with t None (front t place)
+
+-- in front of the parameters of a body
+abbrev pub seen_by : ProgramTree → Coded → Visible
+seen_by t c = seen_with t c.owner c.front
 
 -- ---- variables
 
@@ -91,10 +103,14 @@ subprogram_needs t v exceptions d b =
       | Some r ↦ function_if_any v d.formals (subtype_named (program_of t).scope r) (returned b.statements)
     ]
 
+abbrev pub body_needs : ProgramTree → Coded → Needs
+body_needs t c = subprogram_needs t (seen_by t c) (program_of t).exceptions c.head c.body
+
+-- of those of a protected object no code is made yet
 abbrev pub item_needs : ProgramTree → (place : ℕ) → BodyItemTree → Needs
 item_needs t place (OfItem d) = beyond_if (is_outside_item (program_of t).scope d)
-item_needs t place (SubprogramBody d b) = subprogram_needs t (seen_at t (suc place)) (program_of t).exceptions d b
-item_needs t place (TaskBody name b) = procedure_needs (seen_at t (suc place)) (program_of t).exceptions [] b
+item_needs t place (SubprogramBody d b) = body_needs t (of_subprogram (front t (suc place)) d b)
+item_needs t place (TaskBody name b) = body_needs t (of_task (front t (suc place)) name b)
 item_needs t place (ProtectedBody name items end_name) = beyond
 
 -- of items that stand from this place on
@@ -114,10 +130,19 @@ program_bound t = total (bounds_from t 0 (declared_in t.package_)) + main_bound 
 abbrev pub subprogram_labels : (before : List (List ℕ)) → SubprogramTree → BodyTree → List (List ℕ)
 subprogram_labels before d b = elim d.result [ None ↦ body_labels before b | Some r ↦ before ]
 
+abbrev pub operation_labels : (before : List (List ℕ)) → ProtectedItemTree → List (List ℕ)
+operation_labels before (OperationBody d b) = subprogram_labels before d b
+operation_labels before (EntryBody d barrier b) = body_labels before b
+
+abbrev pub operations_labels : (before : List (List ℕ)) → List ProtectedItemTree → List (List ℕ)
+operations_labels before [] = before
+operations_labels before (i ∷ is) = operations_labels (operation_labels before i) is
+
 abbrev pub item_labels : (before : List (List ℕ)) → BodyItemTree → List (List ℕ)
+item_labels before (OfItem d) = before
 item_labels before (SubprogramBody d b) = subprogram_labels before d b
 item_labels before (TaskBody name b) = body_labels before b
-item_labels before item = before
+item_labels before (ProtectedBody name items end_name) = operations_labels before items
 
 abbrev pub items_labels : (before : List (List ℕ)) → List BodyItemTree → List (List ℕ)
 items_labels before [] = before
@@ -131,10 +156,19 @@ program_labels t = items_labels [] (declared_in t.package_)
 abbrev pub subprogram_rows : (before : ℕ) → SubprogramTree → BodyTree → ℕ
 subprogram_rows before d b = elim d.result [ None ↦ body_rows before b | Some r ↦ before ]
 
+abbrev pub operation_rows : (before : ℕ) → ProtectedItemTree → ℕ
+operation_rows before (OperationBody d b) = subprogram_rows before d b
+operation_rows before (EntryBody d barrier b) = body_rows before b
+
+abbrev pub operations_rows : (before : ℕ) → List ProtectedItemTree → ℕ
+operations_rows before [] = before
+operations_rows before (i ∷ is) = operations_rows (operation_rows before i) is
+
 abbrev pub item_rows : (before : ℕ) → BodyItemTree → ℕ
+item_rows before (OfItem d) = before
 item_rows before (SubprogramBody d b) = subprogram_rows before d b
 item_rows before (TaskBody name b) = body_rows before b
-item_rows before item = before
+item_rows before (ProtectedBody name items end_name) = operations_rows before items
 
 abbrev pub items_rows : (before : ℕ) → List BodyItemTree → ℕ
 items_rows before [] = before

@@ -1,14 +1,13 @@
 -- What a walk over the declarations and bodies of a package adds: the code of each body, one behind another, each a subprogram, and the rows of its handlers.
-use Rattle.std.specs.Prelude.{◌≡◌, ◌+◌, ◌<◌, ◌≤◌, ◌⊎◌, ℕ, zero, suc, List, [], ◌∷◌, ◌++◌, length, Option, Some, None, slice_get, take}
+use Rattle.std.specs.Prelude.{◌≡◌, ◌+◌, ◌<◌, ◌≤◌, ◌⊎◌, ℕ, zero, suc, List, [], ◌∷◌, ◌++◌, length, Some, None, slice_get, take}
 use Rattle.std.specs.List.{All}
 use Rattle.ada_tree.specs.declared.expression.Identifier.{Identifier}
 use Rattle.ada_tree.specs.ExpressionTree.{ExprTree}
 use Rattle.ada_tree.specs.StatementTree.{SubprogramTree}
-use Rattle.ada_tree.specs.ProgramTree.{BodyItemTree, BodyTree, ProgramTree, SubprogramBody, TaskBody}
+use Rattle.ada_tree.specs.ProgramTree.{BodyItemTree, BodyTree, ProgramTree}
 use Rattle.image_laws.specs.handlers.specs.declared.rows.Row.{Row}
 use Rattle.image.specs.Sections.{end_of}
 use Rattle.image.specs.declared.subprograms.Kind.{Kind}
-use Rattle.image.specs.declared.subprograms.Kind.TheVariants as kinds
 use Rattle.image.specs.declared.subprograms.Subprogram.{Subprogram}
 use Rattle.types.specs.declared.entity.Subtype.{Subtype}
 use Rattle.types.specs.Layouts.{total}
@@ -16,7 +15,6 @@ use Rattle.types.specs.Scopes.{Scope}
 use Rattle.expr_soundness.specs.meaning.specs.Programs.{program_of, returned, subtype_named}
 use Rattle.program_soundness.specs.Fronts.{declared_in, front}
 use Rattle.expr_code.specs.Code.{StandsFrom, here}
-use Rattle.expr_code.specs.Seeing.{told_of}
 use Rattle.expr_code.specs.declared.refusal.Refusal.{Refusal}
 use Rattle.expr_code.specs.declared.visible.Visible.{Visible}
 use Rattle.step_simulation.specs.part_code.specs.Bounds.{procedure_bound}
@@ -26,8 +24,9 @@ use Rattle.step_simulation.specs.part_code.specs.Rows.{LiesWithin}
 use Rattle.stmt_code.specs.Subprograms.{AddsFunction, AddsProcedure, IsCalledFunction, IsCalledProcedure, KeepsRules}
 use Rattle.stmt_code.specs.declared.draft.Draft.{Draft}
 use Rattle.stmt_code.specs.declared.subprogram.SubprogramWords.{SubprogramWords}
-use Rattle.package_code.specs.Counts.{bodies_before, bounds_from}
-use Rattle.package_code.specs.Directory.{AreTold, IsUnseen}
+use Rattle.package_code.specs.Bodies.{Coded, bodies_before, bodies_of}
+use Rattle.package_code.specs.Counts.{bounds_from}
+use Rattle.package_code.specs.Directory.{AreTold, IsUnseen, number_told}
 use Rattle.package_code.specs.Refusing.{items_labels, items_rows, seen_at, subprogram_labels, subprogram_needs, subprogram_rows}
 use Rattle.package_code.specs.declared.directory.Directory.{Directory}
 use Rattle.package_code.specs.declared.walk.Walk.{Walk}
@@ -37,24 +36,6 @@ abbrev pub StandFrom : (whole : List BodyItemTree) (from : ℕ) (part : List Bod
 StandFrom whole from part = (n : ℕ) (item : BodyItemTree) → slice_get part n ≡ Some item → slice_get whole (from + n) ≡ Some item
 
 -- ---- one body
-
--- a body with code of its own: its head, and what kind of subprogram it is
-pub record Coded : Type 0 where
-  pub head : SubprogramTree
-  pub body : BodyTree
-  pub kind : Kind
-
-abbrev pub of_subprogram : SubprogramTree → BodyTree → Coded
-of_subprogram d b = record { head = d; body = b; kind = kinds.Plain }
-
--- a task's is given nothing, and gives nothing back
-abbrev pub of_task : Identifier → BodyTree → Coded
-of_task name b = record { head = record { place = name.place; name = name; formals = []; result = None }; body = b; kind = kinds.TaskBody }
-
-abbrev pub coded : BodyItemTree → Option Coded
-coded (SubprogramBody d b) = Some (of_subprogram d b)
-coded (TaskBody name b) = Some (of_task name b)
-coded item = None
 
 -- the code of a function was added, which returns the value of one expression
 pub record AddsValueFunction (t : ProgramTree) (d : SubprogramTree) (b : BodyTree) (r : Identifier) (v : Visible) (old : Draft) (words : SubprogramWords) (new : Draft)
@@ -92,7 +73,7 @@ pub record AddsBody (t : ProgramTree) (directory : Directory) (c : Coded) (old n
   pub adds : AddsSubprogram t c.head c.body old.visible old.draft words new.draft
   pub called : IsCalledSubprogram t c.head old.visible.scope words
   pub keeps : KeepsRules old.visible old.draft words new.draft
-  pub numbered : told_of (program_of t).scope directory.numbers.items c.head.name.name ≡ Some (length old.subprograms.items)
+  pub numbered : number_told (program_of t).scope directory c.owner c.head.name.name ≡ Some (length old.subprograms.items)
   pub row : new.subprograms.items ≡ old.subprograms.items ++ row_of c.kind words (here new.draft.code) ∷ []
   pub visible : new.visible ≡ old.visible
   pub place : new.place ≡ old.place
@@ -129,10 +110,12 @@ pub record IsDraftKept (old new : Draft) : Type 0 where
 abbrev pub LieInFront : (place : ℕ) → List Row → Type 0
 LieInFront place rows = All (λ q. q.end_ ≤ place) rows
 
--- the body at this place of the package has its code, and its subprogram; the rows in front of its own lie in front of its code
-pub record HasBody (t : ProgramTree) (directory : Directory) (place : ℕ) (c : Coded) (w : Walk) : Type 0 where
+-- The body of this number has its code, and its subprogram; the rows in front of its own lie in front of its code. It belongs to no protected object: no code
+-- is made of those that do yet.
+pub record HasBody (t : ProgramTree) (directory : Directory) (number : ℕ) (c : Coded) (w : Walk) : Type 0 where
+  pub outside : c.owner ≡ None
   pub seen : Visible
-  pub scope : seen.scope ≡ front t (suc place)
+  pub scope : seen.scope ≡ c.front
   pub told : AreTold (program_of t).scope directory seen
   pub old : Draft
   pub new : Draft
@@ -141,9 +124,7 @@ pub record HasBody (t : ProgramTree) (directory : Directory) (place : ℕ) (c : 
   pub called : IsCalledSubprogram t c.head seen.scope words
   pub keeps : KeepsRules seen old words new
   pub before : LieInFront (here old.code) old.rows.items
-  pub number : ℕ
-  pub numbered : told_of (program_of t).scope directory.numbers.items c.head.name.name ≡ Some number
-  pub counted : number ≡ bodies_before t place
+  pub numbered : number_told (program_of t).scope directory c.owner c.head.name.name ≡ Some number
   pub there : slice_get w.subprograms.items number ≡ Some (row_of c.kind words (here new.code))
   pub begins : begins_at w.subprograms.items number ≡ here old.code
   pub kept : IsDraftKept new w.draft
@@ -181,9 +162,7 @@ pub record BeginsWalk (s : Scope) (names : List (List ℕ)) (w : Walk) : Type 0 
 pub record IsWalked (t : ProgramTree) (directory : Directory) (w : Walk) : Type 0 where
   pub scope : w.visible.scope ≡ front t w.place
   pub told : AreTold (program_of t).scope directory w.visible
-  pub bodies : (place : ℕ) (item : BodyItemTree) (c : Coded) → place < w.place
-      → slice_get (declared_in t.package_) place ≡ Some item → coded item ≡ Some c
-      → HasBody t directory place c w
+  pub bodies : (number : ℕ) (c : Coded) → number < length w.subprograms.items → slice_get (bodies_of t) number ≡ Some c → HasBody t directory number c w
   pub end : begins_at w.subprograms.items (length w.subprograms.items) ≡ here w.draft.code
   pub many : length w.subprograms.items ≡ bodies_before t w.place
   pub exceptions : w.draft.exceptions.items ≡ (program_of t).exceptions

@@ -5,20 +5,23 @@ ghost use Rattle.ada_tree.specs.ProgramTree.{body_item_tree, package_tree};
 ghost use Rattle.expr_soundness.specs.meaning.specs.Programs.{package_bodies};
 ghost use Rattle.expr_code.specs.Refusing.{IsRefused};
 ghost use Rattle.expr_code.specs.Seeing.{told_of};
-ghost use Rattle.package_code.specs.Counts.{bodies_among};
-ghost use Rattle.package_code.specs.Directory.{HaveBodyNumbers, HasManyBodies, HasEntriesSoFar, IsUnseen, TellsNext, first_told, numbered_item, numbered_with};
+ghost use Rattle.package_code.specs.Bodies.{bodies_among};
+ghost use Rattle.package_code.specs.Directory.{HaveBodyNumbers, HasManyBodies, HasEntriesSoFar, IsUnseen, TellsNext, entries_among, first_told, numbered_item, numbered_with};
 
+use crate::operations::{OperationNumber, number_operations};
 use ada_tree::{BodyItem, Package};
 use expr_code::{Entries, Refusal, Slot, Visible};
 use lexer::Text;
 use std::alloc::Global;
 use types::Scope;
 
-/// What is told of the names of a package, by their numbers: where variables stand, and which subprogram is that of a body.
+/// What is told of the names of a package, by their numbers: where variables stand, and which subprogram is that of a body; and of the operations of its protected
+/// objects.
 #[derive(Drop)]
 pub struct Directory {
     pub slots: Vec<Option<Slot>>,
     pub numbers: Vec<Option<u16>>,
+    pub operations: Vec<OperationNumber>,
 }
 
 // What is told of a name.
@@ -86,7 +89,10 @@ fn number_item(
             set(numbers, scope.number_of(&name.name), next);
             next.checked_add(1).ok_or(Refusal::Limit)
         }
-        BodyItem::Protected(_, _, _) => Ok(next),
+        BodyItem::Protected(_, items, _) => {
+            let many = u16::try_from(items.len()).map_err(|_| Refusal::Limit)?;
+            next.checked_add(many).ok_or(Refusal::Limit)
+        }
     }
 }
 
@@ -107,8 +113,8 @@ fn number_items(
     Ok(numbers)
 }
 
-/// The numbers of subprograms, by the names of their bodies: that of a body is how many others stand in front of it.
-pub fn number_bodies(
+// The numbers of subprograms, by the names of their bodies: that of a body is how many others stand in front of it.
+fn number_bodies(
     alloc: Global,
     scope: &Scope,
     package_: &Option<Package>,
@@ -141,6 +147,30 @@ pub(crate) fn unseen(alloc: Global, scope: Scope) -> Result<Visible, Refusal>
 }
 
 impl Directory {
+    /// What is told of a package whose variables stand there, where all its names are visible.
+    ///
+    /// # Errors
+    /// `Memory` where memory was refused, `Limit` where there are more bodies than numbers.
+    pub fn new(
+        alloc: Global,
+        slots: Vec<Option<Slot>>,
+        scope: &Scope,
+        package_: &Option<Package>,
+    ) -> Result<Directory, Refusal>
+        ensures slots { IfOk result (λ directory. directory.slots ≡ slots) }
+        ensures numbers { IfOk result (λ directory. HaveBodyNumbers scope.now (package_bodies (optional_tree package_tree package_.now)) directory.numbers.items) }
+        ensures operations { IfOk result (λ directory. directory.operations.items ≡ entries_among scope.now 0 (package_bodies (optional_tree package_tree package_.now))) }
+        ensures refused { IfErr result (λ why. HasManyBodies (package_bodies (optional_tree package_tree package_.now)) why) }
+    {
+        let numbers = number_bodies(alloc, scope, package_)?;
+        let operations = number_operations(alloc, scope, package_)?;
+        Ok(Directory {
+            slots,
+            numbers,
+            operations,
+        })
+    }
+
     /// The number of the subprogram that is the body with this name, which stands in `whole`, in which all of the package is visible.
     pub(crate) fn number(&self, whole: &Scope, name: &Text) -> Option<u16>
         ensures { result ≡ told_of whole.now self.now.numbers.items name.now }

@@ -1,14 +1,18 @@
-//! The code of a package: where its variables stand, what its bodies see of it, the code of each body, and the rows of its tasks.
+//! The code of a package: where its variables stand, what its bodies see of it, the code of each body, and the rows of its protected objects and tasks.
 #![tactic(auto)]
 
 mod directory;
 mod globals;
 mod initial;
 pub mod laws;
+mod objects;
+mod operations;
 mod tasks;
 mod walk;
 
-pub use directory::{Directory, number_bodies};
+pub use directory::Directory;
 pub use globals::{Globals, globals_of};
+pub use objects::object_rows;
+pub use operations::OperationNumber;
 pub use tasks::{task_row, task_rows};
 pub use walk::{Walk, row, walk_over};

@@ -13,10 +13,11 @@ ghost use Rattle.expr_code.specs.Refusing.{IsRefused};
 ghost use Rattle.expr_code.specs.Seeing.{told_of};
 ghost use Rattle.step_simulation.specs.part_code.specs.Emitting.{HasEntries};
 ghost use Rattle.stmt_code.specs.Subprograms.{IsCalledFunction, KeepsRules};
+ghost use Rattle.package_code.specs.Bodies.{of_subprogram, of_task};
 ghost use Rattle.package_code.specs.Directory.{IsDirectory};
 ghost use Rattle.package_code.specs.Laws.{MayBeAdded};
 ghost use Rattle.package_code.specs.Refusing.{RefusesCode};
-ghost use Rattle.package_code.specs.Walking.{AddsAsTold, AddsBody, AddsSubprogram, AddsValueFunction, BeginsWalk, IsAsTold, IsCalledSubprogram, IsWalked, RefusesBody, StandFrom, of_subprogram, of_task, row_of};
+ghost use Rattle.package_code.specs.Walking.{AddsAsTold, AddsBody, AddsSubprogram, AddsValueFunction, BeginsWalk, IsAsTold, IsCalledSubprogram, IsWalked, RefusesBody, StandFrom, row_of};
 
 use crate::directory::{Directory, unseen};
 use crate::laws::{bodies_are_numbered, bodies_may_be_added};
@@ -173,7 +174,7 @@ impl Walk {
         requires added { MayBeAdded (program_tree accepted.now) self.old.visible.scope (subprogram_tree subprogram.now) (body_tree body.now) }
         requires entries { HasEntries self.old.visible }
         requires numbered { told_of (program_of (program_tree accepted.now)).scope directory.now.numbers.items (subprogram_tree subprogram.now).name.name ≡ Some (length self.old.subprograms.items) }
-        ensures adds { OnOk result (AddsBody (program_tree accepted.now) directory.now (of_subprogram (subprogram_tree subprogram.now) (body_tree body.now)) self.old self.new) }
+        ensures adds { OnOk result (AddsBody (program_tree accepted.now) directory.now (of_subprogram self.old.visible.scope (subprogram_tree subprogram.now) (body_tree body.now)) self.old self.new) }
         ensures told { OnOk result (AddsAsTold self.old.draft (subprogram_tree subprogram.now) (body_tree body.now) self.new.draft) }
         ensures refused { IfErr result (λ why. RefusesBody (program_tree accepted.now) self.old.visible self.old.draft (subprogram_tree subprogram.now) (body_tree body.now) why) }
     {
@@ -191,12 +192,12 @@ impl Walk {
         name: &Identifier,
         body: &Body,
     ) -> Result<(), Refusal>
-        requires added { MayBeAdded (program_tree accepted.now) self.old.visible.scope (of_task name.now (body_tree body.now)).head (body_tree body.now) }
+        requires added { MayBeAdded (program_tree accepted.now) self.old.visible.scope (of_task self.old.visible.scope name.now (body_tree body.now)).head (body_tree body.now) }
         requires entries { HasEntries self.old.visible }
         requires numbered { told_of (program_of (program_tree accepted.now)).scope directory.now.numbers.items name.now.name ≡ Some (length self.old.subprograms.items) }
-        ensures adds { OnOk result (AddsBody (program_tree accepted.now) directory.now (of_task name.now (body_tree body.now)) self.old self.new) }
-        ensures told { OnOk result (AddsAsTold self.old.draft (of_task name.now (body_tree body.now)).head (body_tree body.now) self.new.draft) }
-        ensures refused { IfErr result (λ why. RefusesBody (program_tree accepted.now) self.old.visible self.old.draft (of_task name.now (body_tree body.now)).head (body_tree body.now) why) }
+        ensures adds { OnOk result (AddsBody (program_tree accepted.now) directory.now (of_task self.old.visible.scope name.now (body_tree body.now)) self.old self.new) }
+        ensures told { OnOk result (AddsAsTold self.old.draft (of_task self.old.visible.scope name.now (body_tree body.now)).head (body_tree body.now) self.new.draft) }
+        ensures refused { IfErr result (λ why. RefusesBody (program_tree accepted.now) self.old.visible self.old.draft (of_task self.old.visible.scope name.now (body_tree body.now)).head (body_tree body.now) why) }
     {
         let words = self.draft.procedure(&mut self.visible, &[], body)?;
         self.subprograms

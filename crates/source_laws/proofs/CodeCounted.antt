@@ -1,18 +1,24 @@
 -- The code of a small program has no more instructions than an image: 20 for each node of its tree, and two for each of at most 64 words of a body.
-use Rattle.std.proofs.Common.{◌≡◌, ℕ, zero, suc, ◌+◌, ◌*◌, ◌≤◌, List, [], ◌∷◌, ◌++◌, length, Some, refl, subst, arith}
+use Rattle.std.proofs.Common.{◌≡◌, ℕ, zero, suc, ◌+◌, ◌*◌, ◌≤◌, List, [], ◌∷◌, ◌++◌, length, map, Option, None, Some, refl, subst, arith}
 use Rattle.std.specs.Prelude.{slice_get}
 use Rattle.ada_link.specs.base.specs.declared.limits.TheConstants.{INSTRUCTIONS, SUBPROGRAMS}
-use Rattle.ada_tree.specs.ProgramTree.{BodyItemTree, ProgramTree, SubprogramBody, TaskBody}
+use Rattle.ada_tree.specs.ProgramTree.{BodyItemTree, EntryBody, OfItem, OperationBody, ProgramTree, ProtectedBody, ProtectedItemTree, SubprogramBody, TaskBody}
 use Rattle.ada_tree.specs.Laws.{SizeWithinTokens}
-use Rattle.ada_tree.specs.Size.{aspect_size, body_item_size, body_size, package_size, size, size_if_any, total}
+use Rattle.ada_tree.specs.Size.{aspect_size, body_item_size, body_size, package_size, protected_item_size, size, size_if_any, subprogram_size, total}
 use Rattle.types.specs.Layouts as layouts
-use Rattle.program_soundness.specs.declaring.specs.BodyNames.{formals_scope}
+use Rattle.types.specs.declared.entity.RecordComponent.{RecordComponent}
+use Rattle.types.specs.Scopes.{Scope, number_of}
+use Rattle.program_soundness.specs.declaring.specs.BodyNames.{formals_scope, object_body_scope}
+use Rattle.program_soundness.specs.legality.specs.ProtectedBodyRules.{components_at, protected_item_scope}
+use Rattle.expr_soundness.specs.meaning.specs.Programs.{program_of}
 use Rattle.program_soundness.specs.Fronts.{declared_in, front}
 use Rattle.program_soundness.proofs.Listing.{same_some}
 use Rattle.ada_link.specs.part_code.specs.Bounds.{body_words, formals_words, main_bound}
-use Rattle.ada_link.specs.package_code.specs.Counts.{bodies_among, bounds_from}
+use Rattle.ada_link.specs.package_code.specs.Bodies.{Coded, bodies_among, coded_at, coded_from, components_or_none, object_bodies, object_number, of_operation, operations_of}
+use Rattle.ada_link.specs.package_code.specs.Counts.{bound_of, bounds_at, bounds_from}
 use Rattle.ada_link.specs.package_code.specs.Laws.{TablesAreSmall}
-use Rattle.source_laws.specs.Small.{HasSmallBodies, PlacedBody, SmallCodeFits, TakeFewWords, bodies_from, body_loops, item_bodies}
+use Rattle.ada_link.specs.package_code.proofs.Coded.{among_first, coded_many}
+use Rattle.source_laws.specs.Small.{HasSmallBodies, SmallCodeFits, TakeFewWords, body_loops}
 use Rattle.source_laws.proofs.RowsCounted.{declared_size, rows_counted}
 
 -- the place so far behind another one
@@ -26,24 +32,24 @@ behind_is place (suc k) = let next = behind_is (suc place) k in omega (arith, ne
 
 -- ---- bodies of one item among all
 
-halves : (xs ys : List PlacedBody) → TakeFewWords (xs ++ ys) → TakeFewWords xs × TakeFewWords ys
+halves : (xs ys : List Coded) → TakeFewWords (xs ++ ys) → TakeFewWords xs × TakeFewWords ys
 halves [] ys h = (tt, h)
 halves (x ∷ xs) ys h = let rest = halves xs ys h.1 in ((h.0, rest.0), rest.1)
 
-few_behind : (t : ProgramTree) (place : ℕ) (xs : List BodyItemTree) (k : ℕ) (x : BodyItemTree) → TakeFewWords (bodies_from t place xs)
+few_behind : (t : ProgramTree) (place : ℕ) (xs : List BodyItemTree) (k : ℕ) (x : BodyItemTree) → TakeFewWords (coded_from t place xs)
     → slice_get xs k ≡ Some x
-    → TakeFewWords (item_bodies t (behind place k) x)
+    → TakeFewWords (coded_at t (behind place k) x)
 few_behind t place [] k x h at = cc
 few_behind t place (y ∷ rest) zero x h at =
-    subst (λ z. TakeFewWords (item_bodies t place z)) (same_some y x at) (halves (item_bodies t place y) (bodies_from t (suc place) rest) h).0
+    subst (λ z. TakeFewWords (coded_at t place z)) (same_some y x at) (halves (coded_at t place y) (coded_from t (suc place) rest) h).0
 few_behind t place (y ∷ rest) (suc k) x h at =
-    few_behind t (suc place) rest k x (halves (item_bodies t place y) (bodies_from t (suc place) rest) h).1 at
+    few_behind t (suc place) rest k x (halves (coded_at t place y) (coded_from t (suc place) rest) h).1 at
 
 -- those of the item at a place of a text whose bodies are small
 pub few_at : (t : ProgramTree) → HasSmallBodies t → (place : ℕ) (x : BodyItemTree) → slice_get (declared_in t.package_) place ≡ Some x
-    → TakeFewWords (item_bodies t place x)
+    → TakeFewWords (coded_at t place x)
 few_at t small place x at =
-    subst (λ n. TakeFewWords (item_bodies t n x)) (let same = behind_is 0 place in omega (arith, same))
+    subst (λ n. TakeFewWords (coded_at t n x)) (let same = behind_is 0 place in omega (arith, same))
     (few_behind t 0 (declared_in t.package_) place x small.words at)
 
 -- ---- instructions
@@ -52,24 +58,66 @@ one_bounded : (formals size words loops more : ℕ) (rest bodies all : ℕ) → 
     → (20 * (suc formals + size) + 2 * (words + more)) + all ≤ 20 * (((1 + formals) + size) + rest) + 128 * suc bodies
 one_bounded formals size words loops more rest bodies all h up = omega (arith, h, up)
 
-bounds_counted : (t : ProgramTree) (place : ℕ) (xs : List BodyItemTree) → TakeFewWords (bodies_from t place xs)
+-- the size of a body, with its head
+abbrev coded_size : Coded → ℕ
+coded_size c = subprogram_size c.head + body_size c.body
+
+bodies_counted : (cs : List Coded) → TakeFewWords cs → layouts.total (map bound_of cs) ≤ 20 * total coded_size cs + 128 * length cs
+bodies_counted [] room = omega arith
+bodies_counted (c ∷ cs) room =
+    let s = c.front in
+    one_bounded (length c.head.formals) (body_size c.body) (formals_words s (formals_scope s c.head.formals) c.head.formals) (body_loops c.body)
+    (body_words (formals_scope s c.head.formals) c.body) (total coded_size cs) (length cs) (layouts.total (map bound_of cs)) room.0
+    (bodies_counted cs room.1)
+
+operation_sized : (o : ℕ) (s : Scope) (components : List RecordComponent) (i : ProtectedItemTree)
+    → coded_size (of_operation o s components i) ≤ protected_item_size i
+operation_sized o s components (OperationBody d b) = omega arith
+operation_sized o s components (EntryBody d barrier b) = omega arith
+
+operations_sized : (o : ℕ) (s : Scope) (components : List RecordComponent) (items : List ProtectedItemTree)
+    → total coded_size (operations_of o s components items) ≤ total protected_item_size items
+operations_sized o s components [] = omega arith
+operations_sized o s components (i ∷ items) =
+    let one = operation_sized o s components i in
+    let rest = operations_sized o (protected_item_scope s i) components items in
+    omega (arith, one, rest)
+
+object_sized : (o : ℕ) (s : Scope) (visible : Option ℕ) (items : List ProtectedItemTree)
+    → total coded_size (object_bodies o s visible items) ≤ total protected_item_size items
+object_sized o s (Some n) items = operations_sized o (object_body_scope s n) (components_or_none (components_at s n)) items
+object_sized o s None items = operations_sized o s [] items
+
+-- no larger than their item
+bodies_sized : (t : ProgramTree) (place : ℕ) (x : BodyItemTree) → total coded_size (coded_at t place x) ≤ body_item_size x
+bodies_sized t place (OfItem d) = omega arith
+bodies_sized t place (SubprogramBody d b) = omega arith
+bodies_sized t place (TaskBody name b) = omega arith
+bodies_sized t place (ProtectedBody name items end_name) =
+    (let up = object_sized (object_number (program_of t).scope name) (front t place) (number_of (front t place) name.name) items in omega (arith, up))
+
+total_both : (ws vs : List ℕ) → layouts.total (ws ++ vs) ≡ layouts.total ws + layouts.total vs
+total_both [] vs = omega arith
+total_both (w ∷ ws) vs = (let e = total_both ws vs in omega (arith, e))
+
+bounds_counted : (t : ProgramTree) (place : ℕ) (xs : List BodyItemTree) → TakeFewWords (coded_from t place xs)
     → layouts.total (bounds_from t place xs) ≤ 20 * total body_item_size xs + 128 * bodies_among xs
 bounds_counted t place [] room = omega arith
-bounds_counted t place (SubprogramBody d b ∷ rest) room =
-    let s = front t (suc place) in
-    one_bounded (length d.formals) (body_size b) (formals_words s (formals_scope s d.formals) d.formals) (body_loops b)
-    (body_words (formals_scope s d.formals) b)
-    (total body_item_size rest) (bodies_among rest) (layouts.total (bounds_from t (suc place) rest)) room.0
-    (bounds_counted t (suc place) rest room.1)
-bounds_counted t place (TaskBody name b ∷ rest) room =
-    one_bounded 0 (body_size b) 0 (body_loops b) (body_words (front t (suc place)) b) (total body_item_size rest) (bodies_among rest)
-    (layouts.total (bounds_from t (suc place) rest)) room.0 (bounds_counted t (suc place) rest room.1)
 bounds_counted t place (x ∷ rest) room =
-    let later = bounds_counted t (suc place) rest room in
-    more (body_item_size x) (total body_item_size rest) (bodies_among rest) (layouts.total (bounds_from t (suc place) rest)) later
+    let parts = halves (coded_at t place x) (coded_from t (suc place) rest) room in
+    let own = bodies_counted (coded_at t place x) parts.0 in
+    let sized = bodies_sized t place x in
+    let many = coded_many t place x in
+    let sum = among_first x rest in
+    let later = bounds_counted t (suc place) rest parts.1 in
+    let both = total_both (bounds_at t place x) (bounds_from t (suc place) rest) in
+    together (layouts.total (bounds_at t place x)) (total coded_size (coded_at t place x)) (length (coded_at t place x)) (body_item_size x)
+    (bodies_among (x ∷ [])) (layouts.total (bounds_from t (suc place) rest)) (total body_item_size rest) (bodies_among rest)
+    (layouts.total (bounds_from t place (x ∷ rest))) (bodies_among (x ∷ rest)) own sized many later both sum
   where
-    more : (own size bodies all : ℕ) → all ≤ 20 * size + 128 * bodies → all ≤ 20 * (own + size) + 128 * bodies
-    more own size bodies all h = omega (arith, h)
+    together : (bound coded k size n more rest m all both : ℕ) → bound ≤ 20 * coded + 128 * k → coded ≤ size → k ≡ n → more ≤ 20 * rest + 128 * m
+        → all ≡ bound + more → both ≡ n + m → all ≤ 20 * (size + rest) + 128 * both
+    together bound coded k size n more rest m all both a b c d e f = omega (arith, a, b, c, d, e, f)
 
 all_together : (bounds declared package_ bodies statements aspect pragmas tokens main whole : ℕ) → bounds ≤ 20 * declared + 128 * bodies → declared ≤ package_
     → suc bodies ≤ SUBPROGRAMS → main ≡ 20 * suc statements → whole ≡ pragmas + package_ + (1 + aspect + statements) → whole ≤ tokens → tokens ≤ 2000

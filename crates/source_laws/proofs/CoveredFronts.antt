@@ -42,10 +42,10 @@ use Rattle.program_soundness.proofs.Whole.{IsPackage, came, entity_variable, is_
 use Rattle.ada_link.specs.expr_code.specs.Seeing.{profile_named, slot_of, subprogram_of, told_of}
 use Rattle.ada_link.specs.part_code.specs.Needs.{is_stored}
 use Rattle.ada_link.specs.part_code.specs.Raising.{number_among, number_at}
+use Rattle.ada_link.specs.package_code.specs.Bodies.{number_in, of_subprogram}
 use Rattle.ada_link.specs.package_code.specs.Laws.{BodiesAreNumbered, TablesAreSmall}
 use Rattle.ada_link.specs.package_code.specs.Package.{place_among}
-use Rattle.ada_link.specs.package_code.specs.Refusing.{number_in, seen_at, slot_in, told_behind}
-use Rattle.ada_link.specs.package_code.specs.Walking.{of_subprogram}
+use Rattle.ada_link.specs.package_code.specs.Refusing.{seen_at, slot_in, told_behind}
 use Rattle.ada_link.specs.package_code.proofs.Seen.{all_behind, behind_long}
 use Rattle.ada_link.proofs.MainKnown.{place_behind, told_name}
 use Rattle.source_laws.specs.Covered.{HasWhatCodeNeeds, has_protected}
@@ -256,7 +256,7 @@ module _ (premises : PremisesHold) (names : NamesAreKnown) (scopes : ScopesAreSo
       let x = object_first (front t place) name r u h in
       let e : Entity = entity.Object x.0 x.1 in
       let v = entity_variable program start all w name x.0 x.1 (kept_here place name e x.2) in
-      ap is_stored (told_at (slot_in t) place name e x.2 refl) ∙ placed_stored 0 program.variables name v.object v.found
+      ap is_stored (told_at (slot_in t None) place name e x.2 refl) ∙ placed_stored 0 program.variables name v.object v.found
 
   -- ---- subprograms
 
@@ -266,8 +266,9 @@ module _ (premises : PremisesHold) (names : NamesAreKnown) (scopes : ScopesAreSo
       let n = named_there (front t place) name p h in
       let here = stands_number (front t place) name n.number (Subprogram p) n.numbered n.stands in
       let x = subprogram_there program start all w name p (kept_here place name (Subprogram p) here) in
-      let number = (numbers t legal restricted x.place (SubprogramBody x.subprogram x.body) (of_subprogram x.subprogram x.body) x.at refl).0 in
-      ap is_some (told_at (number_in t) place name (Subprogram p) here refl ∙ ap (number_in t) (sym x.named) ∙ number)
+      let number = (numbers t legal restricted x.place (SubprogramBody x.subprogram x.body) 0
+      (of_subprogram (front t (suc x.place)) x.subprogram x.body) x.at refl refl).0 in
+      ap is_some (told_at (number_in t None) place name (Subprogram p) here refl ∙ ap (number_in t None) (sym x.named) ∙ number)
 
   -- the result of a body of the package
   pub record HasScalarResult (place : ℕ) (r : Identifier) : Type 0 where
@@ -373,8 +374,8 @@ module _ (premises : PremisesHold) (names : NamesAreKnown) (scopes : ScopesAreSo
         sound = sound place;
         formals = callees t legal restricted place;
         full = λ n form h. limits.types (base_range_of n) (ap is_some h);
-        slots = behind_long (slot_in t) (length start) (front t place);
-        subprograms = behind_long (number_in t) (length start) (front t place);
+        slots = behind_long (slot_in t None) (length start) (front t place);
+        subprograms = behind_long (number_in t None) (length start) (front t place);
         stored = stored_at place;
         numbered = numbered_at numbers place;
         results = λ name p u h gives. results_at place name p u h gives;

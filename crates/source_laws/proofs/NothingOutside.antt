@@ -40,9 +40,9 @@ use Rattle.program_soundness.proofs.WiderScopes.{number_stands}
 use Rattle.program_soundness.proofs.Whole.{IsPackage, value_returned}
 use Rattle.ada_link.specs.part_code.specs.Needs.{Needs}
 use Rattle.ada_link.specs.stmt_code.specs.WholeRefusals.{procedure_needs}
+use Rattle.ada_link.specs.package_code.specs.Bodies.{of_subprogram}
 use Rattle.ada_link.specs.package_code.specs.Laws.{TablesAreSmall}
 use Rattle.ada_link.specs.package_code.specs.Refusing.{function_if_any, is_outside_item, is_outside_variable, item_needs, items_needs, program_needs, seen_at}
-use Rattle.ada_link.specs.package_code.specs.Walking.{of_subprogram}
 use Rattle.ada_link.specs.package_code.proofs.Adding.{bodies_added, body_legal, task_legal, value_legal}
 use Rattle.ada_link.specs.package_code.proofs.Numbered.{bodies_numbered}
 use Rattle.ada_link.specs.package_code.proofs.Seen.{one_behind}
@@ -128,7 +128,7 @@ module _ (procedures : ProceduresAreCovered) (functions : FunctionsAreCovered) (
 
     head : AreLegalFormals here d.formals
     head =
-        let own = bodies_added scopes names premises t legal restricted place (SubprogramBody d b) (of_subprogram d b) at refl in
+        let own = bodies_added scopes names premises t legal restricted place (SubprogramBody d b) 0 (of_subprogram (front t (suc place)) d b) at refl refl in
         record {
           named = all_named here d.formals (formals_named premises names scopes stay room t legal restricted place d b at);
           new_names = own.new_names;

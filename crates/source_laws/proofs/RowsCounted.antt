@@ -2,11 +2,11 @@
 use Rattle.std.proofs.Common.{◌≡◌, ℕ, ◌+◌, ◌≤◌, List, [], ◌∷◌, ◌++◌, length, map, Option, Some, None, arith}
 use Rattle.ada_tree.specs.declared.expression.Identifier.{Identifier}
 use Rattle.ada_tree.specs.StatementTree.{AlternativeTrees, Block, Case, ElsifTrees, HandlerTrees, If, Loop, MoreAlternatives, MoreElsifs, MoreHandlers, MoreStmts, NoAlternatives, NoElsifs, NoHandlers, NoStmts, StmtTree, StmtTrees, SubprogramTree}
-use Rattle.ada_tree.specs.ProgramTree.{BodyItemTree, BodyTree, ItemTree, OfItem, PackageTree, ProgramTree, SubprogramBody, TaskBody}
-use Rattle.ada_tree.specs.Size.{alternatives_size, body_item_size, body_size, elsifs_size, handlers_size, item_size, package_size, size, size_if_any, stmt_size, stmts_size, total}
+use Rattle.ada_tree.specs.ProgramTree.{BodyItemTree, BodyTree, EntryBody, ItemTree, OfItem, OperationBody, PackageTree, ProgramTree, ProtectedBody, ProtectedItemTree, SubprogramBody, TaskBody}
+use Rattle.ada_tree.specs.Size.{alternatives_size, body_item_size, body_size, elsifs_size, handlers_size, item_size, package_size, protected_item_size, size, size_if_any, stmt_size, stmts_size, subprogram_size, total}
 use Rattle.program_soundness.specs.Fronts.{declared_in}
 use Rattle.ada_link.specs.part_code.specs.Rows.{alternatives_rows, body_rows, elsifs_rows, handlers_rows, stmt_rows, stmts_rows}
-use Rattle.ada_link.specs.package_code.specs.Refusing.{item_rows, items_rows, program_rows}
+use Rattle.ada_link.specs.package_code.specs.Refusing.{item_rows, items_rows, operation_rows, operations_rows, program_rows, subprogram_rows}
 
 unmoved : (before n : ℕ) → before ≤ before + n
 unmoved before n = omega arith
@@ -71,17 +71,29 @@ body_counted b before =
     two before c (handlers_rows c b.handlers) (stmts_size b.statements) (handlers_size b.handlers) (body_size b) (stmts_counted b.statements before)
     (handlers_counted b.handlers c) (omega arith)
 
-subprogram_counted : (d : SubprogramTree) (b : BodyTree) (before : ℕ) → item_rows before (SubprogramBody d b) ≤ before + body_item_size (SubprogramBody d b)
+subprogram_counted : (d : SubprogramTree) (b : BodyTree) (before : ℕ) → subprogram_rows before d b ≤ before + (subprogram_size d + body_size b)
 subprogram_counted d b before = by_result d.result
   where
-    by_result : (r : Option Identifier) → elim r [ None ↦ body_rows before b | Some x ↦ before ] ≤ before + body_item_size (SubprogramBody d b)
+    by_result : (r : Option Identifier) → elim r [ None ↦ body_rows before b | Some x ↦ before ] ≤ before + (subprogram_size d + body_size b)
     by_result None = let up = body_counted b before in omega (arith, up)
     by_result (Some x) = omega arith
 
+operation_counted : (i : ProtectedItemTree) (before : ℕ) → operation_rows before i ≤ before + protected_item_size i
+operation_counted (OperationBody d b) before = subprogram_counted d b before
+operation_counted (EntryBody d barrier b) before = let up = body_counted b before in omega (arith, up)
+
+operations_counted : (items : List ProtectedItemTree) (before : ℕ) → operations_rows before items ≤ before + total protected_item_size items
+operations_counted [] before = unmoved before 0
+operations_counted (i ∷ rest) before =
+    let b = operation_rows before i in
+    two before b (operations_rows b rest) (protected_item_size i) (total protected_item_size rest) _ (operation_counted i before) (operations_counted rest b)
+    (omega arith)
+
 item_counted : (x : BodyItemTree) (before : ℕ) → item_rows before x ≤ before + body_item_size x
+item_counted (OfItem d) before = unmoved before (body_item_size (OfItem d))
 item_counted (SubprogramBody d b) before = subprogram_counted d b before
 item_counted (TaskBody name b) before = let up = body_counted b before in omega (arith, up)
-item_counted x before = unmoved before (body_item_size x)
+item_counted (ProtectedBody name items end_name) before = let up = operations_counted items before in omega (arith, up)
 
 items_counted : (xs : List BodyItemTree) (before : ℕ) → items_rows before xs ≤ before + total body_item_size xs
 items_counted [] before = unmoved before 0

@@ -39,9 +39,7 @@ use Rattle.ada_link.specs.stmt_code.specs.WholeRefusals.{procedure_needs}
 use Rattle.ada_link.specs.expr_code.specs.declared.visible.Slot.{Slot}
 use Rattle.ada_link.specs.package_code.specs.Package.{place_among}
 use Rattle.ada_link.specs.package_code.specs.Refusing.{RefusesLinking, slot_in, told_behind, function_if_any, item_needs, items_needs, program_needs, seen_at}
-use Rattle.ada_link.specs.package_code.specs.Walking.{Coded, coded, of_subprogram, of_task}
 use Rattle.ada_link.specs.package_code.proofs.Adding.{body_legal, task_legal, value_legal}
-use Rattle.ada_link.specs.package_code.proofs.Coded.{coded_by}
 use Rattle.source_laws.specs.Depths.{AreStored, FunctionsHaveRoom, StaysWithinLimits, IsSmallVisible, IsSmallFunction, IsSmallProcedure, ProceduresHaveRoom}
 use Rattle.source_laws.specs.Limits.{IsLong, SmallBodiesPassByLength, SmallHasRoom, SmallIsUnlimited}
 use Rattle.source_laws.specs.Small.{HasSmallBodies, SmallCodeFits, body_loops}
@@ -51,72 +49,82 @@ use Rattle.source_laws.proofs.FewCallees.{few_formals}
 
 -- ---- the tokens of a body, and its depth
 
+-- the body that an item is, of a subprogram or a task
+abbrev own_body : BodyItemTree → Option BodyTree
+own_body (SubprogramBody d b) = Some b
+own_body (TaskBody name b) = Some b
+own_body item = None
+
 -- those that spell a body with code
-own_spelled : (limit : Limit) (x : BodyItemTree) (c : Coded) (ts : Tokens) → coded x ≡ Some c → body_item limit x ts → (u : Tokens) × body limit c.body u
-own_spelled limit x c ts is h =
-    coded_by (λ y e. body_item limit y ts → (u : Tokens) × body limit e.body u) (λ d b own. (own.4.1, own.4.4))
-    (λ name b own. (own.4.4.4.1, own.4.4.4.4)) x c is h
+own_spelled : (limit : Limit) (x : BodyItemTree) (c : BodyTree) (ts : Tokens) → own_body x ≡ Some c → body_item limit x ts → (u : Tokens) × body limit c u
+own_spelled limit (SubprogramBody d b) c ts is h = (h.4.1, subst (λ y. body limit y h.4.1) (same_some b c is) h.4.4)
+own_spelled limit (TaskBody name b) c ts is h = (h.4.4.4.1, subst (λ y. body limit y h.4.4.4.1) (same_some b c is) h.4.4.4.4)
+own_spelled limit (OfItem d) c ts is h = cc
+own_spelled limit (ProtectedBody name items end_name) c ts is h = cc
 
 -- ... at a place
-items_spelled : (limit : Limit) (xs : List BodyItemTree) (ts : Tokens) (k : ℕ) (x : BodyItemTree) (c : Coded) → each (body_item limit) xs ts
-    → slice_get xs k ≡ Some x → coded x ≡ Some c
-    → (u : Tokens) × body limit c.body u
+items_spelled : (limit : Limit) (xs : List BodyItemTree) (ts : Tokens) (k : ℕ) (x : BodyItemTree) (c : BodyTree) → each (body_item limit) xs ts
+    → slice_get xs k ≡ Some x → own_body x ≡ Some c
+    → (u : Tokens) × body limit c u
 items_spelled limit [] ts k x c h at is = cc
 items_spelled limit (y ∷ xs) ts zero x c h at is = own_spelled limit x c h.0 is (subst (λ z. body_item limit z h.0) (same_some y x at) h.3)
 items_spelled limit (y ∷ xs) ts (suc k) x c h at is = items_spelled limit xs h.1 k x c h.4 at is
 
 -- a body is none of the declarations in front
-behind_items : {P : Type 0} (ds : List ItemTree) (xs : List BodyItemTree) (k : ℕ) (x : BodyItemTree) (c : Coded)
-    → slice_get (map OfItem ds ++ xs) k ≡ Some x → coded x ≡ Some c
+behind_items : {P : Type 0} (ds : List ItemTree) (xs : List BodyItemTree) (k : ℕ) (x : BodyItemTree) (c : BodyTree)
+    → slice_get (map OfItem ds ++ xs) k ≡ Some x → own_body x ≡ Some c
     → ((n : ℕ) → slice_get xs n ≡ Some x → P)
     → P
 behind_items [] xs k x c at is f = f k at
-behind_items (e ∷ ds) xs zero x c at is f = absurd (let none : None ≡ Some c = ap coded (same_some (OfItem e) x at) ∙ is in cc)
+behind_items (e ∷ ds) xs zero x c at is f = absurd (let none : None ≡ Some c = ap own_body (same_some (OfItem e) x at) ∙ is in cc)
 behind_items (e ∷ ds) xs (suc k) x c at is f = behind_items ds xs k x c at is f
 
-body_spelled : (limit : Limit) (t : ProgramTree) (ts : Tokens) (k : ℕ) (x : BodyItemTree) (c : Coded) → program limit t ts
-    → slice_get (declared_in t.package_) k ≡ Some x → coded x ≡ Some c
-    → (u : Tokens) × body limit c.body u
+body_spelled : (limit : Limit) (t : ProgramTree) (ts : Tokens) (k : ℕ) (x : BodyItemTree) (c : BodyTree) → program limit t ts
+    → slice_get (declared_in t.package_) k ≡ Some x → own_body x ≡ Some c
+    → (u : Tokens) × body limit c u
 body_spelled limit t ts k x c h at is = by_package t.package_ h.4.0 h.4.3 at
   where
     by_package : (o : Option PackageTree) (us : Tokens) → optional (package_part limit) o us → slice_get (declared_in o) k ≡ Some x
-        → (u : Tokens) × body limit c.body u
+        → (u : Tokens) × body limit c u
     by_package None us i there = cc
     by_package (Some p) us i there =
         behind_items p.declaration.items p.body.items k x c there is (λ n found. items_spelled limit p.body.items _ n x c i.4.4.3.4.4.4.4.3 found is)
 
-own_deep : (x : BodyItemTree) (c : Coded) → coded x ≡ Some c → body_depth c.body ≤ body_item_depth x
-own_deep x c is = coded_by (λ y e. body_depth e.body ≤ body_item_depth y) (λ d b. second (subprogram_depth d) (body_depth b)) (λ name b. omega arith) x c is
+own_deep : (x : BodyItemTree) (c : BodyTree) → own_body x ≡ Some c → body_depth c ≤ body_item_depth x
+own_deep (SubprogramBody d b) c is = second (subprogram_depth d) (body_depth b) (body_depth c) (ap body_depth (same_some b c is))
   where
-    second : (a c : ℕ) → c ≤ max a c
-    second a c = omega arith
+    second : (a n m : ℕ) → n ≡ m → m ≤ max a n
+    second a n m e = omega (arith, e)
+own_deep (TaskBody name b) c is = (let e = ap body_depth (same_some b c is) in omega (arith, e))
+own_deep (OfItem d) c is = cc
+own_deep (ProtectedBody name items end_name) c is = cc
 
-items_deep : (xs : List BodyItemTree) (k : ℕ) (x : BodyItemTree) (c : Coded) → slice_get xs k ≡ Some x → coded x ≡ Some c
-    → body_depth c.body ≤ deepest body_item_depth xs
+items_deep : (xs : List BodyItemTree) (k : ℕ) (x : BodyItemTree) (c : BodyTree) → slice_get xs k ≡ Some x → own_body x ≡ Some c
+    → body_depth c ≤ deepest body_item_depth xs
 items_deep [] k x c at is = cc
 items_deep (y ∷ xs) zero x c at is =
-    within (body_depth c.body) (body_item_depth x) (body_item_depth y) (deepest body_item_depth xs) (ap body_item_depth (same_some y x at)) (own_deep x c is)
+    within (body_depth c) (body_item_depth x) (body_item_depth y) (deepest body_item_depth xs) (ap body_item_depth (same_some y x at)) (own_deep x c is)
   where
     within : (a c e f : ℕ) → e ≡ c → a ≤ c → a ≤ max e f
     within a c e f h k = omega (arith, h, k)
 items_deep (y ∷ xs) (suc k) x c at is =
-    further (body_depth c.body) (body_item_depth y) (deepest body_item_depth xs) (items_deep xs k x c at is)
+    further (body_depth c) (body_item_depth y) (deepest body_item_depth xs) (items_deep xs k x c at is)
   where
     further : (a c e : ℕ) → a ≤ e → a ≤ max c e
     further a c e h = omega (arith, h)
 
-body_shallow : (t : ProgramTree) (k : ℕ) (x : BodyItemTree) (c : Coded) → slice_get (declared_in t.package_) k ≡ Some x → coded x ≡ Some c
-    → body_depth c.body ≤ depth t
+body_shallow : (t : ProgramTree) (k : ℕ) (x : BodyItemTree) (c : BodyTree) → slice_get (declared_in t.package_) k ≡ Some x → own_body x ≡ Some c
+    → body_depth c ≤ depth t
 body_shallow t k x c at is = by_package t.package_ at
   where
     within : (a c e f : ℕ) → a ≤ e → a ≤ max (max c e) f
     within a c e f h = omega (arith, h)
 
-    by_package : (o : Option PackageTree) → slice_get (declared_in o) k ≡ Some x → body_depth c.body ≤ max (depth_if_any package_depth o) (main_depth t.main)
+    by_package : (o : Option PackageTree) → slice_get (declared_in o) k ≡ Some x → body_depth c ≤ max (depth_if_any package_depth o) (main_depth t.main)
     by_package None there = cc
     by_package (Some p) there =
         behind_items p.declaration.items p.body.items k x c there is
-        (λ n found. within (body_depth c.body) (deepest item_depth p.declaration.items) (deepest body_item_depth p.body.items) (main_depth t.main)
+        (λ n found. within (body_depth c) (deepest item_depth p.declaration.items) (deepest body_item_depth p.body.items) (main_depth t.main)
         (items_deep p.body.items n x c found is))
 
 -- the value that a function returns
@@ -173,9 +181,9 @@ held_with from (x ∷ xs) name rest h =
     by_test true k = (refl, h)
     by_test false k = k
 
-all_held : (t : ProgramTree) (first : ℕ) (s : Scope) → AreStored (told_behind first (slot_in t) s)
+all_held : (t : ProgramTree) (first : ℕ) (s : Scope) → AreStored (told_behind first (slot_in t None) s)
 all_held t first [] = tt
-all_held t zero (n ∷ s) = held_with 0 (program_of t).variables n.name (told_behind zero (slot_in t) s) (all_held t zero s)
+all_held t zero (n ∷ s) = held_with 0 (program_of t).variables n.name (told_behind zero (slot_in t None) s) (all_held t zero s)
 all_held t (suc first) (n ∷ s) = all_held t first s
 
 -- ---- the bodies of a small text: what is visible in front of each, and how deep it is
@@ -189,7 +197,7 @@ module _ (fronts : FrontsAreSmall) (limit : Limit) (t : ProgramTree) (tokens : L
         slots = all_held t (length (start_in t.package_)) (front t (suc place));
       }
 
-  shallow_at : (x : BodyItemTree) (c : Coded) → slice_get (declared_in t.package_) place ≡ Some x → coded x ≡ Some c → body_depth c.body ≤ 16
+  shallow_at : (x : BodyItemTree) (c : BodyTree) → slice_get (declared_in t.package_) place ≡ Some x → own_body x ≡ Some c → body_depth c ≤ 16
   shallow_at x c at is = let own = body_shallow t place x c at is in let whole = small.flat in omega (arith, own, whole)
 
 -- ---- those of subprograms
@@ -220,11 +228,11 @@ module _ (premises : PremisesHold) (names : NamesAreKnown) (scopes : ScopesAreSo
       omega (arith, many)
 
   shallow : body_depth b ≤ 16
-  shallow = shallow_at fronts limit t tokens spelled legal restricted small place (SubprogramBody d b) (of_subprogram d b) at refl
+  shallow = shallow_at fronts limit t tokens spelled legal restricted small place (SubprogramBody d b) b at refl
 
   small_procedure : IsSmallProcedure s d.formals b
   small_procedure =
-      let own = body_spelled limit t tokens place (SubprogramBody d b) (of_subprogram d b) spelled at refl in
+      let own = body_spelled limit t tokens place (SubprogramBody d b) b spelled at refl in
       record {
         few = few;
         limit = limit;
@@ -240,7 +248,7 @@ module _ (premises : PremisesHold) (names : NamesAreKnown) (scopes : ScopesAreSo
   small_function : (r : Identifier) (e : ExprTree) → d.result ≡ Some r → returned b.statements ≡ Some e
       → IsSmallFunction s d.formals (subtype_named (program_of t).scope r) e
   small_function r e some is =
-      let own = body_spelled limit t tokens place (SubprogramBody d b) (of_subprogram d b) spelled at refl in
+      let own = body_spelled limit t tokens place (SubprogramBody d b) b spelled at refl in
       let value = value_there limit b.statements _ e own.1.4.4.3 is in
       let up = value.shallow in
       let whole = shallow in
@@ -292,7 +300,7 @@ module _ (premises : PremisesHold) (names : NamesAreKnown) (scopes : ScopesAreSo
     (place : ℕ) (name : Identifier) (b : BodyTree) (at : slice_get (declared_in t.package_) place ≡ Some (TaskBody name b)) where
   small_task : IsSmallProcedure (front t (suc place)) [] b
   small_task =
-      let own = body_spelled limit t tokens place (TaskBody name b) (of_task name b) spelled at refl in
+      let own = body_spelled limit t tokens place (TaskBody name b) b spelled at refl in
       record {
         few = omega arith;
         limit = limit;
@@ -300,7 +308,7 @@ module _ (premises : PremisesHold) (names : NamesAreKnown) (scopes : ScopesAreSo
         spelled = own.1;
         kind = kind.Task;
         legal = task_legal scopes names premises t legal restricted place name b at;
-        shallow = shallow_at fronts limit t tokens spelled legal restricted small place (TaskBody name b) (of_task name b) at refl;
+        shallow = shallow_at fronts limit t tokens spelled legal restricted small place (TaskBody name b) b at refl;
         words = few_together 0 (body_words (front t (suc place)) b) (body_loops b) (few_at t small place (TaskBody name b) at).0;
       }
 

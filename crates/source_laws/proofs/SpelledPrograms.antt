@@ -6,14 +6,14 @@ use Rattle.std.proofs.lemmas.List.Folds.{list_all-append}
 use Rattle.ada_link.specs.base.specs.Names.{is_name, predefined}
 use Rattle.ada_tree.specs.declared.expression.Identifier.{Identifier}
 use Rattle.ada_tree.specs.StatementTree.{SubprogramTree, TaskTree}
-use Rattle.ada_tree.specs.ProgramTree.{BodyItemTree, BodyTree, ItemTree, OfException, OfItem, OfTask, PackageTree, ProgramTree, SubprogramBody, TaskBody}
+use Rattle.ada_tree.specs.ProgramTree.{BodyItemTree, BodyTree, EntryBody, ItemTree, OfException, OfItem, OfTask, OperationBody, PackageTree, ProgramTree, ProtectedBody, ProtectedItemTree, SubprogramBody, TaskBody}
 use Rattle.ada_tree.specs.Language.{Limit, each, optional}
-use Rattle.ada_tree.specs.ProgramGrammar.{body, body_item, item, package_part, program}
+use Rattle.ada_tree.specs.ProgramGrammar.{body, body_item, item, package_part, program, protected_item}
 use Rattle.types.specs.Scopes.{Scope}
 use Rattle.expr_soundness.specs.meaning.specs.Programs.{Duty, Task, body_among, exceptions_among, items_among, main_task, package_bodies, package_items, program_of, task_with, tasks_among}
 use Rattle.program_soundness.specs.Fronts.{declared_in}
 use Rattle.ada_link.specs.stmt_code.specs.WholeRefusals.{body_labels}
-use Rattle.ada_link.specs.package_code.specs.Refusing.{is_spelled, item_labels, items_labels, program_labels}
+use Rattle.ada_link.specs.package_code.specs.Refusing.{is_spelled, item_labels, items_labels, operation_labels, operations_labels, program_labels, subprogram_labels}
 use Rattle.ada_link.specs.package_code.proofs.TasksAdded.{tasks_both}
 use Rattle.ada_link.specs.package_code.proofs.Variables.{exceptions_both}
 use Rattle.source_laws.specs.Spelled.{OutsideIsTold, TextsAreSpelled}
@@ -22,18 +22,26 @@ use Rattle.source_laws.proofs.SpelledStatements.{AreLabels, Keeps, Tells, body_t
 
 -- ---- labels of bodies
 
-subprogram_told : (d : SubprogramTree) (b : BodyTree) (l : Limit)
-    → Tells (body_item l (SubprogramBody d b)) (Keeps (λ before. item_labels before (SubprogramBody d b)))
-subprogram_told d b l = later (later (by_result d.result))
+labels_told : (d : SubprogramTree) (b : BodyTree) (l : Limit) → Tells (body l b) (Keeps (λ before. subprogram_labels before d b))
+labels_told d b l = by_result d.result
   where
     by_result : (r : Option Identifier) → Tells (body l b) (Keeps (λ before. elim r [ None ↦ body_labels before b | Some x ↦ before ]))
     by_result None = body_told b l
     by_result (Some x) = known same
 
+operation_told : (i : ProtectedItemTree) (l : Limit) → Tells (protected_item l i) (Keeps (λ before. operation_labels before i))
+operation_told (OperationBody d b) l = later (later (labels_told d b l))
+operation_told (EntryBody d barrier b) l = later (later (later (later (body_told b l))))
+
+operations_told : (items : List ProtectedItemTree) (l : Limit) → Tells (each (protected_item l) items) (Keeps (λ before. operations_labels before items))
+operations_told [] l = known same
+operations_told (i ∷ rest) l = joined (operation_told i l) (operations_told rest l)
+
 item_told : (x : BodyItemTree) (l : Limit) → Tells (body_item l x) (Keeps (λ before. item_labels before x))
-item_told (SubprogramBody d b) l = subprogram_told d b l
+item_told (OfItem d) l = known same
+item_told (SubprogramBody d b) l = later (later (labels_told d b l))
 item_told (TaskBody name b) l = later (later (later (later (body_told b l))))
-item_told x l = known same
+item_told (ProtectedBody name items end_name) l = later (later (later (later (sooner (operations_told items l)))))
 
 items_told : (xs : List BodyItemTree) (l : Limit) → Tells (each (body_item l) xs) (Keeps (λ before. items_labels before xs))
 items_told [] l = known same

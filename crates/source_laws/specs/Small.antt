@@ -1,20 +1,18 @@
 -- When a source text is small, and what is promised of one: its code passes no limit on the numbers of an image.
-use Rattle.std.specs.Prelude.{ℕ, suc, ◌+◌, ◌≤◌, List, [], ◌∷◌, ◌++◌, length}
+use Rattle.std.specs.Prelude.{ℕ, ◌+◌, ◌≤◌, List, length}
 use Rattle.std.specs.List.{AllByRecursion}
 use Rattle.ada_link.specs.base.specs.declared.limits.TheConstants.{INSTRUCTIONS, ROWS}
 use Rattle.ada_link.specs.lexer.specs.declared.token.Token.{Token}
-use Rattle.ada_tree.specs.declared.declaration.Formal.{Formal}
 use Rattle.ada_tree.specs.StatementTree.{AlternativeTrees, Block, Case, ElsifTrees, For, HandlerTrees, If, IterationTree, Loop, MoreAlternatives, MoreElsifs, MoreHandlers, MoreStmts, NoAlternatives, NoElsifs, NoHandlers, NoStmts, StmtTree, StmtTrees}
-use Rattle.ada_tree.specs.ProgramTree.{BodyItemTree, BodyTree, ProgramTree, SubprogramBody, TaskBody}
+use Rattle.ada_tree.specs.ProgramTree.{BodyTree, ProgramTree}
 use Rattle.ada_tree.specs.Depth.{depth}
 use Rattle.ada_tree.specs.Language.{Limit}
 use Rattle.ada_tree.specs.ProgramGrammar.{program}
-use Rattle.types.specs.Scopes.{Scope}
 use Rattle.program_soundness.specs.declaring.specs.BodyNames.{formals_scope}
 use Rattle.checking.specs.ProgramRules.{IsLegal}
 use Rattle.program_soundness.specs.ravenscar.specs.ProgramRules.{IsRestricted}
-use Rattle.program_soundness.specs.Fronts.{declared_in, front}
 use Rattle.ada_link.specs.part_code.specs.Bounds.{body_words, formals_words}
+use Rattle.ada_link.specs.package_code.specs.Bodies.{Coded, bodies_of}
 use Rattle.ada_link.specs.package_code.specs.Refusing.{program_bound, program_rows}
 
 -- ---- counted loops, whose parameters take a word each (RM 5.5)
@@ -50,28 +48,6 @@ abbrev mutual
 abbrev pub body_loops : BodyTree → ℕ
 body_loops b = stmts_loops b.statements + handlers_loops b.handlers
 
--- ---- all bodies of a text that have code of their own
-
--- a body, its formals, and the names that are visible in front of these
-pub record PlacedBody : Type 0 where
-  pub scope : Scope
-  pub formals : List Formal
-  pub body : BodyTree
-
--- that of a subprogram or of a task, which has no formals, at this place of the package
-abbrev pub item_bodies : ProgramTree → (place : ℕ) → BodyItemTree → List PlacedBody
-item_bodies t place (SubprogramBody d b) = record { scope = front t (suc place); formals = d.formals; body = b } ∷ []
-item_bodies t place (TaskBody name b) = record { scope = front t (suc place); formals = []; body = b } ∷ []
-item_bodies t place item = []
-
--- of items that stand from this place on
-abbrev pub bodies_from : ProgramTree → (place : ℕ) → List BodyItemTree → List PlacedBody
-bodies_from t place [] = []
-bodies_from t place (item ∷ rest) = item_bodies t place item ++ bodies_from t (suc place) rest
-
-abbrev pub bodies_of : ProgramTree → List PlacedBody
-bodies_of t = bodies_from t 0 (declared_in t.package_)
-
 -- ---- small texts
 
 abbrev pub small_tokens : ℕ
@@ -84,12 +60,12 @@ abbrev pub small_words : ℕ
 small_words = 64
 
 -- the words of the formals, of all objects that are declared in the body, and of its loop parameters
-abbrev pub body_room : PlacedBody → ℕ
+abbrev pub body_room : Coded → ℕ
 body_room x =
-    formals_words x.scope (formals_scope x.scope x.formals) x.formals + body_words (formals_scope x.scope x.formals) x.body + body_loops x.body
+    formals_words x.front (formals_scope x.front x.head.formals) x.head.formals + body_words (formals_scope x.front x.head.formals) x.body + body_loops x.body
 
 -- each of these has few words
-abbrev pub TakeFewWords : List PlacedBody → Type 0
+abbrev pub TakeFewWords : List Coded → Type 0
 TakeFewWords xs = AllByRecursion (λ x. body_room x ≤ small_words) xs
 
 -- few levels are open at once, and each of its bodies has few words

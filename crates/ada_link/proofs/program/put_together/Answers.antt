@@ -1,4 +1,4 @@
-use Rattle.std.proofs.Common.{◌≡◌, ℕ, ◌∷◌, ◌++◌, [], inl, length, refl, rules, sym, ap, ◌∙◌, subst}
+use Rattle.std.proofs.Common.{◌≡◌, ◌∷◌, ◌++◌, [], inl, length, refl, rules, sym, ap, ◌∙◌, subst}
 use Rattle.ada_tree.specs.StatementTree.{optional_tree}
 use Rattle.ada_tree.specs.ProgramTree.{package_tree, program_tree}
 use Rattle.image.specs.declared.tasks.Task.{Task}
@@ -12,11 +12,13 @@ use Rattle.step_simulation.specs.part_code.specs.Bounds.{main_bound}
 use Rattle.step_simulation.specs.part_code.specs.Needs.{RefusesMain}
 use Rattle.expr_code.specs.declared.refusal.Refusal.TheVariants as refusal
 use Rattle.package_code.specs.Refusing.{RefusesSections}
-use Rattle.package_code.specs.Directory.{HaveBodyNumbers, HasManyBodies}
+use Rattle.package_code.specs.Directory.{HaveBodyNumbers, HasManyBodies, entries_among}
+use Rattle.expr_code.specs.Refusing.{IsRefused}
+use Rattle.package_code.specs.Objects.{lack_objects, object_rows}
 use Rattle.package_code.specs.Globals.{AreGlobals, RefusesGlobals}
 use Rattle.package_code.specs.Tasks.{HaveTasks}
 use Rattle.package_code.proofs.TasksAdded.{have_both}
-use Rattle.ada_link.proofs.Refusals.{bodies_refused, code_refused, directory_told, globals_refused, labels_told, main_refused, plain_refused, protected_refused, row_refused, rows_told, task_refused, walked_bodies}
+use Rattle.ada_link.proofs.Refusals.{bodies_refused, code_refused, directory_told, globals_refused, labels_told, main_refused, objects_refused, plain_refused, protected_refused, row_refused, rows_told, task_refused, walked_bodies}
 use Rattle.ada_link.proofs.program.put_together.Goals as goal
 
 pub globals_of-requires : goal.globals_of-requires
@@ -32,10 +34,14 @@ walk_over-requires c =
     let are = subst (λ z. AreGlobals z (package_items t.package_) g) c.scope-scope.ensures
     (subst (λ p. AreGlobals c.scope-scope.result.now (package_items (optional_tree package_tree p.package_)) g) c.program-program.ensures.same
     c.in_ok-slots.ensures.globals) in
-    let numbered = subst (λ z. HaveBodyNumbers z (package_bodies t.package_) c.in_ok-numbers.numbers.items) c.scope-scope.ensures
-    (subst (λ p. HaveBodyNumbers c.scope-scope.result.now (package_bodies (optional_tree package_tree p.package_)) c.in_ok-numbers.numbers.items)
-    c.program-program.ensures.same c.in_ok-numbers.ensures.numbered) in
-    record { directory = directory_told t g c.in_ok-numbers.numbers.items _ are numbered refl refl; exceptions = are.exceptions }
+    let d = c.in_ok-directory.directory in
+    let numbered = subst (λ z. HaveBodyNumbers z (package_bodies t.package_) d.numbers.items) c.scope-scope.ensures
+    (subst (λ p. HaveBodyNumbers c.scope-scope.result.now (package_bodies (optional_tree package_tree p.package_)) d.numbers.items)
+    c.program-program.ensures.same c.in_ok-directory.ensures.numbers) in
+    let entries =
+    c.in_ok-directory.ensures.operations
+    ∙ (λ j. entries_among (c.scope-scope.ensures j) 0 (package_bodies (optional_tree package_tree (c.program-program.ensures.same j).package_))) in
+    record { directory = directory_told t g d.numbers.items d are numbered (ap (λ v. v.items) c.in_ok-directory.ensures.slots) refl entries; exceptions = are.exceptions }
 
 pub main-requires : goal.main-requires
 main-requires c =
@@ -62,11 +68,19 @@ returns-clause-program c =
     let are = subst (λ z. AreGlobals z (package_items t.package_) c.in_ok-slots.field-0) c.scope-scope.ensures
     (subst (λ p. AreGlobals c.scope-scope.result.now (package_items (optional_tree package_tree p.package_)) c.in_ok-slots.field-0)
     c.program-program.ensures.same c.in_ok-slots.ensures.globals) in
+    let d = c.in_ok-directory.directory in
+    let numbered = subst (λ z. HaveBodyNumbers z (package_bodies t.package_) d.numbers.items) c.scope-scope.ensures
+    (subst (λ p. HaveBodyNumbers c.scope-scope.result.now (package_bodies (optional_tree package_tree p.package_)) d.numbers.items)
+    c.program-program.ensures.same c.in_ok-directory.ensures.numbers) in
+    let entries =
+    c.in_ok-directory.ensures.operations
+    ∙ (λ j. entries_among (c.scope-scope.ensures j) 0 (package_bodies (optional_tree package_tree (c.program-program.ensures.same j).package_))) in
     record {
       globals = c.in_ok-slots.field-0;
       are = are;
-      directory = record { slots = c.in_ok-slots.field-0.slots; numbers = c.in_ok-numbers.numbers };
-      slots = refl;
+      directory = d;
+      slots = c.in_ok-directory.ensures.slots;
+      told = directory_told t c.in_ok-slots.field-0 d.numbers.items d are numbered (ap (λ v. v.items) c.in_ok-directory.ensures.slots) refl entries;
       walk = walk;
       walked = c.in_ok-walk.ensures.walked;
       whole = c.in_ok-walk.ensures.whole;
@@ -79,7 +93,8 @@ returns-clause-program c =
       exceptions = ap (λ e. e.items) c.in_ok-main.ensures.adds.exceptions ∙ c.in_ok-walk.ensures.walked.exceptions ∙ sym are.exceptions;
       labels = c.in_ok-texts.ensures.texts;
       plain_words = refl;
-      objects = c.new.ensures.items;
+      objects = c.in_ok-objects.ensures.rows
+          ∙ (λ j. object_rows (c.scope-scope.ensures j) (package_items (optional_tree package_tree (c.program-program.ensures.same j).package_)));
       subprograms = c.in_ok-push-2.ensures.items ∙ ap (λ x. walk.subprograms.items ++ x ∷ []) c.in_ok-row.ensures.row;
       tasks = subst (HaveTasks t (program_of t).tasks) (sym c.in_ok-push.ensures.items)
           (have_both t declared (main_task (program_of t).scope t ∷ []) c.in_ok-tasks.tasks.items (task ∷ []) c.in_ok-tasks.ensures.have (
@@ -101,10 +116,14 @@ task_rows-requires c =
     let are = subst (λ z. AreGlobals z (package_items t.package_) g) c.scope-scope.ensures
     (subst (λ p. AreGlobals c.scope-scope.result.now (package_items (optional_tree package_tree p.package_)) g) c.program-program.ensures.same
     c.in_ok-slots.ensures.globals) in
-    let numbered = subst (λ z. HaveBodyNumbers z (package_bodies t.package_) c.in_ok-numbers.numbers.items) c.scope-scope.ensures
-    (subst (λ p. HaveBodyNumbers c.scope-scope.result.now (package_bodies (optional_tree package_tree p.package_)) c.in_ok-numbers.numbers.items)
-    c.program-program.ensures.same c.in_ok-numbers.ensures.numbered) in
-    record { directory = directory_told t g c.in_ok-numbers.numbers.items _ are numbered refl refl }
+    let d = c.in_ok-directory.directory in
+    let numbered = subst (λ z. HaveBodyNumbers z (package_bodies t.package_) d.numbers.items) c.scope-scope.ensures
+    (subst (λ p. HaveBodyNumbers c.scope-scope.result.now (package_bodies (optional_tree package_tree p.package_)) d.numbers.items)
+    c.program-program.ensures.same c.in_ok-directory.ensures.numbers) in
+    let entries =
+    c.in_ok-directory.ensures.operations
+    ∙ (λ j. entries_among (c.scope-scope.ensures j) 0 (package_bodies (optional_tree package_tree (c.program-program.ensures.same j).package_))) in
+    record { directory = directory_told t g d.numbers.items d are numbered (ap (λ v. v.items) c.in_ok-directory.ensures.slots) refl entries }
 
 pub returns-clause-labels : goal.returns-clause-labels
 returns-clause-labels c =
@@ -133,13 +152,32 @@ returns-in_err-slots-clause-refused c =
     c.in_err-slots.ensures.refused)) in
     search (rules, whole, c.from_residual.ensures)
 
-pub returns-in_err-numbers-clause-refused : goal.returns-in_err-numbers-clause-refused
-returns-in_err-numbers-clause-refused c =
+pub returns-in_err-directory-clause-refused : goal.returns-in_err-directory-clause-refused
+returns-in_err-directory-clause-refused c =
     let t = program_tree c.args.accepted.now in
-    let why = c.in_err-numbers.field-0.0 in
+    let why = c.in_err-directory.field-0.0 in
     let whole = bodies_refused t why
-    (subst (λ p. HasManyBodies (package_bodies (optional_tree package_tree p.package_)) why) c.program-program.ensures.same c.in_err-numbers.ensures.refused) in
-    search (rules, whole, c.from_residual-in_err-numbers.ensures)
+    (subst (λ p. HasManyBodies (package_bodies (optional_tree package_tree p.package_)) why) c.program-program.ensures.same
+    c.in_err-directory.ensures.refused) in
+    search (rules, whole, c.from_residual-in_err-directory.ensures)
+
+pub object_rows-requires : goal.object_rows-requires
+object_rows-requires c = record {
+  sound = subst SoundScope (sym c.scope-scope.ensures)
+      (c.names_are_sound.ensures (program_tree c.args.accepted.now) c.program-program.ensures.legal);
+}
+
+pub returns-in_err-objects-clause-refused : goal.returns-in_err-objects-clause-refused
+returns-in_err-objects-clause-refused c =
+    let t = program_tree c.args.accepted.now in
+    let why = c.in_err-objects.field-0.0 in
+    let none : c.protected_count.result ≡ 0 = search rules in
+    let whole = objects_refused t c.premises_hold.ensures c.program-program.ensures.legal c.program-program.ensures.restricted
+    (sym (ap protected_count c.scope-scope.ensures) ∙ sym c.protected_count.ensures.count ∙ none) why
+    (subst (λ z. IsRefused 0 0 (lack_objects z (package_items t.package_)) why) c.scope-scope.ensures
+    (subst (λ p. IsRefused 0 0 (lack_objects c.scope-scope.result.now (package_items (optional_tree package_tree p.package_))) why)
+    c.program-program.ensures.same c.in_err-objects.ensures.refused)) in
+    search (rules, whole, c.from_residual-in_err-objects.ensures)
 
 pub returns-in_err-walk-clause-refused : goal.returns-in_err-walk-clause-refused
 returns-in_err-walk-clause-refused c =

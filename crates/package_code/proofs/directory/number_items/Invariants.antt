@@ -1,6 +1,6 @@
 use Rattle.std.proofs.Common.{◌≡◌, map, take}
 use Rattle.ada_tree.specs.ProgramTree.{body_item_tree}
-use Rattle.package_code.specs.Counts.{bodies_among}
+use Rattle.package_code.specs.Bodies.{bodies_among}
 use Rattle.package_code.specs.Directory.{HaveBodyNumbers}
 use Rattle.package_code.proofs.directory.number_items.Given as goal
 

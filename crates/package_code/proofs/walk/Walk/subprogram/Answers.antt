@@ -1,9 +1,11 @@
-use Rattle.std.proofs.Common.{◌+◌, length, Some, ap, refl, rules, sym, ◌∙◌, subst}
+use Rattle.std.proofs.Common.{suc, ◌+◌, length, Some, ap, refl, rules, sym, ◌∙◌, subst}
 use Rattle.ada_tree.specs.StatementTree.{subprogram_tree}
 use Rattle.ada_tree.specs.ProgramTree.{body_tree, program_tree}
-use Rattle.package_code.specs.Walking.{of_subprogram}
-use Rattle.package_code.proofs.AsTold.{body_refused, body_told, entries_next, number_there, seen_there}
+use Rattle.program_soundness.specs.Fronts.{front}
+use Rattle.package_code.specs.Bodies.{bodies_before, of_subprogram}
+use Rattle.package_code.proofs.AsTold.{body_refused, entries_next, number_there, seen_there, subprogram_told}
 use Rattle.package_code.proofs.Told.{Grows, subprogram_grows}
+use Rattle.package_code.proofs.ItemsTold.{plus_none}
 use Rattle.package_code.proofs.Walked.{body_goes, may_be_added}
 use Rattle.package_code.proofs.walk.Walk.subprogram.Goals as goal
 
@@ -12,7 +14,7 @@ body-requires-clause-added c =
     may_be_added (program_tree c.args.accepted.now) c.args.directory.now c.args.self.now (subprogram_tree c.args.subprogram.now)
     (body_tree c.args.body.now) c.declare_subprogram.new.scope c.scope.result.now c.tell.new.visible c.requires.walked c.requires.at
     c.in_ok-declare_subprogram.ensures.ok c.scope.ensures c.in_ok-tell.ensures.tells
-    (c.bodies_may_be_added.ensures _ c.requires.legal c.requires.restricted _ _ _ c.requires.at refl)
+    (c.bodies_may_be_added.ensures _ c.requires.legal c.requires.restricted _ _ 0 _ c.requires.at refl refl)
 
 pub returns-clause-walked : goal.returns-clause-walked
 returns-clause-walked c =
@@ -36,15 +38,18 @@ body-requires-clause-numbered c =
     (body_tree c.args.body.now) c.declare_subprogram.new.scope c.scope.result.now c.tell.new.visible c.requires.told c.requires.at
     c.in_ok-declare_subprogram.ensures.ok c.scope.ensures c.in_ok-tell.ensures.tells
     (length c.args.self.now.subprograms.items)
-    ((c.bodies_are_numbered.ensures (program_tree c.args.accepted.now) c.requires.legal c.requires.restricted c.args.self.now.place _ _ c.requires.at refl).0
-    ∙ ap Some (sym c.requires.walked.many))
+    ((c.bodies_are_numbered.ensures (program_tree c.args.accepted.now) c.requires.legal c.requires.restricted c.args.self.now.place _ 0 _ c.requires.at refl
+    refl).0
+    ∙ ap Some (plus_none (bodies_before (program_tree c.args.accepted.now) c.args.self.now.place) ∙ sym c.requires.walked.many))
 
 pub returns-clause-told : goal.returns-clause-told
 returns-clause-told c =
-    body_told (program_tree c.args.accepted.now) c.args.directory.now c.args.self.now _ _ c.requires.told c.requires.at refl _ c.body.new.self _
-    (seen_there (program_tree c.args.accepted.now) c.args.directory.now c.requires.directory c.args.self.now (subprogram_tree c.args.subprogram.now)
-    (body_tree c.args.body.now) c.declare_subprogram.new.scope c.scope.result.now c.tell.new.visible c.requires.told c.requires.at
-    c.in_ok-declare_subprogram.ensures.ok c.scope.ensures c.in_ok-tell.ensures.tells)
+    let t = program_tree c.args.accepted.now in
+    let d = subprogram_tree c.args.subprogram.now in
+    let b = body_tree c.args.body.now in
+    subprogram_told t c.args.directory.now c.args.self.now d b c.requires.told c.requires.at _ c.body.new.self _
+    (seen_there t c.args.directory.now c.requires.directory c.args.self.now d b c.declare_subprogram.new.scope c.scope.result.now c.tell.new.visible
+    c.requires.told c.requires.at c.in_ok-declare_subprogram.ensures.ok c.scope.ensures c.in_ok-tell.ensures.tells)
     refl c.in_ok-body.ensures.adds c.in_ok-body.ensures.told (ap (λ n. n + 1) c.in_ok-body.ensures.adds.place) refl refl
 
 pub returns-in_err-body-clause-refused : goal.returns-in_err-body-clause-refused
@@ -52,8 +57,9 @@ returns-in_err-body-clause-refused c =
     let seen = seen_there (program_tree c.args.accepted.now) c.args.directory.now c.requires.directory c.args.self.now (subprogram_tree c.args.subprogram.now)
     (body_tree c.args.body.now) c.declare_subprogram.new.scope c.scope.result.now c.tell.new.visible c.requires.told c.requires.at
     c.in_ok-declare_subprogram.ensures.ok c.scope.ensures c.in_ok-tell.ensures.tells in
-    let whole = body_refused (program_tree c.args.accepted.now) c.args.self.now _
-    (of_subprogram (subprogram_tree c.args.subprogram.now) (body_tree c.args.body.now))
-    c.tell.new.visible c.args.self.now.draft c.in_err-body.field-0.0 c.requires.told c.requires.walked.exceptions c.requires.at refl seen refl
+    let t = program_tree c.args.accepted.now in
+    let whole = body_refused t c.args.self.now _ 0
+    (of_subprogram (front t (suc c.args.self.now.place)) (subprogram_tree c.args.subprogram.now) (body_tree c.args.body.now))
+    c.tell.new.visible c.args.self.now.draft c.in_err-body.field-0.0 c.requires.told c.requires.walked.exceptions c.requires.at refl refl refl seen refl
     c.in_err-body.ensures.refused in
     search (rules, whole)

@@ -1,20 +1,25 @@
-use Rattle.std.proofs.Common.{◌+◌, length, Some, ap, refl, rules, sym, ◌∙◌}
+use Rattle.std.proofs.Common.{suc, ◌+◌, length, Some, ap, refl, rules, sym, ◌∙◌, subst}
 use Rattle.ada_tree.specs.ProgramTree.{body_tree, program_tree}
-use Rattle.package_code.specs.Walking.{of_task}
+use Rattle.program_soundness.specs.Fronts.{front}
+use Rattle.package_code.specs.Bodies.{bodies_before, of_task}
+use Rattle.package_code.specs.Walking.{AddsBody}
 use Rattle.package_code.proofs.AsTold.{body_refused, body_told, task_number, task_seen}
+use Rattle.package_code.proofs.ItemsTold.{plus_none}
 use Rattle.package_code.proofs.Walked.{task_goes, task_may_be_added}
 use Rattle.package_code.proofs.walk.Walk.task.Goals as goal
 
 pub task_body-requires-clause-added : goal.task_body-requires-clause-added
 task_body-requires-clause-added c =
     task_may_be_added (program_tree c.args.accepted.now) c.args.directory.now c.args.self.now c.args.name.now (body_tree c.args.body.now) c.requires.walked
-    c.requires.at (c.bodies_may_be_added.ensures _ c.requires.legal c.requires.restricted _ _ _ c.requires.at refl)
+    c.requires.at (c.bodies_may_be_added.ensures _ c.requires.legal c.requires.restricted _ _ 0 _ c.requires.at refl refl)
 
 pub task_body-requires-clause-numbered : goal.task_body-requires-clause-numbered
 task_body-requires-clause-numbered c =
-    let told = c.bodies_are_numbered.ensures (program_tree c.args.accepted.now) c.requires.legal c.requires.restricted c.args.self.now.place _ _ c.requires.at refl in
-    task_number (program_tree c.args.accepted.now) c.args.directory.now c.requires.directory c.args.name.now.name told.1
-    (length c.args.self.now.subprograms.items) (told.0 ∙ ap Some (sym c.requires.walked.many))
+    let t = program_tree c.args.accepted.now in
+    let told = c.bodies_are_numbered.ensures t c.requires.legal c.requires.restricted c.args.self.now.place _ 0 _ c.requires.at refl refl in
+    task_number t c.args.directory.now c.requires.directory c.args.name.now.name told.1
+    (length c.args.self.now.subprograms.items)
+    (told.0 ∙ ap Some (plus_none (bodies_before t c.args.self.now.place) ∙ sym c.requires.walked.many))
 
 pub returns-clause-walked : goal.returns-clause-walked
 returns-clause-walked c =
@@ -23,15 +28,22 @@ returns-clause-walked c =
 
 pub returns-clause-told : goal.returns-clause-told
 returns-clause-told c =
-    body_told (program_tree c.args.accepted.now) c.args.directory.now c.args.self.now _ _ c.requires.told c.requires.at refl c.args.self.now
-    c.task_body.new.self _
-    (task_seen (program_tree c.args.accepted.now) c.args.self.now c.args.name.now (body_tree c.args.body.now) c.requires.told c.requires.at)
-    refl c.in_ok-task_body.ensures.adds c.in_ok-task_body.ensures.told (ap (λ n. n + 1) c.in_ok-task_body.ensures.adds.place) refl refl
+    let t = program_tree c.args.accepted.now in
+    let name = c.args.name.now in
+    let b = body_tree c.args.body.now in
+    let seen = task_seen t c.args.self.now name b c.requires.told c.requires.at in
+    let scope = ap (λ v. v.scope) seen in
+    body_told t c.args.directory.now c.args.self.now _ (of_task (front t (suc c.args.self.now.place)) name b) c.requires.told c.requires.at refl
+    c.args.self.now c.task_body.new.self _ seen scope refl
+    (subst (λ s. AddsBody t c.args.directory.now (of_task s name b) c.args.self.now c.task_body.new.self) scope c.in_ok-task_body.ensures.adds)
+    c.in_ok-task_body.ensures.told (ap (λ n. n + 1) c.in_ok-task_body.ensures.adds.place) refl refl
 
 pub returns-in_err-task_body-clause-refused : goal.returns-in_err-task_body-clause-refused
 returns-in_err-task_body-clause-refused c =
     let seen = task_seen (program_tree c.args.accepted.now) c.args.self.now c.args.name.now (body_tree c.args.body.now) c.requires.told c.requires.at in
-    let whole = body_refused (program_tree c.args.accepted.now) c.args.self.now _ (of_task c.args.name.now (body_tree c.args.body.now))
-    c.args.self.now.visible c.args.self.now.draft c.in_err-task_body.field-0.0 c.requires.told c.requires.walked.exceptions c.requires.at refl seen refl
+    let t = program_tree c.args.accepted.now in
+    let whole = body_refused t c.args.self.now _ 0 (of_task (front t (suc c.args.self.now.place)) c.args.name.now (body_tree c.args.body.now))
+    c.args.self.now.visible c.args.self.now.draft c.in_err-task_body.field-0.0 c.requires.told c.requires.walked.exceptions c.requires.at refl refl refl seen
+    refl
     c.in_err-task_body.ensures.refused in
     search (rules, whole)

@@ -1,0 +1,8 @@
+use Rattle.std.proofs.Common.{◌≡◌, map, take}
+use Rattle.ada_tree.specs.StatementTree.{protected_component_tree}
+use Rattle.expr_soundness.specs.meaning.specs.Programs.{component}
+use Rattle.package_code.specs.Package.{first_words_of}
+use Rattle.package_code.proofs.objects.component_words.Given as goal
+
+abbrev pub invariant-loop-part : goal.invariant-loop-part
+invariant-loop-part l = l.words.items ≡ first_words_of (map (component l.scope) (map protected_component_tree (take l.part-index l.components)))
